@@ -2,5 +2,13 @@
 #![tactic(auto)]
 
 mod column;
+mod columns;
+mod count;
+mod fault;
+mod lengths;
+mod row;
 
 pub use column::Column;
+pub use columns::Columns;
+pub use fault::RowFault;
+pub use row::{ROW_BYTES, ROW_COLUMNS, RowView};
