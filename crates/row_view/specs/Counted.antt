@@ -3,7 +3,7 @@ use Rattle.std.specs.Prelude.{◌≡◌, ℤ, ◌+◌, ◌-◌, ◌^◌, min, Li
 use Rattle.row_view.specs.declared.count.Count.{Count}
 use Rattle.row_view.specs.Row.{size_of_all}
 
--- the new count is the old one and these lengths, or the greatest number there is
+-- the new count is the old one and these lengths, each number up to its type's greatest
 pub record Counts (old : Count) (lengths : List ℤ) (new : Count) : Type 0 where
-  pub columns : new.columns ≡ min (old.columns + length lengths) (2 ^ 16 - 1)
-  pub bytes : new.bytes ≡ min (old.bytes + size_of_all lengths) (2 ^ 64 - 1)
+  pub columns : min new.columns (2 ^ 16 - 1) ≡ min (old.columns + length lengths) (2 ^ 16 - 1)
+  pub bytes : min new.bytes (2 ^ 64 - 1) ≡ min (old.bytes + size_of_all lengths) (2 ^ 64 - 1)

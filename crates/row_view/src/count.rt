@@ -5,6 +5,7 @@ ghost use Rattle.proto_wire.specs.Varint.{varints_of};
 ghost use Rattle.proto_wire.specs.Zigzag.{unzigzag_of};
 ghost use Rattle.proto_wire.specs.Field.{wire_field};
 ghost use Rattle.row_view.specs.RowFields.{lengths_at, packed_fault_at};
+ghost use Rattle.row_view.specs.Row.{size_of};
 ghost use Rattle.row_view.specs.Counted.{Counts};
 
 use proto_wire::{Field, Payload, Varints, WireFault, unzigzag};
@@ -19,16 +20,21 @@ pub(crate) struct Count {
     pub(crate) bytes: u64,
 }
 
+/// How many bytes a column of this length takes: none where it is negative, NULL.
+fn size_of_length(length: i64) -> u64
+    ensures { result ≡ size_of length }
+{
+    if length < 0 { 0 } else { length as u64 }
+}
+
 impl Count {
     /// Counts the length that travels as this number.
     fn put_length(&mut self, number: u64)
         ensures { Counts self.old (unzigzag_of number ∷ []) self.new }
     {
-        let length = unzigzag(number);
+        let size = size_of_length(unzigzag(number));
         self.columns = self.columns.saturating_add(1);
-        if length >= 0 {
-            self.bytes = self.bytes.saturating_add(length as u64);
-        }
+        self.bytes = self.bytes.saturating_add(size);
     }
 
     /// Counts the lengths of a packed part, or finds why it isn't one.
