@@ -5,6 +5,7 @@ mod column;
 mod columns;
 mod count;
 mod fault;
+mod found;
 mod lengths;
 mod row;
 

@@ -8,12 +8,10 @@ ghost use Rattle.row_view.specs.Row.{IsRow, IsWhole, size_of_all, row_at};
 
 use std::marker::Model;
 
-use proto_wire::{Fields, Payload};
-
 use crate::column::Column;
 use crate::columns::Columns;
-use crate::count::Count;
 use crate::fault::RowFault;
+use crate::found::found_in;
 
 /// The most bytes that a row message may have (this profile's limit).
 pub const ROW_BYTES: usize = 16_777_216;
@@ -70,32 +68,7 @@ impl<'b> RowView<'b> {
             ↔ ((length bytes.now ≤ 2 ^ 24) × IsWhole bytes.now × (length (row_lengths bytes.now) ≤ 256)
                 × (length (row_values bytes.now) < size_of_all (row_lengths bytes.now))) }
     {
-        if bytes.len() > ROW_BYTES {
-            return Err(RowFault::RowTooLong);
-        }
-        let mut values: &'b [u8] = &[];
-        let mut count = Count {
-            columns: 0,
-            bytes: 0,
-        };
-        let mut fields = Fields::new(bytes);
-        while let Some(field) = fields.next_field().map_err(RowFault::Wire)? {
-            count.put(&field).map_err(RowFault::Wire)?;
-            if let (2, Payload::Bytes(last)) = (field.number, field.payload) {
-                values = last;
-            }
-        }
-        if count.columns > ROW_COLUMNS {
-            return Err(RowFault::TooManyColumns);
-        }
-        if count.bytes > values.len() as u64 {
-            return Err(RowFault::LengthsPastValues);
-        }
-        Ok(RowView {
-            message: bytes,
-            values,
-            columns: count.columns,
-        })
+        row_of(bytes)
     }
 
     /// How many columns the row has, at most 256. Takes no memory, and no time.
@@ -132,4 +105,26 @@ impl<'b> RowView<'b> {
     {
         Columns::new(self.message, self.values)
     }
+}
+
+/// The row of the message, or its first fault.
+#[tactic(auto, unfolding(crate::specs::Row::row_at, crate::specs::Row::row_with))]
+fn row_of(bytes: &[u8]) -> Result<RowView<'_>, RowFault>
+    ensures { result ≡ row_at bytes.now }
+{
+    if bytes.len() > ROW_BYTES {
+        return Err(RowFault::RowTooLong);
+    }
+    let found = found_in(bytes).map_err(RowFault::Wire)?;
+    if found.count.columns > ROW_COLUMNS {
+        return Err(RowFault::TooManyColumns);
+    }
+    if found.count.bytes > found.values.len() as u64 {
+        return Err(RowFault::LengthsPastValues);
+    }
+    Ok(RowView {
+        message: bytes,
+        values: found.values,
+        columns: found.count.columns,
+    })
 }
