@@ -1,6 +1,7 @@
 -- The columns as a function are the columns as a relation, and no others.
 use Rattle.std.proofs.Common.{◌≡◌, ℕ, zero, suc, ℤ, pos, negsuc, ◌+◌, ◌<◌, List, [], ◌∷◌, length, take, drop, Option, Some, None, refl, sym, ap, ◌∙◌, arith}
-use Rattle.std.specs.Prelude.{slice_get}
+use Rattle.std.specs.Prelude.{slice_get, IsTrue, nat_eq}
+use Rattle.std.proofs.lemmas.Bool.Decides.{nat_tests}
 use Rattle.std.proofs.lemmas.List.{drop-drop}
 use Rattle.row_view.specs.Row.{size_of, size_of_all, column_from, AreColumns, columns_of}
 
@@ -49,5 +50,11 @@ pub columns_of-only : (values : List ℕ) (lengths : List ℤ) (columns : List (
 columns_of-only values lengths columns are =
     let count = length-columns_of values lengths in
     same_by_place columns (columns_of values lengths) (are.count ∙ sym count) (λ i h.
-      let n = element lengths i (omega (arith, count, h)) in
-      are.each i n.0 n.1 ∙ sym (each_column values lengths i n.0 n.1))
+    let n = element lengths i (omega (arith, count, h)) in
+    are.each i n.0 n.1 ∙ sym (each_column values lengths i n.0 n.1))
+
+-- there are no columns exactly where there are no lengths
+pub columns_of-empty : (values : List ℕ) (lengths : List ℤ) (n : ℕ) → n ≡ length lengths → (IsTrue (nat_eq n 0) → columns_of values lengths ≡ []) × (columns_of values lengths ≡ [] → IsTrue (nat_eq n 0))
+columns_of-empty values [] n e = (λ _. refl, λ _. grind (arith, nat_tests, e))
+columns_of-empty values (pos m ∷ ns) n e = (λ h. absurd (grind (arith, nat_tests, e, h)), λ h. cc)
+columns_of-empty values (negsuc m ∷ ns) n e = (λ h. absurd (grind (arith, nat_tests, e, h)), λ h. cc)

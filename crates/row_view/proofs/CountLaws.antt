@@ -15,6 +15,6 @@ Counts-none count = record { columns = omega arith; bytes = omega arith }
 -- some lengths, and then others
 pub Counts-append : {a b c : Count} (xs ys : List ℤ) → Counts a xs b → Counts b ys c → Counts a (xs ++ ys) c
 Counts-append xs ys first others = record {
-    columns = omega (arith, length-append xs ys, first.columns, others.columns);
-    bytes = omega (arith, size_of_all-append xs ys, first.bytes, others.bytes)
-  }
+  columns = omega (arith, length-append xs ys, first.columns, others.columns);
+  bytes = omega (arith, size_of_all-append xs ys, first.bytes, others.bytes);
+}

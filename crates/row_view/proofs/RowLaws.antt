@@ -87,9 +87,6 @@ case_of bytes = case_of_size bytes (cases_lt (2 ^ 24) (length bytes))
 
 -- ---- what each answer says
 
-abbrev Row : Type 0
-Row = Result (List (Option (List ℕ))) RowFault
-
 row_from_ok : (bytes : List ℕ) (columns : List (Option (List ℕ))) → Case bytes → row_at bytes ≡ Ok columns → IsRow bytes columns
 row_from_ok bytes columns (too_long long) e = let at = row_at-too_long bytes long in cc
 row_from_ok bytes columns (broken fault size is) e = let at = row_at-broken bytes fault size is in cc
@@ -103,13 +100,16 @@ row_from_ok bytes columns (is_row size none few within) e =
       whole = IsWhole-from_none bytes none;
       few = few;
       within = within;
-      columns_are = rw (← same) (AreColumns-columns_of (row_values bytes) (row_lengths bytes))
+      columns_are = rw (← same) (AreColumns-columns_of (row_values bytes) (row_lengths bytes));
     }
 
 pub row : (bytes : List ℕ) (columns : List (Option (List ℕ))) → (row_at bytes ≡ Ok columns → IsRow bytes columns) × (IsRow bytes columns → row_at bytes ≡ Ok columns)
-row bytes columns = (row_from_ok bytes columns (case_of bytes), λ is.
-    row_at-row bytes is.size (none_from_IsWhole bytes is.whole) is.few is.within
-      ∙ ap Ok (sym (columns_of-only (row_values bytes) (row_lengths bytes) columns is.columns_are)))
+row bytes columns = (
+  row_from_ok bytes columns (case_of bytes),
+  λ is.
+      row_at-row bytes is.size (none_from_IsWhole bytes is.whole) is.few is.within
+      ∙ ap Ok (sym (columns_of-only (row_values bytes) (row_lengths bytes) columns is.columns_are)),
+)
 
 too_long_from : (bytes : List ℕ) → Case bytes → row_at bytes ≡ Err RowTooLong → 2 ^ 24 < length bytes
 too_long_from bytes (too_long long) e = long

@@ -6,10 +6,9 @@ ghost use Rattle.row_view.specs.ColumnValue.{column_value};
 ghost use Rattle.row_view.specs.RowFields.{row_lengths};
 ghost use Rattle.row_view.specs.Row.{size_of_all, columns_of};
 
-use std::marker::Model;
-
 use crate::column::Column;
 use crate::lengths::Lengths;
+use std::marker::Model;
 
 /// The columns of a row that are still to come. Seen in contracts as the list of their values,
 /// `None` for NULL. Takes no memory.

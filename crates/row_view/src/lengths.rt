@@ -4,9 +4,8 @@ ghost use Rattle.std.specs.Prelude.{◌≡◌, ℤ, List};
 ghost use Rattle.std.specs.Iterator.{YieldsFirst};
 ghost use Rattle.row_view.specs.RowFields.{row_lengths};
 
-use std::marker::Model;
-
 use proto_wire::{Fields, Payload, Varints, unzigzag};
+use std::marker::Model;
 
 /// The lengths that are still to come, in the order of the bytes. Seen in contracts as that list. A
 /// fault of the wire ends them, so a caller has looked for faults before.

@@ -6,12 +6,11 @@ ghost use Rattle.row_view.specs.ColumnValue.{column_value};
 ghost use Rattle.row_view.specs.RowFields.{row_lengths, row_values, row_wire_fault};
 ghost use Rattle.row_view.specs.Row.{IsRow, IsWhole, size_of_all, row_at};
 
-use std::marker::Model;
-
 use crate::column::Column;
 use crate::columns::Columns;
 use crate::fault::RowFault;
 use crate::found::found_in;
+use std::marker::Model;
 
 /// The most bytes that a row message may have (this profile's limit).
 pub const ROW_BYTES: usize = 16_777_216;
@@ -66,7 +65,7 @@ impl<'b> RowView<'b> {
             ↔ ((length bytes.now ≤ 2 ^ 24) × IsWhole bytes.now × (256 < length (row_lengths bytes.now))) }
         ensures past_values { (result ≡ Err RowFault.LengthsPastValues)
             ↔ ((length bytes.now ≤ 2 ^ 24) × IsWhole bytes.now × (length (row_lengths bytes.now) ≤ 256)
-                × (length (row_values bytes.now) < size_of_all (row_lengths bytes.now))) }
+            × (length (row_values bytes.now) < size_of_all (row_lengths bytes.now))) }
     {
         row_of(bytes)
     }

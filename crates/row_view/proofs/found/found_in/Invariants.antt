@@ -9,10 +9,10 @@ use Rattle.row_view.proofs.found.found_in.Given as goal
 -- same fault, the same last values, and whatever the rest counts up to, the whole does.
 abbrev pub invariant-loop-field : goal.invariant-loop-field
 invariant-loop-field l = record {
-    fault : fault_of l.fields ≡ row_wire_fault l.bytes;
-    values : last_or l.values (filter_map values_at l.fields.items) ≡ row_values l.bytes;
-    counted : (new : Count) → Counts l.count (lengths_of l.fields.items) new → Counts (record { columns = 0; bytes = 0 }) (row_lengths l.bytes) new
-  }
+  fault : fault_of l.fields ≡ row_wire_fault l.bytes;
+  values : last_or l.values (filter_map values_at l.fields.items) ≡ row_values l.bytes;
+  counted : (new : Count) → Counts l.count (lengths_of l.fields.items) new → Counts (record { columns = 0; bytes = 0 }) (row_lengths l.bytes) new;
+}
 
 abbrev pub decreases-loop-field : goal.decreases-loop-field
 decreases-loop-field l = length l.fields.items

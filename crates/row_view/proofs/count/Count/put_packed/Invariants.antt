@@ -8,9 +8,9 @@ use Rattle.row_view.proofs.count.Count.put_packed.Given as goal
 -- the fault is that of the whole part, and whatever the rest counts up to, the whole part does
 abbrev pub invariant-loop-number : goal.invariant-loop-number
 invariant-loop-number l = record {
-    fault : l.lengths.fault ≡ (varints_of l.packed).fault;
-    counted : (new : Count) → Counts l.self (map unzigzag_of l.lengths.items) new → Counts l.fn.self (map unzigzag_of (varints_of l.packed).items) new
-  }
+  fault : l.lengths.fault ≡ (varints_of l.packed).fault;
+  counted : (new : Count) → Counts l.self (map unzigzag_of l.lengths.items) new → Counts l.fn.self (map unzigzag_of (varints_of l.packed).items) new;
+}
 
 abbrev pub decreases-loop-number : goal.decreases-loop-number
 decreases-loop-number l = length l.lengths.items
