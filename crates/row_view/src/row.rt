@@ -39,6 +39,7 @@ impl<'b> Model for RowView<'b> {
     ghost view = { λ a. columns_of a.values.now (row_lengths a.message.now) };
 
     ghost invariant = { λ a. (a.columns ≡ length (row_lengths a.message.now))
+        × (length (row_lengths a.message.now) ≤ 256)
         × (size_of_all (row_lengths a.message.now) ≤ length a.values.now) };
 }
 
@@ -72,7 +73,8 @@ impl<'b> RowView<'b> {
 
     /// How many columns the row has, at most 256. Takes no memory, and no time.
     pub fn len(&self) -> usize
-        ensures { result ≡ length self.now }
+        ensures count { result ≡ length self.now }
+        ensures few { length self.now ≤ 256 }
     {
         self.columns as usize
     }
