@@ -1,0 +1,94 @@
+//! Hexadecimal text of feeds.
+
+ghost use Rattle.std.specs.Prelude.{◌≡◌, IfOk, IfSome, ◌<◌};
+ghost use Rattle.vrepl_main.specs.Hex.{digit_of, hex_bytes, is_skipped};
+ghost use Rattle.vrepl_main.specs.declared.hex.HexFault.TheVariants.{Memory};
+
+use std::alloc::{AllocFailed, Global};
+
+/// Why hexadecimal text is not read.
+#[derive(Clone, Copy, Debug, PartialEq, Eq)]
+pub enum HexFault {
+    /// A byte is no digit, blank, tab or end of a line, or the number of digits is odd.
+    BadHex,
+    /// A growth of memory was refused.
+    Memory,
+}
+
+impl<T: Drop> From<AllocFailed<T>> for HexFault {
+    ghost from_gives = { λ _ fault. fault ≡ Memory };
+
+    fn from(_fault: AllocFailed<T>) -> HexFault {
+        HexFault::Memory
+    }
+}
+
+/// The bytes that the text spells, two digits a byte, the high half first, digits of either case.
+/// Blanks, tabs, CR and LF are skipped wherever they stand.
+pub fn bytes_of_hex(alloc: Global, text: &[u8]) -> Result<Vec<u8>, HexFault>
+    ensures value { IfOk result (λ bytes. hex_bytes text.now ≡ Some bytes.items) }
+    ensures bad { result ≡ Err HexFault.BadHex → hex_bytes text.now ≡ None }
+{
+    let mut bytes = Vec::new(alloc);
+    let mut high: Option<u8> = None;
+    for character in text {
+        if stands_for_nothing(*character) {
+            continue;
+        }
+        let Some(digit) = digit_value(*character) else {
+            return Err(HexFault::BadHex);
+        };
+        match high {
+            None => high = Some(digit),
+            Some(first) => {
+                bytes.push(first * 16 + digit)?;
+                high = None;
+            }
+        }
+    }
+    match high {
+        None => Ok(bytes),
+        Some(_) => Err(HexFault::BadHex),
+    }
+}
+
+/// Whether the character is a blank, a tab, LF or CR.
+fn stands_for_nothing(character: u8) -> bool
+    ensures { result ≡ is_skipped character }
+{
+    matches!(character, b' ' | b'\t' | b'\n' | b'\r')
+}
+
+/// The value of a digit, below 16.
+fn digit_value(character: u8) -> Option<u8>
+    ensures value { result ≡ digit_of character }
+    ensures range { IfSome result (λ digit. digit < 16) }
+{
+    match character {
+        b'0'..=b'9' => Some(character - b'0'),
+        b'a'..=b'f' => Some(character - b'a' + 10),
+        b'A'..=b'F' => Some(character - b'A' + 10),
+        _ => None,
+    }
+}
+
+#[cfg(test)]
+mod tests {
+    use super::*;
+    use std::test::Fail;
+
+    #[test]
+    fn skips_blanks_and_line_ends(rt: HostRuntime) -> Result<(), Fail> {
+        let bytes = bytes_of_hex(rt.alloc(), b" 6c\n0A\t0\r\n2 ")?;
+        assert_eq!(rt; bytes.as_slice(), [0x6c, 0x0a, 0x02].as_slice());
+        Ok(())
+    }
+
+    #[test]
+    fn refuses_odd_digits_and_other_characters(rt: HostRuntime) {
+        for text in ["6", "6c0", "6g", "0x6c", "6c,0a"] {
+            let fault = bytes_of_hex(rt.alloc(), text.as_bytes()).err();
+            assert_eq!(rt; fault, Some(HexFault::BadHex), "{text}");
+        }
+    }
+}

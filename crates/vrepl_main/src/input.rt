@@ -1,0 +1,101 @@
+//! Files and standard input, read whole.
+
+ghost use Rattle.std.specs.Prelude.{◌≡◌, ◌*◌, ◌≤◌, length, IfOk, IfSome, OnOk, IsErr};
+ghost use Rattle.std.specs.Io.KnownBytes.{IsAtEnd};
+
+use std::alloc::Global;
+use std::fs::File;
+use std::io;
+use std::io::Read;
+use std::rt::Files;
+
+/// Why an input isn't there whole.
+#[derive(Clone, Copy, Debug, PartialEq, Eq)]
+pub enum InputFault {
+    /// It can't be opened, a read failed, or it hadn't ended after the last read that it may have.
+    CannotRead,
+    /// A growth of memory was refused.
+    Memory,
+}
+
+/// The reads that an input may have, the one that finds its end among them.
+pub const READS: u64 = 1 << 32;
+
+/// The most bytes that one read gives.
+pub const CHUNK: usize = 65536;
+
+/// The bytes of the file, or of standard input for `-`.
+pub fn read_file<R: Files + Input + AllocGlobal>(
+    rt: &R,
+    file: &str,
+) -> Result<Vec<u8>, InputFault> {
+    if file == "-" {
+        return read_whole(rt.alloc(), &mut rt.reader(), READS);
+    }
+    match File::open(rt, file) {
+        Ok(mut opened) => read_whole(rt.alloc(), &mut opened, READS),
+        Err(fault) => Err(fault_of(&fault)),
+    }
+}
+
+/// All the bytes that the input has left. It has `reads` reads to come to its end.
+pub fn read_whole<R: Read>(alloc: Global, input: &mut R, reads: u64) -> Result<Vec<u8>, InputFault>
+    ensures whole { IfOk result (λ bytes. IfSome (R.remaining input.old) (λ left. bytes.items ≡ left)) }
+    ensures end { OnOk result (IsAtEnd (R.remaining input.new)) }
+    ensures limit { IfSome (R.remaining input.old) (λ left. reads * CHUNK ≤ length left → IsErr result) }
+{
+    let mut bytes = Vec::new(alloc);
+    let mut chunk = [0u8; CHUNK];
+    for _read in 0..reads {
+        match input.read(&mut chunk) {
+            Ok(0) => return Ok(bytes),
+            Ok(count) => {
+                if bytes.extend_from_slice(&chunk[..count]).is_err() {
+                    return Err(InputFault::Memory);
+                }
+            }
+            Err(fault) => {
+                if fault.kind() != io::ErrorKind::Interrupted {
+                    return Err(fault_of(&fault));
+                }
+            }
+        }
+    }
+    Err(InputFault::CannotRead)
+}
+
+fn fault_of(fault: &io::Error) -> InputFault {
+    if fault.kind() == io::ErrorKind::OutOfMemory {
+        InputFault::Memory
+    } else {
+        InputFault::CannotRead
+    }
+}
+
+#[cfg(test)]
+mod tests {
+    use super::*;
+    use std::test::Fail;
+
+    #[test]
+    fn reads_an_input_to_its_end(rt: HostRuntime) -> Result<(), Fail> {
+        let bytes = read_whole(rt.alloc(), &mut b"abc".as_slice(), READS)?;
+        assert_eq!(rt; bytes.as_slice(), b"abc".as_slice());
+        Ok(())
+    }
+
+    #[test]
+    fn gives_up_an_input_without_end(rt: HostRuntime) {
+        let fault = read_whole(rt.alloc(), &mut io::repeat(7), 3).err();
+        assert_eq!(rt; fault, Some(InputFault::CannotRead));
+    }
+
+    #[test]
+    fn the_end_counts_as_a_read(rt: HostRuntime) {
+        let given_up = Some(InputFault::CannotRead);
+        for (reads, wanted) in [(0, given_up), (1, given_up), (2, None)] {
+            let fault = read_whole(rt.alloc(), &mut b"abc".as_slice(), reads).err();
+            assert_eq!(rt; fault, wanted, "{reads} reads");
+        }
+    }
+}

@@ -1,0 +1,100 @@
+//! The words of the command line, as `clap` reads them.
+
+ghost use Rattle.std.specs.Prelude.{◌≡◌, [], IsOkAnd};
+ghost use Rattle.vrepl_main.specs.Words.{IsShowOfInput};
+
+use clap::error::ErrorKind;
+use clap::{Arg, ArgAction, ArgMatches, Command, Error};
+use std::alloc::{AllocError, Global};
+
+/// What the words ask for.
+#[derive(Clone, Copy, Debug, PartialEq, Eq)]
+pub enum Words<'w> {
+    /// `show`: print the groups of one feed.
+    Show(Show<'w>),
+}
+
+/// The words of `show`.
+#[derive(Clone, Copy, Debug, PartialEq, Eq)]
+pub struct Show<'w> {
+    /// Whether the feed is hexadecimal text.
+    pub hex: bool,
+    /// The feed's keyspace; empty unless given.
+    pub keyspace: &'w str,
+    /// The feed's shard; empty unless given.
+    pub shard: &'w str,
+    /// The feed's file, or `-` for standard input.
+    pub feed: &'w str,
+}
+
+/// Reads the words that follow the program's name. Without any they are `show --hex -`.
+///
+/// An error is a fault of usage (its status is 2), a request for help (0), or `OutOfMemory`.
+pub fn read<'w>(alloc: Global, words: &'w [String]) -> Result<Words<'w>, Error>
+    ensures no_words { words.now ≡ [] → IsOkAnd result IsShowOfInput }
+{
+    if words.is_empty() {
+        return Ok(Words::Show(Show {
+            hex: true,
+            keyspace: "",
+            shard: "",
+            feed: "-",
+        }));
+    }
+    let mut command = program(alloc)?;
+    let matches = command.try_get_matches_from_mut(words)?;
+    match matches.subcommand() {
+        Some(("show", given)) => Ok(Words::Show(show_words(given))),
+        _ => Err(command.error(ErrorKind::MissingSubcommand, "no subcommand was given")?),
+    }
+}
+
+fn program<'w>(alloc: Global) -> Result<Command<'w>, AllocError> {
+    Command::new(alloc, "vrepl")
+        .bin_name("vrepl")?
+        .about("The target side of VReplication over recorded VStream feeds")
+        .no_binary_name(true)
+        .subcommand_required(true)
+        .disable_help_subcommand(true)
+        .subcommand(show_command(alloc)?)
+}
+
+fn show_command<'w>(alloc: Global) -> Result<Command<'w>, AllocError> {
+    Command::new(alloc, "show")
+        .about("Prints the transactions of a feed with their positions")
+        .hide(true)
+        .arg(hex(alloc))?
+        .arg(text(alloc, "keyspace", "K", "The feed's keyspace"))?
+        .arg(text(alloc, "shard", "S", "The feed's shard, as --shard=-80"))?
+        .arg(
+            Arg::new(alloc, "feed")
+                .value_name("FEED")
+                .required(true)
+                .help("The feed's file, or - for standard input"),
+        )
+}
+
+/// `--hex`: feeds are hexadecimal text.
+fn hex<'w>(alloc: Global) -> Arg<'w> {
+    Arg::new(alloc, "hex")
+        .long("hex")
+        .action(ArgAction::SetTrue)
+        .help("Reads feeds as hexadecimal text")
+}
+
+/// An option of one text.
+fn text<'w>(alloc: Global, name: &'w str, value: &'w str, help: &'w str) -> Arg<'w> {
+    Arg::new(alloc, name)
+        .long(name)
+        .value_name(value)
+        .help(help)
+}
+
+fn show_words<'w>(given: &ArgMatches<'w>) -> Show<'w> {
+    Show {
+        hex: given.get_flag("hex"),
+        keyspace: given.get_str("keyspace").unwrap_or(""),
+        shard: given.get_str("shard").unwrap_or(""),
+        feed: given.get_str("feed").unwrap_or("-"),
+    }
+}

@@ -1,0 +1,53 @@
+/* Loaded before the C library, this refuses one growth of a program's memory, or all from one on.
+
+   REFUSE_GROWTH=N    the Nth malloc or realloc answers nothing
+   REFUSE_GROWTH=N+   the Nth and all later ones answer nothing
+   GROWTHS=FILE       how many there were is written into FILE when the program ends
+
+   It names no header, so that the toolchain's own clang compiles it on a machine with no other. */
+
+typedef unsigned long size_t;
+
+extern void *__libc_malloc(size_t size);
+extern void *__libc_realloc(void *old, size_t size);
+extern char *getenv(const char *name);
+extern int creat(const char *path, unsigned mode);
+extern long write(int file, const void *bytes, size_t count);
+
+static unsigned long growths, refused;
+static int and_later;
+
+__attribute__((constructor)) static void begin(void) {
+    const char *said = getenv("REFUSE_GROWTH");
+    growths = 0;
+    for (; said && *said >= '0' && *said <= '9'; said++)
+        refused = refused * 10 + (unsigned long)(*said - '0');
+    and_later = said && *said == '+';
+}
+
+__attribute__((destructor)) static void end(void) {
+    const char *path = getenv("GROWTHS");
+    char digits[24];
+    int at = sizeof digits;
+    int file = path ? creat(path, 0600) : -1;
+    if (file < 0)
+        return;
+    do {
+        digits[--at] = (char)('0' + growths % 10);
+        growths /= 10;
+    } while (growths);
+    write(file, digits + at, sizeof digits - (size_t)at);
+}
+
+static int is_refused(void) {
+    growths++;
+    return refused && (growths == refused || (and_later && growths > refused));
+}
+
+void *malloc(size_t size) {
+    return is_refused() ? 0 : __libc_malloc(size);
+}
+
+void *realloc(void *old, size_t size) {
+    return is_refused() ? 0 : __libc_realloc(old, size);
+}
