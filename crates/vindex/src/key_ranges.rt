@@ -13,7 +13,7 @@ use std::marker::Model;
 
 /// A range of keyspace ids: from its start on and before its end, as byte strings, in which a proper
 /// beginning is less. The bounds have no 00 bytes at their ends.
-#[derive(Drop)]
+#[derive(Debug, Drop)]
 pub struct KeyRange {
     start: Vec<u8>,
     end: Option<Vec<u8>>,

@@ -19,7 +19,7 @@ returns-in_err-magnitude c =
     ∙ sym (too_large (2 ^ 64) c.args.digits.now c.loop-digit.digit-index c.loop-digit.magnitude (omega arith) digit c.loop-digit.invariant.1 (omega (arith, c.in_err-magnitude.ensures, c.in_ok-checked_mul.ensures, c.from.ensures)))
 
 pub loop-digit-preserved : goal.loop-digit-preserved
-loop-digit-preserved c = 
+loop-digit-preserved c =
     let digit : is_ascii_digit (get_or c.args.digits.now c.loop-digit.digit-index 0) ≡ true = grind arith in (
       grind (arith, list_all_more is_ascii_digit c.args.digits.now c.loop-digit.digit-index 0),
       omega (arith, c.in_ok-magnitude.ensures, c.in_ok-checked_mul.ensures, c.from.ensures, value-more c.args.digits.now c.loop-digit.digit-index c.loop-digit.magnitude (omega arith) digit c.loop-digit.invariant.1),

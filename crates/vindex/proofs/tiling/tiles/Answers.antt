@@ -15,9 +15,9 @@ pub returns-then-ne-clause-exact : goal.returns-then-ne-clause-exact
 returns-then-ne-clause-exact c = (
   λ h. cc,
   λ tiles.
-    let start = meets-start c.args.ranges.now c.loop-range.range-index c.range-item.result (option_copied c.loop-range.covered) c.loop-range-test.true c.range-item.is c.loop-range.invariant.0 tiles in
-    let same : c.ne.result ≡ false = (not_same c.loop-range.covered c.start.result c.ne.result c.ne.ensures).1 (start ∙ ap (λ xs. Some xs) (sym c.start.ensures)) in
-    cc,
+      let start = meets-start c.args.ranges.now c.loop-range.range-index c.range-item.result (option_copied c.loop-range.covered) c.loop-range-test.true c.range-item.is c.loop-range.invariant.0 tiles in
+      let same : c.ne.result ≡ false = (not_same c.loop-range.covered c.start.result c.ne.result c.ne.ensures).1 (start ∙ ap (λ xs. Some xs) (sym c.start.ensures)) in
+      cc,
 )
 
 pub loop-range-preserved : goal.loop-range-preserved
