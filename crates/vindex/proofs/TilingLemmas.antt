@@ -172,15 +172,6 @@ ordered-more ranges i range within is ordered so_far =
     let here_too : is_ordered (get_or ranges i range) ≡ true = subst (λ r. is_ordered r ≡ true) is ordered in
     grind (arith, list_all_more is_ordered ranges i range within)
 
--- what `!=` says of two ends
-pub not_same : (covered : Option (Bor (List ℕ))) (start : Bor (List ℕ)) (differs : Bool) → differs ≡ not (option_eq (λ x y. pointwise nat_eq x.now y.now) covered (Some start)) → (differs ≡ false → option_copied covered ≡ Some start.now) × (option_copied covered ≡ Some start.now → differs ≡ false)
-not_same None start differs is = (λ h. cc, λ h. cc)
-not_same (Some end) start differs is =
-    let decides = bytes_eq-Decides end.now start.now in (
-      λ h. ap (λ xs. Some xs) (decides.0 (grind (arith, nat_tests))),
-      λ h. let same : end.now ≡ start.now = cc in let equal : pointwise nat_eq end.now start.now ≡ true = decides.1 same in grind (arith, nat_tests),
-    )
-
 -- what `is_none` says of an end
 pub is_open : (covered : Option (Bor (List ℕ))) (answer : Bool) → is_some covered ≡ not answer → (answer ≡ true → option_copied covered ≡ None) × (option_copied covered ≡ None → answer ≡ true)
 is_open None answer is = (λ h. refl, λ h. grind (arith, nat_tests))

@@ -75,7 +75,7 @@ impl KeyRange {
             Some(end) => id.cmp(end.as_slice()).is_lt(),
             None => true,
         };
-        self.start.as_slice().cmp(id).is_le() && is_below
+        self.start().cmp(id).is_le() && is_below
     }
 
     /// Where the range starts. Takes no memory.
@@ -106,7 +106,7 @@ impl KeyRange {
             (None, None) => true,
             _ => false,
         };
-        self.start.as_slice() == other.start.as_slice() && same_end
+        self.start() == other.start() && same_end
     }
 }
 

@@ -1,10 +1,11 @@
 //! The numbers that a row carries as decimal text.
 
-ghost use Rattle.std.specs.Prelude.{◌≡◌, ◌^◌, IfSome, pos};
+ghost use Rattle.std.specs.Prelude.{◌≡◌, ◌+◌, ◌-◌, ◌*◌, ◌^◌, ◌<◌, IfSome, IsTrue, pos};
 ghost use Rattle.std.proofs.Common.{rules};
 ghost use Rattle.std.specs.Cmp.{partial_order_from_own_ties};
 ghost use Rattle.std.specs.Cmp.Rules.{comparing};
-ghost use Rattle.std.specs.Option.{option_map};
+ghost use Rattle.std.specs.Char.{is_ascii_digit};
+ghost use Rattle.std.specs.Option.{option_map, SomeIff};
 ghost use Rattle.std.specs.Ordering.{on, int_eq, int_cmp, as_partial_cmp};
 ghost use Rattle.vindex.specs.NumberText.{decimal_below, number_of_text, value_of, HasItsSign};
 
@@ -96,14 +97,21 @@ fn magnitude_of(digits: &[u8]) -> Option<u64>
     if digits.is_empty() {
         return None;
     }
-    let mut magnitude = 0u64;
+    let mut magnitude = 0;
     for digit in digits {
-        if !digit.is_ascii_digit() {
-            return None;
-        }
-        magnitude = magnitude
-            .checked_mul(10)?
-            .checked_add(u64::from(*digit - b'0'))?;
+        magnitude = with_digit(magnitude, *digit)?;
     }
     Some(magnitude)
+}
+
+// The number that is written by the digits of `magnitude` and one more, if it is below 2^64.
+fn with_digit(magnitude: u64, digit: u8) -> Option<u64>
+    ensures { SomeIff result (IsTrue (is_ascii_digit digit) × (magnitude * 10 + (digit - 48) < 2 ^ 64)) (magnitude * 10 + (digit - 48)) }
+{
+    if !digit.is_ascii_digit() {
+        return None;
+    }
+    magnitude
+        .checked_mul(10)?
+        .checked_add(u64::from(digit - b'0'))
 }
