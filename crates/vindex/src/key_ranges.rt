@@ -2,8 +2,8 @@
 
 ghost use Rattle.std.specs.Prelude.{◌≡◌, ◌⊎◌, ◌↔◌, Some, None, IfOk, IfErr, IsErrOf, IsTrue};
 ghost use Rattle.std.specs.Option.{option_copied, option_map};
-ghost use Rattle.vindex.specs.Bounds.{in_range, is_ordered, trimmed};
-ghost use Rattle.vindex.specs.RangeText.{bytes_of_hex, key_range_of_text};
+ghost use Rattle.vindex.specs.Bounds.{Bounds, in_range, is_ordered, trimmed};
+ghost use Rattle.vindex.specs.RangeText.{bytes_of_hex, key_range_of_text, IsRangeText};
 ghost use Rattle.vindex.specs.declared.faults.VindexFault.TheVariants.{BadRange, Memory};
 
 use crate::faults::VindexFault;
@@ -41,6 +41,9 @@ impl KeyRange {
         ensures read { IfOk result (λ range. key_range_of_text text.now ≡ Some range) }
         ensures bad_range { IsErrOf result BadRange → key_range_of_text text.now ≡ None }
         ensures refused { IfErr result (λ fault. (fault ≡ BadRange) ⊎ (fault ≡ Memory)) }
+
+        // The texts that are read as a range are those that write it.
+        ensures grammar { (bounds : Bounds) → (key_range_of_text text.now ≡ Some bounds) ↔ IsRangeText text.now bounds }
     {
         if text == "0" {
             return Ok(KeyRange {

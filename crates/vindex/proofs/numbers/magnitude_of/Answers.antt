@@ -1,6 +1,5 @@
-use Rattle.std.proofs.Common.{◌≡◌, ℕ, ◌+◌, ◌*◌, ◌-◌, ◌^◌, ◌<◌, ◌≤◌, length, get_or, take, true, false, sym, ◌∙◌, arith}
+use Rattle.std.proofs.Common.{◌^◌, ◌<◌, length, sym, ◌∙◌, arith}
 use Rattle.std.proofs.lemmas.Bool.Decides.{nat_tests}
-use Rattle.std.specs.Char.{is_ascii_digit}
 use Rattle.vindex.proofs.NumberLemmas.{decimal_below-refused, value-more, all-more, decimal_below-done}
 use Rattle.vindex.proofs.numbers.magnitude_of.Goals as goal
 

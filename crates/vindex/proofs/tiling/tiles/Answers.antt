@@ -1,10 +1,7 @@
-use Rattle.std.proofs.Common.{◌≡◌, ℕ, Bor, List, Option, ◌+◌, ◌≤◌, ◌↔◌, Some, None, IsTrue, length, drop, take, true, false, refl, sym, ◌∙◌, ap, subst, arith}
-use Rattle.std.proofs.lemmas.Bool.Decides.{nat_tests}
+use Rattle.std.proofs.Common.{◌≡◌, ◌+◌, ◌↔◌, Some, drop, take, true, refl, sym, subst}
 use Rattle.std.proofs.lemmas.List.{take_all}
-use Rattle.std.specs.List.{list_all}
 use Rattle.std.specs.Option.{option_copied}
-use Rattle.vindex.specs.Bounds.{is_ordered}
-use Rattle.vindex.specs.Tiling.{Tiles, SplitsAllIds}
+use Rattle.vindex.specs.Tiling.{Tiles}
 use Rattle.vindex.proofs.TilingLemmas.{MeetFrom, SplitsAllIds-from_Tiles, meets-step, meets-start, meets-end, ordered-more, is_open}
 use Rattle.vindex.proofs.tiling.tiles.Goals as goal
 
