@@ -26,8 +26,12 @@ impl Model for KeyRange {
 
     ghost Value = { Bounds };
 
-    ghost view = { λ range. record { start = range.start.items; end = option_map (λ bytes. bytes.items) range.end } };
+    ghost view = { λ range. record {
+      start = range.start.items;
+      end = option_map (λ bytes. bytes.items) range.end;
+    } };
 
+    // The start is less than the end, if there is one.
     ghost invariant = { λ range. IsTrue (is_below (option_map (λ bytes. bytes.items) range.end) range.start.items) };
 }
 
@@ -43,7 +47,8 @@ impl KeyRange {
         ensures refused { IfErr result (λ fault. (fault ≡ BadRange) ⊎ (fault ≡ Memory)) }
 
         // The texts that are read as a range are those that write it.
-        ensures grammar { (bounds : Bounds) → (key_range_of_text text.now ≡ Some bounds) ↔ IsRangeText text.now bounds }
+        ensures grammar { (bounds : Bounds)
+            → (key_range_of_text text.now ≡ Some bounds) ↔ IsRangeText text.now bounds }
     {
         if text == "0" {
             return Ok(KeyRange {

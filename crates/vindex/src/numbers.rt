@@ -106,7 +106,8 @@ fn magnitude_of(digits: &[u8]) -> Option<u64>
 
 // The number that is written by the digits of `magnitude` and one more, if it is below 2^64.
 fn with_digit(magnitude: u64, digit: u8) -> Option<u64>
-    ensures { SomeIff result (IsTrue (is_ascii_digit digit) × (magnitude * 10 + (digit - 48) < 2 ^ 64)) (magnitude * 10 + (digit - 48)) }
+    ensures { let number = magnitude * 10 + (digit - 48) in
+        SomeIff result (IsTrue (is_ascii_digit digit) × (number < 2 ^ 64)) number }
 {
     if !digit.is_ascii_digit() {
         return None;
