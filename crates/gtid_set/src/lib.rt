@@ -5,6 +5,7 @@ mod digits;
 mod fault;
 mod interval;
 
+mod laws;
 mod merge;
 
 mod read;

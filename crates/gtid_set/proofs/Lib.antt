@@ -1,0 +1,4 @@
+pub mod Tests
+pub mod Joined
+pub mod Same
+pub mod Within

@@ -1,0 +1,5 @@
+use Rattle.gtid_set.proofs.Within.{within_itself}
+use Rattle.gtid_set.proofs.laws.equal_members_equal_sets.Goals as goal
+
+pub returns : goal.returns
+returns c = ?
