@@ -54,7 +54,7 @@ Least x u n = (x.uuid < u) ⊎ ((x.uuid ≡ u) × (x.first ≤ n))
 same_first : (x y : Interval) → Least x y.uuid y.first → Least y x.uuid x.first → (x.uuid ≡ y.uuid) × (x.first ≡ y.first)
 same_first x y p q = (grind arith, grind arith)
 
-same_interval : (x y : Interval) → x.uuid ≡ y.uuid → x.first ≡ y.first → x.last ≡ y.last → x ≡ y
+pub same_interval : (x y : Interval) → x.uuid ≡ y.uuid → x.first ≡ y.first → x.last ≡ y.last → x ≡ y
 same_interval x y p q r =
     let made : ℕ → ℕ → ℕ → Interval = λ u f l. record { uuid = u; first = f; last = l } in
     let e : made x.uuid x.first x.last ≡ made y.uuid y.first y.last = cc in

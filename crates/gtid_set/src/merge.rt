@@ -3,7 +3,7 @@
 ghost use Rattle.std.specs.Prelude.{◌≡◌, ◌≤◌, ◌<◌, ◌^◌, [], IsTrue, IfOk, OnOk, OnErr, length};
 ghost use Rattle.std.specs.List.{AllByRecursion};
 ghost use Rattle.gtid_set.specs.Position.{has, IsInterval, IsCanonical, last_number, joined, union_of, with_pair, within_of};
-ghost use Rattle.gtid_set.specs.Order.{AllStartBy, IsRising};
+ghost use Rattle.gtid_set.specs.Order.{AllStartBy, AllStartOver, IsRising};
 
 use crate::interval::Interval;
 use std::alloc::{AllocError, Global};
@@ -17,24 +17,43 @@ fn append(set: &mut Vec<Interval>, next: Interval) -> Result<(), AllocError>
     ensures err { OnErr result (set.new.items ≡ set.old.items) }
 {
     let count = set.len();
-    if count > 0 && !set[count - 1].ends_before(&next) {
-        set[count - 1].last = set[count - 1].last.max(next.last);
-        return Ok(());
+    if count > 0 {
+        let last = set[count - 1];
+        if !last.ends_before(&next) {
+            set[count - 1] = Interval {
+                last: last.last.max(next.last),
+                ..last
+            };
+            return Ok(());
+        }
     }
     set.push(next)?;
     Ok(())
 }
 
+/// Adds intervals that rise by their beginnings to a set of which none begins after the first of
+/// them.
+fn append_all(set: &mut Vec<Interval>, rising: &[Interval]) -> Result<(), AllocError>
+    requires canonical { IsCanonical set.old.items }
+    requires each { AllByRecursion IsInterval rising.now }
+    requires rising { IsRising rising.now }
+    requires starts { AllStartOver set.old.items rising.now }
+    ensures { OnOk result (set.new.items ≡ union_of set.old.items rising.now) }
+{
+    for next in rising {
+        append(set, *next)?;
+    }
+    Ok(())
+}
+
 /// The set of intervals that rise by their beginnings.
-pub fn merged(alloc: Global, intervals: &[Interval]) -> Result<Vec<Interval>, AllocError>
-    requires each { AllByRecursion IsInterval intervals.now }
-    requires rising { IsRising intervals.now }
-    ensures { IfOk result (λ set. set.items ≡ union_of [] intervals.now) }
+pub fn merged(alloc: Global, rising: &[Interval]) -> Result<Vec<Interval>, AllocError>
+    requires each { AllByRecursion IsInterval rising.now }
+    requires rising { IsRising rising.now }
+    ensures { IfOk result (λ set. set.items ≡ union_of [] rising.now) }
 {
     let mut set = Vec::new(alloc);
-    for interval in intervals {
-        append(&mut set, *interval)?;
-    }
+    append_all(&mut set, rising)?;
     Ok(set)
 }
 
@@ -51,8 +70,8 @@ pub fn union(
     let mut both = Vec::new(alloc);
     let mut i = 0;
     let mut j = 0;
-    while i < one.len() || j < other.len() {
-        if j == other.len() || (i < one.len() && one[i].starts_by(&other[j])) {
+    while i < one.len() && j < other.len() {
+        if one[i].starts_by(&other[j]) {
             append(&mut both, one[i])?;
             i += 1;
         } else {
@@ -60,6 +79,8 @@ pub fn union(
             j += 1;
         }
     }
+    append_all(&mut both, &one[i..])?;
+    append_all(&mut both, &other[j..])?;
     Ok(both)
 }
 
