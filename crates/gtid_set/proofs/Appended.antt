@@ -6,7 +6,7 @@ use Rattle.std.proofs.lemmas.Grind.{common_steps, take_at_read}
 use Rattle.std.proofs.lemmas.List.{set_at, length-take-le, take-append-drop}
 use Rattle.gtid_set.specs.declared.interval.Interval.{Interval}
 use Rattle.gtid_set.specs.Position.{ends_before, starts_by, hull, joined, union_of, IsInterval, IsCanonical}
-use Rattle.gtid_set.specs.Order.{AllStartBy, IsRising}
+use Rattle.gtid_set.specs.Order.{AllStartBy, AllEndBefore}
 use Rattle.gtid_set.proofs.Joined.{AllEnd, joined-front, joined-merge}
 use Rattle.gtid_set.proofs.Same.{same_interval}
 
@@ -46,10 +46,7 @@ joined-merged (y ∷ front) x next c one h e =
 
 -- ---- behind all intervals
 
-abbrev pub AllBefore : Interval → List Interval → Type 0
-AllBefore next s = AllByRecursion (λ i. IsTrue (ends_before i next)) s
-
-pub joined-past : (front rest : List Interval) (next : Interval) → AllBefore next front → joined (front ++ rest) next ≡ front ++ joined rest next
+pub joined-past : (front rest : List Interval) (next : Interval) → AllEndBefore next front → joined (front ++ rest) next ≡ front ++ joined rest next
 joined-past [] rest next all = refl
 joined-past (x ∷ front) rest next all = joined-front x (front ++ rest) next all.0 ∙ ap (λ s. x ∷ s) (joined-past front rest next all.1)
 
@@ -57,17 +54,17 @@ joined-past (x ∷ front) rest next all = joined-front x (front ++ rest) next al
 ends-over : (y x next : Interval) → IsInterval x → ends_before y x ≡ true → ends_before x next ≡ true → ends_before y next ≡ true
 ends-over y x next one e h = let k = one.holds_first in grind (arith, nat_tests)
 
-pub AllBefore-last : (front : List Interval) (x next : Interval) → IsCanonical (front ++ x ∷ []) → ends_before x next ≡ true → AllBefore next (front ++ x ∷ [])
-AllBefore-last [] x next c e = (e, tt)
-AllBefore-last (y ∷ front) x next c e =
-    let rest = AllBefore-last front x next c.2 e in
+pub AllEndBefore-last : (front : List Interval) (x next : Interval) → IsCanonical (front ++ x ∷ []) → ends_before x next ≡ true → AllEndBefore next (front ++ x ∷ [])
+AllEndBefore-last [] x next c e = (e, tt)
+AllEndBefore-last (y ∷ front) x next c e =
+    let rest = AllEndBefore-last front x next c.2 e in
     (ends-over y x next (last-interval front x c.2) (AllEnd-last y front x c.1) e, rest)
   where
     last-interval : (front : List Interval) (x : Interval) → IsCanonical (front ++ x ∷ []) → IsInterval x
     last-interval [] x c = c.0
     last-interval (y ∷ front) x c = last-interval front x c.2
 
-joined-behind : (s : List Interval) (next : Interval) → AllBefore next s → joined s next ≡ s ++ next ∷ []
+joined-behind : (s : List Interval) (next : Interval) → AllEndBefore next s → joined s next ≡ s ++ next ∷ []
 joined-behind [] next all = refl
 joined-behind (x ∷ s) next all = joined-front x s next all.0 ∙ ap (λ t. x ∷ t) (joined-behind s next all.1)
 
@@ -95,7 +92,7 @@ push-joined s x next some e c ends =
     let is : s ≡ front ++ x ∷ [] = last_of s x some e in
     let P : List Interval → Type 0 = λ t. t ++ next ∷ [] ≡ joined t next in
     let C : List Interval → Type 0 = λ t. IsCanonical t in
-    subst P (sym is) (sym (joined-behind (front ++ x ∷ []) next (AllBefore-last front x next (subst C is c) ends)))
+    subst P (sym is) (sym (joined-behind (front ++ x ∷ []) next (AllEndBefore-last front x next (subst C is c) ends)))
 
 pub push-joined-none : (s : List Interval) (next : Interval) → length s ≤ 0 → s ++ next ∷ [] ≡ joined s next
 push-joined-none [] next le = refl

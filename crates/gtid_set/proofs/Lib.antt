@@ -4,3 +4,7 @@ pub mod Same
 pub mod Within
 pub mod Appended
 pub mod Merging
+pub mod Covered
+pub mod Added
+pub mod Parts
+pub mod DigitLaws

@@ -1,8 +1,8 @@
 //! Decimal numbers and uuids as text.
 
-ghost use Rattle.std.specs.Prelude.{◌≡◌, ◌+◌, ◌*◌, ◌^◌, ◌≤◌, ◌<◌, length, IfSome};
+ghost use Rattle.std.specs.Prelude.{◌≡◌, ◌+◌, ◌*◌, ◌^◌, ◌≤◌, ◌<◌, length, IfSome, IsTrue};
 ghost use Rattle.gtid_set.specs.Fault.{Gives};
-ghost use Rattle.gtid_set.specs.Digits.{digit_of, hex_digit_of, number_behind, decimal_of, uuid_of};
+ghost use Rattle.gtid_set.specs.Digits.{digit_of, hex_digit_of, number_behind, decimal_of, is_hyphenated, uuid_of};
 ghost use Rattle.gtid_set.specs.Text.{number_from};
 
 use crate::fault::GtidFault;
@@ -22,10 +22,11 @@ pub fn number(text: &[u8], low: u64) -> Result<u64, GtidFault>
         if !byte.is_ascii_digit() {
             return Err(GtidFault::BadNumber);
         }
-        number = number * 10 + u64::from(*byte - b'0');
-        if number > LAST_NUMBER {
+        let digit = u64::from(*byte - b'0');
+        if number > (LAST_NUMBER - digit) / 10 {
             return Err(GtidFault::BadNumber);
         }
+        number = number * 10 + digit;
     }
     if number < low {
         return Err(GtidFault::BadNumber);
@@ -58,21 +59,29 @@ fn hex_behind(front: u128, text: &[u8]) -> Option<u128>
     Some(number)
 }
 
+/// The text has 36 bytes, with hyphens at the places of a uuid's.
+fn is_hyphenated(text: &[u8]) -> bool
+    ensures value { result ≡ is_hyphenated text.now }
+    ensures length { IsTrue result → length text.now ≡ 36 }
+{
+    text.len() == 36
+        && text[8] == b'-'
+        && text[13] == b'-'
+        && text[18] == b'-'
+        && text[23] == b'-'
+}
+
 /// The uuid of 36 bytes: hexadecimal digits of either case, 8-4-4-4-12.
+#[tactic(auto, unfolding(crate::specs::Digits::uuid_of))]
 pub fn uuid(text: &[u8]) -> Option<u128>
     ensures { result ≡ uuid_of text.now }
 {
-    if text.len() != 36
-        || text[8] != b'-'
-        || text[13] != b'-'
-        || text[18] != b'-'
-        || text[23] != b'-'
-    {
+    if !is_hyphenated(text) {
         return None;
     }
     let time_low = hex_behind(0, &text[..8])?;
     let time_mid = hex_behind(time_low, &text[9..13])?;
     let version = hex_behind(time_mid, &text[14..18])?;
     let clock = hex_behind(version, &text[19..23])?;
-    hex_behind(clock, &text[24..])
+    hex_behind(clock, &text[24..36])
 }

@@ -1,9 +1,9 @@
 //! Merged rising intervals: membership, subset, union and one pair more.
 
-ghost use Rattle.std.specs.Prelude.{◌≡◌, ◌≤◌, ◌<◌, ◌^◌, [], IsTrue, IfOk, OnOk, OnErr, length};
-ghost use Rattle.std.specs.List.{AllByRecursion};
-ghost use Rattle.gtid_set.specs.Position.{has, IsInterval, IsCanonical, last_number, joined, union_of, with_pair, within_of};
-ghost use Rattle.gtid_set.specs.Order.{AllStartBy, AllStartOver, IsRising};
+ghost use Rattle.std.specs.Prelude.{◌≡◌, ◌≤◌, ◌<◌, ◌^◌, [], IfOk, OnOk, OnErr, length, take, false, vec_len};
+ghost use Rattle.std.specs.List.{AllByRecursion, HoldsAt};
+ghost use Rattle.gtid_set.specs.Position.{has, ends_before, IsInterval, IsCanonical, last_number, joined, union_of, with_pair, within_of};
+ghost use Rattle.gtid_set.specs.Order.{AllStartBy, AllStartOver, AllEndBefore, IsRising, widened};
 
 use crate::interval::Interval;
 use std::alloc::{AllocError, Global};
@@ -85,7 +85,13 @@ pub fn union(
 }
 
 /// The place of the first interval from `from` on that doesn't end before `interval` begins.
-fn reach(set: &[Interval], from: usize, interval: &Interval) -> usize {
+fn reach(set: &[Interval], from: usize, interval: &Interval) -> usize
+    requires inside { from ≤ length set.now }
+    requires passed { AllEndBefore interval.now (take from set.now) }
+    ensures bound { result ≤ length set.now }
+    ensures passed { AllEndBefore interval.now (take result set.now) }
+    ensures stops { result < length set.now → HoldsAt (λ i. ends_before i interval.now ≡ false) set.now result }
+{
     let mut place = from;
     while place < set.len() && set[place].ends_before(interval) {
         place += 1;
@@ -109,6 +115,16 @@ pub fn are_within(some: &[Interval], all: &[Interval]) -> bool
     true
 }
 
+/// The place of the first interval that doesn't end before `interval` begins, by halves.
+fn place_of(set: &[Interval], interval: &Interval) -> usize
+    requires { IsCanonical set.now }
+    ensures bound { result ≤ length set.now }
+    ensures passed { AllEndBefore interval.now (take result set.now) }
+    ensures stops { result < length set.now → HoldsAt (λ i. ends_before i interval.now ≡ false) set.now result }
+{
+    set.partition_point(|i| i.ends_before(interval))
+}
+
 /// The pair is in the set.
 pub fn has_pair(set: &[Interval], uuid: u128, number: u64) -> bool
     requires { IsCanonical set.now }
@@ -119,13 +135,14 @@ pub fn has_pair(set: &[Interval], uuid: u128, number: u64) -> bool
         first: number,
         last: number,
     };
-    let place = set.partition_point(|interval| interval.ends_before(&pair));
-    place < set.len() && set[place].holds(uuid, number)
+    let place = place_of(set, &pair);
+    place < set.len() && set[place].covers(&pair)
 }
 
 /// Adds a pair to a set. An error leaves the set as it was.
 pub fn add_pair(set: &mut Vec<Interval>, uuid: u128, number: u64) -> Result<(), AllocError>
     requires canonical { IsCanonical set.old.items }
+    requires uuid { uuid < 2 ^ 128 }
     requires from_one { 1 ≤ number }
     requires to_last { number ≤ last_number }
     ensures ok { OnOk result (set.new.items ≡ with_pair set.old.items uuid number) }
@@ -136,7 +153,7 @@ pub fn add_pair(set: &mut Vec<Interval>, uuid: u128, number: u64) -> Result<(), 
         first: number,
         last: number,
     };
-    let place = set.partition_point(|interval| interval.ends_before(&pair));
+    let place = place_of(set, &pair);
     if place == set.len() || pair.ends_before(&set[place]) {
         set.insert(place, pair)?;
         return Ok(());
@@ -148,12 +165,25 @@ pub fn add_pair(set: &mut Vec<Interval>, uuid: u128, number: u64) -> Result<(), 
 /// Makes the interval at `place` hold a number that it holds or that is next to it, and merges it
 /// with the one behind it where they touch.
 fn widen(set: &mut Vec<Interval>, place: usize, number: u64)
+    requires inside { place < vec_len set.old }
+    ensures { set.new.items ≡ widened set.old.items place number }
 {
-    let mut wide = set[place];
-    wide.first = wide.first.min(number);
-    wide.last = wide.last.max(number);
-    if place + 1 < set.len() && !wide.ends_before(&set[place + 1]) {
-        wide.last = set.remove(place + 1).last;
+    let old = set[place];
+    let wide = Interval {
+        uuid: old.uuid,
+        first: old.first.min(number),
+        last: old.last.max(number),
+    };
+    if place + 1 < set.len() {
+        let next = set[place + 1];
+        if !wide.ends_before(&next) {
+            set.remove(place + 1);
+            set[place] = Interval {
+                last: next.last,
+                ..wide
+            };
+            return;
+        }
     }
     set[place] = wide;
 }

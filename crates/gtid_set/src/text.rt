@@ -47,8 +47,10 @@ pub fn trimmed(text: &[u8]) -> &[u8]
 pub fn cut(text: &[u8], separator: u8) -> (&[u8], Option<&[u8]>)
     ensures { (result.0.now, option_map (λ r. r.now) result.1) ≡ cut separator text.now }
 {
-    match text.iter().position(|byte| *byte == separator) {
-        Some(place) => (&text[..place], Some(&text[place + 1..])),
-        None => (text, None),
+    for (place, byte) in text.iter().enumerate() {
+        if *byte == separator {
+            return (&text[..place], Some(&text[place + 1..]));
+        }
     }
+    (text, None)
 }
