@@ -8,3 +8,6 @@ pub mod Covered
 pub mod Added
 pub mod Parts
 pub mod DigitLaws
+pub mod Reading
+pub mod PartLaws
+pub mod WholeText

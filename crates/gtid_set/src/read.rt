@@ -15,6 +15,7 @@ use std::alloc::Global;
 const TEXT_LIMIT: usize = 1_048_576;
 
 /// Adds the interval `m` or `m-n` of a uuid, if it holds a number.
+#[tactic(auto, unfolding(crate::specs::Text::intervals_of_piece))]
 fn push_piece(
     intervals: &mut Vec<Interval>,
     uuid: u128,
@@ -58,12 +59,16 @@ fn push_part(intervals: &mut Vec<Interval>, part: &[u8]) -> Result<(), GtidFault
     if part.is_empty() {
         return Ok(());
     }
-    let (front, rest) = part.split_at(part.len().min(36));
-    let uuid = uuid(front).ok_or(GtidFault::BadUuid)?;
-    match rest {
-        [b':', text @ ..] => push_pieces(intervals, uuid, text),
-        _ => Err(GtidFault::Syntax),
+    if part.len() < 36 {
+        return Err(GtidFault::BadUuid);
     }
+    let Some(uuid) = uuid(&part[..36]) else {
+        return Err(GtidFault::BadUuid);
+    };
+    if part.len() == 36 || part[36] != b':' {
+        return Err(GtidFault::Syntax);
+    }
+    push_pieces(intervals, uuid, &part[37..])
 }
 
 /// The text behind its flavor, if it has one.
@@ -78,6 +83,7 @@ fn without_flavor(text: &[u8]) -> Result<&[u8], GtidFault>
 }
 
 /// All intervals that a text names, in its order.
+#[tactic(auto, unfolding(crate::specs::Text::within_limit, crate::specs::Text::intervals_of_text))]
 pub fn intervals_of(alloc: Global, text: &[u8]) -> Result<Vec<Interval>, GtidFault>
     ensures { Gives (λ v. v.items) result (within_limit text.now) }
 {
