@@ -11,3 +11,4 @@ pub mod DigitLaws
 pub mod Reading
 pub mod PartLaws
 pub mod WholeText
+pub mod Named

@@ -1,4 +1,4 @@
-use Rattle.gtid_set.proofs.WholeText.{whole-text}
+use Rattle.gtid_set.proofs.Named.{Each}
 use Rattle.gtid_set.proofs.laws.equal_members_equal_sets.Goals as goal
 
 pub returns : goal.returns
