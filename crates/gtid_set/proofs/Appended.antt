@@ -84,7 +84,7 @@ set_last-joined s x next some e c one starts not_ends =
     let C : List Interval → Type 0 = λ t. IsCanonical t in
     let A : List Interval → Type 0 = λ t. AllStartBy next t in
     subst P (sym is) (set_at front x [] (up_to x next.last) (length s - 1) len
-      ∙ sym (joined-merged front x next (subst C is c) one (AllStart-last next front x (subst A is starts)) not_ends))
+    ∙ sym (joined-merged front x next (subst C is c) one (AllStart-last next front x (subst A is starts)) not_ends))
 
 pub push-joined : (s : List Interval) (x next : Interval) → 0 < length s → x ≡ get_or s (length s - 1) x → IsCanonical s → ends_before x next ≡ true → s ++ next ∷ [] ≡ joined s next
 push-joined s x next some e c ends =

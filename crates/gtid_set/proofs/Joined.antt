@@ -30,9 +30,9 @@ by_joined P none front place merge (x ∷ s) i =
     elim (cases_Bool (ends_before x i)) [
       | inl e ↦ rw (joined-front x s i e) (front x s i e (by_joined P none front place merge s i))
       | inr e ↦ elim (cases_Bool (ends_before i x)) [
-          | inl f ↦ rw (joined-place x s i e f) (place x s i e f)
-          | inr f ↦ rw (joined-merge x s i e f) (merge x s i e f (by_joined P none front place merge s (hull i x)))
-        ]
+        | inl f ↦ rw (joined-place x s i e f) (place x s i e f)
+        | inr f ↦ rw (joined-merge x s i e f) (merge x s i e f (by_joined P none front place merge s (hull i x)))
+      ]
     ]
 
 pub hull-interval : (a b : Interval) → IsInterval a → IsInterval b → IsInterval (hull a b)
@@ -55,23 +55,23 @@ or_over false false c = refl
 pub has-joined : (s : List Interval) (i : Interval) (u n : ℕ) → AllByRecursion IsInterval s → IsInterval i → has (joined s i) u n ≡ (holds i u n || has s u n)
 has-joined s i u n each one =
     by_joined (λ s i j. AllByRecursion IsInterval s → IsInterval i → has j u n ≡ (holds i u n || has s u n))
-      (λ i each one. refl)
-      (λ x s i e rest each one. ap (λ b. holds x u n || b) (rest each.1 one) ∙ or_over (holds x u n) (holds i u n) (has s u n))
-      (λ x s i e f each one. refl)
-      (λ x s i e f rest each one.
-        rest each.1 (hull-interval i x one each.0)
-        ∙ ap (λ b. b || has s u n) (holds-hull i x u n one each.0 f e)
-        ∙ or_swap (holds x u n) (holds i u n) (has s u n))
-      s i each one
+    (λ i each one. refl)
+    (λ x s i e rest each one. ap (λ b. holds x u n || b) (rest each.1 one) ∙ or_over (holds x u n) (holds i u n) (has s u n))
+    (λ x s i e f each one. refl)
+    (λ x s i e f rest each one.
+    rest each.1 (hull-interval i x one each.0)
+    ∙ ap (λ b. b || has s u n) (holds-hull i x u n one each.0 f e)
+    ∙ or_swap (holds x u n) (holds i u n) (has s u n))
+    s i each one
 
 pub joined-intervals : (s : List Interval) (i : Interval) → AllByRecursion IsInterval s → IsInterval i → AllByRecursion IsInterval (joined s i)
 joined-intervals s i each one =
     by_joined (λ s i j. AllByRecursion IsInterval s → IsInterval i → AllByRecursion IsInterval j)
-      (λ i each one. (one, tt))
-      (λ x s i e rest each one. (each.0, rest each.1 one))
-      (λ x s i e f each one. (one, each))
-      (λ x s i e f rest each one. rest each.1 (hull-interval i x one each.0))
-      s i each one
+    (λ i each one. (one, tt))
+    (λ x s i e rest each one. (each.0, rest each.1 one))
+    (λ x s i e f each one. (one, each))
+    (λ x s i e f rest each one. rest each.1 (hull-interval i x one each.0))
+    s i each one
 
 -- ---- canonical
 
@@ -92,11 +92,11 @@ ends-hull a b c same p q = grind (arith, nat_tests)
 pub all_end-joined : (x : Interval) (s : List Interval) (i : Interval) → AllEnd x s → ends_before x i ≡ true → AllEnd x (joined s i)
 all_end-joined x s i all e =
     by_joined (λ s i j. AllEnd x s → ends_before x i ≡ true → AllEnd x j)
-      (λ i all e. (e, tt))
-      (λ y s i f rest all e. (all.0, rest all.1 e))
-      (λ y s i f g all e. (e, all))
-      (λ y s i f g rest all e. rest all.1 (ends-hull x i y (one_uuid i y g f) e all.0))
-      s i all e
+    (λ i all e. (e, tt))
+    (λ y s i f rest all e. (all.0, rest all.1 e))
+    (λ y s i f g all e. (e, all))
+    (λ y s i f g rest all e. rest all.1 (ends-hull x i y (one_uuid i y g f) e all.0))
+    s i all e
 
 pub all_end-trans : (x y : Interval) (s : List Interval) → IsInterval y → ends_before x y ≡ true → AllEnd y s → AllEnd x s
 all_end-trans x y [] one e all = tt
@@ -105,11 +105,11 @@ all_end-trans x y (z ∷ s) one e all = (ends-trans x y z one e all.0, all_end-t
 pub joined-canonical : (s : List Interval) (i : Interval) → IsCanonical s → IsInterval i → IsCanonical (joined s i)
 joined-canonical s i c one =
     by_joined (λ s i j. IsCanonical s → IsInterval i → IsCanonical j)
-      (λ i c one. (one, tt, tt))
-      (λ x s i e rest c one. (c.0, all_end-joined x s i c.1 e, rest c.2 one))
-      (λ x s i e f c one. (one, (f, all_end-trans i x s c.0 f c.1), c))
-      (λ x s i e f rest c one. rest c.2 (hull-interval i x one c.0))
-      s i c one
+    (λ i c one. (one, tt, tt))
+    (λ x s i e rest c one. (c.0, all_end-joined x s i c.1 e, rest c.2 one))
+    (λ x s i e f c one. (one, (f, all_end-trans i x s c.0 f c.1), c))
+    (λ x s i e f rest c one. rest c.2 (hull-interval i x one c.0))
+    s i c one
 
 -- ---- a list of intervals more
 

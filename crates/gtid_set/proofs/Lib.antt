@@ -12,3 +12,4 @@ pub mod Reading
 pub mod PartLaws
 pub mod WholeText
 pub mod Named
+pub mod Parsed

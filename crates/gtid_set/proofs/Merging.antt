@@ -16,11 +16,11 @@ starts-hull a b y same p q = grind (arith, nat_tests)
 pub start-joined : (y : Interval) (s : List Interval) (i : Interval) → AllStartBy y s → starts_by i y ≡ true → AllStartBy y (joined s i)
 start-joined y s i all e =
     by_joined (λ s i j. AllStartBy y s → starts_by i y ≡ true → AllStartBy y j)
-      (λ i all e. (e, tt))
-      (λ x s i f rest all e. (all.0, rest all.1 e))
-      (λ x s i f g all e. (e, all))
-      (λ x s i f g rest all e. rest all.1 (starts-hull i x y (one_uuid i x g f) e all.0))
-      s i all e
+    (λ i all e. (e, tt))
+    (λ x s i f rest all e. (all.0, rest all.1 e))
+    (λ x s i f g all e. (e, all))
+    (λ x s i f g rest all e. rest all.1 (starts-hull i x y (one_uuid i x g f) e all.0))
+    s i all e
 
 -- one interval begins no later than each of a list
 abbrev pub StartsAll : Interval → List Interval → Type 0
@@ -116,8 +116,8 @@ merged-front both x one other c d over_one over_other first = record {
   starts_one = over-joined both x one over_one.1 (canonical-rising (x ∷ one) d).0;
   starts_other = over-joined both x other over_other first;
   pairs = λ u n.
-    ap (λ b. b || (has one u n || has other u n)) (has-joined both x u n (canonical-intervals both c) d.0)
-    ∙ regroup (holds x u n) (has both u n) (has one u n) (has other u n);
+      ap (λ b. b || (has one u n || has other u n)) (has-joined both x u n (canonical-intervals both c) d.0)
+      ∙ regroup (holds x u n) (has both u n) (has one u n) (has other u n);
 }
 
 pub merged-one : (both one other new : List Interval) (i j : ℕ) (x y : Interval) → i < length one → j < length other → x ≡ get_or one i x → y ≡ get_or other j y
@@ -154,10 +154,10 @@ pub union-rest : (both one other set : List Interval) → IsCanonical both → I
 union-rest both one other set c d e f pairs =
     let first = canonical-union both one c d in
     equal_sets (union_of (union_of both one) other) set (canonical-union (union_of both one) other first e) f (λ u n.
-      union-pairs (union_of both one) other first e u n
-      ∙ ap (λ b. b || has other u n) (union-pairs both one c d u n)
-      ∙ or_assoc (has both u n) (has one u n) (has other u n)
-      ∙ pairs u n)
+    union-pairs (union_of both one) other first e u n
+    ∙ ap (λ b. b || has other u n) (union-pairs both one c d u n)
+    ∙ or_assoc (has both u n) (has one u n) (has other u n)
+    ∙ pairs u n)
   where
     or_assoc : (a b c : Bool) → ((a || b) || c) ≡ (a || (b || c))
     or_assoc true b c = refl

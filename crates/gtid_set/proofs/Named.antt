@@ -53,11 +53,11 @@ in_range low None n e = absurd cc
 in_range low (Some m) n e =
     elim (cases_Bool (nat_le low m && nat_le m last_number)) [
       | inl holds_it ↦
-        let same : m ≡ n = ok_is m n (sym (cond-true (nat_le low m && nat_le m last_number) (done m) (Err BadNumber) holds_it) ∙ e) in
-        let p = and_parts (nat_le low m) (nat_le m last_number) holds_it in
-        let a = leb-true low m p.0 in
-        let b = leb-true m last_number p.1 in
-        (omega arith, omega arith)
+          let same : m ≡ n = ok_is m n (sym (cond-true (nat_le low m && nat_le m last_number) (done m) (Err BadNumber) holds_it) ∙ e) in
+          let p = and_parts (nat_le low m) (nat_le m last_number) holds_it in
+          let a = leb-true low m p.0 in
+          let b = leb-true m last_number p.1 in
+          (omega arith, omega arith)
       | inr fails ↦ absurd (not_ok m n (sym (cond-false (nat_le low m && nat_le m last_number) (done m) (Err BadNumber) fails) ∙ e))
     ]
   where
@@ -103,10 +103,10 @@ hex_small : (b d : ℕ) → hex_digit_of b ≡ Some d → d < 16
 hex_small b d e =
     elim (cases_Bool (nat_le 48 b && nat_le b 57)) [
       | inl t ↦
-        let p = and_parts (nat_le 48 b) (nat_le b 57) t in
-        let high = leb-true b 57 p.1 in
-        let same : b - 48 ≡ d = some_is (b - 48) d (sym (cond-true (nat_le 48 b && nat_le b 57) _ _ t) ∙ e) in
-        omega arith
+          let p = and_parts (nat_le 48 b) (nat_le b 57) t in
+          let high = leb-true b 57 p.1 in
+          let same : b - 48 ≡ d = some_is (b - 48) d (sym (cond-true (nat_le 48 b && nat_le b 57) _ _ t) ∙ e) in
+          omega arith
       | inr f ↦ second (sym (cond-false (nat_le 48 b && nat_le b 57) _ _ f) ∙ e)
     ]
   where
@@ -117,10 +117,10 @@ hex_small b d e =
     third h =
         elim (cases_Bool (nat_le 65 b && nat_le b 70)) [
           | inl t ↦
-            let p = and_parts (nat_le 65 b) (nat_le b 70) t in
-            let high = leb-true b 70 p.1 in
-            let same : b - 55 ≡ d = some_is (b - 55) d (sym (cond-true (nat_le 65 b && nat_le b 70) _ _ t) ∙ h) in
-            omega arith
+              let p = and_parts (nat_le 65 b) (nat_le b 70) t in
+              let high = leb-true b 70 p.1 in
+              let same : b - 55 ≡ d = some_is (b - 55) d (sym (cond-true (nat_le 65 b && nat_le b 70) _ _ t) ∙ h) in
+              omega arith
           | inr f ↦ absurd (none_not d (sym (cond-false (nat_le 65 b && nat_le b 70) _ _ f) ∙ h))
         ]
 
@@ -128,10 +128,10 @@ hex_small b d e =
     second h =
         elim (cases_Bool (nat_le 97 b && nat_le b 102)) [
           | inl t ↦
-            let p = and_parts (nat_le 97 b) (nat_le b 102) t in
-            let high = leb-true b 102 p.1 in
-            let same : b - 87 ≡ d = some_is (b - 87) d (sym (cond-true (nat_le 97 b && nat_le b 102) _ _ t) ∙ h) in
-            omega arith
+              let p = and_parts (nat_le 97 b) (nat_le b 102) t in
+              let high = leb-true b 102 p.1 in
+              let same : b - 87 ≡ d = some_is (b - 87) d (sym (cond-true (nat_le 97 b && nat_le b 102) _ _ t) ∙ h) in
+              omega arith
           | inr f ↦ third (sym (cond-false (nat_le 97 b && nat_le b 102) _ _ f) ∙ h)
         ]
 
@@ -218,8 +218,8 @@ sorted-rising [] h = tt
 sorted-rising (a ∷ []) h = (tt, tt)
 sorted-rising (a ∷ b ∷ s) h =
     let rest : IsRising (b ∷ s) = sorted-rising (b ∷ s) (λ k d low high.
-      let e : suc k + 1 ≡ suc (k + 1) = omega arith in
-      subst (λ (j : ℕ). is_lt (interval_cmp (get_or (a ∷ b ∷ s) j d) (get_or (b ∷ s) k d)) ≡ false) e (h (suc k) d (omega arith) (omega arith))) in
+    let e : suc k + 1 ≡ suc (k + 1) = omega arith in
+    subst (λ (j : ℕ). is_lt (interval_cmp (get_or (a ∷ b ∷ s) j d) (get_or (b ∷ s) k d)) ≡ false) e (h (suc k) d (omega arith) (omega arith))) in
     let first : starts_by a b ≡ true = starts-sorted a b (h 0 a (omega arith) (omega arith)) in
     ((first, StartsAll-trans a b s first rest.0), rest)
 
@@ -235,4 +235,4 @@ pub set-sorted : (named sorted : List Interval) → IsPermutation named sorted �
 set-sorted named sorted p each =
     let each' = Each-permutation named sorted p each in
     equal_sets (union_of [] sorted) (union_of [] named) (union-canonical [] sorted tt each') (union-canonical [] named tt each) (λ u n.
-      has-union_of [] sorted u n tt each' ∙ sym (has-permutation named sorted p u n) ∙ sym (has-union_of [] named u n tt each))
+    has-union_of [] sorted u n tt each' ∙ sym (has-permutation named sorted p u n) ∙ sym (has-union_of [] named u n tt each))

@@ -51,8 +51,8 @@ byte_front s k lt = rw add-one (drop-cons s k 0 lt)
 pub cut-next : (c : ℕ) (s : List ℕ) (k : ℕ) → k < length s → (get_or s k 0 ≡ c → ⊥) → cut_behind (take (k + 1) s) (cut c (drop (k + 1) s)) ≡ cut_behind (take k s) (cut c (drop k s))
 cut-next c s k lt ne =
     sym (ap (λ (t : List ℕ). cut_behind (take k s) (cut c t)) (byte_front s k lt)
-      ∙ cut-passed c (take k s) (drop (k + 1) s) (get_or s k 0) ne
-      ∙ ap (λ (t : List ℕ). cut_behind t (cut c (drop (k + 1) s))) (sym (take_at_read s k 0 lt).1))
+    ∙ cut-passed c (take k s) (drop (k + 1) s) (get_or s k 0) ne
+    ∙ ap (λ (t : List ℕ). cut_behind t (cut c (drop (k + 1) s))) (sym (take_at_read s k 0 lt).1))
 
 pub cut-here : (c : ℕ) (s : List ℕ) (k : ℕ) → k < length s → get_or s k 0 ≡ c → cut_behind (take k s) (cut c (drop k s)) ≡ (take k s, Some (drop (k + 1) s))
 cut-here c s k lt e =
@@ -72,4 +72,3 @@ parts_between-cut c (b ∷ text) = by_test (eqb b c) refl (parts_between-cut c t
     by_test : (t : Bool) → eqb b c ≡ t → parts_between c text ≡ (cut c text).0 ∷ parts_after c (cut c text).1 → parts_between c (b ∷ text) ≡ (cut c (b ∷ text)).0 ∷ parts_after c (cut c (b ∷ text)).1
     by_test true e h = rw e refl
     by_test false e h = rw e (ap (with_first b) h)
-

@@ -83,4 +83,3 @@ pub smaller_some : (c : ℕ) (rest rest' : Option (Bor (List ℕ))) (pieces : Bo
 smaller_some c rest rest' pieces piece e h =
     let k = smaller_part c pieces.now piece (option_map (λ (r : Bor (List ℕ)). r.now) rest') h in
     subst (λ (o : Option (Bor (List ℕ))). size_left (option_map (λ (r : Bor (List ℕ)). r.now) rest') < size_left (option_map (λ (r : Bor (List ℕ)). r.now) o)) (sym e) k
-

@@ -77,10 +77,10 @@ others : (x : Interval) (s t : List Interval) (u n : ℕ) → AllEnd x s → All
 others x s t u n all each e =
     elim (cases_Bool (holds x u n)) [
       | inl here ↦
-        let k = holds-true x u n here in
-        let p : has s x.uuid n ≡ false = not_behind x s n all (omega arith) in
-        let q : has t x.uuid n ≡ false = not_behind x t n each (omega arith) in
-        cc
+          let k = holds-true x u n here in
+          let p : has s x.uuid n ≡ false = not_behind x s n all (omega arith) in
+          let q : has t x.uuid n ≡ false = not_behind x t n each (omega arith) in
+          cc
       | inr not_here ↦ cc
     ]
 

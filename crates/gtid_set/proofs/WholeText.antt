@@ -18,7 +18,7 @@ whole-text text rest front none le flavor =
     ap (λ (f : List Interval). behind f (all_of (λ part. intervals_of_part (trimmed part)) (parts_between 44 rest))) none
     ∙ behind-nothing (all_of (λ part. intervals_of_part (trimmed part)) (parts_between 44 rest))
     ∙ sym (cond-false (ltb text_limit (length text)) _ _ (le-ltb text_limit (length text) le)
-      ∙ ap (λ (r : Result (List ℕ) GtidFault). r >>= λ parts. all_of (λ part. intervals_of_part (trimmed part)) (parts_between 44 parts)) flavor)
+    ∙ ap (λ (r : Result (List ℕ) GtidFault). r >>= λ parts. all_of (λ part. intervals_of_part (trimmed part)) (parts_between 44 parts)) flavor)
 
 pub refuses-same : (e : GtidFault) (one other : Result (List Interval) GtidFault) → one ≡ other → Refuses e one → Refuses e other
 refuses-same e one other same h = subst (λ (r : Result (List Interval) GtidFault). Refuses e r) same h

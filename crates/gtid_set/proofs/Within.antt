@@ -39,18 +39,18 @@ not_split y t i n one all whole inside not_covered low high held =
     let h = one.holds_first in
     elim (split y i n k not_covered low high) [
       | inl below ↦
-        let out : holds y i.uuid i.first ≡ false = grind (arith, nat_tests) in
-        elim (or_cases (holds y i.uuid i.first) (has t i.uuid i.first) (inside i.first (omega arith) (omega arith))) [
-          | inl here ↦ false≢true (sym out ∙ here)
-          | inr there ↦ elim (pair_behind y t i.uuid i.first all there) [ inl lt ↦ omega arith | inr p ↦ omega arith ]
-        ]
+          let out : holds y i.uuid i.first ≡ false = grind (arith, nat_tests) in
+          elim (or_cases (holds y i.uuid i.first) (has t i.uuid i.first) (inside i.first (omega arith) (omega arith))) [
+            | inl here ↦ false≢true (sym out ∙ here)
+            | inr there ↦ elim (pair_behind y t i.uuid i.first all there) [ inl lt ↦ omega arith | inr p ↦ omega arith ]
+          ]
       | inr above ↦
-        let out : holds y i.uuid (y.last + 1) ≡ false = grind (arith, nat_tests) in
-        let gap : has t i.uuid (y.last + 1) ≡ false = rw (← k.0) (not_behind y t (y.last + 1) all (omega arith)) in
-        elim (or_cases (holds y i.uuid (y.last + 1)) (has t i.uuid (y.last + 1)) (inside (y.last + 1) (omega arith) (omega arith))) [
-          | inl here ↦ false≢true (sym out ∙ here)
-          | inr there ↦ false≢true (sym gap ∙ there)
-        ]
+          let out : holds y i.uuid (y.last + 1) ≡ false = grind (arith, nat_tests) in
+          let gap : has t i.uuid (y.last + 1) ≡ false = rw (← k.0) (not_behind y t (y.last + 1) all (omega arith)) in
+          elim (or_cases (holds y i.uuid (y.last + 1)) (has t i.uuid (y.last + 1)) (inside (y.last + 1) (omega arith) (omega arith))) [
+            | inl here ↦ false≢true (sym out ∙ here)
+            | inr there ↦ false≢true (sym gap ∙ there)
+          ]
     ]
   where
     split : (y i : Interval) (n : ℕ) → Holds y i.uuid n → covers y i ≡ false → i.first ≤ n → n ≤ i.last → (i.first < y.first) ⊎ (y.last < i.last)
@@ -72,8 +72,8 @@ pub pairs-within : (a b : List Interval) → AllByRecursion IsInterval a → IsC
 pairs-within [] b each c w = refl
 pairs-within (i ∷ a) b each c w =
     and_from (list_any (λ j. covers j i) b) (within_of a b)
-      (covered b i c each.0 (λ n low high. w i.uuid n (or_left (holds i i.uuid n) (has a i.uuid n) (true-holds i i.uuid n (refl, low, high)))))
-      (pairs-within a b each.1 c (λ u n h. w u n (or_right (holds i u n) (has a u n) h)))
+    (covered b i c each.0 (λ n low high. w i.uuid n (or_left (holds i i.uuid n) (has a i.uuid n) (true-holds i i.uuid n (refl, low, high)))))
+    (pairs-within a b each.1 c (λ u n h. w u n (or_right (holds i u n) (has a u n) h)))
 
 -- ---- subset is an order
 
@@ -97,14 +97,16 @@ pub canonical-union : (a b : List Interval) → IsCanonical a → IsCanonical b 
 canonical-union a b c d = union-canonical a b c (canonical-intervals b d)
 
 pub within-union : (a b : List Interval) → IsCanonical a → IsCanonical b → IsWithin a (union_of a b) × IsWithin b (union_of a b)
-within-union a b c d =
-    (λ u n h. union-pairs a b c d u n ∙ or_left (has a u n) (has b u n) h,
-     λ u n h. union-pairs a b c d u n ∙ or_right (has a u n) (has b u n) h)
+within-union a b c d = (
+  λ u n h. union-pairs a b c d u n ∙ or_left (has a u n) (has b u n) h,
+  λ u n h. union-pairs a b c d u n ∙ or_right (has a u n) (has b u n) h,
+)
 
 pub union-within : (a b all : List Interval) → IsCanonical a → IsCanonical b → IsWithin a all → IsWithin b all → IsWithin (union_of a b) all
 union-within a b all c d p q u n h = elim (or_cases (has a u n) (has b u n) (sym (union-pairs a b c d u n) ∙ h)) [ inl x ↦ p u n x | inr y ↦ q u n y ]
 
 pub union-superset : (a b : List Interval) → IsCanonical a → IsCanonical b → IsWithin a b → (union_of a b ≡ b) × (union_of b a ≡ b)
-union-superset a b c d w =
-    (within_both_ways (union_of a b) b (canonical-union a b c d) d (union-within a b b c d w (within_itself b)) (within-union a b c d).1,
-     within_both_ways (union_of b a) b (canonical-union b a d c) d (union-within b a b d c (within_itself b) w) (within-union b a d c).0)
+union-superset a b c d w = (
+  within_both_ways (union_of a b) b (canonical-union a b c d) d (union-within a b b c d w (within_itself b)) (within-union a b c d).1,
+  within_both_ways (union_of b a) b (canonical-union b a d c) d (union-within b a b d c (within_itself b) w) (within-union b a d c).0,
+)

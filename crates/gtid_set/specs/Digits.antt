@@ -13,9 +13,9 @@ digit_of b = if nat_le 48 b && nat_le b 57 then Some (b - 48) else None
 -- the value of a hexadecimal digit of either case
 abbrev pub hex_digit_of : ℕ → Option ℕ
 hex_digit_of b =
-  if nat_le 48 b && nat_le b 57 then Some (b - 48)
-  else (if nat_le 97 b && nat_le b 102 then Some (b - 87)
-  else (if nat_le 65 b && nat_le b 70 then Some (b - 55) else None))
+    if nat_le 48 b && nat_le b 57 then Some (b - 48)
+    else (if nat_le 97 b && nat_le b 102 then Some (b - 87)
+    else (if nat_le 65 b && nat_le b 70 then Some (b - 55) else None))
 
 -- the number that digits of a base say behind a number in front of them
 abbrev pub number_behind : (ℕ → Option ℕ) → ℕ → ℕ → List ℕ → Option ℕ

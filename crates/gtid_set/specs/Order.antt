@@ -29,7 +29,7 @@ wider i number = record { uuid = i.uuid; first = min i.first number; last = max 
 abbrev pub merged_front : Interval → List Interval → List Interval
 merged_front i [] = i ∷ []
 merged_front i (next ∷ set) =
-  if ends_before i next then i ∷ next ∷ set else record { uuid = i.uuid; first = i.first; last = next.last } ∷ set
+    if ends_before i next then i ∷ next ∷ set else record { uuid = i.uuid; first = i.first; last = next.last } ∷ set
 
 -- the interval at a place with one number more, merged with the next one where they touch
 abbrev pub widened : List Interval → ℕ → ℕ → List Interval

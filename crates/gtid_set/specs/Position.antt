@@ -58,7 +58,7 @@ hull one other = record { uuid = one.uuid; first = min one.first other.first; la
 abbrev pub joined : List Interval → Interval → List Interval
 joined [] new = new ∷ []
 joined (i ∷ set) new =
-  if ends_before i new then i ∷ joined set new else (if ends_before new i then new ∷ i ∷ set else joined set (hull new i))
+    if ends_before i new then i ∷ joined set new else (if ends_before new i then new ∷ i ∷ set else joined set (hull new i))
 
 -- a set and all intervals of a list
 abbrev pub union_of : List Interval → List Interval → List Interval

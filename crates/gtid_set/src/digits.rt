@@ -64,11 +64,7 @@ fn is_hyphenated(text: &[u8]) -> bool
     ensures value { result ≡ is_hyphenated text.now }
     ensures length { IsTrue result → length text.now ≡ 36 }
 {
-    text.len() == 36
-        && text[8] == b'-'
-        && text[13] == b'-'
-        && text[18] == b'-'
-        && text[23] == b'-'
+    text.len() == 36 && text[8] == b'-' && text[13] == b'-' && text[18] == b'-' && text[23] == b'-'
 }
 
 /// The uuid of 36 bytes: hexadecimal digits of either case, 8-4-4-4-12.

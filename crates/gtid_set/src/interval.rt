@@ -26,9 +26,7 @@ impl Interval {
         ensures { result ≡ ends_before self.now other.now }
     {
         self.uuid < other.uuid
-            || (self.uuid == other.uuid
-                && self.last < other.first
-                && 1 < other.first - self.last)
+            || (self.uuid == other.uuid && self.last < other.first && 1 < other.first - self.last)
     }
 
     /// The interval begins no later than the other.

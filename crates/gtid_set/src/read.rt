@@ -16,11 +16,7 @@ const TEXT_LIMIT: usize = 1_048_576;
 
 /// Adds the interval `m` or `m-n` of a uuid, if it holds a number.
 #[tactic(auto, unfolding(crate::specs::Text::intervals_of_piece))]
-fn push_piece(
-    intervals: &mut Vec<Interval>,
-    uuid: u128,
-    piece: &[u8],
-) -> Result<(), GtidFault>
+fn push_piece(intervals: &mut Vec<Interval>, uuid: u128, piece: &[u8]) -> Result<(), GtidFault>
     ensures { Gives (λ _. intervals.new.items) result (behind intervals.old.items (intervals_of_piece uuid piece.now)) }
 {
     let (lower, upper) = cut(piece, b'-');
@@ -36,11 +32,7 @@ fn push_piece(
 }
 
 /// Adds the intervals of a uuid that stand between colons.
-fn push_pieces(
-    intervals: &mut Vec<Interval>,
-    uuid: u128,
-    text: &[u8],
-) -> Result<(), GtidFault>
+fn push_pieces(intervals: &mut Vec<Interval>, uuid: u128, text: &[u8]) -> Result<(), GtidFault>
     ensures { Gives (λ _. intervals.new.items) result (behind intervals.old.items (all_of (intervals_of_piece uuid) (parts_between 58 text.now))) }
 {
     let mut rest = Some(text);

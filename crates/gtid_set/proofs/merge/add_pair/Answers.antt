@@ -17,14 +17,14 @@ returns-then-place-len-clause-ok c =
     let bound : place ≤ length s = rw c.deref.ensures.value at c.place_of-place.ensures.bound in
     let passed : AllEndBefore pair (take place s) = rw c.deref.ensures.value at c.place_of-place.ensures.passed in
     rw c.in_ok-insert.ensures.items (insert-joined s place pair bound c.requires.canonical one passed (λ lt d.
-      elim c.then-place-len.branch [
-        | then-place-len-via-then-place-len w ↦ absurd (omega (arith, c.args.set.now.ok.0, c.len.ensures, w.if-place-len.true))
-        | then-place-len-via-else-place-len+then-ends_before w ↦
+    elim c.then-place-len.branch [
+      | then-place-len-via-then-place-len w ↦ absurd (omega (arith, c.args.set.now.ok.0, c.len.ensures, w.if-place-len.true))
+      | then-place-len-via-else-place-len+then-ends_before w ↦
           let y : Interval = w.index.result.now in
           let y-is = w.index.ensures ∙ get_or_default s place y d lt in
           let ends : ends_before pair y ≡ true = cc in
           subst (λ (i : Interval). ends_before pair i ≡ true) y-is ends
-      ]))
+    ]))
 
 pub returns-clause-ok : goal.returns-clause-ok
 returns-clause-ok c =

@@ -24,9 +24,9 @@ returns-then-place-all c =
     let not_covered : covered_by x all ≡ false = elim c.then-place-all.branch [
       | then-place-all-via-then-place-all w ↦ covered-nowhere all place x (omega arith) rest.0.holds_first passed
       | then-place-all-via-else-place-all+then-not-covers w ↦
-        let here : place < length all = omega arith in
-        let j : Interval = get_or all place nowhere in
-        covered-at all place j x here (get_or_default all place nowhere j here) c.requires.all rest.0.holds_first passed (c.reach-place.ensures.stops here nowhere) ∙ cc
+          let here : place < length all = omega arith in
+          let j : Interval = get_or all place nowhere in
+          covered-at all place j x here (get_or_default all place nowhere j here) c.requires.all rest.0.holds_first passed (c.reach-place.ensures.stops here nowhere) ∙ cc
     ] in
     sym (sym c.loop-interval.invariant.answer ∙ ap (λ s. within_of s all) d ∙ ap (λ b. b && within_of (drop (k + 1) some) all) not_covered)
 

@@ -27,8 +27,8 @@ loop-i-preserved-then-starts_by c =
     let first : starts_by x y ≡ true = cc in
     let before = c.loop-i.invariant in
     let m = merged-one c.loop-i.both.items one other c.append.new.set.items i j x y c.loop-i-test.true c.if-j-other.true
-      (get_or_default one i nowhere x c.loop-i-test.true) (get_or_default other j nowhere y c.if-j-other.true)
-      before.canonical c.requires.one c.requires.other before.starts_one before.starts_other first c.in_ok-append.ensures.ok in
+    (get_or_default one i nowhere x c.loop-i-test.true) (get_or_default other j nowhere y c.if-j-other.true)
+    before.canonical c.requires.one c.requires.other before.starts_one before.starts_other first c.in_ok-append.ensures.ok in
     record { canonical = m.canonical; one = omega arith; other = omega arith; starts_one = m.starts_one; starts_other = m.starts_other; pairs = λ u n. m.pairs u n ∙ before.pairs u n }
 
 pub loop-i-preserved : goal.loop-i-preserved
@@ -42,8 +42,8 @@ loop-i-preserved c =
     let not_first : starts_by x y ≡ false = cc in
     let before = c.loop-i.invariant in
     let m = merged-swap (merged-one c.loop-i.both.items other one c.append-else-starts_by.new.set.items j i y x c.if-j-other.true c.loop-i-test.true
-      (get_or_default other j nowhere y c.if-j-other.true) (get_or_default one i nowhere x c.loop-i-test.true)
-      before.canonical c.requires.other c.requires.one before.starts_other before.starts_one (starts_total x y not_first) c.in_ok-append-2.ensures.ok) in
+    (get_or_default other j nowhere y c.if-j-other.true) (get_or_default one i nowhere x c.loop-i-test.true)
+    before.canonical c.requires.other c.requires.one before.starts_other before.starts_one (starts_total x y not_first) c.in_ok-append-2.ensures.ok) in
     record { canonical = m.canonical; one = omega arith; other = omega arith; starts_one = m.starts_one; starts_other = m.starts_other; pairs = λ u n. m.pairs u n ∙ before.pairs u n }
 
 pub append_all-requires-clause-each : goal.append_all-requires-clause-each
@@ -71,5 +71,5 @@ returns c =
     let e = rw take_rest at c.in_ok-append_all.ensures in
     let f = rw take_rest at c.in_ok-append_all-2.ensures in
     rw (f, e) (union-rest c.loop-i.both.items (drop c.loop-i.i one) (drop c.loop-i.j other) (union_of one other) before.canonical
-      (canonical-drop c.loop-i.i one c.requires.one) (canonical-drop c.loop-i.j other c.requires.other) (canonical-union one other c.requires.one c.requires.other)
-      (λ u n. before.pairs u n ∙ sym (union-pairs one other c.requires.one c.requires.other u n)))
+    (canonical-drop c.loop-i.i one c.requires.one) (canonical-drop c.loop-i.j other c.requires.other) (canonical-union one other c.requires.one c.requires.other)
+    (λ u n. before.pairs u n ∙ sym (union-pairs one other c.requires.one c.requires.other u n)))

@@ -23,11 +23,11 @@ returns c =
     let x : Interval = c.index-old.result.now in
     let wide-is : wider x c.args.number ≡ record { uuid = x.uuid; first = c.min.result; last = c.max.result } = cc in
     rw (c.min.ensures, c.max.ensures) (set-widened s c.args.place c.args.number x (omega (arith, c.args.set.now.ok.0, c.requires.inside)) c.index-old.ensures (λ lt d.
-      elim c.if-place-len.branch [
-        | then-place-len+else-not-ends_before w ↦
+    elim c.if-place-len.branch [
+      | then-place-len+else-not-ends_before w ↦
           let y : Interval = w.index.result.now in
           let ends : ends_before (wider x c.args.number) y ≡ true = ap (λ (i : Interval). ends_before i y) wide-is ∙ cc in
           let y-is = w.index.ensures ∙ get_or_default s (c.args.place + 1) y d lt in
           subst (λ (i : Interval). ends_before (wider x c.args.number) i ≡ true) y-is ends
-        | else-place-len w ↦ absurd (omega (arith, c.args.set.now.ok.0, c.len.ensures))
-      ]))
+      | else-place-len w ↦ absurd (omega (arith, c.args.set.now.ok.0, c.len.ensures))
+    ]))
