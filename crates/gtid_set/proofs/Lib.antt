@@ -13,3 +13,4 @@ pub mod PartLaws
 pub mod WholeText
 pub mod Named
 pub mod Parsed
+pub mod PrintedLaws
