@@ -14,3 +14,7 @@ pub mod WholeText
 pub mod Named
 pub mod Parsed
 pub mod PrintedLaws
+pub mod PrintedReadsBytes
+pub mod PrintedReadsNumbers
+pub mod PrintedReadsUuid
+pub mod PrintedReads

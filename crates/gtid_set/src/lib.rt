@@ -7,6 +7,7 @@ mod interval;
 mod laws;
 mod merge;
 mod printed;
+mod printed_laws;
 mod read;
 mod set;
 mod text;
@@ -17,4 +18,5 @@ pub use laws::{
     equal_members_equal_sets, positions_are_canonical, subset_is_an_order,
     union_is_the_least_set_over_both, union_with_a_superset_is_the_superset, within_is_subset,
 };
+pub use printed_laws::{different_sets_print_different_texts, printed_text_is_read_again};
 pub use set::GtidSet;
