@@ -13,3 +13,5 @@ pub mod PartLaws
 pub mod WholeText
 pub mod Named
 pub mod Parsed
+pub mod HexText
+pub mod Printing

@@ -6,6 +6,7 @@ mod fault;
 mod interval;
 mod laws;
 mod merge;
+mod printed;
 mod read;
 mod set;
 mod text;

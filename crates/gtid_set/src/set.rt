@@ -112,4 +112,12 @@ impl GtidSet {
             intervals: Vec::from_slice(alloc, &self.intervals)?,
         })
     }
+
+    /// The merged rising intervals of the set.
+    pub fn intervals(&self) -> &[Interval]
+        ensures value { result.now ≡ self.now }
+        ensures canonical { IsCanonical result.now }
+    {
+        &self.intervals
+    }
 }
