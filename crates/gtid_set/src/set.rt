@@ -121,3 +121,17 @@ impl GtidSet {
         &self.intervals
     }
 }
+
+/// Sets are equal if they have the same pairs.
+impl PartialEq for GtidSet {
+    ghost use Rattle.gtid_set.specs.Position.{same_set};
+    ghost use Rattle.gtid_set.specs.Equal.{same_set-laws};
+
+    ghost eq = { same_set };
+
+    ghost laws = { same_set-laws };
+
+    fn eq(&self, other: &GtidSet) -> bool {
+        self.intervals == other.intervals
+    }
+}
