@@ -38,10 +38,10 @@ padded_four n small =
     elim (cases_lt n 16) [
       | inl one ↦ rw (hex_one_digit false n one) (four-is n 0 0 0 n (omega arith) (omega arith) (omega arith) (omega arith))
       | inr some ↦ elim (cases_lt n 256) [
-          | inl two ↦ rw (hex_two_digits false n some two) (four-is n 0 0 (n / 16) (n % 16) (omega arith) (omega arith) (omega arith) refl)
-          | inr more ↦ elim (cases_lt n 4096) [
-              | inl three ↦ rw (hex_three n more three) (four-is n 0 (n / 16 / 16) (n / 16 % 16) (n % 16) (omega arith) (omega arith) refl refl)
-              | inr all ↦ rw (hex_all n all small) (four-is n (n / 16 / 16 / 16) (n / 16 / 16 % 16) (n / 16 % 16) (n % 16) (omega arith) (omega arith) refl refl)
-            ]
+        | inl two ↦ rw (hex_two_digits false n some two) (four-is n 0 0 (n / 16) (n % 16) (omega arith) (omega arith) (omega arith) refl)
+        | inr more ↦ elim (cases_lt n 4096) [
+          | inl three ↦ rw (hex_three n more three) (four-is n 0 (n / 16 / 16) (n / 16 % 16) (n % 16) (omega arith) (omega arith) refl refl)
+          | inr all ↦ rw (hex_all n all small) (four-is n (n / 16 / 16 / 16) (n / 16 / 16 % 16) (n / 16 % 16) (n % 16) (omega arith) (omega arith) refl refl)
         ]
+      ]
     ]

@@ -18,8 +18,8 @@ group_of uuid place = uuid / 2 ^ place % 65536
 -- the uuid's text, 8-4-4-4-12
 unfoldable pub uuid_text : ℕ → List ℕ
 uuid_text uuid =
-  hex_four (group_of uuid 112) ++ hex_four (group_of uuid 96) ++ 45 ∷ hex_four (group_of uuid 80) ++ 45 ∷ hex_four (group_of uuid 64)
-  ++ 45 ∷ hex_four (group_of uuid 48) ++ 45 ∷ hex_four (group_of uuid 32) ++ hex_four (group_of uuid 16) ++ hex_four (group_of uuid 0)
+    hex_four (group_of uuid 112) ++ hex_four (group_of uuid 96) ++ 45 ∷ hex_four (group_of uuid 80) ++ 45 ∷ hex_four (group_of uuid 64)
+    ++ 45 ∷ hex_four (group_of uuid 48) ++ 45 ∷ hex_four (group_of uuid 32) ++ hex_four (group_of uuid 16) ++ hex_four (group_of uuid 0)
 
 -- an interval's text behind its colon: its number, or its first and last one
 abbrev pub span_text : ℕ → ℕ → List ℕ

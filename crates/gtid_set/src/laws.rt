@@ -47,5 +47,4 @@ pub fn positions_are_canonical()
 /// What `==` computes is equality.
 pub fn same_set_is_equality()
     ensures { (a b : List Interval) → IsTrue (same_set a b) ↔ (a ≡ b) }
-{
-}
+{}

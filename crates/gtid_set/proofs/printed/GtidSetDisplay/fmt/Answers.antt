@@ -14,7 +14,7 @@ loop-interval-preserved g c =
     let x : Interval = get_or items k nowhere in
     let t = (take_at_read items k nowhere c.loop-interval-test.true).1 in
     let text : printed_position (take k items) ++ interval_text c.loop-interval.before x ≡ printed_position (take (k + 1) items) =
-      ap (λ (b : Option ℕ). printed_position (take k items) ++ interval_text b x) c.loop-interval.invariant.before ∙ printed-push (take k items) x ∙ ap printed_position (sym t) in
+    ap (λ (b : Option ℕ). printed_position (take k items) ++ interval_text b x) c.loop-interval.invariant.before ∙ printed-push (take k items) x ∙ ap printed_position (sym t) in
     record {
       before = rw t (sym (last_uuid-push (take k items) x));
       written = λ plain. has_written_of_eq _ _ _ _ _ text (has_written_append _ _ _ _ _ _ (c.loop-interval.invariant.written plain) (search rules));
