@@ -1,10 +1,10 @@
 -- Canonical sets with the same pairs are equal, and a set is within another where each of its intervals is in one of the other.
-use Rattle.std.proofs.Common.{◌≡◌, ℕ, ◌+◌, ◌<◌, ◌≤◌, Bool, true, false, cond, ◌⊎◌, inl, inr, refl, sym, ◌∙◌, ap, arith, IsTrue, min, max, ◌||◌, ◌&&◌, List, [], ◌∷◌, ◌++◌}
+use Rattle.std.proofs.Common.{◌≡◌, ℕ, ◌+◌, ◌<◌, ◌≤◌, Bool, true, false, cond, ◌⊎◌, inl, inr, refl, sym, ◌∙◌, ap, subst, arith, IsTrue, min, max, ◌||◌, ◌&&◌, List, [], ◌∷◌, ◌++◌}
 use Rattle.std.specs.List.{AllByRecursion, list_any}
 use Rattle.std.proofs.lemmas.Bool.{cases_Bool, or_cases, or_from, and_from, false_from_ne_true, or_left, or_right, false≢true, and_parts, cases_lt}
 use Rattle.std.proofs.lemmas.Bool.Decides.{nat_tests}
 use Rattle.gtid_set.specs.declared.interval.Interval.{Interval}
-use Rattle.gtid_set.specs.Position.{holds, has, ends_before, starts_by, covers, hull, joined, union_of, IsInterval, IsCanonical, SamePairs, IsWithin, within_of}
+use Rattle.gtid_set.specs.Position.{holds, has, ends_before, starts_by, covers, hull, joined, union_of, IsInterval, IsCanonical, SamePairs, IsWithin, within_of, same_interval as same_interval_test, same_set}
 use Rattle.gtid_set.proofs.Tests.{Holds, holds-true, true-holds, ends-true}
 use Rattle.gtid_set.proofs.Joined.{AllEnd}
 
@@ -99,3 +99,31 @@ equal_sets (x ∷ s) (y ∷ t) c d pairs =
     let rest : SamePairs s t = λ u n. others x s t u n c.1 (rw (← same) at d.1) (rw (← same) at (pairs u n)) in
     let tails : s ≡ t = equal_sets s t c.2 d.2 rest in
     cc
+
+-- ---- equality, computed
+
+abbrev both : Bool → Bool → Bool
+both a b = a && b
+
+pub same-equal : (a b : List Interval) → same_set a b ≡ true → a ≡ b
+same-equal [] [] e = refl
+same-equal [] (y ∷ b) e = absurd (false≢true e)
+same-equal (x ∷ a) [] e = absurd (false≢true e)
+same-equal (x ∷ a) (y ∷ b) e =
+    let p = and_parts (same_interval_test x y) (same_set a b) e in
+    let first : x ≡ y = same_interval x y (fields x y p.0).0 (fields x y p.0).1 (fields x y p.0).2 in
+    let rest = same-equal a b p.1 in
+    cc
+  where
+    fields : (x y : Interval) → same_interval_test x y ≡ true → (x.uuid ≡ y.uuid) × (x.first ≡ y.first) × (x.last ≡ y.last)
+    fields x y e = (grind (arith, nat_tests), grind (arith, nat_tests), grind (arith, nat_tests))
+
+same_itself : (x : Interval) → same_interval_test x x ≡ true
+same_itself x = grind (arith, nat_tests)
+
+equal_itself : (a : List Interval) → same_set a a ≡ true
+equal_itself [] = refl
+equal_itself (x ∷ a) = and_from (same_interval_test x x) (same_set a a) (same_itself x) (equal_itself a)
+
+pub equal-same : (a b : List Interval) → a ≡ b → same_set a b ≡ true
+equal-same a b e = subst (λ (s : List Interval). same_set a s ≡ true) e (equal_itself a)

@@ -1,4 +1,5 @@
 pub mod Position
+pub mod Equal
 pub mod Order
 pub mod Blank
 pub mod Digits

@@ -1,6 +1,7 @@
 -- Positions: a position is a set of pairs (uuid, number), a GTID set (MySQL manual, 'GTID Sets').
 -- A set is seen as its intervals: the numbers of a uuid from a first one to a last one. A uuid is its number of 128 bits, high byte first.
 use Rattle.std.specs.Prelude.{◌≡◌, ℕ, ◌+◌, ◌-◌, ◌^◌, ◌<◌, ◌≤◌, ◌⊎◌, ◌==◌, ◌&&◌, ◌||◌, Bool, nat_lt, nat_le, min, max, if◌then◌else◌, IsTrue, List, [], ◌∷◌}
+use Rattle.std.specs.Cmp.Lexicographic.{pointwise}
 use Rattle.std.specs.List.{list_any, list_all, AllByRecursion}
 use Rattle.gtid_set.specs.declared.interval.Interval.{Interval}
 
@@ -88,3 +89,12 @@ HasBoth one other both = (uuid number : ℕ) → has both uuid number ≡ (has o
 -- the pairs of a set, one pair more and no others
 abbrev pub HasPairMore : List Interval → ℕ → ℕ → List Interval → Type 0
 HasPairMore old uuid number new = (u n : ℕ) → has new u n ≡ (has old u n || (u == uuid && n == number))
+
+-- ---- equality, computed
+
+abbrev pub same_interval : Interval → Interval → Bool
+same_interval one other = one.uuid == other.uuid && (one.first == other.first && one.last == other.last)
+
+-- the same intervals in the same order
+abbrev pub same_set : List Interval → List Interval → Bool
+same_set one other = pointwise same_interval one other

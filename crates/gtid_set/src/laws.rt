@@ -3,7 +3,7 @@
 
 ghost use Rattle.std.specs.Prelude.{◌≡◌, ◌↔◌, ℕ, List, Ok, IsTrue};
 ghost use Rattle.gtid_set.specs.declared.interval.Interval.{Interval};
-ghost use Rattle.gtid_set.specs.Position.{SamePairs, IsWithin, IsCanonical, HasBoth, union_of, within_of};
+ghost use Rattle.gtid_set.specs.Position.{same_set, SamePairs, IsWithin, IsCanonical, HasBoth, union_of, within_of};
 ghost use Rattle.gtid_set.specs.Text.{position_of_text};
 
 /// Sets with the same pairs are equal.
@@ -42,4 +42,9 @@ pub fn union_with_a_superset_is_the_superset()
 /// The set that a position text means is merged and rising.
 pub fn positions_are_canonical()
     ensures { (text : List ℕ) (set : List Interval) → position_of_text text ≡ Ok set → IsCanonical set }
+{}
+
+/// What `==` computes is equality.
+pub fn same_set_is_equality()
+    ensures { (a b : List Interval) → IsTrue (same_set a b) ↔ (a ≡ b) }
 {}

@@ -114,6 +114,28 @@ impl GtidSet {
             intervals: Vec::from_slice(alloc, &self.intervals)?,
         })
     }
+
+    /// The merged rising intervals of the set.
+    pub fn intervals(&self) -> &[Interval]
+        ensures value { result.now ≡ self.now }
+        ensures canonical { IsCanonical result.now }
+    {
+        &self.intervals
+    }
+}
+
+/// Sets are equal if they have the same pairs.
+impl PartialEq for GtidSet {
+    ghost use Rattle.gtid_set.specs.Position.{same_set};
+    ghost use Rattle.gtid_set.specs.Equal.{same_set-laws};
+
+    ghost eq = { same_set };
+
+    ghost laws = { same_set-laws };
+
+    fn eq(&self, other: &GtidSet) -> bool {
+        self.intervals == other.intervals
+    }
 }
 
 impl fmt::Display for GtidSet {
