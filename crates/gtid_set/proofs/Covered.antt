@@ -8,7 +8,7 @@ use Rattle.std.proofs.lemmas.List.{take-append-drop, take_all}
 use Rattle.gtid_set.specs.declared.interval.Interval.{Interval}
 use Rattle.gtid_set.specs.Position.{ends_before, covers, within_of, IsInterval, IsCanonical}
 use Rattle.gtid_set.specs.Order.{AllEndBefore}
-use Rattle.gtid_set.proofs.Tests.{ends-trans}
+use Rattle.gtid_set.proofs.TestLaws.{ends-trans}
 use Rattle.gtid_set.proofs.Joined.{AllEnd, canonical-intervals}
 use Rattle.gtid_set.proofs.Merging.{drop-front, canonical-drop, interval-at}
 

@@ -5,7 +5,7 @@ use Rattle.std.proofs.lemmas.Bool.{cases_Bool, cond-true, cond-false}
 use Rattle.std.proofs.lemmas.Bool.Decides.{nat_tests}
 use Rattle.gtid_set.specs.declared.interval.Interval.{Interval}
 use Rattle.gtid_set.specs.Position.{holds, has, ends_before, starts_by, covers, hull, joined, union_of, IsInterval, IsCanonical}
-use Rattle.gtid_set.proofs.Tests.{holds-hull, ends-trans}
+use Rattle.gtid_set.proofs.TestLaws.{holds-hull, ends-trans}
 
 -- ---- the three cases
 

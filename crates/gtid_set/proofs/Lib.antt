@@ -1,4 +1,4 @@
-pub mod Tests
+pub mod TestLaws
 pub mod Joined
 pub mod Same
 pub mod Within

@@ -5,7 +5,7 @@ use Rattle.std.proofs.lemmas.Bool.{cases_Bool, or_cases, or_from, and_from, fals
 use Rattle.std.proofs.lemmas.Bool.Decides.{nat_tests}
 use Rattle.gtid_set.specs.declared.interval.Interval.{Interval}
 use Rattle.gtid_set.specs.Position.{holds, has, ends_before, starts_by, covers, hull, joined, union_of, IsInterval, IsCanonical, SamePairs, IsWithin, within_of, same_interval as same_interval_test, same_set}
-use Rattle.gtid_set.proofs.Tests.{Holds, holds-true, true-holds, ends-true}
+use Rattle.gtid_set.proofs.TestLaws.{Holds, holds-true, true-holds, ends-true}
 use Rattle.gtid_set.proofs.Joined.{AllEnd}
 
 -- an interval holds its first and its last number

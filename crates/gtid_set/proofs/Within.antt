@@ -5,7 +5,7 @@ use Rattle.std.proofs.lemmas.Bool.{cases_Bool, or_cases, or_from, and_from, or_l
 use Rattle.std.proofs.lemmas.Bool.Decides.{nat_tests}
 use Rattle.gtid_set.specs.declared.interval.Interval.{Interval}
 use Rattle.gtid_set.specs.Position.{holds, has, ends_before, covers, joined, union_of, IsInterval, IsCanonical, SamePairs, IsWithin, HasBoth, within_of}
-use Rattle.gtid_set.proofs.Tests.{Holds, holds-true, true-holds}
+use Rattle.gtid_set.proofs.TestLaws.{Holds, holds-true, true-holds}
 use Rattle.gtid_set.proofs.Joined.{AllEnd, canonical-intervals, union-canonical, has-union_of}
 use Rattle.gtid_set.proofs.Same.{not_behind, pair_behind, holds_first, equal_sets}
 
