@@ -1,6 +1,11 @@
 //! The events of a VStream (`binlogdata.proto`), read without a copy.
 #![tactic(auto)]
 
+mod fault;
 mod ignored;
+mod kind;
+mod parts;
+mod text;
 
+pub use fault::EventFault;
 pub use ignored::IgnoredEvent;
