@@ -6,6 +6,7 @@ mod ignored;
 mod kind;
 mod parts;
 mod text;
+mod wire;
 
 pub use fault::EventFault;
 pub use ignored::IgnoredEvent;
