@@ -5,7 +5,10 @@ mod fault;
 mod ignored;
 mod kind;
 mod parts;
+mod repeated;
+mod row_changes;
 mod text;
+mod used_texts;
 mod wire;
 
 pub use fault::EventFault;
