@@ -1,5 +1,5 @@
 -- An event: what its bytes say, or the first of its faults in the order of their numbers.
-use Rattle.std.specs.Prelude.{ℕ, not, Bool, true, false, List, Option, Some, None, option_map, Result, Ok, Err, ok_or}
+use Rattle.std.specs.Prelude.{◌≡◌, ℕ, not, Bool, true, false, List, Option, Some, None, option_map, Result, Ok, Err, ok_or}
 use Rattle.std.specs.List.{list_any}
 use Rattle.proto_wire.specs.Reading.{◌>>=◌}
 use Rattle.vevent.specs.declared.fault.EventFault.{EventFault}
@@ -24,21 +24,21 @@ refused_if true f = Err f
 abbrev pub type_of : List ℕ → Result EventKind EventFault
 type_of event = ok_or (kind_of (scalar 1 event)) (BadType (scalar 1 event))
 
--- the faults of an event of this type that come after its type
-unfoldable pub accepted_as : EventKind → List ℕ → Result (Unit {0}) EventFault
-accepted_as kind event = do
-  _ ← refused_if (not (are_texts kind event)) NotUtf8
-  _ ← refused_if (list_any is_partial (row_changes event)) PartialRow
-  unless (option_map Row (first_row_fault (row_changes event)))
-
 -- the type of an event that is accepted
 unfoldable pub accepted_at : List ℕ → Result EventKind EventFault
 accepted_at event = do
   _ ← unless (option_map Wire (event_wire_fault event))
   _ ← refused_if (repeats_a_message event) RepeatedMessage
   kind ← type_of event
-  _ ← accepted_as kind event
+  _ ← refused_if (not (are_texts kind event)) NotUtf8
+  _ ← refused_if (list_any is_partial (row_changes event)) PartialRow
+  _ ← unless (option_map Row (first_row_fault (row_changes event)))
   Ok kind
+
+-- the texts and the rows that an event of this type lends can be read
+pub record IsSound (kind : EventKind) (event : List ℕ) : Type 0 where
+  pub texts : are_texts kind event ≡ true
+  pub rows : first_row_fault (row_changes event) ≡ None
 
 -- the event that the bytes are
 unfoldable pub event_at : List ℕ → Result EventValue EventFault

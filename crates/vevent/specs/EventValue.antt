@@ -19,6 +19,15 @@ pub record ShardGtidValue : Type 0 where
   pub shard : List ℕ
   pub gtid : List ℕ
 
+-- changes of one table's rows, and the columns of one table
+pub record RowEventValue : Type 0 where
+  pub table_name : List ℕ
+  pub changes : List ChangeValue
+
+pub record FieldEventValue : Type 0 where
+  pub table_name : List ℕ
+  pub fields : List FieldValue
+
 -- an event by its type: a position, the ends of a transaction, changes of a table's rows, the
 -- columns of a table, the positions of shards, or an event that this profile ignores
 pub data EventValue : Type 0 where

@@ -5,3 +5,7 @@ pub mod Parts
 pub mod Message
 pub mod Fault
 pub mod Event
+pub mod ChangeView
+pub mod ColumnView
+pub mod ShardGtidView
+pub mod EventView
