@@ -9,3 +9,4 @@ pub mod ChangeView
 pub mod ColumnView
 pub mod ShardGtidView
 pub mod EventView
+pub mod Response
