@@ -34,8 +34,8 @@ single_is_sound number (f ∷ fs) row which sound h =
     let others = none_second (option_and_then (in_change f.number) (bytes_in f.value)) (first_in in_change fs None) sound in
     elim (first_is (eqb f.number number) (bytes_in f.value) (filter_map (part_in number) fs) row h) [
       | inl w ↦
-        let held = subst (λ (o : Option (List ℕ)). option_and_then (in_change f.number) o ≡ None) w.1 here in
-        sound_row number row which (subst (λ (n : ℕ). in_change n row ≡ None) (eqb-true f.number number w.0) held)
+          let held = subst (λ (o : Option (List ℕ)). option_and_then (in_change f.number) o ≡ None) w.1 here in
+          sound_row number row which (subst (λ (n : ℕ). in_change n row ≡ None) (eqb-true f.number number w.0) held)
       | inr more ↦ single_is_sound number fs row which others more
     ]
 

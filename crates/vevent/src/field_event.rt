@@ -8,10 +8,9 @@ ghost use Rattle.vevent.specs.Parts.{text, parts};
 ghost use Rattle.vevent.specs.Message.{column_of, columns_of};
 ghost use Rattle.vevent.specs.ColumnView.{field_value};
 
-use std::marker::Model;
-
 use crate::parts::{Parts, last_text, last_varint};
 use crate::text::text_of;
+use std::marker::Model;
 
 /// A field event (`binlogdata.proto`, FieldEvent). Seen in contracts as the table's name and the
 /// list of its columns. It is made by reading an event alone, so each name is a text.

@@ -6,10 +6,8 @@ ghost use Rattle.proto_wire.specs.Reading.{Next};
 ghost use Rattle.proto_wire.specs.Field.{wire_field};
 ghost use Rattle.vevent.specs.Parts.{part_in, count_in, parts, parts_left, text, scalar, single, embedded, is_repeated};
 
-use std::marker::Model;
-
 use proto_wire::{Field, Fields, Payload, WireFault};
-
+use std::marker::Model;
 
 /// The bytes that a field holds, if it has the number.
 fn part_of<'b>(field: Field<'b>, number: u32) -> Option<&'b [u8]>

@@ -5,13 +5,11 @@ ghost use Rattle.proto_wire.specs.Reading.{Next};
 ghost use Rattle.vevent.specs.EventView.{event_value};
 ghost use Rattle.vevent.specs.Response.{response_of};
 
-use std::marker::Model;
-
-use proto_wire::Fields;
-
 use crate::event::Event;
 use crate::fault::EventFault;
 use crate::parts::next_part;
+use proto_wire::Fields;
+use std::marker::Model;
 
 /// The events of a response that are still to come (`binlogdata.proto`, VStreamResponse), in the
 /// order of the bytes. Seen in contracts as that list and the fault that ends it, if one does.

@@ -7,10 +7,9 @@ ghost use Rattle.proto_wire.specs.Field.{wire_field};
 ghost use Rattle.vevent.specs.Parts.{bytes_in, parts};
 ghost use Rattle.vevent.specs.Fault.{is_partial, in_change, change_fault, first_row_fault};
 
+use crate::parts::Parts;
 use proto_wire::{Field, Fields, Payload};
 use row_view::{RowFault, RowView};
-
-use crate::parts::Parts;
 
 /// Whether a row change has a field besides its rows.
 fn has_other_fields(change: &[u8]) -> bool

@@ -7,11 +7,9 @@ ghost use Rattle.vevent.specs.Fault.{change_fault, first_row_fault};
 ghost use Rattle.vevent.specs.Message.{row_of, change_of, changes_of};
 ghost use Rattle.vevent.specs.ChangeView.{change_value};
 
-use std::marker::Model;
-
-use row_view::RowView;
-
 use crate::parts::{Parts, single_of};
+use row_view::RowView;
+use std::marker::Model;
 
 /// A row event (`binlogdata.proto`, RowEvent). Seen in contracts as the table's name and the list of
 /// its row changes. It is made by reading an event alone, so each of its rows can be read.

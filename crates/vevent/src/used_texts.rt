@@ -53,9 +53,6 @@ pub(crate) fn are_used_texts(kind: EventKind, event: &[u8]) -> bool
             is_text(last_text(field_event, 1)) && are_names(field_event)
         }
         EventKind::Vgtid => are_texts_of_entries(embedded_of(event, 7)),
-        EventKind::Begin
-        | EventKind::Commit
-        | EventKind::Rollback
-        | EventKind::Ignored(_) => true,
+        EventKind::Begin | EventKind::Commit | EventKind::Rollback | EventKind::Ignored(_) => true,
     }
 }

@@ -8,10 +8,9 @@ ghost use Rattle.vevent.specs.Fault.{are_entry_texts};
 ghost use Rattle.vevent.specs.Message.{entries_of};
 ghost use Rattle.vevent.specs.ShardGtidView.{shard_gtid_value};
 
-use std::marker::Model;
-
 use crate::parts::{Parts, last_text};
 use crate::text::text_of;
+use std::marker::Model;
 
 /// The position of each shard of a stream (`binlogdata.proto`, VGtid). Seen in contracts as the list
 /// of its entries. It is made by reading an event alone, so each text is one.
