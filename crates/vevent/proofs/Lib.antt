@@ -1,2 +1,3 @@
 pub mod Utf8Tests
 pub mod SoundRows
+pub mod Verdicts

@@ -5,6 +5,7 @@ pub mod Parts
 pub mod Message
 pub mod Fault
 pub mod Event
+pub mod Standing
 pub mod ChangeView
 pub mod ColumnView
 pub mod ShardGtidView

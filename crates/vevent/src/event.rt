@@ -1,9 +1,12 @@
 //! One event.
 
-ghost use Rattle.std.specs.Prelude.{◌≡◌, IfOk};
+ghost use Rattle.std.specs.Prelude.{◌≡◌, IfOk, IfErr};
 ghost use Rattle.proto_wire.specs.Reading.{Gives};
+ghost use Rattle.vevent.specs.declared.fault.EventFault.{EventFault};
+ghost use Rattle.vevent.specs.EventValue.{EventValue};
 ghost use Rattle.vevent.specs.Message.{event_of};
 ghost use Rattle.vevent.specs.Event.{accepted_at, event_at, IsSound};
+ghost use Rattle.vevent.specs.Standing.{IsEvent, IsRefused};
 ghost use Rattle.vevent.specs.EventView.{event_value};
 
 use crate::fault::EventFault;
@@ -87,13 +90,35 @@ fn event_as(kind: EventKind, event: &[u8]) -> Event<'_>
     }
 }
 
+/// The event that the bytes are, or the first of their faults.
+#[tactic(auto, unfolding(crate::specs::Event::event_at))]
+fn event_of_bytes(bytes: &[u8]) -> Result<Event<'_>, EventFault>
+    ensures { Gives event_value result (event_at bytes.now) }
+{
+    let kind = accepted(bytes)?;
+    Ok(event_as(kind, bytes))
+}
+
 impl<'b> Event<'b> {
-    /// Reads one event.
-    #[tactic(auto, unfolding(crate::specs::Event::event_at))]
+    /// Reads an event (`binlogdata.proto`, VEvent): type = 1, gtid = 3, row_event = 5,
+    /// field_event = 6, vgtid = 7. Fields come in any order; unknown fields, and known ones of
+    /// another wire type, are skipped; of a type, a text or a column's type that occurs twice the
+    /// last counts. The known messages are read whatever the type. Takes no memory.
+    ///
+    /// Refused in this order, each a condition on the whole event: `Wire`, `RepeatedMessage`,
+    /// `BadType`, `NotUtf8`, `PartialRow`, `Row`.
     pub fn read(bytes: &'b [u8]) -> Result<Event<'b>, EventFault>
+        // What is read is the event that stands in the bytes,
+        ensures event { IfOk result (λ event. IsEvent bytes.now (event_value event)) }
+        // and what is refused has this fault.
+        ensures refused { IfErr result (λ fault. IsRefused bytes.now fault) }
+        // What stands in the bytes is read,
+        ensures every_event { (value : EventValue) → IsEvent bytes.now value → Gives event_value result (Ok value) }
+        // and each fault is found.
+        ensures every_refusal { (fault : EventFault) → IsRefused bytes.now fault → Gives event_value result (Err fault) }
+        // The same by a function of the bytes.
         ensures exact { Gives event_value result (event_at bytes.now) }
     {
-        let kind = accepted(bytes)?;
-        Ok(event_as(kind, bytes))
+        event_of_bytes(bytes)
     }
 }
