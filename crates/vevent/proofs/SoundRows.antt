@@ -7,15 +7,8 @@ use Rattle.std.proofs.lemmas.Bool.{eqb-true}
 use Rattle.proto_wire.specs.Field.{WireField}
 use Rattle.row_view.specs.Row.{row_at}
 use Rattle.vevent.specs.Parts.{bytes_in, part_in, first_of}
-use Rattle.vevent.specs.Fault.{or_else, first_in, in_change}
-
-none_first : {F : Type 0} (a b : Option F) → or_else a b ≡ None → a ≡ None
-none_first None b e = refl
-none_first (Some f) b e = absurd cc
-
-none_second : {F : Type 0} (a b : Option F) → or_else a b ≡ None → b ≡ None
-none_second None b e = e
-none_second (Some f) b e = absurd cc
+use Rattle.vevent.specs.Fault.{first_in, in_change}
+use Rattle.vevent.proofs.FirstFault.{none_first, none_second}
 
 sound_row : (number : ℕ) (row : List ℕ) → (number ≡ 1) ⊎ (number ≡ 2) → in_change number row ≡ None → result_err (row_at row) ≡ None
 sound_row number row (inl e) h = subst (λ (n : ℕ). in_change n row ≡ None → result_err (row_at row) ≡ None) (sym e) (λ none. none) h

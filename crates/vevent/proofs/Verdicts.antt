@@ -16,6 +16,7 @@ use Rattle.vevent.specs.Parts.{scalar}
 use Rattle.vevent.specs.Fault.{event_wire_fault, repeats_a_message, are_texts, row_changes, is_partial, first_row_fault}
 use Rattle.vevent.specs.Message.{event_of}
 use Rattle.vevent.specs.Event.{unless, refused_if, accepted_at, event_at}
+use Rattle.vevent.proofs.ListLaws.{lists_from, lists_to}
 use Rattle.vevent.specs.Standing.{AreLists, StandAlone, HasType, HasTexts, HasWholeRows, IsAccepted, IsEvent, IsRefused}
 
 abbrev Verdict : Type 0
@@ -77,7 +78,7 @@ judged_of event wire = judged wire (repeats_a_message event) (kind_of (scalar 1 
 
 wire_stands : (event : List ℕ) (wire : Option WireFault) → event_wire_fault event ≡ wire → Stands event (judged_of event wire)
 wire_stands event (Some f) e = e
-wire_stands event None e = messages_stand event (repeats_a_message event) e refl
+wire_stands event None e = messages_stand event (repeats_a_message event) (lists_from event e) refl
 
 accepted_is : (event : List ℕ) → accepted_at event ≡ judged_of event (event_wire_fault event)
 unfolding accepted_at
@@ -93,7 +94,7 @@ judged_ok : (w : Option WireFault) (r : Bool) (k : Option EventKind) (n : ℕ) (
 judged_ok w r k n t p rows kind e1 e2 e3 e4 e5 e6 = rw (e1, e2, e3, e4, e5, e6) refl
 
 is_accepted : (event : List ℕ) (kind : EventKind) → IsAccepted event kind → accepted_at event ≡ Ok kind
-is_accepted event kind h = accepted_is event ∙ judged_ok (event_wire_fault event) (repeats_a_message event) (kind_of (scalar 1 event)) (scalar 1 event) (λ k. are_texts k event) (partial_in event) (rows_in event) kind h.0.0.0.0.0 h.0.0.0.0.1 h.0.0.0.1 h.0.0.1 h.0.1 h.1
+is_accepted event kind h = accepted_is event ∙ judged_ok (event_wire_fault event) (repeats_a_message event) (kind_of (scalar 1 event)) (scalar 1 event) (λ k. are_texts k event) (partial_in event) (rows_in event) kind (lists_to event h.0.0.0.0.0) h.0.0.0.0.1 h.0.0.0.1 h.0.0.1 h.0.1 h.1
 
 judged_wire : (w : Option WireFault) (r : Bool) (k : Option EventKind) (n : ℕ) (t : EventKind → Bool) (p : Bool) (rows : Option RowFault) (f : WireFault) → w ≡ Some f → judged w r k n t p rows ≡ Err (Wire f)
 judged_wire w r k n t p rows f e1 = rw e1 refl
@@ -115,13 +116,13 @@ judged_row w r k n t p rows kind f e1 e2 e3 e4 e5 e6 = rw (e1, e2, e3, e4, e5, e
 
 is_refused : (event : List ℕ) (fault : EventFault) → IsRefused event fault → judged_of event (event_wire_fault event) ≡ Err fault
 is_refused event (Wire f) h = judged_wire (event_wire_fault event) (repeats_a_message event) (kind_of (scalar 1 event)) (scalar 1 event) (λ k. are_texts k event) (partial_in event) (rows_in event) f h
-is_refused event RepeatedMessage h = judged_repeated (event_wire_fault event) (repeats_a_message event) (kind_of (scalar 1 event)) (scalar 1 event) (λ k. are_texts k event) (partial_in event) (rows_in event) h.0 h.1
+is_refused event RepeatedMessage h = judged_repeated (event_wire_fault event) (repeats_a_message event) (kind_of (scalar 1 event)) (scalar 1 event) (λ k. are_texts k event) (partial_in event) (rows_in event) (lists_to event h.0) h.1
 is_refused event (BadType n) h =
     let none : kind_of (scalar 1 event) ≡ None = ap kind_of h.1 ∙ h.2 in
-    judged_type (event_wire_fault event) (repeats_a_message event) (kind_of (scalar 1 event)) (scalar 1 event) (λ k. are_texts k event) (partial_in event) (rows_in event) h.0.0 h.0.1 none ∙ ap (λ (m : ℕ). Err (BadType m)) h.1
-is_refused event NotUtf8 h = judged_texts (event_wire_fault event) (repeats_a_message event) (kind_of (scalar 1 event)) (scalar 1 event) (λ k. are_texts k event) (partial_in event) (rows_in event) h.0 h.1.0.0 h.1.0.1 h.1.1 h.2
-is_refused event PartialRow h = judged_partial (event_wire_fault event) (repeats_a_message event) (kind_of (scalar 1 event)) (scalar 1 event) (λ k. are_texts k event) (partial_in event) (rows_in event) h.0 h.1.0.0.0 h.1.0.0.1 h.1.0.1 h.1.1 h.2
-is_refused event (Row f) h = judged_row (event_wire_fault event) (repeats_a_message event) (kind_of (scalar 1 event)) (scalar 1 event) (λ k. are_texts k event) (partial_in event) (rows_in event) h.0 f h.1.0.0.0.0 h.1.0.0.0.1 h.1.0.0.1 h.1.0.1 h.1.1 h.2
+    judged_type (event_wire_fault event) (repeats_a_message event) (kind_of (scalar 1 event)) (scalar 1 event) (λ k. are_texts k event) (partial_in event) (rows_in event) (lists_to event h.0.0) h.0.1 none ∙ ap (λ (m : ℕ). Err (BadType m)) h.1
+is_refused event NotUtf8 h = judged_texts (event_wire_fault event) (repeats_a_message event) (kind_of (scalar 1 event)) (scalar 1 event) (λ k. are_texts k event) (partial_in event) (rows_in event) h.0 (lists_to event h.1.0.0) h.1.0.1 h.1.1 h.2
+is_refused event PartialRow h = judged_partial (event_wire_fault event) (repeats_a_message event) (kind_of (scalar 1 event)) (scalar 1 event) (λ k. are_texts k event) (partial_in event) (rows_in event) h.0 (lists_to event h.1.0.0.0) h.1.0.0.1 h.1.0.1 h.1.1 h.2
+is_refused event (Row f) h = judged_row (event_wire_fault event) (repeats_a_message event) (kind_of (scalar 1 event)) (scalar 1 event) (λ k. are_texts k event) (partial_in event) (rows_in event) h.0 f (lists_to event h.1.0.0.0.0) h.1.0.0.0.1 h.1.0.0.1 h.1.0.1 h.1.1 h.2
 
 -- ---- the same of the event
 

@@ -1,6 +1,6 @@
 -- What is at fault in an event. Each is a condition on the whole event (this profile; that messages
 -- are lists of fields and texts UTF-8 is the protobuf encoding guide's).
-use Rattle.std.specs.Prelude.{ℕ, ◌==◌, ◌||◌, ◌&&◌, not, if◌then◌else◌, Bool, true, false, List, [], ◌∷◌, Option, Some, None, option_and_then}
+use Rattle.std.specs.Prelude.{ℕ, ◌==◌, ◌||◌, ◌&&◌, not, if◌then◌else◌, Bool, true, List, [], ◌∷◌, Option, Some, None, option_and_then}
 use Rattle.std.specs.Result.{result_err}
 use Rattle.std.specs.List.{list_any, list_all}
 use Rattle.std.specs.Str.{is_utf8}

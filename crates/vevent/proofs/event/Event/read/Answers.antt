@@ -1,4 +1,4 @@
-use Rattle.std.proofs.Common.{subst, sym, Ok, Err}
+use Rattle.std.proofs.Common.{subst}
 use Rattle.proto_wire.specs.Reading.{Gives}
 use Rattle.vevent.specs.EventView.{event_value}
 use Rattle.vevent.proofs.Verdicts.{event_stands, refusal_stands, every_event, every_refusal}
