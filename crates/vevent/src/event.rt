@@ -113,9 +113,11 @@ impl<'b> Event<'b> {
         // and what is refused has this fault.
         ensures refused { IfErr result (λ fault. IsRefused bytes.now fault) }
         // What stands in the bytes is read,
-        ensures every_event { (value : EventValue) → IsEvent bytes.now value → Gives event_value result (Ok value) }
+        ensures every_event { (value : EventValue) → IsEvent bytes.now value
+            → Gives event_value result (Ok value) }
         // and each fault is found.
-        ensures every_refusal { (fault : EventFault) → IsRefused bytes.now fault → Gives event_value result (Err fault) }
+        ensures every_refusal { (fault : EventFault) → IsRefused bytes.now fault
+            → Gives event_value result (Err fault) }
         // The same by a function of the bytes.
         ensures exact { Gives event_value result (event_at bytes.now) }
     {

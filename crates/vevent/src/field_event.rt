@@ -5,7 +5,7 @@ ghost use Rattle.std.specs.Iterator.{YieldsFirstBy, item_count};
 ghost use Rattle.std.specs.List.{list_all};
 ghost use Rattle.std.specs.Str.{is_utf8};
 ghost use Rattle.vevent.specs.Parts.{text, parts};
-ghost use Rattle.vevent.specs.Message.{column_of, columns_of};
+ghost use Rattle.vevent.specs.Message.{columns_of};
 ghost use Rattle.vevent.specs.ColumnView.{field_value};
 
 use crate::parts::{Parts, last_text, last_varint};

@@ -4,7 +4,8 @@ ghost use Rattle.std.specs.Prelude.{◌≡◌, option_copied};
 ghost use Rattle.std.specs.Iterator.{YieldsFirstBy, item_count};
 ghost use Rattle.proto_wire.specs.Reading.{Next};
 ghost use Rattle.proto_wire.specs.Field.{wire_field};
-ghost use Rattle.vevent.specs.Parts.{part_in, count_in, parts, parts_left, text, scalar, single, embedded, is_repeated};
+ghost use Rattle.vevent.specs.Parts.{part_in, count_in, parts, parts_left, text, scalar};
+ghost use Rattle.vevent.specs.Parts.{single, embedded, is_repeated};
 
 use proto_wire::{Field, Fields, Payload, WireFault};
 use std::marker::Model;

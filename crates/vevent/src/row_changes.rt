@@ -1,6 +1,6 @@
 //! What is at fault in the row changes of an event, and in their rows.
 
-ghost use Rattle.std.specs.Prelude.{◌≡◌, ◌||◌, ◌==◌, not, option_and_then};
+ghost use Rattle.std.specs.Prelude.{◌≡◌, option_and_then};
 ghost use Rattle.std.specs.List.{list_any};
 ghost use Rattle.std.specs.Result.{result_err};
 ghost use Rattle.proto_wire.specs.Field.{wire_field};
@@ -38,7 +38,8 @@ pub(crate) fn any_has_other_fields(row_event: &[u8]) -> bool
 
 /// The fault of the row in a field of a row change.
 fn check_row_in(field: Field<'_>) -> Result<(), RowFault>
-    ensures { let f = wire_field field.entry in result_err result ≡ option_and_then (in_change f.number) (bytes_in f.value) }
+    ensures { let f = wire_field field.entry in
+        result_err result ≡ option_and_then (in_change f.number) (bytes_in f.value) }
 {
     match (field.number, field.payload) {
         (1 | 2, Payload::Bytes(row)) => {

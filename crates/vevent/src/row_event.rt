@@ -2,7 +2,7 @@
 
 ghost use Rattle.std.specs.Prelude.{◌≡◌, ◌⊎◌, None, option_map};
 ghost use Rattle.std.specs.Iterator.{YieldsFirstBy, item_count};
-ghost use Rattle.vevent.specs.Parts.{text, parts, single};
+ghost use Rattle.vevent.specs.Parts.{parts, single};
 ghost use Rattle.vevent.specs.Fault.{change_fault, first_row_fault};
 ghost use Rattle.vevent.specs.Message.{row_of, change_of, changes_of};
 ghost use Rattle.vevent.specs.ChangeView.{change_value};

@@ -19,7 +19,8 @@ fn check_plain(message: &[u8]) -> Result<(), WireFault>
 
 /// The fault within a field of a message that holds plain ones under one number.
 fn check_plain_in(field: Field<'_>, wanted: u32) -> Result<(), WireFault>
-    ensures { let f = wire_field field.entry in result_err result ≡ option_and_then (in_plain wanted f.number) (bytes_in f.value) }
+    ensures { let f = wire_field field.entry in
+        result_err result ≡ option_and_then (in_plain wanted f.number) (bytes_in f.value) }
 {
     match field.payload {
         Payload::Bytes(part) if field.number == wanted => check_plain(part),
@@ -40,7 +41,8 @@ fn check_holder(message: &[u8], wanted: u32) -> Result<(), WireFault>
 
 /// The fault within a field of an event.
 fn check_known(field: Field<'_>) -> Result<(), WireFault>
-    ensures { let f = wire_field field.entry in result_err result ≡ option_and_then (in_event f.number) (bytes_in f.value) }
+    ensures { let f = wire_field field.entry in
+        result_err result ≡ option_and_then (in_event f.number) (bytes_in f.value) }
 {
     match (field.number, field.payload) {
         (5 | 6, Payload::Bytes(part)) => check_holder(part, 2),
