@@ -1,0 +1,5 @@
+pub mod Utf8Tests
+pub mod FirstFault
+pub mod SoundRows
+pub mod ListLaws
+pub mod Verdicts
