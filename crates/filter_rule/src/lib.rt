@@ -1,1 +1,4 @@
+//! The workflow file: its plans, the filter rules and which rows pass them.
 #![tactic(auto)]
+
+mod token;
