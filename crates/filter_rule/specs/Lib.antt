@@ -1,2 +1,5 @@
 pub mod Tokens
 pub mod Seen
+pub mod PlanTable
+pub mod PlanValue
+pub mod PlanShape

@@ -1,4 +1,11 @@
 //! The workflow file: its plans, the filter rules and which rows pass them.
 #![tactic(auto)]
 
+mod decision;
+mod plan;
+mod table;
 mod token;
+
+pub use decision::Decision;
+pub use plan::Plan;
+pub use table::{ColumnDef, Table};

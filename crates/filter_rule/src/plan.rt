@@ -1,0 +1,109 @@
+//! A stream's plan.
+
+ghost use Rattle.std.specs.Prelude.{◌≡◌, ℕ, ◌<◌, length, position, IfSome};
+ghost use Rattle.std.specs.Str.{bytes_eq};
+ghost use Rattle.filter_rule.specs.PlanValue.{PlanValue, columns_of, key_columns_of, table_of_name, passes_of};
+
+use crate::decision::Decision;
+use crate::table::{ColumnDef, Table};
+use row_view::RowView;
+use std::marker::Model;
+use std::sync::Arc;
+use vindex::VindexFault;
+
+/// What all plans of a workflow share.
+#[derive(Drop)]
+pub(crate) struct Schema {
+    pub(crate) keyspace: String,
+    pub(crate) tables: Vec<Table>,
+}
+
+/// One stream's plan: its keyspace and shard, the tables, and which rows of each table it keeps.
+#[derive(Drop)]
+pub struct Plan {
+    schema: Arc<Schema>,
+    shard: String,
+    decisions: Vec<Decision>,
+}
+
+impl Model for Plan {
+    ghost use Rattle.std.specs.String.{string_bytes};
+    ghost use Rattle.std.specs.Arc.{arc_value};
+    ghost use Rattle.filter_rule.specs.PlanValue.{PlanValue};
+
+    ghost Value = { PlanValue };
+
+    ghost view = { λ p. record { keyspace = string_bytes (arc_value p.schema).keyspace; shard = string_bytes p.shard; tables = (arc_value p.schema).tables.items; decisions = p.decisions.items } };
+
+    ghost use Rattle.filter_rule.specs.PlanShape.{IsPlan};
+
+    ghost invariant = { λ p. IsPlan (record { keyspace = string_bytes (arc_value p.schema).keyspace; shard = string_bytes p.shard; tables = (arc_value p.schema).tables.items; decisions = p.decisions.items }) };
+}
+
+impl Plan {
+    /// The keyspace's name.
+    pub fn keyspace(&self) -> &str
+        ensures { result.now ≡ self.now.keyspace }
+    {
+        self.schema.keyspace.as_str()
+    }
+
+    /// The source shard's name.
+    pub fn shard(&self) -> &str
+        ensures { result.now ≡ self.now.shard }
+    {
+        self.shard.as_str()
+    }
+
+    /// The tables, in copying order: 1 to 64 of them.
+    pub fn tables(&self) -> &[Table]
+        ensures { result.now ≡ self.now.tables }
+    {
+        self.schema.tables.as_slice()
+    }
+
+    /// The number of the table of this name, if there is one.
+    pub fn table(&self, name: &str) -> Option<u8>
+        ensures { result ≡ table_of_name self.now name.now }
+    {
+        let place = place_of_table(&self.schema.tables, name)?;
+        Some(place as u8)
+    }
+
+    /// The columns of table `t`, in order. That `t` is a table of the plan is the caller's.
+    pub fn columns(&self, t: u8) -> &[ColumnDef]
+        requires { t < length self.now.tables }
+        ensures { result.now ≡ columns_of self.now t }
+    {
+        self.schema.tables[usize::from(t)].columns()
+    }
+
+    /// The places of the key columns of table `t`, from 0, in key order. That `t` is a table of the
+    /// plan is the caller's.
+    pub fn key_columns(&self, t: u8) -> &[usize]
+        requires { t < length self.now.tables }
+        ensures { result.now ≡ key_columns_of self.now t }
+    {
+        self.schema.tables[usize::from(t)].key()
+    }
+
+    /// Whether a row of table `t` passes the stream's filter: the answer of the first rule that matches
+    /// the table, and no where none does. A rule by a key range asks for the id of its column's value,
+    /// also where the range is whole: `NullValue` for NULL and `NotANumber` where a number from 0 to
+    /// 2^64 - 1 is due. Takes no memory. That `t` is a table of the plan and that the row has as many
+    /// columns as the table is the caller's.
+    pub fn passes(&self, t: u8, row: &RowView<'_>) -> Result<bool, VindexFault>
+        requires table { t < length self.now.tables }
+        requires columns { length row.now ≡ length (columns_of self.now t) }
+        ensures { result ≡ passes_of self.now t row.now }
+    {
+        self.decisions[usize::from(t)].keeps(row)
+    }
+}
+
+fn place_of_table(tables: &[Table], name: &str) -> Option<usize>
+    ensures value { result ≡ position (λ table. bytes_eq table.name name.now) tables.now }
+    ensures within { IfSome result (λ t. t < length tables.now) }
+{
+    tables.iter().position(|table| table.name() == name)
+}
