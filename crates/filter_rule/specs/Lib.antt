@@ -1,4 +1,5 @@
 pub mod Tokens
+pub mod FilterText
 pub mod Seen
 pub mod PlanTable
 pub mod PlanValue

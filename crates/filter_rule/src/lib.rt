@@ -2,6 +2,7 @@
 #![tactic(auto)]
 
 mod decision;
+mod filter;
 mod plan;
 mod table;
 mod token;
