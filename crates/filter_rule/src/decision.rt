@@ -4,6 +4,7 @@ ghost use Rattle.std.specs.Prelude.{◌≡◌, length};
 ghost use Rattle.filter_rule.specs.PlanValue.{kept_under};
 ghost use Rattle.filter_rule.specs.PlanShape.{IsWithin};
 
+use crate::same::Same;
 use row_view::RowView;
 use vindex::{KeyRange, Vindex, VindexFault};
 
@@ -43,6 +44,28 @@ impl Decision {
                 let id = vindex.id(row.column(*column))?;
                 Ok(range.holds(id.bytes()))
             }
+        }
+    }
+}
+
+impl Same for Decision {
+    fn same(&self, other: &Decision) -> bool {
+        match (self, other) {
+            (Decision::NoRule, Decision::NoRule) => true,
+            (Decision::EveryRow, Decision::EveryRow) => true,
+            (
+                Decision::InRange {
+                    column,
+                    vindex,
+                    range,
+                },
+                Decision::InRange {
+                    column: other_column,
+                    vindex: other_vindex,
+                    range: other_range,
+                },
+            ) => column == other_column && vindex == other_vindex && range.same(other_range),
+            _ => false,
         }
     }
 }

@@ -4,6 +4,7 @@
 mod decision;
 mod filter;
 mod plan;
+mod same;
 mod table;
 mod token;
 

@@ -1,10 +1,11 @@
 //! A stream's plan.
 
-ghost use Rattle.std.specs.Prelude.{◌≡◌, ℕ, ◌<◌, length, position, IfSome};
+ghost use Rattle.std.specs.Prelude.{◌≡◌, ◌↔◌, IsTrue, ℕ, ◌<◌, length, position, IfSome};
 ghost use Rattle.std.specs.Str.{bytes_eq};
 ghost use Rattle.filter_rule.specs.PlanValue.{PlanValue, columns_of, key_columns_of, table_of_name, passes_of};
 
 use crate::decision::Decision;
+use crate::same::all_same;
 use crate::table::{ColumnDef, Table};
 use row_view::RowView;
 use std::marker::Model;
@@ -98,6 +99,28 @@ impl Plan {
         ensures { result ≡ passes_of self.now t row.now }
     {
         self.decisions[usize::from(t)].keeps(row)
+    }
+}
+
+impl Plan {
+    /// Whether both plans mean the same: keyspace, shard, tables, and for each table no rule, every
+    /// row, or the same column, vindex and bounds. Texts that mean the same are the same. Takes no
+    /// memory.
+    pub fn same(&self, other: &Plan) -> bool
+        ensures { IsTrue result ↔ (self.now ≡ other.now) }
+    {
+        self.schema.keyspace == other.schema.keyspace
+            && self.shard == other.shard
+            && all_same(&self.schema.tables, &other.schema.tables)
+            && all_same(&self.decisions, &other.decisions)
+    }
+
+    /// Whether both plans have the same tables in the same order, with the same columns, types, key and
+    /// vindex. Takes no memory.
+    pub fn same_tables(&self, other: &Plan) -> bool
+        ensures { IsTrue result ↔ (self.now.tables ≡ other.now.tables) }
+    {
+        all_same(&self.schema.tables, &other.schema.tables)
     }
 }
 

@@ -1,8 +1,9 @@
 //! The tables of a workflow.
 
-ghost use Rattle.std.specs.Prelude.{◌≡◌};
+ghost use Rattle.std.specs.Prelude.{◌≡◌, ◌↔◌, IsTrue};
 ghost use Rattle.filter_rule.specs.PlanTable.{ColumnValue, TableValue};
 
+use crate::same::{Same, all_same};
 use std::marker::Model;
 use vindex::Vindex;
 
@@ -83,5 +84,20 @@ impl Table {
         ensures { result ≡ self.now.vindex }
     {
         self.vindex
+    }
+}
+
+impl Same for ColumnDef {
+    fn same(&self, other: &ColumnDef) -> bool {
+        self.name == other.name && self.type_number == other.type_number
+    }
+}
+
+impl Same for Table {
+    fn same(&self, other: &Table) -> bool {
+        self.name == other.name
+            && all_same(&self.columns, &other.columns)
+            && self.key == other.key
+            && self.vindex == other.vindex
     }
 }
