@@ -4,3 +4,4 @@ pub mod Seen
 pub mod PlanTable
 pub mod PlanValue
 pub mod PlanShape
+pub mod Splitting

@@ -2,6 +2,7 @@
 
 ghost use Rattle.std.specs.Prelude.{◌≡◌, ◌↔◌, IsTrue, ℕ, ◌<◌, length, position, IfSome};
 ghost use Rattle.std.specs.Str.{bytes_eq};
+ghost use Rattle.filter_rule.specs.Splitting.{SplitRow};
 ghost use Rattle.filter_rule.specs.PlanValue.{PlanValue, columns_of, key_columns_of, table_of_name, passes_of};
 
 use crate::decision::Decision;
@@ -30,7 +31,8 @@ pub struct Plan {
 impl Model for Plan {
     ghost use Rattle.std.specs.String.{string_bytes};
     ghost use Rattle.std.specs.Arc.{arc_value};
-    ghost use Rattle.filter_rule.specs.PlanValue.{PlanValue};
+    ghost use Rattle.filter_rule.specs.Splitting.{SplitRow};
+ghost use Rattle.filter_rule.specs.PlanValue.{PlanValue};
 
     ghost Value = { PlanValue };
 
@@ -96,7 +98,9 @@ impl Plan {
     pub fn passes(&self, t: u8, row: &RowView<'_>) -> Result<bool, VindexFault>
         requires table { t < length self.now.tables }
         requires columns { length row.now ≡ length (columns_of self.now t) }
-        ensures { result ≡ passes_of self.now t row.now }
+        ensures value { result ≡ passes_of self.now t row.now }
+        // Where plans split a table's rows by key ranges, each row whose id is defined passes in one of them.
+        ensures split { SplitRow t row.now }
     {
         self.decisions[usize::from(t)].keeps(row)
     }
