@@ -1,6 +1,6 @@
 -- Numbers as a row carries them: an optional `-` and one or more decimal digits, in value from -2^63
 -- to 2^64 - 1. Leading zeros are allowed, and `-0` is 0 (this profile).
-use Rattle.std.specs.Prelude.{ℕ, ◌+◌, ◌^◌, ◌==◌, ◌&&◌, nat_lt, List, [], ◌∷◌, Option, None, Some, if◌then◌else◌, ℤ, pos, negsuc, neg_ℤ}
+use Rattle.std.specs.Prelude.{ℕ, ◌+◌, ◌^◌, ◌==◌, ◌&&◌, nat_lt, List, [], ◌∷◌, Option, None, Some, if◌then◌else◌, ℤ, pos, negsuc, neg_ℤ, ◌<ℤ◌, ⊤}
 use Rattle.std.specs.Char.{is_ascii_digit}
 use Rattle.std.specs.List.{list_all}
 use Rattle.std.specs.Option.{option_map}
@@ -27,3 +27,8 @@ number_of_text (byte ∷ rest) =
 abbrev pub value_of : Number → ℤ
 value_of (Negative z) = z
 value_of (NotNegative n) = pos n
+
+-- a number is `Negative` only where it is below 0, so each number has one spelling
+abbrev pub HasItsSign : Number → Type 0
+HasItsSign (Negative z) = z <ℤ pos 0
+HasItsSign (NotNegative n) = ⊤

@@ -1,8 +1,8 @@
 //! Key ranges, which say which keyspace ids a shard has.
 
 ghost use Rattle.std.specs.Prelude.{◌≡◌, ◌⊎◌, ◌↔◌, Some, None, IfOk, IfErr, IsErrOf, IsTrue};
-ghost use Rattle.std.specs.Option.{option_map};
-ghost use Rattle.vindex.specs.Bounds.{in_range, trimmed};
+ghost use Rattle.std.specs.Option.{option_copied, option_map};
+ghost use Rattle.vindex.specs.Bounds.{in_range, is_ordered, trimmed};
 ghost use Rattle.vindex.specs.RangeText.{bytes_of_hex, key_range_of_text};
 ghost use Rattle.vindex.specs.declared.faults.VindexFault.TheVariants.{BadRange, Memory};
 
@@ -76,6 +76,25 @@ impl KeyRange {
             None => true,
         };
         self.start.as_slice().cmp(id).is_le() && is_below
+    }
+
+    /// Where the range starts. Takes no memory.
+    pub fn start(&self) -> &[u8]
+        ensures { result.now ≡ self.now.start }
+    {
+        self.start.as_slice()
+    }
+
+    /// Where the range ends; `None` is for one that is open above. An end is above the start. Takes
+    /// no memory.
+    pub fn end(&self) -> Option<&[u8]>
+        ensures end { option_copied result ≡ self.now.end }
+        ensures ordered { IsTrue (is_ordered self.now) }
+    {
+        match &self.end {
+            Some(end) => Some(end.as_slice()),
+            None => None,
+        }
     }
 
     /// Whether both ranges have the same bounds. Takes no memory.

@@ -1,8 +1,8 @@
 //! The numbers that a row carries as decimal text.
 
-ghost use Rattle.std.specs.Prelude.{◌≡◌, ◌^◌};
+ghost use Rattle.std.specs.Prelude.{◌≡◌, ◌^◌, IfSome};
 ghost use Rattle.std.specs.Option.{option_map};
-ghost use Rattle.vindex.specs.NumberText.{decimal_below, number_of_text, value_of};
+ghost use Rattle.vindex.specs.NumberText.{decimal_below, number_of_text, value_of, HasItsSign};
 
 /// A number from -2^63 to 2^64 - 1, in the order of its values.
 #[derive(Clone, Copy, Debug, PartialEq, Eq, PartialOrd, Ord)]
@@ -18,7 +18,8 @@ pub enum Number {
 /// memory.
 #[tactic(auto, unfolding(crate::specs::NumberText::number_of_text))]
 pub fn number_of(text: &[u8]) -> Option<Number>
-    ensures { option_map value_of result ≡ number_of_text text.now }
+    ensures value { option_map value_of result ≡ number_of_text text.now }
+    ensures sign { IfSome result HasItsSign }
 {
     match text {
         [b'-', digits @ ..] => match magnitude_of(digits)? {

@@ -12,5 +12,12 @@ pub fn tiles(ranges: &[KeyRange]) -> bool
     ensures exact { IsTrue result ↔ Tiles ranges.now }
     ensures each_id_in_one_range { IsTrue result → SplitsAllIds ranges.now }
 {
-    true
+    let mut covered: Option<&[u8]> = Some(&[]);
+    for range in ranges {
+        if covered != Some(range.start()) {
+            return false;
+        }
+        covered = range.end();
+    }
+    covered.is_none()
 }
