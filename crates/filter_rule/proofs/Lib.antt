@@ -1,1 +1,3 @@
 pub mod SplitLaws
+pub mod SpanLaws
+pub mod TokenLaws
