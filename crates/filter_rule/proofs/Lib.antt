@@ -1,3 +1,4 @@
 pub mod SplitLaws
 pub mod SpanLaws
 pub mod TokenLaws
+pub mod FilterLaws

@@ -10,7 +10,7 @@ use Rattle.filter_rule.proofs.SpanLaws.{all_parts, span_len, begins, cut_at, fro
 
 -- ---- what is written is read
 
-drop_run : (xs rest : List ℕ) → drop (length xs) (xs ++ rest) ≡ rest
+pub drop_run : (xs rest : List ℕ) → drop (length xs) (xs ++ rest) ≡ rest
 drop_run [] rest = refl
 drop_run (x ∷ xs) rest = drop_run xs rest
 
@@ -28,7 +28,7 @@ append_assoc_one (x ∷ xs) y rest = ap (λ s. x ∷ s) (append_assoc_one xs y r
 cut_back : (end : ℕ) (xs rest : List ℕ) → list_all (λ b. not (b == end)) xs ≡ true → up_to end ((xs ++ end ∷ []) ++ rest) ≡ Some (xs, rest)
 cut_back end xs rest h = rw (append_assoc_one xs end rest, up_to_is_cut end (xs ++ end ∷ rest)) (cut_of_run end xs rest h)
 
-some_length : (n : List ℕ) → (n ≡ [] → ⊥) → (length n == 0) ≡ false
+pub some_length : (n : List ℕ) → (n ≡ [] → ⊥) → (length n == 0) ≡ false
 some_length [] h = absurd (h refl)
 some_length (x ∷ xs) h = grind (arith, nat_tests)
 
@@ -236,7 +236,7 @@ quoted_sound s t rest e = quoted_cut (up_to 39 s) s t rest (λ f r h. parts_of_c
 mark_sound : (b : ℕ) (s : List ℕ) (t : Lexeme) (rest : List ℕ) → is_mark b ≡ true → found (mark b) s ≡ found t rest → Front (b ∷ s) t rest
 mark_sound b s t rest h e = same_front (b ∷ s) t (mark b) rest s e (record { front = b ∷ []; whole = refl; written = (refl, h); ends = tt })
 
-take_drop : (n : ℕ) (s : List ℕ) → s ≡ take n s ++ drop n s
+pub take_drop : (n : ℕ) (s : List ℕ) → s ≡ take n s ++ drop n s
 take_drop zero s = refl
 take_drop (suc n) [] = refl
 take_drop (suc n) (x ∷ s) = ap (λ r. x ∷ r) (take_drop n s)
