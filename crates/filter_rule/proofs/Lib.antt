@@ -2,3 +2,4 @@ pub mod SplitLaws
 pub mod SpanLaws
 pub mod TokenLaws
 pub mod FilterLaws
+pub mod JsonLaws

@@ -1,5 +1,7 @@
 pub mod Tokens
 pub mod FilterText
+pub mod Faults
+pub mod Document
 pub mod Seen
 pub mod PlanTable
 pub mod PlanValue

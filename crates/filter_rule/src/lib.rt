@@ -2,12 +2,16 @@
 #![tactic(auto)]
 
 mod decision;
+mod fault;
 mod filter;
+mod json;
+mod name;
 mod plan;
 mod same;
 mod table;
 mod token;
 
 pub use decision::Decision;
+pub use fault::PlanFault;
 pub use plan::Plan;
 pub use table::{ColumnDef, Table};
