@@ -3,3 +3,4 @@ pub mod SpanLaws
 pub mod TokenLaws
 pub mod FilterLaws
 pub mod JsonLaws
+pub mod EachLaws

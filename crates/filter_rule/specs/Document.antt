@@ -9,6 +9,7 @@ use Rattle.vindex.specs.KeyspaceId.{vindex_of_name}
 use Rattle.vindex.specs.declared.vindexes.Vindex.{Vindex}
 use Rattle.filter_rule.specs.Faults.{Fault, shape, ◌>>=◌, each}
 use Rattle.filter_rule.specs.PlanTable.{ColumnValue}
+use Rattle.filter_rule.specs.TypeNumbers.{type_of_name}
 
 -- a rule's `match` and `filter`, as texts
 pub record RuleSaid : Type 0 where
@@ -77,3 +78,92 @@ is_name s = nat_lt 0 (length s) && nat_le (length s) 256 && list_all is_fit s
 
 unfoldable pub name_of : Data → Result (List ℕ) Fault
 name_of d = text_of d >>= λ s. if is_name s then Ok s else Err shape
+
+abbrev pub small : ℕ → Option ℕ
+small n = if nat_lt n (2 ^ 32) then Some n else None
+
+-- a type by its name, or else by a whole number below 2^32
+abbrev pub type_by : Option (List ℕ) → Data → Result ℕ Fault
+type_by (Some name) d = found (type_of_name name)
+type_by None d = found (option_and_then small (option_and_then as_u64 (as_number d)))
+
+unfoldable pub type_of : Data → Result ℕ Fault
+type_of d = type_by (as_str d) d
+
+-- a column as a pair of its name and its type
+unfoldable pub column_of : Data → Result ColumnValue Fault
+column_of d = do
+  p ← pair_of d
+  name ← name_of p.0
+  number ← type_of p.1
+  Ok (record { name = name; type_number = number })
+
+-- a vindex as a pair of a column's name and its own
+unfoldable pub vindex_of : Data → Result (List ℕ × Vindex) Fault
+vindex_of d = do
+  p ← pair_of d
+  column ← name_of p.0
+  name ← text_of p.1
+  vindex ← found (vindex_of_name name)
+  Ok (column, vindex)
+
+abbrev pub vindex_if : Option Data → Result (Option (List ℕ × Vindex)) Fault
+vindex_if None = Ok None
+vindex_if (Some d) = vindex_of d >>= λ v. Ok (Some v)
+
+unfoldable pub vindex_in : Data → Result (Option (List ℕ × Vindex)) Fault
+vindex_in d = vindex_if (get (codes "vindex") d)
+
+abbrev pub filter_if : Option Data → Result (List ℕ) Fault
+filter_if None = Ok []
+filter_if (Some d) = text_of d
+
+unfoldable pub filter_in : Data → Result (List ℕ) Fault
+filter_in d = filter_if (get (codes "filter") d)
+
+unfoldable pub rule_of : Data → Result RuleSaid Fault
+rule_of d = do
+  matches ← text_in (codes "match") d
+  filter ← filter_in d
+  Ok (record { matches = matches; filter = filter })
+
+unfoldable pub stream_of : Data → Result StreamSaid Fault
+stream_of d = do
+  shard ← text_in (codes "shard") d
+  filter ← member_in (codes "filter") d
+  values ← list_in (codes "rules") filter
+  rules ← each rule_of values
+  Ok (record { shard = shard; rules = rules })
+
+-- whether some text stands twice
+abbrev pub has_twice : List (List ℕ) → Bool
+has_twice [] = false
+has_twice (s ∷ ss) = list_any (λ t. bytes_eq s t) ss || has_twice ss
+
+-- texts of which none stands twice
+abbrev pub distinct : List (List ℕ) → Result (List (List ℕ)) Fault
+distinct ss = if has_twice ss then Err shape else Ok ss
+
+unfoldable pub table_of : Data → Result TableSaid Fault
+table_of d = do
+  name_d ← member_in (codes "name") d
+  name ← name_of name_d
+  columns_d ← list_in (codes "columns") d
+  columns ← each column_of columns_d
+  key_d ← list_in (codes "key") d
+  key ← each name_of key_d
+  vindex ← vindex_in d
+  names ← distinct (map (λ c. c.name) columns)
+  keys ← distinct key
+  Ok (record { name = name; columns = columns; key = key; vindex = vindex })
+
+unfoldable pub document_of : Data → Result DocumentSaid Fault
+document_of d = do
+  keyspace ← text_in (codes "keyspace") d
+  tables_d ← list_in (codes "tables") d
+  tables ← each table_of tables_d
+  streams_d ← list_in (codes "streams") d
+  streams ← each stream_of streams_d
+  names ← distinct (map (λ t. t.name) tables)
+  shards ← distinct (map (λ s. s.shard) streams)
+  Ok (record { keyspace = keyspace; tables = tables; streams = streams })

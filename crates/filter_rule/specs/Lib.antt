@@ -1,6 +1,7 @@
 pub mod Tokens
 pub mod FilterText
 pub mod Faults
+pub mod TypeNumbers
 pub mod Document
 pub mod Seen
 pub mod PlanTable

@@ -2,6 +2,7 @@
 #![tactic(auto)]
 
 mod decision;
+mod document;
 mod fault;
 mod filter;
 mod json;
@@ -10,8 +11,10 @@ mod plan;
 mod same;
 mod table;
 mod token;
+mod types;
 
 pub use decision::Decision;
 pub use fault::PlanFault;
 pub use plan::Plan;
 pub use table::{ColumnDef, Table};
+pub use types::is_whole_number;
