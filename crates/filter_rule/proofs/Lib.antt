@@ -4,3 +4,4 @@ pub mod TokenLaws
 pub mod FilterLaws
 pub mod JsonLaws
 pub mod EachLaws
+pub mod DistinctLaws

@@ -1,5 +1,5 @@
 -- The workflow file as a typed document: what a JSON value says, or the fault of its shape.
-use Rattle.std.specs.Prelude.{◌≡◌, ℕ, ◌^◌, ◌==◌, ◌&&◌, ◌||◌, nat_lt, nat_le, not, List, [], ◌∷◌, length, map, find, Bool, true, false, Option, Some, None, Result, Ok, Err, codes, if◌then◌else◌}
+use Rattle.std.specs.Prelude.{◌≡◌, ℕ, ◌^◌, ◌==◌, ◌&&◌, ◌||◌, nat_lt, nat_le, not, List, [], ◌∷◌, ◌++◌, length, map, find, Bool, true, false, Option, Some, None, Result, Ok, Err, codes, if◌then◌else◌}
 use Rattle.std.specs.List.{list_all, list_any}
 use Rattle.std.specs.Option.{option_and_then, option_map, ok_or}
 use Rattle.std.specs.Str.{bytes_eq}
@@ -135,10 +135,14 @@ stream_of d = do
   rules ← each rule_of values
   Ok (record { shard = shard; rules = rules })
 
+-- whether some text is equal to one before it, behind these
+abbrev pub repeats : List (List ℕ) → List (List ℕ) → Bool
+repeats before [] = false
+repeats before (s ∷ ss) = list_any (λ t. bytes_eq s t) before || repeats (before ++ s ∷ []) ss
+
 -- whether some text stands twice
 abbrev pub has_twice : List (List ℕ) → Bool
-has_twice [] = false
-has_twice (s ∷ ss) = list_any (λ t. bytes_eq s t) ss || has_twice ss
+has_twice ss = repeats [] ss
 
 -- texts of which none stands twice
 abbrev pub distinct : List (List ℕ) → Result (List (List ℕ)) Fault

@@ -2,6 +2,7 @@
 #![tactic(auto)]
 
 mod decision;
+mod distinct;
 mod document;
 mod fault;
 mod filter;
