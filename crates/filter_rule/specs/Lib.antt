@@ -3,6 +3,7 @@ pub mod FilterText
 pub mod Faults
 pub mod TypeNumbers
 pub mod Document
+pub mod Limits
 pub mod Seen
 pub mod PlanTable
 pub mod PlanValue

@@ -5,6 +5,7 @@ ghost use Rattle.serde_json.specs.View.{view};
 ghost use Rattle.filter_rule.specs.Faults.{Gives, each};
 ghost use Rattle.filter_rule.specs.Document.{type_of, column_of, vindex_of, vindex_in, filter_in, rule_of, stream_of, table_of, document_of};
 
+use crate::distinct::{Titled, check_distinct};
 use crate::fault::PlanFault;
 use crate::json::{list_in, member, pair, text, text_in};
 use crate::name::{Name, name_of};
@@ -204,4 +205,91 @@ impl<'v> FromJson<'v> for StreamText<'v> {
         let rules = each(alloc, list_in(filter, "rules")?)?;
         Ok(StreamText { shard, rules })
     }
+}
+
+impl<'v> Titled for Name<'v> {
+    ghost title = { λ n. n };
+
+    fn title(&self) -> &str {
+        self.as_str()
+    }
+}
+
+impl<'v> Titled for ColumnText<'v> {
+    ghost title = { λ c. c.name };
+
+    fn title(&self) -> &str {
+        self.name.as_str()
+    }
+}
+
+impl<'v> Titled for TableText<'v> {
+    ghost title = { λ t. t.name };
+
+    fn title(&self) -> &str {
+        self.name.as_str()
+    }
+}
+
+impl<'v> Titled for StreamText<'v> {
+    ghost title = { λ s. s.shard };
+
+    fn title(&self) -> &str {
+        self.shard
+    }
+}
+
+impl<'v> FromJson<'v> for TableText<'v> {
+    ghost use Rattle.filter_rule.specs.Document.{table_of};
+
+    ghost reads = { table_of };
+
+    #[tactic(auto, unfolding(crate::specs::Document::table_of))]
+    fn from_json(alloc: Global, value: &'v Value) -> Result<TableText<'v>, PlanFault> {
+        let name = name_of(member(value, "name")?)?;
+        let columns: Vec<ColumnText<'v>> = each(alloc, list_in(value, "columns")?)?;
+        let key: Vec<Name<'v>> = each(alloc, list_in(value, "key")?)?;
+        let vindex = vindex_in(value)?;
+        check_distinct(alloc, &columns)?;
+        check_distinct(alloc, &key)?;
+        Ok(TableText {
+            name,
+            columns,
+            key,
+            vindex,
+        })
+    }
+}
+
+// The whole file: its keyspace, tables and streams.
+#[derive(Drop)]
+pub(crate) struct Document<'v> {
+    pub(crate) keyspace: &'v str,
+    pub(crate) tables: Vec<TableText<'v>>,
+    pub(crate) streams: Vec<StreamText<'v>>,
+}
+
+impl<'v> Model for Document<'v> {
+    ghost use Rattle.filter_rule.specs.Document.{DocumentSaid};
+
+    ghost Value = { DocumentSaid };
+
+    ghost view = { λ d. record { keyspace = d.keyspace.now; tables = d.tables.items; streams = d.streams.items } };
+}
+
+// What the file's JSON value says, or that it has another shape.
+#[tactic(auto, unfolding(crate::specs::Document::document_of))]
+pub(crate) fn document_of(alloc: Global, value: &Value) -> Result<Document<'_>, PlanFault>
+    ensures { Gives (λ d. d) result (document_of (view value.now)) }
+{
+    let keyspace = text_in(value, "keyspace")?;
+    let tables: Vec<TableText<'_>> = each(alloc, list_in(value, "tables")?)?;
+    let streams: Vec<StreamText<'_>> = each(alloc, list_in(value, "streams")?)?;
+    check_distinct(alloc, &tables)?;
+    check_distinct(alloc, &streams)?;
+    Ok(Document {
+        keyspace,
+        tables,
+        streams,
+    })
 }

@@ -7,6 +7,7 @@ mod document;
 mod fault;
 mod filter;
 mod json;
+mod limits;
 mod name;
 mod plan;
 mod same;
