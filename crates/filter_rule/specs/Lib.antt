@@ -4,6 +4,7 @@ pub mod Faults
 pub mod TypeNumbers
 pub mod Document
 pub mod Limits
+pub mod Resolving
 pub mod Seen
 pub mod PlanTable
 pub mod PlanValue

@@ -10,6 +10,7 @@ mod json;
 mod limits;
 mod name;
 mod plan;
+mod resolve;
 mod same;
 mod table;
 mod token;
