@@ -1,9 +1,9 @@
 //! Names of columns to their places.
 
-ghost use Rattle.std.specs.Prelude.{◌≡◌, ℕ, List, Ok, find, position, not, option_map, Err, ◌<◌, length, IfSome, IfOk};
+ghost use Rattle.std.specs.Prelude.{◌≡◌, ℕ, List, None, Ok, find, position, not, option_map, Err, ◌<◌, length, IfSome, IfOk};
 ghost use Rattle.std.specs.Str.{bytes_eq};
 ghost use Rattle.filter_rule.specs.Faults.{Gives, each, no_such_column, key_type, Fault};
-ghost use Rattle.filter_rule.specs.PlanTable.{TableValue};
+ghost use Rattle.filter_rule.specs.PlanTable.{ColumnValue, TableValue};
 ghost use Rattle.filter_rule.specs.Resolving.{is_key_type, is_vindex_type, place_in, type_in, unfit_key, refuse_type, vindex_place, vindex_type, own_vindex_type, resolved};
 
 use crate::document::{ColumnText, TableText};
@@ -116,4 +116,96 @@ fn unfit_key<'k, 'v>(columns: &[ColumnDef], names: &'k [Name<'v>]) -> Option<&'k
     names
         .iter()
         .find(|name| !is_key_type(type_in(columns, name.as_str())))
+}
+
+// The places of columns of these names.
+fn places_of(
+    alloc: Global,
+    table: &str,
+    columns: &[ColumnDef],
+    names: &[Name<'_>],
+) -> Result<Vec<usize>, PlanFault>
+    ensures { Gives (λ v. v.items) result (each (place_in table.now columns.now) names.now) }
+{
+    let mut places = Vec::new(alloc);
+    for name in names {
+        places.push(place_in(alloc, table, columns, name.as_str())?)?;
+    }
+    Ok(places)
+}
+
+// Copies of columns.
+fn copied(alloc: Global, columns: &[ColumnText<'_>]) -> Result<Vec<ColumnDef>, PlanFault>
+    ensures { Gives {Y = List ColumnValue} (λ v. v.items) result (Ok columns.now) }
+{
+    let mut copies = Vec::new(alloc);
+    for column in columns {
+        copies.push(ColumnDef::new(
+            alloc,
+            column.name.as_str(),
+            column.type_number,
+        )?)?;
+    }
+    Ok(copies)
+}
+
+fn check_key_types(
+    alloc: Global,
+    table: &str,
+    columns: &[ColumnDef],
+    names: &[Name<'_>],
+) -> Result<(), PlanFault>
+    ensures { Gives (λ _. None) result (refuse_type table.now (unfit_key columns.now names.now)) }
+{
+    match unfit_key(columns, names) {
+        None => Ok(()),
+        Some(name) => Err(unfit(alloc, table, name.as_str())),
+    }
+}
+
+fn vindex_place(
+    alloc: Global,
+    table: &str,
+    columns: &[ColumnDef],
+    vindex: &Option<(Name<'_>, Vindex)>,
+) -> Result<Option<(usize, Vindex)>, PlanFault>
+    ensures { Gives (λ o. o) result (vindex_place table.now columns.now vindex.now) }
+{
+    match vindex {
+        None => Ok(None),
+        Some((name, vindex)) => {
+            let place = place_in(alloc, table, columns, name.as_str())?;
+            Ok(Some((place, *vindex)))
+        }
+    }
+}
+
+fn check_own_vindex(
+    alloc: Global,
+    table: &str,
+    columns: &[ColumnDef],
+    vindex: &Option<(Name<'_>, Vindex)>,
+) -> Result<(), PlanFault>
+    ensures { Gives (λ _. option_map (λ v. v.0) vindex.now) result (own_vindex_type table.now columns.now vindex.now) }
+{
+    match vindex {
+        None => Ok(()),
+        Some((name, vindex)) => {
+            check_vindex_type(alloc, table, columns, name.as_str(), *vindex)
+        }
+    }
+}
+
+// The table of a plan that a table of the workflow file names.
+#[tactic(auto, unfolding(crate::specs::Resolving::resolved))]
+pub(crate) fn resolved(alloc: Global, table: &TableText<'_>) -> Result<Table, PlanFault>
+    ensures { Gives (λ t. t) result (resolved table.now) }
+{
+    let name = table.name.as_str();
+    let columns = copied(alloc, &table.columns)?;
+    let key = places_of(alloc, name, &columns, &table.key)?;
+    let vindex = vindex_place(alloc, name, &columns, &table.vindex)?;
+    check_key_types(alloc, name, &columns, &table.key)?;
+    check_own_vindex(alloc, name, &columns, &table.vindex)?;
+    Ok(Table::new(alloc, name, columns, key, vindex)?)
 }

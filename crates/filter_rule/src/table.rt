@@ -1,9 +1,10 @@
 //! The tables of a workflow.
 
-ghost use Rattle.std.specs.Prelude.{◌≡◌, ◌↔◌, IsTrue};
+ghost use Rattle.std.specs.Prelude.{◌≡◌, ◌↔◌, IfOk, IsTrue};
 ghost use Rattle.filter_rule.specs.PlanTable.{ColumnValue, TableValue};
 
 use crate::same::{Same, all_same};
+use std::alloc::{AllocError, Global};
 use std::marker::Model;
 use vindex::Vindex;
 
@@ -24,6 +25,14 @@ impl Model for ColumnDef {
 }
 
 impl ColumnDef {
+    // A column of a copy of the name.
+    pub(crate) fn new(alloc: Global, name: &str, type_number: u32) -> Result<ColumnDef, AllocError>
+        ensures { IfOk result (λ c. c ≡ record { name = name.now; type_number = type_number }) }
+    {
+        let name = String::from_str(alloc, name)?;
+        Ok(ColumnDef { name, type_number })
+    }
+
     /// The column's name.
     pub fn name(&self) -> &str
         ensures { result.now ≡ self.now.name }
@@ -58,6 +67,25 @@ impl Model for Table {
 }
 
 impl Table {
+    // A table of a copy of the name.
+    pub(crate) fn new(
+        alloc: Global,
+        name: &str,
+        columns: Vec<ColumnDef>,
+        key: Vec<usize>,
+        vindex: Option<(usize, Vindex)>,
+    ) -> Result<Table, AllocError>
+        ensures { IfOk result (λ t. t ≡ record { name = name.now; columns = columns.items; key = key.items; vindex = vindex }) }
+    {
+        let name = String::from_str(alloc, name)?;
+        Ok(Table {
+            name,
+            columns,
+            key,
+            vindex,
+        })
+    }
+
     /// The table's name.
     pub fn name(&self) -> &str
         ensures { result.now ≡ self.now.name }
