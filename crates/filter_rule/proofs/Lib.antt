@@ -5,3 +5,4 @@ pub mod FilterLaws
 pub mod JsonLaws
 pub mod EachLaws
 pub mod DistinctLaws
+pub mod Utf8Laws

@@ -5,6 +5,8 @@ pub mod TypeNumbers
 pub mod Document
 pub mod Limits
 pub mod Resolving
+pub mod Rules
+pub mod RuleViews
 pub mod Seen
 pub mod PlanTable
 pub mod PlanValue

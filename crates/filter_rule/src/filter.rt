@@ -164,7 +164,7 @@ fn begins_with_select(text: &[u8]) -> bool
 }
 
 #[tactic(auto, unfolding(crate::specs::FilterText::said_at))]
-fn filter_of(text: &[u8]) -> Option<Filter<'_>>
+pub(crate) fn filter_of(text: &[u8]) -> Option<Filter<'_>>
     ensures { option_map said result ≡ said_at text.now }
 {
     if text.is_empty() {

@@ -1,6 +1,7 @@
 //! The workflow file: its plans, the filter rules and which rows pass them.
 #![tactic(auto)]
 
+mod decide;
 mod decision;
 mod distinct;
 mod document;
@@ -11,6 +12,7 @@ mod limits;
 mod name;
 mod plan;
 mod resolve;
+mod rule;
 mod same;
 mod table;
 mod token;
