@@ -1,14 +1,16 @@
 -- What decimal digits write, as a loop over them goes on.
-use Rattle.std.proofs.Common.{◌≡◌, ℕ, ◌+◌, ◌*◌, ◌-◌, ◌<◌, ◌≤◌, Bool, true, false, cond, ltb, List, [], ◌∷◌, ◌++◌, length, get_or, take, drop, None, Some, refl, sym, ◌∙◌, ap, subst, arith}
+use Rattle.std.proofs.Common.{◌≡◌, ℕ, ◌+◌, ◌*◌, ◌-◌, ◌<◌, ◌≤◌, true, false, List, [], ◌∷◌, ◌++◌, length, get_or, take, drop, None, Some, refl, sym, ◌∙◌, ap, arith}
 use Rattle.std.proofs.lemmas.Bool.Decides.{nat_tests}
-use Rattle.std.proofs.lemmas.Grind.{common_steps}
 use Rattle.std.proofs.lemmas.Int.Digits.{digits_value_more}
 use Rattle.std.proofs.lemmas.List.{take-append-drop, take_all}
-use Rattle.std.proofs.lemmas.List.Folds.{list_all_at}
+use Rattle.std.proofs.lemmas.List.Folds.{list_all_at, list_all_more}
 use Rattle.std.specs.Char.{is_ascii_digit, digit_value}
 use Rattle.std.specs.List.{list_all}
 use Rattle.std.specs.Str.Parse.{digits_value, digits_value_after}
 use Rattle.vindex.specs.NumberText.{decimal_below}
+
+not-lt-le : (m n : ℕ) → ¬ (m < n) → n ≤ m
+not-lt-le m n h = omega arith
 
 pub digit_value-ascii : (c : ℕ) → is_ascii_digit c ≡ true → digit_value c ≡ c - 48
 digit_value-ascii c h = grind (arith, nat_tests)
@@ -56,3 +58,14 @@ value-more ds i m below digit so_far = omega (arith, digits_value_more 10 ds i b
 pub too_large : (limit : ℕ) (ds : List ℕ) (i m : ℕ) → i < length ds → is_ascii_digit (get_or ds i 0) ≡ true → m ≡ digits_value 10 (take i ds) → limit ≤ m * 10 + (get_or ds i 0 - 48) → decimal_below limit ds ≡ None
 too_large limit ds i m below digit so_far large =
     decimal_below-large limit ds (omega (arith, value-more ds i m below digit so_far, value-take-le (i + 1) ds))
+
+pub all-more : (ds : List ℕ) (i : ℕ) → i < length ds → is_ascii_digit (get_or ds i 0) ≡ true → list_all is_ascii_digit (take i ds) ≡ true → list_all is_ascii_digit (take (i + 1) ds) ≡ true
+all-more ds i below digit so_far = grind (arith, list_all_more is_ascii_digit ds i 0 below)
+
+-- a byte that is no digit, or a digit that makes too much
+pub decimal_below-refused : (limit : ℕ) (ds : List ℕ) (i m : ℕ) → i < length ds → m ≡ digits_value 10 (take i ds) → ¬ ((is_ascii_digit (get_or ds i 0) ≡ true) × (m * 10 + (get_or ds i 0 - 48) < limit)) → decimal_below limit ds ≡ None
+decimal_below-refused limit ds i m below so_far refused =
+    elim (is_ascii_digit (get_or ds i 0)) as (λ b. is_ascii_digit (get_or ds i 0) ≡ b → decimal_below limit ds ≡ None) [
+      | true ↦ λ digit. too_large limit ds i m below digit so_far (not-lt-le (m * 10 + (get_or ds i 0 - 48)) limit (λ small. refused (digit, small)))
+      | false ↦ λ stray. decimal_below-stray limit ds (list_all_at is_ascii_digit ds i 0 below stray)
+    ] refl

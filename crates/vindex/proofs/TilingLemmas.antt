@@ -1,14 +1,13 @@
 -- Ranges that lie end to end have each id once.
-use Rattle.std.proofs.Common.{◌≡◌, ℕ, suc, zero, ◌+◌, ◌<◌, ◌≤◌, Bool, true, false, not, List, [], ◌∷◌, ◌++◌, ◌&&◌, map, length, get_or, take, drop, Option, None, Some, Bor, ◌↔◌, nat_eq, add-one, refl, sym, ◌∙◌, ap, subst, arith}
+use Rattle.std.proofs.Common.{◌≡◌, ℕ, suc, zero, ◌+◌, ◌<◌, ◌≤◌, Bool, true, false, not, List, [], ◌∷◌, ◌++◌, ◌&&◌, map, length, get_or, take, drop, Option, None, Some, Bor, ◌↔◌, add-one, refl, sym, ◌∙◌, ap, subst, arith}
 use Rattle.std.proofs.Math.Seq.{drop-cons}
 use Rattle.std.proofs.lemmas.Bool.Decides.{nat_tests}
 use Rattle.std.proofs.lemmas.Cmp.{nat_list_cmp_total}
 use Rattle.std.proofs.lemmas.List.{drop_all}
 use Rattle.std.proofs.lemmas.List.Folds.{list_all_more}
-use Rattle.std.proofs.lemmas.Slice.Eq.{bytes_eq-Decides}
-use Rattle.std.specs.Cmp.Lexicographic.{slice_cmp, pointwise}
+use Rattle.std.specs.Cmp.Lexicographic.{slice_cmp}
 use Rattle.std.specs.List.{list_all, slice_get}
-use Rattle.std.specs.Option.{option_copied, option_eq, is_some}
+use Rattle.std.specs.Option.{option_copied, is_some}
 use Rattle.std.specs.Ordering.{nat_cmp, is_lt, is_le, ordering_reverse}
 use Rattle.std.specs.declared.cmp.Ordering.{Ordering}
 use Rattle.std.specs.declared.cmp.Ordering.TheVariants.{Less, Equal, Greater}
@@ -171,15 +170,6 @@ pub ordered-more : (ranges : List Bounds) (i : ℕ) (range : Bounds) → i < len
 ordered-more ranges i range within is ordered so_far =
     let here_too : is_ordered (get_or ranges i range) ≡ true = subst (λ r. is_ordered r ≡ true) is ordered in
     grind (arith, list_all_more is_ordered ranges i range within)
-
--- what `!=` says of two ends
-pub not_same : (covered : Option (Bor (List ℕ))) (start : Bor (List ℕ)) (differs : Bool) → differs ≡ not (option_eq (λ x y. pointwise nat_eq x.now y.now) covered (Some start)) → (differs ≡ false → option_copied covered ≡ Some start.now) × (option_copied covered ≡ Some start.now → differs ≡ false)
-not_same None start differs is = (λ h. cc, λ h. cc)
-not_same (Some end) start differs is =
-    let decides = bytes_eq-Decides end.now start.now in (
-      λ h. ap (λ xs. Some xs) (decides.0 (grind (arith, nat_tests))),
-      λ h. let same : end.now ≡ start.now = cc in let equal : pointwise nat_eq end.now start.now ≡ true = decides.1 same in grind (arith, nat_tests),
-    )
 
 -- what `is_none` says of an end
 pub is_open : (covered : Option (Bor (List ℕ))) (answer : Bool) → is_some covered ≡ not answer → (answer ≡ true → option_copied covered ≡ None) × (option_copied covered ≡ None → answer ≡ true)

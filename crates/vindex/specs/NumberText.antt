@@ -1,6 +1,6 @@
 -- Numbers as a row carries them: an optional `-` and one or more decimal digits, in value from -2^63
 -- to 2^64 - 1. Leading zeros are allowed, and `-0` is 0 (this profile).
-use Rattle.std.specs.Prelude.{ℕ, ◌+◌, ◌^◌, ◌==◌, ◌&&◌, nat_lt, List, [], ◌∷◌, Option, None, Some, if◌then◌else◌, ℤ, pos, negsuc, neg_ℤ, ◌<ℤ◌, ⊤}
+use Rattle.std.specs.Prelude.{ℕ, ◌+◌, ◌^◌, ◌==◌, ◌&&◌, nat_lt, List, [], ◌∷◌, Option, None, Some, if◌then◌else◌, ℤ, pos, neg_ℤ, ◌<ℤ◌, ⊤}
 use Rattle.std.specs.Char.{is_ascii_digit}
 use Rattle.std.specs.List.{list_all}
 use Rattle.std.specs.Option.{option_map}

@@ -1,12 +1,11 @@
 -- The text of a key range (the Vitess documents on key ranges): `start-end`, each side an even
 -- number of hexadecimal digits of either case, or empty where the range is open. `0` is `-`.
-use Rattle.std.specs.Prelude.{ℕ, ◌==◌, Bool, List, Option, None, Some, if◌then◌else◌, codes}
+use Rattle.std.specs.Prelude.{◌≡◌, ℕ, ◌==◌, ◌⊎◌, Bool, IsTrue, List, ◌∷◌, ◌++◌, Ok, Option, None, Some, if◌then◌else◌, codes}
 use Rattle.std.specs.List.{before_first, after_first, list_any}
-use Rattle.std.specs.Option.{option_and_then}
 use Rattle.std.specs.Result.{result_ok}
 use Rattle.std.specs.Str.{bytes_eq}
 use Rattle.hex.specs.Hex.{decode_of}
-use Rattle.vindex.specs.Bounds.{Bounds, bounds_of, whole, is_ordered, trimmed}
+use Rattle.vindex.specs.Bounds.{Bounds, bounds_of, whole, is_ordered}
 
 -- the bytes that a bound's hexadecimal digits write
 abbrev pub bytes_of_hex : List ℕ → Option (List ℕ)
@@ -28,3 +27,20 @@ key_range_of_text text =
     else if list_any is_hyphen text then
     range_between (bytes_of_hex (before_first is_hyphen text)) (bytes_of_hex (after_first is_hyphen text))
     else None
+
+-- The text is a hyphen between the hexadecimal digits of two bounds, and the range is the one between
+-- these bounds, which starts below its end.
+pub record WritesBounds (text : List ℕ) (bounds : Bounds) : Type 0 where
+  pub first : List ℕ
+  pub last : List ℕ
+  pub start : List ℕ
+  pub end : List ℕ
+  pub parts : text ≡ first ++ 45 ∷ last
+  pub start_digits : decode_of first ≡ Ok start
+  pub end_digits : decode_of last ≡ Ok end
+  pub ordered : IsTrue (is_ordered (bounds_of start end))
+  pub between : bounds ≡ bounds_of start end
+
+-- the text writes the range
+abbrev pub IsRangeText : List ℕ → Bounds → Type 0
+IsRangeText text bounds = ((text ≡ codes "0") × (bounds ≡ whole)) ⊎ WritesBounds text bounds

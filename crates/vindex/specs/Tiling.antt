@@ -1,5 +1,5 @@
 -- Key ranges that lie end to end over all keyspace ids.
-use Rattle.std.specs.Prelude.{◌≡◌, ℕ, List, [], ◌∷◌, ◌++◌, map, Option, None, Some, IsTrue, slice_get}
+use Rattle.std.specs.Prelude.{◌≡◌, ℕ, List, [], ◌∷◌, ◌++◌, map, None, Some, IsTrue, slice_get}
 use Rattle.vindex.specs.Bounds.{Bounds, in_range}
 
 -- The ranges' starts, and after them the open end, are the open start and after it the ranges' ends:

@@ -2,8 +2,8 @@
 
 ghost use Rattle.std.specs.Prelude.{◌≡◌, ◌⊎◌, ◌↔◌, Some, None, IfOk, IfErr, IsErrOf, IsTrue};
 ghost use Rattle.std.specs.Option.{option_copied, option_map};
-ghost use Rattle.vindex.specs.Bounds.{in_range, is_ordered, trimmed};
-ghost use Rattle.vindex.specs.RangeText.{bytes_of_hex, key_range_of_text};
+ghost use Rattle.vindex.specs.Bounds.{Bounds, in_range, is_ordered, trimmed};
+ghost use Rattle.vindex.specs.RangeText.{bytes_of_hex, key_range_of_text, IsRangeText};
 ghost use Rattle.vindex.specs.declared.faults.VindexFault.TheVariants.{BadRange, Memory};
 
 use crate::faults::VindexFault;
@@ -13,7 +13,7 @@ use std::marker::Model;
 
 /// A range of keyspace ids: from its start on and before its end, as byte strings, in which a proper
 /// beginning is less. The bounds have no 00 bytes at their ends.
-#[derive(Drop)]
+#[derive(Debug, Drop)]
 pub struct KeyRange {
     start: Vec<u8>,
     end: Option<Vec<u8>>,
@@ -26,8 +26,12 @@ impl Model for KeyRange {
 
     ghost Value = { Bounds };
 
-    ghost view = { λ range. record { start = range.start.items; end = option_map (λ bytes. bytes.items) range.end } };
+    ghost view = { λ range. record {
+      start = range.start.items;
+      end = option_map (λ bytes. bytes.items) range.end;
+    } };
 
+    // The start is less than the end, if there is one.
     ghost invariant = { λ range. IsTrue (is_below (option_map (λ bytes. bytes.items) range.end) range.start.items) };
 }
 
@@ -41,6 +45,10 @@ impl KeyRange {
         ensures read { IfOk result (λ range. key_range_of_text text.now ≡ Some range) }
         ensures bad_range { IsErrOf result BadRange → key_range_of_text text.now ≡ None }
         ensures refused { IfErr result (λ fault. (fault ≡ BadRange) ⊎ (fault ≡ Memory)) }
+
+        // The texts that are read as a range are those that write it.
+        ensures grammar { (bounds : Bounds)
+            → (key_range_of_text text.now ≡ Some bounds) ↔ IsRangeText text.now bounds }
     {
         if text == "0" {
             return Ok(KeyRange {
@@ -75,7 +83,7 @@ impl KeyRange {
             Some(end) => id.cmp(end.as_slice()).is_lt(),
             None => true,
         };
-        self.start.as_slice().cmp(id).is_le() && is_below
+        self.start().cmp(id).is_le() && is_below
     }
 
     /// Where the range starts. Takes no memory.
@@ -106,7 +114,7 @@ impl KeyRange {
             (None, None) => true,
             _ => false,
         };
-        self.start.as_slice() == other.start.as_slice() && same_end
+        self.start() == other.start() && same_end
     }
 }
 

@@ -5,6 +5,8 @@ mod faults;
 mod ids;
 mod key_ranges;
 mod numbers;
+#[cfg(test)]
+mod tests;
 mod tiling;
 mod vindexes;
 

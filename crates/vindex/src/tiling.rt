@@ -1,6 +1,7 @@
 //! Whether key ranges split all keyspace ids among them.
 
-ghost use Rattle.std.specs.Prelude.{◌↔◌, IsTrue};
+ghost use Rattle.std.specs.Prelude.{◌≡◌, ◌↔◌, Some, IsTrue};
+ghost use Rattle.std.specs.Option.{option_copied};
 ghost use Rattle.vindex.specs.Tiling.{Tiles, SplitsAllIds};
 
 use crate::key_ranges::KeyRange;
@@ -14,10 +15,20 @@ pub fn tiles(ranges: &[KeyRange]) -> bool
 {
     let mut covered: Option<&[u8]> = Some(&[]);
     for range in ranges {
-        if covered != Some(range.start()) {
+        if !meets(covered, range) {
             return false;
         }
         covered = range.end();
     }
     covered.is_none()
+}
+
+// Whether a range starts where the earlier ones end.
+fn meets(covered: Option<&[u8]>, range: &KeyRange) -> bool
+    ensures { IsTrue result ↔ (option_copied covered.entry ≡ Some range.now.start) }
+{
+    match covered {
+        Some(end) => end == range.start(),
+        None => false,
+    }
 }

@@ -1,4 +1,4 @@
-use Rattle.std.proofs.Common.{◌≡◌, ℕ, ◌+◌, ◌≤◌, eqb, length, take}
+use Rattle.std.proofs.Common.{◌≡◌, ◌+◌, ◌≤◌, eqb, length, take}
 use Rattle.std.specs.List.{suffix_len}
 use Rattle.vindex.proofs.key_ranges.drop_zeros.Given as goal
 

@@ -1,28 +1,25 @@
-use Rattle.std.proofs.Common.{◌≡◌, ℕ, Bor, List, Option, ◌+◌, ◌≤◌, ◌↔◌, Some, None, IsTrue, length, drop, take, true, false, refl, sym, ◌∙◌, ap, subst, arith}
-use Rattle.std.proofs.lemmas.Bool.Decides.{nat_tests}
+use Rattle.std.proofs.Common.{◌≡◌, ◌+◌, ◌↔◌, Some, drop, take, true, refl, sym, subst}
 use Rattle.std.proofs.lemmas.List.{take_all}
-use Rattle.std.specs.List.{list_all}
 use Rattle.std.specs.Option.{option_copied}
-use Rattle.vindex.specs.Bounds.{is_ordered}
-use Rattle.vindex.specs.Tiling.{Tiles, SplitsAllIds}
-use Rattle.vindex.proofs.TilingLemmas.{MeetFrom, SplitsAllIds-from_Tiles, meets-step, meets-start, meets-end, ordered-more, not_same, is_open}
+use Rattle.vindex.specs.Tiling.{Tiles}
+use Rattle.vindex.proofs.TilingLemmas.{MeetFrom, SplitsAllIds-from_Tiles, meets-step, meets-start, meets-end, ordered-more, is_open}
 use Rattle.vindex.proofs.tiling.tiles.Goals as goal
 
 pub loop-range-init : goal.loop-range-init
 loop-range-init c = ((λ h. h, λ h. h), refl)
 
-pub returns-then-ne-clause-exact : goal.returns-then-ne-clause-exact
-returns-then-ne-clause-exact c = (
+pub returns-then-not-meets-clause-exact : goal.returns-then-not-meets-clause-exact
+returns-then-not-meets-clause-exact c = (
   λ h. cc,
   λ tiles.
-    let start = meets-start c.args.ranges.now c.loop-range.range-index c.range-item.result (option_copied c.loop-range.covered) c.loop-range-test.true c.range-item.is c.loop-range.invariant.0 tiles in
-    let same : c.ne.result ≡ false = (not_same c.loop-range.covered c.start.result c.ne.result c.ne.ensures).1 (start ∙ ap (λ xs. Some xs) (sym c.start.ensures)) in
-    cc,
+      let start = meets-start c.args.ranges.now c.loop-range.range-index c.range-item.result (option_copied c.loop-range.covered) c.loop-range-test.true c.range-item.is c.loop-range.invariant.0 tiles in
+      let met : c.meets.result ≡ true = c.meets.ensures.1 start in
+      cc,
 )
 
 pub loop-range-preserved : goal.loop-range-preserved
 loop-range-preserved c =
-    let start : option_copied c.loop-range.covered ≡ Some c.range-item.result.start = (not_same c.loop-range.covered c.start.result c.ne.result c.ne.ensures).0 c.if-ne.false ∙ ap (λ xs. Some xs) c.start.ensures in
+    let start : option_copied c.loop-range.covered ≡ Some c.range-item.result.start = c.meets.ensures.0 c.if-not-meets.false in
     let step = meets-step c.args.ranges.now c.loop-range.range-index c.range-item.result (option_copied c.loop-range.covered) c.loop-range-test.true c.range-item.is start c.loop-range.invariant.0 in (
       subst (λ end. MeetFrom end (drop (c.loop-range.range-index + 1) c.args.ranges.now) ↔ Tiles c.args.ranges.now) (sym c.end-covered.ensures.end) step,
       ordered-more c.args.ranges.now c.loop-range.range-index c.range-item.result c.loop-range-test.true c.range-item.is c.end-covered.ensures.ordered c.loop-range.invariant.1,

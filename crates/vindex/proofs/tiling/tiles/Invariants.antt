@@ -1,4 +1,4 @@
-use Rattle.std.proofs.Common.{◌↔◌, ◌≡◌, ℕ, take, drop, true}
+use Rattle.std.proofs.Common.{◌↔◌, ◌≡◌, take, drop, true}
 use Rattle.std.specs.List.{list_all}
 use Rattle.std.specs.Option.{option_copied}
 use Rattle.vindex.specs.Bounds.{is_ordered}
