@@ -2,7 +2,7 @@
 
 ghost use Rattle.std.specs.Prelude.{◌≡◌, length};
 ghost use Rattle.filter_rule.specs.Faults.{Gives};
-ghost use Rattle.filter_rule.specs.Rules.{own_decision, decide, settle_one};
+ghost use Rattle.filter_rule.specs.Rules.{own_decision, decide, settle_one, settle};
 ghost use Rattle.filter_rule.specs.RuleViews.{action_seen, form_seen};
 
 use crate::decision::Decision;
@@ -61,4 +61,40 @@ fn decide(
             })
         }
     }
+}
+
+// What a rule leaves of one table's decision: it stays where an earlier rule matched the table.
+fn settle_one(
+    alloc: Global,
+    place: Place,
+    form: &RuleForm<'_>,
+    table: &Table,
+    decision: &mut Decision,
+) -> Result<(), PlanFault>
+    ensures { Gives (λ _. decision.new) result (settle_one place.stream place.rule (form_seen form.now) table.now decision.old) }
+{
+    if let Decision::NoRule = decision {
+        if form.scope.is_for(table.name()) {
+            *decision = decide(alloc, place, &form.action, table)?;
+        }
+    }
+    Ok(())
+}
+
+// Takes one rule over all tables, in order.
+pub(crate) fn settle(
+    alloc: Global,
+    place: Place,
+    form: &RuleForm<'_>,
+    tables: &[Table],
+    decisions: &mut [Decision],
+) -> Result<(), PlanFault>
+    requires { length decisions.old ≡ length tables.now }
+    ensures settled { Gives (λ _. decisions.new) result (settle place.stream place.rule (form_seen form.now) tables.now decisions.old) }
+    ensures count { length decisions.new ≡ length decisions.old }
+{
+    for i in 0..tables.len() {
+        settle_one(alloc, place, form, &tables[i], &mut decisions[i])?;
+    }
+    Ok(())
 }
