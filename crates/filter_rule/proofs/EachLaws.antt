@@ -15,7 +15,7 @@ pub front_none : {A : Type 0} (r : Result (List A) Fault) → with_front [] r �
 front_none (Ok ys) = refl
 front_none (Err e) = refl
 
-front_more : {A : Type 0} (front : List A) (y : A) (r : Result (List A) Fault) → with_front front (r >>= λ ys. Ok (y ∷ ys)) ≡ with_front (front ++ y ∷ []) r
+pub front_more : {A : Type 0} (front : List A) (y : A) (r : Result (List A) Fault) → with_front front (r >>= λ ys. Ok (y ∷ ys)) ≡ with_front (front ++ y ∷ []) r
 front_more front y (Ok ys) = ap Ok (sym (append_assoc front (y ∷ []) ys))
 front_more front y (Err e) = refl
 
@@ -27,7 +27,7 @@ rest_step f front x xs y e = rw e (front_more front y (each f xs))
 pub rest_fault : {A B : Type 0} (f : A → Result B Fault) (front : List B) (x : A) (xs : List A) (e : Fault) → f x ≡ Err e → rest_of_each f front (x ∷ xs) ≡ Err e
 rest_fault f front x xs e h = rw h refl
 
-append_none : {A : Type 0} (s : List A) → s ++ [] ≡ s
+pub append_none : {A : Type 0} (s : List A) → s ++ [] ≡ s
 append_none [] = refl
 append_none (x ∷ s) = ap (λ r. x ∷ r) (append_none s)
 

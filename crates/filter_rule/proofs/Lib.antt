@@ -6,3 +6,4 @@ pub mod JsonLaws
 pub mod EachLaws
 pub mod DistinctLaws
 pub mod Utf8Laws
+pub mod SettleLaws
