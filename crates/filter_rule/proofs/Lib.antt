@@ -7,3 +7,4 @@ pub mod EachLaws
 pub mod DistinctLaws
 pub mod Utf8Laws
 pub mod SettleLaws
+pub mod StreamLaws

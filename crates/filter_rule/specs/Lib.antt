@@ -7,6 +7,7 @@ pub mod Limits
 pub mod Resolving
 pub mod Rules
 pub mod RuleViews
+pub mod Reading
 pub mod Seen
 pub mod PlanTable
 pub mod PlanValue

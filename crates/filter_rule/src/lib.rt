@@ -14,6 +14,7 @@ mod plan;
 mod resolve;
 mod rule;
 mod same;
+mod streams;
 mod table;
 mod token;
 mod types;
