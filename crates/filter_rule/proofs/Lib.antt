@@ -8,3 +8,6 @@ pub mod DistinctLaws
 pub mod Utf8Laws
 pub mod SettleLaws
 pub mod StreamLaws
+pub mod ShapeLaws
+pub mod JsonText
+pub mod PlanLaws

@@ -8,6 +8,7 @@ pub mod Resolving
 pub mod Rules
 pub mod RuleViews
 pub mod Reading
+pub mod PlanParts
 pub mod Seen
 pub mod PlanTable
 pub mod PlanValue

@@ -11,6 +11,7 @@ mod json;
 mod limits;
 mod name;
 mod plan;
+mod read;
 mod resolve;
 mod rule;
 mod same;

@@ -2,6 +2,8 @@
 
 ghost use Rattle.std.specs.Prelude.{◌≡◌, ◌↔◌, IsTrue, ℕ, ◌<◌, length, position, IfSome};
 ghost use Rattle.std.specs.Str.{bytes_eq};
+ghost use Rattle.filter_rule.specs.PlanParts.{plan_value};
+ghost use Rattle.filter_rule.specs.PlanShape.{IsPlan};
 ghost use Rattle.filter_rule.specs.Splitting.{SplitRow};
 ghost use Rattle.filter_rule.specs.PlanValue.{PlanValue, columns_of, key_columns_of, table_of_name, passes_of};
 
@@ -36,14 +38,27 @@ ghost use Rattle.filter_rule.specs.PlanValue.{PlanValue};
 
     ghost Value = { PlanValue };
 
-    ghost view = { λ p. record { keyspace = string_bytes (arc_value p.schema).keyspace; shard = string_bytes p.shard; tables = (arc_value p.schema).tables.items; decisions = p.decisions.items } };
-
+    ghost use Rattle.filter_rule.specs.PlanParts.{plan_value};
     ghost use Rattle.filter_rule.specs.PlanShape.{IsPlan};
 
-    ghost invariant = { λ p. IsPlan (record { keyspace = string_bytes (arc_value p.schema).keyspace; shard = string_bytes p.shard; tables = (arc_value p.schema).tables.items; decisions = p.decisions.items }) };
+    ghost view = { λ p. plan_value p.schema p.shard p.decisions };
+
+    ghost invariant = { λ p. IsPlan (plan_value p.schema p.shard p.decisions) };
 }
 
 impl Plan {
+    // A plan over shared tables.
+    pub(crate) fn new(schema: Arc<Schema>, shard: String, decisions: Vec<Decision>) -> Plan
+        requires { IsPlan (plan_value schema shard decisions) }
+        ensures { result ≡ plan_value schema shard decisions }
+    {
+        Plan {
+            schema,
+            shard,
+            decisions,
+        }
+    }
+
     /// The keyspace's name.
     pub fn keyspace(&self) -> &str
         ensures { result.now ≡ self.now.keyspace }
