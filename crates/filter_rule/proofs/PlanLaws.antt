@@ -2,8 +2,8 @@
 use Rattle.std.proofs.Common.{◌≡◌, ℕ, zero, suc, ◌+◌, ◌<◌, ◌≤◌, List, [], ◌∷◌, ◌++◌, length, take, drop, get_or, map, String, Vec, Global, Result, Ok, Err, refl, sym, ap, subst, ◌∙◌, arith, rules}
 use Rattle.std.specs.Arc.{arc_value}
 use Rattle.std.specs.declared.sync.Arc.{Arc}
-use Rattle.filter_rule.specs.Document.{RuleSaid, StreamSaid}
-use Rattle.filter_rule.specs.Faults.{Fault, ◌>>=◌}
+use Rattle.filter_rule.specs.Document.{RuleSaid, StreamSaid, TableSaid}
+use Rattle.filter_rule.specs.Faults.{Fault, ◌>>=◌, each}
 use Rattle.filter_rule.specs.PlanParts.{plan_value}
 use Rattle.filter_rule.specs.PlanShape.{AreTables, IsPlan}
 use Rattle.filter_rule.specs.PlanTable.{TableValue}
@@ -13,7 +13,8 @@ use Rattle.filter_rule.specs.declared.decision.Decision.{Decision}
 use Rattle.filter_rule.specs.declared.plan.Schema.{Schema}
 use Rattle.filter_rule.proofs.EachLaws.{with_front, front_more, append_none, drop_at}
 use Rattle.filter_rule.proofs.SettleLaws.{drop_all}
-use Rattle.filter_rule.proofs.ShapeLaws.{decisions_decided, decided_length, decided_within}
+use Rattle.filter_rule.specs.Resolving.{resolved}
+use Rattle.filter_rule.proofs.ShapeLaws.{all_resolved, decisions_decided, decided_length, decided_within}
 
 parts_shape : (keyspace shard : List ℕ) (tables : List TableValue) (decisions : List Decision) (n : ℕ) (rs : List RuleSaid) → AreTables tables → decisions_of n tables rs ≡ Ok decisions
     → IsPlan (record { keyspace = keyspace; shard = shard; tables = tables; decisions = decisions })
@@ -70,3 +71,11 @@ pub plans_end : (keyspace : List ℕ) (tables : List TableValue) (n : ℕ) (fron
     → length ss ≤ n → plans_so_far keyspace tables n front (drop n ss) ≡ whole → whole ≡ Ok front
 plans_end keyspace tables n front ss whole past so_far =
     sym so_far ∙ ap (plans_so_far keyspace tables n front) (drop_all ss n past) ∙ ap (with_front front) (no_plans keyspace tables n) ∙ ap Ok (append_none front)
+
+-- ---- the tables
+
+pub are_tables : (said shown : List TableSaid) (tables : List TableValue) → said ≡ shown → length shown ≤ 64 → each resolved said ≡ Ok tables → AreTables tables
+are_tables said shown tables same few is =
+    let all = all_resolved said tables is in
+    let equal : length said ≡ length shown = ap length same in
+    record { count = omega (arith, all.count, equal, few); vindexes = all.vindexes }
