@@ -29,7 +29,6 @@ keeps_range : (plan : PlanValue) (t column : ℕ) (vindex : Vindex) (range : Bou
     → passes_of plan t row ≡ Ok (in_range range id)
 keeps_range plan t column vindex range id row d e = ap (λ x. kept_under x row) d ∙ rw e
 
-
 is_false : (b : Bool) → (IsTrue b → ⊥) → b ≡ false
 is_false true h = absurd (h (search rules))
 is_false false h = refl
@@ -38,15 +37,15 @@ pub split_row : (t : ℕ) (row : List (Option (List ℕ))) → SplitRow t row
 split_row t row plans column vindex ranges id splits keep defined =
     let one = splits id in
     let here = plan_at (slice_get plans one.place) (λ plan. decision_at plan t) (InRange column vindex one.range)
-        (same_places plans t column vindex ranges one.place keep ∙ ap (option_map (InRange column vindex)) one.stands) in
+    (same_places plans t column vindex ranges one.place keep ∙ ap (option_map (InRange column vindex)) one.stands) in
     record {
-    place = one.place;
-    plan = here.0;
-    stands = here.1;
-    passes = keeps_range here.0 t column vindex one.range id row here.2 defined ∙ ap Ok one.has_id;
-    alone = λ other another stands apart.
-        let there = range_at (slice_get ranges other) (InRange column vindex) (decision_at another t)
-            (sym (same_places plans t column vindex ranges other keep) ∙ ap (option_map (λ plan. decision_at plan t)) stands) in
-        keeps_range another t column vindex there.0 id row (sym there.2) defined
-        ∙ ap Ok (is_false (in_range there.0 id) (λ h. apart (one.alone other there.0 there.1 h)))
+      place = one.place;
+      plan = here.0;
+      stands = here.1;
+      passes = keeps_range here.0 t column vindex one.range id row here.2 defined ∙ ap Ok one.has_id;
+      alone = λ other another stands apart.
+          let there = range_at (slice_get ranges other) (InRange column vindex) (decision_at another t)
+          (sym (same_places plans t column vindex ranges other keep) ∙ ap (option_map (λ plan. decision_at plan t)) stands) in
+          keeps_range another t column vindex there.0 id row (sym there.2) defined
+          ∙ ap Ok (is_false (in_range there.0 id) (λ h. apart (one.alone other there.0 there.1 h)));
     }

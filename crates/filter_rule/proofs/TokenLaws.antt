@@ -141,7 +141,7 @@ word_read b w rest h ends =
     let apart = word_apart b is in
     let len : front_len is_word_byte ((b ∷ w) ++ rest) ≡ length (b ∷ w) = front_is_span is_word_byte ((b ∷ w) ++ rest) ∙ span_of_run is_word_byte (b ∷ w) rest h (word_begins is_word_byte rest refl ends) in
     let fourth : front_token ((b ∷ w) ++ rest) ≡ word_of ((b ∷ w) ++ rest) (front_len is_word_byte ((b ∷ w) ++ rest)) =
-        fourth_of (b == 96) (b == 39) (is_mark b) (is_word_byte b) _ _ _ _ _ apart.no_backquote apart.no_quote apart.no_mark is in
+    fourth_of (b == 96) (b == 39) (is_mark b) (is_word_byte b) _ _ _ _ _ apart.no_backquote apart.no_quote apart.no_mark is in
     fourth ∙ ap (word_of ((b ∷ w) ++ rest)) len ∙ word_split (b ∷ w) rest
 
 written_read : (t : Lexeme) (front rest : List ℕ) → IsWritten t front → EndsAt t rest → front_token (front ++ rest) ≡ Some (t, rest)
@@ -223,11 +223,11 @@ quoted_cut None s t rest cut e = cc
 quoted_cut (Some q) s t rest cut e =
     let c = cut q.0 q.1 refl in
     same_front (39 ∷ s) t (quoted q.0) rest q.1 e (record {
-  front = (39 ∷ q.0) ++ 39 ∷ [];
-  whole = ap (λ x. 39 ∷ x) (c.whole ∙ sym (append_assoc_one q.0 39 q.1));
-  written = (refl, c.none);
-  ends = tt;
-})
+      front = (39 ∷ q.0) ++ 39 ∷ [];
+      whole = ap (λ x. 39 ∷ x) (c.whole ∙ sym (append_assoc_one q.0 39 q.1));
+      written = (refl, c.none);
+      ends = tt;
+    })
 
 quoted_sound : (s : List ℕ) (t : Lexeme) (rest : List ℕ) → quoted_at s ≡ found t rest → Front (39 ∷ s) t rest
 unfolding quoted_at
@@ -253,11 +253,11 @@ word_sound b s t rest h e =
     let n : ℕ = span_len is_word_byte (b ∷ s) in
     let by_span : word_of (b ∷ s) n ≡ found t rest = ap (word_of (b ∷ s)) (sym (front_is_span is_word_byte (b ∷ s))) ∙ e in
     same_front (b ∷ s) t (word (take n (b ∷ s))) rest (drop n (b ∷ s)) by_span (record {
-  front = take n (b ∷ s);
-  whole = take_drop n (b ∷ s);
-  written = (refl, some_word b s h, span_all is_word_byte (b ∷ s));
-  ends = not_in_word (drop n (b ∷ s)) (span_stops is_word_byte (b ∷ s));
-})
+      front = take n (b ∷ s);
+      whole = take_drop n (b ∷ s);
+      written = (refl, some_word b s h, span_all is_word_byte (b ∷ s));
+      ends = not_in_word (drop n (b ∷ s)) (span_stops is_word_byte (b ∷ s));
+    })
 
 backquote_sound : (b : ℕ) (s : List ℕ) (t : Lexeme) (rest : List ℕ) → (b == 96) ≡ true → name_at s ≡ found t rest → Front (b ∷ s) t rest
 backquote_sound b s t rest h e = rw (same_byte b 96 h) (name_sound s t rest e)
@@ -286,10 +286,10 @@ begins_of_token text t rest e =
     let f = front_sound (after_blanks text) t rest e in
     let behind : after_blanks text ≡ drop n text = ap (λ k. drop k text) (front_is_span is_blank text) in
     record {
-    blanks = take n text;
-    front = f.front;
-    whole = take_drop n text ∙ ap (λ s. take n text ++ s) (sym behind ∙ f.whole);
-    are_blanks = span_all is_blank text;
-    written = f.written;
-    ends = f.ends;
+      blanks = take n text;
+      front = f.front;
+      whole = take_drop n text ∙ ap (λ s. take n text ++ s) (sym behind ∙ f.whole);
+      are_blanks = span_all is_blank text;
+      written = f.written;
+      ends = f.ends;
     }

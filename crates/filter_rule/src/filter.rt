@@ -1,8 +1,8 @@
 //! What a filter's text says.
 
-ghost use Rattle.std.specs.Prelude.{◌≡◌, option_map, is_some};
+ghost use Rattle.std.specs.Prelude.{◌≡◌, Some, IfSome, option_map, is_some};
 ghost use Rattle.filter_rule.specs.Tokens.{token_at};
-ghost use Rattle.filter_rule.specs.FilterText.{key_word, this_mark, a_name, a_text, own_range, range_of, arguments, condition, selection, begins_with_select, has_ended, said_at, Says};
+ghost use Rattle.filter_rule.specs.FilterText.{key_word, this_mark, a_name, a_text, own_range, range_of, arguments, condition, selection, begins_with_select, has_ended, said_at, Said, Says};
 ghost use Rattle.filter_rule.specs.Seen.{seen_rest, seen_name, seen_rows, rows_said, said};
 
 use crate::token::{Token, first_token, skip_blanks};
@@ -180,4 +180,21 @@ pub(crate) fn filter_of(text: &[u8]) -> Option<Filter<'_>>
         table: None,
         condition: Condition::OwnVindex { range: text },
     })
+}
+
+impl<'f> Filter<'f> {
+    /// Reads a filter's text: nothing, for every row; a key range under the table's own vindex; or,
+    /// where its first word is `select`, `select * from` a table, for every row of it or `where
+    /// in_keyrange` says. Key words are in any case, blanks, tabs, CR and LF may part tokens, and a name
+    /// between backquotes is never a key word. `None` is for a `select` that has no such form. Whether a
+    /// range is one, and which vindexes and columns there are, isn't asked. Takes no memory.
+    pub fn read(text: &'f [u8]) -> Option<Filter<'f>>
+        ensures reads { option_map said result ≡ said_at text.now }
+        // What is read is what the text's tokens say.
+        ensures says { IfSome result (λ filter. Says text.now (said filter)) }
+        // What its tokens say is read.
+        ensures only { (meaning : Said) → Says text.now meaning → option_map said result ≡ Some meaning }
+    {
+        filter_of(text)
+    }
 }

@@ -22,6 +22,10 @@ mod types;
 
 pub use decision::Decision;
 pub use fault::PlanFault;
+pub use filter::{Condition, Filter};
 pub use plan::Plan;
 pub use table::{ColumnDef, Table};
 pub use types::is_whole_number;
+
+#[cfg(test)]
+mod tests;

@@ -34,7 +34,7 @@ impl Model for Plan {
     ghost use Rattle.std.specs.String.{string_bytes};
     ghost use Rattle.std.specs.Arc.{arc_value};
     ghost use Rattle.filter_rule.specs.Splitting.{SplitRow};
-ghost use Rattle.filter_rule.specs.PlanValue.{PlanValue};
+    ghost use Rattle.filter_rule.specs.PlanValue.{PlanValue};
 
     ghost Value = { PlanValue };
 

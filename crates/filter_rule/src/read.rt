@@ -80,10 +80,7 @@ fn plans_from(
 
 // The plans of a document within the limits.
 #[tactic(auto, unfolding(crate::specs::Reading::plans_of_document))]
-fn plans_of_document(
-    alloc: Global,
-    document: &Document<'_>,
-) -> Result<Vec<Arc<Plan>>, PlanFault>
+fn plans_of_document(alloc: Global, document: &Document<'_>) -> Result<Vec<Arc<Plan>>, PlanFault>
     requires { length document.now.tables ≤ 64 }
     ensures { Gives (λ v. map arc_value v.items) result (plans_of_document document.now) }
 {

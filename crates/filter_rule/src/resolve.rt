@@ -140,11 +140,7 @@ fn copied(alloc: Global, columns: &[ColumnText<'_>]) -> Result<Vec<ColumnDef>, P
 {
     let mut copies = Vec::new(alloc);
     for column in columns {
-        copies.push(ColumnDef::new(
-            alloc,
-            column.name.as_str(),
-            column.type_number,
-        )?)?;
+        copies.push(ColumnDef::new(alloc, column.name.as_str(), column.type_number)?)?;
     }
     Ok(copies)
 }
@@ -190,9 +186,7 @@ fn check_own_vindex(
 {
     match vindex {
         None => Ok(()),
-        Some((name, vindex)) => {
-            check_vindex_type(alloc, table, columns, name.as_str(), *vindex)
-        }
+        Some((name, vindex)) => { check_vindex_type(alloc, table, columns, name.as_str(), *vindex) }
     }
 }
 

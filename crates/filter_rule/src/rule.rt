@@ -134,11 +134,7 @@ fn vindex_named(bytes: &[u8]) -> Option<Vindex>
 }
 
 // The rows that a filter names, where its names and ranges are lawful.
-fn action_of<'v>(
-    alloc: Global,
-    place: Place,
-    rows: &Condition<'v>,
-) -> Result<Action<'v>, PlanFault>
+fn action_of<'v>(alloc: Global, place: Place, rows: &Condition<'v>) -> Result<Action<'v>, PlanFault>
     ensures { Gives action_seen result (action_of place.stream place.rule (rows_said rows.now)) }
 {
     match rows {

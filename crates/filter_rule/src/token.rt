@@ -1,6 +1,6 @@
 //! The tokens of a filter's text: words, names between backquotes, quoted texts and marks.
 
-ghost use Rattle.std.specs.Prelude.{◌≡◌, ◌==◌, ◌<◌, IfSome,  ◌≤◌, not, ℕ, ◌+◌, List, length, take, drop, position, option_map};
+ghost use Rattle.std.specs.Prelude.{◌≡◌, ◌==◌, ◌<◌, IfSome, ◌≤◌, not, ℕ, ◌+◌, List, length, take, drop, position, option_map};
 ghost use Rattle.filter_rule.specs.Tokens.{is_blank, is_word_byte, is_mark, after_blanks, up_to, front_len, token_at, front_token, name_at, quoted_at};
 ghost use Rattle.filter_rule.specs.Seen.{seen_token, seen_parts};
 

@@ -22,10 +22,11 @@ returns-in_err-settle_one-clause-settled c =
 
 pub loop-i-preserved : goal.loop-i-preserved
 loop-i-preserved c =
-    let d = get_or c.loop-i.decisions c.loop-i.i c.index-decisions-i.result in
-    (grind (arith, common_steps),
-    settle_turn c.args.place.stream c.args.place.rule (form_seen c.args.form.now) c.args.tables.now c.loop-i.decisions c.loop-i.i c.index-tables-i.result d c.settle_one.new.decision _
-    c.loop-i-test.true c.loop-i.invariant.0 c.index-tables-i.is (ap (get_or c.loop-i.decisions c.loop-i.i) c.index-decisions-i.is) c.in_ok-settle_one.ensures c.loop-i.invariant.1)
+    let d = get_or c.loop-i.decisions c.loop-i.i c.index-decisions-i.result in (
+      grind (arith, common_steps),
+      settle_turn c.args.place.stream c.args.place.rule (form_seen c.args.form.now) c.args.tables.now c.loop-i.decisions c.loop-i.i c.index-tables-i.result d c.settle_one.new.decision _
+          c.loop-i-test.true c.loop-i.invariant.0 c.index-tables-i.is (ap (get_or c.loop-i.decisions c.loop-i.i) c.index-decisions-i.is) c.in_ok-settle_one.ensures c.loop-i.invariant.1,
+    )
 
 pub returns-clause-settled : goal.returns-clause-settled
 returns-clause-settled c =

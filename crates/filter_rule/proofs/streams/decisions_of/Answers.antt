@@ -30,10 +30,11 @@ loop-n-preserved c =
     let so_far = ap (settle_all s tables n (drop n rs)) c.deref_mut.ensures.value ∙ c.loop-n.invariant.1 in
     let kept : length c.take_rule.new.decisions ≡ length tables = c.take_rule.ensures.count ∙ ap length c.deref_mut.ensures.value ∙ c.loop-n.invariant.0 in
     let count : c.loop-n.decisions.len ≡ length c.take_rule.new.decisions = omega (arith, c.deref_mut.ensures.len, c.take_rule.ensures.count) in
-    let back = written_back c.loop-n.decisions.len c.take_rule.new.decisions (drop (length c.take_rule.new.decisions) c.loop-n.decisions.items) count in
-    (ap length back ∙ kept,
-    ap (settle_all s tables (n + 1) (drop (n + 1) rs)) back
-    ∙ rules_turn s n tables rs c.index-rules-n.result ds c.take_rule.new.decisions whole c.loop-n-test.true c.index-rules-n.is c.in_ok-take_rule.ensures.settled so_far)
+    let back = written_back c.loop-n.decisions.len c.take_rule.new.decisions (drop (length c.take_rule.new.decisions) c.loop-n.decisions.items) count in (
+      ap length back ∙ kept,
+      ap (settle_all s tables (n + 1) (drop (n + 1) rs)) back
+          ∙ rules_turn s n tables rs c.index-rules-n.result ds c.take_rule.new.decisions whole c.loop-n-test.true c.index-rules-n.is c.in_ok-take_rule.ensures.settled so_far,
+    )
 
 pub returns : goal.returns
 returns c = rules_end c.args.stream c.loop-n.n c.args.tables.now c.args.rules.now c.loop-n.decisions.items _ c.loop-n-test.false c.loop-n.invariant.1
