@@ -1,0 +1,53 @@
+//! Whose feed it is.
+
+ghost use Rattle.std.specs.Prelude.{◌≡◌, IfSome, IfNone, Some, None};
+ghost use Rattle.source_feed.specs.SourceValue.{short_name, table_of, own_gtid, without_prefix};
+
+use std::marker::Model;
+use vevent::VGtid;
+
+/// The keyspace and the shard that a feed was recorded from.
+pub(crate) struct Source<'k> {
+    pub(crate) keyspace: &'k str,
+    pub(crate) shard: &'k str,
+}
+
+impl<'k> Model for Source<'k> {
+    ghost use Rattle.source_feed.specs.SourceValue.{SourceValue};
+
+    ghost Value = { SourceValue };
+
+    ghost view = { λ s. record { keyspace = s.keyspace.now; shard = s.shard.now } };
+}
+
+impl<'k> Source<'k> {
+    /// A table's name without the keyspace and its dot.
+    pub(crate) fn table<'h>(&self, name: &'h str) -> &'h str
+        ensures { result.now ≡ table_of self.now name.now }
+    {
+        if self.keyspace.is_empty() {
+            return name;
+        }
+        match name.strip_prefix(self.keyspace) {
+            None => name,
+            Some(rest) => rest.strip_prefix('.').unwrap_or(name),
+        }
+    }
+
+    /// The position text of the only entry, if it is that of the source.
+    pub(crate) fn own_gtid<'h>(&self, vgtid: &VGtid<'h>) -> Option<&'h str>
+        ensures some { IfSome result (λ text. own_gtid self.now vgtid.now ≡ Some text.now) }
+        ensures none { IfNone result (own_gtid self.now vgtid.now ≡ None) }
+    {
+        let mut entries = vgtid.shard_gtids();
+        let entry = entries.next()?;
+        if entries.next().is_some() {
+            return None;
+        }
+        if entry.keyspace() == self.keyspace && entry.shard() == self.shard {
+            Some(entry.gtid())
+        } else {
+            None
+        }
+    }
+}
