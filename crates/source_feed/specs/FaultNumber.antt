@@ -25,6 +25,11 @@ abbrev pub Refuses : {Y : Type 0} → FeedFault → Result Y FeedFault → Type 
 Refuses Memory definition = Unit {0}
 Refuses fault definition = definition ≡ Err fault
 
+-- the fault is the one that a definition names, unless memory ran out
+abbrev pub IsFault : FeedFault → Option FeedFault → Type 0
+IsFault Memory definition = Unit {0}
+IsFault fault definition = definition ≡ Some fault
+
 -- what a call answered, seen by `view`, is what the definition gives, unless memory ran out
 abbrev pub Gives : {X Y : Type 0} → (X → Y) → Result X FeedFault → Result Y FeedFault → Type 0
 Gives view (Ok x) definition = definition ≡ Ok (view x)

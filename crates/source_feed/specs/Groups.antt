@@ -7,13 +7,13 @@ use Rattle.gtid_set.specs.Position.{union_of, within_of}
 use Rattle.gtid_set.specs.Text.{position_of_text}
 use Rattle.gtid_set.specs.declared.interval.Interval.{Interval}
 use Rattle.gtid_set.specs.declared.fault.GtidFault.{GtidFault}
-use Rattle.vevent.specs.EventValue.{ChangeValue, FieldValue, ShardGtidValue, EventValue, Gtid, Begin, Commit, Rollback, Row, Field, Vgtid, Ignored}
+use Rattle.vevent.specs.EventValue.{ChangeValue, ShardGtidValue, EventValue, Gtid, Begin, Commit, Rollback, Row, Field, Vgtid, Ignored}
 use Rattle.source_feed.specs.declared.fault.FeedFault.{FeedFault}
 use Rattle.source_feed.specs.declared.fault.FeedFault.TheVariants.{FeedTooLong, BadPosition, NoPosition, Diverged, NoFields, ColumnCount, OpenAtEnd, ShardMissing, Misplaced}
 use Rattle.source_feed.specs.SourceValue.{SourceValue, table_of, own_gtid}
 use Rattle.source_feed.specs.GroupValue.{Position, TableChangeValue, GroupValue}
 use Rattle.source_feed.specs.EventList.{events_of}
-use Rattle.source_feed.specs.History.{History, is_open, columns_of, position_of, body_position, body_changes}
+use Rattle.source_feed.specs.History.{History, is_open, width_of, position_of, body_position, body_changes}
 
 -- ---- blocks
 
@@ -64,9 +64,9 @@ abbrev pub fits : ℕ → ChangeValue → Bool
 fits width change = if has_width width change.before then has_width width change.after else false
 
 -- the rows of a ROW event under the columns of its table's last FIELD
-abbrev pub row_fault : Option (List FieldValue) → List ChangeValue → Option FeedFault
+abbrev pub row_fault : Option ℕ → List ChangeValue → Option FeedFault
 row_fault None changes = Some NoFields
-row_fault (Some columns) changes = if list_all (fits (length columns)) changes then None else Some ColumnCount
+row_fault (Some width) changes = if list_all (fits width) changes then None else Some ColumnCount
 
 -- where a block ends with a position: it lies within the union of all earlier ones or contains it
 abbrev pub block_fault : SourceValue → History → Position → Option FeedFault
@@ -91,7 +91,7 @@ commit_fault source earlier (Some position) = block_fault source earlier positio
 -- the fault of an event behind a history, the first in the order of its type's rule
 abbrev pub fault_at : SourceValue → History → EventValue → Option FeedFault
 fault_at source earlier Begin = if is_open earlier then Some Misplaced else None
-fault_at source earlier (Row name changes) = if is_open earlier then row_fault (columns_of source earlier (table_of source name)) changes else Some Misplaced
+fault_at source earlier (Row name changes) = if is_open earlier then row_fault (width_of source earlier (table_of source name)) changes else Some Misplaced
 fault_at source earlier (Gtid text) = position_fault source earlier (position_of_text text)
 fault_at source earlier (Vgtid entries) = entry_fault source earlier (own_gtid source entries)
 fault_at source earlier Commit = if is_open earlier then commit_fault source earlier (body_position source earlier) else None

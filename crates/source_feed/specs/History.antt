@@ -1,5 +1,6 @@
 -- What the events before a place say. A history is a list of events, the latest one first.
-use Rattle.std.specs.Prelude.{ℕ, List, [], ◌∷◌, ◌++◌, Bool, true, false, Option, None, Some, Result, Ok, Err, if◌then◌else◌}
+use Rattle.std.specs.Prelude.{ℕ, List, [], ◌∷◌, ◌++◌, length, Bool, true, false, Option, None, Some, Result, Ok, Err, if◌then◌else◌}
+use Rattle.std.specs.Option.{option_map}
 use Rattle.std.specs.Str.{bytes_eq}
 use Rattle.gtid_set.specs.Text.{position_of_text}
 use Rattle.gtid_set.specs.declared.interval.Interval.{Interval}
@@ -24,6 +25,10 @@ abbrev pub columns_of : SourceValue → History → List ℕ → Option (List Fi
 columns_of source [] table = None
 columns_of source (Field name columns ∷ earlier) table = if bytes_eq (table_of source name) table then Some columns else columns_of source earlier table
 columns_of source (event ∷ earlier) table = columns_of source earlier table
+
+-- how many columns a table has
+abbrev pub width_of : SourceValue → History → List ℕ → Option ℕ
+width_of source history table = option_map length (columns_of source history table)
 
 -- the set of a position text, where it is one
 abbrev pub set_of : Result (List Interval) GtidFault → Option Position

@@ -7,4 +7,5 @@ pub mod Groups
 pub mod Grammar
 pub mod Run
 pub mod Widths
+pub mod BlockEnd
 pub mod Means

@@ -1,9 +1,13 @@
 //! One pass over the events of a feed.
 
-ghost use Rattle.std.specs.Prelude.{◌≡◌, ℕ, ◌+◌, ◌^◌, ◌<◌, ◌≤◌, ◌++◌, IsTrue, OnOk, IfOk, length};
-ghost use Rattle.vevent.specs.EventValue.{ChangeValue};
+ghost use Rattle.std.specs.Prelude.{◌≡◌, ℕ, List, ◌+◌, ◌^◌, ◌<◌, ◌≤◌, ◌++◌, [], Some, None, OnOk, OnErr, length};
+ghost use Rattle.std.specs.List.{list_all};
+ghost use Rattle.vevent.specs.EventValue as value;
+ghost use Rattle.vevent.specs.EventValue.{ShardGtidValue};
+ghost use Rattle.source_feed.specs.SourceValue.{SourceValue, own_gtid};
+ghost use Rattle.source_feed.specs.BlockEnd.{last_position, block_end};
 ghost use Rattle.source_feed.specs.FaultNumber.{Gives};
-ghost use Rattle.source_feed.specs.History.{changes_in};
+ghost use Rattle.source_feed.specs.History.{History, changes_in};
 ghost use Rattle.source_feed.specs.Groups.{fits};
 
 use crate::fault::FeedFault;
@@ -58,4 +62,176 @@ fn push_changes<'h>(
         }
     }
     Ok(())
+}
+
+/// All rows of a ROW event have so many columns.
+fn all_fit(width: usize, rows: RowChanges<'_>) -> bool
+    ensures { result ≡ list_all (fits width) rows.entry }
+{
+    for change in rows {
+        if !fits(width, &change) {
+            return false;
+        }
+    }
+    true
+}
+
+/// The position of the last group, or the empty one.
+fn last_position<'g>(groups: &'g [Group<'_>], empty: &'g GtidSet) -> &'g GtidSet
+    requires { empty.now ≡ [] }
+    ensures { result.now ≡ last_position groups.now }
+{
+    match groups.last() {
+        None => empty,
+        Some(group) => group.position(),
+    }
+}
+
+/// Ends a block: it is kept behind the groups, or skipped as a repeat, or refused as diverged.
+fn end_block<'h>(
+    alloc: Global,
+    groups: &mut Vec<Group<'h>>,
+    position: GtidSet,
+    changes: Vec<Change<'h>>,
+) -> Result<(), FeedFault>
+    requires { length groups.old.items + 1 < 2 ^ 32 }
+    ensures block { Gives (λ _. groups.new.items) result (block_end groups.old.items position changes.entry.items) }
+    ensures grows { length groups.new.items ≤ length groups.old.items + 1 }
+{
+    let empty = GtidSet::new(alloc);
+    let last = last_position(groups, &empty);
+    if position.is_within(last) {
+        return Ok(());
+    }
+    let number = groups.len() as u32 + 1;
+    if !last.is_within(&position) {
+        return Err(FeedFault::Diverged(number));
+    }
+    groups.push(Group {
+        number,
+        position,
+        changes,
+    })?;
+    Ok(())
+}
+
+impl<'h> Pass<'h> {
+    ghost use Rattle.source_feed.specs.Means.{Means, Puts};
+    ghost use Rattle.vevent.specs.Seen.{event_value};
+
+    /// Nothing is known yet. Takes no memory.
+    pub(crate) fn new(alloc: Global) -> Pass<'h>
+        ensures meaning { (source : SourceValue) → Means source [] result }
+        ensures none { result.groups.items ≡ [] }
+    {
+        Pass {
+            transaction: None,
+            widths: Widths::new(alloc),
+            groups: Vec::new(alloc),
+        }
+    }
+
+    /// Takes one more event.
+    pub(crate) fn put(
+        &mut self,
+        alloc: Global,
+        source: &Source<'_>,
+        event: Event<'h>,
+    ) -> Result<(), FeedFault>
+        requires { length self.old.groups.items + 1 < 2 ^ 32 }
+        ensures meaning { (earlier : History) → Means source.now earlier self.old → Puts source.now earlier (event_value event.entry) result self.new }
+        ensures grows { length self.new.groups.items ≤ length self.old.groups.items + 1 }
+    {
+        match event {
+            Event::Begin => self.begin(alloc),
+            Event::Commit => self.commit(alloc),
+            Event::Rollback => {
+                self.transaction = None;
+                Ok(())
+            }
+            Event::Row(row) => self.put_row(source, &row),
+            Event::Field(field) => self.put_field(source, &field),
+            Event::Gtid(text) => self.put_position(alloc, text),
+            Event::Vgtid(vgtid) => match source.own_gtid(&vgtid) {
+                Some(text) => self.put_position(alloc, text),
+                None => Err(FeedFault::ShardMissing),
+            },
+            Event::Ignored(_) => Ok(()),
+        }
+    }
+
+    /// BEGIN opens a transaction; inside of one it is refused.
+    fn begin(&mut self, alloc: Global) -> Result<(), FeedFault>
+        ensures meaning { (source : SourceValue) (earlier : History) → Means source earlier self.old → Puts source earlier value.Begin result self.new }
+        ensures same { self.new.groups.items ≡ self.old.groups.items }
+    {
+        if self.transaction.is_some() {
+            return Err(FeedFault::Misplaced);
+        }
+        self.transaction = Some(Transaction {
+            position: None,
+            changes: Vec::new(alloc),
+        });
+        Ok(())
+    }
+
+    /// COMMIT ends the transaction as a block; outside of one it is ignored.
+    fn commit(&mut self, alloc: Global) -> Result<(), FeedFault>
+        requires { length self.old.groups.items + 1 < 2 ^ 32 }
+        ensures meaning { (source : SourceValue) (earlier : History) → Means source earlier self.old → Puts source earlier value.Commit result self.new }
+        ensures grows { length self.new.groups.items ≤ length self.old.groups.items + 1 }
+    {
+        let Some(Transaction { position, changes }) = self.transaction.take() else {
+            return Ok(());
+        };
+        let Some(position) = position else {
+            return Err(FeedFault::NoPosition);
+        };
+        end_block(alloc, &mut self.groups, position, changes)
+    }
+
+    /// A ROW needs an open transaction, a FIELD of its table, and rows with as many columns.
+    fn put_row(&mut self, source: &Source<'_>, row: &RowEvent<'h>) -> Result<(), FeedFault>
+        ensures meaning { (earlier : History) → Means source.now earlier self.old → Puts source.now earlier (value.Row row.now.table row.now.changes) result self.new }
+        ensures same { self.new.groups.items ≡ self.old.groups.items }
+    {
+        let table = source.table(row.table());
+        let Some(transaction) = &mut self.transaction else {
+            return Err(FeedFault::Misplaced);
+        };
+        let Some(width) = self.widths.get(table) else {
+            return Err(FeedFault::NoFields);
+        };
+        if !all_fit(width, row.changes()) {
+            return Err(FeedFault::ColumnCount);
+        }
+        push_changes(&mut transaction.changes, table, row.changes())?;
+        Ok(())
+    }
+
+    /// FIELD sets the columns of its table from here on.
+    fn put_field(&mut self, source: &Source<'_>, field: &FieldEvent<'h>) -> Result<(), FeedFault>
+        ensures meaning { (earlier : History) → Means source.now earlier self.old → Puts source.now earlier (value.Field field.now.table field.now.fields) result self.new }
+        ensures same { self.new.groups.items ≡ self.old.groups.items }
+    {
+        self.widths.set(source.table(field.table()), field.len())?;
+        Ok(())
+    }
+
+    /// A position counts for the open transaction if no other follows; outside of one it ends a block.
+    fn put_position(&mut self, alloc: Global, text: &str) -> Result<(), FeedFault>
+        requires { length self.old.groups.items + 1 < 2 ^ 32 }
+        ensures gtid { (source : SourceValue) (earlier : History) → Means source earlier self.old → Puts source earlier (value.Gtid text.now) result self.new }
+        ensures vgtid { (source : SourceValue) (earlier : History) (entries : List ShardGtidValue) → own_gtid source entries ≡ Some text.now → Means source earlier self.old → Puts source earlier (value.Vgtid entries) result self.new }
+        ensures grows { length self.new.groups.items ≤ length self.old.groups.items + 1 }
+    {
+        let position = GtidSet::parse(alloc, text)?;
+        match &mut self.transaction {
+            Some(transaction) => {
+                transaction.position = Some(position);
+                Ok(())
+            }
+            None => end_block(alloc, &mut self.groups, position, Vec::new(alloc)),
+        }
+    }
 }

@@ -1,7 +1,7 @@
 //! Whose feed it is.
 
-ghost use Rattle.std.specs.Prelude.{◌≡◌, IfSome, IfNone, Some, None};
-ghost use Rattle.source_feed.specs.SourceValue.{short_name, table_of, own_gtid, without_prefix};
+ghost use Rattle.std.specs.Prelude.{◌≡◌, ◌≢◌, ℕ, List, [], ◌∷◌, ◌++◌, IfSome, IfNone, Some, None};
+ghost use Rattle.source_feed.specs.SourceValue.{table_of, own_gtid};
 
 use std::marker::Model;
 use vevent::VGtid;
@@ -20,6 +20,14 @@ impl<'k> Model for Source<'k> {
     ghost view = { λ s. record { keyspace = s.keyspace.now; shard = s.shard.now } };
 }
 
+/// What stands behind the keyspace and a dot, if the name starts with them.
+fn behind_keyspace<'h>(keyspace: &str, name: &'h str) -> Option<&'h str>
+    ensures some { IfSome result (λ rest. name.now ≡ (keyspace.now ++ 46 ∷ []) ++ rest.now) }
+    ensures none { IfNone result ((rest : List ℕ) → name.now ≢ (keyspace.now ++ 46 ∷ []) ++ rest) }
+{
+    name.strip_prefix(keyspace)?.strip_prefix('.')
+}
+
 impl<'k> Source<'k> {
     /// A table's name without the keyspace and its dot.
     pub(crate) fn table<'h>(&self, name: &'h str) -> &'h str
@@ -28,10 +36,7 @@ impl<'k> Source<'k> {
         if self.keyspace.is_empty() {
             return name;
         }
-        match name.strip_prefix(self.keyspace) {
-            None => name,
-            Some(rest) => rest.strip_prefix('.').unwrap_or(name),
-        }
+        behind_keyspace(self.keyspace, name).unwrap_or(name)
     }
 
     /// The position text of the only entry, if it is that of the source.

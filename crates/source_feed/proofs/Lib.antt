@@ -1,0 +1,4 @@
+pub mod Names
+pub mod Positions
+pub mod Blocks
+pub mod Steps
