@@ -45,7 +45,7 @@ pub fault_from : {Y : Type 0} (fault : FeedFault) (definition : Result Y FeedFau
 fault_from Memory definition expected h r = tt
 fault_from fault definition expected h r = h r
 
-ends_before : (source : SourceValue) (earlier : History) (old : Pass) → Means source earlier old → Ends source earlier old.groups.items
+pub ends_before : (source : SourceValue) (earlier : History) (old : Pass) → Means source earlier old → Ends source earlier old.groups.items
 ends_before source earlier old m = record { groups = m.groups; last = m.last; canonical = m.seen_canonical }
 
 -- ---- COMMIT
@@ -119,7 +119,7 @@ pub position-puts : {X : Type 0} (source : SourceValue) (earlier : History) (eve
     → body_kept new.transaction ≡ None → ((table : List ℕ) → width_in new.widths table ≡ width_in old.widths table)
     → Gives (λ _. new.groups.items) result (block_end old.groups.items position [])
     → Puts source earlier event result new
-position-puts source earlier event text old new result position carries read p m b n w g =
+position-puts {X = X} source earlier event text old new result position carries read p m b n w g =
     let closed : is_open earlier ≡ false = closed_from source earlier (sym b ∙ m.body) in
     let block : block_at source earlier event ≡ Some (record { position = position; changes = [] })
       = carries.block earlier ∙ cond-false (is_open earlier) _ _ closed ∙ ap (λ r. block_at_position (set_of r) []) read in

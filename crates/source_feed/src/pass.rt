@@ -1,14 +1,14 @@
 //! One pass over the events of a feed.
 
-ghost use Rattle.std.specs.Prelude.{◌≡◌, ℕ, List, ◌+◌, ◌^◌, ◌<◌, ◌≤◌, ◌++◌, [], Some, None, OnOk, OnErr, length};
+ghost use Rattle.std.specs.Prelude.{◌≡◌, ℕ, List, ◌+◌, ◌^◌, ◌<◌, ◌≤◌, ◌++◌, [], Some, None, OnOk, IfErr, length};
 ghost use Rattle.std.specs.List.{list_all};
 ghost use Rattle.vevent.specs.EventValue as value;
 ghost use Rattle.vevent.specs.EventValue.{ShardGtidValue};
 ghost use Rattle.source_feed.specs.SourceValue.{SourceValue, own_gtid};
 ghost use Rattle.source_feed.specs.BlockEnd.{last_position, block_end};
-ghost use Rattle.source_feed.specs.FaultNumber.{Gives};
+ghost use Rattle.source_feed.specs.FaultNumber.{Gives, IsFault};
 ghost use Rattle.source_feed.specs.History.{History, changes_in};
-ghost use Rattle.source_feed.specs.Groups.{fits};
+ghost use Rattle.source_feed.specs.Groups.{fits, row_fault};
 
 use crate::fault::FeedFault;
 use crate::group::{Change, Group};
@@ -115,6 +115,31 @@ fn end_block<'h>(
     Ok(())
 }
 
+impl<'h> Transaction<'h> {
+    /// Puts the changes of a ROW event behind the others, under the number of columns that its table
+    /// has, if that is known.
+    fn put_row(
+        &mut self,
+        table: &'h str,
+        width: Option<usize>,
+        row: &RowEvent<'h>,
+    ) -> Result<(), FeedFault>
+        ensures fits { OnOk result (row_fault width row.now.changes ≡ None) }
+        ensures position { OnOk result (self.new.position ≡ self.old.position) }
+        ensures changes { OnOk result (self.new.changes.items ≡ self.old.changes.items ++ changes_in table.now row.now.changes) }
+        ensures err { IfErr result (λ fault. IsFault fault (row_fault width row.now.changes)) }
+    {
+        let Some(width) = width else {
+            return Err(FeedFault::NoFields);
+        };
+        if !all_fit(width, row.changes()) {
+            return Err(FeedFault::ColumnCount);
+        }
+        push_changes(&mut self.changes, table, row.changes())?;
+        Ok(())
+    }
+}
+
 impl<'h> Pass<'h> {
     ghost use Rattle.source_feed.specs.Means.{Means, Puts};
     ghost use Rattle.vevent.specs.Seen.{event_value};
@@ -196,17 +221,11 @@ impl<'h> Pass<'h> {
         ensures same { self.new.groups.items ≡ self.old.groups.items }
     {
         let table = source.table(row.table());
-        let Some(transaction) = &mut self.transaction else {
-            return Err(FeedFault::Misplaced);
-        };
-        let Some(width) = self.widths.get(table) else {
-            return Err(FeedFault::NoFields);
-        };
-        if !all_fit(width, row.changes()) {
-            return Err(FeedFault::ColumnCount);
+        let width = self.widths.get(table);
+        match &mut self.transaction {
+            Some(transaction) => transaction.put_row(table, width, row),
+            None => Err(FeedFault::Misplaced),
         }
-        push_changes(&mut transaction.changes, table, row.changes())?;
-        Ok(())
     }
 
     /// FIELD sets the columns of its table from here on.
