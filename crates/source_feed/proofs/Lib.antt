@@ -2,3 +2,5 @@ pub mod Names
 pub mod Positions
 pub mod Blocks
 pub mod Steps
+pub mod RunLaws
+pub mod Messages

@@ -1,5 +1,5 @@
 -- The union of a set with one that lies within it, and with one that contains it.
-use Rattle.std.proofs.Common.{◌≡◌, ℕ, List, true}
+use Rattle.std.proofs.Common.{◌≡◌, true}
 use Rattle.gtid_set.specs.Position.{union_of, within_of, IsCanonical}
 use Rattle.source_feed.specs.GroupValue.{Position}
 

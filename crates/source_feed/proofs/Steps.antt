@@ -1,6 +1,7 @@
 -- One event more, for the events that may end a block.
 use Rattle.std.proofs.Common.{◌≡◌, ℕ, List, [], ◌∷◌, Bool, true, false, cond, Option, None, Some, Result, Ok, Err, refl, sym, ◌∙◌, ap, arith, inl, inr}
 use Rattle.std.proofs.lemmas.Bool.{cases_Bool, cond-true, cond-false}
+use Rattle.std.specs.Option.{option_map}
 use Rattle.gtid_set.specs.Position.{IsCanonical}
 use Rattle.gtid_set.specs.Text.{position_of_text}
 use Rattle.vevent.specs.EventValue.{ShardGtidValue, EventValue, Gtid, Commit, Vgtid}
@@ -13,7 +14,7 @@ use Rattle.source_feed.specs.SourceValue.{SourceValue, own_gtid}
 use Rattle.source_feed.specs.History.{History, is_open, width_of, set_of, set_of_text, position_of, or_else, body_position, body_changes}
 use Rattle.source_feed.specs.Groups.{block_at, block_at_position, block_fault, position_fault, entry_fault, commit_fault, fault_at}
 use Rattle.source_feed.specs.BlockEnd.{block_end}
-use Rattle.source_feed.specs.Widths.{width_in}
+use Rattle.source_feed.specs.Widths.{width_in, counted}
 use Rattle.source_feed.specs.Means.{Body, body_of, body_kept, Means, Puts}
 use Rattle.source_feed.proofs.Blocks.{Ends, ends-none, BlockEnds, block_end-ends}
 
@@ -140,7 +141,7 @@ position-puts {X = X} source earlier event text old new result position carries 
         let last : body_position source (event ∷ earlier) ≡ Some position = carries.position earlier ∙ ap (λ r. or_else (set_of r) (body_position source earlier)) read in
         (fault ∙ ends.0, record {
           body = n ∙ sym (cond-false (is_open (event ∷ earlier)) _ _ (carries.same_open earlier ∙ closed));
-          widths = λ table. w table ∙ m.widths table ∙ sym (carries.widths earlier table);
+          widths = λ table. w table ∙ m.widths table ∙ sym (ap (option_map counted) (carries.widths earlier table));
           groups = ends.1.groups;
           last = ends.1.last;
           seen_canonical = ends.1.canonical;

@@ -4,7 +4,7 @@ use Rattle.proto_wire.specs.Reading.{Reading}
 use Rattle.proto_wire.specs.Frame.{frames_of}
 use Rattle.proto_wire.specs.declared.fault.FrameFault.{FrameFault}
 use Rattle.vevent.specs.EventValue.{EventValue}
-use Rattle.vevent.specs.Stub.{response_of}
+use Rattle.vevent.specs.Response.{response_of}
 use Rattle.vevent.specs.declared.fault.EventFault.{EventFault}
 use Rattle.source_feed.specs.declared.fault.FeedFault.{FeedFault}
 use Rattle.source_feed.specs.declared.fault.FeedFault.TheVariants.{Frame, Event}
@@ -13,6 +13,11 @@ use Rattle.source_feed.specs.declared.fault.FeedFault.TheVariants.{Frame, Event}
 abbrev pub end_of : Option FrameFault → Option FeedFault
 end_of None = None
 end_of (Some fault) = Some Frame
+
+-- the end of a message's events: what is no list of fields, or no event, is refused in its place
+abbrev pub end_of_message : Option EventFault → Option FeedFault
+end_of_message None = None
+end_of_message (Some fault) = Some (Event fault)
 
 -- a message's events, and behind them others; a fault in the message ends the events there
 abbrev pub events_then : List EventValue → Option EventFault → Reading EventValue FeedFault → Reading EventValue FeedFault

@@ -1,5 +1,6 @@
 -- What the pass over a feed's events keeps, against all events before.
 use Rattle.std.specs.Prelude.{◌≡◌, ℕ, ◌+◌, List, [], ◌∷◌, ◌++◌, length, Bool, true, false, Option, None, Some, Result, Ok, Err, if◌then◌else◌}
+use Rattle.std.specs.Option.{option_map}
 use Rattle.gtid_set.specs.Position.{within_of, IsCanonical}
 use Rattle.vevent.specs.EventValue.{EventValue}
 use Rattle.source_feed.specs.declared.fault.FeedFault.{FeedFault}
@@ -12,7 +13,7 @@ use Rattle.source_feed.specs.GroupValue.{Position, TableChangeValue, GroupValue}
 use Rattle.source_feed.specs.SourceValue.{SourceValue}
 use Rattle.source_feed.specs.History.{History, is_open, width_of, body_position, body_changes}
 use Rattle.source_feed.specs.Groups.{Block, seen, groups_of, fault_at}
-use Rattle.source_feed.specs.Widths.{width_in}
+use Rattle.source_feed.specs.Widths.{width_in, counted}
 
 -- what an open transaction has so far
 pub record Body : Type 0 where
@@ -30,7 +31,7 @@ body_kept (Some transaction) = Some (record { position = transaction.position; c
 -- all earlier positions.
 pub record Means (source : SourceValue) (history : History) (pass : Pass) : Type 0 where
   pub body : body_kept pass.transaction ≡ body_of source history
-  pub widths : (table : List ℕ) → width_in pass.widths table ≡ width_of source history table
+  pub widths : (table : List ℕ) → width_in pass.widths table ≡ option_map counted (width_of source history table)
   pub groups : pass.groups.items ≡ groups_of source history
   pub last : last_position pass.groups.items ≡ seen source history
   pub seen_canonical : IsCanonical (seen source history)

@@ -1,19 +1,20 @@
 //! Groups of changes.
 
 ghost use Rattle.std.specs.Prelude.{◌≡◌};
+ghost use Rattle.std.specs.Option.{option_copied};
 ghost use Rattle.source_feed.specs.GroupValue.{TableChangeValue, GroupValue};
 
 use gtid_set::GtidSet;
 use row_view::RowView;
 use std::marker::Model;
-use vevent::RowChange;
 
-/// A change of one row of a table. It keeps slices of the feed's buffer alone; a view of a row is made
-/// when it is asked for.
+/// A change of one row of a table. Nothing is copied: its name and its rows are slices of the feed's
+/// buffer.
 #[derive(Drop)]
 pub struct Change<'h> {
     pub(crate) table: &'h str,
-    pub(crate) rows: RowChange<'h>,
+    pub(crate) before: Option<RowView<'h>>,
+    pub(crate) after: Option<RowView<'h>>,
 }
 
 impl<'h> Model for Change<'h> {
@@ -21,7 +22,7 @@ impl<'h> Model for Change<'h> {
 
     ghost Value = { TableChangeValue };
 
-    ghost view = { λ c. record { table = c.table.now; before = c.rows.before; after = c.rows.after } };
+    ghost view = { λ c. record { table = c.table.now; before = c.before; after = c.after } };
 }
 
 impl<'h> Change<'h> {
@@ -32,18 +33,18 @@ impl<'h> Change<'h> {
         self.table
     }
 
-    /// The row before the change, or `None` for an insert. Takes no memory.
-    pub fn before(&self) -> Option<RowView<'h>>
-        ensures { result ≡ self.now.before }
+    /// The row before the change, or `None` for an insert.
+    pub fn before(&self) -> Option<&RowView<'h>>
+        ensures { option_copied result ≡ self.now.before }
     {
-        self.rows.before()
+        self.before.as_ref()
     }
 
-    /// The row after the change, or `None` for a delete. Takes no memory.
-    pub fn after(&self) -> Option<RowView<'h>>
-        ensures { result ≡ self.now.after }
+    /// The row after the change, or `None` for a delete.
+    pub fn after(&self) -> Option<&RowView<'h>>
+        ensures { option_copied result ≡ self.now.after }
     {
-        self.rows.after()
+        self.after.as_ref()
     }
 }
 

@@ -1,6 +1,7 @@
 //! One pass over the events of a feed.
 
-ghost use Rattle.std.specs.Prelude.{◌≡◌, ℕ, List, ◌+◌, ◌^◌, ◌<◌, ◌≤◌, ◌++◌, [], Some, None, OnOk, IfErr, length};
+ghost use Rattle.std.specs.Prelude.{◌≡◌, ℕ, List, Option, ◌+◌, ◌^◌, ◌<◌, ◌≤◌, ◌++◌, [], Some, None, Ok, OnOk, IfErr, length};
+ghost use Rattle.std.specs.Option.{option_map};
 ghost use Rattle.std.specs.List.{list_all};
 ghost use Rattle.vevent.specs.EventValue as value;
 ghost use Rattle.vevent.specs.EventValue.{ShardGtidValue};
@@ -8,7 +9,9 @@ ghost use Rattle.source_feed.specs.SourceValue.{SourceValue, own_gtid};
 ghost use Rattle.source_feed.specs.BlockEnd.{last_position, block_end};
 ghost use Rattle.source_feed.specs.FaultNumber.{Gives, IsFault};
 ghost use Rattle.source_feed.specs.History.{History, changes_in};
-ghost use Rattle.source_feed.specs.Groups.{fits, row_fault};
+ghost use Rattle.source_feed.specs.Run.{finish};
+ghost use Rattle.source_feed.specs.Widths.{counted};
+ghost use Rattle.source_feed.specs.Groups.{has_width, fits, row_fault};
 
 use crate::fault::FeedFault;
 use crate::group::{Change, Group};
@@ -16,7 +19,8 @@ use crate::source::Source;
 use crate::widths::Widths;
 use gtid_set::GtidSet;
 use std::alloc::{AllocError, Global};
-use vevent::{Event, FieldEvent, RowChange, RowChanges, RowEvent};
+use row_view::RowView;
+use vevent::{ColumnFields, Event, FieldEvent, RowChanges, RowEvent};
 
 /// What the open transaction has so far.
 #[derive(Drop)]
@@ -34,15 +38,28 @@ pub(crate) struct Pass<'h> {
     /// the number of columns of each table's last FIELD
     widths: Widths<'h>,
     /// the groups so far; the last one's position contains all earlier positions
-    pub(crate) groups: Vec<Group<'h>>,
+    groups: Vec<Group<'h>>,
 }
 
-/// The rows of a change have so many columns.
-fn fits(width: usize, change: &RowChange<'_>) -> bool
-    ensures { result ≡ fits width change.now }
+/// The number of columns of a FIELD event; more than 65,535 count as 65,535.
+fn column_count(fields: ColumnFields<'_>) -> u16
+    ensures { result ≡ counted (length fields.entry) }
 {
-    change.before().is_none_or(|row| row.len() == width)
-        && change.after().is_none_or(|row| row.len() == width)
+    let mut count: u16 = 0;
+    for _column in fields {
+        count = count.saturating_add(1);
+    }
+    count
+}
+
+/// A row has so many columns, if there is one.
+fn has_width(width: u16, row: &Option<RowView<'_>>) -> bool
+    ensures { (columns : ℕ) → width ≡ counted columns → result ≡ has_width columns row.now }
+{
+    match row {
+        None => true,
+        Some(row) => row.len() == usize::from(width),
+    }
 }
 
 /// Puts the changes of a ROW event behind others.
@@ -54,10 +71,11 @@ fn push_changes<'h>(
     ensures { OnOk result (changes.new.items ≡ changes.old.items ++ changes_in table.now rows.entry) }
 {
     for change in rows {
-        if change.before().is_some() || change.after().is_some() {
+        if change.before.is_some() || change.after.is_some() {
             changes.push(Change {
                 table,
-                rows: change,
+                before: change.before,
+                after: change.after,
             })?;
         }
     }
@@ -65,11 +83,11 @@ fn push_changes<'h>(
 }
 
 /// All rows of a ROW event have so many columns.
-fn all_fit(width: usize, rows: RowChanges<'_>) -> bool
-    ensures { result ≡ list_all (fits width) rows.entry }
+fn all_fit(width: u16, rows: RowChanges<'_>) -> bool
+    ensures { (columns : ℕ) → width ≡ counted columns → result ≡ list_all (fits columns) rows.entry }
 {
     for change in rows {
-        if !fits(width, &change) {
+        if !has_width(width, &change.before) || !has_width(width, &change.after) {
             return false;
         }
     }
@@ -121,13 +139,13 @@ impl<'h> Transaction<'h> {
     fn put_row(
         &mut self,
         table: &'h str,
-        width: Option<usize>,
+        width: Option<u16>,
         row: &RowEvent<'h>,
     ) -> Result<(), FeedFault>
-        ensures fits { OnOk result (row_fault width row.now.changes ≡ None) }
+        ensures fits { (columns : Option ℕ) → width ≡ option_map counted columns → OnOk result (row_fault columns row.now.changes ≡ None) }
         ensures position { OnOk result (self.new.position ≡ self.old.position) }
         ensures changes { OnOk result (self.new.changes.items ≡ self.old.changes.items ++ changes_in table.now row.now.changes) }
-        ensures err { IfErr result (λ fault. IsFault fault (row_fault width row.now.changes)) }
+        ensures err { (columns : Option ℕ) → width ≡ option_map counted columns → IfErr result (λ fault. IsFault fault (row_fault columns row.now.changes)) }
     {
         let Some(width) = width else {
             return Err(FeedFault::NoFields);
@@ -142,7 +160,7 @@ impl<'h> Transaction<'h> {
 
 impl<'h> Pass<'h> {
     ghost use Rattle.source_feed.specs.Means.{Means, Puts};
-    ghost use Rattle.vevent.specs.Seen.{event_value};
+    ghost use Rattle.vevent.specs.EventView.{event_value};
 
     /// Nothing is known yet. Takes no memory.
     pub(crate) fn new(alloc: Global) -> Pass<'h>
@@ -185,6 +203,21 @@ impl<'h> Pass<'h> {
         }
     }
 
+    /// The groups, where no transaction is open.
+    pub(crate) fn end(self) -> Result<Vec<Group<'h>>, FeedFault>
+        ensures { (source : SourceValue) (history : History) → Means source history self.entry → Gives (λ all. all.items) result (finish source (Ok history)) }
+    {
+        let Pass {
+            transaction,
+            widths: _,
+            groups,
+        } = self;
+        if transaction.is_some() {
+            return Err(FeedFault::OpenAtEnd);
+        }
+        Ok(groups)
+    }
+
     /// BEGIN opens a transaction; inside of one it is refused.
     fn begin(&mut self, alloc: Global) -> Result<(), FeedFault>
         ensures meaning { (source : SourceValue) (earlier : History) → Means source earlier self.old → Puts source earlier value.Begin result self.new }
@@ -217,10 +250,10 @@ impl<'h> Pass<'h> {
 
     /// A ROW needs an open transaction, a FIELD of its table, and rows with as many columns.
     fn put_row(&mut self, source: &Source<'_>, row: &RowEvent<'h>) -> Result<(), FeedFault>
-        ensures meaning { (earlier : History) → Means source.now earlier self.old → Puts source.now earlier (value.Row row.now.table row.now.changes) result self.new }
+        ensures meaning { (earlier : History) → Means source.now earlier self.old → Puts source.now earlier (value.Row row.now.table_name row.now.changes) result self.new }
         ensures same { self.new.groups.items ≡ self.old.groups.items }
     {
-        let table = source.table(row.table());
+        let table = source.table(row.table_name());
         let width = self.widths.get(table);
         match &mut self.transaction {
             Some(transaction) => transaction.put_row(table, width, row),
@@ -230,10 +263,10 @@ impl<'h> Pass<'h> {
 
     /// FIELD sets the columns of its table from here on.
     fn put_field(&mut self, source: &Source<'_>, field: &FieldEvent<'h>) -> Result<(), FeedFault>
-        ensures meaning { (earlier : History) → Means source.now earlier self.old → Puts source.now earlier (value.Field field.now.table field.now.fields) result self.new }
+        ensures meaning { (earlier : History) → Means source.now earlier self.old → Puts source.now earlier (value.Field field.now.table_name field.now.fields) result self.new }
         ensures same { self.new.groups.items ≡ self.old.groups.items }
     {
-        self.widths.set(source.table(field.table()), field.len())?;
+        self.widths.set(source.table(field.table_name()), column_count(field.fields()))?;
         Ok(())
     }
 

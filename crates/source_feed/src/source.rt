@@ -7,6 +7,7 @@ use std::marker::Model;
 use vevent::VGtid;
 
 /// The keyspace and the shard that a feed was recorded from.
+#[derive(Drop)]
 pub(crate) struct Source<'k> {
     pub(crate) keyspace: &'k str,
     pub(crate) shard: &'k str,
@@ -44,13 +45,13 @@ impl<'k> Source<'k> {
         ensures some { IfSome result (λ text. own_gtid self.now vgtid.now ≡ Some text.now) }
         ensures none { IfNone result (own_gtid self.now vgtid.now ≡ None) }
     {
-        let mut entries = vgtid.shard_gtids();
+        let mut entries = vgtid.entries();
         let entry = entries.next()?;
         if entries.next().is_some() {
             return None;
         }
-        if entry.keyspace() == self.keyspace && entry.shard() == self.shard {
-            Some(entry.gtid())
+        if entry.keyspace == self.keyspace && entry.shard == self.shard {
+            Some(entry.gtid)
         } else {
             None
         }
