@@ -1,17 +1,19 @@
 -- The groups of some events are what taking them one after another gives.
-use Rattle.std.proofs.Common.{◌≡◌, ℕ, List, [], ◌∷◌, ◌++◌, ◌⊎◌, Bool, true, false, cond, Option, None, Some, Result, Ok, Err, refl, sym, ◌∙◌, ap, inl, inr}
+use Rattle.std.proofs.Common.{◌≡◌, ℕ, ◌^◌, ◌<◌, nat_lt, length, List, [], ◌∷◌, ◌++◌, ◌⊎◌, Bool, true, false, cond, Option, None, Some, Result, Ok, Err, refl, sym, ◌∙◌, ap, subst, arith, inl, inr}
 use Rattle.std.proofs.lemmas.Bool.{cases_Bool, cond-true, cond-false}
+use Rattle.std.proofs.lemmas.Bool.Decides.{nat_tests}
 use mathlib.Core.List.{reverse_aux}
 use Rattle.proto_wire.specs.Reading.{Reading}
 use Rattle.vevent.specs.EventValue.{EventValue}
 use Rattle.vevent.specs.declared.fault.EventFault.{EventFault}
 use Rattle.source_feed.specs.declared.fault.FeedFault.{FeedFault}
 use Rattle.source_feed.specs.declared.fault.FeedFault.TheVariants.{Event, OpenAtEnd}
+use Rattle.source_feed.specs.FaultNumber.{Gives}
 use Rattle.source_feed.specs.GroupValue.{GroupValue}
 use Rattle.source_feed.specs.SourceValue.{SourceValue}
-use Rattle.source_feed.specs.EventList.{end_of_message, events_then}
+use Rattle.source_feed.specs.EventList.{end_of_message, events_then, events_of}
 use Rattle.source_feed.specs.History.{History, is_open}
-use Rattle.source_feed.specs.Groups.{fault_at, first_fault, or_fault, closed, groups_in, groups_of}
+use Rattle.source_feed.specs.Groups.{fault_at, first_fault, or_fault, closed, groups_in, groups_of, groups}
 use Rattle.source_feed.specs.Run.{unless, run, finish}
 
 -- an option is nothing or something
@@ -83,3 +85,12 @@ pub run-events_then : (source : SourceValue) (history : History) (events : List 
       ≡ then (run source history events (end_of_message fault)) (λ h. run source h others.items others.fault)
 run-events_then source history events None others = run-append source history events others.items others.fault
 run-events_then source history events (Some fault) others = run-ended source history events (Event fault) (λ h. run source h others.items others.fault)
+
+-- ---- a whole feed
+
+pub groups-run : (feed : List ℕ) (source : SourceValue) → length feed < 2 ^ 31
+    → groups feed source ≡ finish source (run source [] (events_of feed).items (events_of feed).fault)
+groups-run feed source short = cond-true (nat_lt (length feed) (2 ^ 31)) _ _ (grind (arith, nat_tests)) ∙ groups_in-run source (events_of feed)
+
+pub gives_along : {X Y : Type 0} (view : X → Y) (result : Result X FeedFault) (one other : Result Y FeedFault) → one ≡ other → Gives view result other → Gives view result one
+gives_along {X = X} {Y = Y} view result one other e g = let P : Result Y FeedFault → Type 0 = λ d. Gives view result d in subst P (sym e) g
