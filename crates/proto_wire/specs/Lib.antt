@@ -1,0 +1,6 @@
+pub mod FaultNumber
+pub mod Reading
+pub mod Varint
+pub mod Field
+pub mod Frame
+pub mod Zigzag

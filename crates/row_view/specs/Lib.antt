@@ -1,1 +1,5 @@
 pub mod ColumnValue
+pub mod FaultNumber
+pub mod RowFields
+pub mod Row
+pub mod Counted

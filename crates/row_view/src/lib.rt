@@ -2,5 +2,17 @@
 #![tactic(auto)]
 
 mod column;
+mod columns;
+mod count;
+mod fault;
+mod found;
+mod lengths;
+mod row;
 
 pub use column::Column;
+pub use columns::Columns;
+pub use fault::RowFault;
+pub use row::{ROW_BYTES, ROW_COLUMNS, RowView};
+
+#[cfg(test)]
+mod tests;

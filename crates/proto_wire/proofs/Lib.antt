@@ -1,0 +1,4 @@
+pub mod VarintLoop
+pub mod ReadingLaws
+pub mod VarintLaws
+pub mod FieldLaws

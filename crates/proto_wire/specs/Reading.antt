@@ -1,0 +1,56 @@
+-- What any reader of bytes gives: items one after another, and then the end or one fault.
+-- Generic in the item `A` and in the fault `F`, so that each format says only what one item is.
+use Rattle.std.specs.Prelude.{◌≡◌, ◌≢◌, ℕ, zero, suc, List, [], ◌∷◌, ◌++◌, length, Option, Some, None, Result, Ok, Err}
+
+-- what is still to come: the items in order, and the fault that ends them, if one does
+pub record Reading (A F : Type 0) : Type 0 where
+  pub items : List A
+  pub fault : Option F
+
+-- ---- as a relation
+
+-- The bytes are these items one after another, and then either nothing is left or a fault stands in
+-- the place of the next item. `IsItem front x` says what an item is, `NoItem bytes f` why none
+-- stands at the front.
+abbrev pub Spells : {A F : Type 0} → (List ℕ → A → Type 0) → (List ℕ → F → Type 0) → List ℕ → List A → Option F → Type 0
+Spells IsItem NoItem bytes [] None = bytes ≡ []
+Spells IsItem NoItem bytes [] (Some f) = (bytes ≢ []) × NoItem bytes f
+Spells IsItem NoItem bytes (x ∷ xs) end = (front : List ℕ) × (rest : List ℕ) × (bytes ≡ front ++ rest) × IsItem front x × Spells IsItem NoItem rest xs end
+
+-- ---- as a function
+
+-- one step of a reader and then another
+infixl 10 ◌>>=◌
+abbrev pub ◌>>=◌ : {A B F : Type 0} → Result A F → (A → Result B F) → Result B F
+(Ok x) >>= f = f x
+(Err e) >>= f = Err e
+
+-- the item at the front, and then the others; or the fault at the front
+abbrev pub put_first : {A F : Type 0} → Result (A × List ℕ) F → (List ℕ → Reading A F) → Reading A F
+put_first (Ok x) others = let rest = others x.1 in record { items = x.0 ∷ rest.items; fault = rest.fault }
+put_first (Err f) others = record { items = []; fault = Some f }
+
+-- at most `n` items, where `at` reads the one at the front
+unfoldable pub reading_within : {A F : Type 0} → (List ℕ → Result (A × List ℕ) F) → ℕ → List ℕ → Reading A F
+reading_within at zero bytes = record { items = []; fault = None }
+reading_within at (suc n) [] = record { items = []; fault = None }
+reading_within at (suc n) (b ∷ bytes) = put_first (at (b ∷ bytes)) (λ rest. reading_within at n rest)
+
+-- the whole reading of the bytes: each item takes a byte at least
+unfoldable pub reading_of : {A F : Type 0} → (List ℕ → Result (A × List ℕ) F) → List ℕ → Reading A F
+reading_of at bytes = reading_within at (length bytes) bytes
+
+-- ---- one call of a reader
+
+-- What a call that gives the next item answers and leaves, where `view` is how an item is seen:
+-- the item is taken off the front; at the end and at a fault nothing changes, so the next call
+-- answers the same.
+abbrev pub Next : {X A F : Type 0} → (X → A) → Reading A F → Result (Option X) F → Reading A F → Type 0
+Next view old (Ok (Some x)) new = (old.items ≡ view x ∷ new.items) × (old.fault ≡ new.fault)
+Next view old (Ok None) new = (old.items ≡ []) × (old.fault ≡ None) × (new ≡ old)
+Next view old (Err f) new = (old.items ≡ []) × (old.fault ≡ Some f) × (new ≡ old)
+
+-- ---- a function that reads something from the front of the bytes, seen by `view`
+abbrev pub Gives : {X Y F : Type 0} → (X → Y) → Result X F → Result Y F → Type 0
+Gives view (Ok x) read = read ≡ Ok (view x)
+Gives view (Err f) read = read ≡ Err f

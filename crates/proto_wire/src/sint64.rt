@@ -1,0 +1,25 @@
+//! Signed numbers as unsigned ones.
+
+ghost use Rattle.std.specs.Prelude.{◌≡◌};
+ghost use Rattle.proto_wire.specs.Zigzag.{zigzag_of, unzigzag_of};
+
+/// The number that a `sint64` travels as: 0, -1, 1, -2 are 0, 1, 2, 3.
+pub fn zigzag(value: i64) -> u64
+    ensures value { result ≡ zigzag_of value }
+    ensures undone { unzigzag_of result ≡ value }
+{
+    if value >= 0 {
+        2 * (value as u64)
+    } else {
+        2 * ((-(value + 1)) as u64) + 1
+    }
+}
+
+/// The `sint64` that travels as the number: 0, 1, 2, 3 are 0, -1, 1, -2.
+pub fn unzigzag(number: u64) -> i64
+    ensures value { result ≡ unzigzag_of number }
+    ensures undone { zigzag_of result ≡ number }
+{
+    let half = (number / 2) as i64;
+    if number % 2 == 0 { half } else { -half - 1 }
+}

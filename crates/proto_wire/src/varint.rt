@@ -1,0 +1,34 @@
+//! One varint at the front of the bytes.
+
+ghost use Rattle.proto_wire.specs.Reading.{Gives};
+ghost use Rattle.proto_wire.specs.Varint.{varint_at};
+
+use crate::fault::WireFault;
+
+/// The varint at the front, and the bytes after it.
+pub(crate) fn varint_of(bytes: &[u8]) -> Result<(u64, &[u8]), WireFault>
+    ensures { Gives (λ x. (x.0, x.1.now)) result (varint_at bytes.now) }
+{
+    let mut value: u64 = 0;
+    let mut weight: u64 = 1;
+    let mut rest = bytes;
+    for _ in 0..9u64 {
+        let Some((byte, after)) = rest.split_first() else {
+            return Err(WireFault::Truncated);
+        };
+        let byte = u64::from(*byte);
+        rest = after;
+        if byte < 128 {
+            return Ok((value + byte * weight, rest));
+        }
+        value += (byte - 128) * weight;
+        weight *= 128;
+    }
+    let Some((tenth, after)) = rest.split_first() else {
+        return Err(WireFault::Truncated);
+    };
+    if *tenth > 1 {
+        return Err(WireFault::VarintTooLong);
+    }
+    Ok((value + u64::from(*tenth) * weight, after))
+}

@@ -1,0 +1,4 @@
+pub mod CountLaws
+pub mod FoundLaws
+pub mod ColumnLaws
+pub mod RowLaws

@@ -1,0 +1,62 @@
+//! The columns of a row, one after another.
+
+ghost use Rattle.std.specs.Prelude.{◌≡◌, ℕ, ◌≤◌, List, length};
+ghost use Rattle.std.specs.Iterator.{YieldsFirstBy, item_count};
+ghost use Rattle.row_view.specs.ColumnValue.{column_value};
+ghost use Rattle.row_view.specs.RowFields.{row_lengths};
+ghost use Rattle.row_view.specs.Row.{size_of_all, columns_of};
+
+use crate::column::Column;
+use crate::lengths::Lengths;
+use std::marker::Model;
+
+/// The columns of a row that are still to come. Seen in contracts as the list of their values,
+/// `None` for NULL. Takes no memory.
+#[derive(Debug, Drop)]
+pub struct Columns<'b> {
+    lengths: Lengths<'b>,
+    /// the values from the next column on
+    values: &'b [u8],
+}
+
+impl<'b> Model for Columns<'b> {
+    ghost use Rattle.std.specs.Prelude.{ℕ, ◌≤◌, List, Option, length};
+    ghost use Rattle.row_view.specs.Row.{size_of_all, columns_of};
+
+    ghost Value = { List (Option (List ℕ)) };
+
+    ghost view = { λ a. columns_of a.values.now a.lengths };
+
+    ghost invariant = { λ a. size_of_all a.lengths ≤ length a.values.now };
+}
+
+impl<'b> Columns<'b> {
+    /// The columns of the lengths of a message, over these values.
+    pub(crate) fn new(message: &'b [u8], values: &'b [u8]) -> Columns<'b>
+        requires { size_of_all (row_lengths message.now) ≤ length values.now }
+        ensures { result ≡ columns_of values.now (row_lengths message.now) }
+    {
+        Columns {
+            lengths: Lengths::new(message),
+            values,
+        }
+    }
+}
+
+impl<'b> Iterator for Columns<'b> {
+    type Item = Column<'b>;
+
+    ghost next_gives = { YieldsFirstBy column_value (λ s. s) };
+
+    ghost remaining = { item_count (λ s. s) };
+
+    fn next(&mut self) -> Option<Column<'b>> {
+        let length = self.lengths.next_length()?;
+        if length < 0 {
+            return Some(Column::Null);
+        }
+        let (value, rest) = self.values.split_at(length as usize);
+        self.values = rest;
+        Some(Column::Bytes(value))
+    }
+}

@@ -1,0 +1,51 @@
+//! What the fields of a row message say.
+
+ghost use Rattle.std.specs.Prelude.{◌≡◌, MatchResult};
+ghost use Rattle.std.specs.Option.{option_map};
+ghost use Rattle.proto_wire.specs.Field.{wire_field};
+ghost use Rattle.row_view.specs.RowFields.{values_at, row_lengths, row_values, row_wire_fault};
+ghost use Rattle.row_view.specs.Counted.{Counts};
+
+use crate::count::Count;
+use proto_wire::{Field, Fields, Payload, WireFault};
+
+/// The values of a row message, and how many columns its lengths are.
+#[derive(Clone, Copy)]
+pub(crate) struct Found<'b> {
+    /// the last values of the message
+    pub(crate) values: &'b [u8],
+    /// all lengths of the message
+    pub(crate) count: Count,
+}
+
+/// The values in a field.
+fn values_in<'b>(field: &Field<'b>) -> Option<&'b [u8]>
+    ensures { option_map (λ values. values.now) result ≡ values_at (wire_field field.now) }
+{
+    match (field.number, field.payload) {
+        (2, Payload::Bytes(values)) => Some(values),
+        _ => None,
+    }
+}
+
+/// Reads the fields of a row message, or finds the fault of the wire that lies furthest left.
+pub(crate) fn found_in(bytes: &[u8]) -> Result<Found<'_>, WireFault>
+    ensures { MatchResult result
+        (λ found. (row_wire_fault bytes.now ≡ None) × (found.values.now ≡ row_values bytes.now)
+        × Counts (record { columns = 0; bytes = 0 }) (row_lengths bytes.now) found.count)
+        (λ fault. row_wire_fault bytes.now ≡ Some fault) }
+{
+    let mut values: &[u8] = &[];
+    let mut count = Count {
+        columns: 0,
+        bytes: 0,
+    };
+    let mut fields = Fields::new(bytes);
+    while let Some(field) = fields.next_field()? {
+        count.put(&field)?;
+        if let Some(last) = values_in(&field) {
+            values = last;
+        }
+    }
+    Ok(Found { values, count })
+}

@@ -1,0 +1,129 @@
+//! A row message whose columns are lent from its bytes.
+
+ghost use Rattle.std.specs.Prelude.{◌≡◌, ℕ, ◌^◌, ◌<◌, ◌≤◌, ◌↔◌, List, [], Option, IsTrue, length, slice_get};
+ghost use Rattle.proto_wire.specs.declared.fault.WireFault.{WireFault};
+ghost use Rattle.row_view.specs.ColumnValue.{column_value};
+ghost use Rattle.row_view.specs.RowFields.{row_lengths, row_values, row_wire_fault};
+ghost use Rattle.row_view.specs.Row.{IsRow, IsWhole, size_of_all, row_at};
+
+use crate::column::Column;
+use crate::columns::Columns;
+use crate::fault::RowFault;
+use crate::found::found_in;
+use std::marker::Model;
+
+/// The most bytes that a row message may have (this profile's limit).
+pub const ROW_BYTES: usize = 16_777_216;
+
+/// The most columns that a row may have (this profile's limit).
+pub const ROW_COLUMNS: u16 = 256;
+
+/// A row, read from its message. Seen in contracts as the list of its columns' values, `None` for
+/// NULL. Nothing is copied: columns are slices of the message.
+#[derive(Debug, Drop)]
+pub struct RowView<'b> {
+    message: &'b [u8],
+    /// the last values of the message
+    values: &'b [u8],
+    /// how many there are
+    columns: u16,
+}
+
+impl<'b> Model for RowView<'b> {
+    ghost use Rattle.std.specs.Prelude.{◌≡◌, ℕ, ◌≤◌, List, Option, length};
+    ghost use Rattle.row_view.specs.RowFields.{row_lengths};
+    ghost use Rattle.row_view.specs.Row.{size_of_all, columns_of};
+
+    ghost Value = { List (Option (List ℕ)) };
+
+    ghost view = { λ a. columns_of a.values.now (row_lengths a.message.now) };
+
+    ghost invariant = { λ a. (a.columns ≡ length (row_lengths a.message.now))
+        × (size_of_all (row_lengths a.message.now) ≤ length a.values.now) };
+}
+
+impl<'b> RowView<'b> {
+    /// Reads a row message (`query.proto`, Row): its lengths are all zigzag values of field 1 in
+    /// order, packed or not, its values the last field 2; other fields, and these two with another
+    /// wire type, are skipped. Bytes of the values after the last column are ignored. Takes no
+    /// memory.
+    ///
+    /// Refused in this order: `RowTooLong` for more than 2^24 bytes, by the size alone; `Wire` for
+    /// bytes that aren't a list of fields, or a packed part that isn't a list of varints, whichever
+    /// lies further left; `TooManyColumns` for more than 256 columns; `LengthsPastValues` where the
+    /// lengths that aren't negative add up to more than the size of the values.
+    pub fn read(bytes: &'b [u8]) -> Result<RowView<'b>, RowFault>
+        ensures reading { result ≡ row_at bytes.now }
+        // It is accepted exactly where the columns are defined, and these are they.
+        ensures row { (columns : List (Option (List ℕ))) → (result ≡ Ok columns) ↔ IsRow bytes.now columns }
+
+        // Each refusal comes exactly where this stands in the bytes.
+        ensures too_long { (result ≡ Err RowFault.RowTooLong) ↔ (2 ^ 24 < length bytes.now) }
+        ensures broken { (fault : WireFault) → (result ≡ Err (RowFault.Wire fault))
+            ↔ ((length bytes.now ≤ 2 ^ 24) × (row_wire_fault bytes.now ≡ Some fault)) }
+        ensures too_many { (result ≡ Err RowFault.TooManyColumns)
+            ↔ ((length bytes.now ≤ 2 ^ 24) × IsWhole bytes.now × (256 < length (row_lengths bytes.now))) }
+        ensures past_values { (result ≡ Err RowFault.LengthsPastValues)
+            ↔ ((length bytes.now ≤ 2 ^ 24) × IsWhole bytes.now × (length (row_lengths bytes.now) ≤ 256)
+            × (length (row_values bytes.now) < size_of_all (row_lengths bytes.now))) }
+    {
+        row_of(bytes)
+    }
+
+    /// How many columns the row has, at most 256. Takes no memory, and no time.
+    pub fn len(&self) -> usize
+        ensures { result ≡ length self.now }
+    {
+        self.columns as usize
+    }
+
+    /// Whether the row has no columns.
+    pub fn is_empty(&self) -> bool
+        ensures { IsTrue result ↔ (self.now ≡ []) }
+    {
+        self.columns == 0
+    }
+
+    /// Column `i` of the row: NULL where its length is negative, else the slice of the values that
+    /// starts at the sum of the earlier lengths that aren't negative (`query.proto`, Row). Takes no
+    /// memory and walks the lengths before `i`. `i` is below `len`.
+    pub fn column(&self, i: usize) -> Column<'b>
+        requires { i < length self.now }
+        ensures { slice_get self.now i ≡ Some (column_value result) }
+    {
+        let mut columns = self.columns();
+        for _ in 0..i {
+            columns.next();
+        }
+        columns.next().unwrap()
+    }
+
+    /// The columns of the row in order, in one pass over its lengths. Takes no memory.
+    pub fn columns(&self) -> Columns<'b>
+        ensures { result ≡ self.now }
+    {
+        Columns::new(self.message, self.values)
+    }
+}
+
+/// The row of the message, or its first fault.
+#[tactic(auto, unfolding(crate::specs::Row::row_at, crate::specs::Row::row_with))]
+fn row_of(bytes: &[u8]) -> Result<RowView<'_>, RowFault>
+    ensures { result ≡ row_at bytes.now }
+{
+    if bytes.len() > ROW_BYTES {
+        return Err(RowFault::RowTooLong);
+    }
+    let found = found_in(bytes).map_err(RowFault::Wire)?;
+    if found.count.columns > ROW_COLUMNS {
+        return Err(RowFault::TooManyColumns);
+    }
+    if found.count.bytes > found.values.len() as u64 {
+        return Err(RowFault::LengthsPastValues);
+    }
+    Ok(RowView {
+        message: bytes,
+        values: found.values,
+        columns: found.count.columns,
+    })
+}

@@ -1,0 +1,141 @@
+//! Rows as bytes and the columns that they are, worked by hand from `query.proto` and the protobuf
+//! encoding guide.
+
+use super::*;
+use std::process::Abort;
+use std::test::Fail;
+
+/// The bytes are a row of just these columns, one after another and by number.
+fn check(rt: &impl Abort, bytes: &[u8], wanted: &[Column<'_>]) {
+    let row = RowView::read(bytes).expect(rt, "a row");
+    assert_eq!(rt; row.len(), wanted.len());
+    assert_eq!(rt; row.is_empty(), wanted.is_empty());
+    let mut place = 0;
+    for column in row.columns() {
+        assert!(rt; place < row.len() && place < wanted.len());
+        assert_eq!(rt; column, wanted[place]);
+        assert_eq!(rt; row.column(place), column);
+        place += 1;
+    }
+    assert_eq!(rt; place, wanted.len());
+}
+
+/// The bytes are refused by these numbers, the row's own and that of the innermost fault.
+fn check_refused(rt: &impl Abort, bytes: &[u8], number: u8, cause: u8) {
+    let fault = RowView::read(bytes).err().expect(rt, "a refusal");
+    assert_eq!(rt; fault.number(), number);
+    assert_eq!(rt; fault.cause(), cause);
+}
+
+/// The first column, of a view that ends here.
+fn first_column(bytes: &[u8]) -> Option<Column<'_>> {
+    let row = RowView::read(bytes).ok()?;
+    row.columns().next()
+}
+
+#[test]
+fn packed_and_single_lengths(rt: HostRuntime) {
+    let wanted = [Column::Bytes(b"1"), Column::Null, Column::Bytes(b"ab")];
+    check(&rt, b"\x0a\x03\x02\x01\x04\x12\x031ab", &wanted);
+    check(&rt, b"\x12\x031ab\x08\x02\x08\x01\x08\x04", &wanted);
+}
+
+/// Packed parts and single lengths in turn, values twice, an unknown field 3, and fields 1 and 2
+/// of four bytes, which are skipped.
+#[test]
+fn several_parts(rt: HostRuntime) {
+    let wanted = [
+        Column::Bytes(b"1"),
+        Column::Null,
+        Column::Bytes(b""),
+        Column::Bytes(b"ab"),
+    ];
+    check(
+        &rt,
+        b"\x12\x01x\x0a\x01\x02\x0d0000\x08\x01\x18\x07\x0a\x02\x00\x04\x12\x051abcd\x150000\x0a\x00",
+        &wanted,
+    );
+}
+
+#[test]
+fn empty_row(rt: HostRuntime) {
+    check(&rt, b"", &[]);
+}
+
+#[test]
+fn column_outlives_its_view(rt: HostRuntime) {
+    let column = first_column(b"\x0a\x01\x02\x12\x011");
+    assert_eq!(rt; column, Some(Column::Bytes(b"1")));
+}
+
+#[test]
+fn length_past_values(rt: HostRuntime) {
+    check_refused(&rt, b"\x0a\x01\x0a\x12\x031ab", 12, 12);
+}
+
+/// 2^63 - 1 twice and then 2: a sum of 64 bits would come back to 0.
+#[test]
+fn lengths_past_values(rt: HostRuntime) {
+    check_refused(
+        &rt,
+        b"\x0a\x15\xfe\xff\xff\xff\xff\xff\xff\xff\xff\x01\xfe\xff\xff\xff\xff\xff\xff\xff\xff\x01\x04",
+        12,
+        12,
+    );
+}
+
+/// Of several faults the one further left counts, that of a packed part at its own place.
+#[test]
+fn row_is_no_list(rt: HostRuntime) {
+    check_refused(&rt, b"\x80", 11, 1);
+    check_refused(&rt, b"\x0a\x01\x80", 11, 1);
+    check_refused(
+        &rt,
+        b"\x0a\x0a\x80\x80\x80\x80\x80\x80\x80\x80\x80\x02\x12\x05",
+        11,
+        2,
+    );
+    check_refused(&rt, b"\x1b\x0a\x01\x80", 11, 3);
+    check_refused(&rt, b"\x0e\x0a\x01\x80", 11, 4);
+    check_refused(&rt, b"\x00\x00\x0a\x01\x80", 11, 5);
+}
+
+/// 257 lengths of 1 and no values: the count comes before the sum, and a broken tail before both.
+#[test]
+fn too_many_columns(rt: HostRuntime) {
+    let mut bytes = [2u8; 261];
+    bytes[0] = 0x0a;
+    bytes[1] = 0x81;
+    check_refused(&rt, &bytes[..260], 13, 13);
+    bytes[260] = 0x80;
+    check_refused(&rt, &bytes, 11, 1);
+}
+
+/// 256 NULLs, packed.
+#[test]
+fn row_columns_limit(rt: HostRuntime) {
+    let mut bytes = [1u8; 259];
+    bytes[0] = 0x0a;
+    bytes[1] = 0x80;
+    bytes[2] = 0x02;
+    check(&rt, &bytes, &[Column::Null; 256]);
+}
+
+/// An unknown field 15 that fills the message, to 2^24 bytes.
+#[test]
+fn row_bytes_limit(rt: HostRuntime) -> Result<(), Fail> {
+    let mut bytes = vec![in rt.alloc(); 0u8; 16_777_211]?;
+    let mut message = vec![in rt.alloc(); 0x7au8, 0xfb, 0xff, 0xff, 0x07]?;
+    message.append(&mut bytes)?;
+    assert_eq!(rt; message.len(), 16_777_216);
+    check(&rt, &message, &[]);
+    Ok(())
+}
+
+/// Zeros, which are no fields either: the size alone decides.
+#[test]
+fn row_too_long(rt: HostRuntime) -> Result<(), Fail> {
+    let bytes = vec![in rt.alloc(); 0u8; 16_777_217]?;
+    check_refused(&rt, &bytes, 14, 14);
+    Ok(())
+}
