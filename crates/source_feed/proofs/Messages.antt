@@ -1,11 +1,17 @@
 -- One event or one message more of what is still to come.
-use Rattle.std.proofs.Common.{◌≡◌, ℕ, ◌+◌, ◌≤◌, List, [], ◌∷◌, ◌++◌, length, Option, None, Some, Result, Ok, Err, refl, sym, ◌∙◌, ap, arith}
+use Rattle.std.proofs.Common.{◌≡◌, ℕ, zero, suc, ◌+◌, ◌≤◌, List, [], ◌∷◌, ◌++◌, length, Option, None, Some, Result, Ok, Err, refl, sym, ◌∙◌, ap, arith}
 use Rattle.std.proofs.lemmas.List.{length-append}
-use Rattle.proto_wire.specs.Reading.{Reading, Spells}
+use Rattle.std.specs.List.{filter_map}
+use Rattle.std.specs.Option.{cons_option}
+use Rattle.vevent.specs.Parts.{part_in}
+use Rattle.proto_wire.specs.declared.fault.WireFault.{WireFault}
+use Rattle.proto_wire.specs.Reading.{Reading, Spells, reading_within, reading_of, put_first}
+use Rattle.proto_wire.specs.Field.{field_at, fields_of}
 use Rattle.proto_wire.specs.Frame.{IsFrame, NoFrame, AreFrames}
 use Rattle.proto_wire.specs.declared.fault.FrameFault.{FrameFault}
 use Rattle.vevent.specs.EventValue.{EventValue}
-use Rattle.vevent.specs.Response.{response_of}
+use Rattle.vevent.specs.Response.{response_of, events_of, put_event}
+use Rattle.vevent.specs.Event.{event_at}
 use Rattle.vevent.specs.declared.fault.EventFault.{EventFault}
 use Rattle.source_feed.specs.declared.fault.FeedFault.{FeedFault}
 use Rattle.source_feed.specs.declared.fault.FeedFault.TheVariants.{Memory, Frame}
@@ -77,9 +83,43 @@ refused_message source whole history message old new fault w i f err =
 
 -- ---- how many events there are
 
+-- as many items as bytes at most
+length-within : {A F : Type 0} (at : List ℕ → Result (A × List ℕ) F) (most : ℕ) (bytes : List ℕ) → length (reading_within at most bytes).items ≤ most
+unfolding reading_within
+length-within {A = A} {F = F} at zero bytes = omega arith
+length-within {A = A} {F = F} at (suc most) [] = omega arith
+length-within {A = A} {F = F} at (suc most) (b ∷ bytes) = one_more (at (b ∷ bytes))
+  where
+    one_more : (first : Result (A × List ℕ) F) → length (put_first first (λ rest. reading_within at most rest)).items ≤ suc most
+    one_more (Ok x) = omega (arith, length-within at most x.1)
+    one_more (Err f) = omega arith
+
+length-fields_of : (message : List ℕ) → length (fields_of message).items ≤ length message
+unfolding reading_of
+length-fields_of message = length-within field_at (length message) message
+
+length-cons_option : {B : Type 0} (first : Option B) (items : List B) → length (cons_option first items) ≤ length items + 1
+length-cons_option None items = omega arith
+length-cons_option (Some item) items = omega arith
+
+length-filter_map : {A B : Type 0} (f : A → Option B) (items : List A) → length (filter_map f items) ≤ length items
+length-filter_map f [] = omega arith
+length-filter_map f (item ∷ items) = omega (arith, length-cons_option (f item) (filter_map f items), length-filter_map f items)
+
+length-put_event : (first : Result EventValue EventFault) (others : Reading EventValue EventFault) → length (put_event first others).items ≤ length others.items + 1
+length-put_event (Ok event) others = omega arith
+length-put_event (Err fault) others = omega arith
+
+length-events_of : (parts : List (List ℕ)) (end : Option WireFault) → length (events_of parts end).items ≤ length parts
+length-events_of [] end = omega arith
+length-events_of (part ∷ parts) end = omega (arith, length-put_event (event_at part) (events_of parts end), length-events_of parts end)
+
 -- the events of a message aren't more than its bytes
 pub length-response_of : (message : List ℕ) → length (response_of message).items ≤ length message
-length-response_of message = ?
+unfolding response_of
+length-response_of message =
+    omega (arith, length-events_of (filter_map (part_in 1) (fields_of message).items) (fields_of message).fault,
+      length-filter_map (part_in 1) (fields_of message).items, length-fields_of message)
 
 length-events_then : (items : List EventValue) (fault : Option EventFault) (others : Reading EventValue FeedFault)
     → length (events_then items fault others).items ≤ length items + length others.items
