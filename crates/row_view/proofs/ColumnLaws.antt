@@ -1,9 +1,9 @@
 -- The columns as a function are the columns as a relation, and no others.
-use Rattle.std.proofs.Common.{◌≡◌, ℕ, zero, suc, ℤ, pos, negsuc, ◌+◌, ◌<◌, List, [], ◌∷◌, length, take, drop, Option, Some, None, refl, sym, ap, ◌∙◌, arith}
+use Rattle.std.proofs.Common.{◌≡◌, ℕ, zero, suc, ℤ, pos, negsuc, ◌+◌, ◌<◌, List, [], ◌∷◌, length, take, drop, Option, Some, refl, sym, ap, ◌∙◌, arith}
 use Rattle.std.specs.Prelude.{slice_get, IsTrue, nat_eq}
 use Rattle.std.proofs.lemmas.Bool.Decides.{nat_tests}
 use Rattle.std.proofs.lemmas.List.{drop-drop}
-use Rattle.row_view.specs.Row.{size_of, size_of_all, column_from, AreColumns, columns_of}
+use Rattle.row_view.specs.Row.{size_of_all, column_from, AreColumns, columns_of}
 
 pub length-columns_of : (values : List ℕ) (lengths : List ℤ) → length (columns_of values lengths) ≡ length lengths
 length-columns_of values [] = refl

@@ -1,7 +1,7 @@
 -- Counts one after another.
-use Rattle.std.proofs.Common.{◌≡◌, ℕ, ℤ, ◌+◌, ◌-◌, ◌^◌, min, List, [], ◌∷◌, ◌++◌, length, refl, ap, ◌∙◌, arith, length-append}
+use Rattle.std.proofs.Common.{◌≡◌, ℤ, ◌+◌, List, [], ◌∷◌, ◌++◌, arith, length-append}
 use Rattle.row_view.specs.declared.count.Count.{Count}
-use Rattle.row_view.specs.Row.{size_of, size_of_all}
+use Rattle.row_view.specs.Row.{size_of_all}
 use Rattle.row_view.specs.Counted.{Counts}
 
 pub size_of_all-append : (xs ys : List ℤ) → size_of_all (xs ++ ys) ≡ size_of_all xs + size_of_all ys

@@ -1,10 +1,10 @@
 -- What the fields that are still to come say, one field further on.
-use Rattle.std.proofs.Common.{◌≡◌, ℕ, ℤ, List, [], ◌∷◌, ◌++◌, Option, Some, None, sym, ap, ◌∙◌}
+use Rattle.std.proofs.Common.{◌≡◌, ℕ, List, ◌∷◌, None, sym, ap, ◌∙◌}
 use Rattle.std.specs.List.{filter_map, cons_option}
 use Rattle.proto_wire.specs.declared.fault.WireFault.{WireFault}
 use Rattle.proto_wire.specs.Reading.{Reading}
 use Rattle.proto_wire.specs.Field.{WireField}
-use Rattle.row_view.specs.RowFields.{lengths_of, values_at, last_or, first_or, packed_fault_at, fault_of}
+use Rattle.row_view.specs.RowFields.{values_at, last_or, first_or, packed_fault_at, fault_of}
 
 -- a field with no fault of its own leaves the fault to the others
 pub fault_of-next : (old new : Reading WireField WireFault) (f : WireField) → old.items ≡ f ∷ new.items → old.fault ≡ new.fault → packed_fault_at f ≡ None → fault_of new ≡ fault_of old

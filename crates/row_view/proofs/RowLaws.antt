@@ -1,14 +1,13 @@
 -- What the row of a message is, by what stands in the bytes, and the other way round.
-use Rattle.std.proofs.Common.{◌≡◌, ℕ, ℤ, ◌^◌, ◌<◌, ◌≤◌, ◌⊎◌, inl, inr, List, [], ◌∷◌, length, Option, Some, None, Result, Ok, Err, refl, sym, ap, ◌∙◌, arith}
+use Rattle.std.proofs.Common.{◌≡◌, ℕ, ◌^◌, ◌<◌, ◌≤◌, ◌⊎◌, inl, inr, List, [], ◌∷◌, length, Option, Some, None, Ok, Err, refl, sym, ap, ◌∙◌, arith}
 use Rattle.std.specs.List.{AllByRecursion, filter_map, cons_option}
 use Rattle.std.proofs.lemmas.Bool.{cases_lt}
 use Rattle.std.proofs.lemmas.Bool.Decides.{nat_tests}
 use Rattle.proto_wire.specs.declared.fault.WireFault.{WireFault}
 use Rattle.proto_wire.specs.Field.{WireField, fields_of}
-use Rattle.row_view.specs.declared.fault.RowFault.{RowFault}
 use Rattle.row_view.specs.declared.fault.RowFault.TheVariants.{RowTooLong, Wire, TooManyColumns, LengthsPastValues}
 use Rattle.row_view.specs.RowFields.{first_or, packed_fault_at, row_lengths, row_values, row_wire_fault}
-use Rattle.row_view.specs.Row.{size_of_all, AreColumns, IsWhole, IsRow, columns_of, row_with, row_at}
+use Rattle.row_view.specs.Row.{size_of_all, IsWhole, IsRow, columns_of, row_with, row_at}
 use Rattle.row_view.proofs.ColumnLaws.{AreColumns-columns_of, columns_of-only}
 
 -- ---- no fault of the wire

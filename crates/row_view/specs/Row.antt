@@ -1,8 +1,8 @@
 -- The columns of a row message (`query.proto`, Row). The limits are this profile's.
-use Rattle.std.specs.Prelude.{◌≡◌, ℕ, ℤ, pos, negsuc, ◌+◌, ◌^◌, ◌<◌, ◌≤◌, List, [], ◌∷◌, length, take, drop, Option, Some, None, Result, Ok, Err, nat_lt, slice_get, if◌then◌else◌}
+use Rattle.std.specs.Prelude.{◌≡◌, ℕ, ℤ, pos, negsuc, ◌+◌, ◌^◌, ◌≤◌, List, [], ◌∷◌, length, take, drop, Option, Some, None, Result, Ok, Err, nat_lt, slice_get, if◌then◌else◌}
 use Rattle.std.specs.List.{AllByRecursion}
 use Rattle.proto_wire.specs.declared.fault.WireFault.{WireFault}
-use Rattle.proto_wire.specs.Field.{WireField, fields_of}
+use Rattle.proto_wire.specs.Field.{fields_of}
 use Rattle.row_view.specs.declared.fault.RowFault.{RowFault}
 use Rattle.row_view.specs.declared.fault.RowFault.TheVariants.{RowTooLong, Wire, TooManyColumns, LengthsPastValues}
 use Rattle.row_view.specs.RowFields.{packed_fault_at, row_lengths, row_values, row_wire_fault}

@@ -40,7 +40,8 @@ impl Count {
     /// Counts the lengths of a packed part, or finds why it isn't one.
     fn put_packed(&mut self, packed: &[u8]) -> Result<(), WireFault>
         ensures { MatchResult result
-            (λ _. ((varints_of packed.now).fault ≡ None) × Counts self.old (map unzigzag_of (varints_of packed.now).items) self.new)
+            (λ _. ((varints_of packed.now).fault ≡ None)
+            × Counts self.old (map unzigzag_of (varints_of packed.now).items) self.new)
             (λ fault. (varints_of packed.now).fault ≡ Some fault) }
     {
         let mut lengths = Varints::new(packed);
@@ -53,7 +54,8 @@ impl Count {
     /// Counts the lengths of a field, or finds why it isn't a packed part.
     pub(crate) fn put(&mut self, field: &Field<'_>) -> Result<(), WireFault>
         ensures { MatchResult result
-            (λ _. (packed_fault_at (wire_field field.now) ≡ None) × Counts self.old (lengths_at (wire_field field.now)) self.new)
+            (λ _. (packed_fault_at (wire_field field.now) ≡ None)
+            × Counts self.old (lengths_at (wire_field field.now)) self.new)
             (λ fault. packed_fault_at (wire_field field.now) ≡ Some fault) }
     {
         match (field.number, field.payload) {

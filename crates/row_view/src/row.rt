@@ -25,7 +25,7 @@ pub struct RowView<'b> {
     message: &'b [u8],
     /// the last values of the message
     values: &'b [u8],
-    /// how many there are
+    /// how many columns there are
     columns: u16,
 }
 
@@ -39,6 +39,7 @@ impl<'b> Model for RowView<'b> {
     ghost view = { λ a. columns_of a.values.now (row_lengths a.message.now) };
 
     ghost invariant = { λ a. (a.columns ≡ length (row_lengths a.message.now))
+        × (length (row_lengths a.message.now) ≤ 256)
         × (size_of_all (row_lengths a.message.now) ≤ length a.values.now) };
 }
 
@@ -55,24 +56,28 @@ impl<'b> RowView<'b> {
     pub fn read(bytes: &'b [u8]) -> Result<RowView<'b>, RowFault>
         ensures reading { result ≡ row_at bytes.now }
         // It is accepted exactly where the columns are defined, and these are they.
-        ensures row { (columns : List (Option (List ℕ))) → (result ≡ Ok columns) ↔ IsRow bytes.now columns }
+        ensures row { (columns : List (Option (List ℕ)))
+            → (result ≡ Ok columns) ↔ IsRow bytes.now columns }
 
         // Each refusal comes exactly where this stands in the bytes.
         ensures too_long { (result ≡ Err RowFault.RowTooLong) ↔ (2 ^ 24 < length bytes.now) }
         ensures broken { (fault : WireFault) → (result ≡ Err (RowFault.Wire fault))
             ↔ ((length bytes.now ≤ 2 ^ 24) × (row_wire_fault bytes.now ≡ Some fault)) }
         ensures too_many { (result ≡ Err RowFault.TooManyColumns)
-            ↔ ((length bytes.now ≤ 2 ^ 24) × IsWhole bytes.now × (256 < length (row_lengths bytes.now))) }
+            ↔ ((length bytes.now ≤ 2 ^ 24) × IsWhole bytes.now
+            × (256 < length (row_lengths bytes.now))) }
         ensures past_values { (result ≡ Err RowFault.LengthsPastValues)
-            ↔ ((length bytes.now ≤ 2 ^ 24) × IsWhole bytes.now × (length (row_lengths bytes.now) ≤ 256)
+            ↔ ((length bytes.now ≤ 2 ^ 24) × IsWhole bytes.now
+            × (length (row_lengths bytes.now) ≤ 256)
             × (length (row_values bytes.now) < size_of_all (row_lengths bytes.now))) }
     {
         row_of(bytes)
     }
 
-    /// How many columns the row has, at most 256. Takes no memory, and no time.
+    /// How many columns the row has, at most 256. Takes no memory and reads nothing again.
     pub fn len(&self) -> usize
-        ensures { result ≡ length self.now }
+        ensures count { result ≡ length self.now }
+        ensures few { length self.now ≤ 256 }
     {
         self.columns as usize
     }

@@ -68,6 +68,12 @@ fn column_outlives_its_view(rt: HostRuntime) {
     assert_eq!(rt; column, Some(Column::Bytes(b"1")));
 }
 
+/// A feed of a million rows has a million views.
+#[test]
+fn a_view_is_small(rt: HostRuntime) {
+    assert!(rt; size_of::<RowView<'static>>() <= 40);
+}
+
 #[test]
 fn length_past_values(rt: HostRuntime) {
     check_refused(&rt, b"\x0a\x01\x0a\x12\x031ab", 12, 12);

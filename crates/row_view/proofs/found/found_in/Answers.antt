@@ -1,6 +1,4 @@
-use Rattle.std.proofs.Common.{sym, ap, ◌∙◌}
-use Rattle.row_view.specs.RowFields.{lengths_of}
-use Rattle.row_view.specs.Counted.{Counts}
+use Rattle.std.proofs.Common.{◌∙◌}
 use Rattle.row_view.proofs.CountLaws.{Counts-append}
 use Rattle.row_view.proofs.FoundLaws.{fault_of-next, last_or-past}
 use Rattle.row_view.proofs.found.found_in.Goals as goal

@@ -1,4 +1,4 @@
-use Rattle.std.proofs.Common.{◌≡◌, [], refl, rules}
+use Rattle.std.proofs.Common.{◌≡◌, [], refl}
 use Rattle.proto_wire.specs.Reading.{reading_of, reading_within}
 use Rattle.proto_wire.specs.Varint.{varints_of}
 use Rattle.row_view.proofs.lengths.Lengths.new.Goals as goal

@@ -2,5 +2,8 @@ use Rattle.std.proofs.Common.{sym, ◌∙◌}
 use Rattle.row_view.proofs.ColumnLaws.{length-columns_of}
 use Rattle.row_view.proofs.row.RowView.len.Goals as goal
 
-pub returns : goal.returns
-returns c = rw (← c.self.view_is) (c.self.invariant.0 ∙ sym (length-columns_of _ _))
+pub returns-clause-count : goal.returns-clause-count
+returns-clause-count c = rw (← c.self.view_is) (c.self.invariant.0 ∙ sym (length-columns_of _ _))
+
+pub returns-clause-few : goal.returns-clause-few
+returns-clause-few c = rw (← c.self.view_is) (rw (length-columns_of _ _) c.self.invariant.1)
