@@ -1,8 +1,7 @@
 -- One event or one message more of what is still to come.
 use Rattle.std.proofs.Common.{◌≡◌, ℕ, zero, suc, ◌+◌, ◌≤◌, List, [], ◌∷◌, ◌++◌, length, Option, None, Some, Result, Ok, Err, refl, sym, ◌∙◌, ap, arith}
 use Rattle.std.proofs.lemmas.List.{length-append}
-use Rattle.std.specs.List.{filter_map}
-use Rattle.std.specs.Option.{cons_option}
+use Rattle.std.specs.List.{filter_map, cons_option}
 use Rattle.vevent.specs.Parts.{part_in}
 use Rattle.proto_wire.specs.declared.fault.WireFault.{WireFault}
 use Rattle.proto_wire.specs.Reading.{Reading, Spells, reading_within, reading_of, put_first}
@@ -83,16 +82,17 @@ refused_message source whole history message old new fault w i f err =
 
 -- ---- how many events there are
 
+length-put_first : {A F : Type 0} (first : Result (A × List ℕ) F) (others : List ℕ → Reading A F) (most : ℕ)
+    → ((rest : List ℕ) → length (others rest).items ≤ most) → length (put_first first others).items ≤ suc most
+length-put_first (Ok x) others most h = omega (arith, h x.1)
+length-put_first (Err f) others most h = omega arith
+
 -- as many items as bytes at most
 length-within : {A F : Type 0} (at : List ℕ → Result (A × List ℕ) F) (most : ℕ) (bytes : List ℕ) → length (reading_within at most bytes).items ≤ most
 unfolding reading_within
-length-within {A = A} {F = F} at zero bytes = omega arith
-length-within {A = A} {F = F} at (suc most) [] = omega arith
-length-within {A = A} {F = F} at (suc most) (b ∷ bytes) = one_more (at (b ∷ bytes))
-  where
-    one_more : (first : Result (A × List ℕ) F) → length (put_first first (λ rest. reading_within at most rest)).items ≤ suc most
-    one_more (Ok x) = omega (arith, length-within at most x.1)
-    one_more (Err f) = omega arith
+length-within at zero bytes = omega arith
+length-within at (suc most) [] = omega arith
+length-within at (suc most) (b ∷ bytes) = length-put_first (at (b ∷ bytes)) (λ rest. reading_within at most rest) most (λ rest. length-within at most rest)
 
 length-fields_of : (message : List ℕ) → length (fields_of message).items ≤ length message
 unfolding reading_of
