@@ -1,0 +1,12 @@
+pub mod EventValue
+pub mod FaultNumber
+pub mod Kind
+pub mod Parts
+pub mod Message
+pub mod Fault
+pub mod Event
+pub mod ChangeView
+pub mod ColumnView
+pub mod ShardGtidView
+pub mod EventView
+pub mod Response

@@ -1,0 +1,2 @@
+pub mod Utf8Tests
+pub mod SoundRows

@@ -1,0 +1,44 @@
+-- The row that stands alone in a row change can be read, where none of its rows is at fault.
+use Rattle.std.proofs.Common.{◌≡◌, ℕ, Bool, true, false, cond, eqb, List, [], ◌∷◌, Option, Some, None, Result, Ok, Err, refl, sym, subst, ◌⊎◌, inl, inr}
+use Rattle.std.specs.Prelude.{option_and_then}
+use Rattle.std.specs.List.{cons_option, filter_map}
+use Rattle.std.specs.Result.{result_err}
+use Rattle.std.proofs.lemmas.Bool.{eqb-true}
+use Rattle.proto_wire.specs.Field.{WireField}
+use Rattle.row_view.specs.Row.{row_at}
+use Rattle.vevent.specs.Parts.{bytes_in, part_in, first_of}
+use Rattle.vevent.specs.Fault.{or_else, first_in, in_change}
+
+none_first : {F : Type 0} (a b : Option F) → or_else a b ≡ None → a ≡ None
+none_first None b e = refl
+none_first (Some f) b e = absurd cc
+
+none_second : {F : Type 0} (a b : Option F) → or_else a b ≡ None → b ≡ None
+none_second None b e = e
+none_second (Some f) b e = absurd cc
+
+sound_row : (number : ℕ) (row : List ℕ) → (number ≡ 1) ⊎ (number ≡ 2) → in_change number row ≡ None → result_err (row_at row) ≡ None
+sound_row number row (inl e) h = subst (λ (n : ℕ). in_change n row ≡ None → result_err (row_at row) ≡ None) (sym e) (λ none. none) h
+sound_row number row (inr e) h = subst (λ (n : ℕ). in_change n row ≡ None → result_err (row_at row) ≡ None) (sym e) (λ none. none) h
+
+-- the first is that of the front, or else of the others
+first_is : (b : Bool) (o : Option (List ℕ)) (more : List (List ℕ)) (row : List ℕ) → first_of (cons_option (cond b o None) more) ≡ Some row → ((b ≡ true) × (o ≡ Some row)) ⊎ (first_of more ≡ Some row)
+first_is false o more row h = inr h
+first_is true None more row h = inr h
+first_is true (Some p) more row h = inl (refl, h)
+
+pub single_is_sound : (number : ℕ) (fs : List WireField) (row : List ℕ) → (number ≡ 1) ⊎ (number ≡ 2) → first_in in_change fs None ≡ None → first_of (filter_map (part_in number) fs) ≡ Some row → result_err (row_at row) ≡ None
+single_is_sound number [] row which sound h = absurd cc
+single_is_sound number (f ∷ fs) row which sound h =
+    let here = none_first (option_and_then (in_change f.number) (bytes_in f.value)) (first_in in_change fs None) sound in
+    let others = none_second (option_and_then (in_change f.number) (bytes_in f.value)) (first_in in_change fs None) sound in
+    elim (first_is (eqb f.number number) (bytes_in f.value) (filter_map (part_in number) fs) row h) [
+      | inl w ↦
+          let held = subst (λ (o : Option (List ℕ)). option_and_then (in_change f.number) o ≡ None) w.1 here in
+          sound_row number row which (subst (λ (n : ℕ). in_change n row ≡ None) (eqb-true f.number number w.0) held)
+      | inr more ↦ single_is_sound number fs row which others more
+    ]
+
+pub no_fault : {A F : Type 0} (r : Result A F) (f : F) → Err f ≡ r → result_err r ≡ None → ⊥
+no_fault (Ok x) f e h = cc
+no_fault (Err g) f e h = cc

@@ -1,0 +1,24 @@
+//! Texts, which are UTF-8.
+
+ghost use Rattle.std.specs.Prelude.{◌≡◌, true};
+ghost use Rattle.std.specs.Str.{is_utf8};
+
+use std::str::from_utf8;
+
+/// Whether the bytes are a text.
+pub(crate) fn is_text(bytes: &[u8]) -> bool
+    ensures { result ≡ is_utf8 bytes.now }
+{
+    from_utf8(bytes).is_ok()
+}
+
+/// The bytes as the text that they are known to be.
+pub(crate) fn text_of(bytes: &[u8]) -> &str
+    requires { is_utf8 bytes.now ≡ true }
+    ensures { result.now ≡ bytes.now }
+{
+    match from_utf8(bytes) {
+        Ok(text) => text,
+        Err(_) => unreachable!(),
+    }
+}

@@ -1,0 +1,58 @@
+//! Whether the texts that an event's type uses are UTF-8.
+
+ghost use Rattle.std.specs.Prelude.{◌≡◌};
+ghost use Rattle.std.specs.List.{list_all};
+ghost use Rattle.std.specs.Str.{is_utf8};
+ghost use Rattle.vevent.specs.Parts.{text, parts};
+ghost use Rattle.vevent.specs.Fault.{are_entry_texts, are_texts};
+
+use crate::kind::EventKind;
+use crate::parts::{Parts, embedded_of, last_text};
+use crate::text::is_text;
+
+/// The names of all columns of a field event.
+fn are_names(field_event: &[u8]) -> bool
+    ensures { result ≡ list_all (λ field. is_utf8 (text 1 field)) (parts 2 field_event.now) }
+{
+    for field in Parts::new(field_event, 2) {
+        if !is_text(last_text(field, 1)) {
+            return false;
+        }
+    }
+    true
+}
+
+/// The three texts of an entry of a VGTID.
+fn are_texts_of_entry(entry: &[u8]) -> bool
+    ensures { result ≡ are_entry_texts entry.now }
+{
+    is_text(last_text(entry, 1)) && is_text(last_text(entry, 2)) && is_text(last_text(entry, 3))
+}
+
+/// The texts of all entries of a VGTID.
+fn are_texts_of_entries(vgtid: &[u8]) -> bool
+    ensures { result ≡ list_all are_entry_texts (parts 1 vgtid.now) }
+{
+    for entry in Parts::new(vgtid, 1) {
+        if !are_texts_of_entry(entry) {
+            return false;
+        }
+    }
+    true
+}
+
+/// The texts that an event of this type uses.
+pub(crate) fn are_used_texts(kind: EventKind, event: &[u8]) -> bool
+    ensures { result ≡ are_texts kind event.now }
+{
+    match kind {
+        EventKind::Gtid => is_text(last_text(event, 3)),
+        EventKind::Row => is_text(last_text(embedded_of(event, 5), 1)),
+        EventKind::Field => {
+            let field_event = embedded_of(event, 6);
+            is_text(last_text(field_event, 1)) && are_names(field_event)
+        }
+        EventKind::Vgtid => are_texts_of_entries(embedded_of(event, 7)),
+        EventKind::Begin | EventKind::Commit | EventKind::Rollback | EventKind::Ignored(_) => true,
+    }
+}
