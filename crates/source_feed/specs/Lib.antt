@@ -1,0 +1,11 @@
+pub mod FaultNumber
+pub mod GroupValue
+pub mod SourceValue
+pub mod EventList
+pub mod History
+pub mod Groups
+pub mod Grammar
+pub mod Run
+pub mod Widths
+pub mod BlockEnd
+pub mod Means

@@ -1,1 +1,13 @@
+//! The groups of a recorded feed: the changes that are applied together, with the position after them.
 #![tactic(auto)]
+
+mod fault;
+mod group;
+mod groups;
+mod pass;
+mod source;
+mod widths;
+
+pub use fault::FeedFault;
+pub use group::{Change, Group};
+pub use groups::read_groups;

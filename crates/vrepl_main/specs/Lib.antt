@@ -1,3 +1,5 @@
 pub mod Hex
 pub mod Refusals
 pub mod Words
+pub mod Shown
+pub mod Show

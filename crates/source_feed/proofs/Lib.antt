@@ -1,0 +1,6 @@
+pub mod Names
+pub mod Positions
+pub mod Blocks
+pub mod Steps
+pub mod RunLaws
+pub mod Messages

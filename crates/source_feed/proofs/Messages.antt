@@ -1,0 +1,176 @@
+-- One event or one message more of what is still to come.
+use Rattle.std.proofs.Common.{◌≡◌, ℕ, zero, suc, ◌+◌, ◌≤◌, List, [], ◌∷◌, ◌++◌, length, Option, None, Some, Result, Ok, Err, refl, sym, ◌∙◌, ap, arith}
+use Rattle.std.proofs.lemmas.List.{length-append}
+use Rattle.std.specs.List.{filter_map, cons_option}
+use Rattle.vevent.specs.Parts.{part_in}
+use Rattle.proto_wire.specs.declared.fault.WireFault.{WireFault}
+use Rattle.proto_wire.specs.Reading.{Reading, Spells, reading_within, reading_of, put_first}
+use Rattle.proto_wire.specs.Field.{field_at, fields_of}
+use Rattle.proto_wire.specs.Frame.{IsFrame, NoFrame, AreFrames}
+use Rattle.proto_wire.specs.declared.fault.FrameFault.{FrameFault}
+use Rattle.vevent.specs.EventValue.{EventValue}
+use Rattle.vevent.specs.Response.{response_of, events_of, put_event}
+use Rattle.vevent.specs.Event.{event_at}
+use Rattle.vevent.specs.declared.fault.EventFault.{EventFault}
+use Rattle.source_feed.specs.declared.fault.FeedFault.{FeedFault}
+use Rattle.source_feed.specs.declared.fault.FeedFault.TheVariants.{Memory, Frame}
+use Rattle.source_feed.specs.FaultNumber.{Refuses, IsFault}
+use Rattle.source_feed.specs.SourceValue.{SourceValue}
+use Rattle.source_feed.specs.EventList.{end_of_message, events_then, events_in}
+use Rattle.source_feed.specs.History.{History}
+use Rattle.source_feed.specs.Groups.{fault_at}
+use Rattle.source_feed.specs.Run.{unless, run}
+use Rattle.source_feed.proofs.RunLaws.{then, run-events_then}
+
+-- a refusal of one definition is one of another that is refused with it
+pub refuses_along : {Y Z : Type 0} (fault : FeedFault) (one : Result Y FeedFault) (other : Result Z FeedFault)
+    → (one ≡ Err fault → other ≡ Err fault) → Refuses fault one → Refuses fault other
+refuses_along Memory one other h r = tt
+refuses_along fault one other h r = h r
+
+pub refuses_from : {Z : Type 0} (fault : FeedFault) (named : Option FeedFault) (definition : Result Z FeedFault)
+    → (named ≡ Some fault → definition ≡ Err fault) → IsFault fault named → Refuses fault definition
+refuses_from Memory named definition h r = tt
+refuses_from fault named definition h r = h r
+
+-- ---- events of a message
+
+pub took_event : (source : SourceValue) (whole : Result History FeedFault) (history : History) (event : EventValue) (old new : Reading EventValue EventFault)
+    → whole ≡ run source history old.items (end_of_message old.fault) → old.items ≡ event ∷ new.items → old.fault ≡ new.fault
+    → fault_at source history event ≡ None → whole ≡ run source (event ∷ history) new.items (end_of_message new.fault)
+took_event source whole history event old new w i f none =
+    w ∙ ap (λ items. run source history items (end_of_message old.fault)) i
+    ∙ ap (λ fault. run source history (event ∷ new.items) (end_of_message fault)) f
+    ∙ ap (λ fault. unless fault (run source (event ∷ history) new.items (end_of_message new.fault))) none
+
+pub refused_event : (source : SourceValue) (whole : Result History FeedFault) (history : History) (event : EventValue) (old new : Reading EventValue EventFault) (fault : FeedFault)
+    → whole ≡ run source history old.items (end_of_message old.fault) → old.items ≡ event ∷ new.items
+    → fault_at source history event ≡ Some fault → whole ≡ Err fault
+refused_event source whole history event old new fault w i some =
+    w ∙ ap (λ items. run source history items (end_of_message old.fault)) i
+    ∙ ap (λ fault. unless fault (run source (event ∷ history) new.items (end_of_message old.fault))) some
+
+pub ended_events : (source : SourceValue) (whole : Result History FeedFault) (history : History) (old : Reading EventValue EventFault) (end : Option EventFault)
+    → whole ≡ run source history old.items (end_of_message old.fault) → old.items ≡ [] → old.fault ≡ end
+    → whole ≡ unless (end_of_message end) (Ok history)
+ended_events source whole history old end w i f =
+    w ∙ ap (λ items. run source history items (end_of_message old.fault)) i ∙ ap (λ fault. unless (end_of_message fault) (Ok history)) f
+
+-- ---- messages of a feed
+
+pub split_message : (message : List ℕ) (old new : Reading (List ℕ) FrameFault) → old.items ≡ message ∷ new.items → old.fault ≡ new.fault
+    → events_in old.items old.fault ≡ events_then (response_of message).items (response_of message).fault (events_in new.items new.fault)
+split_message message old new i f = ap (λ items. events_in items old.fault) i ∙ ap (λ fault. events_in (message ∷ new.items) fault) f
+
+pub took_message : (source : SourceValue) (whole : Result History FeedFault) (history next : History) (message : List ℕ) (old new : Reading (List ℕ) FrameFault)
+    → whole ≡ run source history (events_in old.items old.fault).items (events_in old.items old.fault).fault → old.items ≡ message ∷ new.items → old.fault ≡ new.fault
+    → run source history (response_of message).items (end_of_message (response_of message).fault) ≡ Ok next
+    → whole ≡ run source next (events_in new.items new.fault).items (events_in new.items new.fault).fault
+took_message source whole history next message old new w i f ok =
+    w ∙ ap (λ (all : Reading EventValue FeedFault). run source history all.items all.fault) (split_message message old new i f)
+    ∙ run-events_then source history (response_of message).items (response_of message).fault (events_in new.items new.fault)
+    ∙ ap (λ first. then first (λ h. run source h (events_in new.items new.fault).items (events_in new.items new.fault).fault)) ok
+
+pub refused_message : (source : SourceValue) (whole : Result History FeedFault) (history : History) (message : List ℕ) (old new : Reading (List ℕ) FrameFault) (fault : FeedFault)
+    → whole ≡ run source history (events_in old.items old.fault).items (events_in old.items old.fault).fault → old.items ≡ message ∷ new.items → old.fault ≡ new.fault
+    → run source history (response_of message).items (end_of_message (response_of message).fault) ≡ Err fault
+    → whole ≡ Err fault
+refused_message source whole history message old new fault w i f err =
+    w ∙ ap (λ (all : Reading EventValue FeedFault). run source history all.items all.fault) (split_message message old new i f)
+    ∙ run-events_then source history (response_of message).items (response_of message).fault (events_in new.items new.fault)
+    ∙ ap (λ first. then first (λ h. run source h (events_in new.items new.fault).items (events_in new.items new.fault).fault)) err
+
+-- ---- how many events there are
+
+length-put_first : {A F : Type 0} (first : Result (A × List ℕ) F) (others : List ℕ → Reading A F) (most : ℕ)
+    → ((rest : List ℕ) → length (others rest).items ≤ most) → length (put_first first others).items ≤ suc most
+length-put_first (Ok x) others most h = omega (arith, h x.1)
+length-put_first (Err f) others most h = omega arith
+
+-- as many items as bytes at most
+length-within : {A F : Type 0} (at : List ℕ → Result (A × List ℕ) F) (most : ℕ) (bytes : List ℕ) → length (reading_within at most bytes).items ≤ most
+unfolding reading_within
+length-within at zero bytes = omega arith
+length-within at (suc most) [] = omega arith
+length-within at (suc most) (b ∷ bytes) = length-put_first (at (b ∷ bytes)) (λ rest. reading_within at most rest) most (λ rest. length-within at most rest)
+
+length-fields_of : (message : List ℕ) → length (fields_of message).items ≤ length message
+unfolding reading_of
+length-fields_of message = length-within field_at (length message) message
+
+length-cons_option : {B : Type 0} (first : Option B) (items : List B) → length (cons_option first items) ≤ length items + 1
+length-cons_option None items = omega arith
+length-cons_option (Some item) items = omega arith
+
+length-filter_map : {A B : Type 0} (f : A → Option B) (items : List A) → length (filter_map f items) ≤ length items
+length-filter_map f [] = omega arith
+length-filter_map f (item ∷ items) = omega (arith, length-cons_option (f item) (filter_map f items), length-filter_map f items)
+
+length-put_event : (first : Result EventValue EventFault) (others : Reading EventValue EventFault) → length (put_event first others).items ≤ length others.items + 1
+length-put_event (Ok event) others = omega arith
+length-put_event (Err fault) others = omega arith
+
+length-events_of : (parts : List (List ℕ)) (end : Option WireFault) → length (events_of parts end).items ≤ length parts
+length-events_of [] end = omega arith
+length-events_of (part ∷ parts) end = omega (arith, length-put_event (event_at part) (events_of parts end), length-events_of parts end)
+
+-- the events of a message aren't more than its bytes
+pub length-response_of : (message : List ℕ) → length (response_of message).items ≤ length message
+unfolding response_of
+length-response_of message =
+    omega (arith, length-events_of (filter_map (part_in 1) (fields_of message).items) (fields_of message).fault,
+      length-filter_map (part_in 1) (fields_of message).items, length-fields_of message)
+
+length-events_then : (items : List EventValue) (fault : Option EventFault) (others : Reading EventValue FeedFault)
+    → length (events_then items fault others).items ≤ length items + length others.items
+length-events_then items None others = omega (arith, length-append items others.items)
+length-events_then items (Some fault) others = omega arith
+
+-- the bytes of some messages
+total : List (List ℕ) → ℕ
+total [] = 0
+total (message ∷ messages) = length message + total messages
+
+length-events_in : (messages : List (List ℕ)) (end : Option FrameFault) → length (events_in messages end).items ≤ total messages
+unfolding total
+length-events_in [] end = omega arith
+length-events_in (message ∷ messages) end =
+    omega (arith, length-events_then (response_of message).items (response_of message).fault (events_in messages end), length-response_of message, length-events_in messages end)
+
+total-frames : (NoItem : List ℕ → FrameFault → Type 0) (bytes : List ℕ) (messages : List (List ℕ)) (end : Option FrameFault) → Spells IsFrame NoItem bytes messages end → total messages ≤ length bytes
+unfolding total
+total-frames NoItem bytes [] end s = omega arith
+total-frames NoItem bytes (message ∷ messages) end s =
+    omega (arith, total-frames NoItem s.1 messages end s.4, ap length s.2, ap length s.3.2, length-append s.0 s.1, length-append s.3.0 message)
+
+-- the events of a feed aren't more than its bytes
+pub length-feed : (feed : List ℕ) (frames : Reading (List ℕ) FrameFault) → AreFrames feed frames → length (events_in frames.items frames.fault).items ≤ length feed
+length-feed feed frames s = omega (arith, length-events_in frames.items frames.fault, total-frames (NoFrame (length feed)) feed frames.items frames.fault s)
+
+-- a message's events are among those still to come
+pub events_first : (message : List ℕ) (old new : Reading (List ℕ) FrameFault) → old.items ≡ message ∷ new.items → old.fault ≡ new.fault
+    → length (response_of message).items ≤ length (events_in old.items old.fault).items
+events_first message old new i f = rw (split_message message old new i f) (among (response_of message).items (response_of message).fault (events_in new.items new.fault))
+  where
+    among : (items : List EventValue) (fault : Option EventFault) (others : Reading EventValue FeedFault) → length items ≤ length (events_then items fault others).items
+    among items None others = omega (arith, length-append items others.items)
+    among items (Some fault) others = omega arith
+
+-- and those behind it are as many less, unless the message ends them
+pub events_behind : (source : SourceValue) (history next : History) (message : List ℕ) (old new : Reading (List ℕ) FrameFault) → old.items ≡ message ∷ new.items → old.fault ≡ new.fault
+    → run source history (response_of message).items (end_of_message (response_of message).fault) ≡ Ok next
+    → length (response_of message).items + length (events_in new.items new.fault).items ≡ length (events_in old.items old.fault).items
+events_behind source history next message old new i f ok =
+    rw (split_message message old new i f) (behind (response_of message).items (response_of message).fault (events_in new.items new.fault) history ok)
+  where
+    never : (items : List EventValue) (fault : FeedFault) (history : History) → run source history items (Some fault) ≡ Ok next → ⊥
+    never [] fault history e = cc
+    never (event ∷ items) fault history e = never_unless (fault_at source history event) (run source (event ∷ history) items (Some fault)) (never items fault (event ∷ history)) e
+      where
+        never_unless : (first : Option FeedFault) (then : Result History FeedFault) → (then ≡ Ok next → ⊥) → unless first then ≡ Ok next → ⊥
+        never_unless None then h e = h e
+        never_unless (Some f) then h e = cc
+    behind : (items : List EventValue) (fault : Option EventFault) (others : Reading EventValue FeedFault) (history : History)
+      → run source history items (end_of_message fault) ≡ Ok next → length items + length others.items ≡ length (events_then items fault others).items
+    behind items None others history e = omega (arith, length-append items others.items)
+    behind items (Some fault) others history e = absurd (never items _ history e)

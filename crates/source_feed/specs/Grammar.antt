@@ -1,0 +1,1 @@
+-- laws of blocks

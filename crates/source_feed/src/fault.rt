@@ -1,0 +1,136 @@
+//! Why a feed is refused.
+
+ghost use Rattle.std.specs.Prelude.{◌≡◌};
+ghost use Rattle.source_feed.specs.FaultNumber.{number_of};
+
+use gtid_set::GtidFault;
+use proto_wire::FrameFault;
+use std::alloc::{AllocError, AllocFailed};
+use thiserror::Error;
+use vevent::EventFault;
+
+/// What stands in a feed at the first place where its groups aren't defined.
+#[derive(Debug, Drop, Error)]
+pub enum FeedFault {
+    /// The feed has more than 2^31 - 1 bytes. It comes before all other faults.
+    #[error("the feed has more than 2^31 - 1 bytes")]
+    FeedTooLong,
+    /// A message is cut short, or its length is no varint. It stands before the message's events.
+    #[error("a message of the feed is broken")]
+    Frame,
+    /// A message is no list of fields, or one of its events is refused; with the cause.
+    #[error("an event is refused: {0}")]
+    Event(EventFault),
+    /// The position of a GTID or VGTID can't be read, whether or not it counts; with the cause.
+    #[error("a position is refused: {0}")]
+    BadPosition(GtidFault),
+    /// A transaction ends without a position.
+    #[error("a transaction has no position")]
+    NoPosition,
+    /// A position neither lies within the earlier ones nor contains them; with the number that its
+    /// group would have had.
+    #[error("the position of group {0} doesn't contain the earlier ones")]
+    Diverged(u32),
+    /// The columns of a planned table aren't those of the plan.
+    #[error("the columns of a table differ from the plan")]
+    FieldsDiffer,
+    /// A ROW stands before any FIELD of its table.
+    #[error("the columns of a table aren't known")]
+    NoFields,
+    /// A row has another number of columns than its table.
+    #[error("a row has another number of columns than its table")]
+    ColumnCount,
+    /// A transaction is open at the feed's end.
+    #[error("the feed ends inside a transaction")]
+    OpenAtEnd,
+    /// A VGTID hasn't exactly one entry, that of the feed's own keyspace and shard.
+    #[error("a position is not that of the feed's own shard")]
+    ShardMissing,
+    /// A BEGIN inside a transaction, or a ROW outside of one.
+    #[error("an event stands where it can't stand")]
+    Misplaced,
+    /// A growth was refused.
+    #[error("out of memory")]
+    Memory,
+}
+
+impl FeedFault {
+    /// The refusal's number: 95, 81, 82, 94, 83, 84, 85, 86, 87, 88, 89, 92, and 72 for want of memory.
+    pub fn number(&self) -> u8
+        ensures { result ≡ number_of self.now }
+    {
+        match self {
+            FeedFault::FeedTooLong => 95,
+            FeedFault::Frame => 81,
+            FeedFault::Event(_) => 82,
+            FeedFault::BadPosition(_) => 94,
+            FeedFault::NoPosition => 83,
+            FeedFault::Diverged(_) => 84,
+            FeedFault::FieldsDiffer => 85,
+            FeedFault::NoFields => 86,
+            FeedFault::ColumnCount => 87,
+            FeedFault::OpenAtEnd => 88,
+            FeedFault::ShardMissing => 89,
+            FeedFault::Misplaced => 92,
+            FeedFault::Memory => 72,
+        }
+    }
+}
+
+impl From<AllocError> for FeedFault {
+    ghost use Rattle.std.specs.Prelude.{◌≡◌};
+    ghost use Rattle.source_feed.specs.declared.fault.FeedFault.TheVariants.{Memory};
+
+    ghost from_gives = { λ _ fault. fault ≡ Memory };
+
+    fn from(_: AllocError) -> FeedFault {
+        FeedFault::Memory
+    }
+}
+
+impl<T: Drop> From<AllocFailed<T>> for FeedFault {
+    ghost use Rattle.std.specs.Prelude.{◌≡◌};
+    ghost use Rattle.source_feed.specs.declared.fault.FeedFault.TheVariants.{Memory};
+
+    ghost from_gives = { λ _ fault. fault ≡ Memory };
+
+    fn from(_: AllocFailed<T>) -> FeedFault {
+        FeedFault::Memory
+    }
+}
+
+impl From<FrameFault> for FeedFault {
+    ghost use Rattle.std.specs.Prelude.{◌≡◌};
+    ghost use Rattle.source_feed.specs.declared.fault.FeedFault.TheVariants.{Frame};
+
+    ghost from_gives = { λ _ fault. fault ≡ Frame };
+
+    fn from(_: FrameFault) -> FeedFault {
+        FeedFault::Frame
+    }
+}
+
+impl From<EventFault> for FeedFault {
+    ghost use Rattle.std.specs.Prelude.{◌≡◌};
+    ghost use Rattle.source_feed.specs.declared.fault.FeedFault.TheVariants.{Event};
+
+    ghost from_gives = { λ cause fault. fault ≡ Event cause };
+
+    fn from(cause: EventFault) -> FeedFault {
+        FeedFault::Event(cause)
+    }
+}
+
+impl From<GtidFault> for FeedFault {
+    ghost use Rattle.std.specs.Prelude.{◌≡◌};
+    ghost use Rattle.source_feed.specs.FaultNumber.{refusal_of};
+
+    ghost from_gives = { λ cause fault. fault ≡ refusal_of cause };
+
+    fn from(cause: GtidFault) -> FeedFault {
+        match cause {
+            GtidFault::Memory => FeedFault::Memory,
+            cause => FeedFault::BadPosition(cause),
+        }
+    }
+}

@@ -1,0 +1,289 @@
+//! One pass over the events of a feed.
+
+ghost use Rattle.std.specs.Prelude.{◌≡◌, ℕ, List, Option, ◌+◌, ◌^◌, ◌<◌, ◌≤◌, ◌++◌, [], Some, None, Ok, OnOk, IfErr, length};
+ghost use Rattle.std.specs.Option.{option_map};
+ghost use Rattle.std.specs.List.{list_all};
+ghost use Rattle.vevent.specs.EventValue as value;
+ghost use Rattle.vevent.specs.EventValue.{ShardGtidValue};
+ghost use Rattle.source_feed.specs.SourceValue.{SourceValue, own_gtid};
+ghost use Rattle.source_feed.specs.BlockEnd.{last_position, block_end};
+ghost use Rattle.source_feed.specs.FaultNumber.{Gives, IsFault};
+ghost use Rattle.source_feed.specs.History.{History, changes_in};
+ghost use Rattle.source_feed.specs.Run.{finish};
+ghost use Rattle.source_feed.specs.Widths.{counted};
+ghost use Rattle.source_feed.specs.Groups.{has_width, fits, row_fault};
+
+use crate::fault::FeedFault;
+use crate::group::{Change, Group};
+use crate::source::Source;
+use crate::widths::Widths;
+use gtid_set::GtidSet;
+use std::alloc::{AllocError, Global};
+use row_view::RowView;
+use vevent::{ColumnFields, Event, FieldEvent, RowChanges, RowEvent};
+
+/// What the open transaction has so far.
+#[derive(Drop)]
+pub(crate) struct Transaction<'h> {
+    /// its last position
+    position: Option<GtidSet>,
+    changes: Vec<Change<'h>>,
+}
+
+/// What is known behind some events of a feed.
+#[derive(Drop)]
+pub(crate) struct Pass<'h> {
+    /// the open transaction, if one is open
+    transaction: Option<Transaction<'h>>,
+    /// the number of columns of each table's last FIELD
+    widths: Widths<'h>,
+    /// the groups so far; the last one's position contains all earlier positions
+    groups: Vec<Group<'h>>,
+}
+
+/// The number of columns of a FIELD event; more than 65,535 count as 65,535.
+fn column_count(fields: ColumnFields<'_>) -> u16
+    ensures { result ≡ counted (length fields.entry) }
+{
+    let mut count: u16 = 0;
+    for _column in fields {
+        count = count.saturating_add(1);
+    }
+    count
+}
+
+/// A row has so many columns, if there is one.
+fn has_width(width: u16, row: &Option<RowView<'_>>) -> bool
+    ensures { (columns : ℕ) → width ≡ counted columns → result ≡ has_width columns row.now }
+{
+    match row {
+        None => true,
+        Some(row) => row.len() == usize::from(width),
+    }
+}
+
+/// Puts the changes of a ROW event behind others.
+fn push_changes<'h>(
+    changes: &mut Vec<Change<'h>>,
+    table: &'h str,
+    rows: RowChanges<'h>,
+) -> Result<(), AllocError>
+    ensures { OnOk result (changes.new.items ≡ changes.old.items ++ changes_in table.now rows.entry) }
+{
+    for change in rows {
+        if change.before.is_some() || change.after.is_some() {
+            changes.push(Change {
+                table,
+                before: change.before,
+                after: change.after,
+            })?;
+        }
+    }
+    Ok(())
+}
+
+/// All rows of a ROW event have so many columns.
+fn all_fit(width: u16, rows: RowChanges<'_>) -> bool
+    ensures { (columns : ℕ) → width ≡ counted columns → result ≡ list_all (fits columns) rows.entry }
+{
+    for change in rows {
+        if !has_width(width, &change.before) || !has_width(width, &change.after) {
+            return false;
+        }
+    }
+    true
+}
+
+/// The position of the last group, or the empty one.
+fn last_position<'g>(groups: &'g [Group<'_>], empty: &'g GtidSet) -> &'g GtidSet
+    requires { empty.now ≡ [] }
+    ensures { result.now ≡ last_position groups.now }
+{
+    match groups.last() {
+        None => empty,
+        Some(group) => group.position(),
+    }
+}
+
+/// Ends a block: it is kept behind the groups, or skipped as a repeat, or refused as diverged.
+fn end_block<'h>(
+    alloc: Global,
+    groups: &mut Vec<Group<'h>>,
+    position: GtidSet,
+    changes: Vec<Change<'h>>,
+) -> Result<(), FeedFault>
+    requires { length groups.old.items + 1 < 2 ^ 32 }
+    ensures block { Gives (λ _. groups.new.items) result (block_end groups.old.items position changes.entry.items) }
+    ensures grows { length groups.new.items ≤ length groups.old.items + 1 }
+{
+    let empty = GtidSet::new(alloc);
+    let last = last_position(groups, &empty);
+    if position.is_within(last) {
+        return Ok(());
+    }
+    let number = groups.len() as u32 + 1;
+    if !last.is_within(&position) {
+        return Err(FeedFault::Diverged(number));
+    }
+    groups.push(Group {
+        number,
+        position,
+        changes,
+    })?;
+    Ok(())
+}
+
+impl<'h> Transaction<'h> {
+    /// Puts the changes of a ROW event behind the others, under the number of columns that its table
+    /// has, if that is known.
+    fn put_row(
+        &mut self,
+        table: &'h str,
+        width: Option<u16>,
+        row: &RowEvent<'h>,
+    ) -> Result<(), FeedFault>
+        ensures fits { (columns : Option ℕ) → width ≡ option_map counted columns → OnOk result (row_fault columns row.now.changes ≡ None) }
+        ensures position { OnOk result (self.new.position ≡ self.old.position) }
+        ensures changes { OnOk result (self.new.changes.items ≡ self.old.changes.items ++ changes_in table.now row.now.changes) }
+        ensures err { (columns : Option ℕ) → width ≡ option_map counted columns → IfErr result (λ fault. IsFault fault (row_fault columns row.now.changes)) }
+    {
+        let Some(width) = width else {
+            return Err(FeedFault::NoFields);
+        };
+        if !all_fit(width, row.changes()) {
+            return Err(FeedFault::ColumnCount);
+        }
+        push_changes(&mut self.changes, table, row.changes())?;
+        Ok(())
+    }
+}
+
+impl<'h> Pass<'h> {
+    ghost use Rattle.source_feed.specs.Means.{Means, Puts};
+    ghost use Rattle.vevent.specs.EventView.{event_value};
+
+    /// Nothing is known yet. Takes no memory.
+    pub(crate) fn new(alloc: Global) -> Pass<'h>
+        ensures meaning { (source : SourceValue) → Means source [] result }
+        ensures none { result.groups.items ≡ [] }
+    {
+        Pass {
+            transaction: None,
+            widths: Widths::new(alloc),
+            groups: Vec::new(alloc),
+        }
+    }
+
+    /// Takes one more event.
+    pub(crate) fn put(
+        &mut self,
+        alloc: Global,
+        source: &Source<'_>,
+        event: Event<'h>,
+    ) -> Result<(), FeedFault>
+        requires { length self.old.groups.items + 1 < 2 ^ 32 }
+        ensures meaning { (earlier : History) → Means source.now earlier self.old → Puts source.now earlier (event_value event.entry) result self.new }
+        ensures grows { length self.new.groups.items ≤ length self.old.groups.items + 1 }
+    {
+        match event {
+            Event::Begin => self.begin(alloc),
+            Event::Commit => self.commit(alloc),
+            Event::Rollback => {
+                self.transaction = None;
+                Ok(())
+            }
+            Event::Row(row) => self.put_row(source, &row),
+            Event::Field(field) => self.put_field(source, &field),
+            Event::Gtid(text) => self.put_position(alloc, text),
+            Event::Vgtid(vgtid) => match source.own_gtid(&vgtid) {
+                Some(text) => self.put_position(alloc, text),
+                None => Err(FeedFault::ShardMissing),
+            },
+            Event::Ignored(_) => Ok(()),
+        }
+    }
+
+    /// The groups, where no transaction is open.
+    pub(crate) fn end(self) -> Result<Vec<Group<'h>>, FeedFault>
+        ensures { (source : SourceValue) (history : History) → Means source history self.entry → Gives (λ all. all.items) result (finish source (Ok history)) }
+    {
+        let Pass {
+            transaction,
+            widths: _,
+            groups,
+        } = self;
+        if transaction.is_some() {
+            return Err(FeedFault::OpenAtEnd);
+        }
+        Ok(groups)
+    }
+
+    /// BEGIN opens a transaction; inside of one it is refused.
+    fn begin(&mut self, alloc: Global) -> Result<(), FeedFault>
+        ensures meaning { (source : SourceValue) (earlier : History) → Means source earlier self.old → Puts source earlier value.Begin result self.new }
+        ensures same { self.new.groups.items ≡ self.old.groups.items }
+    {
+        if self.transaction.is_some() {
+            return Err(FeedFault::Misplaced);
+        }
+        self.transaction = Some(Transaction {
+            position: None,
+            changes: Vec::new(alloc),
+        });
+        Ok(())
+    }
+
+    /// COMMIT ends the transaction as a block; outside of one it is ignored.
+    fn commit(&mut self, alloc: Global) -> Result<(), FeedFault>
+        requires { length self.old.groups.items + 1 < 2 ^ 32 }
+        ensures meaning { (source : SourceValue) (earlier : History) → Means source earlier self.old → Puts source earlier value.Commit result self.new }
+        ensures grows { length self.new.groups.items ≤ length self.old.groups.items + 1 }
+    {
+        let Some(Transaction { position, changes }) = self.transaction.take() else {
+            return Ok(());
+        };
+        let Some(position) = position else {
+            return Err(FeedFault::NoPosition);
+        };
+        end_block(alloc, &mut self.groups, position, changes)
+    }
+
+    /// A ROW needs an open transaction, a FIELD of its table, and rows with as many columns.
+    fn put_row(&mut self, source: &Source<'_>, row: &RowEvent<'h>) -> Result<(), FeedFault>
+        ensures meaning { (earlier : History) → Means source.now earlier self.old → Puts source.now earlier (value.Row row.now.table_name row.now.changes) result self.new }
+        ensures same { self.new.groups.items ≡ self.old.groups.items }
+    {
+        let table = source.table(row.table_name());
+        let width = self.widths.get(table);
+        match &mut self.transaction {
+            Some(transaction) => transaction.put_row(table, width, row),
+            None => Err(FeedFault::Misplaced),
+        }
+    }
+
+    /// FIELD sets the columns of its table from here on.
+    fn put_field(&mut self, source: &Source<'_>, field: &FieldEvent<'h>) -> Result<(), FeedFault>
+        ensures meaning { (earlier : History) → Means source.now earlier self.old → Puts source.now earlier (value.Field field.now.table_name field.now.fields) result self.new }
+        ensures same { self.new.groups.items ≡ self.old.groups.items }
+    {
+        self.widths.set(source.table(field.table_name()), column_count(field.fields()))?;
+        Ok(())
+    }
+
+    /// A position counts for the open transaction if no other follows; outside of one it ends a block.
+    fn put_position(&mut self, alloc: Global, text: &str) -> Result<(), FeedFault>
+        requires { length self.old.groups.items + 1 < 2 ^ 32 }
+        ensures gtid { (source : SourceValue) (earlier : History) → Means source earlier self.old → Puts source earlier (value.Gtid text.now) result self.new }
+        ensures vgtid { (source : SourceValue) (earlier : History) (entries : List ShardGtidValue) → own_gtid source entries ≡ Some text.now → Means source earlier self.old → Puts source earlier (value.Vgtid entries) result self.new }
+        ensures grows { length self.new.groups.items ≤ length self.old.groups.items + 1 }
+    {
+        let position = GtidSet::parse(alloc, text)?;
+        match &mut self.transaction {
+            Some(transaction) => {
+                transaction.position = Some(position);
+                Ok(())
+            }
+            None => end_block(alloc, &mut self.groups, position, Vec::new(alloc)),
+        }
+    }
+}
