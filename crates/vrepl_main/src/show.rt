@@ -85,3 +85,6 @@ fn refuse<E: Write>(err: &mut E, refusal: &Refusal<'_>) -> u8
     let _ = writeln!(err, "{refusal}");
     1
 }
+
+#[cfg(test)]
+mod tests;

@@ -62,7 +62,6 @@ fn program<'w>(alloc: Global) -> Result<Command<'w>, AllocError> {
 fn show_command<'w>(alloc: Global) -> Result<Command<'w>, AllocError> {
     Command::new(alloc, "show")
         .about("Prints the transactions of a feed with their positions")
-        .hide(true)
         .arg(hex(alloc))?
         .arg(text(alloc, "keyspace", "K", "The feed's keyspace"))?
         .arg(text(alloc, "shard", "S", "The feed's shard, as --shard=-80"))?

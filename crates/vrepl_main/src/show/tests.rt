@@ -1,0 +1,82 @@
+//! Feeds in hexadecimal text, and what `show` prints of them.
+
+use super::*;
+use std::test::Fail;
+
+/// One transaction: a row (1, ab) of the table t, and the position behind it.
+const FIRST_GROUP: &str = "6c0a0208020a18080d32140a017412070a02696410890212060a0176109530\
+    0a14080c2a100a0174120b12090a0202041203316162\
+    0a3208011a2e4d7953514c35362f33653131666134372d373163612d313165312d396533332d633830616139343239353632\
+    3a310a020803";
+
+/// `show --hex` over the feed ends with this status and has printed this on its two streams.
+fn check(rt: &HostRuntime, feed: &str, status: u8, out: &str, err: &str) -> Result<(), Fail> {
+    let alloc = rt.alloc();
+    let mut printed = Vec::new(alloc);
+    let mut refused = Vec::new(alloc);
+    let ended = show(
+        alloc,
+        true,
+        feed.as_bytes(),
+        "",
+        "",
+        &mut printed,
+        &mut refused,
+    );
+    assert_eq!(rt; refused.as_slice(), err.as_bytes(), "{feed}");
+    assert_eq!(rt; printed.as_slice(), out.as_bytes(), "{feed}");
+    assert_eq!(rt; ended, status, "{feed}");
+    Ok(())
+}
+
+#[test]
+fn prints_the_first_group(rt: HostRuntime) -> Result<(), Fail> {
+    let wanted = "group 1 3e11fa47-71ca-11e1-9e33-c80aa9429562:1\n+ t\tx31\tx6162\n";
+    check(&rt, FIRST_GROUP, 0, wanted, "")
+}
+
+#[test]
+fn empty_feed_shows_nothing(rt: HostRuntime) -> Result<(), Fail> {
+    check(&rt, "", 0, "", "")
+}
+
+#[test]
+fn last_byte_missing(rt: HostRuntime) -> Result<(), Fail> {
+    let cut = FIRST_GROUP.strip_suffix("03").ok_or("a feed that ends in 03")?;
+    check(&rt, cut, 1, "", "refused 81\n")
+}
+
+#[test]
+fn groups_out_of_place(rt: HostRuntime) -> Result<(), Fail> {
+    check(&rt, "08 0a 02 08 02 0a 02 08 03", 1, "", "refused 83\n")?;
+    check(&rt, "04 0a 02 08 02", 1, "", "refused 88\n")?;
+    check(&rt, "08 0a 02 08 02 0a 02 08 02", 1, "", "refused 92\n")?;
+    check(&rt, "04 0a 02 08 0c", 1, "", "refused 92\n")
+}
+
+#[test]
+fn row_before_any_field(rt: HostRuntime) -> Result<(), Fail> {
+    let feed = "19 0a 02 08 02 0a 13 08 0c 2a 0f 0a 01 74 12 0a 12 08 0a 02 02 02 12 02 31 61";
+    check(&rt, feed, 1, "", "refused 86\n")
+}
+
+#[test]
+fn broken_feeds_by_number(rt: HostRuntime) -> Result<(), Fail> {
+    for (feed, line) in [
+        ("04 0a 02 08 06", "refused 82 cause 23 type 6\n"),
+        ("02 0a 00", "refused 82 cause 23 type 0\n"),
+        ("03 0a 01 0b", "refused 82 cause 3\n"),
+        ("01 0b", "refused 82 cause 3\n"),
+        ("08 0a 06 08 04 3a 00 3a 00", "refused 82 cause 22\n"),
+        (
+            "0d 0a 0b 08 0c 2a 07 0a 01 74 12 02 18 01",
+            "refused 82 cause 25\n",
+        ),
+        ("07 0a 05 08 01 1a 01 78", "refused 94 cause 32\n"),
+        ("ff ff ff ff ff ff ff ff ff ff", "refused 81\n"),
+        ("6", "refused 93\n"),
+    ] {
+        check(&rt, feed, 1, "", line)?;
+    }
+    Ok(())
+}
