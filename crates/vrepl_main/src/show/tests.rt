@@ -1,6 +1,7 @@
 //! Feeds in hexadecimal text, and what `show` prints of them.
 
 use super::*;
+use std::process::Abort;
 use std::test::Fail;
 
 /// One transaction: a row (1, ab) of the table t, and the position behind it.
@@ -10,7 +11,13 @@ const FIRST_GROUP: &str = "6c0a0208020a18080d32140a017412070a02696410890212060a0
     3a310a020803";
 
 /// `show --hex` over the feed ends with this status and has printed this on its two streams.
-fn check(rt: &HostRuntime, feed: &str, status: u8, out: &str, err: &str) -> Result<(), Fail> {
+fn check(
+    rt: &(impl Abort + AllocGlobal),
+    feed: &str,
+    status: u8,
+    out: &str,
+    err: &str,
+) -> Result<(), Fail> {
     let alloc = rt.alloc();
     let mut printed = Vec::new(alloc);
     let mut refused = Vec::new(alloc);
