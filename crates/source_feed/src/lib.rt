@@ -2,6 +2,7 @@
 #![tactic(auto)]
 
 mod fault;
+mod feed;
 mod group;
 mod groups;
 mod pass;
@@ -9,5 +10,6 @@ mod source;
 mod widths;
 
 pub use fault::FeedFault;
+pub use feed::Feed;
 pub use group::{Change, Group};
 pub use groups::read_groups;
