@@ -1,1 +1,19 @@
+//! GTID sets: positions in a source's history (MySQL manual, "GTID Sets").
 #![tactic(auto)]
+
+mod digits;
+mod fault;
+mod interval;
+mod laws;
+mod merge;
+mod read;
+mod set;
+mod text;
+
+pub use fault::GtidFault;
+pub use interval::Interval;
+pub use laws::{
+    equal_members_equal_sets, positions_are_canonical, subset_is_an_order,
+    union_is_the_least_set_over_both, union_with_a_superset_is_the_superset, within_is_subset,
+};
+pub use set::GtidSet;

@@ -1,0 +1,15 @@
+pub mod Tests
+pub mod Joined
+pub mod Same
+pub mod Within
+pub mod Appended
+pub mod Merging
+pub mod Covered
+pub mod Added
+pub mod Parts
+pub mod DigitLaws
+pub mod Reading
+pub mod PartLaws
+pub mod WholeText
+pub mod Named
+pub mod Parsed

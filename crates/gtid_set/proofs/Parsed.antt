@@ -1,0 +1,91 @@
+-- What a position text means, from the intervals that it names.
+use Rattle.std.proofs.Common.{◌≡◌, inl, inr, ◌==◌, ◌&&◌, ◌||◌, ℕ, ◌+◌, ◌<◌, ◌≤◌, ◌^◌, Bool, true, false, cond, refl, sym, ◌∙◌, ap, subst, arith, ltb, List, [], ◌∷◌, ◌++◌, length, Result, Ok, Err, OnOk, OnErr, IsPermutation}
+use Rattle.std.proofs.lemmas.Bool.{cases_Bool, cond-true, cond-false}
+use Rattle.std.proofs.lemmas.Bool.Decides.{nat_tests}
+use Rattle.gtid_set.specs.declared.interval.Interval.{Interval}
+use Rattle.gtid_set.specs.declared.fault.GtidFault.{GtidFault}
+use Rattle.gtid_set.specs.declared.fault.GtidFault.TheVariants.{TooLarge}
+use Rattle.gtid_set.specs.Fault.{◌>>=◌, Refuses}
+use Rattle.gtid_set.specs.Position.{has, holds, IsInterval, IsCanonical, SamePairs, HasPairMore, joined, union_of, with_pair, last_number}
+use Rattle.gtid_set.specs.Text.{intervals_of_text, within_limit, text_limit, set_of, position_of_text, IsOfText}
+use Rattle.gtid_set.proofs.Joined.{canonical-intervals, has-joined, joined-canonical, union-canonical, has-union_of}
+use Rattle.gtid_set.proofs.Reading.{refuses-all}
+use Rattle.gtid_set.proofs.Named.{Each, each-named, set-sorted, bind_ok, ok_is}
+
+pub position-is : (text : List ℕ) → position_of_text text ≡ (within_limit text >>= λ l. Ok (set_of l))
+unfolding position_of_text within_limit
+position-is text = by_test (ltb text_limit (length text)) refl
+  where
+    by_test : (t : Bool) → ltb text_limit (length text) ≡ t → position_of_text text ≡ (within_limit text >>= λ l. Ok (set_of l))
+    by_test true e = rw e refl
+    by_test false e = rw e refl
+
+pub named-within : (text : List ℕ) (l : List Interval) → within_limit text ≡ Ok l → intervals_of_text text ≡ Ok l
+unfolding within_limit
+named-within text l e =
+    elim (cases_Bool (ltb text_limit (length text))) [
+      | inl t ↦ absurd (not_ok l (sym (cond-true (ltb text_limit (length text)) _ _ t) ∙ e))
+      | inr f ↦ sym (cond-false (ltb text_limit (length text)) _ _ f) ∙ e
+    ]
+  where
+    not_ok : (l : List Interval) → ◌≡◌ {A = Result (List Interval) GtidFault} (Err TooLarge) (Ok l) → ⊥
+    not_ok l e = cc
+
+pub refused : (e : GtidFault) (text bytes : List ℕ) → bytes ≡ text → Refuses e (within_limit bytes) → Refuses e (position_of_text text)
+refused e text bytes same h =
+    let here : Refuses e (within_limit text) = subst (λ (t : List ℕ). Refuses e (within_limit t)) same h in
+    subst (λ (r : Result (List Interval) GtidFault). Refuses e r) (sym (position-is text)) (refuses-all e (within_limit text) (λ l. Ok (set_of l)) here)
+
+pub each-within : (text : List ℕ) (l : List Interval) → within_limit text ≡ Ok l → Each l
+each-within text l e = each-named text l (named-within text l e)
+
+pub record IsParsed (text : List ℕ) (set : List Interval) : Type 0 where
+  pub exact : position_of_text text ≡ Ok set
+  pub pairs : IsOfText text set
+  pub canonical : IsCanonical set
+
+set-parsed : (text : List ℕ) (named : List Interval) → within_limit text ≡ Ok named → IsParsed text (set_of named)
+set-parsed text named e =
+    let each = each-within text named e in
+    record {
+      exact = position-is text ∙ ap (λ (r : Result (List Interval) GtidFault). r >>= λ l. Ok (set_of l)) e;
+      pairs = (named, named-within text named e, λ u n. has-union_of [] named u n tt each);
+      canonical = union-canonical [] named tt each;
+    }
+
+pub is_parsed : (text bytes : List ℕ) (named sorted set : List Interval) → bytes ≡ text → within_limit bytes ≡ Ok named → IsPermutation named sorted → set ≡ union_of [] sorted → IsParsed text set
+is_parsed text bytes named sorted set same e p is =
+    let here : within_limit text ≡ Ok named = ap within_limit (sym same) ∙ e in
+    subst (IsParsed text) (sym (is ∙ set-sorted named sorted p (each-within text named here))) (set-parsed text named here)
+
+-- ---- one pair more
+
+abbrev pub pair_of : ℕ → ℕ → Interval
+pair_of uuid number = record { uuid = uuid; first = number; last = number }
+
+pub pair-interval : (uuid number : ℕ) → uuid < 2 ^ 128 → 1 ≤ number → number ≤ last_number → IsInterval (pair_of uuid number)
+pair-interval uuid number u low high = record { uuid = u; from_one = low; holds_first = omega arith; to_last = high }
+
+holds-pair : (uuid number u n : ℕ) → holds (pair_of uuid number) u n ≡ (u == uuid && n == number)
+holds-pair uuid number u n = grind (arith, nat_tests)
+
+or_swapped : (a b : Bool) → (a || b) ≡ (b || a)
+or_swapped true true = refl
+or_swapped true false = refl
+or_swapped false true = refl
+or_swapped false false = refl
+
+pub pair-more : (s : List Interval) (uuid number : ℕ) → IsCanonical s → IsInterval (pair_of uuid number) → HasPairMore s uuid number (with_pair s uuid number)
+pair-more s uuid number c one u n =
+    has-joined s (pair_of uuid number) u n (canonical-intervals s c) one
+    ∙ ap (λ b. b || has s u n) (holds-pair uuid number u n)
+    ∙ or_swapped (u == uuid && n == number) (has s u n)
+
+pub canonical-kept : {T E : Type 0} (r : Result T E) (new more old : List Interval) → OnOk r (new ≡ more) → OnErr r (new ≡ old) → IsCanonical more → IsCanonical old → IsCanonical new
+canonical-kept (Ok x) new more old a b c d = subst (λ (s : List Interval). IsCanonical s) (sym a) c
+canonical-kept (Err x) new more old a b c d = subst (λ (s : List Interval). IsCanonical s) (sym b) d
+
+pub position-canonical : (text : List ℕ) (set : List Interval) → position_of_text text ≡ Ok set → IsCanonical set
+position-canonical text set e =
+    let a = bind_ok (within_limit text) (λ l. Ok (set_of l)) set (sym (position-is text) ∙ e) in
+    subst (λ (s : List Interval). IsCanonical s) (ok_is (set_of a.0) set a.2) (union-canonical [] a.0 tt (each-within text a.0 a.1))

@@ -1,0 +1,36 @@
+-- The printed form of a set: no flavour, lower case, uuids in the order of their text, intervals rising, joined by commas without blanks.
+use Rattle.std.specs.Prelude.{ℕ, ◌+◌, ◌/◌, ◌%◌, ◌^◌, ◌==◌, nat_lt, if◌then◌else◌, List, [], ◌∷◌, ◌++◌}
+use Rattle.std.specs.Fmt.{decimal}
+use Rattle.gtid_set.specs.declared.interval.Interval.{Interval}
+
+-- a hexadecimal digit in lower case
+abbrev pub hex_glyph : ℕ → ℕ
+hex_glyph digit = if nat_lt digit 10 then 48 + digit else 87 + digit
+
+-- four hexadecimal digits
+abbrev pub hex_four : ℕ → List ℕ
+hex_four n = hex_glyph (n / 4096 % 16) ∷ hex_glyph (n / 256 % 16) ∷ hex_glyph (n / 16 % 16) ∷ hex_glyph (n % 16) ∷ []
+
+-- the eight groups of 16 bits of a uuid, high one first
+abbrev pub group_of : ℕ → ℕ → ℕ
+group_of uuid place = uuid / 2 ^ place % 65536
+
+-- the uuid's text, 8-4-4-4-12
+unfoldable pub uuid_text : ℕ → List ℕ
+uuid_text uuid =
+    (hex_four (group_of uuid 112) ++ hex_four (group_of uuid 96) ++ 45 ∷ hex_four (group_of uuid 80) ++ 45 ∷ hex_four (group_of uuid 64))
+    ++ 45 ∷ hex_four (group_of uuid 48) ++ 45 ∷ hex_four (group_of uuid 32) ++ hex_four (group_of uuid 16) ++ hex_four (group_of uuid 0)
+
+-- an interval's text behind its colon: its number, or its first and last one
+abbrev pub numbers_text : Interval → List ℕ
+numbers_text i = if i.first == i.last then decimal i.first else decimal i.first ++ 45 ∷ decimal i.last
+
+-- the intervals behind one of this uuid: a colon, and for another uuid a comma and that uuid before it
+abbrev pub printed_behind : ℕ → List Interval → List ℕ
+printed_behind uuid [] = []
+printed_behind uuid (i ∷ set) = (if i.uuid == uuid then [] else 44 ∷ uuid_text i.uuid) ++ 58 ∷ numbers_text i ++ printed_behind i.uuid set
+
+-- the text of a set
+abbrev pub printed_position : List Interval → List ℕ
+printed_position [] = []
+printed_position (i ∷ set) = uuid_text i.uuid ++ 58 ∷ numbers_text i ++ printed_behind i.uuid set

@@ -1,0 +1,83 @@
+//! Decimal numbers and uuids as text.
+
+ghost use Rattle.std.specs.Prelude.{◌≡◌, ◌+◌, ◌*◌, ◌^◌, ◌≤◌, ◌<◌, length, IfSome, IsTrue};
+ghost use Rattle.gtid_set.specs.Fault.{Gives};
+ghost use Rattle.gtid_set.specs.Digits.{digit_of, hex_digit_of, number_behind, decimal_of, is_hyphenated, uuid_of};
+ghost use Rattle.gtid_set.specs.Text.{number_from};
+
+use crate::fault::GtidFault;
+
+/// The greatest number of a GTID, 2^63 - 2.
+const LAST_NUMBER: u64 = 9_223_372_036_854_775_806;
+
+/// The number of one or more decimal digits, from `low` to the greatest of a GTID.
+pub fn number(text: &[u8], low: u64) -> Result<u64, GtidFault>
+    ensures { Gives (λ n. n) result (number_from low (decimal_of text.now)) }
+{
+    if text.is_empty() {
+        return Err(GtidFault::BadNumber);
+    }
+    let mut number = 0;
+    for byte in text {
+        if !byte.is_ascii_digit() {
+            return Err(GtidFault::BadNumber);
+        }
+        let digit = u64::from(*byte - b'0');
+        if number > (LAST_NUMBER - digit) / 10 {
+            return Err(GtidFault::BadNumber);
+        }
+        number = number * 10 + digit;
+    }
+    if number < low {
+        return Err(GtidFault::BadNumber);
+    }
+    Ok(number)
+}
+
+fn hex_digit(byte: u8) -> Option<u8>
+    ensures value { result ≡ hex_digit_of byte }
+    ensures small { IfSome result (λ d. d < 16) }
+{
+    match byte {
+        b'0'..=b'9' => Some(byte - b'0'),
+        b'a'..=b'f' => Some(byte - b'a' + 10),
+        b'A'..=b'F' => Some(byte - b'A' + 10),
+        _ => None,
+    }
+}
+
+/// The number of hexadecimal digits behind those that `front` stands for.
+fn hex_behind(front: u128, text: &[u8]) -> Option<u128>
+    requires { (front + 1) * 16 ^ length text.now ≤ 2 ^ 128 }
+    ensures value { result ≡ number_behind hex_digit_of 16 front text.now }
+    ensures small { IfSome result (λ n. n + 1 ≤ (front + 1) * 16 ^ length text.now) }
+{
+    let mut number = front;
+    for byte in text {
+        number = number * 16 + u128::from(hex_digit(*byte)?);
+    }
+    Some(number)
+}
+
+/// The text has 36 bytes, with hyphens at the places of a uuid's.
+fn is_hyphenated(text: &[u8]) -> bool
+    ensures value { result ≡ is_hyphenated text.now }
+    ensures length { IsTrue result → length text.now ≡ 36 }
+{
+    text.len() == 36 && text[8] == b'-' && text[13] == b'-' && text[18] == b'-' && text[23] == b'-'
+}
+
+/// The uuid of 36 bytes: hexadecimal digits of either case, 8-4-4-4-12.
+#[tactic(auto, unfolding(crate::specs::Digits::uuid_of))]
+pub fn uuid(text: &[u8]) -> Option<u128>
+    ensures { result ≡ uuid_of text.now }
+{
+    if !is_hyphenated(text) {
+        return None;
+    }
+    let time_low = hex_behind(0, &text[..8])?;
+    let time_mid = hex_behind(time_low, &text[9..13])?;
+    let version = hex_behind(time_mid, &text[14..18])?;
+    let clock = hex_behind(version, &text[19..23])?;
+    hex_behind(clock, &text[24..36])
+}

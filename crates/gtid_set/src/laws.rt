@@ -1,0 +1,45 @@
+//! Laws of sets, each the contract of a function without a body: they hold of the values that
+//! contracts see a `GtidSet` as.
+
+ghost use Rattle.std.specs.Prelude.{◌≡◌, ◌↔◌, ℕ, List, Ok, IsTrue};
+ghost use Rattle.gtid_set.specs.declared.interval.Interval.{Interval};
+ghost use Rattle.gtid_set.specs.Position.{SamePairs, IsWithin, IsCanonical, HasBoth, union_of, within_of};
+ghost use Rattle.gtid_set.specs.Text.{position_of_text};
+
+/// Sets with the same pairs are equal.
+pub fn equal_members_equal_sets()
+    ensures { (a b : List Interval) → IsCanonical a → IsCanonical b → SamePairs a b → a ≡ b }
+{}
+
+/// What `is_within` computes is subset.
+pub fn within_is_subset()
+    ensures { (a b : List Interval) → IsCanonical a → IsCanonical b → IsTrue (within_of a b) ↔ IsWithin a b }
+{}
+
+/// Subset is an order: two sets within each other are equal.
+pub fn subset_is_an_order()
+    ensures itself { (a : List Interval) → IsWithin a a }
+    ensures transitive { (a b c : List Interval) → IsWithin a b → IsWithin b c → IsWithin a c }
+    ensures both_ways { (a b : List Interval) → IsCanonical a → IsCanonical b → IsWithin a b → IsWithin b a → a ≡ b }
+{}
+
+/// The union is a set, has the pairs of both sets and no others, and is the least set that holds
+/// both.
+pub fn union_is_the_least_set_over_both()
+    ensures canonical { (a b : List Interval) → IsCanonical a → IsCanonical b → IsCanonical (union_of a b) }
+    ensures pairs { (a b : List Interval) → IsCanonical a → IsCanonical b → HasBoth a b (union_of a b) }
+    ensures holds_one { (a b : List Interval) → IsCanonical a → IsCanonical b → IsWithin a (union_of a b) }
+    ensures holds_other { (a b : List Interval) → IsCanonical a → IsCanonical b → IsWithin b (union_of a b) }
+    ensures least { (a b all : List Interval) → IsCanonical a → IsCanonical b → IsWithin a all → IsWithin b all → IsWithin (union_of a b) all }
+{}
+
+/// The union of a set and one that holds it is the latter, either way round.
+pub fn union_with_a_superset_is_the_superset()
+    ensures behind { (a b : List Interval) → IsCanonical a → IsCanonical b → IsWithin a b → union_of a b ≡ b }
+    ensures before { (a b : List Interval) → IsCanonical a → IsCanonical b → IsWithin a b → union_of b a ≡ b }
+{}
+
+/// The set that a position text means is merged and rising.
+pub fn positions_are_canonical()
+    ensures { (text : List ℕ) (set : List Interval) → position_of_text text ≡ Ok set → IsCanonical set }
+{}
