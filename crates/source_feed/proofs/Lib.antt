@@ -4,3 +4,4 @@ pub mod Blocks
 pub mod Steps
 pub mod RunLaws
 pub mod Messages
+pub mod EachGroup

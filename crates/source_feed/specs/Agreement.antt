@@ -1,5 +1,5 @@
 -- Where some events stop to agree with a plan: at a FIELD event that differs, or where they end.
-use Rattle.std.specs.Prelude.{List, Option, Some, None, if◌then◌else◌}
+use Rattle.std.specs.Prelude.{List, Option, Some, if◌then◌else◌}
 use Rattle.std.specs.List.{list_any}
 use Rattle.filter_rule.specs.PlanValue.{PlanValue}
 use Rattle.vevent.specs.EventValue.{EventValue}

@@ -11,18 +11,16 @@ ghost use Rattle.source_feed.specs.EventList.{end_of_message, events_of};
 ghost use Rattle.source_feed.specs.Planned.{same_columns, differs, planned_of, groups_under};
 ghost use Rattle.source_feed.specs.Agreement.{stop_of};
 
-use std::alloc::Global;
-use std::marker::Model;
-use std::sync::Arc;
-
-use filter_rule::{ColumnDef, Plan};
-use proto_wire::Frames;
-use vevent::{ColumnField, ColumnFields, Event, FieldEvent, Response};
-
 use crate::fault::FeedFault;
 use crate::group::Group;
 use crate::groups::read_groups;
 use crate::source::Source;
+use filter_rule::{ColumnDef, Plan};
+use proto_wire::Frames;
+use std::alloc::Global;
+use std::marker::Model;
+use std::sync::Arc;
+use vevent::{ColumnField, ColumnFields, Event, FieldEvent, Response};
 
 /// A recorded feed under the plan of its stream: its groups, with the changes of the plan's tables.
 #[derive(Drop)]
@@ -114,11 +112,7 @@ impl<'h> Feed<'h> {
     ///
     /// Refused as `read_groups` refuses; if nothing else is refused, `FieldsDiffer` where a FIELD event
     /// of a planned table differs from the plan in names, types or order, wherever it stands.
-    pub fn open(
-        alloc: Global,
-        feed: &'h [u8],
-        plan: &Arc<Plan>,
-    ) -> Result<Feed<'h>, FeedFault>
+    pub fn open(alloc: Global, feed: &'h [u8], plan: &Arc<Plan>) -> Result<Feed<'h>, FeedFault>
         ensures groups { Gives (λ opened. opened.groups) result (groups_under feed.now (arc_value plan.now)) }
         ensures plan { IfOk result (λ opened. opened.plan ≡ arc_value plan.now) }
     {

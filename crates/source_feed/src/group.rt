@@ -96,9 +96,16 @@ impl<'h> Group<'h> {
     }
 }
 
+/// The change is of a table of the plan.
+fn is_planned(plan: &Plan, change: &Change<'_>) -> bool
+    ensures { result ≡ is_planned plan.now change.now }
+{
+    plan.table(change.table()).is_some()
+}
+
 /// Drops the changes of tables that the plan doesn't have.
 fn retain_planned(plan: &Plan, changes: &mut Vec<Change<'_>>)
     ensures { changes.new.items ≡ filter (is_planned plan.now) changes.old.items }
 {
-    changes.retain(|change| plan.table(change.table()).is_some());
+    changes.retain(|change| is_planned(plan, change));
 }
