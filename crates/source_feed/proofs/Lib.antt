@@ -5,3 +5,4 @@ pub mod Steps
 pub mod RunLaws
 pub mod Messages
 pub mod EachGroup
+pub mod GrammarLaws
