@@ -1,0 +1,16 @@
+pub mod Tokens
+pub mod FilterText
+pub mod Faults
+pub mod TypeNumbers
+pub mod Document
+pub mod Limits
+pub mod Resolving
+pub mod Rules
+pub mod RuleViews
+pub mod Reading
+pub mod PlanParts
+pub mod Seen
+pub mod PlanTable
+pub mod PlanValue
+pub mod PlanShape
+pub mod Splitting

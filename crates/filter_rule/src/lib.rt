@@ -1,1 +1,31 @@
+//! The workflow file: its plans, the filter rules and which rows pass them.
 #![tactic(auto)]
+
+mod decide;
+mod decision;
+mod distinct;
+mod document;
+mod fault;
+mod filter;
+mod json;
+mod limits;
+mod name;
+mod plan;
+mod read;
+mod resolve;
+mod rule;
+mod same;
+mod streams;
+mod table;
+mod token;
+mod types;
+
+pub use decision::Decision;
+pub use fault::PlanFault;
+pub use filter::{Condition, Filter};
+pub use plan::Plan;
+pub use table::{ColumnDef, Table};
+pub use types::is_whole_number;
+
+#[cfg(test)]
+mod tests;

@@ -1,1 +1,18 @@
+//! Key ranges and vindexes: which keyspace id a column's value has, and which range has an id.
 #![tactic(auto)]
+
+mod faults;
+mod ids;
+mod key_ranges;
+mod numbers;
+#[cfg(test)]
+mod tests;
+mod tiling;
+mod vindexes;
+
+pub use faults::VindexFault;
+pub use ids::Id;
+pub use key_ranges::KeyRange;
+pub use numbers::{Number, number_of};
+pub use tiling::tiles;
+pub use vindexes::Vindex;

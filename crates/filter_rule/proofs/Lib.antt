@@ -1,0 +1,13 @@
+pub mod SplitLaws
+pub mod SpanLaws
+pub mod TokenLaws
+pub mod FilterLaws
+pub mod JsonLaws
+pub mod EachLaws
+pub mod DistinctLaws
+pub mod Utf8Laws
+pub mod SettleLaws
+pub mod StreamLaws
+pub mod ShapeLaws
+pub mod JsonText
+pub mod PlanLaws

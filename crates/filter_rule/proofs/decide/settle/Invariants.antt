@@ -1,0 +1,12 @@
+use Rattle.std.proofs.Common.{◌≡◌, length, take, drop}
+use Rattle.filter_rule.specs.Rules.{settle}
+use Rattle.filter_rule.specs.RuleViews.{form_seen}
+use Rattle.filter_rule.proofs.EachLaws.{with_front}
+use Rattle.filter_rule.proofs.decide.settle.Given as goal
+
+-- the tables so far are settled, and the others as they were
+abbrev pub invariant-loop-i : goal.invariant-loop-i
+invariant-loop-i l =
+    (length l.decisions ≡ length l.tables)
+    × (with_front (take l.i l.decisions) (settle l.place.stream l.place.rule (form_seen l.form) (drop l.i l.tables) (drop l.i l.decisions))
+    ≡ settle l.place.stream l.place.rule (form_seen l.form) l.tables l.initial.decisions)

@@ -1,0 +1,173 @@
+-- The workflow file as a typed document: what a JSON value says, or the fault of its shape.
+use Rattle.std.specs.Prelude.{◌≡◌, ℕ, ◌^◌, ◌==◌, ◌&&◌, ◌||◌, nat_lt, nat_le, not, List, [], ◌∷◌, ◌++◌, length, map, find, Bool, true, false, Option, Some, None, Result, Ok, Err, codes, if◌then◌else◌}
+use Rattle.std.specs.List.{list_all, list_any}
+use Rattle.std.specs.Option.{option_and_then, option_map, ok_or}
+use Rattle.std.specs.Str.{bytes_eq}
+use Rattle.serde_json.specs.Data.{Data, Num, Items, no_items, item}
+use Rattle.serde_json.specs.Find.{get, as_str, as_array, as_number, as_u64}
+use Rattle.vindex.specs.KeyspaceId.{vindex_of_name}
+use Rattle.vindex.specs.declared.vindexes.Vindex.{Vindex}
+use Rattle.filter_rule.specs.Faults.{Fault, shape, ◌>>=◌, each}
+use Rattle.filter_rule.specs.PlanTable.{ColumnValue}
+use Rattle.filter_rule.specs.TypeNumbers.{type_of_name}
+
+-- a rule's `match` and `filter`, as texts
+pub record RuleSaid : Type 0 where
+  pub matches : List ℕ
+  pub filter : List ℕ
+
+pub record StreamSaid : Type 0 where
+  pub shard : List ℕ
+  pub rules : List RuleSaid
+
+-- a table with the names of its key and vindex columns
+pub record TableSaid : Type 0 where
+  pub name : List ℕ
+  pub columns : List ColumnValue
+  pub key : List (List ℕ)
+  pub vindex : Option (List ℕ × Vindex)
+
+pub record DocumentSaid : Type 0 where
+  pub keyspace : List ℕ
+  pub tables : List TableSaid
+  pub streams : List StreamSaid
+
+-- ---- values and members
+
+abbrev pub listed : Items → List Data
+listed no_items = []
+listed (item d ds) = d ∷ listed ds
+
+abbrev pub found : {A : Type 0} → Option A → Result A Fault
+found o = ok_or o shape
+
+abbrev pub member_in : List ℕ → Data → Result Data Fault
+member_in key d = found (get key d)
+
+abbrev pub text_of : Data → Result (List ℕ) Fault
+text_of d = found (as_str d)
+
+abbrev pub list_of : Data → Result (List Data) Fault
+list_of d = found (option_map listed (as_array d))
+
+unfoldable pub text_in : List ℕ → Data → Result (List ℕ) Fault
+text_in key d = member_in key d >>= text_of
+
+unfoldable pub list_in : List ℕ → Data → Result (List Data) Fault
+list_in key d = member_in key d >>= list_of
+
+-- a list of just two values
+abbrev pub two_of : List Data → Result (Data × Data) Fault
+two_of [] = Err shape
+two_of (a ∷ []) = Err shape
+two_of (a ∷ b ∷ []) = Ok (a, b)
+two_of (a ∷ b ∷ c ∷ ds) = Err shape
+
+unfoldable pub pair_of : Data → Result (Data × Data) Fault
+pair_of d = list_of d >>= two_of
+
+-- ---- names and types
+
+-- no control character of ASCII
+abbrev pub is_fit : ℕ → Bool
+is_fit b = nat_le 32 b && not (b == 127)
+
+-- 1 to 256 bytes, none of them a control character of ASCII
+abbrev pub is_name : List ℕ → Bool
+is_name s = nat_lt 0 (length s) && nat_le (length s) 256 && list_all is_fit s
+
+unfoldable pub name_of : Data → Result (List ℕ) Fault
+name_of d = text_of d >>= λ s. if is_name s then Ok s else Err shape
+
+abbrev pub small : ℕ → Option ℕ
+small n = if nat_lt n (2 ^ 32) then Some n else None
+
+-- a type by its name, or else by a whole number below 2^32
+abbrev pub type_by : Option (List ℕ) → Data → Result ℕ Fault
+type_by (Some name) d = found (type_of_name name)
+type_by None d = found (option_and_then small (option_and_then as_u64 (as_number d)))
+
+unfoldable pub type_of : Data → Result ℕ Fault
+type_of d = type_by (as_str d) d
+
+-- a column as a pair of its name and its type
+unfoldable pub column_of : Data → Result ColumnValue Fault
+column_of d = do
+  p ← pair_of d
+  name ← name_of p.0
+  number ← type_of p.1
+  Ok (record { name = name; type_number = number })
+
+-- a vindex as a pair of a column's name and its own
+unfoldable pub vindex_of : Data → Result (List ℕ × Vindex) Fault
+vindex_of d = do
+  p ← pair_of d
+  column ← name_of p.0
+  name ← text_of p.1
+  vindex ← found (vindex_of_name name)
+  Ok (column, vindex)
+
+abbrev pub vindex_if : Option Data → Result (Option (List ℕ × Vindex)) Fault
+vindex_if None = Ok None
+vindex_if (Some d) = vindex_of d >>= λ v. Ok (Some v)
+
+unfoldable pub vindex_in : Data → Result (Option (List ℕ × Vindex)) Fault
+vindex_in d = vindex_if (get (codes "vindex") d)
+
+abbrev pub filter_if : Option Data → Result (List ℕ) Fault
+filter_if None = Ok []
+filter_if (Some d) = text_of d
+
+unfoldable pub filter_in : Data → Result (List ℕ) Fault
+filter_in d = filter_if (get (codes "filter") d)
+
+unfoldable pub rule_of : Data → Result RuleSaid Fault
+rule_of d = do
+  matches ← text_in (codes "match") d
+  filter ← filter_in d
+  Ok (record { matches = matches; filter = filter })
+
+unfoldable pub stream_of : Data → Result StreamSaid Fault
+stream_of d = do
+  shard ← text_in (codes "shard") d
+  filter ← member_in (codes "filter") d
+  values ← list_in (codes "rules") filter
+  rules ← each rule_of values
+  Ok (record { shard = shard; rules = rules })
+
+-- whether some text is equal to one before it, behind these
+abbrev pub repeats : List (List ℕ) → List (List ℕ) → Bool
+repeats before [] = false
+repeats before (s ∷ ss) = list_any (λ t. bytes_eq s t) before || repeats (before ++ s ∷ []) ss
+
+-- whether some text stands twice
+abbrev pub has_twice : List (List ℕ) → Bool
+has_twice ss = repeats [] ss
+
+-- texts of which none stands twice
+abbrev pub distinct : List (List ℕ) → Result (List (List ℕ)) Fault
+distinct ss = if has_twice ss then Err shape else Ok ss
+
+unfoldable pub table_of : Data → Result TableSaid Fault
+table_of d = do
+  name_d ← member_in (codes "name") d
+  name ← name_of name_d
+  columns_d ← list_in (codes "columns") d
+  columns ← each column_of columns_d
+  key_d ← list_in (codes "key") d
+  key ← each name_of key_d
+  vindex ← vindex_in d
+  names ← distinct (map (λ c. c.name) columns)
+  keys ← distinct key
+  Ok (record { name = name; columns = columns; key = key; vindex = vindex })
+
+unfoldable pub document_of : Data → Result DocumentSaid Fault
+document_of d = do
+  keyspace ← text_in (codes "keyspace") d
+  tables_d ← list_in (codes "tables") d
+  tables ← each table_of tables_d
+  streams_d ← list_in (codes "streams") d
+  streams ← each stream_of streams_d
+  names ← distinct (map (λ t. t.name) tables)
+  shards ← distinct (map (λ s. s.shard) streams)
+  Ok (record { keyspace = keyspace; tables = tables; streams = streams })

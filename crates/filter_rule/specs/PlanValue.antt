@@ -1,0 +1,54 @@
+-- What a plan means: its tables, and for each of them which rows of one stream are kept. Two plans are
+-- the same exactly where these values are equal (this profile, after the Vitess filter rules).
+use Rattle.std.specs.Prelude.{◌≡◌, ℕ, ◌<◌, ◌≤◌, List, Bool, true, false, Option, Some, None, Result, Ok, Err, length, map, position, slice_get, slice_index_or, [], ◌∷◌}
+use Rattle.std.specs.Option.{option_map_or}
+use Rattle.std.specs.Str.{bytes_eq}
+use Rattle.vindex.specs.Bounds.{Bounds, in_range}
+use Rattle.vindex.specs.KeyspaceId.{id_of}
+use Rattle.vindex.specs.declared.faults.VindexFault.{VindexFault}
+use Rattle.vindex.specs.declared.vindexes.Vindex.{Vindex}
+use Rattle.filter_rule.specs.PlanTable.{ColumnValue, TableValue}
+use Rattle.filter_rule.specs.declared.decision.Decision.{Decision}
+use Rattle.filter_rule.specs.declared.decision.Decision.TheVariants.{NoRule, EveryRow, InRange}
+
+-- one stream's plan: a decision for each table, in the tables' order
+pub record PlanValue : Type 0 where
+  pub keyspace : List ℕ
+  pub shard : List ℕ
+  pub tables : List TableValue
+  pub decisions : List Decision
+
+-- a table that no rule matches has no decision but 'no rule'
+abbrev pub decision_at : PlanValue → ℕ → Decision
+decision_at plan t = slice_index_or plan.decisions t NoRule
+
+-- the columns of a table, by its number
+abbrev pub columns_of : PlanValue → ℕ → List ColumnValue
+columns_of plan t = option_map_or (λ table. table.columns) (slice_get plan.tables t) []
+
+-- the places of a table's key columns, by its number
+abbrev pub key_columns_of : PlanValue → ℕ → List ℕ
+key_columns_of plan t = option_map_or (λ table. table.key) (slice_get plan.tables t) []
+
+-- the number of the table of a name
+abbrev pub table_of_name : PlanValue → List ℕ → Option ℕ
+table_of_name plan name = position (λ table. bytes_eq table.name name) plan.tables
+
+-- a column of a row, NULL as `None`
+abbrev pub column_at : List (Option (List ℕ)) → ℕ → Option (List ℕ)
+column_at row place = slice_index_or row place None
+
+-- whether a range has an id, where there is one
+abbrev pub id_in : Bounds → Result (List ℕ) VindexFault → Result Bool VindexFault
+id_in range (Ok id) = Ok (in_range range id)
+id_in range (Err fault) = Err fault
+
+-- whether a row is kept under a decision; a range asks for the id also where it is the whole range
+abbrev pub kept_under : Decision → List (Option (List ℕ)) → Result Bool VindexFault
+kept_under NoRule row = Ok false
+kept_under EveryRow row = Ok true
+kept_under (InRange place vindex range) row = id_in range (id_of vindex (column_at row place))
+
+-- whether a row of a table passes the plan's filter
+abbrev pub passes_of : PlanValue → ℕ → List (Option (List ℕ)) → Result Bool VindexFault
+passes_of plan t row = kept_under (decision_at plan t) row

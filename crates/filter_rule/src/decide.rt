@@ -1,0 +1,100 @@
+//! What a rule decides of a table.
+
+ghost use Rattle.std.specs.Prelude.{◌≡◌, length};
+ghost use Rattle.filter_rule.specs.Faults.{Gives};
+ghost use Rattle.filter_rule.specs.Rules.{own_decision, decide, settle_one, settle};
+ghost use Rattle.filter_rule.specs.RuleViews.{action_seen, form_seen};
+
+use crate::decision::Decision;
+use crate::fault::PlanFault;
+use crate::resolve::{check_vindex_type, place_in};
+use crate::rule::{Action, Place, RuleForm};
+use crate::table::Table;
+use std::alloc::Global;
+
+// A key range under the table's own vindex.
+fn own_decision(
+    alloc: Global,
+    place: Place,
+    range: &[u8],
+    table: &Table,
+) -> Result<Decision, PlanFault>
+    ensures { Gives (λ d. d) result (own_decision place.stream place.rule range.now table.now.vindex) }
+{
+    match table.vindex() {
+        None => Err(place.fault()),
+        Some((column, vindex)) => {
+            let range = place.range_in(alloc, range)?;
+            Ok(Decision::InRange {
+                column,
+                vindex,
+                range,
+            })
+        }
+    }
+}
+
+// What a rule decides of a table that it is first to match.
+fn decide(
+    alloc: Global,
+    place: Place,
+    action: &Action<'_>,
+    table: &Table,
+) -> Result<Decision, PlanFault>
+    ensures { Gives (λ d. d) result (decide place.stream place.rule (action_seen action.now) table.now) }
+{
+    match action {
+        Action::EveryRow => Ok(Decision::EveryRow),
+        Action::OwnVindex { range } => own_decision(alloc, place, range, table),
+        Action::Named {
+            column,
+            vindex,
+            range,
+        } => {
+            let at = place_in(alloc, table.name(), table.columns(), column)?;
+            check_vindex_type(alloc, table.name(), table.columns(), column, *vindex)?;
+            let range = place.range_in(alloc, range)?;
+            Ok(Decision::InRange {
+                column: at,
+                vindex: *vindex,
+                range,
+            })
+        }
+    }
+}
+
+// What a rule leaves of one table's decision: it stays where an earlier rule matched the table.
+fn settle_one(
+    alloc: Global,
+    place: Place,
+    form: &RuleForm<'_>,
+    table: &Table,
+    decision: &mut Decision,
+) -> Result<(), PlanFault>
+    ensures { Gives (λ _. decision.new) result (settle_one place.stream place.rule (form_seen form.now) table.now decision.old) }
+{
+    if let Decision::NoRule = decision {
+        if form.scope.is_for(table.name()) {
+            *decision = decide(alloc, place, &form.action, table)?;
+        }
+    }
+    Ok(())
+}
+
+// Takes one rule over all tables, in order.
+pub(crate) fn settle(
+    alloc: Global,
+    place: Place,
+    form: &RuleForm<'_>,
+    tables: &[Table],
+    decisions: &mut [Decision],
+) -> Result<(), PlanFault>
+    requires { length decisions.old ≡ length tables.now }
+    ensures settled { Gives (λ _. decisions.new) result (settle place.stream place.rule (form_seen form.now) tables.now decisions.old) }
+    ensures count { length decisions.new ≡ length decisions.old }
+{
+    for i in 0..tables.len() {
+        settle_one(alloc, place, form, &tables[i], &mut decisions[i])?;
+    }
+    Ok(())
+}

@@ -1,0 +1,295 @@
+//! The workflow file as a typed document, lent from its JSON value.
+
+ghost use Rattle.std.specs.Prelude.{◌≡◌, List, ℕ, Result, map};
+ghost use Rattle.serde_json.specs.View.{view};
+ghost use Rattle.filter_rule.specs.Faults.{Gives, each};
+ghost use Rattle.filter_rule.specs.Document.{type_of, column_of, vindex_of, vindex_in, filter_in, rule_of, stream_of, table_of, document_of};
+
+use crate::distinct::{Titled, check_distinct};
+use crate::fault::PlanFault;
+use crate::json::{list_in, member, pair, text, text_in};
+use crate::name::{Name, name_of};
+use crate::types::type_named;
+use serde_json::Value;
+use std::alloc::Global;
+use std::marker::Model;
+use vindex::Vindex;
+
+// A value that a JSON value says.
+pub(crate) trait FromJson<'v>: Sized {
+    ghost use Rattle.std.specs.Prelude.{Result};
+    ghost use Rattle.serde_json.specs.Data.{Data};
+    ghost use Rattle.filter_rule.specs.Faults.{Fault};
+
+    // what it says, or its fault
+    ghost reads: { Data → Result Self Fault };
+
+    fn from_json(alloc: Global, value: &'v Value) -> Result<Self, PlanFault>
+        ensures { Gives (λ x. x) result (reads (view value.now)) };
+}
+
+// Each value in order, up to the first fault.
+pub(crate) fn each<'v, T: FromJson<'v> + Drop>(
+    alloc: Global,
+    values: &'v [Value],
+) -> Result<Vec<T>, PlanFault>
+    ensures { Gives (λ v. v.items) result (each T.reads (map view values.now)) }
+{
+    let mut found = Vec::new(alloc);
+    for value in values {
+        found.push(T::from_json(alloc, value)?)?;
+    }
+    Ok(found)
+}
+
+impl<'v> FromJson<'v> for Name<'v> {
+    ghost use Rattle.filter_rule.specs.Document.{name_of as name_said};
+
+    ghost reads = { name_said };
+
+    fn from_json(_alloc: Global, value: &'v Value) -> Result<Name<'v>, PlanFault> {
+        name_of(value)
+    }
+}
+
+// A type by its name or its number.
+#[tactic(auto, unfolding(crate::specs::Document::type_of))]
+fn type_of(value: &Value) -> Result<u32, PlanFault>
+    ensures { Gives (λ n. n) result (type_of (view value.now)) }
+{
+    if let Some(name) = value.as_str() {
+        return match type_named(name) {
+            Some(number) => Ok(number),
+            None => Err(PlanFault::Shape),
+        };
+    }
+    match value.as_u64() {
+        Some(number) if number < 1 << 32 => Ok(number as u32),
+        _ => Err(PlanFault::Shape),
+    }
+}
+
+// A column's name and type number.
+#[derive(Drop)]
+pub(crate) struct ColumnText<'v> {
+    pub(crate) name: Name<'v>,
+    pub(crate) type_number: u32,
+}
+
+impl<'v> Model for ColumnText<'v> {
+    ghost use Rattle.filter_rule.specs.PlanTable.{ColumnValue};
+
+    ghost Value = { ColumnValue };
+
+    ghost view = { λ c. record { name = c.name; type_number = c.type_number } };
+}
+
+impl<'v> FromJson<'v> for ColumnText<'v> {
+    ghost use Rattle.filter_rule.specs.Document.{column_of};
+
+    ghost reads = { column_of };
+
+    #[tactic(auto, unfolding(crate::specs::Document::column_of))]
+    fn from_json(_alloc: Global, value: &'v Value) -> Result<ColumnText<'v>, PlanFault> {
+        let (name, number) = pair(value)?;
+        let name = name_of(name)?;
+        let type_number = type_of(number)?;
+        Ok(ColumnText { name, type_number })
+    }
+}
+
+// A table with the names of its key and vindex columns.
+#[derive(Drop)]
+pub(crate) struct TableText<'v> {
+    pub(crate) name: Name<'v>,
+    pub(crate) columns: Vec<ColumnText<'v>>,
+    pub(crate) key: Vec<Name<'v>>,
+    pub(crate) vindex: Option<(Name<'v>, Vindex)>,
+}
+
+impl<'v> Model for TableText<'v> {
+    ghost use Rattle.filter_rule.specs.Document.{TableSaid};
+
+    ghost Value = { TableSaid };
+
+    ghost view = { λ t. record { name = t.name; columns = t.columns.items; key = t.key.items; vindex = t.vindex } };
+}
+
+// A vindex: its column's name, and its own.
+#[tactic(auto, unfolding(crate::specs::Document::vindex_of))]
+fn vindex_of(value: &Value) -> Result<(Name<'_>, Vindex), PlanFault>
+    ensures { Gives (λ p. p) result (vindex_of (view value.now)) }
+{
+    let (column, name) = pair(value)?;
+    let column = name_of(column)?;
+    match Vindex::parse(text(name)?) {
+        Ok(vindex) => Ok((column, vindex)),
+        Err(_) => Err(PlanFault::Shape),
+    }
+}
+
+// The vindex of a table, if it has one.
+#[tactic(auto, unfolding(crate::specs::Document::vindex_in))]
+fn vindex_in(value: &Value) -> Result<Option<(Name<'_>, Vindex)>, PlanFault>
+    ensures { Gives (λ o. o) result (vindex_in (view value.now)) }
+{
+    match value.get("vindex") {
+        None => Ok(None),
+        Some(found) => Ok(Some(vindex_of(found)?)),
+    }
+}
+
+// A rule's `match` and `filter`.
+#[derive(Drop)]
+pub(crate) struct RuleText<'v> {
+    pub(crate) matches: &'v str,
+    pub(crate) filter: &'v str,
+}
+
+impl<'v> Model for RuleText<'v> {
+    ghost use Rattle.filter_rule.specs.Document.{RuleSaid};
+
+    ghost Value = { RuleSaid };
+
+    ghost view = { λ r. record { matches = r.matches.now; filter = r.filter.now } };
+}
+
+// The filter of a rule, nothing where it is absent.
+#[tactic(auto, unfolding(crate::specs::Document::filter_in))]
+fn filter_in(value: &Value) -> Result<&str, PlanFault>
+    ensures { Gives (λ s. s.now) result (filter_in (view value.now)) }
+{
+    match value.get("filter") {
+        None => Ok(""),
+        Some(found) => text(found),
+    }
+}
+
+impl<'v> FromJson<'v> for RuleText<'v> {
+    ghost use Rattle.filter_rule.specs.Document.{rule_of};
+
+    ghost reads = { rule_of };
+
+    #[tactic(auto, unfolding(crate::specs::Document::rule_of))]
+    fn from_json(_alloc: Global, value: &'v Value) -> Result<RuleText<'v>, PlanFault> {
+        let matches = text_in(value, "match")?;
+        let filter = filter_in(value)?;
+        Ok(RuleText { matches, filter })
+    }
+}
+
+// A stream's shard and rules.
+#[derive(Drop)]
+pub(crate) struct StreamText<'v> {
+    pub(crate) shard: &'v str,
+    pub(crate) rules: Vec<RuleText<'v>>,
+}
+
+impl<'v> Model for StreamText<'v> {
+    ghost use Rattle.filter_rule.specs.Document.{StreamSaid};
+
+    ghost Value = { StreamSaid };
+
+    ghost view = { λ s. record { shard = s.shard.now; rules = s.rules.items } };
+}
+
+impl<'v> FromJson<'v> for StreamText<'v> {
+    ghost use Rattle.filter_rule.specs.Document.{stream_of};
+
+    ghost reads = { stream_of };
+
+    #[tactic(auto, unfolding(crate::specs::Document::stream_of))]
+    fn from_json(alloc: Global, value: &'v Value) -> Result<StreamText<'v>, PlanFault> {
+        let shard = text_in(value, "shard")?;
+        let filter = member(value, "filter")?;
+        let rules = each(alloc, list_in(filter, "rules")?)?;
+        Ok(StreamText { shard, rules })
+    }
+}
+
+impl<'v> Titled for Name<'v> {
+    ghost title = { λ n. n };
+
+    fn title(&self) -> &str {
+        self.as_str()
+    }
+}
+
+impl<'v> Titled for ColumnText<'v> {
+    ghost title = { λ c. c.name };
+
+    fn title(&self) -> &str {
+        self.name.as_str()
+    }
+}
+
+impl<'v> Titled for TableText<'v> {
+    ghost title = { λ t. t.name };
+
+    fn title(&self) -> &str {
+        self.name.as_str()
+    }
+}
+
+impl<'v> Titled for StreamText<'v> {
+    ghost title = { λ s. s.shard };
+
+    fn title(&self) -> &str {
+        self.shard
+    }
+}
+
+impl<'v> FromJson<'v> for TableText<'v> {
+    ghost use Rattle.filter_rule.specs.Document.{table_of};
+
+    ghost reads = { table_of };
+
+    #[tactic(auto, unfolding(crate::specs::Document::table_of))]
+    fn from_json(alloc: Global, value: &'v Value) -> Result<TableText<'v>, PlanFault> {
+        let name = name_of(member(value, "name")?)?;
+        let columns: Vec<ColumnText<'v>> = each(alloc, list_in(value, "columns")?)?;
+        let key: Vec<Name<'v>> = each(alloc, list_in(value, "key")?)?;
+        let vindex = vindex_in(value)?;
+        check_distinct(alloc, &columns)?;
+        check_distinct(alloc, &key)?;
+        Ok(TableText {
+            name,
+            columns,
+            key,
+            vindex,
+        })
+    }
+}
+
+// The whole file: its keyspace, tables and streams.
+#[derive(Drop)]
+pub(crate) struct Document<'v> {
+    pub(crate) keyspace: &'v str,
+    pub(crate) tables: Vec<TableText<'v>>,
+    pub(crate) streams: Vec<StreamText<'v>>,
+}
+
+impl<'v> Model for Document<'v> {
+    ghost use Rattle.filter_rule.specs.Document.{DocumentSaid};
+
+    ghost Value = { DocumentSaid };
+
+    ghost view = { λ d. record { keyspace = d.keyspace.now; tables = d.tables.items; streams = d.streams.items } };
+}
+
+// What the file's JSON value says, or that it has another shape.
+#[tactic(auto, unfolding(crate::specs::Document::document_of))]
+pub(crate) fn document_of(alloc: Global, value: &Value) -> Result<Document<'_>, PlanFault>
+    ensures { Gives (λ d. d) result (document_of (view value.now)) }
+{
+    let keyspace = text_in(value, "keyspace")?;
+    let tables: Vec<TableText<'_>> = each(alloc, list_in(value, "tables")?)?;
+    let streams: Vec<StreamText<'_>> = each(alloc, list_in(value, "streams")?)?;
+    check_distinct(alloc, &tables)?;
+    check_distinct(alloc, &streams)?;
+    Ok(Document {
+        keyspace,
+        tables,
+        streams,
+    })
+}

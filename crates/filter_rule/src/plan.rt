@@ -1,0 +1,151 @@
+//! A stream's plan.
+
+ghost use Rattle.std.specs.Prelude.{◌≡◌, ◌↔◌, IsTrue, ℕ, ◌<◌, length, position, IfSome};
+ghost use Rattle.std.specs.Str.{bytes_eq};
+ghost use Rattle.filter_rule.specs.PlanParts.{plan_value};
+ghost use Rattle.filter_rule.specs.PlanShape.{IsPlan};
+ghost use Rattle.filter_rule.specs.Splitting.{SplitRow};
+ghost use Rattle.filter_rule.specs.PlanValue.{PlanValue, columns_of, key_columns_of, table_of_name, passes_of};
+
+use crate::decision::Decision;
+use crate::same::all_same;
+use crate::table::{ColumnDef, Table};
+use row_view::RowView;
+use std::marker::Model;
+use std::sync::Arc;
+use vindex::VindexFault;
+
+/// What all plans of a workflow share.
+#[derive(Drop)]
+pub(crate) struct Schema {
+    pub(crate) keyspace: String,
+    pub(crate) tables: Vec<Table>,
+}
+
+/// One stream's plan: its keyspace and shard, the tables, and which rows of each table it keeps.
+#[derive(Drop)]
+pub struct Plan {
+    schema: Arc<Schema>,
+    shard: String,
+    decisions: Vec<Decision>,
+}
+
+impl Model for Plan {
+    ghost use Rattle.std.specs.String.{string_bytes};
+    ghost use Rattle.std.specs.Arc.{arc_value};
+    ghost use Rattle.filter_rule.specs.Splitting.{SplitRow};
+    ghost use Rattle.filter_rule.specs.PlanValue.{PlanValue};
+
+    ghost Value = { PlanValue };
+
+    ghost use Rattle.filter_rule.specs.PlanParts.{plan_value};
+    ghost use Rattle.filter_rule.specs.PlanShape.{IsPlan};
+
+    ghost view = { λ p. plan_value p.schema p.shard p.decisions };
+
+    ghost invariant = { λ p. IsPlan (plan_value p.schema p.shard p.decisions) };
+}
+
+impl Plan {
+    // A plan over shared tables.
+    pub(crate) fn new(schema: Arc<Schema>, shard: String, decisions: Vec<Decision>) -> Plan
+        requires { IsPlan (plan_value schema shard decisions) }
+        ensures { result ≡ plan_value schema shard decisions }
+    {
+        Plan {
+            schema,
+            shard,
+            decisions,
+        }
+    }
+
+    /// The keyspace's name.
+    pub fn keyspace(&self) -> &str
+        ensures { result.now ≡ self.now.keyspace }
+    {
+        self.schema.keyspace.as_str()
+    }
+
+    /// The source shard's name.
+    pub fn shard(&self) -> &str
+        ensures { result.now ≡ self.now.shard }
+    {
+        self.shard.as_str()
+    }
+
+    /// The tables, in copying order: 1 to 64 of them.
+    pub fn tables(&self) -> &[Table]
+        ensures { result.now ≡ self.now.tables }
+    {
+        self.schema.tables.as_slice()
+    }
+
+    /// The number of the table of this name, if there is one.
+    pub fn table(&self, name: &str) -> Option<u8>
+        ensures { result ≡ table_of_name self.now name.now }
+    {
+        let place = place_of_table(&self.schema.tables, name)?;
+        Some(place as u8)
+    }
+
+    /// The columns of table `t`, in order. That `t` is a table of the plan is the caller's.
+    pub fn columns(&self, t: u8) -> &[ColumnDef]
+        requires { t < length self.now.tables }
+        ensures { result.now ≡ columns_of self.now t }
+    {
+        self.schema.tables[usize::from(t)].columns()
+    }
+
+    /// The places of the key columns of table `t`, from 0, in key order. That `t` is a table of the
+    /// plan is the caller's.
+    pub fn key_columns(&self, t: u8) -> &[usize]
+        requires { t < length self.now.tables }
+        ensures { result.now ≡ key_columns_of self.now t }
+    {
+        self.schema.tables[usize::from(t)].key()
+    }
+
+    /// Whether a row of table `t` passes the stream's filter: the answer of the first rule that matches
+    /// the table, and no where none does. A rule by a key range asks for the id of its column's value,
+    /// also where the range is whole: `NullValue` for NULL and `NotANumber` where a number from 0 to
+    /// 2^64 - 1 is due. Takes no memory. That `t` is a table of the plan and that the row has as many
+    /// columns as the table is the caller's.
+    pub fn passes(&self, t: u8, row: &RowView<'_>) -> Result<bool, VindexFault>
+        requires table { t < length self.now.tables }
+        requires columns { length row.now ≡ length (columns_of self.now t) }
+        ensures value { result ≡ passes_of self.now t row.now }
+        // Where plans split a table's rows by key ranges, each row whose id is defined passes in one of them.
+        ensures split { SplitRow t row.now }
+    {
+        self.decisions[usize::from(t)].keeps(row)
+    }
+}
+
+impl Plan {
+    /// Whether both plans mean the same: keyspace, shard, tables, and for each table no rule, every
+    /// row, or the same column, vindex and bounds. Texts that mean the same are the same. Takes no
+    /// memory.
+    pub fn same(&self, other: &Plan) -> bool
+        ensures { IsTrue result ↔ (self.now ≡ other.now) }
+    {
+        self.schema.keyspace == other.schema.keyspace
+            && self.shard == other.shard
+            && all_same(&self.schema.tables, &other.schema.tables)
+            && all_same(&self.decisions, &other.decisions)
+    }
+
+    /// Whether both plans have the same tables in the same order, with the same columns, types, key and
+    /// vindex. Takes no memory.
+    pub fn same_tables(&self, other: &Plan) -> bool
+        ensures { IsTrue result ↔ (self.now.tables ≡ other.now.tables) }
+    {
+        all_same(&self.schema.tables, &other.schema.tables)
+    }
+}
+
+fn place_of_table(tables: &[Table], name: &str) -> Option<usize>
+    ensures value { result ≡ position (λ table. bytes_eq table.name name.now) tables.now }
+    ensures within { IfSome result (λ t. t < length tables.now) }
+{
+    tables.iter().position(|table| table.name() == name)
+}

@@ -1,0 +1,114 @@
+//! The workflow file: from its text to a plan for each stream.
+
+ghost use Rattle.std.specs.Prelude.{◌≡◌, ◌≤◌, List, Ok, Err, IfOk, length, map, string_bytes};
+ghost use Rattle.std.specs.Arc.{arc_value};
+ghost use Rattle.filter_rule.specs.Faults.{Gives, each};
+ghost use Rattle.filter_rule.specs.PlanShape.{AreTables};
+ghost use Rattle.filter_rule.specs.PlanValue.{PlanValue};
+ghost use Rattle.filter_rule.specs.Resolving.{resolved};
+ghost use Rattle.filter_rule.specs.Reading.{json_of, plan_of, plans_from, plans_of_document, plans_of};
+ghost use Rattle.serde_json.specs.View.{view};
+
+use crate::document::{Document, StreamText, TableText, document_of};
+use crate::fault::PlanFault;
+use crate::limits::within_limits;
+use crate::plan::{Plan, Schema};
+use crate::resolve::resolved;
+use crate::streams::decisions_of;
+use crate::table::Table;
+use serde_json::Value;
+use std::alloc::Global;
+use std::sync::Arc;
+
+// The JSON value of a text.
+#[tactic(auto, unfolding(crate::specs::Reading::json_of))]
+fn json_of(alloc: Global, text: &[u8]) -> Result<Value, PlanFault>
+    ensures { Gives view result (json_of text.now) }
+{
+    match Value::from_slice(alloc, text) {
+        Ok(value) => Ok(value),
+        Err(e) if e.is_memory() => Err(PlanFault::Memory),
+        Err(_) => Err(PlanFault::Json),
+    }
+}
+
+// The tables of the plans.
+fn tables_of(alloc: Global, tables: &[TableText<'_>]) -> Result<Vec<Table>, PlanFault>
+    ensures { Gives (λ v. v.items) result (each resolved tables.now) }
+{
+    let mut found = Vec::new(alloc);
+    for table in tables {
+        found.push(resolved(alloc, table)?)?;
+    }
+    Ok(found)
+}
+
+// The plan of one stream.
+#[tactic(auto, unfolding(crate::specs::Reading::plan_of))]
+fn plan_of(
+    alloc: Global,
+    schema: &Arc<Schema>,
+    n: usize,
+    stream: &StreamText<'_>,
+) -> Result<Arc<Plan>, PlanFault>
+    requires { AreTables (arc_value schema.now).tables.items }
+    ensures { Gives arc_value result
+        (plan_of (string_bytes (arc_value schema.now).keyspace) (arc_value schema.now).tables.items n stream.now) }
+{
+    let decisions = decisions_of(alloc, n, &schema.tables, &stream.rules)?;
+    let shard = String::from_str(alloc, stream.shard)?;
+    let schema = Arc::try_clone(schema)?;
+    Ok(Arc::new(alloc, Plan::new(schema, shard, decisions))?)
+}
+
+// A plan for each stream.
+fn plans_from(
+    alloc: Global,
+    schema: &Arc<Schema>,
+    streams: &[StreamText<'_>],
+) -> Result<Vec<Arc<Plan>>, PlanFault>
+    requires { AreTables (arc_value schema.now).tables.items }
+    ensures { Gives (λ v. map arc_value v.items) result
+        (plans_from (string_bytes (arc_value schema.now).keyspace) (arc_value schema.now).tables.items 0 streams.now) }
+{
+    let mut plans = Vec::new(alloc);
+    for n in 0..streams.len() {
+        plans.push(plan_of(alloc, schema, n, &streams[n])?)?;
+    }
+    Ok(plans)
+}
+
+// The plans of a document within the limits.
+#[tactic(auto, unfolding(crate::specs::Reading::plans_of_document))]
+fn plans_of_document(alloc: Global, document: &Document<'_>) -> Result<Vec<Arc<Plan>>, PlanFault>
+    requires { length document.now.tables ≤ 64 }
+    ensures { Gives (λ v. map arc_value v.items) result (plans_of_document document.now) }
+{
+    let tables = tables_of(alloc, &document.tables)?;
+    let keyspace = String::from_str(alloc, document.keyspace)?;
+    let schema = Arc::new(alloc, Schema { keyspace, tables })?;
+    plans_from(alloc, &schema, &document.streams)
+}
+
+#[tactic(auto, unfolding(crate::specs::Reading::plans_of))]
+fn plans_of(alloc: Global, text: &[u8]) -> Result<Vec<Arc<Plan>>, PlanFault>
+    ensures { Gives (λ v. map arc_value v.items) result (plans_of text.now) }
+{
+    let value = json_of(alloc, text)?;
+    let document = within_limits(document_of(alloc, &value)?)?;
+    plans_of_document(alloc, &document)
+}
+
+impl Plan {
+    /// Reads a workflow file: one plan a stream, in the file's order, all over the same tables. It is
+    /// read exactly where the file has no fault. A fault is the first in this order: `Json`; `Shape`;
+    /// `Limit`; table by table its absent columns, then its unfit types (`NoSuchColumn`, `KeyType`);
+    /// stream by stream and rule by rule the rule's form (`BadRule`), then for each table that it is
+    /// first to match `BadRule`, `NoSuchColumn`, `KeyType`. `Memory` is for want of memory alone, and
+    /// then stands in place of what would have been found later.
+    pub fn read_all(alloc: Global, text: &[u8]) -> Result<Vec<Arc<Plan>>, PlanFault>
+        ensures reads { Gives (λ v. map arc_value v.items) result (plans_of text.now) }
+    {
+        plans_of(alloc, text)
+    }
+}

@@ -1,0 +1,242 @@
+use super::*;
+use row_view::RowView;
+use std::alloc::Global;
+use std::test::Fail;
+
+// The number of the refusal, or 0 where the file is read.
+fn number_of(alloc: Global, text: &str) -> u8 {
+    match Plan::read_all(alloc, text.as_bytes()) {
+        Ok(_) => 0,
+        Err(fault) => fault.number(),
+    }
+}
+
+// A file of one stream, with these columns, key, vindex and rules.
+fn workflow(
+    alloc: Global,
+    columns: &str,
+    key: &str,
+    vindex: &str,
+    rules: &str,
+) -> Result<String, Fail> {
+    Ok(format!(in alloc;
+        "{{\"keyspace\":\"ks\",\"tables\":[{{\"name\":\"t\",\"columns\":{columns},\"key\":{key}{vindex}}}],\"streams\":[{{\"shard\":\"-80\",\"filter\":{{\"rules\":{rules}}}}}]}}"
+    )?)
+}
+
+const COLUMNS: &str = "[[\"id\",\"INT64\"],[\"v\",\"VARCHAR\"]]";
+
+const KEY: &str = "[\"id\"]";
+
+const VINDEX: &str = ",\"vindex\":[\"id\",\"numeric\"]";
+
+const EVERY_ROW: &str = "[{\"match\":\"/.*\",\"filter\":\"\"}]";
+
+#[test]
+fn workflow_faults_named(rt: HostRuntime) -> Result<(), Fail> {
+    let alloc = rt.alloc();
+    let text = workflow(alloc, COLUMNS, "[\"x\"]", VINDEX, EVERY_ROW)?;
+    match Plan::read_all(alloc, text.as_bytes()) {
+        Err(PlanFault::NoSuchColumn { table, column }) => {
+            assert_eq!(rt; table.as_str(), "t");
+            assert_eq!(rt; column.as_str(), "x");
+        }
+        _ => assert!(rt; false, "53 is due"),
+    }
+    let text = workflow(
+        alloc,
+        COLUMNS,
+        KEY,
+        ",\"vindex\":[\"v\",\"numeric\"]",
+        EVERY_ROW,
+    )?;
+    match Plan::read_all(alloc, text.as_bytes()) {
+        Err(PlanFault::KeyType { table, column }) => {
+            assert_eq!(rt; table.as_str(), "t");
+            assert_eq!(rt; column.as_str(), "v");
+        }
+        _ => assert!(rt; false, "54 is due"),
+    }
+    let text = workflow(
+        alloc,
+        COLUMNS,
+        KEY,
+        ",\"vindex\":[\"id\",\"hash\"]",
+        EVERY_ROW,
+    )?;
+    assert_eq!(rt; number_of(alloc, text.as_str()), 52);
+    for rules in [
+        "[{\"match\":\"/.*\",\"filter\":\"8-\"}]",
+        "[{\"match\":\"t\",\"filter\":\"select * from u\"}]",
+    ] {
+        let text = workflow(alloc, COLUMNS, KEY, VINDEX, rules)?;
+        match Plan::read_all(alloc, text.as_bytes()) {
+            Err(PlanFault::BadRule { stream, rule }) => {
+                assert_eq!(rt; stream, 0);
+                assert_eq!(rt; rule, 0);
+            }
+            _ => assert!(rt; false, "55 is due"),
+        }
+    }
+    Ok(())
+}
+
+#[test]
+fn filter_forms(rt: HostRuntime) -> Result<(), Fail> {
+    let alloc = rt.alloc();
+    for (matches, filter, number) in [
+        ("/.*", "", 0),
+        ("/.*", "-80", 0),
+        ("t", "select * from t", 0),
+        ("t", " \\tSELECT*FROM`t`", 0),
+        (
+            "t",
+            "select * from t where in_keyrange(v, 'binary_md5', '-80')",
+            0,
+        ),
+        ("t", "Select * From t Where In_KeyRange ( '80-' )\\r\\n", 0),
+        ("u", "select * from u where in_keyrange('-80')", 0),
+        ("where", "select * from where where in_keyrange('-')", 0),
+        ("/x", "", 55),
+        ("/.*", "select * from t", 55),
+        ("t", "`select` * from t", 55),
+        ("t", "select * from ``", 55),
+        ("t", "select * from t `where` in_keyrange('-80')", 55),
+        ("t", "select * from t where", 55),
+        ("t", "select * from t where in_keyrange('-80') x", 55),
+        ("t", "select * from t where in_keyrange('-80'", 55),
+        (
+            "t",
+            "select * from t where in_keyrange(v, 'hash', '-80')",
+            55,
+        ),
+        ("t", "select * from t where in_keyrange('8-')", 55),
+        ("t", "select id from t", 55),
+        ("t", " ", 55),
+        ("t", " -80", 55),
+        ("t", "exclude", 55),
+    ] {
+        let rules = format!(in alloc; "[{{\"match\":\"{matches}\",\"filter\":\"{filter}\"}}]")?;
+        let text = workflow(alloc, COLUMNS, KEY, VINDEX, rules.as_str())?;
+        assert_eq!(rt;
+            number_of(alloc, text.as_str()),
+            number,
+            "{matches} {filter}"
+        );
+    }
+    Ok(())
+}
+
+#[test]
+fn workflow_faults_in_order(rt: HostRuntime) -> Result<(), Fail> {
+    let alloc = rt.alloc();
+    for (columns, key, vindex, rules, number) in [
+        // an unknown type, though there is no key column
+        ("[[\"id\",\"INT\"]]", "[]", "", EVERY_ROW, 52),
+        // no key column, though a rule is bad
+        (COLUMNS, "[]", "", "[{\"match\":\"/\"}]", 56),
+        // an absent column of the key, though an earlier one has an unfit type
+        ("[[\"id\",\"TEXT\"]]", "[\"id\",\"x\"]", "", EVERY_ROW, 53),
+        // an absent column of the vindex, though the key's type is unfit
+        (
+            "[[\"id\",\"TEXT\"]]",
+            KEY,
+            ",\"vindex\":[\"x\",\"numeric\"]",
+            EVERY_ROW,
+            53,
+        ),
+        ("[[\"id\",\"TEXT\"]]", KEY, "", "[{\"match\":\"/\"}]", 54),
+        // a filter's column, then its type
+        (
+            COLUMNS,
+            KEY,
+            VINDEX,
+            "[{\"match\":\"t\",\"filter\":\"select * from t where in_keyrange(x, 'numeric', '-')\"}]",
+            53,
+        ),
+        (
+            COLUMNS,
+            KEY,
+            VINDEX,
+            "[{\"match\":\"t\",\"filter\":\"select * from t where in_keyrange(v, 'numeric', '-')\"}]",
+            54,
+        ),
+        // a key range under a table without a vindex
+        (
+            COLUMNS,
+            KEY,
+            "",
+            "[{\"match\":\"t\",\"filter\":\"-80\"}]",
+            55,
+        ),
+        // a rule that is first for no table is read for its form alone
+        (
+            COLUMNS,
+            KEY,
+            "",
+            "[{\"match\":\"t\"},{\"match\":\"/.*\",\"filter\":\"-80\"}]",
+            0,
+        ),
+        (
+            COLUMNS,
+            KEY,
+            "",
+            "[{\"match\":\"t\"},{\"match\":\"/.*\",\"filter\":\"8-\"}]",
+            55,
+        ),
+        // a name in the key is unfit before it is absent
+        (COLUMNS, "[\"\"]", "", EVERY_ROW, 52),
+        (COLUMNS, "[\"id\",\"id\"]", "", EVERY_ROW, 52),
+        (
+            "[[\"id\",\"INT64\"],[\"id\",\"INT64\"]]",
+            KEY,
+            "",
+            EVERY_ROW,
+            52,
+        ),
+        (COLUMNS, KEY, ",\"vindex\":null", EVERY_ROW, 52),
+        (COLUMNS, KEY, "", "[{\"match\":\"t\",\"filter\":null}]", 52),
+        (COLUMNS, KEY, "", "[{}]", 52),
+        (COLUMNS, KEY, "", "[{\"match\":\"\"}]", 0),
+        (COLUMNS, KEY, ",\"unknown\":[1.5]", EVERY_ROW, 0),
+        (COLUMNS, KEY, ",\"unknown\":1e999", EVERY_ROW, 51),
+        (
+            COLUMNS,
+            KEY,
+            ",\"vindex\":3,\"vindex\":[\"id\",\"numeric\"]",
+            EVERY_ROW,
+            0,
+        ),
+    ] {
+        let text = workflow(alloc, columns, key, vindex, rules)?;
+        assert_eq!(rt;
+            number_of(alloc, text.as_str()),
+            number,
+            "{}",
+            text.as_str()
+        );
+    }
+    assert_eq!(rt; number_of(alloc, "{"), 51);
+    assert_eq!(rt; number_of(alloc, "[]"), 52);
+    Ok(())
+}
+
+#[test]
+fn type_number_limit(rt: HostRuntime) -> Result<(), Fail> {
+    let alloc = rt.alloc();
+    for (number, fault) in [
+        ("265", 0),
+        ("4294967295", 54),
+        ("0", 54),
+        ("4294967296", 52),
+        ("-1", 52),
+        ("-0", 52),
+        ("265.0", 52),
+        ("2.65e2", 52),
+    ] {
+        let columns = format!(in alloc; "[[\"id\",{number}]]")?;
+        let text = workflow(alloc, columns.as_str(), KEY, "", EVERY_ROW)?;
+        assert_eq!(rt; number_of(alloc, text.as_str()), fault, "{number}");
+    }
+    Ok(())
+}

@@ -1,0 +1,146 @@
+//! Key ranges, which say which keyspace ids a shard has.
+
+ghost use Rattle.std.specs.Prelude.{◌≡◌, ◌⊎◌, ◌↔◌, Some, None, IfOk, IfErr, IsErrOf, IsTrue};
+ghost use Rattle.std.specs.Option.{option_copied, option_map};
+ghost use Rattle.vindex.specs.Bounds.{Bounds, in_range, is_ordered, trimmed};
+ghost use Rattle.vindex.specs.RangeText.{bytes_of_hex, key_range_of_text, IsRangeText};
+ghost use Rattle.vindex.specs.declared.faults.VindexFault.TheVariants.{BadRange, Memory};
+
+use crate::faults::VindexFault;
+use hex::FromHexError;
+use std::alloc::Global;
+use std::marker::Model;
+
+/// A range of keyspace ids: from its start on and before its end, as byte strings, in which a proper
+/// beginning is less. The bounds have no 00 bytes at their ends.
+#[derive(Debug, Drop)]
+pub struct KeyRange {
+    start: Vec<u8>,
+    end: Option<Vec<u8>>,
+}
+
+impl Model for KeyRange {
+    ghost use Rattle.std.specs.Prelude.{IsTrue};
+    ghost use Rattle.std.specs.Option.{option_map};
+    ghost use Rattle.vindex.specs.Bounds.{Bounds, is_below};
+
+    ghost Value = { Bounds };
+
+    ghost view = { λ range. record {
+      start = range.start.items;
+      end = option_map (λ bytes. bytes.items) range.end;
+    } };
+
+    // The start is less than the end, if there is one.
+    ghost invariant = { λ range. IsTrue (is_below (option_map (λ bytes. bytes.items) range.end) range.start.items) };
+}
+
+impl KeyRange {
+    /// Reads `start-end`, each side an even number of hexadecimal digits of either case, or empty for
+    /// open; `0` and `-` are the whole range. 00 bytes at the end of a bound are dropped first, so
+    /// `80-00` is `80-`. `BadRange` is for every other text, also for one whose start isn't below the
+    /// end that it gives; `Memory` where the allocator gave none.
+    #[tactic(auto, unfolding(crate::specs::RangeText::key_range_of_text))]
+    pub fn parse(alloc: Global, text: &str) -> Result<KeyRange, VindexFault>
+        ensures read { IfOk result (λ range. key_range_of_text text.now ≡ Some range) }
+        ensures bad_range { IsErrOf result BadRange → key_range_of_text text.now ≡ None }
+        ensures refused { IfErr result (λ fault. (fault ≡ BadRange) ⊎ (fault ≡ Memory)) }
+
+        // The texts that are read as a range are those that write it.
+        ensures grammar { (bounds : Bounds)
+            → (key_range_of_text text.now ≡ Some bounds) ↔ IsRangeText text.now bounds }
+    {
+        if text == "0" {
+            return Ok(KeyRange {
+                start: Vec::new(alloc),
+                end: None,
+            });
+        }
+        let Some((start, end)) = text.split_once('-') else {
+            return Err(VindexFault::BadRange);
+        };
+        let start = bound_of(alloc, start)?;
+        let end = bound_of(alloc, end)?;
+        if end.is_empty() {
+            return Ok(KeyRange { start, end: None });
+        }
+        if start.as_slice().cmp(end.as_slice()).is_lt() {
+            Ok(KeyRange {
+                start,
+                end: Some(end),
+            })
+        } else {
+            Err(VindexFault::BadRange)
+        }
+    }
+
+    /// Whether the range has `id`: its start is at most `id`, and `id` is below its end. Takes no
+    /// memory.
+    pub fn holds(&self, id: &[u8]) -> bool
+        ensures { result ≡ in_range self.now id.now }
+    {
+        let is_below = match &self.end {
+            Some(end) => id.cmp(end.as_slice()).is_lt(),
+            None => true,
+        };
+        self.start().cmp(id).is_le() && is_below
+    }
+
+    /// Where the range starts. Takes no memory.
+    pub fn start(&self) -> &[u8]
+        ensures { result.now ≡ self.now.start }
+    {
+        self.start.as_slice()
+    }
+
+    /// Where the range ends; `None` is for one that is open above. An end is above the start. Takes
+    /// no memory.
+    pub fn end(&self) -> Option<&[u8]>
+        ensures end { option_copied result ≡ self.now.end }
+        ensures ordered { IsTrue (is_ordered self.now) }
+    {
+        match &self.end {
+            Some(end) => Some(end.as_slice()),
+            None => None,
+        }
+    }
+
+    /// Whether both ranges have the same bounds. Takes no memory.
+    pub fn same(&self, other: &KeyRange) -> bool
+        ensures { IsTrue result ↔ (self.now ≡ other.now) }
+    {
+        let same_end = match (&self.end, &other.end) {
+            (Some(end), Some(other_end)) => end.as_slice() == other_end.as_slice(),
+            (None, None) => true,
+            _ => false,
+        };
+        self.start() == other.start() && same_end
+    }
+}
+
+// The bytes that a bound's hexadecimal digits write, without the 00 bytes at their end.
+fn bound_of(alloc: Global, digits: &str) -> Result<Vec<u8>, VindexFault>
+    ensures read { IfOk result (λ bytes. option_map trimmed (bytes_of_hex digits.now) ≡ Some bytes.items) }
+    ensures bad_range { IsErrOf result BadRange → bytes_of_hex digits.now ≡ None }
+    ensures refused { IfErr result (λ fault. (fault ≡ BadRange) ⊎ (fault ≡ Memory)) }
+{
+    match hex::decode(alloc, digits.as_bytes()) {
+        Ok(mut bytes) => {
+            drop_zeros(&mut bytes);
+            Ok(bytes)
+        }
+        Err(FromHexError::OutOfMemory) => Err(VindexFault::Memory),
+        Err(_) => Err(VindexFault::BadRange),
+    }
+}
+
+// Drops the 00 bytes at the end.
+fn drop_zeros(bytes: &mut Vec<u8>)
+    ensures { bytes.new.items ≡ trimmed bytes.old.items }
+{
+    let mut len = bytes.len();
+    while len > 0 && bytes[len - 1] == 0 {
+        len -= 1;
+    }
+    bytes.truncate(len);
+}
