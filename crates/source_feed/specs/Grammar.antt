@@ -1,8 +1,8 @@
 -- The blocks of a feed as a grammar over its events (this profile):
 -- BEGIN body COMMIT is a block with the body's last position and its changes in order; BEGIN body
 -- ROLLBACK is none; a position outside is a block without changes; what is ignored is nothing.
-use Rattle.std.specs.Prelude.{◌≡◌, ℕ, List, [], ◌∷◌, ◌++◌, reverse, Bool, true, false, Option, None, Some}
-use Rattle.std.specs.List.{list_all, flat_map}
+use Rattle.std.specs.Prelude.{◌≡◌, ℕ, List, [], ◌∷◌, ◌++◌, reverse, IsTrue, Bool, true, false, Option, None, Some}
+use Rattle.std.specs.List.{AllByRecursion, flat_map}
 use Rattle.std.specs.Option.{option_to_list}
 use Rattle.vevent.specs.declared.ignored.IgnoredEvent.{IgnoredEvent}
 use Rattle.vevent.specs.EventValue.{EventValue, Gtid, Begin, Commit, Rollback, Row, Field, Vgtid, Ignored}
@@ -43,11 +43,11 @@ changes_columns (Field name columns) = true
 changes_columns event = false
 
 pub record BlockGrammar (source : SourceValue) : Type 0 where
-  pub committed : (earlier : History) (body : List EventValue) → list_all is_inner body ≡ true
-    → blocks source (Commit ∷ inside earlier body) ≡ blocks source earlier ++ option_to_list (block_at_position (last_position_in source body) (flat_map (changes_at source) body))
-  pub rolled_back : (earlier : History) (body : List EventValue) → list_all is_inner body ≡ true
-    → blocks source (Rollback ∷ inside earlier body) ≡ blocks source earlier
+  pub committed : (earlier : History) (body : List EventValue) → AllByRecursion (λ event. IsTrue (is_inner event)) body
+      → blocks source (Commit ∷ inside earlier body) ≡ blocks source earlier ++ option_to_list (block_at_position (last_position_in source body) (flat_map (changes_at source) body))
+  pub rolled_back : (earlier : History) (body : List EventValue) → AllByRecursion (λ event. IsTrue (is_inner event)) body
+      → blocks source (Rollback ∷ inside earlier body) ≡ blocks source earlier
   pub outside : (earlier : History) (event : EventValue) → is_open earlier ≡ false
-    → blocks source (event ∷ earlier) ≡ blocks source earlier ++ option_to_list (block_at_position (position_of source event) [])
+      → blocks source (event ∷ earlier) ≡ blocks source earlier ++ option_to_list (block_at_position (position_of source event) [])
   pub ignored : (earlier : History) (kind : IgnoredEvent) → blocks source (Ignored kind ∷ earlier) ≡ blocks source earlier
   pub columns_stay : (earlier : History) (table : List ℕ) (event : EventValue) → changes_columns event ≡ false → columns_of source (event ∷ earlier) table ≡ columns_of source earlier table

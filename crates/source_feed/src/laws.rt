@@ -9,5 +9,4 @@ ghost use Rattle.source_feed.specs.Grammar.{BlockGrammar};
 /// without changes, and what is ignored is nothing. Columns stay as they were but for a FIELD.
 pub fn blocks_are_a_grammar()
     ensures { (source : SourceValue) → BlockGrammar source }
-{
-}
+{}

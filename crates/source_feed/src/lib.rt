@@ -8,6 +8,8 @@ mod groups;
 mod laws;
 mod pass;
 mod source;
+#[cfg(test)]
+mod tests;
 mod widths;
 
 pub use fault::FeedFault;
