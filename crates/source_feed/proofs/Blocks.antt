@@ -1,18 +1,17 @@
 -- A block that ends: the last group's position is the union of all earlier positions, so what the last
 -- group alone says of the block is what all blocks say of it.
-use Rattle.std.proofs.Common.{◌≡◌, ℕ, ◌+◌, ◌<◌, ◌≤◌, List, [], ◌∷◌, ◌++◌, length, Bool, true, false, cond, Option, None, Some, Result, Ok, Err, refl, sym, ◌∙◌, ap, arith, inl, inr, ◌-◌, slice_get, rules}
+use Rattle.std.proofs.Common.{◌≡◌, ◌+◌, List, [], ◌∷◌, ◌++◌, length, true, false, None, Some, Result, Ok, Err, refl, sym, ◌∙◌, ap, arith, inl, inr, ◌-◌, slice_get, rules}
 use Rattle.std.proofs.lemmas.List.{length-append}
 use Rattle.std.specs.Option.{option_map_or}
 use Rattle.std.proofs.lemmas.Bool.{cases_Bool, cond-true, cond-false}
 use Rattle.gtid_set.specs.Position.{union_of, within_of, IsCanonical}
 use Rattle.vevent.specs.EventValue.{EventValue}
 use Rattle.source_feed.specs.declared.fault.FeedFault.{FeedFault}
-use Rattle.source_feed.specs.declared.fault.FeedFault.TheVariants.{Diverged, Memory}
-use Rattle.source_feed.specs.FaultNumber.{Refuses, IsFault, Gives}
+use Rattle.source_feed.specs.declared.fault.FeedFault.TheVariants.{Diverged}
 use Rattle.source_feed.specs.GroupValue.{Position, TableChangeValue, GroupValue}
 use Rattle.source_feed.specs.SourceValue.{SourceValue}
 use Rattle.source_feed.specs.History.{History}
-use Rattle.source_feed.specs.Groups.{Block, block_at, block_fault, seen, with_block, groups_of, kept}
+use Rattle.source_feed.specs.Groups.{block_at, block_fault, seen, with_block, groups_of, kept}
 use Rattle.source_feed.specs.BlockEnd.{last_position, block_end}
 use Rattle.source_feed.proofs.Positions.{union-within, union-around}
 
@@ -41,10 +40,10 @@ append-nothing groups = search rules
 pub ends-none : (source : SourceValue) (earlier : History) (event : EventValue) (groups : List GroupValue)
     → block_at source earlier event ≡ None → Ends source earlier groups → Ends source (event ∷ earlier) groups
 ends-none source earlier event groups b e = record {
-    groups = e.groups ∙ sym (append-nothing (groups_of source earlier)) ∙ ap (λ block. groups_of source earlier ++ kept (seen source earlier) (length (groups_of source earlier) + 1) block) (sym b);
-    last = e.last ∙ ap (λ block. with_block (seen source earlier) block) (sym b);
-    canonical = rw b e.canonical
-  }
+  groups = e.groups ∙ sym (append-nothing (groups_of source earlier)) ∙ ap (λ block. groups_of source earlier ++ kept (seen source earlier) (length (groups_of source earlier) + 1) block) (sym b);
+  last = e.last ∙ ap (λ block. with_block (seen source earlier) block) (sym b);
+  canonical = rw b e.canonical;
+}
 
 -- the block is skipped, kept or refused
 abbrev pub BlockEnds : SourceValue → History → EventValue → List GroupValue → Position → List TableChangeValue → Result (List GroupValue) FeedFault → Type 0
@@ -55,28 +54,32 @@ skipped : (source : SourceValue) (earlier : History) (event : EventValue) (group
     → block_at source earlier event ≡ Some (record { position = position; changes = changes }) → IsCanonical position → Ends source earlier groups
     → within_of position (seen source earlier) ≡ true → BlockEnds source earlier event groups position changes (Ok groups)
 skipped source earlier event groups position changes b p e w =
-    let union : union_of (seen source earlier) position ≡ seen source earlier = union-within (seen source earlier) position e.canonical p w in
-    (cond-true _ _ _ w, record {
-      groups = e.groups ∙ sym (append-nothing (groups_of source earlier))
-        ∙ ap (λ more. groups_of source earlier ++ more) (sym (cond-true (within_of position (seen source earlier)) [] (record { number = length (groups_of source earlier) + 1; position = position; changes = changes } ∷ []) w))
-        ∙ ap (λ block. groups_of source earlier ++ kept (seen source earlier) (length (groups_of source earlier) + 1) block) (sym b);
-      last = e.last ∙ sym union ∙ ap (λ block. with_block (seen source earlier) block) (sym b);
-      canonical = rw (b, union) e.canonical
-    })
+    let union : union_of (seen source earlier) position ≡ seen source earlier = union-within (seen source earlier) position e.canonical p w in (
+      cond-true _ _ _ w,
+      record {
+        groups = e.groups ∙ sym (append-nothing (groups_of source earlier))
+            ∙ ap (λ more. groups_of source earlier ++ more) (sym (cond-true (within_of position (seen source earlier)) [] (record { number = length (groups_of source earlier) + 1; position = position; changes = changes } ∷ []) w))
+            ∙ ap (λ block. groups_of source earlier ++ kept (seen source earlier) (length (groups_of source earlier) + 1) block) (sym b);
+        last = e.last ∙ sym union ∙ ap (λ block. with_block (seen source earlier) block) (sym b);
+        canonical = rw (b, union) e.canonical;
+      },
+    )
 
 added : (source : SourceValue) (earlier : History) (event : EventValue) (groups : List GroupValue) (position : Position) (changes : List TableChangeValue)
     → block_at source earlier event ≡ Some (record { position = position; changes = changes }) → IsCanonical position → Ends source earlier groups
     → within_of position (seen source earlier) ≡ false → within_of (seen source earlier) position ≡ true
     → BlockEnds source earlier event groups position changes (Ok (groups ++ record { number = length groups + 1; position = position; changes = changes } ∷ []))
 added source earlier event groups position changes b p e w v =
-    let union : union_of (seen source earlier) position ≡ position = union-around (seen source earlier) position e.canonical p v in
-    (cond-false _ _ _ w ∙ cond-true _ _ _ v, record {
-      groups = ap (λ (all : List GroupValue). all ++ record { number = length all + 1; position = position; changes = changes } ∷ []) e.groups
-        ∙ ap (λ more. groups_of source earlier ++ more) (sym (cond-false (within_of position (seen source earlier)) [] (record { number = length (groups_of source earlier) + 1; position = position; changes = changes } ∷ []) w))
-        ∙ ap (λ block. groups_of source earlier ++ kept (seen source earlier) (length (groups_of source earlier) + 1) block) (sym b);
-      last = last_position-append groups _ ∙ sym union ∙ ap (λ block. with_block (seen source earlier) block) (sym b);
-      canonical = rw (b, union) p
-    })
+    let union : union_of (seen source earlier) position ≡ position = union-around (seen source earlier) position e.canonical p v in (
+      cond-false _ _ _ w ∙ cond-true _ _ _ v,
+      record {
+        groups = ap (λ (all : List GroupValue). all ++ record { number = length all + 1; position = position; changes = changes } ∷ []) e.groups
+            ∙ ap (λ more. groups_of source earlier ++ more) (sym (cond-false (within_of position (seen source earlier)) [] (record { number = length (groups_of source earlier) + 1; position = position; changes = changes } ∷ []) w))
+            ∙ ap (λ block. groups_of source earlier ++ kept (seen source earlier) (length (groups_of source earlier) + 1) block) (sym b);
+        last = last_position-append groups _ ∙ sym union ∙ ap (λ block. with_block (seen source earlier) block) (sym b);
+        canonical = rw (b, union) p;
+      },
+    )
 
 diverged : (source : SourceValue) (earlier : History) (event : EventValue) (groups : List GroupValue) (position : Position) (changes : List TableChangeValue)
     → Ends source earlier groups

@@ -4,3 +4,5 @@ pub mod Blocks
 pub mod Steps
 pub mod RunLaws
 pub mod Messages
+pub mod EachGroup
+pub mod GrammarLaws

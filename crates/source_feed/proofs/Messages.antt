@@ -1,5 +1,5 @@
 -- One event or one message more of what is still to come.
-use Rattle.std.proofs.Common.{◌≡◌, ℕ, zero, suc, ◌+◌, ◌≤◌, List, [], ◌∷◌, ◌++◌, length, Option, None, Some, Result, Ok, Err, refl, sym, ◌∙◌, ap, arith}
+use Rattle.std.proofs.Common.{◌≡◌, ℕ, zero, suc, ◌+◌, ◌≤◌, List, [], ◌∷◌, length, Option, None, Some, Result, Ok, Err, ◌∙◌, ap, arith}
 use Rattle.std.proofs.lemmas.List.{length-append}
 use Rattle.std.specs.List.{filter_map, cons_option}
 use Rattle.vevent.specs.Parts.{part_in}
@@ -13,7 +13,7 @@ use Rattle.vevent.specs.Response.{response_of, events_of, put_event}
 use Rattle.vevent.specs.Event.{event_at}
 use Rattle.vevent.specs.declared.fault.EventFault.{EventFault}
 use Rattle.source_feed.specs.declared.fault.FeedFault.{FeedFault}
-use Rattle.source_feed.specs.declared.fault.FeedFault.TheVariants.{Memory, Frame}
+use Rattle.source_feed.specs.declared.fault.FeedFault.TheVariants.{Memory}
 use Rattle.source_feed.specs.FaultNumber.{Refuses, IsFault}
 use Rattle.source_feed.specs.SourceValue.{SourceValue}
 use Rattle.source_feed.specs.EventList.{end_of_message, events_then, events_in}
@@ -118,8 +118,12 @@ length-events_of (part ∷ parts) end = omega (arith, length-put_event (event_at
 pub length-response_of : (message : List ℕ) → length (response_of message).items ≤ length message
 unfolding response_of
 length-response_of message =
-    omega (arith, length-events_of (filter_map (part_in 1) (fields_of message).items) (fields_of message).fault,
-      length-filter_map (part_in 1) (fields_of message).items, length-fields_of message)
+    omega (
+      arith,
+      length-events_of (filter_map (part_in 1) (fields_of message).items) (fields_of message).fault,
+      length-filter_map (part_in 1) (fields_of message).items,
+      length-fields_of message,
+    )
 
 length-events_then : (items : List EventValue) (fault : Option EventFault) (others : Reading EventValue FeedFault)
     → length (events_then items fault others).items ≤ length items + length others.items
@@ -170,7 +174,8 @@ events_behind source history next message old new i f ok =
         never_unless : (first : Option FeedFault) (then : Result History FeedFault) → (then ≡ Ok next → ⊥) → unless first then ≡ Ok next → ⊥
         never_unless None then h e = h e
         never_unless (Some f) then h e = cc
+
     behind : (items : List EventValue) (fault : Option EventFault) (others : Reading EventValue FeedFault) (history : History)
-      → run source history items (end_of_message fault) ≡ Ok next → length items + length others.items ≡ length (events_then items fault others).items
+        → run source history items (end_of_message fault) ≡ Ok next → length items + length others.items ≡ length (events_then items fault others).items
     behind items None others history e = omega (arith, length-append items others.items)
     behind items (Some fault) others history e = absurd (never items _ history e)

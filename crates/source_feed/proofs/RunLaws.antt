@@ -1,19 +1,18 @@
 -- The groups of some events are what taking them one after another gives.
-use Rattle.std.proofs.Common.{◌≡◌, ℕ, ◌^◌, ◌<◌, nat_lt, length, List, [], ◌∷◌, ◌++◌, ◌⊎◌, Bool, true, false, cond, Option, None, Some, Result, Ok, Err, refl, sym, ◌∙◌, ap, subst, arith, inl, inr}
-use Rattle.std.proofs.lemmas.Bool.{cases_Bool, cond-true, cond-false}
+use Rattle.std.proofs.Common.{◌≡◌, ℕ, ◌^◌, ◌<◌, nat_lt, length, List, [], ◌∷◌, ◌++◌, ◌⊎◌, Option, None, Some, Result, Ok, Err, refl, sym, ◌∙◌, ap, subst, arith, inl, inr}
+use Rattle.std.proofs.lemmas.Bool.{cond-true}
 use Rattle.std.proofs.lemmas.Bool.Decides.{nat_tests}
 use mathlib.Core.List.{reverse_aux}
 use Rattle.proto_wire.specs.Reading.{Reading}
 use Rattle.vevent.specs.EventValue.{EventValue}
 use Rattle.vevent.specs.declared.fault.EventFault.{EventFault}
 use Rattle.source_feed.specs.declared.fault.FeedFault.{FeedFault}
-use Rattle.source_feed.specs.declared.fault.FeedFault.TheVariants.{Event, OpenAtEnd}
+use Rattle.source_feed.specs.declared.fault.FeedFault.TheVariants.{Event}
 use Rattle.source_feed.specs.FaultNumber.{Gives}
-use Rattle.source_feed.specs.GroupValue.{GroupValue}
 use Rattle.source_feed.specs.SourceValue.{SourceValue}
 use Rattle.source_feed.specs.EventList.{end_of_message, events_then, events_of}
-use Rattle.source_feed.specs.History.{History, is_open}
-use Rattle.source_feed.specs.Groups.{fault_at, first_fault, or_fault, closed, groups_in, groups_of, groups}
+use Rattle.source_feed.specs.History.{History}
+use Rattle.source_feed.specs.Groups.{fault_at, first_fault, or_fault, closed, groups_in, groups}
 use Rattle.source_feed.specs.Run.{unless, run, finish}
 
 -- an option is nothing or something
@@ -40,12 +39,12 @@ closed-run source [] history (Some fault) e = ap (λ f. closed source history (o
 closed-run source (event ∷ events) history end e =
     elim (option_cases (fault_at source history event)) [
       | inl none ↦
-        closed-run source events (event ∷ history) end (ap (λ f. or_fault f (fault_at source history event)) e ∙ none)
-        ∙ sym (ap (λ f. finish source (unless f (run source (event ∷ history) events end))) none)
+          closed-run source events (event ∷ history) end (ap (λ f. or_fault f (fault_at source history event)) e ∙ none)
+          ∙ sym (ap (λ f. finish source (unless f (run source (event ∷ history) events end))) none)
       | inr some ↦
-        let first : first_fault source (event ∷ history) ≡ Some some.0 = ap (λ f. or_fault f (fault_at source history event)) e ∙ some.1 in
-        ap (λ f. closed source (reverse_aux events (event ∷ history)) (or_fault f end)) (stays source events (event ∷ history) some.0 first)
-        ∙ sym (ap (λ f. finish source (unless f (run source (event ∷ history) events end))) some.1)
+          let first : first_fault source (event ∷ history) ≡ Some some.0 = ap (λ f. or_fault f (fault_at source history event)) e ∙ some.1 in
+          ap (λ f. closed source (reverse_aux events (event ∷ history)) (or_fault f end)) (stays source events (event ∷ history) some.0 first)
+          ∙ sym (ap (λ f. finish source (unless f (run source (event ∷ history) events end))) some.1)
     ]
 
 -- the groups of some events, taken one after another
@@ -82,7 +81,7 @@ run-ended source history (event ∷ events) fault next =
 -- a message's events and then others
 pub run-events_then : (source : SourceValue) (history : History) (events : List EventValue) (fault : Option EventFault) (others : Reading EventValue FeedFault)
     → run source history (events_then events fault others).items (events_then events fault others).fault
-      ≡ then (run source history events (end_of_message fault)) (λ h. run source h others.items others.fault)
+    ≡ then (run source history events (end_of_message fault)) (λ h. run source h others.items others.fault)
 run-events_then source history events None others = run-append source history events others.items others.fault
 run-events_then source history events (Some fault) others = run-ended source history events (Event fault) (λ h. run source h others.items others.fault)
 

@@ -1,5 +1,5 @@
 -- One event more, for the events that may end a block.
-use Rattle.std.proofs.Common.{◌≡◌, ℕ, List, [], ◌∷◌, Bool, true, false, cond, Option, None, Some, Result, Ok, Err, refl, sym, ◌∙◌, ap, arith, inl, inr}
+use Rattle.std.proofs.Common.{◌≡◌, ℕ, List, [], ◌∷◌, true, false, cond, Option, None, Some, Result, Ok, Err, refl, sym, ◌∙◌, ap, inl, inr}
 use Rattle.std.proofs.lemmas.Bool.{cases_Bool, cond-true, cond-false}
 use Rattle.std.specs.Option.{option_map}
 use Rattle.gtid_set.specs.Position.{IsCanonical}
@@ -9,14 +9,14 @@ use Rattle.source_feed.specs.declared.fault.FeedFault.{FeedFault}
 use Rattle.source_feed.specs.declared.fault.FeedFault.TheVariants.{Memory}
 use Rattle.source_feed.specs.declared.pass.Pass.{Pass}
 use Rattle.source_feed.specs.FaultNumber.{Refuses, IsFault, Gives}
-use Rattle.source_feed.specs.GroupValue.{Position, TableChangeValue, GroupValue}
+use Rattle.source_feed.specs.GroupValue.{Position, TableChangeValue}
 use Rattle.source_feed.specs.SourceValue.{SourceValue, own_gtid}
-use Rattle.source_feed.specs.History.{History, is_open, width_of, set_of, set_of_text, position_of, or_else, body_position, body_changes}
+use Rattle.source_feed.specs.History.{History, is_open, width_of, set_of, set_of_text, or_else, body_position, body_changes}
 use Rattle.source_feed.specs.Groups.{block_at, block_at_position, block_fault, position_fault, entry_fault, commit_fault, fault_at}
 use Rattle.source_feed.specs.BlockEnd.{block_end}
 use Rattle.source_feed.specs.Widths.{width_in, counted}
 use Rattle.source_feed.specs.Means.{Body, body_of, body_kept, Means, Puts}
-use Rattle.source_feed.proofs.Blocks.{Ends, ends-none, BlockEnds, block_end-ends}
+use Rattle.source_feed.proofs.Blocks.{Ends, BlockEnds, block_end-ends}
 
 -- what is known of an open transaction
 pub record Opened (source : SourceValue) (history : History) (body : Body) : Type 0 where
@@ -28,8 +28,8 @@ pub opened_from : (source : SourceValue) (history : History) (body : Body) → S
 opened_from source history body e =
     elim (cases_Bool (is_open history)) [
       | inl w ↦
-        let all : Some body ≡ Some (record { position = body_position source history; changes = body_changes source history }) = e ∙ cond-true (is_open history) _ _ w in
-        record { opened = w; position = cc; changes = cc }
+          let all : Some body ≡ Some (record { position = body_position source history; changes = body_changes source history }) = e ∙ cond-true (is_open history) _ _ w in
+          record { opened = w; position = cc; changes = cc }
       | inr w ↦ let none : Some body ≡ None = e ∙ cond-false (is_open history) _ _ w in cc
     ]
 
@@ -37,7 +37,7 @@ pub closed_from : (source : SourceValue) (history : History) → None ≡ body_o
 closed_from source history e =
     elim (cases_Bool (is_open history)) [
       | inl w ↦
-        let some : None ≡ Some (record { position = body_position source history; changes = body_changes source history }) = e ∙ cond-true (is_open history) _ _ w in cc
+          let some : None ≡ Some (record { position = body_position source history; changes = body_changes source history }) = e ∙ cond-true (is_open history) _ _ w in cc
       | inr w ↦ w
     ]
 
@@ -73,24 +73,26 @@ commit-puts source earlier old new (Ok x) position changes m b n w g =
     let o : Opened source earlier (record { position = Some position; changes = changes }) = opened_from source earlier _ (sym b ∙ m.body) in
     let p : IsCanonical position = m.body_canonical position o.position in
     let all : BlockEnds source earlier Commit old.groups.items position changes (block_end old.groups.items position changes)
-      = block_end-ends source earlier Commit old.groups.items position changes (commit_block source earlier position changes o) p (ends_before source earlier old m) in
-    let ends : BlockEnds source earlier Commit old.groups.items position changes (Ok new.groups.items) = rw g at all in
-    (commit_faults source earlier position changes o ∙ ends.0, record {
-      body = n;
-      widths = λ table. w table ∙ m.widths table;
-      groups = ends.1.groups;
-      last = ends.1.last;
-      seen_canonical = ends.1.canonical;
-      body_canonical = m.body_canonical
-    })
+    = block_end-ends source earlier Commit old.groups.items position changes (commit_block source earlier position changes o) p (ends_before source earlier old m) in
+    let ends : BlockEnds source earlier Commit old.groups.items position changes (Ok new.groups.items) = rw g at all in (
+      commit_faults source earlier position changes o ∙ ends.0,
+      record {
+        body = n;
+        widths = λ table. w table ∙ m.widths table;
+        groups = ends.1.groups;
+        last = ends.1.last;
+        seen_canonical = ends.1.canonical;
+        body_canonical = m.body_canonical;
+      },
+    )
 commit-puts source earlier old new (Err fault) position changes m b n w g =
     let o : Opened source earlier (record { position = Some position; changes = changes }) = opened_from source earlier _ (sym b ∙ m.body) in
     let p : IsCanonical position = m.body_canonical position o.position in
     let all : BlockEnds source earlier Commit old.groups.items position changes (block_end old.groups.items position changes)
-      = block_end-ends source earlier Commit old.groups.items position changes (commit_block source earlier position changes o) p (ends_before source earlier old m) in
+    = block_end-ends source earlier Commit old.groups.items position changes (commit_block source earlier position changes o) p (ends_before source earlier old m) in
     fault_from fault (block_end old.groups.items position changes) (fault_at source earlier Commit)
-      (λ e. (let ends : BlockEnds source earlier Commit old.groups.items position changes (Err fault) = rw e at all in commit_faults source earlier position changes o ∙ ends))
-      g
+    (λ e. (let ends : BlockEnds source earlier Commit old.groups.items position changes (Err fault) = rw e at all in commit_faults source earlier position changes o ∙ ends))
+    g
 
 -- ---- a position
 
@@ -107,12 +109,12 @@ carries-gtid source text = record { same_open = λ earlier. refl; widths = λ ea
 
 pub carries-vgtid : (source : SourceValue) (entries : List ShardGtidValue) (text : List ℕ) → own_gtid source entries ≡ Some text → Carries source (Vgtid entries) text
 carries-vgtid source entries text own = record {
-    same_open = λ earlier. refl;
-    widths = λ earlier table. refl;
-    position = λ earlier. ap (λ o. or_else (set_of_text o) (body_position source earlier)) own;
-    block = λ earlier. ap (λ o. cond (is_open earlier) None (block_at_position (set_of_text o) [])) own;
-    fault = λ earlier. ap (entry_fault source earlier) own
-  }
+  same_open = λ earlier. refl;
+  widths = λ earlier table. refl;
+  position = λ earlier. ap (λ o. or_else (set_of_text o) (body_position source earlier)) own;
+  block = λ earlier. ap (λ o. cond (is_open earlier) None (block_at_position (set_of_text o) [])) own;
+  fault = λ earlier. ap (entry_fault source earlier) own;
+}
 
 pub position-puts : {X : Type 0} (source : SourceValue) (earlier : History) (event : EventValue) (text : List ℕ) (old new : Pass) (result : Result X FeedFault) (position : Position)
     → Carries source event text → position_of_text text ≡ Ok position → IsCanonical position
@@ -123,11 +125,11 @@ pub position-puts : {X : Type 0} (source : SourceValue) (earlier : History) (eve
 position-puts {X = X} source earlier event text old new result position carries read p m b n w g =
     let closed : is_open earlier ≡ false = closed_from source earlier (sym b ∙ m.body) in
     let block : block_at source earlier event ≡ Some (record { position = position; changes = [] })
-      = carries.block earlier ∙ cond-false (is_open earlier) _ _ closed ∙ ap (λ r. block_at_position (set_of r) []) read in
+    = carries.block earlier ∙ cond-false (is_open earlier) _ _ closed ∙ ap (λ r. block_at_position (set_of r) []) read in
     let fault : fault_at source earlier event ≡ block_fault source earlier position
-      = carries.fault earlier ∙ ap (position_fault source earlier) read ∙ cond-false (is_open earlier) _ _ closed in
+    = carries.fault earlier ∙ ap (position_fault source earlier) read ∙ cond-false (is_open earlier) _ _ closed in
     let all : BlockEnds source earlier event old.groups.items position [] (block_end old.groups.items position [])
-      = block_end-ends source earlier event old.groups.items position [] block p (ends_before source earlier old m) in
+    = block_end-ends source earlier event old.groups.items position [] block p (ends_before source earlier old m) in
     by_result result g all closed fault
   where
     by_result : (result : Result X FeedFault)
@@ -138,16 +140,18 @@ position-puts {X = X} source earlier event text old new result position carries 
         → Puts source earlier event result new
     by_result (Ok x) g all closed fault =
         let ends : BlockEnds source earlier event old.groups.items position [] (Ok new.groups.items) = rw g at all in
-        let last : body_position source (event ∷ earlier) ≡ Some position = carries.position earlier ∙ ap (λ r. or_else (set_of r) (body_position source earlier)) read in
-        (fault ∙ ends.0, record {
-          body = n ∙ sym (cond-false (is_open (event ∷ earlier)) _ _ (carries.same_open earlier ∙ closed));
-          widths = λ table. w table ∙ m.widths table ∙ sym (ap (option_map counted) (carries.widths earlier table));
-          groups = ends.1.groups;
-          last = ends.1.last;
-          seen_canonical = ends.1.canonical;
-          body_canonical = λ other e. (let same : Some position ≡ Some other = sym last ∙ e in let equal : position ≡ other = cc in rw (← equal) p)
-        })
+        let last : body_position source (event ∷ earlier) ≡ Some position = carries.position earlier ∙ ap (λ r. or_else (set_of r) (body_position source earlier)) read in (
+          fault ∙ ends.0,
+          record {
+            body = n ∙ sym (cond-false (is_open (event ∷ earlier)) _ _ (carries.same_open earlier ∙ closed));
+            widths = λ table. w table ∙ m.widths table ∙ sym (ap (option_map counted) (carries.widths earlier table));
+            groups = ends.1.groups;
+            last = ends.1.last;
+            seen_canonical = ends.1.canonical;
+            body_canonical = λ other e. (let same : Some position ≡ Some other = sym last ∙ e in let equal : position ≡ other = cc in rw (← equal) p);
+          },
+        )
     by_result (Err f) g all closed fault =
         fault_from f (block_end old.groups.items position []) (fault_at source earlier event)
-          (λ e. (let ends : BlockEnds source earlier event old.groups.items position [] (Err f) = rw e at all in fault ∙ ends))
-          g
+        (λ e. (let ends : BlockEnds source earlier event old.groups.items position [] (Err f) = rw e at all in fault ∙ ends))
+        g

@@ -1,5 +1,5 @@
 -- What a block does to the groups before it, said by the last group alone.
-use Rattle.std.specs.Prelude.{ℕ, ◌+◌, ◌-◌, List, [], ◌∷◌, ◌++◌, length, slice_get, Result, Ok, Err, if◌then◌else◌}
+use Rattle.std.specs.Prelude.{◌+◌, ◌-◌, List, [], ◌∷◌, ◌++◌, length, slice_get, Result, Ok, Err, if◌then◌else◌}
 use Rattle.std.specs.Option.{option_map_or}
 use Rattle.gtid_set.specs.Position.{within_of}
 use Rattle.source_feed.specs.declared.fault.FeedFault.{FeedFault}

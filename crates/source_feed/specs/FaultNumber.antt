@@ -1,5 +1,5 @@
 -- The numbers of the refusals (this profile).
-use Rattle.std.specs.Prelude.{◌≡◌, ℕ, List, Option, Some, Result, Ok, Err}
+use Rattle.std.specs.Prelude.{◌≡◌, ℕ, Option, Some, Result, Ok, Err}
 use Rattle.gtid_set.specs.declared.fault.GtidFault.{GtidFault}
 use Rattle.gtid_set.specs.declared.fault.GtidFault.TheVariants as gtid
 use Rattle.source_feed.specs.declared.fault.FeedFault.{FeedFault}

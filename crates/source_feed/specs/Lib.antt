@@ -9,3 +9,5 @@ pub mod Run
 pub mod Widths
 pub mod BlockEnd
 pub mod Means
+pub mod Planned
+pub mod Agreement

@@ -1,18 +1,17 @@
 -- What the pass over a feed's events keeps, against all events before.
-use Rattle.std.specs.Prelude.{◌≡◌, ℕ, ◌+◌, List, [], ◌∷◌, ◌++◌, length, Bool, true, false, Option, None, Some, Result, Ok, Err, if◌then◌else◌}
+use Rattle.std.specs.Prelude.{◌≡◌, ℕ, List, ◌∷◌, Option, None, Some, Result, Ok, Err, if◌then◌else◌}
 use Rattle.std.specs.Option.{option_map}
-use Rattle.gtid_set.specs.Position.{within_of, IsCanonical}
+use Rattle.gtid_set.specs.Position.{IsCanonical}
 use Rattle.vevent.specs.EventValue.{EventValue}
 use Rattle.source_feed.specs.declared.fault.FeedFault.{FeedFault}
-use Rattle.source_feed.specs.declared.fault.FeedFault.TheVariants.{Diverged}
 use Rattle.source_feed.specs.declared.pass.Transaction.{Transaction}
 use Rattle.source_feed.specs.declared.pass.Pass.{Pass}
 use Rattle.source_feed.specs.BlockEnd.{last_position}
 use Rattle.source_feed.specs.FaultNumber.{Refuses, IsFault}
-use Rattle.source_feed.specs.GroupValue.{Position, TableChangeValue, GroupValue}
+use Rattle.source_feed.specs.GroupValue.{Position, TableChangeValue}
 use Rattle.source_feed.specs.SourceValue.{SourceValue}
 use Rattle.source_feed.specs.History.{History, is_open, width_of, body_position, body_changes}
-use Rattle.source_feed.specs.Groups.{Block, seen, groups_of, fault_at}
+use Rattle.source_feed.specs.Groups.{seen, groups_of, fault_at}
 use Rattle.source_feed.specs.Widths.{width_in, counted}
 
 -- what an open transaction has so far

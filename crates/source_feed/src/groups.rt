@@ -9,15 +9,13 @@ ghost use Rattle.source_feed.specs.Groups.{groups};
 ghost use Rattle.source_feed.specs.Run.{run};
 ghost use Rattle.source_feed.specs.Means.{Means, Runs};
 
-use std::alloc::Global;
-
-use proto_wire::Frames;
-use vevent::Response;
-
 use crate::fault::FeedFault;
 use crate::group::Group;
 use crate::pass::Pass;
 use crate::source::Source;
+use proto_wire::Frames;
+use std::alloc::Global;
+use vevent::Response;
 
 /// The most bytes that a feed may have (this profile's limit).
 pub const FEED_BYTES: usize = 2_147_483_647;
@@ -42,11 +40,7 @@ fn put_message<'h>(
 }
 
 /// Takes the events of all messages.
-fn put_feed<'h>(
-    alloc: Global,
-    source: &Source<'_>,
-    feed: &'h [u8],
-) -> Result<Pass<'h>, FeedFault>
+fn put_feed<'h>(alloc: Global, source: &Source<'_>, feed: &'h [u8]) -> Result<Pass<'h>, FeedFault>
     requires { length feed.now < 2 ^ 31 }
     ensures ok { IfOk result (λ pass. Runs source.now (run source.now [] (events_of feed.now).items (events_of feed.now).fault) result pass) }
     ensures err { IfErr result (λ fault. Refuses fault (run source.now [] (events_of feed.now).items (events_of feed.now).fault)) }

@@ -2,12 +2,18 @@
 #![tactic(auto)]
 
 mod fault;
+mod feed;
 mod group;
 mod groups;
+mod laws;
 mod pass;
 mod source;
+#[cfg(test)]
+mod tests;
 mod widths;
 
 pub use fault::FeedFault;
+pub use feed::Feed;
 pub use group::{Change, Group};
-pub use groups::read_groups;
+pub use groups::{FEED_BYTES, read_groups};
+pub use laws::blocks_are_a_grammar;

@@ -18,8 +18,8 @@ use crate::group::{Change, Group};
 use crate::source::Source;
 use crate::widths::Widths;
 use gtid_set::GtidSet;
-use std::alloc::{AllocError, Global};
 use row_view::RowView;
+use std::alloc::{AllocError, Global};
 use vevent::{ColumnFields, Event, FieldEvent, RowChanges, RowEvent};
 
 /// What the open transaction has so far.
@@ -266,7 +266,10 @@ impl<'h> Pass<'h> {
         ensures meaning { (earlier : History) → Means source.now earlier self.old → Puts source.now earlier (value.Field field.now.table_name field.now.fields) result self.new }
         ensures same { self.new.groups.items ≡ self.old.groups.items }
     {
-        self.widths.set(source.table(field.table_name()), column_count(field.fields()))?;
+        self.widths.set(
+            source.table(field.table_name()),
+            column_count(field.fields()),
+        )?;
         Ok(())
     }
 

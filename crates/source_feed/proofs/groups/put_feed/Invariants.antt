@@ -8,11 +8,11 @@ use Rattle.source_feed.proofs.groups.put_feed.Given as goal
 -- the messages so far are taken, and those to come are what is left of the feed
 abbrev pub invariant-loop-pass : goal.invariant-loop-pass
 invariant-loop-pass l = record {
-    meaning : (history : History)
+  meaning : (history : History)
       × (run l.source [] (events_of l.feed).items (events_of l.feed).fault ≡ run l.source history (events_in l.frames.items l.frames.fault).items (events_in l.frames.items l.frames.fault).fault)
       × Means l.source history l.pass;
-    room : length l.pass.groups.items + length (events_in l.frames.items l.frames.fault).items ≤ length l.feed
-  }
+  room : length l.pass.groups.items + length (events_in l.frames.items l.frames.fault).items ≤ length l.feed;
+}
 
 abbrev pub decreases-loop-pass : goal.decreases-loop-pass
 decreases-loop-pass l = length l.frames.items

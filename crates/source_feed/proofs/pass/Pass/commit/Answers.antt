@@ -8,9 +8,9 @@ returns-clause-meaning c = λ source earlier m.
     let at : c.in-Some.field-0.position ≡ Some c.in-Some-position.position = cc in
     let body : Body = record { position = Some c.in-Some-position.position; changes = c.in-Some.field-0.changes.items } in
     let before : body_kept c.args.self.now.transaction ≡ Some body
-      = ap body_kept (sym c.take.ensures.value ∙ c.in-Some.is) ∙ ap (λ p. Some (record body { position = p })) at in
+    = ap body_kept (sym c.take.ensures.value ∙ c.in-Some.is) ∙ ap (λ p. Some (record body { position = p })) at in
     commit-puts source earlier c.args.self.now (record { transaction = c.take.new.self; widths = c.args.self.now.widths; groups = c.end_block.new.groups }) c.end_block.result c.in-Some-position.position c.in-Some.field-0.changes.items m
-      before
-      (ap body_kept c.take.ensures.after)
-      (λ table. refl)
-      c.end_block.ensures.block
+    before
+    (ap body_kept c.take.ensures.after)
+    (λ table. refl)
+    c.end_block.ensures.block

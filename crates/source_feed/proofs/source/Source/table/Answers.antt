@@ -1,4 +1,4 @@
-use Rattle.std.proofs.Common.{◌≡◌, ◌≢◌, ◌==◌, [], Bool, true, false, length, refl, ap, ◌∙◌}
+use Rattle.std.proofs.Common.{◌≡◌, ◌≢◌, ◌==◌, [], true, false, length, refl, ap, ◌∙◌}
 use Rattle.source_feed.specs.SourceValue.{SourceValue, short_name}
 use Rattle.source_feed.proofs.Names.{short_name-of}
 use Rattle.source_feed.proofs.source.Source.table.Goals as goal

@@ -1,0 +1,91 @@
+//! Feeds of a source, read whole.
+
+use crate::{Change, Feed, read_groups};
+use filter_rule::Plan;
+use gtid_set::GtidSet;
+use row_view::{Column, RowView};
+use std::alloc::Global;
+use std::test::Fail;
+
+/// One inserted row: BEGIN, FIELD, ROW, GTID, COMMIT in one message.
+const ONE_ROW: &[u8] =
+    b"\x6c\x0a\x02\x08\x02\x0a\x18\x08\x0d\x32\x14\x0a\x01\x74\x12\x07\x0a\x02\x69\x64\x10\x89\x02\x12\x06\x0a\x01\x76\x10\x95\x30\x0a\x14\x08\x0c\x2a\x10\x0a\x01\x74\x12\x0b\x12\x09\x0a\x02\x02\x04\x12\x03\x31\x61\x62\x0a\x32\x08\x01\x1a\x2e\x4d\x79\x53\x51\x4c\x35\x36\x2f\x33\x65\x31\x31\x66\x61\x34\x37\x2d\x37\x31\x63\x61\x2d\x31\x31\x65\x31\x2d\x39\x65\x33\x33\x2d\x63\x38\x30\x61\x61\x39\x34\x32\x39\x35\x36\x32\x3a\x31\x0a\x02\x08\x03";
+
+const WORKFLOW: &[u8] =
+    br#"{"keyspace":"ks","tables":[{"name":"t","columns":[["id","INT64"],["v","VARCHAR"]],"key":["id"],"vindex":["id","numeric"]}],"streams":[{"shard":"-80","filter":{"rules":[{"match":"/.*","filter":""}]}}]}"#;
+
+/// The same with the column `v` declared TEXT.
+const WORKFLOW_WITH_TEXT: &[u8] =
+    br#"{"keyspace":"ks","tables":[{"name":"t","columns":[["id","INT64"],["v","TEXT"]],"key":["id"],"vindex":["id","numeric"]}],"streams":[{"shard":"-80","filter":{"rules":[{"match":"/.*","filter":""}]}}]}"#;
+
+/// The same with another table in its place.
+const WORKFLOW_OF_ANOTHER_TABLE: &[u8] =
+    br#"{"keyspace":"ks","tables":[{"name":"u","columns":[["id","INT64"]],"key":["id"]}],"streams":[{"shard":"-80","filter":{"rules":[{"match":"/.*","filter":""}]}}]}"#;
+
+/// The column has these bytes.
+fn has_cell(row: &RowView<'_>, place: usize, wanted: &[u8]) -> bool {
+    if place >= row.len() {
+        return false;
+    }
+    match row.column(place) {
+        Column::Null => false,
+        Column::Bytes(bytes) => bytes == wanted,
+    }
+}
+
+/// The change inserts the row `1`, `ab` into `t`.
+fn inserts_the_row(change: &Change<'_>) -> bool {
+    match change.after() {
+        None => false,
+        Some(row) => {
+            change.table() == "t"
+                && change.before().is_none()
+                && row.len() == 2
+                && has_cell(row, 0, b"1")
+                && has_cell(row, 1, b"ab")
+        }
+    }
+}
+
+/// The number of groups and of changes, or the refusal's number.
+fn opened(alloc: Global, workflow: &[u8]) -> Result<(usize, usize), u8> {
+    let plans = Plan::read_all(alloc, workflow).map_err(|fault| fault.number())?;
+    let plan = plans.first().ok_or(0u8)?;
+    let feed = Feed::open(alloc, ONE_ROW, plan).map_err(|fault| fault.number())?;
+    let changes = match feed.groups().first() {
+        None => 0,
+        Some(group) => group.changes().len(),
+    };
+    Ok((feed.len(), changes))
+}
+
+#[test]
+fn one_inserted_row_is_a_group(rt: HostRuntime) -> Result<(), Fail> {
+    let alloc = rt.alloc();
+    let groups = read_groups(alloc, ONE_ROW, "", "")?;
+    assert_eq!(rt; groups.len(), 1);
+    let group = groups.first().ok_or("no group")?;
+    assert_eq!(rt; group.number(), 1);
+    let position = GtidSet::parse(alloc, "3e11fa47-71ca-11e1-9e33-c80aa9429562:1")?;
+    assert!(rt; position.is_within(group.position()));
+    assert!(rt; group.position().is_within(&position));
+    assert_eq!(rt; group.changes().len(), 1);
+    let change = group.changes().first().ok_or("no change")?;
+    assert!(rt; inserts_the_row(change));
+    Ok(())
+}
+
+#[test]
+fn feed_opens_under_its_plan(rt: HostRuntime) {
+    assert_eq!(rt; opened(rt.alloc(), WORKFLOW), Ok((1, 1)));
+}
+
+#[test]
+fn column_type_differs(rt: HostRuntime) {
+    assert_eq!(rt; opened(rt.alloc(), WORKFLOW_WITH_TEXT), Err(85));
+}
+
+#[test]
+fn changes_of_other_tables_are_dropped(rt: HostRuntime) {
+    assert_eq!(rt; opened(rt.alloc(), WORKFLOW_OF_ANOTHER_TABLE), Ok((1, 0)));
+}
