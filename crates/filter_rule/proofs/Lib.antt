@@ -11,3 +11,5 @@ pub mod StreamLaws
 pub mod ShapeLaws
 pub mod JsonText
 pub mod PlanLaws
+pub mod FirstRuleLaws
+pub mod ReadLaws

@@ -17,14 +17,14 @@ use Rattle.filter_rule.specs.declared.decision.Decision.{Decision}
 use Rattle.filter_rule.specs.declared.decision.Decision.TheVariants.{NoRule, EveryRow, InRange}
 
 -- the parts of a step that gave a value
-then_ok : {A B P : Type 0} (f : A → Result B Fault) (r : Result A Fault) (y : B) → (r >>= f) ≡ Ok y → ((x : A) → r ≡ Ok x → f x ≡ Ok y → P) → P
+pub then_ok : {A B P : Type 0} (f : A → Result B Fault) (r : Result A Fault) (y : B) → (r >>= f) ≡ Ok y → ((x : A) → r ≡ Ok x → f x ≡ Ok y → P) → P
 then_ok f (Ok x) y h k = k x refl h
 then_ok f (Err e) y h k = cc
 
-abbrev read_as : {A : Type 0} → A → Result A Fault
+abbrev pub read_as : {A : Type 0} → A → Result A Fault
 read_as x = Ok x
 
-same_ok : {A : Type 0} (x y : A) → read_as x ≡ Ok y → x ≡ y
+pub same_ok : {A : Type 0} (x y : A) → read_as x ≡ Ok y → x ≡ y
 same_ok x y e = cc
 
 -- ---- columns are there

@@ -9,6 +9,7 @@ pub mod Rules
 pub mod RuleViews
 pub mod Reading
 pub mod PlanParts
+pub mod FirstRule
 pub mod Seen
 pub mod PlanTable
 pub mod PlanValue

@@ -1,7 +1,7 @@
 -- The plans that a workflow file says, or the first of its faults. The order is: the text is JSON, the
 -- document has its shape, the counts are within their limits, then table by table its columns and types,
 -- then stream by stream and rule by rule the rule's form and what it decides.
-use Rattle.std.specs.Prelude.{ℕ, ◌+◌, List, [], ◌∷◌, map, Result, Ok, Err, if◌then◌else◌}
+use Rattle.std.specs.Prelude.{◌≡◌, None, IsUtf8, ℕ, ◌+◌, List, [], ◌∷◌, map, Result, Ok, Err, if◌then◌else◌}
 use Rattle.std.specs.Option.{ok_or}
 use Rattle.std.specs.Str.{is_utf8}
 use Rattle.serde_json.specs.Data.{Data}
@@ -45,6 +45,10 @@ plans_from keyspace tables n (s ∷ ss) = plan_of keyspace tables n s >>= λ pla
 -- a text that isn't UTF-8 is no JSON
 unfoldable pub json_of : List ℕ → Result Data Fault
 json_of text = if is_utf8 text then ok_or (read text) json else Err json
+
+-- neither a text nor one that `serde_json` reads
+abbrev pub IsNoJson : List ℕ → Type 0
+IsNoJson text = IsUtf8 text → read text ≡ None
 
 unfoldable pub plans_of_document : DocumentSaid → Result (List PlanValue) Fault
 plans_of_document d = do

@@ -1,12 +1,13 @@
 //! The workflow file: from its text to a plan for each stream.
 
-ghost use Rattle.std.specs.Prelude.{◌≡◌, ◌≤◌, List, Ok, Err, IfOk, length, map, string_bytes};
+ghost use Rattle.std.specs.Prelude.{◌≡◌, ◌≤◌, ◌⊎◌, IsErrAnd, List, Ok, Err, IfOk, length, map, string_bytes};
 ghost use Rattle.std.specs.Arc.{arc_value};
 ghost use Rattle.filter_rule.specs.Faults.{Gives, each};
+ghost use Rattle.filter_rule.specs.FirstRule.{FollowFirstRules};
 ghost use Rattle.filter_rule.specs.PlanShape.{AreTables};
 ghost use Rattle.filter_rule.specs.PlanValue.{PlanValue};
 ghost use Rattle.filter_rule.specs.Resolving.{resolved};
-ghost use Rattle.filter_rule.specs.Reading.{json_of, plan_of, plans_from, plans_of_document, plans_of};
+ghost use Rattle.filter_rule.specs.Reading.{json_of, plan_of, plans_from, plans_of_document, plans_of, IsNoJson};
 ghost use Rattle.serde_json.specs.View.{view};
 
 use crate::document::{Document, StreamText, TableText, document_of};
@@ -108,6 +109,10 @@ impl Plan {
     /// then stands in place of what would have been found later.
     pub fn read_all(alloc: Global, text: &[u8]) -> Result<Vec<Arc<Plan>>, PlanFault>
         ensures reads { Gives (λ v. map arc_value v.items) result (plans_of text.now) }
+        // A text that is no JSON is refused as such, unless memory ran out.
+        ensures json { IsNoJson text.now → IsErrAnd result (λ fault. (fault ≡ PlanFault.Json) ⊎ (fault ≡ PlanFault.Memory)) }
+        // The first rule of a stream that matches a table decides it.
+        ensures first_rule { IfOk result (λ v. FollowFirstRules text.now (map arc_value v.items)) }
     {
         plans_of(alloc, text)
     }

@@ -1,6 +1,7 @@
 use super::*;
 use row_view::RowView;
 use std::alloc::Global;
+use std::process::Abort;
 use std::test::Fail;
 
 // The number of the refusal, or 0 where the file is read.
@@ -237,6 +238,47 @@ fn type_number_limit(rt: HostRuntime) -> Result<(), Fail> {
         let columns = format!(in alloc; "[[\"id\",{number}]]")?;
         let text = workflow(alloc, columns.as_str(), KEY, "", EVERY_ROW)?;
         assert_eq!(rt; number_of(alloc, text.as_str()), fault, "{number}");
+    }
+    Ok(())
+}
+
+// What a plan answers of a row of its first table: 1 for yes, 0 for no, or the refusal's number.
+fn answer_of(rt: &impl Abort, plan: &Plan, row: &RowView<'_>) -> u8 {
+    assert!(rt; !plan.tables().is_empty());
+    assert_eq!(rt; row.len(), plan.columns(0).len());
+    match plan.passes(0, row) {
+        Ok(passes) => u8::from(passes),
+        Err(fault) => fault.number(),
+    }
+}
+
+#[test]
+fn in_keyrange_any_case(rt: HostRuntime) -> Result<(), Fail> {
+    let alloc = rt.alloc();
+    let rules = "[{\"match\":\"t\",\"filter\":\"SELECT * FROM t WHERE IN_KEYRANGE('-80')\"}]";
+    for (kind, bytes, answer) in [
+        (
+            "INT64",
+            b"\x0a\x02\x26\x02\x12\x149223372036854775807a".as_slice(),
+            1,
+        ),
+        (
+            "UINT64",
+            b"\x0a\x02\x26\x02\x12\x149223372036854775808a".as_slice(),
+            0,
+        ),
+        ("INT64", b"\x0a\x02\x04\x02\x12\x03-1a".as_slice(), 44),
+        ("INT64", b"\x0a\x02\x01\x02\x12\x01a".as_slice(), 43),
+    ] {
+        let columns = format!(in alloc; "[[\"id\",\"{kind}\"],[\"v\",\"VARCHAR\"]]")?;
+        let text = workflow(alloc, columns.as_str(), KEY, VINDEX, rules)?;
+        let plans = Plan::read_all(alloc, text.as_bytes())
+            .ok()
+            .ok_or("the file is good")?;
+        assert_eq!(rt; plans.len(), 1);
+        let row = RowView::read(bytes).ok().ok_or("the row is good")?;
+        assert_eq!(rt; answer_of(&rt, &plans[0], &row), answer, "{kind}");
+        assert!(rt; plans[0].same(&plans[0]));
     }
     Ok(())
 }

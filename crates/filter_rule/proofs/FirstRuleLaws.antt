@@ -1,0 +1,182 @@
+-- Taking the rules one after another gives each table the decision of the first rule that matches it.
+use Rattle.std.proofs.Common.{◌≡◌, ℕ, zero, suc, ◌+◌, List, [], ◌∷◌, Bool, true, false, cond, Option, Some, None, Result, Ok, Err, refl, sym, ap, subst, ◌∙◌, codes, arith, zero-add, rules}
+use Rattle.std.specs.Prelude.{slice_get, ◌||◌}
+use Rattle.std.specs.Option.{ok_or}
+use Rattle.std.specs.Str.{bytes_eq}
+use Rattle.vindex.specs.Bounds.{Bounds}
+use Rattle.vindex.specs.declared.vindexes.Vindex.{Vindex}
+use Rattle.filter_rule.specs.Document.{RuleSaid, StreamSaid, DocumentSaid, document_of}
+use Rattle.filter_rule.specs.Faults.{Fault, bad_rule, limit, ◌>>=◌, each}
+use Rattle.filter_rule.specs.FilterText.{Said, said_at}
+use Rattle.filter_rule.specs.FirstRule.{is_match, first_match, Decides, IsByFirst, AreByFirst, FollowFirstRules}
+use Rattle.filter_rule.specs.Limits.{is_within, within_limits}
+use Rattle.filter_rule.specs.PlanValue.{PlanValue}
+use Rattle.filter_rule.specs.PlanTable.{TableValue}
+use Rattle.filter_rule.specs.Reading.{rule_over, settle_all, undecided, decisions_of, plan_of, plans_from, json_of, plans_of_document, plans_of}
+use Rattle.filter_rule.specs.Resolving.{place_in, vindex_type, resolved}
+use Rattle.filter_rule.specs.Rules.{Scope, every_table, one_table, begins_with_slash, scope_of, is_for, Action, all_rows, own_vindex, named_column, RuleForm, form_of, or_bad, agreeing, action_of, range_in, own_decision, decide, settle_one, settle}
+use Rattle.filter_rule.specs.declared.decision.Decision.{Decision}
+use Rattle.filter_rule.specs.declared.decision.Decision.TheVariants.{NoRule, EveryRow, InRange}
+use Rattle.filter_rule.proofs.ShapeLaws.{then_ok, same_ok, read_as}
+
+-- ---- a rule's form is for the tables that the rule matches
+
+scope_match : (b c : Bool) (matches table : List ℕ) (scope : Scope) → bytes_eq matches (codes "/.*") ≡ b → begins_with_slash matches ≡ c
+    → cond b (Some every_table) (cond c None (Some (one_table matches))) ≡ Some scope → is_for scope table ≡ (b || bytes_eq table matches)
+scope_match true c matches table scope e f is = let same : every_table ≡ scope = cc in ap (λ s. is_for s table) (sym same)
+scope_match false true matches table scope e f is = cc
+scope_match false false matches table scope e f is = let same : one_table matches ≡ scope = cc in ap (λ s. is_for s table) (sym same)
+
+found_ok : {A : Type 0} (s n : ℕ) (o : Option A) (x : A) → or_bad s n o ≡ Ok x → o ≡ Some x
+found_ok s n None x e = cc
+found_ok s n (Some y) x e = cc
+
+form_match : (s n : ℕ) (r : RuleSaid) (form : RuleForm) (table : List ℕ) → form_of s n r ≡ Ok form → is_for form.scope table ≡ is_match r table
+unfolding form_of
+form_match s n r form table is =
+    then_ok _ (or_bad s n (scope_of r.matches)) form is (λ scope scope_is h2.
+    then_ok _ (or_bad s n (said_at r.filter)) form h2 (λ said said_is h3.
+    then_ok _ (agreeing s n scope said) form h3 (λ a a_is h4.
+    then_ok _ (action_of s n said.rows) form h4 (λ action action_is h5.
+    ap (λ (f : RuleForm). is_for f.scope table) (sym (same_ok (record { scope = scope; action = action }) form h5))
+    ∙ scope_match (bytes_eq r.matches (codes "/.*")) (begins_with_slash r.matches) r.matches table scope refl refl (found_ok s n (scope_of r.matches) scope scope_is)))))
+
+no_every : EveryRow ≡ NoRule → ⊥
+no_every e = cc
+
+no_range : (place : ℕ) (vindex : Vindex) (range : Bounds) → InRange place vindex range ≡ NoRule → ⊥
+no_range place vindex range e = cc
+
+-- ---- a rule that is for a table decides it
+
+own_decides : (s n : ℕ) (range : List ℕ) (v : Option (ℕ × Vindex)) → own_decision s n range v ≡ Ok NoRule → ⊥
+own_decides s n range None h = cc
+own_decides s n range (Some v) h = then_ok _ (or_bad s n (range_in range)) NoRule h (λ bounds is e. no_range v.0 v.1 bounds (same_ok (InRange v.0 v.1 bounds) NoRule e))
+
+decide_decides : (s n : ℕ) (action : Action) (t : TableValue) → decide s n action t ≡ Ok NoRule → ⊥
+decide_decides s n all_rows t h = no_every (same_ok EveryRow NoRule h)
+decide_decides s n (own_vindex range) t h = own_decides s n range t.vindex h
+decide_decides s n (named_column column vindex range) t h =
+    then_ok _ (place_in t.name t.columns column) NoRule h (λ place place_is h2. then_ok _ (vindex_type t.name t.columns column vindex) NoRule h2 (λ a a_is h3. then_ok _ (or_bad s n (range_in range)) NoRule h3 (λ bounds bounds_is h4.
+    no_range place vindex bounds (same_ok (InRange place vindex bounds) NoRule h4))))
+
+-- ---- one table
+
+-- what the rules from n on leave of a table's decision
+abbrev After : ℕ → ℕ → List RuleSaid → TableValue → Decision → Decision → Type 0
+After s n rs t NoRule e = IsByFirst s n rs t e
+After s n rs t EveryRow e = e ≡ EveryRow
+After s n rs t (InRange place vindex range) e = e ≡ InRange place vindex range
+
+at_end : (s n : ℕ) (t : TableValue) (d : Decision) → After s n [] t d d
+at_end s n t NoRule = refl
+at_end s n t EveryRow = refl
+at_end s n t (InRange place vindex range) = refl
+
+-- a decision that a rule made stays
+made : (s n m : ℕ) (rs : List RuleSaid) (r : RuleSaid) (form : RuleForm) (t : TableValue) (d e : Decision) → form_of s n r ≡ Ok form → decide s n form.action t ≡ Ok d → After s m rs t d e → Decides s n r t e
+made s n m rs r form t NoRule e formed is after = absurd (decide_decides s n form.action t is)
+made s n m rs r form t EveryRow e formed is after = record { form = form; formed = formed; decided = is ∙ ap read_as (sym after) }
+made s n m rs r form t (InRange place vindex range) e formed is after = record { form = form; formed = formed; decided = is ∙ ap read_as (sym after) }
+
+by_rule : (b : Bool) (s n : ℕ) (rs : List RuleSaid) (r : RuleSaid) (form : RuleForm) (t : TableValue) (m e : Decision) → is_match r t.name ≡ b → form_of s n r ≡ Ok form
+    → cond b (decide s n form.action t) (Ok NoRule) ≡ Ok m → After s (n + 1) rs t m e → IsByFirst s n (r ∷ rs) t e
+by_rule true s n rs r form t m e match formed is after = rw match (made s n (n + 1) rs r form t m e formed is after)
+by_rule false s n rs r form t m e match formed is after =
+    let none : m ≡ NoRule = sym (same_ok NoRule m is) in
+    rw match (subst (λ x. After s (n + 1) rs t x e) none after)
+
+one_step : (s n : ℕ) (rs : List RuleSaid) (r : RuleSaid) (form : RuleForm) (t : TableValue) (d m e : Decision) → form_of s n r ≡ Ok form → settle_one s n form t d ≡ Ok m → After s (n + 1) rs t m e → After s n (r ∷ rs) t d e
+one_step s n rs r form t NoRule m e formed is after =
+    by_rule (is_match r t.name) s n rs r form t m e refl formed (ap (λ b. cond b (decide s n form.action t) (Ok NoRule)) (sym (form_match s n r form t.name formed)) ∙ is) after
+one_step s n rs r form t EveryRow m e formed is after = subst (λ x. After s (n + 1) rs t x e) (sym (same_ok EveryRow m is)) after
+one_step s n rs r form t (InRange place vindex range) m e formed is after = subst (λ x. After s (n + 1) rs t x e) (sym (same_ok (InRange place vindex range) m is)) after
+
+same_some : {A : Type 0} (x y : A) → Some x ≡ Some y → x ≡ y
+same_some x y e = cc
+
+-- ---- all tables
+
+abbrev AllAfter : ℕ → ℕ → List RuleSaid → List TableValue → List Decision → List Decision → Type 0
+AllAfter s n rs [] ds es = Unit {0}
+AllAfter s n rs (t ∷ ts) [] es = Unit {0}
+AllAfter s n rs (t ∷ ts) (d ∷ ds) [] = ⊥
+AllAfter s n rs (t ∷ ts) (d ∷ ds) (e ∷ es) = After s n rs t d e × AllAfter s n rs ts ds es
+
+all_end : (s n : ℕ) (ts : List TableValue) (ds : List Decision) → AllAfter s n [] ts ds ds
+all_end s n [] ds = tt
+all_end s n (t ∷ ts) [] = tt
+all_end s n (t ∷ ts) (d ∷ ds) = (at_end s n t d, all_end s n ts ds)
+
+step_parts : (s n : ℕ) (rs : List RuleSaid) (r : RuleSaid) (form : RuleForm) (t : TableValue) (ts : List TableValue) (d : Decision) (ds : List Decision) (m : Decision) (ms es : List Decision)
+    → form_of s n r ≡ Ok form → settle_one s n form t d ≡ Ok m → settle s n form ts ds ≡ Ok ms → AllAfter s (n + 1) rs (t ∷ ts) (m ∷ ms) es
+    → ((rest : List Decision) → form_of s n r ≡ Ok form → settle s n form ts ds ≡ Ok ms → AllAfter s (n + 1) rs ts ms rest → AllAfter s n (r ∷ rs) ts ds rest)
+    → AllAfter s n (r ∷ rs) (t ∷ ts) (d ∷ ds) es
+step_parts s n rs r form t ts d ds m ms [] formed one rest after more = absurd after
+step_parts s n rs r form t ts d ds m ms (e ∷ es) formed one rest after more = (one_step s n rs r form t d m e formed one after.0, more es formed rest after.1)
+
+all_step : (s n : ℕ) (rs : List RuleSaid) (r : RuleSaid) (form : RuleForm) (ts : List TableValue) (ds ms es : List Decision) → form_of s n r ≡ Ok form → settle s n form ts ds ≡ Ok ms
+    → AllAfter s (n + 1) rs ts ms es → AllAfter s n (r ∷ rs) ts ds es
+unfolding settle
+all_step s n rs r form [] ds ms es formed is after = tt
+all_step s n rs r form (t ∷ ts) [] ms es formed is after = tt
+all_step s n rs r form (t ∷ ts) (d ∷ ds) ms es formed is after =
+    then_ok _ (settle_one s n form t d) ms is (λ m m_is h2. then_ok _ (settle s n form ts ds) ms h2 (λ rest rest_is h3.
+    step_parts s n rs r form t ts d ds m rest es formed m_is rest_is (subst (λ x. AllAfter s (n + 1) rs (t ∷ ts) x es) (sym (same_ok (m ∷ rest) ms h3)) after) (all_step s n rs r form ts ds rest)))
+
+all_after : (s : ℕ) (ts : List TableValue) (n : ℕ) (rs : List RuleSaid) (ds es : List Decision) → settle_all s ts n rs ds ≡ Ok es → AllAfter s n rs ts ds es
+unfolding settle_all
+all_after s ts n [] ds es is = subst (AllAfter s n [] ts ds) (same_ok ds es is) (all_end s n ts ds)
+all_after s ts n (r ∷ rs) ds es is =
+    then_ok _ (rule_over s n ts r ds) es is (λ settled settled_is h2. then_ok _ (form_of s n r) settled settled_is (λ form form_is h3.
+    all_step s n rs r form ts ds settled es form_is h3 (all_after s ts (n + 1) rs settled es h2)))
+
+each_first : (s : ℕ) (rs : List RuleSaid) (ts : List TableValue) (ds : List Decision) → AllAfter s 0 rs ts (undecided ts) ds → AreByFirst s ts rs ds
+each_first s rs [] ds h i t d t_is d_is = cc
+each_first s rs (u ∷ ts) [] h i t d t_is d_is = cc
+each_first s rs (u ∷ ts) (e ∷ ds) h zero t d t_is d_is = subst (λ x. IsByFirst s 0 rs x d) (same_some u t t_is) (subst (IsByFirst s 0 rs u) (same_some e d d_is) h.0)
+each_first s rs (u ∷ ts) (e ∷ ds) h (suc i) t d t_is d_is = each_first s rs ts ds h.1 i t d t_is d_is
+
+-- the decisions of a stream's rules
+pub decisions_by_first : (s : ℕ) (ts : List TableValue) (rs : List RuleSaid) (ds : List Decision) → decisions_of s ts rs ≡ Ok ds → AreByFirst s ts rs ds
+decisions_by_first s ts rs ds is = each_first s rs ts ds (all_after s ts 0 rs (undecided ts) ds is)
+
+-- ---- all streams
+
+plan_first : (keyspace : List ℕ) (tables : List TableValue) (n : ℕ) (s : StreamSaid) (p : PlanValue) → plan_of keyspace tables n s ≡ Ok p → AreByFirst n p.tables s.rules p.decisions
+unfolding plan_of
+plan_first keyspace tables n s p is =
+    then_ok _ (decisions_of n tables s.rules) p is (λ ds ds_is h2.
+    subst (λ (q : PlanValue). AreByFirst n q.tables s.rules q.decisions) (same_ok (record { keyspace = keyspace; shard = s.shard; tables = tables; decisions = ds }) p h2) (decisions_by_first n tables s.rules ds ds_is))
+
+plan_at : (keyspace : List ℕ) (tables : List TableValue) (n : ℕ) (u : StreamSaid) (q : PlanValue) (ss : List StreamSaid) (rest : List PlanValue) (i : ℕ) (s : StreamSaid) (p : PlanValue) → plan_of keyspace tables n u ≡ Ok q
+    → ((j : ℕ) (s : StreamSaid) (p : PlanValue) → slice_get ss j ≡ Some s → slice_get rest j ≡ Some p → AreByFirst ((n + 1) + j) p.tables s.rules p.decisions)
+    → slice_get (u ∷ ss) i ≡ Some s → slice_get (q ∷ rest) i ≡ Some p → AreByFirst (n + i) p.tables s.rules p.decisions
+plan_at keyspace tables n u q ss rest zero s p q_is more s_is p_is =
+    let at_n : n ≡ n + 0 = omega arith in
+    subst (λ k. AreByFirst k p.tables s.rules p.decisions) at_n (plan_first keyspace tables n s p (ap (plan_of keyspace tables n) (sym (same_some u s s_is)) ∙ q_is ∙ ap read_as (same_some q p p_is)))
+plan_at keyspace tables n u q ss rest (suc i) s p q_is more s_is p_is =
+    let at_next : (n + 1) + i ≡ n + suc i = omega arith in
+    subst (λ k. AreByFirst k p.tables s.rules p.decisions) at_next (more i s p s_is p_is)
+
+plans_first : (keyspace : List ℕ) (tables : List TableValue) (n : ℕ) (ss : List StreamSaid) (ps : List PlanValue) → plans_from keyspace tables n ss ≡ Ok ps
+    → (i : ℕ) (s : StreamSaid) (p : PlanValue) → slice_get ss i ≡ Some s → slice_get ps i ≡ Some p → AreByFirst (n + i) p.tables s.rules p.decisions
+unfolding plans_from
+plans_first keyspace tables n [] ps is i s p s_is p_is = cc
+plans_first keyspace tables n (u ∷ ss) ps is i s p s_is p_is =
+    then_ok _ (plan_of keyspace tables n u) ps is (λ q q_is h2. then_ok _ (plans_from keyspace tables (n + 1) ss) ps h2 (λ rest rest_is h3.
+    plan_at keyspace tables n u q ss rest i s p q_is (plans_first keyspace tables (n + 1) ss rest rest_is) s_is (ap (λ xs. slice_get xs i) (same_ok (q ∷ rest) ps h3) ∙ p_is)))
+
+limits_keep : (b : Bool) (d e : DocumentSaid) → cond b (read_as d) (Err limit) ≡ Ok e → d ≡ e
+limits_keep true d e h = same_ok d e h
+limits_keep false d e h = cc
+
+pub follows_first : (text : List ℕ) (plans : List PlanValue) → plans_of text ≡ Ok plans → FollowFirstRules text plans
+unfolding plans_of plans_of_document
+follows_first text plans is d d_is i s p s_is p_is =
+    then_ok _ (json_of text) plans is (λ value value_is h2. then_ok _ (document_of value) plans h2 (λ e e_is h3. then_ok _ (within_limits e) plans h3 (λ within within_is h4.
+    then_ok _ (each resolved within.tables) plans h4 (λ tables tables_is h5.
+    let same : e ≡ d = same_ok e d (sym e_is ∙ ap (λ r. r >>= document_of) (sym value_is) ∙ d_is) in
+    let kept : e ≡ within = limits_keep (is_within e) e within within_is in
+    let here : slice_get within.streams i ≡ Some s = ap (λ (x : DocumentSaid). slice_get x.streams i) (sym kept ∙ same) ∙ s_is in
+    subst (λ n. AreByFirst n p.tables s.rules p.decisions) (zero-add i) (plans_first within.keyspace tables 0 within.streams plans h5 i s p here p_is)))))
