@@ -1,11 +1,11 @@
 -- The blocks of a feed as a grammar over its events (this profile):
 -- BEGIN body COMMIT is a block with the body's last position and its changes in order; BEGIN body
 -- ROLLBACK is none; a position outside is a block without changes; what is ignored is nothing.
-use Rattle.std.specs.Prelude.{◌≡◌, ℕ, List, [], ◌∷◌, ◌++◌, reverse, IsTrue, Bool, true, false, Option, None, Some}
+use Rattle.std.specs.Prelude.{◌≡◌, ℕ, List, [], ◌∷◌, ◌++◌, reverse, IsTrue, Bool, true, false, Option, None}
 use Rattle.std.specs.List.{AllByRecursion, flat_map}
 use Rattle.std.specs.Option.{option_to_list}
 use Rattle.vevent.specs.declared.ignored.IgnoredEvent.{IgnoredEvent}
-use Rattle.vevent.specs.EventValue.{EventValue, Gtid, Begin, Commit, Rollback, Row, Field, Vgtid, Ignored}
+use Rattle.vevent.specs.EventValue.{EventValue, Begin, Commit, Rollback, Row, Field, Ignored}
 use Rattle.source_feed.specs.GroupValue.{Position, TableChangeValue}
 use Rattle.source_feed.specs.SourceValue.{SourceValue, table_of}
 use Rattle.source_feed.specs.History.{History, is_open, columns_of, position_of, or_else, changes_in}
