@@ -1,3 +1,10 @@
 pub mod Hex
 pub mod Refusals
 pub mod Words
+pub mod RowAt
+pub mod StreamStep
+pub mod Thin
+pub mod DumpText
+pub mod ThinSteps
+pub mod RowsHold
+pub mod StreamKeeps
