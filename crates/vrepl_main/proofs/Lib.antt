@@ -1,3 +1,4 @@
 pub mod HexLaws
 pub mod InputLaws
 mod ThinLaws
+mod ScriptLaws

@@ -8,3 +8,6 @@ pub mod DumpText
 pub mod ThinSteps
 pub mod RowsHold
 pub mod StreamKeeps
+pub mod Script
+pub mod ScriptFaults
+pub mod ReplyText
