@@ -11,3 +11,4 @@ pub mod StreamKeeps
 pub mod Script
 pub mod ScriptFaults
 pub mod ReplyText
+pub mod ThinRun

@@ -1,6 +1,6 @@
 //! Files and standard input, read whole.
 
-ghost use Rattle.std.specs.Prelude.{◌≡◌, ◌*◌, ◌≤◌, length, IfOk, IfSome, OnOk, IsErr};
+ghost use Rattle.std.specs.Prelude.{◌≡◌, ◌*◌, ◌^◌, ◌≤◌, length, IfOk, IfSome, OnOk, IsErr};
 ghost use Rattle.std.specs.Io.KnownBytes.{IsAtEnd};
 
 use std::alloc::Global;
@@ -30,16 +30,31 @@ pub fn read_file<R: Files + Input + AllocGlobal>(
     file: &str,
 ) -> Result<Vec<u8>, InputFault> {
     if file == "-" {
-        return read_whole(rt.alloc(), &mut rt.reader(), READS);
+        return read_whole(rt.alloc(), &mut rt.reader());
     }
+    read_named(rt, file)
+}
+
+/// The bytes of the file of this name, which may be `-`.
+pub fn read_named<R: Files + AllocGlobal>(rt: &R, file: &str) -> Result<Vec<u8>, InputFault> {
     match File::open(rt, file) {
-        Ok(mut opened) => read_whole(rt.alloc(), &mut opened, READS),
+        Ok(mut opened) => read_whole(rt.alloc(), &mut opened),
         Err(fault) => Err(fault_of(&fault)),
     }
 }
 
-/// All the bytes that the input has left. It has `reads` reads to come to its end.
-pub fn read_whole<R: Read>(alloc: Global, input: &mut R, reads: u64) -> Result<Vec<u8>, InputFault>
+/// All the bytes that the input has left. It has 2^32 reads to come to its end.
+pub fn read_whole<R: Read>(alloc: Global, input: &mut R) -> Result<Vec<u8>, InputFault>
+    ensures whole { IfOk result (λ bytes. IfSome (R.remaining input.old) (λ left. bytes.items ≡ left)) }
+    ensures end { OnOk result (IsAtEnd (R.remaining input.new)) }
+    ensures limit { IfSome (R.remaining input.old) (λ left. 2 ^ 32 * CHUNK ≤ length left → IsErr result) }
+{
+    read_within(alloc, input, READS)
+}
+
+/// All the bytes that the input has left, within so many reads, the one that finds its end among
+/// them.
+pub fn read_within<R: Read>(alloc: Global, input: &mut R, reads: u64) -> Result<Vec<u8>, InputFault>
     ensures whole { IfOk result (λ bytes. IfSome (R.remaining input.old) (λ left. bytes.items ≡ left)) }
     ensures end { OnOk result (IsAtEnd (R.remaining input.new)) }
     ensures limit { IfSome (R.remaining input.old) (λ left. reads * CHUNK ≤ length left → IsErr result) }
@@ -79,14 +94,14 @@ mod tests {
 
     #[test]
     fn reads_an_input_to_its_end(rt: HostRuntime) -> Result<(), Fail> {
-        let bytes = read_whole(rt.alloc(), &mut b"abc".as_slice(), READS)?;
+        let bytes = read_whole(rt.alloc(), &mut b"abc".as_slice())?;
         assert_eq!(rt; bytes.as_slice(), b"abc".as_slice());
         Ok(())
     }
 
     #[test]
     fn gives_up_an_input_without_end(rt: HostRuntime) {
-        let fault = read_whole(rt.alloc(), &mut io::repeat(7), 3).err();
+        let fault = read_within(rt.alloc(), &mut io::repeat(7), 3).err();
         assert_eq!(rt; fault, Some(InputFault::CannotRead));
     }
 
@@ -94,7 +109,7 @@ mod tests {
     fn the_end_counts_as_a_read(rt: HostRuntime) {
         let given_up = Some(InputFault::CannotRead);
         for (reads, wanted) in [(0, given_up), (1, given_up), (2, None)] {
-            let fault = read_whole(rt.alloc(), &mut b"abc".as_slice(), reads).err();
+            let fault = read_within(rt.alloc(), &mut b"abc".as_slice(), reads).err();
             assert_eq!(rt; fault, wanted, "{reads} reads");
         }
     }

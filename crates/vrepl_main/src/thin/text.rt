@@ -63,7 +63,11 @@ fn push_row(text: &mut Vec<u8>, row: &RowView<'_>) -> Result<(), AllocError>
 }
 
 /// The line that names the table, and then a line for each of its rows, in key order.
-pub(crate) fn table_text(alloc: Global, table: &str, rows: &Rows<'_>) -> Result<Vec<u8>, AllocError>
+pub(crate) fn table_text(
+    alloc: Global,
+    table: &str,
+    rows: &Rows<'_, '_>,
+) -> Result<Vec<u8>, AllocError>
     ensures text { IfOk result (λ text. text.items ≡ table_text table.now (rows_in rows.now)) }
     ensures rising { OnOk result (IsRising rows.now) }
 {

@@ -5,5 +5,5 @@ use Rattle.vrepl_main.proofs.thin.rows.Rows.put.Goals as goal
 
 pub returns : goal.returns
 returns c = λ earlier held.
-    Holds-push earlier (record { key = c.args.key.now; row = Some c.args.row }) c.args.self.now (record { by_key = c.insert.new.self })
+    Holds-push earlier c.args.key.now (Some c.args.row) c.args.self.now (record { by_key = c.insert.new.self })
     (btree_map_updates_str c.args.key.now c.args.self.now.by_key c.insert.new.self _ c.in_ok-insert.ensures.updates) held

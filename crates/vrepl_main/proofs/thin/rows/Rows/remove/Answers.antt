@@ -5,5 +5,5 @@ use Rattle.vrepl_main.proofs.thin.rows.Rows.remove.Goals as goal
 
 pub returns : goal.returns
 returns c = λ earlier held.
-    Holds-push earlier (record { key = c.args.key.now; row = None }) c.args.self.now (record { by_key = c.remove.new.self })
+    Holds-push earlier c.args.key.now None c.args.self.now (record { by_key = c.remove.new.self })
     (btree_map_updates_str c.args.key.now c.args.self.now.by_key c.remove.new.self _ c.remove.ensures.updates) held

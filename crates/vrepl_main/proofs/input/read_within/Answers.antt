@@ -1,10 +1,9 @@
-use Rattle.std.proofs.Common.{◌≡◌, ◌+◌, ◌*◌, ◌≤◌, length, [], ◌++◌, take, true, arith, refl, ap, ◌∙◌, length-append}
+use Rattle.std.proofs.Common.{◌≡◌, ◌++◌, take, true, arith, refl, ap, ◌∙◌, length-append}
 use Rattle.std.specs.Prelude.{is_ok, not}
 use Rattle.std.proofs.KnownBytes.{Consumes-nil, Consumes-trans, Consumes-kept}
-use Rattle.std.specs.Io.KnownBytes.{Consumes}
 use Rattle.vrepl_main.proofs.InputLaws.{whole, limit}
-use Rattle.vrepl_main.proofs.input.read_whole.Goals as goal
-use Rattle.vrepl_main.proofs.input.read_whole.Goals.{in-Ok+else-is_err, in-Err+else-ne}
+use Rattle.vrepl_main.proofs.input.read_within.Goals as goal
+use Rattle.vrepl_main.proofs.input.read_within.Goals.{in-Ok+else-is_err, in-Err+else-ne}
 
 pub loop-read-init : goal.loop-read-init
 loop-read-init g c = rw c.new-bytes.ensures.items (Consumes-nil (g.R.Read.remaining c.args.input.now), omega arith)
