@@ -3,3 +3,14 @@ pub mod Refusals
 pub mod Words
 pub mod Shown
 pub mod Show
+pub mod RowAt
+pub mod StreamStep
+pub mod Thin
+pub mod DumpText
+pub mod ThinSteps
+pub mod RowsHold
+pub mod StreamKeeps
+pub mod Script
+pub mod ScriptFaults
+pub mod ReplyText
+pub mod ThinRun

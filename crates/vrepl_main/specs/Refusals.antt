@@ -8,13 +8,14 @@ use Rattle.source_feed.specs.FaultNumber as feed
 use Rattle.source_feed.specs.declared.fault.FeedFault.{FeedFault}
 use Rattle.source_feed.specs.declared.fault.FeedFault.TheVariants.{Event, BadPosition, Diverged}
 use Rattle.vrepl_main.specs.declared.refusal.Refusal.{Refusal}
-use Rattle.vrepl_main.specs.declared.refusal.Refusal.TheVariants.{Memory, Feed, BadHex, CannotRead, CannotWrite}
+use Rattle.vrepl_main.specs.declared.refusal.Refusal.TheVariants.{Memory, Feed, BadHex, BadScript, CannotRead, CannotWrite}
 
 -- the number of each refusal
 abbrev pub number_of : Refusal → ℕ
 number_of Memory = 72
 number_of (Feed fault) = feed.number_of fault
 number_of BadHex = 93
+number_of (BadScript bad) = 120
 number_of (CannotRead file) = 131
 number_of (CannotWrite file) = 132
 
@@ -33,6 +34,7 @@ feed_details _ = []
 -- what stands behind the number
 abbrev pub details_of : Refusal → List ℕ
 details_of (Feed fault) = feed_details fault
+details_of (BadScript bad) = codes " line " ++ decimal bad
 details_of (CannotRead file) = codes " file " ++ file.now
 details_of (CannotWrite file) = codes " file " ++ file.now
 details_of _ = []

@@ -7,3 +7,4 @@ use Rattle.vrepl_main.specs.declared.words.Words.TheVariants.{Show}
 abbrev pub IsShowOfInput : Words → Type 0
 IsShowOfInput (Show words) =
     (words.hex ≡ true) × (words.keyspace.now ≡ []) × (words.shard.now ≡ []) × (words.feed.now ≡ codes "-")
+IsShowOfInput other = ⊥

@@ -32,6 +32,11 @@ pub fn read_file<R: Files + Input + AllocGlobal>(
     if file == "-" {
         return read_whole(rt.alloc(), &mut rt.reader());
     }
+    read_named(rt, file)
+}
+
+/// The bytes of the file of this name, which may be `-`.
+pub fn read_named<R: Files + AllocGlobal>(rt: &R, file: &str) -> Result<Vec<u8>, InputFault> {
     match File::open(rt, file) {
         Ok(mut opened) => read_whole(rt.alloc(), &mut opened),
         Err(fault) => Err(fault_of(&fault)),

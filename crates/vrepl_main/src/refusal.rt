@@ -5,6 +5,7 @@ ghost use Rattle.vrepl_main.specs.Refusals.{line_of, number_of};
 
 use source_feed::FeedFault;
 use std::fmt;
+use std::io::Write;
 use vevent::EventFault;
 
 /// Why the program ends with status 1. Its text is the line on standard error: `refused`, the
@@ -17,6 +18,8 @@ pub enum Refusal<'w> {
     Feed(FeedFault),
     /// 93: a feed that is to be hexadecimal text is not.
     BadHex,
+    /// 120: a line of a script, from 1, is no step.
+    BadScript { line: usize },
     /// 131: a file, or standard input as `-`, can't be read to its end.
     CannotRead { file: &'w str },
     /// 132: standard output can't be written.
@@ -32,6 +35,7 @@ impl Refusal<'_> {
             Refusal::Memory => 72,
             Refusal::Feed(fault) => fault.number(),
             Refusal::BadHex => 93,
+            Refusal::BadScript { .. } => 120,
             Refusal::CannotRead { .. } => 131,
             Refusal::CannotWrite { .. } => 132,
         }
@@ -58,8 +62,20 @@ impl fmt::Display for Refusal<'_> {
                 let cause = fault.number();
                 write!(f, "refused {number} cause {cause}")
             }
-            Refusal::Feed(FeedFault::Diverged(group)) => write!(f, "refused {number} group {group}"),
+            Refusal::Feed(FeedFault::Diverged(group)) => write!(
+                f,
+                "refused {number} group {group}"
+            ),
+            Refusal::BadScript { line } => write!(f, "refused {number} line {line}"),
             _ => write!(f, "refused {number}"),
         }
     }
+}
+
+/// Prints the line of a refusal and answers the status 1.
+pub fn refuse<E: Write>(err: &mut E, refusal: &Refusal<'_>) -> u8
+    ensures { result ≡ 1 }
+{
+    let _ = writeln!(err, "{refusal}");
+    1
 }

@@ -7,7 +7,7 @@ ghost use Rattle.vrepl_main.specs.declared.refusal.Refusal.{Refusal};
 
 use crate::hex::{HexFault, bytes_of_hex};
 use crate::output::write_whole;
-use crate::refusal::Refusal;
+use crate::refusal::{Refusal, refuse};
 use crate::shown::text_of;
 use source_feed::{FeedFault, read_groups};
 use std::alloc::Global;
@@ -76,14 +76,6 @@ pub fn show<W: Write, E: Write>(
         },
         Err(refusal) => refuse(err, &refusal),
     }
-}
-
-/// Prints the line of a refusal and answers the status 1.
-fn refuse<E: Write>(err: &mut E, refusal: &Refusal<'_>) -> u8
-    ensures { result ≡ 1 }
-{
-    let _ = writeln!(err, "{refusal}");
-    1
 }
 
 #[cfg(test)]

@@ -63,12 +63,7 @@ fn push_change(text: &mut String, change: &Change<'_>) -> Result<(), AllocError>
 }
 
 /// Puts the line of a row behind the text.
-fn push_row(
-    text: &mut String,
-    mark: &str,
-    table: &str,
-    row: &RowView<'_>,
-) -> Result<(), AllocError>
+fn push_row(text: &mut String, mark: &str, table: &str, row: &RowView<'_>) -> Result<(), AllocError>
     ensures { OnOk result (string_bytes text.new ≡ string_bytes text.old ++ row_line mark.now table.now row.now) }
 {
     text.push_str(mark)?;

@@ -12,6 +12,17 @@ use std::alloc::{AllocError, Global};
 pub enum Words<'w> {
     /// `show`: print the groups of one feed.
     Show(Show<'w>),
+    /// `thin`: take the steps of a script over one feed and one table.
+    Thin(Thin<'w>),
+}
+
+/// The words of `thin`.
+#[derive(Clone, Copy, Debug, PartialEq, Eq)]
+pub struct Thin<'w> {
+    /// The table's name.
+    pub table: &'w str,
+    /// The feed's file.
+    pub feed: &'w str,
 }
 
 /// The words of `show`.
@@ -45,6 +56,7 @@ pub fn read<'w>(alloc: Global, words: &'w [String]) -> Result<Words<'w>, Error>
     let matches = command.try_get_matches_from_mut(words)?;
     match matches.subcommand() {
         Some(("show", given)) => Ok(Words::Show(show_words(given))),
+        Some(("thin", given)) => Ok(Words::Thin(thin_words(given))),
         _ => Err(command.error(ErrorKind::MissingSubcommand, "no subcommand was given")?),
     }
 }
@@ -56,7 +68,8 @@ fn program<'w>(alloc: Global) -> Result<Command<'w>, AllocError> {
         .no_binary_name(true)
         .subcommand_required(true)
         .disable_help_subcommand(true)
-        .subcommand(show_command(alloc)?)
+        .subcommand(show_command(alloc)?)?
+        .subcommand(thin_command(alloc)?)
 }
 
 fn show_command<'w>(alloc: Global) -> Result<Command<'w>, AllocError> {
@@ -70,6 +83,23 @@ fn show_command<'w>(alloc: Global) -> Result<Command<'w>, AllocError> {
                 .value_name("FEED")
                 .required(true)
                 .help("The feed's file, or - for standard input"),
+        )
+}
+
+fn thin_command<'w>(alloc: Global) -> Result<Command<'w>, AllocError> {
+    Command::new(alloc, "thin")
+        .about("Takes the steps of a script on standard input over a feed and a table")
+        .arg(
+            Arg::new(alloc, "table")
+                .value_name("TABLE")
+                .required(true)
+                .help("The table's name"),
+        )?
+        .arg(
+            Arg::new(alloc, "feed")
+                .value_name("FEED")
+                .required(true)
+                .help("The feed's file"),
         )
 }
 
@@ -95,5 +125,12 @@ fn show_words<'w>(given: &ArgMatches<'w>) -> Show<'w> {
         keyspace: given.get_str("keyspace").unwrap_or(""),
         shard: given.get_str("shard").unwrap_or(""),
         feed: given.get_str("feed").unwrap_or("-"),
+    }
+}
+
+fn thin_words<'w>(given: &ArgMatches<'w>) -> Thin<'w> {
+    Thin {
+        table: given.get_str("table").unwrap_or(""),
+        feed: given.get_str("feed").unwrap_or(""),
     }
 }

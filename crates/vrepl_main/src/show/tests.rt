@@ -49,7 +49,9 @@ fn empty_feed_shows_nothing(rt: HostRuntime) -> Result<(), Fail> {
 
 #[test]
 fn last_byte_missing(rt: HostRuntime) -> Result<(), Fail> {
-    let cut = FIRST_GROUP.strip_suffix("03").ok_or("a feed that ends in 03")?;
+    let cut = FIRST_GROUP
+        .strip_suffix("03")
+        .ok_or("a feed that ends in 03")?;
     check(&rt, cut, 1, "", "refused 81\n")
 }
 

@@ -14,12 +14,12 @@ pub loop-column-preserved : goal.loop-column-preserved
 loop-column-preserved c =
     let value : Option (List ℕ) = column_value c.in-Some.column in
     let tab : string_bytes c.push.new.self ≡ string_bytes c.loop-column.text ++ 9 ∷ [] =
-        c.in_ok-push.ensures.bytes ∙ ap (λ (t : List ℕ). string_bytes c.loop-column.text ++ t) (c.in_ok-push.ensures.ascii (lit< tt)) in
+    c.in_ok-push.ensures.bytes ∙ ap (λ (t : List ℕ). string_bytes c.loop-column.text ++ t) (c.in_ok-push.ensures.ascii (lit< tt)) in
     moves (string_bytes c.loop-column.text) (string_bytes c.push_cell.new.text) (9 ∷ cell value) (cells c.loop-column.column-iterator) (cells c.next.new.self)
-        (string_bytes c.args.text.now ++ cells c.args.row.now) (first_cell c.loop-column.column-iterator c.next.new.self value c.in-Some.ensures.steps) c.loop-column.invariant
-        (two_more (string_bytes c.loop-column.text) (string_bytes c.push.new.self) (string_bytes c.push_cell.new.text) (9 ∷ []) (cell value) tab c.in_ok-push_cell.ensures)
+    (string_bytes c.args.text.now ++ cells c.args.row.now) (first_cell c.loop-column.column-iterator c.next.new.self value c.in-Some.ensures.steps) c.loop-column.invariant
+    (two_more (string_bytes c.loop-column.text) (string_bytes c.push.new.self) (string_bytes c.push_cell.new.text) (9 ∷ []) (cell value) tab c.in_ok-push_cell.ensures)
 
 pub returns : goal.returns
 returns c =
     ends (string_bytes c.loop-column.text) (cells c.loop-column.column-iterator) (string_bytes c.args.text.now ++ cells c.args.row.now)
-        c.loop-column.invariant (ap cells c.in-None.ensures.steps.0)
+    c.loop-column.invariant (ap cells c.in-None.ensures.steps.0)
