@@ -1,12 +1,12 @@
 -- One pair more: it stands in a gap, or widens an interval that may then touch the next one.
-use Rattle.std.proofs.Common.{◌≡◌, ℕ, zero, suc, ◌+◌, ◌<◌, ◌≤◌, Bool, true, false, refl, sym, ◌∙◌, ap, subst, arith, add-one, IsTrue, min, max, List, [], ◌∷◌, ◌++◌, length, get_or, set, take, drop}
-use Rattle.std.specs.List.{AllByRecursion, insert, remove}
+use Rattle.std.proofs.Common.{◌≡◌, ℕ, zero, suc, ◌+◌, ◌<◌, ◌≤◌, Bool, true, false, refl, sym, ◌∙◌, ap, subst, arith, add-one, min, List, [], ◌∷◌, length, get_or, set, take}
+use Rattle.std.specs.List.{insert, remove}
 use Rattle.std.proofs.lemmas.Bool.{cond-true, cond-false}
 use Rattle.std.proofs.lemmas.Bool.Decides.{nat_tests}
 use Rattle.gtid_set.specs.declared.interval.Interval.{Interval}
 use Rattle.gtid_set.specs.Position.{ends_before, hull, joined, IsInterval, IsCanonical}
 use Rattle.gtid_set.specs.Order.{AllEndBefore, wider, merged_front, widened}
-use Rattle.gtid_set.proofs.Joined.{joined-front, joined-place, joined-merge, one_uuid, AllEnd}
+use Rattle.gtid_set.proofs.Joined.{joined-front, joined-place, joined-merge, one_uuid}
 use Rattle.gtid_set.proofs.Same.{same_interval}
 
 -- ---- in a gap

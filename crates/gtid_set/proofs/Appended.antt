@@ -1,11 +1,10 @@
 -- An interval that begins behind a set's intervals is merged with the last one or stands behind it.
-use Rattle.std.proofs.Common.{◌≡◌, ℕ, ◌+◌, ◌-◌, ◌<◌, ◌≤◌, Bool, true, false, ◌⊎◌, inl, inr, refl, sym, ◌∙◌, ap, subst, arith, IsTrue, max, List, [], ◌∷◌, ◌++◌, length, get_or, set, take, drop}
-use Rattle.std.specs.List.{AllByRecursion}
+use Rattle.std.proofs.Common.{◌≡◌, ℕ, ◌+◌, ◌-◌, ◌<◌, ◌≤◌, true, false, refl, sym, ◌∙◌, ap, subst, arith, max, List, [], ◌∷◌, ◌++◌, length, get_or, set, take}
 use Rattle.std.proofs.lemmas.Bool.Decides.{nat_tests}
 use Rattle.std.proofs.lemmas.Grind.{common_steps, take_at_read}
-use Rattle.std.proofs.lemmas.List.{set_at, length-take-le, take-append-drop}
+use Rattle.std.proofs.lemmas.List.{set_at, length-take-le}
 use Rattle.gtid_set.specs.declared.interval.Interval.{Interval}
-use Rattle.gtid_set.specs.Position.{ends_before, starts_by, hull, joined, union_of, IsInterval, IsCanonical}
+use Rattle.gtid_set.specs.Position.{ends_before, starts_by, hull, joined, IsInterval, IsCanonical}
 use Rattle.gtid_set.specs.Order.{AllStartBy, AllEndBefore}
 use Rattle.gtid_set.proofs.Joined.{AllEnd, joined-front, joined-merge}
 use Rattle.gtid_set.proofs.Same.{same_interval}

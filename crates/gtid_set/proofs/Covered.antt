@@ -1,14 +1,14 @@
 -- The one interval of a set that can cover another is the first that doesn't end before it.
-use Rattle.std.proofs.Common.{◌≡◌, ℕ, zero, suc, ◌+◌, ◌<◌, ◌≤◌, Bool, true, false, ◌⊎◌, inl, inr, refl, sym, ◌∙◌, ap, subst, arith, add-one, IsTrue, ◌||◌, ◌&&◌, List, [], ◌∷◌, ◌++◌, length, get_or, take, drop}
+use Rattle.std.proofs.Common.{◌≡◌, ℕ, zero, suc, ◌+◌, ◌<◌, ◌≤◌, Bool, true, false, refl, sym, ◌∙◌, ap, subst, arith, add-one, ◌||◌, List, [], ◌∷◌, ◌++◌, length, get_or, take, drop}
 use Rattle.std.specs.List.{AllByRecursion, AllWithin, list_any}
 use Rattle.std.specs.List.Sorted.{IsPartitionedBy}
 use Rattle.std.proofs.lemmas.Bool.{or_from}
 use Rattle.std.proofs.lemmas.Bool.Decides.{nat_tests}
 use Rattle.std.proofs.lemmas.List.{take-append-drop, take_all}
 use Rattle.gtid_set.specs.declared.interval.Interval.{Interval}
-use Rattle.gtid_set.specs.Position.{ends_before, covers, within_of, IsInterval, IsCanonical}
+use Rattle.gtid_set.specs.Position.{ends_before, covers, IsInterval, IsCanonical}
 use Rattle.gtid_set.specs.Order.{AllEndBefore}
-use Rattle.gtid_set.proofs.TestLaws.{ends-trans}
+use Rattle.gtid_set.proofs.IntervalFacts.{ends-trans}
 use Rattle.gtid_set.proofs.Joined.{AllEnd, canonical-intervals}
 use Rattle.gtid_set.proofs.Merging.{drop-front, canonical-drop, interval-at}
 

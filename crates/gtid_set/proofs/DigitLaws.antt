@@ -1,14 +1,12 @@
 -- Digits behind a number.
-use Rattle.std.proofs.Common.{◌≡◌, ℕ, zero, suc, ◌+◌, ◌-◌, ◌*◌, ◌^◌, ◌<◌, ◌≤◌, Bool, true, false, cond, refl, sym, ◌∙◌, ap, subst, arith, add-one, drop-cons, List, [], ◌∷◌, ◌++◌, length, get_or, take, drop, Option, Some, None, Result, Ok, Err, IfSome}
+use Rattle.std.proofs.Common.{◌≡◌, ℕ, zero, suc, ◌+◌, ◌-◌, ◌*◌, ◌^◌, ◌<◌, ◌≤◌, refl, sym, ◌∙◌, ap, arith, add-one, drop-cons, List, [], ◌∷◌, length, get_or, take, drop, Option, Some, None, Err}
 use Rattle.std.proofs.lemmas.List.{length-take, length-drop}
 use Rattle.std.specs.Option.{option_and_then}
-use Rattle.std.proofs.lemmas.Bool.{cond-true, cond-false}
 use Rattle.std.proofs.lemmas.Bool.Decides.{nat_tests}
 use Rattle.std.proofs.Math.Nat.{mul-le-mul_right, le-mul_of_pos_right}
 use Rattle.std.proofs.lemmas.Grind.{pow_more}
-use Rattle.gtid_set.specs.declared.fault.GtidFault.{GtidFault}
 use Rattle.gtid_set.specs.declared.fault.GtidFault.TheVariants.{BadNumber}
-use Rattle.gtid_set.specs.Digits.{digit_of, hex_digit_of, number_behind, decimal_of}
+use Rattle.gtid_set.specs.Digits.{digit_of, number_behind, decimal_of}
 use Rattle.gtid_set.specs.Position.{last_number}
 use Rattle.gtid_set.specs.Text.{number_from}
 

@@ -1,11 +1,11 @@
 -- A set and one interval more: the pairs that it has, and that it stays canonical.
-use Rattle.std.proofs.Common.{◌≡◌, ℕ, ◌+◌, ◌<◌, ◌≤◌, Bool, true, false, cond, ◌⊎◌, inl, inr, refl, sym, ◌∙◌, ap, arith, IsTrue, min, max, ◌||◌, List, [], ◌∷◌, ◌++◌}
+use Rattle.std.proofs.Common.{◌≡◌, ℕ, Bool, true, false, inl, inr, refl, sym, ◌∙◌, ap, arith, IsTrue, ◌||◌, List, [], ◌∷◌}
 use Rattle.std.specs.List.{AllByRecursion}
 use Rattle.std.proofs.lemmas.Bool.{cases_Bool, cond-true, cond-false}
 use Rattle.std.proofs.lemmas.Bool.Decides.{nat_tests}
 use Rattle.gtid_set.specs.declared.interval.Interval.{Interval}
-use Rattle.gtid_set.specs.Position.{holds, has, ends_before, starts_by, covers, hull, joined, union_of, IsInterval, IsCanonical}
-use Rattle.gtid_set.proofs.TestLaws.{holds-hull, ends-trans}
+use Rattle.gtid_set.specs.Position.{holds, has, ends_before, hull, joined, union_of, IsInterval, IsCanonical}
+use Rattle.gtid_set.proofs.IntervalFacts.{holds-hull, ends-trans}
 
 -- ---- the three cases
 

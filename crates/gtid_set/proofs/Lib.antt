@@ -1,4 +1,4 @@
-pub mod TestLaws
+pub mod IntervalFacts
 pub mod Joined
 pub mod Same
 pub mod Within
@@ -13,8 +13,8 @@ pub mod PartLaws
 pub mod WholeText
 pub mod Named
 pub mod Parsed
-pub mod PrintedLaws
-pub mod PrintedReadsBytes
-pub mod PrintedReadsNumbers
-pub mod PrintedReadsUuid
-pub mod PrintedReads
+pub mod HexText
+pub mod Printing
+pub mod ReadBack
+pub mod ReadParts
+pub mod ReadSet

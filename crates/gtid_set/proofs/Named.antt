@@ -1,8 +1,8 @@
 -- The intervals that a text names are intervals of a set, and sorting makes them rise.
-use Rattle.std.proofs.Common.{◌≡◌, eqb, Ordering, ◌==◌, ◌&&◌, nat_le, inl, inr, ℕ, zero, suc, ◌+◌, ◌-◌, ◌*◌, if◌then◌else◌, ◌^◌, ◌<◌, ◌≤◌, Bool, true, false, cond, refl, sym, ◌∙◌, ap, subst, arith, List, [], ◌∷◌, ◌++◌, length, get_or, take, drop, Option, Some, None, Result, Ok, Err, IsTrue}
+use Rattle.std.proofs.Common.{◌≡◌, eqb, Ordering, ◌==◌, ◌&&◌, nat_le, inl, inr, ℕ, suc, ◌+◌, ◌-◌, ◌*◌, if◌then◌else◌, ◌^◌, ◌<◌, ◌≤◌, true, false, refl, sym, ◌∙◌, ap, subst, arith, List, [], ◌∷◌, ◌++◌, length, get_or, take, drop, Option, Some, None, Result, Ok, Err}
 use Rattle.std.specs.Option.{option_and_then}
 use Rattle.std.specs.Ordering.{nat_cmp, is_lt, ordering_then}
-use Rattle.std.specs.List.{AllByRecursion, list_any}
+use Rattle.std.specs.List.{AllByRecursion}
 use Rattle.std.specs.List.Sorted.{IsSortedBy, IsPermutation}
 use Rattle.std.proofs.lemmas.Bool.{cond-true, cond-false, cases_Bool, leb-true, eqb-true, and_parts}
 use Rattle.std.proofs.lemmas.Bool.Decides.{nat_tests}
@@ -14,7 +14,7 @@ use Rattle.gtid_set.specs.declared.interval.Interval.{Interval}
 use Rattle.gtid_set.specs.declared.fault.GtidFault.{GtidFault}
 use Rattle.gtid_set.specs.declared.fault.GtidFault.TheVariants.{BadNumber, Syntax}
 use Rattle.gtid_set.specs.Fault.{◌>>=◌}
-use Rattle.gtid_set.specs.Position.{has, holds, starts_by, last_number, IsInterval, IsCanonical, SamePairs, union_of}
+use Rattle.gtid_set.specs.Position.{holds, starts_by, last_number, IsInterval, SamePairs, union_of}
 use Rattle.gtid_set.specs.Order.{IsRising}
 use Rattle.gtid_set.specs.Blank.{trimmed, cut, parts_between}
 use Rattle.gtid_set.specs.Digits.{hex_digit_of, number_behind, decimal_of, is_hyphenated, uuid_of}
@@ -22,7 +22,7 @@ use Rattle.gtid_set.specs.Text.{all_of, number_from, upper_from, interval_list, 
 use Rattle.gtid_set.proofs.DigitLaws.{group-length}
 use Rattle.gtid_set.proofs.Joined.{union-canonical, has-union_of}
 use Rattle.gtid_set.proofs.Same.{equal_sets}
-use Rattle.gtid_set.proofs.Merging.{StartsAll, StartsAll-trans}
+use Rattle.gtid_set.proofs.Merging.{StartsAll-trans}
 
 abbrev pub Each : List Interval → Type 0
 Each l = AllByRecursion IsInterval l

@@ -1,14 +1,14 @@
 -- What a position text means, from the intervals that it names.
-use Rattle.std.proofs.Common.{◌≡◌, inl, inr, ◌==◌, ◌&&◌, ◌||◌, ℕ, ◌+◌, ◌<◌, ◌≤◌, ◌^◌, Bool, true, false, cond, refl, sym, ◌∙◌, ap, subst, arith, ltb, List, [], ◌∷◌, ◌++◌, length, Result, Ok, Err, OnOk, OnErr, IsPermutation}
+use Rattle.std.proofs.Common.{◌≡◌, inl, inr, ◌==◌, ◌&&◌, ◌||◌, ℕ, ◌<◌, ◌≤◌, ◌^◌, Bool, true, false, refl, sym, ◌∙◌, ap, subst, arith, ltb, List, [], length, Result, Ok, Err, OnOk, OnErr, IsPermutation}
 use Rattle.std.proofs.lemmas.Bool.{cases_Bool, cond-true, cond-false}
 use Rattle.std.proofs.lemmas.Bool.Decides.{nat_tests}
 use Rattle.gtid_set.specs.declared.interval.Interval.{Interval}
 use Rattle.gtid_set.specs.declared.fault.GtidFault.{GtidFault}
 use Rattle.gtid_set.specs.declared.fault.GtidFault.TheVariants.{TooLarge}
 use Rattle.gtid_set.specs.Fault.{◌>>=◌, Refuses}
-use Rattle.gtid_set.specs.Position.{has, holds, IsInterval, IsCanonical, SamePairs, HasPairMore, joined, union_of, with_pair, last_number}
+use Rattle.gtid_set.specs.Position.{has, holds, IsInterval, IsCanonical, HasPairMore, union_of, with_pair, last_number}
 use Rattle.gtid_set.specs.Text.{intervals_of_text, within_limit, text_limit, set_of, position_of_text, IsOfText}
-use Rattle.gtid_set.proofs.Joined.{canonical-intervals, has-joined, joined-canonical, union-canonical, has-union_of}
+use Rattle.gtid_set.proofs.Joined.{canonical-intervals, has-joined, union-canonical, has-union_of}
 use Rattle.gtid_set.proofs.Reading.{refuses-all}
 use Rattle.gtid_set.proofs.Named.{Each, each-named, set-sorted, bind_ok, ok_is}
 

@@ -1,5 +1,5 @@
 -- Blanks at the end of a text, and the parts between separators.
-use Rattle.std.proofs.Common.{◌≡◌, ℕ, zero, suc, ◌+◌, ◌-◌, ◌<◌, ◌≤◌, Bool, true, false, cond, eqb, refl, sym, ◌∙◌, ap, subst, arith, add-one, drop-cons, List, [], ◌∷◌, ◌++◌, append_assoc, append-nil, length, get_or, take, drop, Option, Some, None}
+use Rattle.std.proofs.Common.{◌≡◌, ℕ, ◌+◌, ◌-◌, ◌<◌, Bool, true, false, eqb, refl, sym, ◌∙◌, ap, arith, add-one, drop-cons, List, [], ◌∷◌, ◌++◌, append_assoc, append-nil, length, get_or, take, drop, Option, Some, None}
 use Rattle.std.proofs.lemmas.Bool.{cond-true, cond-false, eq-eqb, ne_eqb}
 use Rattle.std.proofs.lemmas.Grind.{common_steps, take_at_read}
 use Rattle.gtid_set.specs.Blank.{is_blank, unless_blank, trimmed_end, cut, with_first, parts_between}

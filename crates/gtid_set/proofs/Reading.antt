@@ -1,11 +1,11 @@
 -- Parts that are read one after another.
-use Rattle.std.proofs.Common.{◌≡◌, ℕ, ◌+◌, ◌<◌, ◌≤◌, Bool, true, false, cond, eqb, refl, sym, ◌∙◌, ap, subst, arith, List, [], ◌∷◌, ◌++◌, append_assoc, append-nil, length, Option, Some, None, Result, Ok, Err}
+use Rattle.std.proofs.Common.{◌≡◌, ℕ, ◌+◌, ◌<◌, Bool, true, false, eqb, refl, sym, ◌∙◌, ap, subst, arith, List, [], ◌∷◌, ◌++◌, append_assoc, append-nil, length, Option, Some, None, Result, Ok, Err}
 use Rattle.std.specs.Borrow.{Bor}
 use Rattle.std.specs.Option.{option_map}
 use Rattle.gtid_set.specs.declared.interval.Interval.{Interval}
 use Rattle.gtid_set.specs.declared.fault.GtidFault.{GtidFault}
 use Rattle.gtid_set.specs.declared.fault.GtidFault.TheVariants.{TooLarge, Flavor, BadUuid, Syntax, BadNumber, Memory}
-use Rattle.gtid_set.specs.Fault.{◌>>=◌, Gives, Refuses}
+use Rattle.gtid_set.specs.Fault.{◌>>=◌, Refuses}
 use Rattle.gtid_set.specs.Blank.{cut, parts_between}
 use Rattle.gtid_set.specs.Text.{all_of, behind}
 use Rattle.gtid_set.proofs.Parts.{parts_after, parts_between-cut}

@@ -1,11 +1,10 @@
 -- Canonical sets with the same pairs are equal, and a set is within another where each of its intervals is in one of the other.
-use Rattle.std.proofs.Common.{◌≡◌, ℕ, ◌+◌, ◌<◌, ◌≤◌, Bool, true, false, cond, ◌⊎◌, inl, inr, refl, sym, ◌∙◌, ap, subst, arith, IsTrue, min, max, ◌||◌, ◌&&◌, List, [], ◌∷◌, ◌++◌}
-use Rattle.std.specs.List.{AllByRecursion, list_any}
-use Rattle.std.proofs.lemmas.Bool.{cases_Bool, or_cases, or_from, and_from, false_from_ne_true, or_left, or_right, false≢true, and_parts, cases_lt}
+use Rattle.std.proofs.Common.{◌≡◌, ℕ, ◌+◌, ◌<◌, ◌≤◌, Bool, true, false, ◌⊎◌, inl, inr, refl, sym, ◌∙◌, subst, arith, ◌||◌, ◌&&◌, List, [], ◌∷◌}
+use Rattle.std.proofs.lemmas.Bool.{cases_Bool, or_cases, and_from, or_left, false≢true, and_parts}
 use Rattle.std.proofs.lemmas.Bool.Decides.{nat_tests}
 use Rattle.gtid_set.specs.declared.interval.Interval.{Interval}
-use Rattle.gtid_set.specs.Position.{holds, has, ends_before, starts_by, covers, hull, joined, union_of, IsInterval, IsCanonical, SamePairs, IsWithin, within_of, same_interval as same_interval_test, same_set}
-use Rattle.gtid_set.proofs.TestLaws.{Holds, holds-true, true-holds, ends-true}
+use Rattle.gtid_set.specs.Position.{holds, has, ends_before, IsInterval, IsCanonical, SamePairs, same_interval as same_interval_test, same_set}
+use Rattle.gtid_set.proofs.IntervalFacts.{holds-true}
 use Rattle.gtid_set.proofs.Joined.{AllEnd}
 
 -- an interval holds its first and its last number

@@ -1,13 +1,13 @@
 -- Subset and union: what is computed is subset, and the union is the least set that holds both.
-use Rattle.std.proofs.Common.{◌≡◌, ℕ, ◌+◌, ◌<◌, ◌≤◌, Bool, true, false, cond, ◌⊎◌, inl, inr, refl, sym, ◌∙◌, ap, arith, IsTrue, ◌||◌, ◌&&◌, List, [], ◌∷◌, ◌++◌}
+use Rattle.std.proofs.Common.{◌≡◌, ℕ, ◌+◌, ◌<◌, ◌≤◌, Bool, true, false, ◌⊎◌, inl, inr, refl, sym, ◌∙◌, arith, List, [], ◌∷◌}
 use Rattle.std.specs.List.{AllByRecursion, list_any}
-use Rattle.std.proofs.lemmas.Bool.{cases_Bool, or_cases, or_from, and_from, or_left, or_right, false≢true, and_parts}
+use Rattle.std.proofs.lemmas.Bool.{cases_Bool, or_cases, and_from, or_left, or_right, false≢true, and_parts}
 use Rattle.std.proofs.lemmas.Bool.Decides.{nat_tests}
 use Rattle.gtid_set.specs.declared.interval.Interval.{Interval}
-use Rattle.gtid_set.specs.Position.{holds, has, ends_before, covers, joined, union_of, IsInterval, IsCanonical, SamePairs, IsWithin, HasBoth, within_of}
-use Rattle.gtid_set.proofs.TestLaws.{Holds, holds-true, true-holds}
+use Rattle.gtid_set.specs.Position.{holds, has, covers, union_of, IsInterval, IsCanonical, IsWithin, HasBoth, within_of}
+use Rattle.gtid_set.proofs.IntervalFacts.{Holds, holds-true, true-holds}
 use Rattle.gtid_set.proofs.Joined.{AllEnd, canonical-intervals, union-canonical, has-union_of}
-use Rattle.gtid_set.proofs.Same.{not_behind, pair_behind, holds_first, equal_sets}
+use Rattle.gtid_set.proofs.Same.{not_behind, pair_behind, equal_sets}
 
 -- ---- subset, computed
 

@@ -1,5 +1,5 @@
 -- Numbers and uuids as text: decimal digits, and hexadecimal digits of either case in groups of 8, 4, 4, 4 and 12 (RFC 9562).
-use Rattle.std.specs.Prelude.{ℕ, ◌+◌, ◌-◌, ◌*◌, ◌/◌, ◌%◌, ◌^◌, ◌==◌, ◌&&◌, ◌||◌, Bool, nat_lt, nat_le, if◌then◌else◌, Option, Some, None, option_and_then, List, [], ◌∷◌, ◌++◌, length, take, drop, slice_index}
+use Rattle.std.specs.Prelude.{ℕ, ◌+◌, ◌-◌, ◌*◌, ◌==◌, ◌&&◌, Bool, nat_le, if◌then◌else◌, Option, Some, None, option_and_then, List, [], ◌∷◌, length, take, drop, slice_index}
 
 -- one step after another, where each gives something
 infixl 10 ◌>>=◌

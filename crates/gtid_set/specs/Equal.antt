@@ -1,7 +1,7 @@
 -- The computed equality of sets is equality both ways round and along a chain.
-use Rattle.std.specs.Prelude.{◌≡◌, ◌==◌, ◌&&◌, Bool, true, false, List}
+use Rattle.std.specs.Prelude.{◌≡◌, true}
 use Rattle.std.specs.Cmp.{IsPartialEquivalence}
-use Rattle.std.specs.Cmp.Lexicographic.{pointwise, lists_per}
+use Rattle.std.specs.Cmp.Lexicographic.{lists_per}
 use Rattle.std.proofs.Common.{arith}
 use Rattle.std.proofs.lemmas.Bool.Decides.{nat_tests}
 use Rattle.gtid_set.specs.declared.interval.Interval.{Interval}

@@ -1,6 +1,6 @@
 -- Positions: a position is a set of pairs (uuid, number), a GTID set (MySQL manual, 'GTID Sets').
 -- A set is seen as its intervals: the numbers of a uuid from a first one to a last one. A uuid is its number of 128 bits, high byte first.
-use Rattle.std.specs.Prelude.{◌≡◌, ℕ, ◌+◌, ◌-◌, ◌^◌, ◌<◌, ◌≤◌, ◌⊎◌, ◌==◌, ◌&&◌, ◌||◌, Bool, nat_lt, nat_le, min, max, if◌then◌else◌, IsTrue, List, [], ◌∷◌}
+use Rattle.std.specs.Prelude.{◌≡◌, ℕ, ◌+◌, ◌-◌, ◌^◌, ◌<◌, ◌≤◌, ◌==◌, ◌&&◌, ◌||◌, Bool, nat_lt, nat_le, min, max, if◌then◌else◌, IsTrue, List, [], ◌∷◌}
 use Rattle.std.specs.Cmp.Lexicographic.{pointwise}
 use Rattle.std.specs.List.{list_any, list_all, AllByRecursion}
 use Rattle.gtid_set.specs.declared.interval.Interval.{Interval}

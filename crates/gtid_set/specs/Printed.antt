@@ -1,5 +1,6 @@
--- The printed form of a set: no flavour, lower case, uuids in the order of their text, intervals rising, joined by commas without blanks (MySQL manual, 'GTID Sets').
-use Rattle.std.specs.Prelude.{ℕ, ◌+◌, ◌/◌, ◌%◌, ◌^◌, ◌==◌, nat_lt, if◌then◌else◌, List, [], ◌∷◌, ◌++◌, Option, Some, None, decimal}
+-- The printed form of a set: no flavour, lower case, uuids in the order of their text, intervals rising, joined by commas without blanks.
+use Rattle.std.specs.Prelude.{ℕ, ◌+◌, ◌/◌, ◌%◌, ◌^◌, ◌==◌, nat_lt, if◌then◌else◌, Option, Some, None, List, [], ◌∷◌, ◌++◌}
+use Rattle.std.specs.Fmt.{decimal}
 use Rattle.gtid_set.specs.declared.interval.Interval.{Interval}
 
 -- a hexadecimal digit in lower case
@@ -10,7 +11,7 @@ hex_glyph digit = if nat_lt digit 10 then 48 + digit else 87 + digit
 abbrev pub hex_four : ℕ → List ℕ
 hex_four n = hex_glyph (n / 4096 % 16) ∷ hex_glyph (n / 256 % 16) ∷ hex_glyph (n / 16 % 16) ∷ hex_glyph (n % 16) ∷ []
 
--- the sixteen bits of a uuid that stand at a place from its low end
+-- the eight groups of 16 bits of a uuid, high one first
 abbrev pub group_of : ℕ → ℕ → ℕ
 group_of uuid place = uuid / 2 ^ place % 65536
 
@@ -21,20 +22,19 @@ uuid_text uuid =
     ++ 45 ∷ hex_four (group_of uuid 48) ++ 45 ∷ hex_four (group_of uuid 32) ++ hex_four (group_of uuid 16) ++ hex_four (group_of uuid 0)
 
 -- an interval's text behind its colon: its number, or its first and last one
+abbrev pub span_text : ℕ → ℕ → List ℕ
+span_text first last = if first == last then decimal first else decimal first ++ 45 ∷ decimal last
+
 abbrev pub numbers_text : Interval → List ℕ
-numbers_text i = if i.first == i.last then decimal i.first else decimal i.first ++ 45 ∷ decimal i.last
+numbers_text i = span_text i.first i.last
 
--- what stands before the colon of an interval, by the uuid before it: nothing behind its own uuid,
--- its uuid, and a comma before that where it isn't the first
-abbrev pub uuid_before : Option ℕ → ℕ → List ℕ
-uuid_before None uuid = uuid_text uuid
-uuid_before (Some before) uuid = if before == uuid then [] else 44 ∷ uuid_text uuid
-
--- the text of one interval behind the uuid before it
+-- an interval behind one of another uuid or of the same one, or at the front of the text:
+-- a colon and its numbers, for another uuid with that uuid and a comma before it
 abbrev pub interval_text : Option ℕ → Interval → List ℕ
-interval_text before i = uuid_before before i.uuid ++ 58 ∷ numbers_text i
+interval_text None i = uuid_text i.uuid ++ 58 ∷ numbers_text i
+interval_text (Some before) i = if before == i.uuid then 58 ∷ numbers_text i else 44 ∷ uuid_text i.uuid ++ 58 ∷ numbers_text i
 
--- the text of intervals behind the uuid before them
+-- the intervals behind one of this uuid, if there is one
 abbrev pub printed_behind : Option ℕ → List Interval → List ℕ
 printed_behind before [] = []
 printed_behind before (i ∷ set) = interval_text before i ++ printed_behind (Some i.uuid) set

@@ -1,10 +1,11 @@
 //! Laws of sets, each the contract of a function without a body: they hold of the values that
 //! contracts see a `GtidSet` as.
 
-ghost use Rattle.std.specs.Prelude.{◌≡◌, ◌↔◌, ℕ, List, Ok, IsTrue};
+ghost use Rattle.std.specs.Prelude.{◌≡◌, ◌≤◌, ◌↔◌, ◌++◌, ℕ, List, length, Ok, IsTrue, codes};
 ghost use Rattle.gtid_set.specs.declared.interval.Interval.{Interval};
 ghost use Rattle.gtid_set.specs.Position.{same_set, SamePairs, IsWithin, IsCanonical, HasBoth, union_of, within_of};
-ghost use Rattle.gtid_set.specs.Text.{position_of_text};
+ghost use Rattle.gtid_set.specs.Printed.{printed_position};
+ghost use Rattle.gtid_set.specs.Text.{position_of_text, text_limit};
 
 /// Sets with the same pairs are equal.
 pub fn equal_members_equal_sets()
@@ -47,4 +48,16 @@ pub fn positions_are_canonical()
 /// What `==` computes is equality.
 pub fn same_set_is_equality()
     ensures { (a b : List Interval) → IsTrue (same_set a b) ↔ (a ≡ b) }
+{}
+
+/// A printed set is read as the set, where its text is within the limit.
+pub fn printed_text_reads_back()
+    ensures plain { (set : List Interval) → IsCanonical set → length (printed_position set) ≤ text_limit → position_of_text (printed_position set) ≡ Ok set }
+    ensures with_flavor { (set : List Interval) → IsCanonical set → length (codes "MySQL56/" ++ printed_position set) ≤ text_limit
+        → position_of_text (codes "MySQL56/" ++ printed_position set) ≡ Ok set }
+{}
+
+/// Different sets print different texts, of any length.
+pub fn equal_texts_equal_sets()
+    ensures { (a b : List Interval) → IsCanonical a → IsCanonical b → printed_position a ≡ printed_position b → a ≡ b }
 {}

@@ -7,7 +7,6 @@ mod interval;
 mod laws;
 mod merge;
 mod printed;
-mod printed_laws;
 mod read;
 mod set;
 mod text;
@@ -15,10 +14,10 @@ mod text;
 pub use fault::GtidFault;
 pub use interval::Interval;
 pub use laws::{
-    equal_members_equal_sets, positions_are_canonical, same_set_is_equality, subset_is_an_order,
+    equal_members_equal_sets, equal_texts_equal_sets, positions_are_canonical,
+    printed_text_reads_back, same_set_is_equality, subset_is_an_order,
     union_is_the_least_set_over_both, union_with_a_superset_is_the_superset, within_is_subset,
 };
-pub use printed_laws::{different_sets_print_different_texts, printed_text_is_read_again};
 pub use set::GtidSet;
 
 #[cfg(test)]

@@ -1,113 +1,112 @@
 //! The printed form of a set.
 
-ghost use Rattle.std.specs.Prelude.{◌≡◌, ◌+◌, ◌^◌, ◌<◌, Some};
-ghost use Rattle.gtid_set.specs.Printed.{hex_glyph, hex_four, group_of, uuid_text, numbers_text, interval_text};
+ghost use Rattle.std.specs.Prelude.{◌≡◌, ◌+◌, ◌*◌, ◌/◌, ◌%◌, ◌^◌, ◌<◌, Some};
+ghost use Rattle.gtid_set.specs.Printed.{group_of};
 
 use crate::interval::Interval;
+use crate::set::GtidSet;
 use std::fmt;
 
-/// The hexadecimal digit of a number below 16, in lower case.
-fn hex_digit(number: u16) -> char
-    requires { number < 16 }
-    ensures { result ≡ hex_glyph number }
-{
-    let number = number as u8;
-    char::from(if number < 10 {
-        b'0' + number
-    } else {
-        b'a' - 10 + number
-    })
-}
-
-/// Sixteen bits as four hexadecimal digits.
-#[derive(Drop)]
-struct HexGroup(u16);
-
-impl fmt::Display for HexGroup {
-    ghost output = { λ group. Some (hex_four group.0) };
-
-    fn fmt<W: fmt::Write>(&self, f: &mut fmt::Formatter<W>) -> fmt::Result {
-        let first = hex_digit(self.0 / 4096 % 16);
-        let second = hex_digit(self.0 / 256 % 16);
-        let third = hex_digit(self.0 / 16 % 16);
-        let fourth = hex_digit(self.0 % 16);
-        write!(f, "{first}{second}{third}{fourth}")
-    }
-}
-
-/// The sixteen bits of a uuid that stand at a place from its low end.
-fn group_at(uuid: u128, place: u32) -> HexGroup
+/// 16 bits of a uuid, from `place` bits above its low end on.
+fn group(uuid: u128, place: u32) -> HexFour
     requires { place < 128 }
     ensures { result.0 ≡ group_of uuid place }
 {
-    HexGroup(((uuid >> place) % 65536) as u16)
+    HexFour((uuid / (1 << place) % 65536) as u16)
 }
 
-/// A uuid as its text: hexadecimal digits, 8-4-4-4-12.
+/// Four hexadecimal digits in lower case.
+#[derive(Drop)]
+struct HexFour(u16);
+
+impl fmt::Display for HexFour {
+    ghost use Rattle.std.specs.Prelude.{Some};
+    ghost use Rattle.gtid_set.specs.Printed.{hex_four};
+
+    ghost output = { λ digits. Some (hex_four digits.0) };
+
+    fn fmt<W: fmt::Write>(&self, f: &mut fmt::Formatter<W>) -> fmt::Result {
+        let digits = self.0;
+        write!(f, "{digits:04x}")
+    }
+}
+
+/// A uuid's text, 8-4-4-4-12, in lower case.
 #[derive(Drop)]
 struct UuidText(u128);
 
 impl fmt::Display for UuidText {
+    ghost use Rattle.std.specs.Prelude.{Some};
+    ghost use Rattle.gtid_set.specs.Printed.{uuid_text};
+
     ghost output = { λ uuid. Some (uuid_text uuid.0) };
 
     #[tactic(auto, unfolding(crate::specs::Printed::uuid_text))]
     fn fmt<W: fmt::Write>(&self, f: &mut fmt::Formatter<W>) -> fmt::Result {
-        let low_front = group_at(self.0, 112);
-        let low_back = group_at(self.0, 96);
-        let mid = group_at(self.0, 80);
-        let version = group_at(self.0, 64);
-        let clock = group_at(self.0, 48);
-        let node_front = group_at(self.0, 32);
-        let node_mid = group_at(self.0, 16);
-        let node_back = group_at(self.0, 0);
-        write!(
-            f,
-            "{low_front}{low_back}-{mid}-{version}-{clock}-{node_front}{node_mid}{node_back}"
-        )
+        write!(f, "{}{}-", group(self.0, 112), group(self.0, 96))?;
+        write!(f, "{}-{}-", group(self.0, 80), group(self.0, 64))?;
+        write!(f, "{}-{}", group(self.0, 48), group(self.0, 32))?;
+        write!(f, "{}{}", group(self.0, 16), group(self.0, 0))
     }
 }
 
-/// The numbers of an interval: one, or the first and the last one.
+/// The numbers of an interval: the only one, or the first and the last.
 #[derive(Drop)]
-struct NumbersText(Interval);
+struct NumbersText(u64, u64);
 
 impl fmt::Display for NumbersText {
-    ghost output = { λ numbers. Some (numbers_text numbers.0) };
+    ghost use Rattle.std.specs.Prelude.{Some};
+    ghost use Rattle.gtid_set.specs.Printed.{span_text};
+
+    ghost output = { λ numbers. Some (span_text numbers.0 numbers.1) };
 
     fn fmt<W: fmt::Write>(&self, f: &mut fmt::Formatter<W>) -> fmt::Result {
-        let first = self.0.first;
-        let last = self.0.last;
-        if first == last {
-            write!(f, "{first}")
+        if self.0 == self.1 {
+            write!(f, "{}", self.0)
         } else {
-            write!(f, "{first}-{last}")
+            write!(f, "{}-{}", self.0, self.1)
         }
     }
 }
 
-/// An interval behind another one, whose uuid isn't written again where both are of one.
+/// The separators and the uuid before an interval's numbers: a colon, and a comma and the uuid
+/// where the interval before it is of another one.
 #[derive(Drop)]
-pub(crate) struct IntervalText {
-    /// the uuid of the interval before, if there is one
-    pub(crate) before: Option<u128>,
-    pub(crate) interval: Interval,
+struct IntervalText<'s> {
+    interval: &'s Interval,
+    before: Option<u128>,
 }
 
-impl fmt::Display for IntervalText {
-    ghost output = { λ text. Some (interval_text text.before text.interval) };
+impl fmt::Display for IntervalText<'_> {
+    ghost use Rattle.std.specs.Prelude.{Some};
+    ghost use Rattle.gtid_set.specs.Printed.{interval_text};
+
+    ghost output = { λ text. Some (interval_text text.before text.interval.now) };
 
     fn fmt<W: fmt::Write>(&self, f: &mut fmt::Formatter<W>) -> fmt::Result {
-        let uuid = UuidText(self.interval.uuid);
-        let numbers = NumbersText(self.interval);
+        let numbers = NumbersText(self.interval.first, self.interval.last);
         match self.before {
-            None => write!(f, "{uuid}:{numbers}"),
-            Some(before) => {
-                if before == self.interval.uuid {
-                    write!(f, ":{numbers}")
-                } else {
-                    write!(f, ",{uuid}:{numbers}")
-                }
-            }
+            None => write!(f, "{}:{numbers}", UuidText(self.interval.uuid)),
+            Some(before) if before == self.interval.uuid => write!(f, ":{numbers}"),
+            Some(_) => write!(f, ",{}:{numbers}", UuidText(self.interval.uuid)),
         }
+    }
+}
+
+/// Lower case, uuids in the order of their text, intervals rising, joined by commas without
+/// blanks; the empty set prints nothing.
+impl fmt::Display for GtidSet {
+    ghost use Rattle.std.specs.Prelude.{Some};
+    ghost use Rattle.gtid_set.specs.Printed.{printed_position};
+
+    ghost output = { λ set. Some (printed_position set) };
+
+    fn fmt<W: fmt::Write>(&self, f: &mut fmt::Formatter<W>) -> fmt::Result {
+        let mut before = None;
+        for interval in self.intervals() {
+            write!(f, "{}", IntervalText { interval, before })?;
+            before = Some(interval.uuid);
+        }
+        Ok(())
     }
 }

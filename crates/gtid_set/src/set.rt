@@ -9,10 +9,8 @@ ghost use Rattle.gtid_set.specs.Text.{position_of_text, IsOfText};
 use crate::fault::GtidFault;
 use crate::interval::Interval;
 use crate::merge::{add_pair, are_within, has_pair, merged, union};
-use crate::printed::IntervalText;
 use crate::read::intervals_of;
 use std::alloc::{AllocError, Global};
-use std::fmt;
 use std::marker::Model;
 
 /// A set of pairs of a uuid and a number (MySQL manual, "GTID Sets"), kept as its merged rising
@@ -135,26 +133,5 @@ impl PartialEq for GtidSet {
 
     fn eq(&self, other: &GtidSet) -> bool {
         self.intervals == other.intervals
-    }
-}
-
-impl fmt::Display for GtidSet {
-    ghost use Rattle.std.specs.Prelude.{Some};
-    ghost use Rattle.gtid_set.specs.Printed.{printed_position};
-
-    // Lower case, uuids in the order of their text, intervals rising, joined by commas.
-    ghost output = { λ set. Some (printed_position set) };
-
-    fn fmt<W: fmt::Write>(&self, f: &mut fmt::Formatter<W>) -> fmt::Result {
-        let mut before: Option<u128> = None;
-        for interval in &self.intervals {
-            let text = IntervalText {
-                before,
-                interval: *interval,
-            };
-            write!(f, "{text}")?;
-            before = Some(interval.uuid);
-        }
-        Ok(())
     }
 }

@@ -1,4 +1,4 @@
-use Rattle.std.proofs.Common.{◌≡◌, ℕ, ap, ◌<◌, ◌≤◌, ◌+◌, ◌-◌, ◌*◌, ◌^◌, ◌∙◌, sym, arith, get_or, length, Some}
+use Rattle.std.proofs.Common.{◌≡◌, ℕ, ap, ◌<◌, ◌+◌, ◌-◌, ◌*◌, ◌^◌, ◌∙◌, sym, arith, get_or, length, Some}
 use Rattle.gtid_set.specs.Digits.{hex_digit_of}
 use Rattle.gtid_set.proofs.DigitLaws.{number_behind-next, room-next, room-value}
 use Rattle.gtid_set.proofs.digits.hex_behind.Goals as goal

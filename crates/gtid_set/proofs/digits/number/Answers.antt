@@ -1,4 +1,4 @@
-use Rattle.std.proofs.Common.{◌≡◌, ◌<◌, ◌≤◌, ◌+◌, ◌-◌, ◌*◌, ◌^◌, ℕ, arith, get_or}
+use Rattle.std.proofs.Common.{◌<◌, ◌≤◌, ◌+◌, ◌-◌, ◌*◌, ℕ, arith, get_or}
 use Rattle.gtid_set.specs.Position.{last_number}
 use Rattle.gtid_set.proofs.DigitLaws.{over}
 use Rattle.gtid_set.proofs.digits.number.Goals as goal

@@ -1,4 +1,4 @@
-use Rattle.std.proofs.Common.{◌≡◌, ◌≤◌, ◌+◌, ◌*◌, ◌^◌, arith, length, refl}
+use Rattle.std.proofs.Common.{◌≡◌, ◌≤◌, ◌+◌, ◌*◌, ◌^◌, arith, length}
 use Rattle.gtid_set.proofs.DigitLaws.{group-length}
 use Rattle.gtid_set.proofs.digits.uuid.Goals as goal
 

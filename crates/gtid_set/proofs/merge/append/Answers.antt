@@ -1,4 +1,4 @@
-use Rattle.std.proofs.Common.{◌≡◌, ◌∙◌, ap, arith, sym, false, length}
+use Rattle.std.proofs.Common.{◌≡◌, arith, false, length}
 use Rattle.gtid_set.specs.Position.{ends_before}
 use Rattle.gtid_set.proofs.Appended.{set_last-joined, push-joined, push-joined-none}
 use Rattle.gtid_set.proofs.merge.append.Goals as goal

@@ -1,10 +1,10 @@
-use Rattle.std.proofs.Common.{◌≡◌, ℕ, ◌+◌, ◌∙◌, true, false, get_or, drop, arith, sym}
+use Rattle.std.proofs.Common.{◌≡◌, ◌∙◌, true, false, get_or, drop, arith, sym}
 use Rattle.std.proofs.lemmas.List.{get_or_default, take_rest}
 use Rattle.gtid_set.specs.declared.interval.Interval.{Interval}
 use Rattle.gtid_set.specs.Position.{starts_by, union_of}
 use Rattle.gtid_set.proofs.Joined.{canonical-intervals}
 use Rattle.gtid_set.proofs.Within.{canonical-union, union-pairs}
-use Rattle.gtid_set.proofs.Merging.{Merged, merged-one, merged-swap, starts_total, interval-at, intervals-drop, rising-drop, canonical-drop, canonical-rising, union-rest}
+use Rattle.gtid_set.proofs.Merging.{merged-one, merged-swap, starts_total, interval-at, intervals-drop, rising-drop, canonical-drop, canonical-rising, union-rest}
 use Rattle.gtid_set.proofs.merge.union.Goals as goal
 
 abbrev nowhere : Interval

@@ -1,5 +1,5 @@
 use Rattle.std.proofs.Common.{◌≡◌, ℕ, ◌+◌, ◌-◌, ◌≤◌, ◌||◌, length, drop}
-use Rattle.gtid_set.specs.Position.{has, IsCanonical, union_of}
+use Rattle.gtid_set.specs.Position.{has, IsCanonical}
 use Rattle.gtid_set.specs.Order.{AllStartOver}
 use Rattle.gtid_set.proofs.merge.union.Given as goal
 

@@ -1,4 +1,4 @@
-use Rattle.std.proofs.Common.{◌≡◌, subst, ℕ, sym, ◌∙◌, ap, List, Option, Result, Ok, Some}
+use Rattle.std.proofs.Common.{subst, ℕ, sym, ◌∙◌, ap, List, Result}
 use Rattle.std.proofs.lemmas.Result.{err_from_is_err_and}
 use Rattle.gtid_set.specs.declared.interval.Interval.{Interval}
 use Rattle.gtid_set.specs.declared.fault.GtidFault.{GtidFault}

@@ -1,4 +1,4 @@
-use Rattle.std.proofs.Common.{◌≡◌, ℕ, ◌<◌, sym, ◌∙◌, arith, length, get_or, drop, take, Option, Some, None}
+use Rattle.std.proofs.Common.{◌≡◌, sym, arith, take, Some}
 use Rattle.std.proofs.lemmas.Bool.{eqb-true, eqb-false}
 use Rattle.std.proofs.lemmas.List.{take_rest}
 use Rattle.gtid_set.specs.Digits.{uuid_of}

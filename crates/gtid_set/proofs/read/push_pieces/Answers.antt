@@ -1,11 +1,9 @@
-use Rattle.std.proofs.Common.{◌≡◌, ℕ, sym, ◌∙◌, ap, List, Option, Result, Ok, Some}
-use Rattle.std.specs.Option.{option_map}
+use Rattle.std.proofs.Common.{List, Result}
 use Rattle.std.proofs.lemmas.Result.{err_from_is_err_and}
 use Rattle.gtid_set.specs.declared.interval.Interval.{Interval}
 use Rattle.gtid_set.specs.declared.fault.GtidFault.{GtidFault}
 use Rattle.gtid_set.specs.Blank.{parts_between}
 use Rattle.gtid_set.specs.Text.{all_of, behind, intervals_of_piece}
-use Rattle.gtid_set.proofs.Parts.{parts_after}
 use Rattle.gtid_set.proofs.Reading.{next_part, bad_part, smaller_some, at_some}
 use Rattle.gtid_set.proofs.read.push_pieces.Goals as goal
 

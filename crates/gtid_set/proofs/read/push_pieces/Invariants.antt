@@ -1,4 +1,4 @@
-use Rattle.std.proofs.Common.{◌≡◌, ◌+◌, length, Option}
+use Rattle.std.proofs.Common.{◌≡◌}
 use Rattle.std.specs.Option.{option_map}
 use Rattle.gtid_set.specs.Text.{all_of, intervals_of_piece, behind}
 use Rattle.gtid_set.proofs.Parts.{parts_after}

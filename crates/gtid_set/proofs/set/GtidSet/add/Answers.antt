@@ -1,4 +1,4 @@
-use Rattle.std.proofs.Common.{◌≡◌, sym, ◌∙◌, subst, ap, arith, ◌<◌, ◌^◌, List}
+use Rattle.std.proofs.Common.{◌≡◌, sym, ◌∙◌, subst, ap, List}
 use Rattle.std.proofs.lemmas.Result.{on_ok_weaker}
 use Rattle.gtid_set.specs.declared.interval.Interval.{Interval}
 use Rattle.gtid_set.specs.Position.{IsCanonical, IsInterval, HasPairMore, with_pair}

@@ -1,10 +1,10 @@
 use Rattle.std.proofs.Common.{◌≡◌, sym, ◌∙◌, subst, List, [], ap}
 use Rattle.std.proofs.lemmas.Result.{err_from_is_err_and}
 use Rattle.gtid_set.specs.declared.interval.Interval.{Interval}
-use Rattle.gtid_set.specs.Position.{IsCanonical, union_of}
+use Rattle.gtid_set.specs.Position.{union_of}
 use Rattle.gtid_set.specs.Order.{IsRising}
 use Rattle.gtid_set.proofs.Named.{Each, Each-permutation, sorted-rising}
-use Rattle.gtid_set.proofs.Parsed.{IsParsed, is_parsed, refused, each-within}
+use Rattle.gtid_set.proofs.Parsed.{is_parsed, refused, each-within}
 use Rattle.gtid_set.proofs.set.GtidSet.parse.Goals as goal
 
 pub returns-in_err-intervals-clause-exact : goal.returns-in_err-intervals-clause-exact

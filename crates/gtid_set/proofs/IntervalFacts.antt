@@ -1,8 +1,8 @@
 -- What the tests of intervals say.
-use Rattle.std.proofs.Common.{◌≡◌, ℕ, ◌+◌, ◌<◌, ◌≤◌, Bool, true, false, ◌⊎◌, inl, inr, refl, sym, ◌∙◌, ap, arith, IsTrue, min, max, ◌||◌}
+use Rattle.std.proofs.Common.{◌≡◌, ℕ, ◌+◌, ◌<◌, ◌≤◌, true, false, ◌⊎◌, arith, ◌||◌}
 use Rattle.std.proofs.lemmas.Bool.Decides.{nat_tests}
 use Rattle.gtid_set.specs.declared.interval.Interval.{Interval}
-use Rattle.gtid_set.specs.Position.{holds, ends_before, starts_by, covers, hull, IsInterval}
+use Rattle.gtid_set.specs.Position.{holds, ends_before, hull, IsInterval}
 
 -- one interval ends before another begins, with a number between them where both are of one uuid
 abbrev pub Ends : Interval → Interval → Type 0
