@@ -9,12 +9,12 @@ use Rattle.vindex.specs.KeyspaceId.{vindex_of_name}
 use Rattle.vindex.specs.declared.vindexes.Vindex.{Vindex}
 use Rattle.filter_rule.specs.Document.{RuleSaid, StreamSaid, TableSaid, DocumentSaid, found, member_in, text_of, list_of, text_in, list_in, two_of, pair_of, is_name, name_of, type_by, type_of, column_of, vindex_of, vindex_if, vindex_in, filter_if, filter_in, rule_of, stream_of, has_twice, distinct, table_of, document_of}
 use Rattle.filter_rule.specs.Faults.{Fault, json, shape, limit, no_such_column, key_type, bad_rule, ◌>>=◌, each}
-use Rattle.filter_rule.specs.FilterText.{Rows, every_row, in_own_range, in_range_of, Said, said_at}
+use Rattle.filter_rule.specs.FilterText.{Rows, every_row, in_own_range, in_range_of, said_at}
 use Rattle.filter_rule.specs.Limits.{is_within, within_limits}
 use Rattle.filter_rule.specs.PlanTable.{ColumnValue, TableValue}
 use Rattle.filter_rule.specs.Reading.{rule_over, settle_all, undecided, decisions_of, plan_of, plans_from, json_of, plans_of_document, plans_of}
 use Rattle.filter_rule.specs.Resolving.{place_in, type_in, is_vindex_type, unfit_key, refuse_type, vindex_place, vindex_type, own_vindex_type, resolved}
-use Rattle.filter_rule.specs.Rules.{Scope, scope_of, agrees, as_text, range_in, vindex_named, Action, all_rows, own_vindex, named_column, RuleForm, or_bad, action_of, agreeing, form_of, own_decision, decide, is_for, settle_one, settle}
+use Rattle.filter_rule.specs.Rules.{scope_of, agrees, as_text, range_in, vindex_named, Action, all_rows, own_vindex, named_column, RuleForm, or_bad, action_of, agreeing, form_of, own_decision, decide, is_for, settle_one, settle}
 use Rattle.filter_rule.specs.declared.decision.Decision.{Decision}
 use Rattle.filter_rule.specs.declared.decision.Decision.TheVariants.{NoRule, EveryRow, InRange}
 

@@ -1,14 +1,13 @@
 -- What a workflow file's reader answers, in other words.
 use Rattle.std.proofs.Common.{◌≡◌, ◌⊎◌, inl, inr, ℕ, List, Bool, true, false, cond, true≢false, subst, map, Option, Some, None, Vec, Global, Result, Ok, Err, refl, sym, ap, ◌∙◌}
-use Rattle.std.specs.Prelude.{IfOk, IsErrAnd, IsUtf8}
+use Rattle.std.specs.Prelude.{IfOk, IsErrAnd}
 use Rattle.std.specs.Arc.{arc_value}
 use Rattle.std.specs.Option.{ok_or}
 use Rattle.std.specs.Str.{is_utf8}
 use Rattle.std.specs.declared.sync.Arc.{Arc}
 use Rattle.serde_json.specs.Data.{Data}
 use Rattle.serde_json.specs.Read.{read}
-use Rattle.filter_rule.specs.Document.{document_of}
-use Rattle.filter_rule.specs.Faults.{Fault, json, Gives, ◌>>=◌}
+use Rattle.filter_rule.specs.Faults.{Fault, json, Gives}
 use Rattle.filter_rule.specs.FirstRule.{FollowFirstRules}
 use Rattle.filter_rule.specs.PlanValue.{PlanValue}
 use Rattle.filter_rule.specs.Reading.{IsNoJson, json_of, plans_of}
