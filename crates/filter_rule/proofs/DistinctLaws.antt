@@ -1,12 +1,12 @@
 -- Titles that were seen, and those that are left.
-use Rattle.std.proofs.Common.{◌≡◌, ℕ, ◌+◌, ◌<◌, ◌≤◌, List, [], ◌∷◌, ◌++◌, length, drop, get_or, map, Bool, true, false, cond, Err, refl, sym, ap, ◌∙◌, arith, rules}
+use Rattle.std.proofs.Common.{◌≡◌, ℕ, ◌+◌, ◌<◌, List, [], ◌∷◌, ◌++◌, length, drop, get_or, map, Bool, true, false, cond, Err, refl, sym, ap, ◌∙◌}
 use Rattle.std.specs.Borrow.{Bor}
 use Rattle.std.specs.List.{list_any}
 use Rattle.std.specs.Str.{bytes_eq}
 use Rattle.std.specs.Prelude.{not, ◌||◌}
 use Rattle.filter_rule.specs.Faults.{shape}
 use Rattle.filter_rule.specs.Document.{repeats, has_twice, distinct}
-use Rattle.filter_rule.proofs.EachLaws.{map_drop_at, map_drop_all}
+use Rattle.filter_rule.proofs.EachLaws.{map_drop_at}
 
 abbrev pub titles_of : List (Bor (List ℕ)) → List (List ℕ)
 titles_of keys = map (λ k. k.now) keys

@@ -1,9 +1,9 @@
 -- Reading a filter's text from left to right gives what its tokens say.
-use Rattle.std.proofs.Common.{◌≡◌, ℕ, zero, suc, List, [], ◌∷◌, ◌++◌, length, take, drop, Bool, true, false, cond, Option, Some, None, option_and_then, refl, sym, ap, subst, ◌∙◌, arith, rules, codes, true≢false}
-use Rattle.std.specs.Prelude.{◌==◌, is_some, ◌≢◌}
+use Rattle.std.proofs.Common.{◌≡◌, ℕ, List, [], ◌∷◌, ◌++◌, length, take, drop, Bool, true, false, cond, Option, Some, None, option_and_then, refl, sym, ap, subst, ◌∙◌, arith, codes, true≢false}
+use Rattle.std.specs.Prelude.{◌==◌, is_some}
 use Rattle.std.specs.List.{list_all}
 use Rattle.std.proofs.lemmas.Bool.Decides.{nat_tests}
-use Rattle.filter_rule.specs.Tokens.{Lexeme, word, name, quoted, mark, is_blank, AreBlanks, Begins, Spells, after_blanks, front_token, token_at}
+use Rattle.filter_rule.specs.Tokens.{Lexeme, is_blank, AreBlanks, Spells, after_blanks, front_token, token_at}
 use Rattle.filter_rule.specs.FilterText.{Rows, every_row, in_own_range, in_range_of, Said, is_key, is_this_mark, named, text_in_quotes, key_word, this_mark, a_name, a_text, own_range, range_of, arguments, condition, selection, next_of, selection_of, begins_with_select, Says, says_nothing, selects, gives_range, has_ended, said_at}
 use Rattle.filter_rule.proofs.SpanLaws.{span_all, span_len, front_is_span, span_of_run}
 use Rattle.filter_rule.proofs.TokenLaws.{token_of_begins, begins_of_token, drop_run, take_drop}

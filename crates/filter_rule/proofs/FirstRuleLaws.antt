@@ -1,14 +1,13 @@
 -- Taking the rules one after another gives each table the decision of the first rule that matches it.
-use Rattle.std.proofs.Common.{◌≡◌, ℕ, zero, suc, ◌+◌, List, [], ◌∷◌, Bool, true, false, cond, Option, Some, None, Result, Ok, Err, refl, sym, ap, subst, ◌∙◌, codes, arith, zero-add, rules}
+use Rattle.std.proofs.Common.{◌≡◌, ℕ, zero, suc, ◌+◌, List, [], ◌∷◌, Bool, true, false, cond, Option, Some, None, Ok, Err, refl, sym, ap, subst, ◌∙◌, codes, arith, zero-add}
 use Rattle.std.specs.Prelude.{slice_get, ◌||◌}
-use Rattle.std.specs.Option.{ok_or}
 use Rattle.std.specs.Str.{bytes_eq}
 use Rattle.vindex.specs.Bounds.{Bounds}
 use Rattle.vindex.specs.declared.vindexes.Vindex.{Vindex}
 use Rattle.filter_rule.specs.Document.{RuleSaid, StreamSaid, DocumentSaid, document_of}
-use Rattle.filter_rule.specs.Faults.{Fault, bad_rule, limit, ◌>>=◌, each}
-use Rattle.filter_rule.specs.FilterText.{Said, said_at}
-use Rattle.filter_rule.specs.FirstRule.{is_match, first_match, Decides, IsByFirst, AreByFirst, FollowFirstRules}
+use Rattle.filter_rule.specs.Faults.{limit, ◌>>=◌, each}
+use Rattle.filter_rule.specs.FilterText.{said_at}
+use Rattle.filter_rule.specs.FirstRule.{is_match, Decides, IsByFirst, AreByFirst, FollowFirstRules}
 use Rattle.filter_rule.specs.Limits.{is_within, within_limits}
 use Rattle.filter_rule.specs.PlanValue.{PlanValue}
 use Rattle.filter_rule.specs.PlanTable.{TableValue}

@@ -13,3 +13,4 @@ pub mod JsonText
 pub mod PlanLaws
 pub mod FirstRuleLaws
 pub mod ReadLaws
+pub mod JsonFault

@@ -1,5 +1,5 @@
 -- What is read has the shape of a plan.
-use Rattle.std.proofs.Common.{◌≡◌, ℕ, zero, suc, ◌+◌, ◌<◌, ◌≤◌, List, [], ◌∷◌, length, map, Bool, true, false, cond, Option, Some, None, Result, Ok, Err, refl, sym, ap, subst, ◌∙◌, arith, rules}
+use Rattle.std.proofs.Common.{◌≡◌, ℕ, zero, suc, ◌+◌, ◌<◌, List, [], ◌∷◌, length, Bool, true, false, cond, Option, Some, None, Result, Ok, Err, refl, sym, ap, subst}
 use Rattle.std.specs.Prelude.{slice_get, position, IfSome}
 use Rattle.std.specs.List.{AllByRecursion}
 use Rattle.std.specs.Option.{ok_or}

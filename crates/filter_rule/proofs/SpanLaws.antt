@@ -1,6 +1,6 @@
 -- How far a kind of bytes goes at the front of a list, and what stands before the first byte of a value.
-use Rattle.std.proofs.Common.{◌≡◌, ℕ, zero, suc, ◌+◌, ◌<◌, ◌≤◌, List, [], ◌∷◌, ◌++◌, length, take, drop, Bool, true, false, cond, eqb, ltb, Option, Some, None, option_map, refl, sym, ap, ◌∙◌, arith, rules, tests}
-use Rattle.std.specs.Prelude.{not, unwrap_or, position, nat_lt, ◌==◌, ◌&&◌, IsTrue}
+use Rattle.std.proofs.Common.{◌≡◌, ℕ, suc, ◌+◌, ◌≤◌, List, [], ◌∷◌, ◌++◌, length, take, drop, Bool, true, false, cond, Option, Some, None, option_map, refl, sym, ap, ◌∙◌, arith, rules, tests}
+use Rattle.std.specs.Prelude.{not, unwrap_or, nat_lt, ◌==◌, ◌&&◌}
 use Rattle.std.specs.List.{list_all, prefix_len, position_or_len}
 use Rattle.std.proofs.lemmas.Bool.Decides.{nat_tests}
 use Rattle.filter_rule.specs.Tokens.{front_len, up_to}

@@ -1,13 +1,12 @@
 -- Key ranges that split all ids split the rows.
-use Rattle.std.proofs.Common.{◌≡◌, ℕ, List, Option, Some, None, Ok, Bool, true, false, map, option_map, refl, sym, ap, ◌∙◌, rules}
+use Rattle.std.proofs.Common.{◌≡◌, ℕ, List, Option, Some, None, Ok, Bool, true, false, option_map, refl, sym, ap, ◌∙◌, rules}
 use Rattle.std.specs.Prelude.{slice_get, IsTrue}
 use Rattle.std.proofs.lemmas.Option.{slice_get-map}
 use Rattle.vindex.specs.Bounds.{Bounds, in_range}
 use Rattle.vindex.specs.KeyspaceId.{id_of}
 use Rattle.vindex.specs.declared.vindexes.Vindex.{Vindex}
-use Rattle.vindex.specs.Tiling.{IsInOneRange}
 use Rattle.filter_rule.specs.PlanValue.{PlanValue, decision_at, column_at, passes_of, kept_under}
-use Rattle.filter_rule.specs.Splitting.{KeepRanges, PassesInOne, SplitRow}
+use Rattle.filter_rule.specs.Splitting.{KeepRanges, SplitRow}
 use Rattle.filter_rule.specs.declared.decision.Decision.{Decision}
 use Rattle.filter_rule.specs.declared.decision.Decision.TheVariants.{InRange}
 

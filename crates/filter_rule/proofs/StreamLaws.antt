@@ -1,5 +1,5 @@
 -- The rules of a stream, as far as a loop has come.
-use Rattle.std.proofs.Common.{◌≡◌, ℕ, zero, suc, ◌+◌, ◌<◌, ◌≤◌, List, [], ◌∷◌, ◌++◌, length, take, drop, get_or, map, Result, Ok, Err, refl, sym, ap, ◌∙◌, arith, rules}
+use Rattle.std.proofs.Common.{◌≡◌, ℕ, zero, suc, ◌+◌, ◌<◌, ◌≤◌, List, [], ◌∷◌, ◌++◌, length, take, drop, get_or, Result, Ok, Err, refl, sym, ap, ◌∙◌, arith}
 use Rattle.filter_rule.specs.Document.{RuleSaid}
 use Rattle.filter_rule.specs.Faults.{Fault, ◌>>=◌}
 use Rattle.filter_rule.specs.PlanTable.{TableValue}
@@ -7,7 +7,7 @@ use Rattle.filter_rule.specs.Reading.{rule_over, settle_all, undecided}
 use Rattle.filter_rule.specs.declared.decision.Decision.{Decision}
 use Rattle.filter_rule.specs.declared.decision.Decision.TheVariants.{NoRule}
 use Rattle.filter_rule.proofs.EachLaws.{drop_at}
-use Rattle.filter_rule.proofs.SettleLaws.{drop_all, take_all}
+use Rattle.filter_rule.proofs.SettleLaws.{drop_all}
 
 take_front : {A : Type 0} (front rest : List A) → take (length front) (front ++ rest) ≡ front
 take_front [] rest = refl

@@ -1,12 +1,12 @@
 -- The first token of a text is the one that the text begins with.
-use Rattle.std.proofs.Common.{ne_eqb, ◌≡◌, ℕ, zero, suc, ◌+◌, ◌<◌, ◌≤◌, List, [], ◌∷◌, ◌++◌, length, take, drop, Bool, true, false, cond, Option, Some, None, option_map, option_and_then, refl, sym, ap, ◌∙◌, arith, rules, tests}
+use Rattle.std.proofs.Common.{ne_eqb, ◌≡◌, ℕ, zero, suc, ◌≤◌, List, [], ◌∷◌, ◌++◌, length, take, drop, Bool, true, false, cond, Option, Some, None, option_and_then, refl, sym, ap, ◌∙◌, arith}
 use Rattle.std.specs.Prelude.{not, ◌≢◌, ◌==◌, ◌||◌, ◌&&◌, nat_le, IsTrue}
 use Rattle.std.specs.Char.{is_ascii_alphanumeric}
 use Rattle.std.specs.Int.{is_in_range}
 use Rattle.std.specs.List.{list_all}
 use Rattle.std.proofs.lemmas.Bool.Decides.{nat_tests}
 use Rattle.filter_rule.specs.Tokens.{Lexeme, word, name, quoted, mark, is_blank, is_word_byte, is_mark, IsWritten, EndsAt, AreBlanks, Begins, after_blanks, front_len, up_to, name_at, quoted_at, front_token, token_at, begins_in_word}
-use Rattle.filter_rule.proofs.SpanLaws.{all_parts, span_len, begins, cut_at, front_is_span, span_all, span_stops, span_of_run, up_to_is_cut, cut_of_run, parts_of_cut, IsCut}
+use Rattle.filter_rule.proofs.SpanLaws.{all_parts, span_len, begins, front_is_span, span_all, span_stops, span_of_run, up_to_is_cut, cut_of_run, parts_of_cut, IsCut}
 
 -- ---- what is written is read
 

@@ -1,6 +1,6 @@
 -- The forms of a filter's text (this profile, after the Vitess filter rules): nothing, a key range, or a
 -- `select * from` its table with or without an `in_keyrange`. Key words are in any case.
-use Rattle.std.specs.Prelude.{◌≡◌, ◌≢◌, ℕ, ◌==◌, ◌⊎◌, List, [], ◌∷◌, length, map, Bool, false, Option, Some, None, codes, is_some, if◌then◌else◌}
+use Rattle.std.specs.Prelude.{◌≡◌, ◌≢◌, ℕ, ◌==◌, List, [], ◌∷◌, length, Bool, false, Option, Some, None, codes, is_some, if◌then◌else◌}
 use Rattle.std.specs.Str.{str_eq_ignore_ascii_case}
 use Rattle.filter_rule.specs.Tokens.{◌>>=◌, Lexeme, word, name, quoted, mark, Spells, token_at, after_blanks}
 

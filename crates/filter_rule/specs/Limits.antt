@@ -1,5 +1,5 @@
 -- How many there may be of each (this profile's limits).
-use Rattle.std.specs.Prelude.{ℕ, ◌&&◌, nat_le, List, length, Bool, Result, Ok, Err, if◌then◌else◌}
+use Rattle.std.specs.Prelude.{ℕ, ◌&&◌, nat_le, length, Bool, Result, Ok, Err, if◌then◌else◌}
 use Rattle.std.specs.List.{list_all}
 use Rattle.filter_rule.specs.Faults.{Fault, limit}
 use Rattle.filter_rule.specs.Document.{TableSaid, DocumentSaid}

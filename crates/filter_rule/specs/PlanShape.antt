@@ -1,5 +1,5 @@
 -- What is true of every plan.
-use Rattle.std.specs.Prelude.{◌≡◌, ℕ, ◌<◌, ◌≤◌, List, Option, Some, length, slice_get, IfSome}
+use Rattle.std.specs.Prelude.{◌≡◌, ℕ, ◌<◌, ◌≤◌, List, Some, length, slice_get, IfSome}
 use Rattle.std.specs.List.{AllByRecursion}
 use Rattle.filter_rule.specs.PlanTable.{TableValue}
 use Rattle.filter_rule.specs.PlanValue.{PlanValue}

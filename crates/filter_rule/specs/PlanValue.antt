@@ -1,12 +1,11 @@
 -- What a plan means: its tables, and for each of them which rows of one stream are kept. Two plans are
 -- the same exactly where these values are equal (this profile, after the Vitess filter rules).
-use Rattle.std.specs.Prelude.{◌≡◌, ℕ, ◌<◌, ◌≤◌, List, Bool, true, false, Option, Some, None, Result, Ok, Err, length, map, position, slice_get, slice_index_or, [], ◌∷◌}
+use Rattle.std.specs.Prelude.{ℕ, List, Bool, true, false, Option, None, Result, Ok, Err, position, slice_get, slice_index_or, []}
 use Rattle.std.specs.Option.{option_map_or}
 use Rattle.std.specs.Str.{bytes_eq}
 use Rattle.vindex.specs.Bounds.{Bounds, in_range}
 use Rattle.vindex.specs.KeyspaceId.{id_of}
 use Rattle.vindex.specs.declared.faults.VindexFault.{VindexFault}
-use Rattle.vindex.specs.declared.vindexes.Vindex.{Vindex}
 use Rattle.filter_rule.specs.PlanTable.{ColumnValue, TableValue}
 use Rattle.filter_rule.specs.declared.decision.Decision.{Decision}
 use Rattle.filter_rule.specs.declared.decision.Decision.TheVariants.{NoRule, EveryRow, InRange}

@@ -1,5 +1,5 @@
 -- Plans that share the rows of a table among them by key ranges under one vindex.
-use Rattle.std.specs.Prelude.{◌≡◌, ◌≢◌, ℕ, List, Option, Some, Result, Ok, Bool, true, false, map, slice_get}
+use Rattle.std.specs.Prelude.{◌≡◌, ◌≢◌, ℕ, List, Option, Some, Ok, true, false, map, slice_get}
 use Rattle.vindex.specs.Bounds.{Bounds}
 use Rattle.vindex.specs.KeyspaceId.{id_of}
 use Rattle.vindex.specs.Tiling.{SplitsAllIds}

@@ -1,5 +1,5 @@
 -- The tokens of a filter's text (this profile): key words and plain names are words, and any name may stand between backquotes.
-use Rattle.std.specs.Prelude.{◌≡◌, ◌≢◌, ℕ, ◌+◌, ◌==◌, ◌||◌, ◌++◌, List, [], ◌∷◌, length, take, drop, Bool, true, false, not, Option, Some, None, option_and_then, option_map, IsTrue, position, unwrap_or, if◌then◌else◌}
+use Rattle.std.specs.Prelude.{◌≡◌, ◌≢◌, ℕ, ◌+◌, ◌==◌, ◌||◌, ◌++◌, List, [], ◌∷◌, length, take, drop, Bool, false, not, Option, Some, None, option_and_then, option_map, IsTrue, position, unwrap_or, if◌then◌else◌}
 use Rattle.std.specs.Char.{is_ascii_alphanumeric}
 use Rattle.std.specs.List.{list_all}
 

@@ -109,7 +109,8 @@ impl Plan {
     /// then stands in place of what would have been found later.
     pub fn read_all(alloc: Global, text: &[u8]) -> Result<Vec<Arc<Plan>>, PlanFault>
         ensures reads { Gives (λ v. map arc_value v.items) result (plans_of text.now) }
-        // A text that is no JSON is refused as such, unless memory ran out.
+        // A text is refused as no JSON exactly where it is none, unless memory ran out.
+        ensures no_json { result ≡ Err PlanFault.Json → IsNoJson text.now }
         ensures json { IsNoJson text.now → IsErrAnd result (λ fault. (fault ≡ PlanFault.Json) ⊎ (fault ≡ PlanFault.Memory)) }
         // The first rule of a stream that matches a table decides it.
         ensures first_rule { IfOk result (λ v. FollowFirstRules text.now (map arc_value v.items)) }

@@ -3,7 +3,7 @@ use Rattle.std.specs.Option.{option_map}
 use Rattle.serde_json.specs.Data.{Data, Items}
 use Rattle.serde_json.specs.View.{view}
 use Rattle.filter_rule.specs.Faults.{Fault}
-use Rattle.filter_rule.specs.Document.{listed, found, list_of}
+use Rattle.filter_rule.specs.Document.{listed, found}
 use Rattle.filter_rule.proofs.JsonLaws.{listed_items}
 use Rattle.filter_rule.proofs.json.list.Goals as goal
 

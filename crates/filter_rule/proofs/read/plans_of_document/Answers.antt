@@ -1,4 +1,4 @@
-use Rattle.std.proofs.Common.{◌≡◌, subst, sym, ap, ◌∙◌}
+use Rattle.std.proofs.Common.{subst, sym, ap, ◌∙◌}
 use Rattle.filter_rule.specs.Document.{DocumentSaid}
 use Rattle.filter_rule.specs.PlanShape.{AreTables}
 use Rattle.filter_rule.specs.declared.plan.Schema.{Schema}

@@ -1,8 +1,8 @@
-use Rattle.std.proofs.Common.{◌≡◌, ℕ, ◌+◌, length, take, drop, rules, arith, sym, ap, ◌∙◌}
+use Rattle.std.proofs.Common.{◌≡◌, ◌+◌, length, drop, arith, ap, ◌∙◌}
 use Rattle.std.proofs.lemmas.Result.{err_from_is_err_and}
 use Rattle.filter_rule.specs.Reading.{rule_over, settle_all, decisions_of}
 use Rattle.filter_rule.proofs.EachLaws.{fails_along}
-use Rattle.filter_rule.proofs.StreamLaws.{rules_turn, rules_fault, rules_end, written_back, length_undecided}
+use Rattle.filter_rule.proofs.StreamLaws.{rules_turn, rules_fault, rules_end, written_back}
 use Rattle.filter_rule.proofs.streams.decisions_of.Goals as goal
 
 pub returns-in_err-take_rule : goal.returns-in_err-take_rule

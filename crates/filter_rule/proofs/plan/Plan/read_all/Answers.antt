@@ -1,4 +1,4 @@
-use Rattle.filter_rule.proofs.ReadLaws.{first_of, json_only}
+use Rattle.filter_rule.proofs.ReadLaws.{first_of, json_only, json_is_none}
 use Rattle.filter_rule.proofs.plan.Plan.read_all.Goals as goal
 
 pub returns-clause-json : goal.returns-clause-json
@@ -6,3 +6,6 @@ returns-clause-json c = λ none. json_only c.args.text.now c.plans_of.result c.p
 
 pub returns-clause-first_rule : goal.returns-clause-first_rule
 returns-clause-first_rule c = first_of c.args.text.now c.plans_of.result c.plans_of.ensures
+
+pub returns-clause-no_json : goal.returns-clause-no_json
+returns-clause-no_json c = λ is. json_is_none c.args.text.now c.plans_of.result c.plans_of.ensures is
