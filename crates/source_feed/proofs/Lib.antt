@@ -6,3 +6,4 @@ pub mod RunLaws
 pub mod Messages
 pub mod EachGroup
 pub mod GrammarLaws
+pub mod FirstFaultLaws

@@ -16,7 +16,7 @@ use Rattle.source_feed.specs.Groups.{fault_at, first_fault, or_fault, closed, gr
 use Rattle.source_feed.specs.Run.{unless, run, finish}
 
 -- an option is nothing or something
-option_cases : {A : Type 0} (o : Option A) → (o ≡ None) ⊎ ((x : A) × (o ≡ Some x))
+pub option_cases : {A : Type 0} (o : Option A) → (o ≡ None) ⊎ ((x : A) × (o ≡ Some x))
 option_cases None = inl refl
 option_cases (Some x) = inr (x, refl)
 

@@ -11,3 +11,4 @@ pub mod BlockEnd
 pub mod Means
 pub mod Planned
 pub mod Agreement
+pub mod FirstFault

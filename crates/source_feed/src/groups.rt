@@ -6,6 +6,7 @@ ghost use Rattle.source_feed.specs.FaultNumber.{Gives, Refuses};
 ghost use Rattle.source_feed.specs.EventList.{end_of_message, events_of};
 ghost use Rattle.source_feed.specs.History.{History};
 ghost use Rattle.source_feed.specs.Groups.{groups};
+ghost use Rattle.source_feed.specs.FirstFault.{StandsIn, UnlessMemory};
 ghost use Rattle.source_feed.specs.Run.{run};
 ghost use Rattle.source_feed.specs.Means.{Means, Runs};
 
@@ -53,6 +54,23 @@ fn put_feed<'h>(alloc: Global, source: &Source<'_>, feed: &'h [u8]) -> Result<Pa
     Ok(pass)
 }
 
+/// The groups of a feed, or its fault.
+fn read<'h>(
+    alloc: Global,
+    feed: &'h [u8],
+    keyspace: &str,
+    shard: &str,
+) -> Result<Vec<Group<'h>>, FeedFault>
+    ensures { Gives (λ all. all.items) result (groups feed.now (record { keyspace = keyspace.now; shard = shard.now })) }
+{
+    if feed.len() > FEED_BYTES {
+        return Err(FeedFault::FeedTooLong);
+    }
+    let source = Source { keyspace, shard };
+    let pass = put_feed(alloc, &source, feed)?;
+    pass.end()
+}
+
 /// The groups of a feed that was recorded from a shard: the changes that are applied together, each
 /// with the source's position after it, numbered from 1. A group whose position was seen is a repeat
 /// and is skipped. Takes time linear in the feed, and copies nothing of it.
@@ -68,12 +86,10 @@ pub fn read_groups<'h>(
     keyspace: &str,
     shard: &str,
 ) -> Result<Vec<Group<'h>>, FeedFault>
+    // The groups are given exactly where they are defined, and else the fault.
     ensures exact { Gives (λ all. all.items) result (groups feed.now (record { keyspace = keyspace.now; shard = shard.now })) }
+    // What a refusal says stands in the feed, and nothing is at fault before it.
+    ensures first { IfErr result (λ fault. UnlessMemory fault (StandsIn feed.now (record { keyspace = keyspace.now; shard = shard.now }) fault)) }
 {
-    if feed.len() > FEED_BYTES {
-        return Err(FeedFault::FeedTooLong);
-    }
-    let source = Source { keyspace, shard };
-    let pass = put_feed(alloc, &source, feed)?;
-    pass.end()
+    read(alloc, feed, keyspace, shard)
 }

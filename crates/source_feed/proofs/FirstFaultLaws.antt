@@ -1,0 +1,115 @@
+-- What stands in a feed whose groups aren't defined.
+use Rattle.std.proofs.Common.{◌≡◌, ℕ, ◌^◌, nat_lt, length, List, [], ◌∷◌, ◌++◌, ◌⊎◌, reverse, None, Some, Result, Ok, Err, IfErr, refl, sym, ◌∙◌, ap, inl, inr, append_assoc}
+use Rattle.std.proofs.lemmas.Bool.{cases_Bool, cond-true, cond-false, ltb-true, ltb-false}
+use Rattle.std.proofs.lemmas.List.{reverse-append, reverse-reverse}
+use mathlib.Core.List.{reverse-cons}
+use Rattle.proto_wire.specs.Reading.{Reading}
+use Rattle.vevent.specs.EventValue.{EventValue}
+use Rattle.source_feed.specs.declared.fault.FeedFault.{FeedFault}
+use Rattle.source_feed.specs.declared.fault.FeedFault.TheVariants.{FeedTooLong, OpenAtEnd, Memory}
+use Rattle.source_feed.specs.FaultNumber.{Gives, Refuses}
+use Rattle.source_feed.specs.GroupValue.{GroupValue}
+use Rattle.source_feed.specs.SourceValue.{SourceValue}
+use Rattle.source_feed.specs.EventList.{events_of}
+use Rattle.source_feed.specs.History.{History, is_open}
+use Rattle.source_feed.specs.Groups.{first_fault, fault_at, or_fault, closed, groups_in, groups_of, groups}
+use Rattle.source_feed.specs.FirstFault.{AtEvent, AtEnd, StandsIn, UnlessMemory}
+use Rattle.source_feed.proofs.RunLaws.{option_cases}
+
+same_some : {A : Type 0} (x y : A) → Some x ≡ Some y → x ≡ y
+same_some x y e = cc
+
+abbrev refused : FeedFault → Result (List GroupValue) FeedFault
+refused fault = Err fault
+
+same_err : (x y : FeedFault) → refused x ≡ refused y → x ≡ y
+same_err x y e = cc
+
+-- the place of the first fault in a history
+record Place (source : SourceValue) (history : History) (fault : FeedFault) : Type 0 where
+  later : List EventValue
+  event : EventValue
+  earlier : History
+  split : history ≡ later ++ event ∷ earlier
+  before : first_fault source earlier ≡ None
+  here : fault_at source earlier event ≡ Some fault
+
+place_of : (source : SourceValue) (history : History) (fault : FeedFault) → first_fault source history ≡ Some fault → Place source history fault
+place_of source [] fault e = cc
+place_of source (event ∷ earlier) fault e =
+    elim (option_cases (first_fault source earlier)) [
+      | inl none ↦ record {
+        later = [];
+        event = event;
+        earlier = earlier;
+        split = refl;
+        before = none;
+        here = sym (ap (λ first. or_fault first (fault_at source earlier event)) none) ∙ e;
+      }
+      | inr some ↦
+          let same : some.0 ≡ fault = same_some some.0 fault (sym (ap (λ first. or_fault first (fault_at source earlier event)) some.1) ∙ e) in
+          let p : Place source earlier fault = place_of source earlier fault (some.1 ∙ ap (λ f. Some f) same) in
+          record { later = event ∷ p.later; event = p.event; earlier = p.earlier; split = ap (λ h. event ∷ h) p.split; before = p.before; here = p.here }
+    ]
+
+at_event : (source : SourceValue) (events : List EventValue) (fault : FeedFault) → first_fault source (reverse events) ≡ Some fault → AtEvent source events fault
+at_event source events fault e =
+    let p : Place source (reverse events) fault = place_of source (reverse events) fault e in
+    record {
+      earlier = p.earlier;
+      event = p.event;
+      behind = reverse p.later;
+      split = sym (reverse-reverse events) ∙ ap reverse p.split ∙ reverse-append p.later (p.event ∷ p.earlier)
+          ∙ ap (λ front. front ++ reverse p.later) (reverse-cons p.event p.earlier)
+          ∙ append_assoc (reverse p.earlier) (p.event ∷ []) (reverse p.later);
+      before = p.before;
+      here = p.here;
+    }
+
+stands_in_events : (source : SourceValue) (events : Reading EventValue FeedFault) (fault : FeedFault) → groups_in source events ≡ Err fault
+    → AtEvent source events.items fault ⊎ AtEnd source events fault
+stands_in_events source events fault e =
+    elim (option_cases (first_fault source (reverse events.items))) [
+      | inr some ↦
+          let at : closed source (reverse events.items) (Some some.0) ≡ Err fault = sym (ap (λ first. closed source (reverse events.items) (or_fault first events.fault)) some.1) ∙ e in
+          let same : some.0 ≡ fault = same_err some.0 fault at in
+          inl (at_event source events.items fault (some.1 ∙ ap (λ f. Some f) same))
+      | inl none ↦
+          let at : closed source (reverse events.items) events.fault ≡ Err fault = sym (ap (λ first. closed source (reverse events.items) (or_fault first events.fault)) none) ∙ e in
+          elim (option_cases events.fault) [
+            | inr some ↦
+                let end : closed source (reverse events.items) (Some some.0) ≡ Err fault = sym (ap (closed source (reverse events.items)) some.1) ∙ at in
+                inr (record { before = none; here = inl (some.1 ∙ ap (λ f. Some f) (same_err some.0 fault end)) })
+            | inl whole ↦
+                let end : closed source (reverse events.items) None ≡ Err fault = sym (ap (closed source (reverse events.items)) whole) ∙ at in
+                elim (cases_Bool (is_open (reverse events.items))) [
+                  | inl opened ↦
+                      let last : refused OpenAtEnd ≡ refused fault = sym (cond-true (is_open (reverse events.items)) (Err OpenAtEnd) (Ok (groups_of source (reverse events.items))) opened) ∙ end in
+                      inr (record { before = none; here = inr (whole, opened, sym (same_err OpenAtEnd fault last)) })
+                  | inr shut ↦
+                      let last : Ok (groups_of source (reverse events.items)) ≡ Err fault = sym (cond-false (is_open (reverse events.items)) (Err OpenAtEnd) (Ok (groups_of source (reverse events.items))) shut) ∙ end in
+                      cc
+                ]
+          ]
+    ]
+
+stands : (feed : List ℕ) (source : SourceValue) (fault : FeedFault) → groups feed source ≡ Err fault → StandsIn feed source fault
+stands feed source fault e =
+    elim (cases_Bool (nat_lt (length feed) (2 ^ 31))) [
+      | inl short ↦
+          let at : groups_in source (events_of feed) ≡ Err fault = sym (cond-true (nat_lt (length feed) (2 ^ 31)) (groups_in source (events_of feed)) (Err FeedTooLong) short) ∙ e in
+          inr (ltb-true (length feed) (2 ^ 31) short, stands_in_events source (events_of feed) fault at)
+      | inr long ↦
+          let at : refused FeedTooLong ≡ refused fault = sym (cond-false (nat_lt (length feed) (2 ^ 31)) (groups_in source (events_of feed)) (Err FeedTooLong) long) ∙ e in
+          inl (sym (same_err FeedTooLong fault at), ltb-false (length feed) (2 ^ 31) long)
+    ]
+
+unless_memory : (feed : List ℕ) (source : SourceValue) (fault : FeedFault) → Refuses fault (groups feed source) → UnlessMemory fault (StandsIn feed source fault)
+unless_memory feed source Memory r = tt
+unless_memory feed source fault r = stands feed source fault r
+
+-- where the groups are given exactly, a refusal says what stands in the feed
+pub refusal_stands : {X : Type 0} (view : X → List GroupValue) (feed : List ℕ) (source : SourceValue) (result : Result X FeedFault)
+    → Gives view result (groups feed source) → IfErr result (λ fault. UnlessMemory fault (StandsIn feed source fault))
+refusal_stands view feed source (Ok x) g = tt
+refusal_stands view feed source (Err fault) g = unless_memory feed source fault g

@@ -1,0 +1,34 @@
+-- What stands in a feed that is refused, said of the whole list of its events.
+use Rattle.std.specs.Prelude.{◌≡◌, ℕ, ◌^◌, ◌<◌, ◌≤◌, List, ◌∷◌, ◌++◌, ◌⊎◌, length, reverse, true, Some, None}
+use Rattle.proto_wire.specs.Reading.{Reading}
+use Rattle.vevent.specs.EventValue.{EventValue}
+use Rattle.source_feed.specs.declared.fault.FeedFault.{FeedFault}
+use Rattle.source_feed.specs.declared.fault.FeedFault.TheVariants.{FeedTooLong, OpenAtEnd, Memory}
+use Rattle.source_feed.specs.SourceValue.{SourceValue}
+use Rattle.source_feed.specs.EventList.{events_of}
+use Rattle.source_feed.specs.History.{History, is_open}
+use Rattle.source_feed.specs.Groups.{first_fault, fault_at}
+
+-- an event has the fault, and none of the events before it has one
+pub record AtEvent (source : SourceValue) (events : List EventValue) (fault : FeedFault) : Type 0 where
+  pub earlier : History
+  pub event : EventValue
+  pub behind : List EventValue
+  pub split : events ≡ reverse earlier ++ event ∷ behind
+  pub before : first_fault source earlier ≡ None
+  pub here : fault_at source earlier event ≡ Some fault
+
+-- no event has a fault, and the events end by it: a broken message, or what is no event; or they end
+-- inside a transaction
+pub record AtEnd (source : SourceValue) (events : Reading EventValue FeedFault) (fault : FeedFault) : Type 0 where
+  pub before : first_fault source (reverse events.items) ≡ None
+  pub here : (events.fault ≡ Some fault) ⊎ ((events.fault ≡ None) × (is_open (reverse events.items) ≡ true) × (fault ≡ OpenAtEnd))
+
+abbrev pub StandsIn : List ℕ → SourceValue → FeedFault → Type 0
+StandsIn feed source fault = ((fault ≡ FeedTooLong) × (2 ^ 31 ≤ length feed))
+    ⊎ ((length feed < 2 ^ 31) × (AtEvent source (events_of feed).items fault ⊎ AtEnd source (events_of feed) fault))
+
+-- a fact of a fault that isn't want of memory
+abbrev pub UnlessMemory : FeedFault → Type 0 → Type 0
+UnlessMemory Memory fact = Unit {0}
+UnlessMemory fault fact = fact
