@@ -280,3 +280,128 @@ fn in_keyrange_any_case(rt: HostRuntime) -> Result<(), Fail> {
     }
     Ok(())
 }
+
+// Numbered names, each between `open` and `close`, parted by commas.
+fn listed(alloc: Global, count: usize, open: &str, close: &str) -> Result<String, Fail> {
+    let mut text = String::new(alloc);
+    for number in 0..count {
+        let comma = if number == 0 { "" } else { "," };
+        let item = format!(in alloc; "{comma}{open}c{number}{close}")?;
+        text.push_str(item.as_str())?;
+    }
+    Ok(text)
+}
+
+// The refusal's number of a file with so many streams, tables, columns and key columns.
+fn number_of_counts(alloc: Global, counts: [usize; 4]) -> Result<u8, Fail> {
+    let [streams, tables, columns, keys] = counts;
+    let columns = listed(alloc, columns, "[\"", "\",265]")?;
+    let keys = listed(alloc, keys, "\"", "\"")?;
+    let close = format!(in alloc; "\",\"columns\":[{columns}],\"key\":[{keys}]}}")?;
+    let tables = listed(alloc, tables, "{\"name\":\"", close.as_str())?;
+    let streams = listed(
+        alloc,
+        streams,
+        "{\"shard\":\"",
+        "\",\"filter\":{\"rules\":[]}}",
+    )?;
+    let text = format!(in alloc;
+        "{{\"keyspace\":\"\",\"tables\":[{tables}],\"streams\":[{streams}]}}"
+    )?;
+    Ok(number_of(alloc, text.as_str()))
+}
+
+#[test]
+fn count_out_of_limits(rt: HostRuntime) -> Result<(), Fail> {
+    let alloc = rt.alloc();
+    for (counts, number) in [
+        // streams_limit
+        ([1, 1, 1, 1], 0),
+        ([64, 1, 1, 1], 0),
+        ([0, 1, 1, 1], 56),
+        ([65, 1, 1, 1], 56),
+        // tables_limit
+        ([1, 64, 1, 1], 0),
+        ([1, 0, 1, 1], 56),
+        ([1, 65, 1, 1], 56),
+        // columns_limit
+        ([1, 1, 256, 1], 0),
+        ([1, 1, 0, 1], 56),
+        ([1, 1, 257, 1], 56),
+        // key_columns_limit
+        ([1, 1, 9, 8], 0),
+        ([1, 1, 9, 0], 56),
+        ([1, 1, 9, 9], 56),
+    ] {
+        assert_eq!(rt; number_of_counts(alloc, counts)?, number, "{counts:?}");
+    }
+    Ok(())
+}
+
+#[test]
+fn name_limit(rt: HostRuntime) -> Result<(), Fail> {
+    let alloc = rt.alloc();
+    let mut longest = String::new(alloc);
+    for _ in 0..256 {
+        longest.push_str("n")?;
+    }
+    let longer = format!(in alloc; "{longest}n")?;
+    for (name, number) in [
+        ("n", 0),
+        (" ", 0),
+        (longest.as_str(), 0),
+        ("", 52),
+        (longer.as_str(), 52),
+        ("\\u001f", 52),
+        ("\\u007f", 52),
+    ] {
+        let columns = format!(in alloc; "[[\"{name}\",265]]")?;
+        let key = format!(in alloc; "[\"{name}\"]")?;
+        let text = workflow(alloc, columns.as_str(), key.as_str(), "", EVERY_ROW)?;
+        assert_eq!(rt; number_of(alloc, text.as_str()), number, "{name}");
+    }
+    Ok(())
+}
+
+#[test]
+fn wrong_shape(rt: HostRuntime) {
+    let alloc = rt.alloc();
+    for text in [
+        // an absent key, at each level
+        "{\"tables\":[],\"streams\":[]}",
+        "{\"keyspace\":\"\",\"streams\":[]}",
+        "{\"keyspace\":\"\",\"tables\":[]}",
+        "{\"keyspace\":\"\",\"tables\":[{\"columns\":[],\"key\":[]}],\"streams\":[]}",
+        "{\"keyspace\":\"\",\"tables\":[{\"name\":\"t\",\"key\":[]}],\"streams\":[]}",
+        "{\"keyspace\":\"\",\"tables\":[{\"name\":\"t\",\"columns\":[]}],\"streams\":[]}",
+        "{\"keyspace\":\"\",\"tables\":[],\"streams\":[{\"filter\":{\"rules\":[]}}]}",
+        "{\"keyspace\":\"\",\"tables\":[],\"streams\":[{\"shard\":\"\"}]}",
+        "{\"keyspace\":\"\",\"tables\":[],\"streams\":[{\"shard\":\"\",\"filter\":{}}]}",
+        // another kind
+        "{\"keyspace\":1,\"tables\":[],\"streams\":[]}",
+        "{\"keyspace\":\"\",\"tables\":{},\"streams\":[]}",
+        "{\"keyspace\":\"\",\"tables\":[[]],\"streams\":[]}",
+        "{\"keyspace\":\"\",\"tables\":[],\"streams\":[\"-\"]}",
+        // two tables, or two shards, of one name
+        "{\"keyspace\":\"\",\"tables\":[{\"name\":\"t\",\"columns\":[],\"key\":[]},{\"name\":\"t\",\"columns\":[],\"key\":[]}],\"streams\":[]}",
+        "{\"keyspace\":\"\",\"tables\":[],\"streams\":[{\"shard\":\"-\",\"filter\":{\"rules\":[]}},{\"shard\":\"-\",\"filter\":{\"rules\":[]}}]}",
+    ] {
+        assert_eq!(rt; number_of(alloc, text), 52, "{text}");
+    }
+}
+
+#[test]
+fn not_json(rt: HostRuntime) {
+    let alloc = rt.alloc();
+    for text in [
+        b"".as_slice(),
+        b"{\"keyspace\":\"\",}".as_slice(),
+        b"{\"ignored\":\"\xff\"}".as_slice(),
+    ] {
+        let number = match Plan::read_all(alloc, text) {
+            Ok(_) => 0,
+            Err(fault) => fault.number(),
+        };
+        assert_eq!(rt; number, 51);
+    }
+}

@@ -47,11 +47,11 @@ fn inserts_the_row(change: &Change<'_>) -> bool {
     }
 }
 
-/// The number of groups and of changes, or the refusal's number.
-fn opened(alloc: Global, workflow: &[u8]) -> Result<(usize, usize), u8> {
+/// The number of groups and of changes of a feed, or the refusal's number.
+fn opened(alloc: Global, workflow: &[u8], feed: &[u8]) -> Result<(usize, usize), u8> {
     let plans = Plan::read_all(alloc, workflow).map_err(|fault| fault.number())?;
     let plan = plans.first().ok_or(0u8)?;
-    let feed = Feed::open(alloc, ONE_ROW, plan).map_err(|fault| fault.number())?;
+    let feed = Feed::open(alloc, feed, plan).map_err(|fault| fault.number())?;
     let changes = match feed.groups().first() {
         None => 0,
         Some(group) => group.changes().len(),
@@ -77,15 +77,39 @@ fn one_inserted_row_is_a_group(rt: HostRuntime) -> Result<(), Fail> {
 
 #[test]
 fn feed_opens_under_its_plan(rt: HostRuntime) {
-    assert_eq!(rt; opened(rt.alloc(), WORKFLOW), Ok((1, 1)));
+    assert_eq!(rt; opened(rt.alloc(), WORKFLOW, ONE_ROW), Ok((1, 1)));
 }
 
 #[test]
 fn column_type_differs(rt: HostRuntime) {
-    assert_eq!(rt; opened(rt.alloc(), WORKFLOW_WITH_TEXT), Err(85));
+    assert_eq!(rt; opened(rt.alloc(), WORKFLOW_WITH_TEXT, ONE_ROW), Err(85));
 }
 
 #[test]
 fn changes_of_other_tables_are_dropped(rt: HostRuntime) {
-    assert_eq!(rt; opened(rt.alloc(), WORKFLOW_OF_ANOTHER_TABLE), Ok((1, 0)));
+    assert_eq!(rt;
+        opened(rt.alloc(), WORKFLOW_OF_ANOTHER_TABLE, ONE_ROW),
+        Ok((1, 0))
+    );
+}
+
+#[test]
+fn every_planned_field_checked(rt: HostRuntime) {
+    for feed in [
+        // rolled back
+        b"\x22\x0a\x02\x08\x02\x0a\x18\x08\x0d\x32\x14\x0a\x01\x74\x12\x07\x0a\x02\x69\x64\x10\x89\x02\x12\x06\x0a\x01\x76\x10\x93\x30\x0a\x02\x08\x04".as_slice(),
+        // outside, one column fewer
+        b"\x12\x0a\x10\x08\x0d\x32\x0c\x0a\x01\x74\x12\x07\x0a\x02\x69\x64\x10\x89\x02".as_slice(),
+        // in another order
+        b"\x1a\x0a\x18\x08\x0d\x32\x14\x0a\x01\x74\x12\x06\x0a\x01\x76\x10\x95\x30\x12\x07\x0a\x02\x69\x64\x10\x89\x02".as_slice(),
+        // another name
+        b"\x1a\x0a\x18\x08\x0d\x32\x14\x0a\x01\x74\x12\x07\x0a\x02\x69\x64\x10\x89\x02\x12\x06\x0a\x01\x77\x10\x95\x30".as_slice(),
+        // behind a good one
+        b"\x34\x0a\x18\x08\x0d\x32\x14\x0a\x01\x74\x12\x07\x0a\x02\x69\x64\x10\x89\x02\x12\x06\x0a\x01\x76\x10\x95\x30\x0a\x18\x08\x0d\x32\x14\x0a\x01\x74\x12\x07\x0a\x02\x69\x64\x10\x89\x02\x12\x06\x0a\x01\x76\x10\x93\x30".as_slice(),
+        // in a repeat
+        b"\x7a\x0a\x2a\x08\x01\x1a\x26\x33\x65\x31\x31\x66\x61\x34\x37\x2d\x37\x31\x63\x61\x2d\x31\x31\x65\x31\x2d\x39\x65\x33\x33\x2d\x63\x38\x30\x61\x61\x39\x34\x32\x39\x35\x36\x32\x3a\x31\x0a\x02\x08\x02\x0a\x18\x08\x0d\x32\x14\x0a\x01\x74\x12\x07\x0a\x02\x69\x64\x10\x89\x02\x12\x06\x0a\x01\x76\x10\x93\x30\x0a\x2a\x08\x01\x1a\x26\x33\x65\x31\x31\x66\x61\x34\x37\x2d\x37\x31\x63\x61\x2d\x31\x31\x65\x31\x2d\x39\x65\x33\x33\x2d\x63\x38\x30\x61\x61\x39\x34\x32\x39\x35\x36\x32\x3a\x31\x0a\x02\x08\x03".as_slice(),
+    ] {
+        assert_eq!(rt; opened(rt.alloc(), WORKFLOW, feed), Err(85));
+        assert!(rt; opened(rt.alloc(), WORKFLOW_OF_ANOTHER_TABLE, feed).is_ok());
+    }
 }

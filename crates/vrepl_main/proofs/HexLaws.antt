@@ -3,7 +3,7 @@ use Rattle.std.proofs.Common.{◌≡◌, ◌∙◌, ap, sym, ℕ, ◌+◌, ◌*�
 use Rattle.std.proofs.lemmas.List.{append-nil, drop_more}
 use Rattle.std.specs.Prelude.{Option, Some, None}
 use Rattle.std.specs.Option.{option_map}
-use Rattle.vrepl_main.specs.Hex.{digit_of, digits_of, hex_bytes, is_skipped, joined, paired}
+use Rattle.vrepl_main.specs.HexText.{digit_of, digits_of, hex_bytes, is_skipped, joined, paired}
 
 -- the digit that waits for its second half
 abbrev pub waiting : Option ℕ → List (Option ℕ)

@@ -1,4 +1,4 @@
-pub mod Hex
+pub mod HexText
 pub mod Refusals
 pub mod Words
 pub mod Shown

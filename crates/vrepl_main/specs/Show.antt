@@ -6,7 +6,7 @@ use Rattle.source_feed.specs.SourceValue.{SourceValue}
 use Rattle.source_feed.specs.Groups.{groups}
 use Rattle.vrepl_main.specs.declared.refusal.Refusal.{Refusal}
 use Rattle.vrepl_main.specs.declared.refusal.Refusal.TheVariants.{Memory, Feed, BadHex}
-use Rattle.vrepl_main.specs.Hex.{hex_bytes}
+use Rattle.vrepl_main.specs.HexText.{hex_bytes}
 use Rattle.vrepl_main.specs.Shown.{shown}
 
 -- the bytes of a feed, which may be given as hexadecimal text

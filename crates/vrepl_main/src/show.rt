@@ -5,7 +5,7 @@ ghost use Rattle.std.specs.Io.KnownBytes.{Appends};
 ghost use Rattle.vrepl_main.specs.Show.{shown_bytes, shown_feed, Refuses};
 ghost use Rattle.vrepl_main.specs.declared.refusal.Refusal.{Refusal};
 
-use crate::hex::{HexFault, bytes_of_hex};
+use crate::hex_text::{HexFault, bytes_of_hex};
 use crate::output::write_whole;
 use crate::refusal::{Refusal, refuse};
 use crate::shown::text_of;

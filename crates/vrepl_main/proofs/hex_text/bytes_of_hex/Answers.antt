@@ -1,10 +1,10 @@
 use Rattle.std.proofs.Common.{◌≡◌, ◌∙◌, ℕ, ap, sym, ◌<◌, [], ◌∷◌, ◌++◌, length, get_or, drop, false}
 use Rattle.std.proofs.lemmas.List.{drop_all}
 use Rattle.std.specs.Prelude.{Option, Some, None}
-use Rattle.vrepl_main.specs.Hex.{digit_of, digits_of, is_skipped, paired}
+use Rattle.vrepl_main.specs.HexText.{digit_of, digits_of, is_skipped, paired}
 use Rattle.vrepl_main.proofs.HexLaws.{after, waiting, step-no_digit, step-high, step-low, end-whole, end-left_over}
-use Rattle.vrepl_main.proofs.hex.bytes_of_hex.Goals as goal
-use Rattle.vrepl_main.proofs.hex.bytes_of_hex.Goals.{in-None, in-Some-high+in_ok-push-in-Some-high}
+use Rattle.vrepl_main.proofs.hex_text.bytes_of_hex.Goals as goal
+use Rattle.vrepl_main.proofs.hex_text.bytes_of_hex.Goals.{in-None, in-Some-high+in_ok-push-in-Some-high}
 
 pub returns-in_default-clause-bad : goal.returns-in_default-clause-bad
 returns-in_default-clause-bad c =

@@ -1,8 +1,8 @@
 //! Hexadecimal text of feeds.
 
 ghost use Rattle.std.specs.Prelude.{◌≡◌, IfOk, IfSome, ◌<◌};
-ghost use Rattle.vrepl_main.specs.Hex.{digit_of, hex_bytes, is_skipped};
-ghost use Rattle.vrepl_main.specs.declared.hex.HexFault.TheVariants.{Memory};
+ghost use Rattle.vrepl_main.specs.HexText.{digit_of, hex_bytes, is_skipped};
+ghost use Rattle.vrepl_main.specs.declared.hex_text.HexFault.TheVariants.{Memory};
 
 use std::alloc::{AllocFailed, Global};
 

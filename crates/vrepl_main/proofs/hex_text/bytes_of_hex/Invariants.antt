@@ -1,8 +1,8 @@
 use Rattle.std.proofs.Common.{◌≡◌, ◌<◌, ◌++◌, drop}
 use Rattle.std.specs.Prelude.{IfSome}
-use Rattle.vrepl_main.specs.Hex.{digits_of, hex_bytes, paired}
+use Rattle.vrepl_main.specs.HexText.{digits_of, hex_bytes, paired}
 use Rattle.vrepl_main.proofs.HexLaws.{after, waiting}
-use Rattle.vrepl_main.proofs.hex.bytes_of_hex.Given as goal
+use Rattle.vrepl_main.proofs.hex_text.bytes_of_hex.Given as goal
 
 abbrev pub invariant-loop-character : goal.invariant-loop-character
 invariant-loop-character l =
