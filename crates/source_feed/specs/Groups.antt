@@ -63,6 +63,9 @@ has_width width (Some row) = length row == width
 abbrev pub fits : ℕ → ChangeValue → Bool
 fits width change = if has_width width change.before then has_width width change.after else false
 
+abbrev pub change_fault : ℕ → ChangeValue → Option FeedFault
+change_fault width change = if fits width change then None else Some ColumnCount
+
 -- the rows of a ROW event under the columns of its table's last FIELD
 abbrev pub row_fault : Option ℕ → List ChangeValue → Option FeedFault
 row_fault None changes = Some NoFields

@@ -1,7 +1,6 @@
 //! Groups of changes.
 
 ghost use Rattle.std.specs.Prelude.{◌≡◌, filter};
-ghost use Rattle.std.specs.Option.{option_copied};
 ghost use Rattle.source_feed.specs.GroupValue.{TableChangeValue, GroupValue};
 ghost use Rattle.source_feed.specs.Planned.{is_planned, planned_of};
 
@@ -9,14 +8,14 @@ use filter_rule::Plan;
 use gtid_set::GtidSet;
 use row_view::RowView;
 use std::marker::Model;
+use vevent::RowChange;
 
 /// A change of one row of a table. Nothing is copied: its name and its rows are slices of the feed's
-/// buffer.
+/// buffer, and a view of a row is made when it is asked for.
 #[derive(Drop)]
 pub struct Change<'h> {
     pub(crate) table: &'h str,
-    pub(crate) before: Option<RowView<'h>>,
-    pub(crate) after: Option<RowView<'h>>,
+    pub(crate) rows: RowChange<'h>,
 }
 
 impl<'h> Model for Change<'h> {
@@ -24,7 +23,7 @@ impl<'h> Model for Change<'h> {
 
     ghost Value = { TableChangeValue };
 
-    ghost view = { λ c. record { table = c.table.now; before = c.before; after = c.after } };
+    ghost view = { λ c. record { table = c.table.now; before = c.rows.before; after = c.rows.after } };
 }
 
 impl<'h> Change<'h> {
@@ -35,18 +34,18 @@ impl<'h> Change<'h> {
         self.table
     }
 
-    /// The row before the change, or `None` for an insert.
-    pub fn before(&self) -> Option<&RowView<'h>>
-        ensures { option_copied result ≡ self.now.before }
+    /// The row before the change, or `None` for an insert. The view is made anew.
+    pub fn before(&self) -> Option<RowView<'h>>
+        ensures { result ≡ self.now.before }
     {
-        self.before.as_ref()
+        self.rows.before()
     }
 
-    /// The row after the change, or `None` for a delete.
-    pub fn after(&self) -> Option<&RowView<'h>>
-        ensures { option_copied result ≡ self.now.after }
+    /// The row after the change, or `None` for a delete. The view is made anew.
+    pub fn after(&self) -> Option<RowView<'h>>
+        ensures { result ≡ self.now.after }
     {
-        self.after.as_ref()
+        self.rows.after()
     }
 }
 

@@ -1,17 +1,16 @@
 //! One pass over the events of a feed.
 
-ghost use Rattle.std.specs.Prelude.{◌≡◌, ℕ, List, Option, ◌+◌, ◌^◌, ◌<◌, ◌≤◌, ◌++◌, [], Some, None, Ok, OnOk, IfErr, length};
+ghost use Rattle.std.specs.Prelude.{◌≡◌, ℕ, true, List, Option, ◌+◌, ◌^◌, ◌<◌, ◌≤◌, ◌++◌, [], Some, None, Ok, OnOk, IfErr, length};
 ghost use Rattle.std.specs.Option.{option_map};
-ghost use Rattle.std.specs.List.{list_all};
 ghost use Rattle.vevent.specs.EventValue as value;
 ghost use Rattle.vevent.specs.EventValue.{ShardGtidValue};
 ghost use Rattle.source_feed.specs.SourceValue.{SourceValue, own_gtid};
 ghost use Rattle.source_feed.specs.BlockEnd.{last_position, block_end};
 ghost use Rattle.source_feed.specs.FaultNumber.{Gives, IsFault};
-ghost use Rattle.source_feed.specs.History.{History, changes_in};
+ghost use Rattle.source_feed.specs.History.{History, change_in, changes_in};
 ghost use Rattle.source_feed.specs.Run.{finish};
 ghost use Rattle.source_feed.specs.Widths.{counted};
-ghost use Rattle.source_feed.specs.Groups.{has_width, fits, row_fault};
+ghost use Rattle.source_feed.specs.Groups.{has_width, fits, change_fault, row_fault};
 
 use crate::fault::FeedFault;
 use crate::group::{Change, Group};
@@ -19,8 +18,8 @@ use crate::source::Source;
 use crate::widths::Widths;
 use gtid_set::GtidSet;
 use row_view::RowView;
-use std::alloc::{AllocError, Global};
-use vevent::{ColumnFields, Event, FieldEvent, RowChanges, RowEvent};
+use std::alloc::Global;
+use vevent::{ColumnFields, Event, FieldEvent, RowChange, RowChanges, RowEvent};
 
 /// What the open transaction has so far.
 #[derive(Drop)]
@@ -62,36 +61,43 @@ fn has_width(width: u16, row: &Option<RowView<'_>>) -> bool
     }
 }
 
-/// Puts the changes of a ROW event behind others.
-fn push_changes<'h>(
+/// Puts a row change behind others if it has a row, where its rows have so many columns.
+fn push_change<'h>(
     changes: &mut Vec<Change<'h>>,
     table: &'h str,
-    rows: RowChanges<'h>,
-) -> Result<(), AllocError>
-    ensures { OnOk result (changes.new.items ≡ changes.old.items ++ changes_in table.now rows.entry) }
+    width: u16,
+    rows: RowChange<'h>,
+) -> Result<(), FeedFault>
+    ensures pushed { OnOk result (changes.new.items ≡ changes.old.items ++ change_in table.now rows.entry) }
+    ensures fits { (columns : ℕ) → width ≡ counted columns → OnOk result (fits columns rows.entry ≡ true) }
+    ensures err { (columns : ℕ) → width ≡ counted columns → IfErr result (λ fault. IsFault fault (change_fault columns rows.entry)) }
 {
-    for change in rows {
-        if change.before.is_some() || change.after.is_some() {
-            changes.push(Change {
-                table,
-                before: change.before,
-                after: change.after,
-            })?;
-        }
+    let before = rows.before();
+    let after = rows.after();
+    if !has_width(width, &before) || !has_width(width, &after) {
+        return Err(FeedFault::ColumnCount);
+    }
+    if before.is_some() || after.is_some() {
+        changes.push(Change { table, rows })?;
     }
     Ok(())
 }
 
-/// All rows of a ROW event have so many columns.
-fn all_fit(width: u16, rows: RowChanges<'_>) -> bool
-    ensures { (columns : ℕ) → width ≡ counted columns → result ≡ list_all (fits columns) rows.entry }
+/// Puts the changes of a ROW event behind others, where all their rows have so many columns.
+fn push_changes<'h>(
+    changes: &mut Vec<Change<'h>>,
+    table: &'h str,
+    width: u16,
+    rows: RowChanges<'h>,
+) -> Result<(), FeedFault>
+    ensures pushed { OnOk result (changes.new.items ≡ changes.old.items ++ changes_in table.now rows.entry) }
+    ensures fits { (columns : ℕ) → width ≡ counted columns → OnOk result (row_fault (Some columns) rows.entry ≡ None) }
+    ensures err { (columns : ℕ) → width ≡ counted columns → IfErr result (λ fault. IsFault fault (row_fault (Some columns) rows.entry)) }
 {
     for change in rows {
-        if !has_width(width, &change.before) || !has_width(width, &change.after) {
-            return false;
-        }
+        push_change(changes, table, width, change)?;
     }
-    true
+    Ok(())
 }
 
 /// The position of the last group, or the empty one.
@@ -125,6 +131,8 @@ fn end_block<'h>(
     if !last.is_within(&position) {
         return Err(FeedFault::Diverged(number));
     }
+    let mut changes = changes;
+    changes.shrink_to_fit();
     groups.push(Group {
         number,
         position,
@@ -150,11 +158,7 @@ impl<'h> Transaction<'h> {
         let Some(width) = width else {
             return Err(FeedFault::NoFields);
         };
-        if !all_fit(width, row.changes()) {
-            return Err(FeedFault::ColumnCount);
-        }
-        push_changes(&mut self.changes, table, row.changes())?;
-        Ok(())
+        push_changes(&mut self.changes, table, width, row.changes())
     }
 }
 

@@ -41,8 +41,8 @@ fn inserts_the_row(change: &Change<'_>) -> bool {
             change.table() == "t"
                 && change.before().is_none()
                 && row.len() == 2
-                && has_cell(row, 0, b"1")
-                && has_cell(row, 1, b"ab")
+                && has_cell(&row, 0, b"1")
+                && has_cell(&row, 1, b"ab")
         }
     }
 }

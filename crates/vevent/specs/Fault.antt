@@ -75,8 +75,11 @@ are_texts (Ignored which) event = true
 
 -- ---- a row change has other fields than its rows
 
+abbrev pub is_other_field : WireField → Bool
+is_other_field f = not (f.number == 1 || f.number == 2)
+
 abbrev pub is_partial : List ℕ → Bool
-is_partial change = list_any (λ f. not (f.number == 1 || f.number == 2)) (fields_of change).items
+is_partial change = list_any is_other_field (fields_of change).items
 
 -- ---- rows
 

@@ -2,11 +2,12 @@ pub mod EventValue
 pub mod FaultNumber
 pub mod Kind
 pub mod Parts
+pub mod Single
+pub mod EventParts
 pub mod Message
 pub mod Fault
 pub mod Event
 pub mod Standing
-pub mod ChangeView
 pub mod ColumnView
 pub mod ShardGtidView
 pub mod EventView

@@ -1,26 +1,26 @@
 //! One event.
 
-ghost use Rattle.std.specs.Prelude.{◌≡◌, IfOk, IfErr};
+ghost use Rattle.std.specs.Prelude.{◌≡◌, ℕ, List, IfOk, IfErr};
 ghost use Rattle.proto_wire.specs.Reading.{Gives};
 ghost use Rattle.vevent.specs.declared.fault.EventFault.{EventFault};
 ghost use Rattle.vevent.specs.EventValue.{EventValue};
 ghost use Rattle.vevent.specs.Message.{event_of};
 ghost use Rattle.vevent.specs.Event.{accepted_at, event_at, IsSound};
 ghost use Rattle.vevent.specs.Standing.{IsEvent, IsRefused};
+ghost use Rattle.vevent.specs.EventParts.{IsHeld};
 ghost use Rattle.vevent.specs.EventView.{event_value};
 
+use crate::event_parts::{EventParts, event_parts_of};
 use crate::fault::EventFault;
 use crate::field_event::FieldEvent;
 use crate::ignored::IgnoredEvent;
 use crate::kind::EventKind;
-use crate::parts::{embedded_of, last_text, last_varint};
-use crate::repeated::has_two_messages;
-use crate::row_changes::{any_has_other_fields, check_rows};
+use crate::parts::last_text;
 use crate::row_event::RowEvent;
+use crate::row_parts::{RowParts, row_parts_of};
 use crate::text::text_of;
 use crate::used_texts::are_used_texts;
 use crate::vgtid_event::VGtid;
-use crate::wire::check_event;
 
 /// An event of a VStream (`binlogdata.proto`, VEvent), by its type. What it holds is lent from the
 /// bytes that were read.
@@ -44,48 +44,62 @@ pub enum Event<'b> {
     Ignored(IgnoredEvent),
 }
 
-/// The type of an event that has no fault, or the first of its faults.
-#[tactic(auto, unfolding(crate::specs::Event::accepted_at))]
-fn accepted(event: &[u8]) -> Result<EventKind, EventFault>
-    ensures kind { result ≡ accepted_at event.now }
-    ensures sound { IfOk result (λ kind. IsSound kind event.now) }
-{
-    check_event(event).map_err(EventFault::Wire)?;
-    if has_two_messages(event) {
-        return Err(EventFault::RepeatedMessage);
-    }
-    let number = last_varint(event, 1);
-    let kind = EventKind::from_number(number).ok_or(EventFault::BadType(number))?;
-    if !are_used_texts(kind, event) {
-        return Err(EventFault::NotUtf8);
-    }
-    let row_event = embedded_of(event, 5);
-    if any_has_other_fields(row_event) {
-        return Err(EventFault::PartialRow);
-    }
-    check_rows(row_event).map_err(EventFault::Row)?;
-    Ok(kind)
+/// An event that has no fault: its type, and what it holds.
+#[derive(Drop)]
+struct Accepted<'b> {
+    kind: EventKind,
+    event: EventParts<'b>,
+    row_event: RowParts<'b>,
 }
 
-/// The event of a type that its bytes were accepted as.
-fn event_as(kind: EventKind, event: &[u8]) -> Event<'_>
-    requires { IsSound kind event.now }
-    ensures { event_value result ≡ event_of kind event.now }
+/// What the bytes hold as an event, or the first of their faults.
+#[tactic(auto, unfolding(crate::specs::Event::accepted_at))]
+fn accept(bytes: &[u8]) -> Result<Accepted<'_>, EventFault>
+    ensures kind { Gives (λ accepted. accepted.kind) result (accepted_at bytes.now) }
+    ensures sound { IfOk result (λ accepted. IsSound accepted.kind bytes.now) }
+    ensures held { IfOk result (λ accepted. IsHeld bytes.now accepted.event accepted.row_event) }
 {
-    match kind {
-        EventKind::Gtid => Event::Gtid(text_of(last_text(event, 3))),
+    let event = event_parts_of(bytes).map_err(EventFault::Wire)?;
+    let row_event = row_parts_of(event.row_event.message());
+    if event.repeats() || row_event.repeats {
+        return Err(EventFault::RepeatedMessage);
+    }
+    let kind = EventKind::from_number(event.kind).ok_or(EventFault::BadType(event.kind))?;
+    if !are_used_texts(kind, &event, &row_event) {
+        return Err(EventFault::NotUtf8);
+    }
+    if row_event.is_partial {
+        return Err(EventFault::PartialRow);
+    }
+    if let Some(fault) = row_event.fault {
+        return Err(EventFault::Row(fault));
+    }
+    Ok(Accepted {
+        kind,
+        event,
+        row_event,
+    })
+}
+
+/// The event of the bytes that were accepted so.
+fn event_as<'b>(accepted: &Accepted<'b>) -> Event<'b>
+    requires { (bytes : List ℕ) × IsSound accepted.now.kind bytes × IsHeld bytes accepted.now.event accepted.now.row_event }
+    ensures { (bytes : List ℕ) → IsHeld bytes accepted.now.event accepted.now.row_event → event_value result ≡ event_of accepted.now.kind bytes }
+{
+    match accepted.kind {
+        EventKind::Gtid => Event::Gtid(text_of(accepted.event.gtid)),
         EventKind::Begin => Event::Begin,
         EventKind::Commit => Event::Commit,
         EventKind::Rollback => Event::Rollback,
         EventKind::Row => {
-            let message = embedded_of(event, 5);
-            Event::Row(RowEvent::new(text_of(last_text(message, 1)), message))
+            let name = text_of(accepted.row_event.table_name);
+            Event::Row(RowEvent::new(name, accepted.event.row_event.message()))
         }
         EventKind::Field => {
-            let message = embedded_of(event, 6);
+            let message = accepted.event.field_event.message();
             Event::Field(FieldEvent::new(text_of(last_text(message, 1)), message))
         }
-        EventKind::Vgtid => Event::Vgtid(VGtid::new(embedded_of(event, 7))),
+        EventKind::Vgtid => Event::Vgtid(VGtid::new(accepted.event.vgtid.message())),
         EventKind::Ignored(which) => Event::Ignored(which),
     }
 }
@@ -95,8 +109,8 @@ fn event_as(kind: EventKind, event: &[u8]) -> Event<'_>
 fn event_of_bytes(bytes: &[u8]) -> Result<Event<'_>, EventFault>
     ensures { Gives event_value result (event_at bytes.now) }
 {
-    let kind = accepted(bytes)?;
-    Ok(event_as(kind, bytes))
+    let accepted = accept(bytes)?;
+    Ok(event_as(&accepted))
 }
 
 impl<'b> Event<'b> {

@@ -2,15 +2,17 @@
 #![tactic(auto)]
 
 mod event;
+mod event_parts;
 mod fault;
 mod field_event;
 mod ignored;
+mod images;
 mod kind;
 mod parts;
-mod repeated;
 mod response;
-mod row_changes;
+mod single;
 mod row_event;
+mod row_parts;
 mod text;
 mod used_texts;
 mod vgtid_event;

@@ -5,7 +5,7 @@ ghost use Rattle.std.specs.Iterator.{YieldsFirstBy, item_count};
 ghost use Rattle.proto_wire.specs.Reading.{Next};
 ghost use Rattle.proto_wire.specs.Field.{wire_field};
 ghost use Rattle.vevent.specs.Parts.{part_in, count_in, parts, parts_left, text, scalar};
-ghost use Rattle.vevent.specs.Parts.{single, embedded, is_repeated};
+ghost use Rattle.vevent.specs.Parts.{single};
 
 use proto_wire::{Field, Fields, Payload, WireFault};
 use std::marker::Model;
@@ -93,24 +93,6 @@ pub(crate) fn single_of(message: &[u8], number: u32) -> Option<&[u8]>
     ensures { option_copied result ≡ single number message.now }
 {
     Parts::new(message, number).next()
-}
-
-/// The embedded message under the number; an absent one is empty.
-pub(crate) fn embedded_of(message: &[u8], number: u32) -> &[u8]
-    ensures { result.now ≡ embedded number message.now }
-{
-    match single_of(message, number) {
-        Some(part) => part,
-        None => &[],
-    }
-}
-
-/// Whether more than one stands under the number.
-pub(crate) fn stands_twice(message: &[u8], number: u32) -> bool
-    ensures { result ≡ is_repeated number message.now }
-{
-    let mut parts = Parts::new(message, number);
-    parts.next().is_some() && parts.next().is_some()
 }
 
 /// The text under the number: of several the last, of none the empty one.

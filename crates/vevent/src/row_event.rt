@@ -4,8 +4,7 @@ ghost use Rattle.std.specs.Prelude.{◌≡◌, ◌⊎◌, None, option_map};
 ghost use Rattle.std.specs.Iterator.{YieldsFirstBy, item_count};
 ghost use Rattle.vevent.specs.Parts.{parts, single};
 ghost use Rattle.vevent.specs.Fault.{change_fault, first_row_fault};
-ghost use Rattle.vevent.specs.Message.{row_of, change_of, changes_of};
-ghost use Rattle.vevent.specs.ChangeView.{change_value};
+ghost use Rattle.vevent.specs.Message.{row_of, changes_of};
 
 use crate::parts::{Parts, single_of};
 use row_view::RowView;
@@ -85,32 +84,53 @@ impl<'b> Model for RowChanges<'b> {
 impl<'b> Iterator for RowChanges<'b> {
     type Item = RowChange<'b>;
 
-    ghost next_gives = { YieldsFirstBy change_value (λ rest. rest) };
+    ghost next_gives = { YieldsFirstBy (λ change. change) (λ rest. rest) };
 
     ghost remaining = { item_count (λ rest. rest) };
 
     fn next(&mut self) -> Option<RowChange<'b>> {
-        let change = self.parts.next()?;
-        Some(row_change(change))
+        Some(RowChange {
+            message: self.parts.next()?,
+        })
     }
 }
 
 /// A row change (`binlogdata.proto`, RowChange): only `after` is an insert, both are an update, only
-/// `before` is a delete.
+/// `before` is a delete. Seen in contracts as these two. It is made by reading an event alone, so each
+/// of its rows can be read; a view of a row is made when it is asked for.
 #[derive(Debug, Drop)]
 pub struct RowChange<'b> {
-    pub before: Option<RowView<'b>>,
-    pub after: Option<RowView<'b>>,
+    message: &'b [u8],
 }
 
-/// The row change of a message whose rows can be read.
-fn row_change(change: &[u8]) -> RowChange<'_>
-    requires { change_fault change.now ≡ None }
-    ensures { change_value result ≡ change_of change.now }
-{
-    RowChange {
-        before: row_under(change, 1),
-        after: row_under(change, 2),
+impl<'b> Model for RowChange<'b> {
+    ghost use Rattle.std.specs.Prelude.{◌≡◌, None};
+    ghost use Rattle.vevent.specs.EventValue.{ChangeValue};
+    ghost use Rattle.vevent.specs.Fault.{change_fault};
+    ghost use Rattle.vevent.specs.Message.{change_of};
+
+    ghost Value = { ChangeValue };
+
+    ghost view = { λ a. change_of a.message.now };
+
+    ghost invariant = { λ a. change_fault a.message.now ≡ None };
+}
+
+impl<'b> RowChange<'b> {
+    /// The row before the change, or `None` for an insert. Reads the row's message once more, and takes
+    /// no memory.
+    pub fn before(&self) -> Option<RowView<'b>>
+        ensures { result ≡ self.now.before }
+    {
+        row_under(self.message, 1)
+    }
+
+    /// The row after the change, or `None` for a delete. Reads the row's message once more, and takes
+    /// no memory.
+    pub fn after(&self) -> Option<RowView<'b>>
+        ensures { result ≡ self.now.after }
+    {
+        row_under(self.message, 2)
     }
 }
 

@@ -36,8 +36,8 @@ fn width_of(row: Option<RowView<'_>>) -> Option<usize> {
 fn widths_of(bytes: &[u8]) -> Option<(Option<usize>, Option<usize>)> {
     match Event::read(bytes) {
         Ok(Event::Row(event)) => {
-            let RowChange { before, after } = event.changes().next()?;
-            Some((width_of(before), width_of(after)))
+            let change = event.changes().next()?;
+            Some((width_of(change.before()), width_of(change.after())))
         }
         _ => None,
     }
@@ -336,15 +336,15 @@ fn check_row(rt: &impl Abort, row: Option<RowView<'_>>, second: Column<'_>) {
 fn check_changes(rt: &impl Abort, event: &RowEvent<'_>) {
     assert_eq!(rt; event.table_name().as_bytes(), b"ks.t".as_slice());
     let mut changes = event.changes();
-    let RowChange { before, after } = changes.next().expect(rt, "an insert");
-    assert!(rt; before.is_none());
-    check_row(rt, after, Column::Null);
-    let RowChange { before, after } = changes.next().expect(rt, "an update");
-    check_row(rt, before, Column::Null);
-    check_row(rt, after, Column::Bytes(b"ab"));
-    let RowChange { before, after } = changes.next().expect(rt, "a delete");
-    check_row(rt, before, Column::Bytes(b"ab"));
-    assert!(rt; after.is_none());
+    let change = changes.next().expect(rt, "an insert");
+    assert!(rt; change.before().is_none());
+    check_row(rt, change.after(), Column::Null);
+    let change = changes.next().expect(rt, "an update");
+    check_row(rt, change.before(), Column::Null);
+    check_row(rt, change.after(), Column::Bytes(b"ab"));
+    let change = changes.next().expect(rt, "a delete");
+    check_row(rt, change.before(), Column::Bytes(b"ab"));
+    assert!(rt; change.after().is_none());
     assert!(rt; changes.next().is_none());
 }
 

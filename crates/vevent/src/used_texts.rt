@@ -1,13 +1,16 @@
 //! Whether the texts that an event's type uses are UTF-8.
 
-ghost use Rattle.std.specs.Prelude.{◌≡◌};
+ghost use Rattle.std.specs.Prelude.{◌≡◌, ℕ, List};
 ghost use Rattle.std.specs.List.{list_all};
 ghost use Rattle.std.specs.Str.{is_utf8};
 ghost use Rattle.vevent.specs.Parts.{text, parts};
 ghost use Rattle.vevent.specs.Fault.{are_entry_texts, are_texts};
+ghost use Rattle.vevent.specs.EventParts.{IsHeld};
 
+use crate::event_parts::EventParts;
 use crate::kind::EventKind;
-use crate::parts::{Parts, embedded_of, last_text};
+use crate::parts::{Parts, last_text};
+use crate::row_parts::RowParts;
 use crate::text::is_text;
 
 /// The names of all columns of a field event.
@@ -42,17 +45,21 @@ fn are_texts_of_entries(vgtid: &[u8]) -> bool
 }
 
 /// The texts that an event of this type uses.
-pub(crate) fn are_used_texts(kind: EventKind, event: &[u8]) -> bool
-    ensures { result ≡ are_texts kind event.now }
+pub(crate) fn are_used_texts(
+    kind: EventKind,
+    event: &EventParts<'_>,
+    row_event: &RowParts<'_>,
+) -> bool
+    ensures { (bytes : List ℕ) → IsHeld bytes event.now row_event.now → result ≡ are_texts kind bytes }
 {
     match kind {
-        EventKind::Gtid => is_text(last_text(event, 3)),
-        EventKind::Row => is_text(last_text(embedded_of(event, 5), 1)),
+        EventKind::Gtid => is_text(event.gtid),
+        EventKind::Row => is_text(row_event.table_name),
         EventKind::Field => {
-            let field_event = embedded_of(event, 6);
+            let field_event = event.field_event.message();
             is_text(last_text(field_event, 1)) && are_names(field_event)
         }
-        EventKind::Vgtid => are_texts_of_entries(embedded_of(event, 7)),
+        EventKind::Vgtid => are_texts_of_entries(event.vgtid.message()),
         EventKind::Begin | EventKind::Commit | EventKind::Rollback | EventKind::Ignored(_) => true,
     }
 }

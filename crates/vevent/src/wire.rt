@@ -4,7 +4,7 @@ ghost use Rattle.std.specs.Prelude.{◌≡◌, option_and_then};
 ghost use Rattle.std.specs.Result.{result_err};
 ghost use Rattle.proto_wire.specs.Field.{wire_field, fields_of};
 ghost use Rattle.vevent.specs.Parts.{bytes_in};
-ghost use Rattle.vevent.specs.Fault.{in_plain, in_event, wire_fault_by, event_wire_fault};
+ghost use Rattle.vevent.specs.Fault.{in_plain, in_event, wire_fault_by};
 
 use proto_wire::{Field, Fields, Payload, WireFault};
 
@@ -40,7 +40,7 @@ fn check_holder(message: &[u8], wanted: u32) -> Result<(), WireFault>
 }
 
 /// The fault within a field of an event.
-fn check_known(field: Field<'_>) -> Result<(), WireFault>
+pub(crate) fn check_known(field: Field<'_>) -> Result<(), WireFault>
     ensures { let f = wire_field field.entry in
         result_err result ≡ option_and_then (in_event f.number) (bytes_in f.value) }
 {
@@ -49,15 +49,4 @@ fn check_known(field: Field<'_>) -> Result<(), WireFault>
         (7, Payload::Bytes(part)) => check_holder(part, 1),
         _ => Ok(()),
     }
-}
-
-/// The first fault in an event.
-pub(crate) fn check_event(event: &[u8]) -> Result<(), WireFault>
-    ensures { result_err result ≡ event_wire_fault event.now }
-{
-    let mut fields = Fields::new(event);
-    while let Some(field) = fields.next_field()? {
-        check_known(field)?;
-    }
-    Ok(())
 }

@@ -1,7 +1,7 @@
 -- laws of touches, of the rows that they leave, and of the steps over them
 use Rattle.std.proofs.Common.{◌≡◌, ℕ, ◌+◌, ◌<◌, ◌≤◌, Bool, true, false, cond, List, [], ◌∷◌, ◌++◌, length, take, drop, get_or, Option, None, Some, refl, sym, ap, ◌∙◌, subst, Bor, arith}
 use Rattle.std.specs.Prelude.{map, flat_map, find, reverse}
-use Rattle.std.specs.Option.{option_and_then, option_copied}
+use Rattle.std.specs.Option.{option_and_then}
 use Rattle.std.specs.BTreeMap.{get_by}
 use Rattle.std.specs.Map.{lookup, update}
 use Rattle.std.specs.Str.{bytes_eq}
@@ -42,19 +42,14 @@ left_at-push {K} {R} same earlier touch key =
     ap (λ (ts : List (Touch K R)). option_and_then (λ t. t.row) (find (λ t. same t.key key) ts)) (reverse-append earlier (touch ∷ []))
     ∙ row-cond (same touch.key key) touch (find (λ t. same t.key key) (reverse earlier))
 
-copied-cond : {X : Type 0} (b : Bool) (row old : Option (Bor X)) → option_copied (cond b row old) ≡ cond b (option_copied row) (option_copied old)
-copied-cond true row old = refl
-copied-cond false row old = refl
-
-pub Holds-push : (earlier : List (Touch Key Row)) (key : Key) (row : Option (Bor Row)) (old new : Rows)
+pub Holds-push : (earlier : List (Touch Key Row)) (key : Key) (row : Option Row) (old new : Rows)
     → ((other : Key) → get_by (λ k. slice_cmp nat_cmp other k.now) new.by_key ≡ update bytes_eq (λ o. get_by (λ k. slice_cmp nat_cmp o k.now) old.by_key) key row other)
-    → Holds earlier old → Holds (earlier ++ record { key = key; row = option_copied row } ∷ []) new
+    → Holds earlier old → Holds (earlier ++ record { key = key; row = row } ∷ []) new
 Holds-push earlier key row old new step held = record {
   rows_are = λ other.
-      ap (λ (o : Option (Bor Row)). option_copied o) (step other)
-      ∙ copied-cond (bytes_eq key other) row (get_by (λ k. slice_cmp nat_cmp other k.now) old.by_key)
-      ∙ ap (λ o. cond (bytes_eq key other) (option_copied row) o) (held.rows_are other)
-      ∙ sym (left_at-push bytes_eq earlier (record { key = key; row = option_copied row }) other);
+      step other
+      ∙ ap (λ o. cond (bytes_eq key other) row o) (held.rows_are other)
+      ∙ sym (left_at-push bytes_eq earlier (record { key = key; row = row }) other);
 }
 
 -- ---- one change more
@@ -66,22 +61,22 @@ touches-take table changes i change earlier lt is =
 
 -- ---- the entries
 
-lookup-entries : (test : Key → Bool) (es : List (Bor Key × Bor Row)) → lookup test (map (λ (e : Bor Key × Bor Row). (e.0.now, e.1.now)) es) ≡ option_copied (lookup (λ k. test k.now) es)
+lookup-entries : (test : Key → Bool) (es : List (Bor Key × Row)) → lookup test (map (λ (e : Bor Key × Row). (e.0.now, e.1)) es) ≡ lookup (λ k. test k.now) es
 lookup-entries test [] = refl
-lookup-entries test (e ∷ es) = ap (λ o. cond (test e.0.now) (Some e.1.now) o) (lookup-entries test es) ∙ sym (copied-cond (test e.0.now) (Some e.1) (lookup (λ k. test k.now) es))
+lookup-entries test (e ∷ es) = ap (λ o. cond (test e.0.now) (Some e.1) o) (lookup-entries test es)
 
-All-entries : (P : Key → Type 0) (es : List (Bor Key × Bor Row)) → AllByRecursion (λ k. P k.now) (map (λ (e : Bor Key × Bor Row). e.0) es) → AllByRecursion P (map (λ (e : Key × Row). e.0) (map (λ (e : Bor Key × Bor Row). (e.0.now, e.1.now)) es))
+All-entries : (P : Key → Type 0) (es : List (Bor Key × Row)) → AllByRecursion (λ k. P k.now) (map (λ (e : Bor Key × Row). e.0) es) → AllByRecursion P (map (λ (e : Key × Row). e.0) (map (λ (e : Bor Key × Row). (e.0.now, e.1)) es))
 All-entries P [] all = all
 All-entries P (e ∷ es) all = (all.0, All-entries P es all.1)
 
-sorted-entries : (compare : Key → Key → Ordering) (es : List (Bor Key × Bor Row)) → IsStrictlySortedBy (λ k q. compare k.now q.now) (map (λ (e : Bor Key × Bor Row). e.0) es) → IsStrictlySortedBy compare (map (λ (e : Key × Row). e.0) (map (λ (e : Bor Key × Bor Row). (e.0.now, e.1.now)) es))
+sorted-entries : (compare : Key → Key → Ordering) (es : List (Bor Key × Row)) → IsStrictlySortedBy (λ k q. compare k.now q.now) (map (λ (e : Bor Key × Row). e.0) es) → IsStrictlySortedBy compare (map (λ (e : Key × Row). e.0) (map (λ (e : Bor Key × Row). (e.0.now, e.1)) es))
 unfolding IsStrictlySortedBy
 sorted-entries compare [] sorted = sorted
 sorted-entries compare (e ∷ es) sorted = (All-entries (λ k. compare e.0.now k ≡ Less) es sorted.0, sorted-entries compare es sorted.1)
 
-values-entries : (es : List (Bor Key × Bor Row)) → map (λ (e : Key × Row). e.1) (map (λ (e : Bor Key × Bor Row). (e.0.now, e.1.now)) es) ≡ map (λ (row : Bor Row). row.now) (map (λ (e : Bor Key × Bor Row). e.1) es)
+values-entries : (es : List (Bor Key × Row)) → map (λ (e : Key × Row). e.1) (map (λ (e : Bor Key × Row). (e.0.now, e.1)) es) ≡ map (λ (e : Bor Key × Row). e.1) es
 values-entries [] = refl
-values-entries (e ∷ es) = ap (λ rest. e.1.now ∷ rest) (values-entries es)
+values-entries (e ∷ es) = ap (λ rest. e.1 ∷ rest) (values-entries es)
 
 pub rows_in-entries : (rows : Rows) → map (λ (e : Key × Row). e.1) (entries_in rows) ≡ rows_in rows
 rows_in-entries rows = values-entries rows.by_key.entries

@@ -1,7 +1,6 @@
 -- What a sorted table of borrowed rows holds at a key, and that this is what some touches left.
 use Rattle.std.specs.Prelude.{◌≡◌, ℕ, List, Option, map}
 use Rattle.std.specs.BTreeMap.{get_by, IsOrdered}
-use Rattle.std.specs.Option.{option_copied}
 use Rattle.std.specs.Ordering.{nat_cmp}
 use Rattle.std.specs.Cmp.Lexicographic.{slice_cmp}
 use Rattle.std.specs.Str.{bytes_eq}
@@ -10,15 +9,15 @@ use Rattle.vrepl_main.specs.Thin.{Key, Row}
 use Rattle.vrepl_main.specs.declared.thin.rows.Rows.{Rows}
 
 abbrev pub row_in : Rows → Key → Option Row
-row_in rows key = option_copied (get_by (λ k. slice_cmp nat_cmp key k.now) rows.by_key)
+row_in rows key = get_by (λ k. slice_cmp nat_cmp key k.now) rows.by_key
 
 -- the rows in key order
 abbrev pub rows_in : Rows → List Row
-rows_in rows = map (λ row. row.now) (map (λ entry. entry.1) rows.by_key.entries)
+rows_in rows = map (λ entry. entry.1) rows.by_key.entries
 
 -- the keys with their rows, without where they lie in memory
 abbrev pub entries_in : Rows → List (Key × Row)
-entries_in rows = map (λ entry. (entry.0.now, entry.1.now)) rows.by_key.entries
+entries_in rows = map (λ entry. (entry.0.now, entry.1)) rows.by_key.entries
 
 -- the keys rise
 abbrev pub IsRising : Rows → Type 0

@@ -54,10 +54,10 @@ fn push_change(text: &mut String, change: &Change<'_>) -> Result<(), AllocError>
     ensures { OnOk result (string_bytes text.new ≡ string_bytes text.old ++ change_text change.now) }
 {
     if let Some(row) = change.before() {
-        push_row(text, "- ", change.table(), row)?;
+        push_row(text, "- ", change.table(), &row)?;
     }
     if let Some(row) = change.after() {
-        push_row(text, "+ ", change.table(), row)?;
+        push_row(text, "+ ", change.table(), &row)?;
     }
     Ok(())
 }

@@ -1,7 +1,6 @@
 //! The rows of a table in key order.
 
 ghost use Rattle.std.specs.Prelude.{◌≡◌, ℕ, List, [], ◌∷◌, ◌++◌, None, Some, IfSome, IfNone, OnOk};
-ghost use Rattle.std.specs.Option.{option_copied};
 ghost use Rattle.vrepl_main.specs.RowAt.{Touch};
 ghost use Rattle.vrepl_main.specs.Thin.{Key, Row, key_of, before_touch, after_touch, change_touches, touches};
 
@@ -13,8 +12,8 @@ use std::collections::BTreeMap;
 /// Rows in the order of their keys, which are compared as bytes. A group is put into them change by
 /// change; what was put before is never looked at again.
 #[derive(Drop)]
-pub(crate) struct Rows<'g, 'h> {
-    pub(crate) by_key: BTreeMap<&'h [u8], &'g RowView<'h>>,
+pub(crate) struct Rows<'h> {
+    pub(crate) by_key: BTreeMap<&'h [u8], RowView<'h>>,
 }
 
 /// The key of a row: its first column. `None` if there is no column, or NULL in it.
@@ -31,11 +30,11 @@ pub(crate) fn key_of<'h>(row: &RowView<'h>) -> Option<&'h [u8]>
     }
 }
 
-impl<'g, 'h> Rows<'g, 'h> {
+impl<'h> Rows<'h> {
     ghost use Rattle.vrepl_main.specs.RowsHold.{Holds};
 
     /// No rows. Takes no memory.
-    pub(crate) fn new(alloc: Global) -> Rows<'g, 'h>
+    pub(crate) fn new(alloc: Global) -> Rows<'h>
         ensures { Holds [] result }
     {
         Rows {
@@ -44,8 +43,8 @@ impl<'g, 'h> Rows<'g, 'h> {
     }
 
     /// Puts a row at its key, in place of the one that stands there.
-    fn put(&mut self, key: &'h [u8], row: &'g RowView<'h>) -> Result<(), AllocError>
-        ensures { OnOk result ((earlier : List (Touch Key Row)) → Holds earlier self.old → Holds (earlier ++ record { key = key.now; row = Some row.now } ∷ []) self.new) }
+    fn put(&mut self, key: &'h [u8], row: RowView<'h>) -> Result<(), AllocError>
+        ensures { OnOk result ((earlier : List (Touch Key Row)) → Holds earlier self.old → Holds (earlier ++ record { key = key.now; row = Some row.entry } ∷ []) self.new) }
     {
         self.by_key.insert(key, row)?;
         Ok(())
@@ -59,22 +58,22 @@ impl<'g, 'h> Rows<'g, 'h> {
     }
 
     /// The key of a row before a change loses its row.
-    fn apply_before(&mut self, before: Option<&RowView<'h>>)
-        ensures { (earlier : List (Touch Key Row)) → Holds earlier self.old → Holds (earlier ++ before_touch (option_copied before.entry)) self.new }
+    fn apply_before(&mut self, before: Option<RowView<'h>>)
+        ensures { (earlier : List (Touch Key Row)) → Holds earlier self.old → Holds (earlier ++ before_touch before.entry) self.new }
     {
         if let Some(row) = before {
-            if let Some(key) = key_of(row) {
+            if let Some(key) = key_of(&row) {
                 self.remove(key);
             }
         }
     }
 
     /// The row after a change is put at its key.
-    fn apply_after(&mut self, after: Option<&'g RowView<'h>>) -> Result<(), AllocError>
-        ensures { OnOk result ((earlier : List (Touch Key Row)) → Holds earlier self.old → Holds (earlier ++ after_touch (option_copied after.entry)) self.new) }
+    fn apply_after(&mut self, after: Option<RowView<'h>>) -> Result<(), AllocError>
+        ensures { OnOk result ((earlier : List (Touch Key Row)) → Holds earlier self.old → Holds (earlier ++ after_touch after.entry) self.new) }
     {
         if let Some(row) = after {
-            if let Some(key) = key_of(row) {
+            if let Some(key) = key_of(&row) {
                 self.put(key, row)?;
             }
         }
@@ -82,7 +81,7 @@ impl<'g, 'h> Rows<'g, 'h> {
     }
 
     /// Applies a change, if it is one of the table.
-    fn apply_change(&mut self, table: &str, change: &'g Change<'h>) -> Result<(), AllocError>
+    fn apply_change(&mut self, table: &str, change: &Change<'h>) -> Result<(), AllocError>
         ensures { OnOk result ((earlier : List (Touch Key Row)) → Holds earlier self.old → Holds (earlier ++ change_touches table.now change.now) self.new) }
     {
         if change.table() == table {
@@ -93,7 +92,7 @@ impl<'g, 'h> Rows<'g, 'h> {
     }
 
     /// Applies the changes of a group, in order.
-    pub(crate) fn apply(&mut self, table: &str, changes: &'g [Change<'h>]) -> Result<(), AllocError>
+    pub(crate) fn apply(&mut self, table: &str, changes: &[Change<'h>]) -> Result<(), AllocError>
         ensures { OnOk result ((earlier : List (Touch Key Row)) → Holds earlier self.old → Holds (earlier ++ touches table.now changes.now) self.new) }
     {
         for change in changes {

@@ -3,7 +3,6 @@
 ghost use Rattle.std.specs.Prelude.{◌≡◌, ℕ, ◌+◌, ◌<◌, ◌≤◌, List, length, IfNone, IfOk, OnOk};
 ghost use Rattle.vrepl_main.specs.StreamStep.{Progress, Reply, reply_to, progress_after};
 ghost use Rattle.vrepl_main.specs.StreamStep as progress;
-ghost use Rattle.std.specs.Option.{option_copied};
 ghost use Rattle.source_feed.specs.GroupValue.{GroupValue};
 ghost use Rattle.vrepl_main.specs.Thin.{is_sound, has_key};
 ghost use Rattle.vrepl_main.specs.ThinSteps.{AnswersEach};
@@ -24,18 +23,18 @@ struct Stream<'g, 'h> {
     read: usize,
     /// how many of these are applied
     applied: usize,
-    rows: Rows<'g, 'h>,
+    rows: Rows<'h>,
     ghost applied_is_read: { applied ≤ read },
     ghost read_is_there: { read ≤ length groups.now },
 }
 
 /// A row has a key, where there is a row.
-fn has_key(row: Option<&RowView<'_>>) -> bool
-    ensures { result ≡ has_key (option_copied row.entry) }
+fn has_key(row: Option<RowView<'_>>) -> bool
+    ensures { result ≡ has_key row.entry }
 {
     match row {
         None => true,
-        Some(row) => key_of(row).is_some(),
+        Some(row) => key_of(&row).is_some(),
     }
 }
 

@@ -66,7 +66,7 @@ fn push_row(text: &mut Vec<u8>, row: &RowView<'_>) -> Result<(), AllocError>
 pub(crate) fn table_text(
     alloc: Global,
     table: &str,
-    rows: &Rows<'_, '_>,
+    rows: &Rows<'_>,
 ) -> Result<Vec<u8>, AllocError>
     ensures text { IfOk result (λ text. text.items ≡ table_text table.now (rows_in rows.now)) }
     ensures rising { OnOk result (IsRising rows.now) }
