@@ -92,6 +92,7 @@ impl<'h> Group<'h> {
         ensures { self.new ≡ planned_of plan.now self.old }
     {
         retain_planned(plan, &mut self.changes);
+        self.changes.shrink_to_fit();
     }
 }
 

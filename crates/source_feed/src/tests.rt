@@ -1,6 +1,6 @@
 //! Feeds of a source, read whole.
 
-use crate::{Change, Feed, read_groups};
+use crate::{Change, Feed, Group, read_groups};
 use filter_rule::Plan;
 use gtid_set::GtidSet;
 use row_view::{Column, RowView};
@@ -73,6 +73,13 @@ fn one_inserted_row_is_a_group(rt: HostRuntime) -> Result<(), Fail> {
     let change = group.changes().first().ok_or("no change")?;
     assert!(rt; inserts_the_row(change));
     Ok(())
+}
+
+/// A feed of a million groups has a million of each.
+#[test]
+fn changes_and_groups_are_small(rt: HostRuntime) {
+    assert!(rt; size_of::<Change<'static>>() <= 32);
+    assert!(rt; size_of::<Group<'static>>() <= 64);
 }
 
 #[test]

@@ -1,7 +1,7 @@
 -- What was gathered from an event in one pass is what the event holds.
 use Rattle.std.specs.Prelude.{◌≡◌, ℕ, List, []}
 use Rattle.std.specs.List.{filter_map, list_any}
-use Rattle.proto_wire.specs.Field.{WireField, fields_of}
+use Rattle.proto_wire.specs.Field.{WireField}
 use Rattle.vevent.specs.declared.event_parts.EventParts.{EventParts}
 use Rattle.vevent.specs.declared.row_parts.RowParts.{RowParts}
 use Rattle.vevent.specs.Parts.{part_in, count_in, last_of, text, scalar, parts, single, embedded, is_repeated}
