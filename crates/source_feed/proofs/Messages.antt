@@ -1,7 +1,8 @@
 -- One event or one message more of what is still to come.
-use Rattle.std.proofs.Common.{◌≡◌, ℕ, zero, suc, ◌+◌, ◌≤◌, List, [], ◌∷◌, length, Option, None, Some, Result, Ok, Err, ◌∙◌, ap, arith}
+use Rattle.std.proofs.Common.{◌≡◌, ℕ, zero, suc, ◌+◌, ◌≤◌, ◌||◌, Bool, true, false, List, [], ◌∷◌, length, Option, None, Some, Result, Ok, Err, refl, sym, ◌∙◌, ap, arith}
 use Rattle.std.proofs.lemmas.List.{length-append}
-use Rattle.std.specs.List.{filter_map, cons_option}
+use Rattle.std.proofs.lemmas.List.Folds.{list_any-append}
+use Rattle.std.specs.List.{filter_map, cons_option, list_any}
 use Rattle.vevent.specs.Parts.{part_in}
 use Rattle.proto_wire.specs.declared.fault.WireFault.{WireFault}
 use Rattle.proto_wire.specs.Reading.{Reading, Spells, reading_within, reading_of, put_first}
@@ -160,6 +161,15 @@ events_first message old new i f = rw (split_message message old new i f) (among
     among items None others = omega (arith, length-append items others.items)
     among items (Some fault) others = omega arith
 
+-- a fault that ends some events leaves no history behind them
+ended_badly : (source : SourceValue) (next : History) (items : List EventValue) (fault : FeedFault) (history : History) → run source history items (Some fault) ≡ Ok next → ⊥
+ended_badly source next [] fault history e = cc
+ended_badly source next (event ∷ items) fault history e = never_unless (fault_at source history event) (run source (event ∷ history) items (Some fault)) (ended_badly source next items fault (event ∷ history)) e
+  where
+    never_unless : (first : Option FeedFault) (then : Result History FeedFault) → (then ≡ Ok next → ⊥) → unless first then ≡ Ok next → ⊥
+    never_unless None then h e = h e
+    never_unless (Some f) then h e = cc
+
 -- and those behind it are as many less, unless the message ends them
 pub events_behind : (source : SourceValue) (history next : History) (message : List ℕ) (old new : Reading (List ℕ) FrameFault) → old.items ≡ message ∷ new.items → old.fault ≡ new.fault
     → run source history (response_of message).items (end_of_message (response_of message).fault) ≡ Ok next
@@ -167,15 +177,28 @@ pub events_behind : (source : SourceValue) (history next : History) (message : L
 events_behind source history next message old new i f ok =
     rw (split_message message old new i f) (behind (response_of message).items (response_of message).fault (events_in new.items new.fault) history ok)
   where
-    never : (items : List EventValue) (fault : FeedFault) (history : History) → run source history items (Some fault) ≡ Ok next → ⊥
-    never [] fault history e = cc
-    never (event ∷ items) fault history e = never_unless (fault_at source history event) (run source (event ∷ history) items (Some fault)) (never items fault (event ∷ history)) e
-      where
-        never_unless : (first : Option FeedFault) (then : Result History FeedFault) → (then ≡ Ok next → ⊥) → unless first then ≡ Ok next → ⊥
-        never_unless None then h e = h e
-        never_unless (Some f) then h e = cc
-
     behind : (items : List EventValue) (fault : Option EventFault) (others : Reading EventValue FeedFault) (history : History)
         → run source history items (end_of_message fault) ≡ Ok next → length items + length others.items ≡ length (events_then items fault others).items
     behind items None others history e = omega (arith, length-append items others.items)
-    behind items (Some fault) others history e = absurd (never items _ history e)
+    behind items (Some fault) others history e = absurd (ended_badly source next items _ history e)
+
+-- what holds of one of the events to come holds of one of the message or of one behind it
+pub any_behind : (P : EventValue → Bool) (source : SourceValue) (history next : History) (message : List ℕ) (old new : Reading (List ℕ) FrameFault) → old.items ≡ message ∷ new.items → old.fault ≡ new.fault
+    → run source history (response_of message).items (end_of_message (response_of message).fault) ≡ Ok next
+    → list_any P (events_in old.items old.fault).items ≡ (list_any P (response_of message).items || list_any P (events_in new.items new.fault).items)
+any_behind P source history next message old new i f ok =
+    rw (split_message message old new i f) (behind (response_of message).items (response_of message).fault (events_in new.items new.fault) ok)
+  where
+    behind : (items : List EventValue) (fault : Option EventFault) (others : Reading EventValue FeedFault)
+        → run source history items (end_of_message fault) ≡ Ok next → list_any P (events_then items fault others).items ≡ (list_any P items || list_any P others.items)
+    behind items None others e = list_any-append P items others.items
+    behind items (Some fault) others e = absurd (ended_badly source next items _ history e)
+
+-- one message more is seen
+or_behind : (before message behind : Bool) → ((before || message) || behind) ≡ (before || (message || behind))
+or_behind true message behind = refl
+or_behind false message behind = refl
+
+pub seen_more : (before after message behind old all : Bool) → (before || old) ≡ all → old ≡ (message || behind) → after ≡ (before || message) → (after || behind) ≡ all
+seen_more before after message behind old all whole split seen =
+    ap (λ b. b || behind) seen ∙ or_behind before message behind ∙ ap (λ b. before || b) (sym split) ∙ whole

@@ -10,5 +10,4 @@ pub mod Widths
 pub mod BlockEnd
 pub mod Means
 pub mod Planned
-pub mod Agreement
 pub mod FirstFault

@@ -35,6 +35,11 @@ abbrev pub differs : PlanValue → EventValue → Bool
 differs plan (Field name fields) = differs_at plan (table_of_name plan (table_of (source_of plan) name)) fields
 differs plan event = false
 
+-- the same, where there is a plan to agree with
+abbrev pub differs_from : Option PlanValue → EventValue → Bool
+differs_from None event = false
+differs_from (Some plan) event = differs plan event
+
 -- a change of a planned table
 abbrev pub is_planned : PlanValue → TableChangeValue → Bool
 is_planned plan change = is_some (table_of_name plan change.table)

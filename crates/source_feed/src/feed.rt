@@ -2,25 +2,19 @@
 
 ghost use Rattle.std.specs.Prelude.{◌≡◌, ◌↔◌, [], length, map, IsTrue, IfOk};
 ghost use Rattle.std.specs.Arc.{arc_value};
-ghost use Rattle.std.specs.Result.{result_err};
 ghost use Rattle.filter_rule.specs.PlanValue.{PlanValue};
-ghost use Rattle.vevent.specs.Response.{response_of};
-ghost use Rattle.vevent.specs.EventValue as value;
 ghost use Rattle.source_feed.specs.FaultNumber.{Gives};
-ghost use Rattle.source_feed.specs.EventList.{end_of_message, events_of};
-ghost use Rattle.source_feed.specs.Planned.{same_columns, differs, planned_of, groups_under};
-ghost use Rattle.source_feed.specs.Agreement.{stop_of};
+ghost use Rattle.source_feed.specs.Planned.{planned_of, groups_under};
 
 use crate::fault::FeedFault;
 use crate::group::Group;
-use crate::groups::read_groups;
+use crate::groups::read;
 use crate::source::Source;
-use filter_rule::{ColumnDef, Plan};
-use proto_wire::Frames;
+use crate::watch::Watch;
+use filter_rule::Plan;
 use std::alloc::Global;
 use std::marker::Model;
 use std::sync::Arc;
-use vevent::{ColumnField, ColumnFields, Event, FieldEvent, Response};
 
 /// A recorded feed under the plan of its stream: its groups, with the changes of the plan's tables.
 #[derive(Drop)]
@@ -36,64 +30,6 @@ impl<'h> Model for Feed<'h> {
     ghost Value = { FeedValue };
 
     ghost view = { λ f. record { plan = arc_value f.plan; groups = f.groups.items } };
-}
-
-/// The columns of a FIELD event are these, in this order.
-fn are_same_columns(columns: &[ColumnDef], fields: ColumnFields<'_>) -> bool
-    ensures { result ≡ same_columns columns.now fields.entry }
-{
-    let mut fields = fields;
-    for column in columns {
-        match fields.next() {
-            Some(field) => {
-                if column.name() != field.name || u64::from(column.type_number()) != field.kind {
-                    return false;
-                }
-            }
-            None => return false,
-        }
-    }
-    fields.next().is_none()
-}
-
-/// The FIELD event is of a planned table, and its columns aren't the plan's.
-fn field_differs(plan: &Plan, field: &FieldEvent<'_>) -> bool
-    ensures { result ≡ differs plan.now (value.Field field.now.table_name field.now.fields) }
-{
-    let source = Source {
-        keyspace: plan.keyspace(),
-        shard: plan.shard(),
-    };
-    match plan.table(source.table(field.table_name())) {
-        None => false,
-        Some(t) => !are_same_columns(plan.columns(t), field.fields()),
-    }
-}
-
-/// Looks for a FIELD event of one message that differs from the plan.
-fn check_message(plan: &Plan, message: &[u8]) -> Result<(), FeedFault>
-    ensures { result_err result ≡ stop_of plan.now (response_of message.now).items (end_of_message (response_of message.now).fault) }
-{
-    let mut events = Response::new(message);
-    while let Some(event) = events.next_event()? {
-        if let Event::Field(field) = event {
-            if field_differs(plan, &field) {
-                return Err(FeedFault::FieldsDiffer);
-            }
-        }
-    }
-    Ok(())
-}
-
-/// Looks for a FIELD event of the feed that differs from the plan, wherever it stands.
-fn check_fields(plan: &Plan, feed: &[u8]) -> Result<(), FeedFault>
-    ensures { result_err result ≡ stop_of plan.now (events_of feed.now).items (events_of feed.now).fault }
-{
-    let mut frames = Frames::new(feed);
-    while let Some(message) = frames.next_frame()? {
-        check_message(plan, message)?;
-    }
-    Ok(())
 }
 
 /// Drops the changes of tables that the plan doesn't have.
@@ -116,8 +52,15 @@ impl<'h> Feed<'h> {
         ensures groups { Gives (λ opened. opened.groups) result (groups_under feed.now (arc_value plan.now)) }
         ensures plan { IfOk result (λ opened. opened.plan ≡ arc_value plan.now) }
     {
-        let mut groups = read_groups(alloc, feed, plan.keyspace(), plan.shard())?;
-        check_fields(plan, feed)?;
+        let source = Source {
+            keyspace: plan.keyspace(),
+            shard: plan.shard(),
+        };
+        let mut watch = Watch::new(Some(plan));
+        let mut groups = read(alloc, feed, &source, &mut watch)?;
+        if watch.differs {
+            return Err(FeedFault::FieldsDiffer);
+        }
         keep_planned(plan, &mut groups);
         Ok(Feed {
             plan: Arc::clone(plan)?,

@@ -1,6 +1,7 @@
 //! The groups of a feed.
 
-ghost use Rattle.std.specs.Prelude.{◌≡◌, ℕ, ◌+◌, ◌^◌, ◌<◌, ◌≤◌, [], length, IfOk, IfErr};
+ghost use Rattle.std.specs.Prelude.{◌≡◌, ◌||◌, ℕ, ◌+◌, ◌^◌, ◌<◌, ◌≤◌, [], length, option_copied, OnOk, IfOk, IfErr};
+ghost use Rattle.std.specs.List.{list_any};
 ghost use Rattle.vevent.specs.Response.{response_of};
 ghost use Rattle.source_feed.specs.FaultNumber.{Gives, Refuses};
 ghost use Rattle.source_feed.specs.EventList.{end_of_message, events_of};
@@ -8,12 +9,14 @@ ghost use Rattle.source_feed.specs.History.{History};
 ghost use Rattle.source_feed.specs.Groups.{groups};
 ghost use Rattle.source_feed.specs.FirstFault.{StandsIn, UnlessMemory};
 ghost use Rattle.source_feed.specs.Run.{run};
+ghost use Rattle.source_feed.specs.Planned.{differs_from};
 ghost use Rattle.source_feed.specs.Means.{Means, Runs};
 
 use crate::fault::FeedFault;
 use crate::group::Group;
 use crate::pass::Pass;
 use crate::source::Source;
+use crate::watch::Watch;
 use proto_wire::Frames;
 use std::alloc::Global;
 use vevent::Response;
@@ -26,48 +29,58 @@ fn put_message<'h>(
     alloc: Global,
     pass: &mut Pass<'h>,
     source: &Source<'_>,
+    watch: &mut Watch<'_>,
     message: &'h [u8],
 ) -> Result<(), FeedFault>
     requires { length pass.old.groups.items + length (response_of message.now).items < 2 ^ 32 }
     ensures meaning { (earlier : History) → Means source.now earlier pass.old →
         Runs source.now (run source.now earlier (response_of message.now).items (end_of_message (response_of message.now).fault)) result pass.new }
     ensures grows { length pass.new.groups.items ≤ length pass.old.groups.items + length (response_of message.now).items }
+    ensures plan { option_copied watch.new.plan ≡ option_copied watch.old.plan }
+    ensures seen { OnOk result (watch.new.differs ≡ (watch.old.differs || list_any (differs_from (option_copied watch.old.plan)) (response_of message.now).items)) }
 {
     let mut events = Response::new(message);
     while let Some(event) = events.next_event()? {
+        watch.see(&event);
         pass.put(alloc, source, event)?;
     }
     Ok(())
 }
 
 /// Takes the events of all messages.
-fn put_feed<'h>(alloc: Global, source: &Source<'_>, feed: &'h [u8]) -> Result<Pass<'h>, FeedFault>
+fn put_feed<'h>(
+    alloc: Global,
+    source: &Source<'_>,
+    watch: &mut Watch<'_>,
+    feed: &'h [u8],
+) -> Result<Pass<'h>, FeedFault>
     requires { length feed.now < 2 ^ 31 }
     ensures ok { IfOk result (λ pass. Runs source.now (run source.now [] (events_of feed.now).items (events_of feed.now).fault) result pass) }
     ensures err { IfErr result (λ fault. Refuses fault (run source.now [] (events_of feed.now).items (events_of feed.now).fault)) }
+    ensures seen { OnOk result (watch.new.differs ≡ (watch.old.differs || list_any (differs_from (option_copied watch.old.plan)) (events_of feed.now).items)) }
 {
     let mut pass = Pass::new(alloc);
     let mut frames = Frames::new(feed);
     while let Some(message) = frames.next_frame()? {
-        put_message(alloc, &mut pass, source, message)?;
+        put_message(alloc, &mut pass, source, watch, message)?;
     }
     Ok(pass)
 }
 
-/// The groups of a feed, or its fault.
-fn read<'h>(
+/// The groups of a feed, or its fault; each event is seen by the watch.
+pub(crate) fn read<'h>(
     alloc: Global,
     feed: &'h [u8],
-    keyspace: &str,
-    shard: &str,
+    source: &Source<'_>,
+    watch: &mut Watch<'_>,
 ) -> Result<Vec<Group<'h>>, FeedFault>
-    ensures { Gives (λ all. all.items) result (groups feed.now (record { keyspace = keyspace.now; shard = shard.now })) }
+    ensures groups { Gives (λ all. all.items) result (groups feed.now source.now) }
+    ensures seen { OnOk result (watch.new.differs ≡ (watch.old.differs || list_any (differs_from (option_copied watch.old.plan)) (events_of feed.now).items)) }
 {
     if feed.len() > FEED_BYTES {
         return Err(FeedFault::FeedTooLong);
     }
-    let source = Source { keyspace, shard };
-    let pass = put_feed(alloc, &source, feed)?;
+    let pass = put_feed(alloc, source, watch, feed)?;
     pass.end()
 }
 
@@ -91,5 +104,6 @@ pub fn read_groups<'h>(
     // What a refusal says stands in the feed, and nothing is at fault before it.
     ensures first { IfErr result (λ fault. UnlessMemory fault (StandsIn feed.now (record { keyspace = keyspace.now; shard = shard.now }) fault)) }
 {
-    read(alloc, feed, keyspace, shard)
+    let source = Source { keyspace, shard };
+    read(alloc, feed, &source, &mut Watch::new(None))
 }

@@ -10,6 +10,7 @@ mod pass;
 mod source;
 #[cfg(test)]
 mod tests;
+mod watch;
 mod widths;
 
 pub use fault::FeedFault;

@@ -1,17 +1,22 @@
-use Rattle.std.proofs.Common.{[], List, ℕ, length, sym, ap, arith}
+use Rattle.std.proofs.Common.{[], List, ℕ, ◌||◌, length, refl, sym, ap, ◌∙◌, arith}
+use Rattle.std.specs.Prelude.{option_copied}
+use Rattle.std.specs.List.{list_any}
 use Rattle.std.proofs.lemmas.Result.{err_from_is_err_and}
 use Rattle.proto_wire.specs.Reading.{Reading}
 use Rattle.proto_wire.specs.declared.fault.FrameFault.{FrameFault}
 use Rattle.vevent.specs.Response.{response_of}
 use Rattle.source_feed.specs.EventList.{end_of_message, events_in}
 use Rattle.source_feed.specs.Run.{run}
-use Rattle.source_feed.proofs.Messages.{refuses_along, took_message, refused_message, length-feed, events_behind}
+use Rattle.source_feed.specs.Planned.{differs_from}
+use Rattle.source_feed.proofs.Messages.{refuses_along, took_message, refused_message, length-feed, events_behind, any_behind, seen_more}
 use Rattle.source_feed.proofs.groups.put_feed.Goals as goal
 
 pub loop-pass-init : goal.loop-pass-init
 loop-pass-init c = record {
   meaning = ([], ap (λ (r : Reading (List ℕ) FrameFault). run c.args.source.now [] (events_in r.items r.fault).items (events_in r.items r.fault).fault) (sym c.new-frames.ensures.reading), c.new-pass.ensures.meaning c.args.source.now);
   room = omega (arith, length-feed c.args.feed.now c.new-frames.result c.new-frames.ensures.spelled, ap length c.new-pass.ensures.none);
+  plan = refl;
+  seen = ap (λ (r : Reading (List ℕ) FrameFault). c.args.watch.now.differs || list_any (differs_from (option_copied c.args.watch.now.plan)) (events_in r.items r.fault).items) c.new-frames.ensures.reading;
 }
 
 pub loop-pass-preserved : goal.loop-pass-preserved
@@ -27,6 +32,11 @@ loop-pass-preserved c =
         c.loop-pass.invariant.room,
         events_behind c.args.source.now before.0 after.0 c.in-Some.message.now c.loop-pass.frames c.next_frame.new.self frame.0 frame.1 after.1,
       );
+      plan = c.put_message.ensures.plan ∙ c.loop-pass.invariant.plan;
+      seen = rw c.put_message.ensures.plan
+          (seen_more c.loop-pass.watch.differs c.put_message.new.watch.differs _ _ _ _ c.loop-pass.invariant.seen
+          (any_behind (differs_from (option_copied c.loop-pass.watch.plan)) c.args.source.now before.0 after.0 c.in-Some.message.now c.loop-pass.frames c.next_frame.new.self frame.0 frame.1 after.1)
+          c.in_ok-put_message.ensures.seen);
     }
 
 pub returns-in_err-put_message-clause-err : goal.returns-in_err-put_message-clause-err

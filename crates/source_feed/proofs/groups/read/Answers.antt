@@ -8,9 +8,9 @@ use Rattle.source_feed.proofs.RunLaws.{groups-run, gives_along}
 use Rattle.source_feed.proofs.Messages.{refuses_along}
 use Rattle.source_feed.proofs.groups.read.Goals as goal
 
-pub returns-in_err-pass : goal.returns-in_err-pass
-returns-in_err-pass c =
-    let source : SourceValue = record { keyspace = c.args.keyspace.now; shard = c.args.shard.now } in
+pub returns-in_err-pass-clause-groups : goal.returns-in_err-pass-clause-groups
+returns-in_err-pass-clause-groups c =
+    let source : SourceValue = c.args.source.now in
     let short : length c.args.feed.now < 2 ^ 31 = omega arith in
     let p = err_from_is_err_and c.from_residual.result c.from_residual.ensures.1 in
     rw (p.1, p.2)
@@ -18,9 +18,9 @@ returns-in_err-pass c =
     (λ e. groups-run c.args.feed.now source short ∙ ap (finish source) e)
     c.in_err-pass.ensures.err)
 
-pub returns : goal.returns
-returns c =
-    let source : SourceValue = record { keyspace = c.args.keyspace.now; shard = c.args.shard.now } in
+pub returns-clause-groups : goal.returns-clause-groups
+returns-clause-groups c =
+    let source : SourceValue = c.args.source.now in
     let short : length c.args.feed.now < 2 ^ 31 = omega arith in
     let all = c.in_ok-pass.ensures.ok in
     gives_along (λ all. all.items) c.end.result (groups c.args.feed.now source) (finish source (Ok all.0))

@@ -1,6 +1,6 @@
 use Rattle.std.proofs.Common.{◌≡◌, drop}
 use Rattle.source_feed.specs.Planned.{same_columns}
-use Rattle.source_feed.proofs.feed.are_same_columns.Given as goal
+use Rattle.source_feed.proofs.watch.are_same_columns.Given as goal
 
 -- all columns are the same if those still to come are
 abbrev pub invariant-loop-column : goal.invariant-loop-column
