@@ -78,6 +78,10 @@ fn push_change<'h>(
         return Err(FeedFault::ColumnCount);
     }
     if before.is_some() || after.is_some() {
+        if changes.is_empty() {
+            // most transactions change one row
+            changes.reserve_exact(1)?;
+        }
         changes.push(Change { table, rows })?;
     }
     Ok(())
