@@ -74,7 +74,12 @@ fn without_flavor(text: &[u8]) -> Result<&[u8], GtidFault>
     }
 }
 
-/// All intervals that a text names, in its order.
+/// The colons of a text. Each interval stands behind one.
+fn colons(text: &[u8]) -> usize {
+    text.iter().filter(|byte| **byte == b':').count()
+}
+
+/// All intervals that a text names, in its order, in room for as many as the text has colons.
 #[tactic(auto, unfolding(crate::specs::Text::within_limit, crate::specs::Text::intervals_of_text))]
 pub fn intervals_of(alloc: Global, text: &[u8]) -> Result<Vec<Interval>, GtidFault>
     ensures { Gives (λ v. v.items) result (within_limit text.now) }
@@ -82,8 +87,9 @@ pub fn intervals_of(alloc: Global, text: &[u8]) -> Result<Vec<Interval>, GtidFau
     if text.len() > TEXT_LIMIT {
         return Err(GtidFault::TooLarge);
     }
-    let mut intervals = Vec::new(alloc);
-    let mut rest = Some(without_flavor(trimmed(text))?);
+    let parts = without_flavor(trimmed(text))?;
+    let mut intervals = Vec::with_capacity(alloc, colons(parts))?;
+    let mut rest = Some(parts);
     while let Some(parts) = rest {
         let (part, others) = cut(parts, b',');
         push_part(&mut intervals, trimmed(part))?;
