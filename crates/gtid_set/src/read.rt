@@ -74,12 +74,17 @@ fn without_flavor(text: &[u8]) -> Result<&[u8], GtidFault>
     }
 }
 
-/// The colons of a text. Each interval stands behind one.
-fn colons(text: &[u8]) -> usize {
-    text.iter().filter(|byte| **byte == b':').count()
+/// The most intervals that a text can name: each stands behind a colon, and no colon before the 36
+/// bytes of the first uuid.
+fn most_intervals(text: &[u8]) -> usize {
+    let mut count = 0;
+    for byte in &text[text.len().min(36)..] {
+        count += usize::from(*byte == b':');
+    }
+    count
 }
 
-/// All intervals that a text names, in its order, in room for as many as the text has colons.
+/// All intervals that a text names, in its order, and room for as many as it can name.
 #[tactic(auto, unfolding(crate::specs::Text::within_limit, crate::specs::Text::intervals_of_text))]
 pub fn intervals_of(alloc: Global, text: &[u8]) -> Result<Vec<Interval>, GtidFault>
     ensures { Gives (λ v. v.items) result (within_limit text.now) }
@@ -88,7 +93,7 @@ pub fn intervals_of(alloc: Global, text: &[u8]) -> Result<Vec<Interval>, GtidFau
         return Err(GtidFault::TooLarge);
     }
     let parts = without_flavor(trimmed(text))?;
-    let mut intervals = Vec::with_capacity(alloc, colons(parts))?;
+    let mut intervals = Vec::with_capacity(alloc, most_intervals(parts))?;
     let mut rest = Some(parts);
     while let Some(parts) = rest {
         let (part, others) = cut(parts, b',');
