@@ -1,5 +1,5 @@
 -- A uuid's text is ASCII, and so it is UTF-8.
-use Rattle.std.proofs.Common.{◌≡◌, ℕ, ◌<◌, ◌/◌, ◌%◌, refl, arith, List, [], ◌∷◌, ◌++◌, Result, Ok, Err, IsOk}
+use Rattle.std.proofs.Common.{ℕ, ◌<◌, ◌/◌, ◌%◌, refl, arith, List, [], ◌∷◌, ◌++◌, Result, Ok, Err, IsOk}
 use Rattle.std.specs.Result.{MatchResult}
 use Rattle.std.specs.Str.{IsAscii, IsUtf8}
 use Rattle.std.proofs.lemmas.Bool.Decides.{nat_tests}

@@ -84,7 +84,7 @@ pub fn merge(intervals: &mut Vec<Interval>)
     intervals.shrink_to_fit();
 }
 
-/// The union of two sets.
+/// The union of two sets, without spare room where the allocator gives it back.
 pub fn union(
     alloc: Global,
     one: &[Interval],
@@ -94,7 +94,7 @@ pub fn union(
     requires other { IsCanonical other.now }
     ensures { IfOk result (λ both. both.items ≡ union_of one.now other.now) }
 {
-    let mut both = Vec::new(alloc);
+    let mut both = Vec::with_capacity(alloc, one.len() + other.len())?;
     let mut i = 0;
     let mut j = 0;
     while i < one.len() && j < other.len() {
@@ -108,6 +108,7 @@ pub fn union(
     }
     append_all(&mut both, &one[i..])?;
     append_all(&mut both, &other[j..])?;
+    both.shrink_to_fit();
     Ok(both)
 }
 

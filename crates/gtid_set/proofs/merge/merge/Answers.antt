@@ -1,7 +1,5 @@
-use Rattle.std.proofs.Common.{◌≡◌, ◌∙◌, ◌+◌, ◌<◌, ℕ, refl, sym, ap, arith, length, take, drop, List, []}
+use Rattle.std.proofs.Common.{◌∙◌, ◌+◌, ◌<◌, refl, arith, length, take}
 use Rattle.std.proofs.lemmas.Grind.{drop_more_same}
-use Rattle.gtid_set.specs.declared.interval.Interval.{Interval}
-use Rattle.gtid_set.specs.Position.{union_of}
 use Rattle.gtid_set.proofs.Merging.{over-nothing, next_of, left-later, left-at}
 use Rattle.gtid_set.proofs.merge.merge.Goals as goal
 

@@ -1,6 +1,4 @@
-use Rattle.std.proofs.Common.{List}
 use Rattle.std.proofs.lemmas.Result.{err_from_is_err_and}
-use Rattle.gtid_set.specs.declared.interval.Interval.{Interval}
 use Rattle.gtid_set.proofs.Named.{Each-permutation, sorted-rising}
 use Rattle.gtid_set.proofs.Parsed.{IsParsed, is_parsed, refused, each-within}
 use Rattle.gtid_set.proofs.set.GtidSet.parse.Goals as goal
