@@ -59,9 +59,9 @@ fn settle(set: &mut Vec<Interval>, kept: usize, next: Interval) -> usize
     ensures bound { result ≤ kept + 1 }
 {
     if kept > 0 {
-        let last = set[kept - 1];
-        if !last.ends_before(&next) {
-            set[kept - 1].last = last.last.max(next.last);
+        let before = set[kept - 1];
+        if !before.ends_before(&next) {
+            set[kept - 1].last = before.last.max(next.last);
             return kept;
         }
     }
