@@ -1,8 +1,9 @@
 -- An interval that begins behind a set's intervals is merged with the last one or stands behind it.
 use Rattle.std.proofs.Common.{◌≡◌, ℕ, ◌+◌, ◌-◌, ◌<◌, ◌≤◌, true, false, refl, sym, ◌∙◌, ap, subst, arith, max, List, [], ◌∷◌, ◌++◌, length, get_or, set, take}
+use Rattle.std.proofs.Math.Seq.{take-set-lt}
 use Rattle.std.proofs.lemmas.Bool.Decides.{nat_tests}
 use Rattle.std.proofs.lemmas.Grind.{common_steps, take_at_read}
-use Rattle.std.proofs.lemmas.List.{set_at, length-take-le}
+use Rattle.std.proofs.lemmas.List.{get_or-take, take_more_set, set_at, length-take-le}
 use Rattle.gtid_set.specs.declared.interval.Interval.{Interval}
 use Rattle.gtid_set.specs.Position.{ends_before, starts_by, hull, joined, IsInterval, IsCanonical}
 use Rattle.gtid_set.specs.Order.{AllStartBy, AllEndBefore}
@@ -96,3 +97,26 @@ push-joined s x next some e c ends =
 pub push-joined-none : (s : List Interval) (next : Interval) → length s ≤ 0 → s ++ next ∷ [] ≡ joined s next
 push-joined-none [] next le = refl
 push-joined-none (x ∷ s) next le = absurd (omega arith)
+
+-- ---- the set at the front of a longer list
+
+last-taken : (s : List Interval) (k : ℕ) (x : Interval) → 0 < k → k ≤ length s → x ≡ get_or s (k - 1) x → x ≡ get_or (take k s) (length (take k s) - 1) x
+last-taken s k x some le e = rw (length-take-le k s le) (e ∙ sym (get_or-take k s (k - 1) x (omega arith)))
+
+pub take-set_last-joined : (s : List Interval) (k : ℕ) (x next : Interval) → 0 < k → k ≤ length s → x ≡ get_or s (k - 1) x → IsCanonical (take k s) → IsInterval next → AllStartBy next (take k s) → ends_before x next ≡ false
+    → take k (set s (k - 1) (up_to x next.last)) ≡ joined (take k s) next
+take-set_last-joined s k x next some le e c one starts not_ends =
+    let len = length-take-le k s le in
+    take-set-lt k s (k - 1) (up_to x next.last) (omega arith)
+    ∙ ap (λ (j : ℕ). set (take k s) (j - 1) (up_to x next.last)) (sym len)
+    ∙ set_last-joined (take k s) x next (omega (arith, len)) (last-taken s k x some le e) c one starts not_ends
+
+pub take-set-joined : (s : List Interval) (k : ℕ) (x next : Interval) → 0 < k → k < length s → x ≡ get_or s (k - 1) x → IsCanonical (take k s) → ends_before x next ≡ true → take (k + 1) (set s k next) ≡ joined (take k s) next
+take-set-joined s k x next some lt e c ends =
+    let le : k ≤ length s = omega arith in
+    let len = length-take-le k s le in
+    take_more_set s k next lt ∙ push-joined (take k s) x next (omega (arith, len)) (last-taken s k x some le e) c ends
+
+pub take-set-joined-none : (s : List Interval) (k : ℕ) (next : Interval) → k ≤ 0 → k < length s → take (k + 1) (set s k next) ≡ joined (take k s) next
+take-set-joined-none s k next none lt =
+    take_more_set s k next lt ∙ push-joined-none (take k s) next (omega (arith, length-take-le k s (omega arith)))

@@ -1,47 +1,52 @@
--- Four hexadecimal digits, as a hole `{:04x}` writes them.
-use Rattle.std.proofs.Common.{◌≡◌, ℕ, ◌-◌, ◌/◌, ◌%◌, ◌^◌, ◌<◌, ◌≤◌, false, refl, sym, ◌∙◌, ap, inl, inr, arith, List, [], ◌∷◌}
-use Rattle.std.specs.Fmt.{digits, digit_glyph, padded_integral, format_spec, char_count}
-use Rattle.std.proofs.DigitsParse.{digits_onto-nil, digits_onto_last, digits_onto_step}
-use Rattle.std.proofs.lemmas.Bool.{cases_lt}
-use Rattle.std.proofs.lemmas.Fmt.{hex_one_digit, hex_two_digits}
-use Rattle.gtid_set.specs.Printed.{hex_four}
+-- A uuid's text is ASCII, and so it is UTF-8.
+use Rattle.std.proofs.Common.{ℕ, ◌<◌, ◌/◌, ◌%◌, refl, arith, List, [], ◌∷◌, ◌++◌, Result, Ok, Err, IsOk}
+use Rattle.std.specs.Result.{MatchResult}
+use Rattle.std.specs.Str.{IsAscii, IsUtf8}
+use Rattle.std.proofs.lemmas.Bool.Decides.{nat_tests}
+use Rattle.std.proofs.lemmas.Str.{IsAscii-append, IsUtf8-from_ascii}
+use Rattle.std.proofs.lemmas.Str.Ascii.{IsAscii-nil, IsAscii-cons}
+use Rattle.gtid_set.specs.Printed.{hex_glyph, hex_four, group_of, uuid_text}
 
-abbrev glyph : ℕ → ℕ
-glyph d = digit_glyph false d
+glyph_small : (n : ℕ) → hex_glyph (n % 16) < 128
+glyph_small n =
+    let small : n % 16 < 16 = omega arith in
+    grind (arith, nat_tests)
 
-hex_three : (n : ℕ) → 256 ≤ n → n < 4096 → digits 16 false n ≡ glyph (n / 16 / 16) ∷ glyph (n / 16 % 16) ∷ glyph (n % 16) ∷ []
-hex_three n large small =
-    let same : n / 16 / 16 % 16 ≡ n / 16 / 16 = omega arith in
-    sym (digits_onto-nil 16 false n) ∙ digits_onto_step 16 false n [] 64 (omega arith) (omega arith)
-    ∙ digits_onto_step 16 false (n / 16) (glyph (n % 16) ∷ []) 63 (omega arith) (omega arith)
-    ∙ digits_onto_last 16 false (n / 16 / 16) (glyph (n / 16 % 16) ∷ glyph (n % 16) ∷ []) 62 (omega arith) (omega arith)
-    ∙ ap (λ d. glyph d ∷ glyph (n / 16 % 16) ∷ glyph (n % 16) ∷ []) same
+four : (n : ℕ) → IsAscii (hex_four n)
+four n =
+    let three : List ℕ = hex_glyph (n / 256 % 16) ∷ hex_glyph (n / 16 % 16) ∷ hex_glyph (n % 16) ∷ [] in
+    let two : List ℕ = hex_glyph (n / 16 % 16) ∷ hex_glyph (n % 16) ∷ [] in
+    IsAscii-cons _ three (glyph_small (n / 4096)) (IsAscii-cons _ two (glyph_small (n / 256)) (IsAscii-cons _ (hex_glyph (n % 16) ∷ []) (glyph_small (n / 16)) (IsAscii-cons _ [] (glyph_small n) IsAscii-nil)))
 
-hex_all : (n : ℕ) → 4096 ≤ n → n < 65536 → digits 16 false n ≡ glyph (n / 16 / 16 / 16) ∷ glyph (n / 16 / 16 % 16) ∷ glyph (n / 16 % 16) ∷ glyph (n % 16) ∷ []
-hex_all n large small =
-    let same : n / 16 / 16 / 16 % 16 ≡ n / 16 / 16 / 16 = omega arith in
-    sym (digits_onto-nil 16 false n) ∙ digits_onto_step 16 false n [] 64 (omega arith) (omega arith)
-    ∙ digits_onto_step 16 false (n / 16) (glyph (n % 16) ∷ []) 63 (omega arith) (omega arith)
-    ∙ digits_onto_step 16 false (n / 16 / 16) (glyph (n / 16 % 16) ∷ glyph (n % 16) ∷ []) 62 (omega arith) (omega arith)
-    ∙ digits_onto_last 16 false (n / 16 / 16 / 16) (glyph (n / 16 / 16 % 16) ∷ glyph (n / 16 % 16) ∷ glyph (n % 16) ∷ []) 61 (omega arith) (omega arith)
-    ∙ ap (λ d. glyph d ∷ glyph (n / 16 / 16 % 16) ∷ glyph (n / 16 % 16) ∷ glyph (n % 16) ∷ []) same
+-- digits, a hyphen and a text
+hyphenated : (n : ℕ) (rest : List ℕ) → IsAscii rest → IsAscii (hex_four n ++ 45 ∷ rest)
+hyphenated n rest more = IsAscii-append (hex_four n) (45 ∷ rest) (four n) (IsAscii-cons 45 rest (omega arith) more)
 
-abbrev four_at : ℕ → ℕ → ℕ → ℕ → List ℕ
-four_at a b c d = glyph a ∷ glyph b ∷ glyph c ∷ glyph d ∷ []
+pub uuid-utf8 : (uuid : ℕ) → IsUtf8 (uuid_text uuid)
+unfolding uuid_text
+uuid-utf8 uuid = IsUtf8-from_ascii _ (IsAscii-append (at 112) from_96 (four (group_of uuid 112)) (hyphenated (group_of uuid 96) from_80
+    (hyphenated (group_of uuid 80) from_64 (hyphenated (group_of uuid 64) from_48 (hyphenated (group_of uuid 48) from_32
+    (IsAscii-append (at 32) (at 16 ++ at 0) (four (group_of uuid 32)) (IsAscii-append (at 16) (at 0) (four (group_of uuid 16)) (four (group_of uuid 0)))))))))
+  where
+    at : ℕ → List ℕ
+    at place = hex_four (group_of uuid place)
 
-four-is : (n a b c d : ℕ) → a ≡ n / 4096 % 16 → b ≡ n / 256 % 16 → c ≡ n / 16 % 16 → d ≡ n % 16 → four_at a b c d ≡ hex_four n
-four-is n a b c d e f g h = rw (e, f, g, h) refl
+    from_32 : List ℕ
+    from_32 = at 32 ++ at 16 ++ at 0
 
-pub padded_four : (n : ℕ) → n < 65536 → padded_integral (format_spec 32 0 4 4 (2 ^ 64 - 1)) false [] (digits 16 false n) ≡ hex_four n
-unfolding padded_integral char_count
-padded_four n small =
-    elim (cases_lt n 16) [
-      | inl one ↦ rw (hex_one_digit false n one) (four-is n 0 0 0 n (omega arith) (omega arith) (omega arith) (omega arith))
-      | inr some ↦ elim (cases_lt n 256) [
-        | inl two ↦ rw (hex_two_digits false n some two) (four-is n 0 0 (n / 16) (n % 16) (omega arith) (omega arith) (omega arith) refl)
-        | inr more ↦ elim (cases_lt n 4096) [
-          | inl three ↦ rw (hex_three n more three) (four-is n 0 (n / 16 / 16) (n / 16 % 16) (n % 16) (omega arith) (omega arith) refl refl)
-          | inr all ↦ rw (hex_all n all small) (four-is n (n / 16 / 16 / 16) (n / 16 / 16 % 16) (n / 16 % 16) (n % 16) (omega arith) (omega arith) refl refl)
-        ]
-      ]
-    ]
+    from_48 : List ℕ
+    from_48 = at 48 ++ 45 ∷ from_32
+
+    from_64 : List ℕ
+    from_64 = at 64 ++ 45 ∷ from_48
+
+    from_80 : List ℕ
+    from_80 = at 80 ++ 45 ∷ from_64
+
+    from_96 : List ℕ
+    from_96 = at 96 ++ 45 ∷ from_80
+
+-- a text is read from bytes that are one
+pub ok-text : {T E A : Type 0} (P : T → Type 0) (Q : E → Type 0) (r : Result T E) → MatchResult r P (λ e. (A → ⊥) × Q e) → A → IsOk r
+ok-text P Q (Ok x) cases a = refl
+ok-text P Q (Err e) cases a = absurd (cases.0 a)

@@ -1,7 +1,8 @@
 -- Intervals that rise by their beginnings, added one after another.
-use Rattle.std.proofs.Common.{◌≡◌, ℕ, zero, suc, ◌+◌, ◌<◌, Bool, true, false, refl, sym, ◌∙◌, ap, arith, IsTrue, ◌||◌, add-one, drop-cons, List, [], ◌∷◌, length, get_or, drop}
+use Rattle.std.proofs.Common.{◌≡◌, ℕ, zero, suc, ◌+◌, ◌-◌, ◌<◌, ◌≤◌, Bool, true, false, refl, sym, ◌∙◌, ap, subst, arith, IsTrue, ◌||◌, add-one, drop-cons, List, [], ◌∷◌, length, get_or, drop}
 use Rattle.std.specs.List.{AllByRecursion}
 use Rattle.std.proofs.lemmas.Bool.Decides.{nat_tests}
+use Rattle.std.proofs.lemmas.List.{drop-drop, get_or-drop}
 use Rattle.gtid_set.specs.declared.interval.Interval.{Interval}
 use Rattle.gtid_set.specs.Position.{holds, has, ends_before, starts_by, hull, joined, union_of, IsInterval, IsCanonical}
 use Rattle.gtid_set.specs.Order.{AllStartBy, AllStartOver, IsRising}
@@ -93,6 +94,39 @@ next_of set rising new k x lt e c each up over is =
     let next : Next (joined set x) (drop (k + 1) rising) = next-front set x (drop (k + 1) rising) c one.0 rise start in
     (rw is next, rw (d, is) refl)
 
+pub interval-at : (s : List Interval) (k : ℕ) (d : Interval) → k < length s → AllByRecursion IsInterval s → IsInterval (get_or s k d)
+interval-at [] k d lt each = absurd (omega arith)
+interval-at (x ∷ s) zero d lt each = each.0
+interval-at (x ∷ s) (suc k) d lt each = interval-at s k d (omega arith) each.1
+
+-- ---- in place: what is left stands behind the set so far
+
+pub left-later : (new old : List Interval) (m n : ℕ) → m ≤ n → drop m new ≡ drop m old → drop n new ≡ drop n old
+left-later new old m n le e =
+    let j : m + (n - m) ≡ n = omega arith in
+    rw j at (sym (drop-drop (n - m) m new) ∙ ap (λ (l : List Interval). drop (n - m) l) e ∙ drop-drop (n - m) m old)
+
+same-at : (s t : List Interval) (k : ℕ) (d : Interval) → drop k s ≡ drop k t → get_or s k d ≡ get_or t k d
+same-at s t k d e =
+    let j : k + 0 ≡ k = omega arith in
+    rw j at (sym (get_or-drop k s 0 d) ∙ ap (λ (l : List Interval). get_or l 0 d) e ∙ get_or-drop k t 0 d)
+
+-- the interval at a place of what is left
+pub record Left (set rising : List Interval) (k : ℕ) (x : Interval) : Type 0 where
+  pub is : x ≡ get_or rising k x
+  pub interval : IsInterval x
+  pub starts : AllStartBy x set
+
+pub left-at : (set items rising : List Interval) (k : ℕ) (x : Interval) → k < length rising → x ≡ get_or items k x → drop k items ≡ drop k rising → AllByRecursion IsInterval rising → AllStartOver set (drop k rising) → Left set rising k x
+left-at set items rising k x lt e same each over =
+    let is : x ≡ get_or rising k x = e ∙ same-at items rising k x same in
+    let start : AllStartOver set (x ∷ drop (k + 1) rising) = rw (drop-front rising k x lt is) at over in
+    record {
+      is = is;
+      interval = subst IsInterval (sym is) (interval-at rising k x lt each);
+      starts = start.0;
+    }
+
 -- ---- two sets
 
 abbrev Pairs : List Interval → List Interval → List Interval → ℕ → ℕ → Bool
@@ -161,8 +195,3 @@ union-rest both one other set c d e f pairs =
     or_assoc : (a b c : Bool) → ((a || b) || c) ≡ (a || (b || c))
     or_assoc true b c = refl
     or_assoc false b c = refl
-
-pub interval-at : (s : List Interval) (k : ℕ) (d : Interval) → k < length s → AllByRecursion IsInterval s → IsInterval (get_or s k d)
-interval-at [] k d lt each = absurd (omega arith)
-interval-at (x ∷ s) zero d lt each = each.0
-interval-at (x ∷ s) (suc k) d lt each = interval-at s k d (omega arith) each.1

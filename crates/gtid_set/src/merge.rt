@@ -1,6 +1,6 @@
 //! Merged rising intervals: membership, subset, union and one pair more.
 
-ghost use Rattle.std.specs.Prelude.{◌≡◌, ◌≤◌, ◌<◌, ◌^◌, [], IfOk, OnOk, OnErr, length, take, false, vec_len};
+ghost use Rattle.std.specs.Prelude.{◌≡◌, ◌+◌, ◌≤◌, ◌<◌, ◌^◌, [], IfOk, OnOk, OnErr, length, take, drop, false, vec_len};
 ghost use Rattle.std.specs.List.{AllByRecursion, HoldsAt};
 ghost use Rattle.gtid_set.specs.Position.{has, ends_before, IsInterval, IsCanonical, last_number, joined, union_of, with_pair, within_of};
 ghost use Rattle.gtid_set.specs.Order.{AllStartBy, AllStartOver, AllEndBefore, IsRising, widened};
@@ -46,18 +46,45 @@ fn append_all(set: &mut Vec<Interval>, rising: &[Interval]) -> Result<(), AllocE
     Ok(())
 }
 
-/// The set of intervals that rise by their beginnings.
-pub fn merged(alloc: Global, rising: &[Interval]) -> Result<Vec<Interval>, AllocError>
-    requires each { AllByRecursion IsInterval rising.now }
-    requires rising { IsRising rising.now }
-    ensures { IfOk result (λ set. set.items ≡ union_of [] rising.now) }
+/// Adds an interval to the set that stands before `kept`, of which none begins after it, and says
+/// how long that set then is.
+fn settle(set: &mut Vec<Interval>, kept: usize, next: Interval) -> usize
+    requires inside { kept < length set.old.items }
+    requires canonical { IsCanonical (take kept set.old.items) }
+    requires interval { IsInterval next }
+    requires starts { AllStartBy next (take kept set.old.items) }
+    ensures joined { take result set.new.items ≡ joined (take kept set.old.items) next }
+    ensures left { drop (kept + 1) set.new.items ≡ drop (kept + 1) set.old.items }
+    ensures length { length set.new.items ≡ length set.old.items }
+    ensures bound { result ≤ kept + 1 }
 {
-    let mut set = Vec::new(alloc);
-    append_all(&mut set, rising)?;
-    Ok(set)
+    if kept > 0 {
+        let before = set[kept - 1];
+        if !before.ends_before(&next) {
+            set[kept - 1].last = before.last.max(next.last);
+            return kept;
+        }
+    }
+    set[kept] = next;
+    kept + 1
 }
 
-/// The union of two sets.
+/// Makes a set of intervals that rise by their beginnings, in place, and gives back what room it
+/// can.
+pub fn merge(intervals: &mut Vec<Interval>)
+    requires each { AllByRecursion IsInterval intervals.old.items }
+    requires rising { IsRising intervals.old.items }
+    ensures { intervals.new.items ≡ union_of [] intervals.old.items }
+{
+    let mut kept = 0;
+    for place in 0..intervals.len() {
+        kept = settle(intervals, kept, intervals[place]);
+    }
+    intervals.truncate(kept);
+    intervals.shrink_to_fit();
+}
+
+/// The union of two sets, without spare room where the allocator gives it back.
 pub fn union(
     alloc: Global,
     one: &[Interval],
@@ -67,7 +94,7 @@ pub fn union(
     requires other { IsCanonical other.now }
     ensures { IfOk result (λ both. both.items ≡ union_of one.now other.now) }
 {
-    let mut both = Vec::new(alloc);
+    let mut both = Vec::with_capacity(alloc, one.len() + other.len())?;
     let mut i = 0;
     let mut j = 0;
     while i < one.len() && j < other.len() {
@@ -81,6 +108,7 @@ pub fn union(
     }
     append_all(&mut both, &one[i..])?;
     append_all(&mut both, &other[j..])?;
+    both.shrink_to_fit();
     Ok(both)
 }
 

@@ -1,37 +1,64 @@
 //! The printed form of a set.
 
-ghost use Rattle.std.specs.Prelude.{◌≡◌, ◌+◌, ◌*◌, ◌/◌, ◌%◌, ◌^◌, ◌<◌, Some};
-ghost use Rattle.gtid_set.specs.Printed.{group_of};
+ghost use Rattle.std.specs.Prelude.{◌≡◌, ◌+◌, ◌*◌, ◌/◌, ◌%◌, ◌^◌, ◌<◌, Some, slice_set};
+ghost use Rattle.gtid_set.specs.Printed.{hex_glyph, group_of, uuid_text};
 
 use crate::interval::Interval;
 use crate::set::GtidSet;
-use std::fmt;
+use std::{fmt, str};
 
 /// 16 bits of a uuid, from `place` bits above its low end on.
-fn group(uuid: u128, place: u32) -> HexFour
+fn group(uuid: u128, place: u32) -> u16
     requires { place < 128 }
-    ensures { result.0 ≡ group_of uuid place }
+    ensures { result ≡ group_of uuid place }
 {
-    HexFour((uuid / (1 << place) % 65536) as u16)
+    (uuid / (1 << place) % 65536) as u16
 }
 
-/// Four hexadecimal digits in lower case.
-#[derive(Drop)]
-struct HexFour(u16);
-
-impl fmt::Display for HexFour {
-    ghost use Rattle.std.specs.Prelude.{Some};
-    ghost use Rattle.gtid_set.specs.Printed.{hex_four};
-
-    ghost output = { λ digits. Some (hex_four digits.0) };
-
-    fn fmt<W: fmt::Write>(&self, f: &mut fmt::Formatter<W>) -> fmt::Result {
-        let digits = self.0;
-        write!(f, "{digits:04x}")
+/// A hexadecimal digit in lower case.
+fn hex_glyph(digit: u16) -> u8
+    requires { digit < 16 }
+    ensures { result ≡ hex_glyph digit }
+{
+    if digit < 10 {
+        b'0' + digit as u8
+    } else {
+        b'a' - 10 + digit as u8
     }
 }
 
+/// Puts the four digits of a group at a place of a text.
+fn put(text: &mut [u8; 36], at: usize, group: u16)
+    requires { at + 3 < 36 }
+    ensures { text.new ≡ slice_set (slice_set (slice_set (slice_set text.old
+        at (hex_glyph (group / 4096 % 16)))
+        (at + 1) (hex_glyph (group / 256 % 16)))
+        (at + 2) (hex_glyph (group / 16 % 16)))
+        (at + 3) (hex_glyph (group % 16)) }
+{
+    text[at] = hex_glyph(group / 4096 % 16);
+    text[at + 1] = hex_glyph(group / 256 % 16);
+    text[at + 2] = hex_glyph(group / 16 % 16);
+    text[at + 3] = hex_glyph(group % 16);
+}
+
 /// A uuid's text, 8-4-4-4-12, in lower case.
+fn uuid_text(uuid: u128) -> [u8; 36]
+    ensures { result ≡ uuid_text uuid }
+{
+    let mut text = [b'-'; 36];
+    put(&mut text, 0, group(uuid, 112));
+    put(&mut text, 4, group(uuid, 96));
+    put(&mut text, 9, group(uuid, 80));
+    put(&mut text, 14, group(uuid, 64));
+    put(&mut text, 19, group(uuid, 48));
+    put(&mut text, 24, group(uuid, 32));
+    put(&mut text, 28, group(uuid, 16));
+    put(&mut text, 32, group(uuid, 0));
+    text
+}
+
+/// A uuid, which is written in one piece.
 #[derive(Drop)]
 struct UuidText(u128);
 
@@ -41,12 +68,8 @@ impl fmt::Display for UuidText {
 
     ghost output = { λ uuid. Some (uuid_text uuid.0) };
 
-    #[tactic(auto, unfolding(crate::specs::Printed::uuid_text))]
     fn fmt<W: fmt::Write>(&self, f: &mut fmt::Formatter<W>) -> fmt::Result {
-        write!(f, "{}{}-", group(self.0, 112), group(self.0, 96))?;
-        write!(f, "{}-{}-", group(self.0, 80), group(self.0, 64))?;
-        write!(f, "{}-{}", group(self.0, 48), group(self.0, 32))?;
-        write!(f, "{}{}", group(self.0, 16), group(self.0, 0))
+        f.write_str(str::from_utf8(&uuid_text(self.0)).unwrap())
     }
 }
 

@@ -74,7 +74,17 @@ fn without_flavor(text: &[u8]) -> Result<&[u8], GtidFault>
     }
 }
 
-/// All intervals that a text names, in its order.
+/// The most intervals that a text can name: each stands behind a colon, and no colon before the 36
+/// bytes of the first uuid.
+fn most_intervals(text: &[u8]) -> usize {
+    let mut count = 0;
+    for byte in &text[text.len().min(36)..] {
+        count += usize::from(*byte == b':');
+    }
+    count
+}
+
+/// All intervals that a text names, in its order, and room for as many as it can name.
 #[tactic(auto, unfolding(crate::specs::Text::within_limit, crate::specs::Text::intervals_of_text))]
 pub fn intervals_of(alloc: Global, text: &[u8]) -> Result<Vec<Interval>, GtidFault>
     ensures { Gives (λ v. v.items) result (within_limit text.now) }
@@ -82,8 +92,9 @@ pub fn intervals_of(alloc: Global, text: &[u8]) -> Result<Vec<Interval>, GtidFau
     if text.len() > TEXT_LIMIT {
         return Err(GtidFault::TooLarge);
     }
-    let mut intervals = Vec::new(alloc);
-    let mut rest = Some(without_flavor(trimmed(text))?);
+    let parts = without_flavor(trimmed(text))?;
+    let mut intervals = Vec::with_capacity(alloc, most_intervals(parts))?;
+    let mut rest = Some(parts);
     while let Some(parts) = rest {
         let (part, others) = cut(parts, b',');
         push_part(&mut intervals, trimmed(part))?;

@@ -8,7 +8,7 @@ ghost use Rattle.gtid_set.specs.Text.{position_of_text, IsOfText};
 
 use crate::fault::GtidFault;
 use crate::interval::Interval;
-use crate::merge::{add_pair, are_within, has_pair, merged, union};
+use crate::merge::{add_pair, are_within, has_pair, merge, union};
 use crate::read::intervals_of;
 use std::alloc::{AllocError, Global};
 use std::marker::Model;
@@ -53,9 +53,8 @@ impl GtidSet {
     {
         let mut intervals = intervals_of(alloc, text.as_bytes())?;
         intervals.sort_unstable();
-        Ok(GtidSet {
-            intervals: merged(alloc, &intervals)?,
-        })
+        merge(&mut intervals);
+        Ok(GtidSet { intervals })
     }
 
     /// The set has no pair.

@@ -58,6 +58,29 @@ fn position_texts(rt: HostRuntime) -> Result<(), Fail> {
 }
 
 #[test]
+fn intervals_that_overlap_or_touch(rt: HostRuntime) -> Result<(), Fail> {
+    let alloc = rt.alloc();
+    for (intervals, want) in [
+        ("7:7:7", "7"),
+        ("20:1-2:3:5-9", "1-3:5-9:20"),
+        ("10-12:1-30:14:31", "1-31"),
+        ("5-3:8:2-1", "8"),
+        ("5:3:1", "1:3:5"),
+        ("1-4:2-3:4-6:6-5:9", "1-6:9"),
+    ] {
+        let set = GtidSet::parse(
+            alloc,
+            &format!(in alloc; "{V}:{intervals},{U}:{intervals}")?,
+        )?;
+        assert_eq!(rt;
+            format!(in alloc; "{set}")?.as_str(),
+            format!(in alloc; "{U}:{want},{V}:{want}")?.as_str()
+        );
+    }
+    Ok(())
+}
+
+#[test]
 fn union_add_and_clone(rt: HostRuntime) -> Result<(), Fail> {
     let alloc = rt.alloc();
     let one = GtidSet::parse(alloc, format!(in alloc; "{U}:1-2")?.as_str())?;

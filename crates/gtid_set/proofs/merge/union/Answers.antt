@@ -70,6 +70,6 @@ returns c =
     let before = c.loop-i.invariant in
     let e = rw take_rest at c.in_ok-append_all.ensures in
     let f = rw take_rest at c.in_ok-append_all-2.ensures in
-    rw (f, e) (union-rest c.loop-i.both.items (drop c.loop-i.i one) (drop c.loop-i.j other) (union_of one other) before.canonical
+    rw (c.shrink_to_fit.ensures.items, f, e) (union-rest c.loop-i.both.items (drop c.loop-i.i one) (drop c.loop-i.j other) (union_of one other) before.canonical
     (canonical-drop c.loop-i.i one c.requires.one) (canonical-drop c.loop-i.j other c.requires.other) (canonical-union one other c.requires.one c.requires.other)
     (λ u n. before.pairs u n ∙ sym (union-pairs one other c.requires.one c.requires.other u n)))
