@@ -1,23 +1,29 @@
--- Text that grows piece by piece: what is written and what is left are the whole.
-use Rattle.std.proofs.Common.{◌≡◌, ℕ, suc, ◌+◌, ◌<◌, ◌≤◌, ◌/◌, ◌%◌, List, [], ◌∷◌, ◌++◌, length, get_or, drop, sym, ap, ◌∙◌, append_assoc, add-one}
+-- Text that is printed piece by piece: what is printed and what is left are the whole.
+use Rattle.std.proofs.Common.{◌≡◌, ℕ, ◌+◌, ◌<◌, ◌≤◌, ◌/◌, ◌%◌, List, [], ◌∷◌, ◌++◌, length, get_or, take, drop, sym, ap, ◌∙◌, subst, refl, add-one, Option, take-append-drop}
 use Rattle.std.specs.List.{flat_map}
 use Rattle.std.specs.Prelude.{slice_index}
-use Rattle.std.proofs.lemmas.List.{append-nil, drop_all}
+use Rattle.std.specs.Io.KnownBytes.{Appends}
+use Rattle.std.proofs.KnownBytes.{Appends-nil, Appends-trans}
+use Rattle.std.proofs.lemmas.List.{drop_all}
 use Rattle.std.proofs.lemmas.List.Concat.{flat_map-cons}
 use Rattle.std.proofs.Math.Seq.{drop-cons}
-use Rattle.hex.specs.Hex.{lower_digits, encode_lower, encode_with}
+use Rattle.hex.specs.Hex.{encode_lower, encode_with, lower_digits}
 
--- one piece more of what is left is written
-pub moves : (old new piece left rest whole : List ℕ) → left ≡ piece ++ rest → old ++ left ≡ whole → new ≡ old ++ piece → new ++ rest ≡ whole
-moves old new piece left rest whole parts before written = ap (λ (t : List ℕ). t ++ rest) written ∙ append_assoc old piece rest ∙ ap (λ (r : List ℕ). old ++ r) (sym parts) ∙ before
+-- whoever prints what is left has printed the whole since `old`
+abbrev pub Completes : Option (List ℕ) → Option (List ℕ) → List ℕ → List ℕ → Type 0
+Completes old now left whole = (end : Option (List ℕ)) → Appends now end left → Appends old end whole
 
--- two pieces behind a text
-pub two_more : (old mid new one two : List ℕ) → mid ≡ old ++ one → new ≡ mid ++ two → new ≡ old ++ (one ++ two)
-two_more old mid new one two first second = second ∙ ap (λ (t : List ℕ). t ++ two) first ∙ append_assoc old one two
+-- nothing is printed yet
+pub starts : (old : Option (List ℕ)) (whole : List ℕ) → Completes old old whole whole
+starts old whole end printed = printed
+
+-- one piece more of what is left is printed
+pub moves : (old now new : Option (List ℕ)) (piece left rest whole : List ℕ) → left ≡ piece ++ rest → Completes old now left whole → Appends now new piece → Completes old new rest whole
+moves old now new piece left rest whole parts before printed end others = before end (subst (Appends now end) (sym parts) (Appends-trans now new end piece rest printed others))
 
 -- nothing is left
-pub ends : (text rest whole : List ℕ) → text ++ rest ≡ whole → rest ≡ [] → text ≡ whole
-ends text rest whole so_far nothing = sym (append-nil text) ∙ ap (λ (r : List ℕ). text ++ r) (sym nothing) ∙ so_far
+pub ends : (old now : Option (List ℕ)) (left whole : List ℕ) → Completes old now left whole → left ≡ [] → Appends old now whole
+ends old now left whole so_far nothing = so_far now (subst (Appends now now) (sym nothing) (Appends-nil now))
 
 -- the first piece of what is left
 pub first_piece : {X : Type 0} (f : X → List ℕ) (xs : List X) (k : ℕ) (x : X) → k < length xs → x ≡ get_or xs k x → flat_map f (drop k xs) ≡ f x ++ flat_map f (drop (k + 1) xs)
@@ -28,14 +34,16 @@ first_piece {X} f xs k x lt is =
 pub no_piece : {X : Type 0} (f : X → List ℕ) (xs : List X) (k : ℕ) → length xs ≤ k → flat_map f (drop k xs) ≡ []
 no_piece {X} f xs k le = ap (λ (ys : List X). flat_map f ys) (drop_all k xs le)
 
--- the two digits of the next byte
-pub first_digits : (bytes : List ℕ) (k : ℕ) → k < length bytes
-    → encode_lower (drop k bytes) ≡ (slice_index lower_digits (get_or bytes k 0 / 16) ∷ []) ++ (slice_index lower_digits (get_or bytes k 0 % 16) ∷ []) ++ encode_lower (drop (k + 1) bytes)
+-- bytes one behind the other are spelled one behind the other
+hex-append : (xs ys : List ℕ) → encode_lower (xs ++ ys) ≡ encode_lower xs ++ encode_lower ys
 unfolding encode_with
-first_digits bytes k lt =
-    let e : drop k bytes ≡ get_or bytes k 0 ∷ drop (k + 1) bytes = rw add-one (drop-cons bytes k 0 lt) in
-    ap encode_lower e
+hex-append [] ys = refl
+hex-append (x ∷ xs) ys = ap (λ (t : List ℕ). slice_index lower_digits (x / 16) ∷ slice_index lower_digits (x % 16) ∷ t) (hex-append xs ys)
 
-pub no_digits : (bytes : List ℕ) (k : ℕ) → length bytes ≤ k → encode_lower (drop k bytes) ≡ []
+-- the first bytes and the others
+pub hex_parts : (bytes : List ℕ) (n : ℕ) → encode_lower bytes ≡ encode_lower (take n bytes) ++ encode_lower (drop n bytes)
+hex_parts bytes n = ap encode_lower (sym (take-append-drop n bytes)) ∙ hex-append (take n bytes) (drop n bytes)
+
+pub no_hex : (bytes : List ℕ) → bytes ≡ [] → encode_lower bytes ≡ []
 unfolding encode_with
-no_digits bytes k le = ap encode_lower (drop_all k bytes le)
+no_hex bytes none = ap encode_lower none

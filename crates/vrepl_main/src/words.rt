@@ -61,6 +61,23 @@ pub fn read<'w>(alloc: Global, words: &'w [String]) -> Result<Words<'w>, Error>
     }
 }
 
+/// A call of `show` and what it prints.
+const SHOW_EXAMPLE: &str = "\
+Example:
+  $ vrepl show --hex examples/one_insert.hex
+  group 1 3e11fa47-71ca-11e1-9e33-c80aa9429562:1
+  + t\tx31\tx6162";
+
+/// A call of `thin` and what it prints.
+const THIN_EXAMPLE: &str = "\
+Example:
+  $ xxd -r -p examples/one_insert.hex > /tmp/feed
+  $ vrepl thin t /tmp/feed < examples/apply_one.script
+  read 1
+  applied 1
+  table t
+  x31\tx6162";
+
 fn program<'w>(alloc: Global) -> Result<Command<'w>, AllocError> {
     Command::new(alloc, "vrepl")
         .bin_name("vrepl")?
@@ -75,6 +92,7 @@ fn program<'w>(alloc: Global) -> Result<Command<'w>, AllocError> {
 fn show_command<'w>(alloc: Global) -> Result<Command<'w>, AllocError> {
     Command::new(alloc, "show")
         .about("Prints the transactions of a feed with their positions")
+        .after_help(SHOW_EXAMPLE)
         .arg(hex(alloc))?
         .arg(text(alloc, "keyspace", "K", "The feed's keyspace"))?
         .arg(text(alloc, "shard", "S", "The feed's shard, as --shard=-80"))?
@@ -89,6 +107,7 @@ fn show_command<'w>(alloc: Global) -> Result<Command<'w>, AllocError> {
 fn thin_command<'w>(alloc: Global) -> Result<Command<'w>, AllocError> {
     Command::new(alloc, "thin")
         .about("Takes the steps of a script on standard input over a feed and a table")
+        .after_help(THIN_EXAMPLE)
         .arg(
             Arg::new(alloc, "table")
                 .value_name("TABLE")
