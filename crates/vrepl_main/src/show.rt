@@ -13,7 +13,7 @@ use source_feed::{FeedFault, Group, read_groups};
 use std::alloc::Global;
 use std::io::Write;
 
-/// Prints groups to their end, whatever `out` keeps back.
+/// Prints all the groups and flushes `out`.
 fn print_whole<W: Write>(out: &mut W, groups: &[Group<'_>]) -> Result<(), Refusal<'static>>
     ensures printed { OnOk result (Appends (W.contents out.old) (W.contents out.new) (shown groups.now)) }
     ensures refused { IfErr result (λ refusal. Refuses refusal (Ok (shown groups.now))) }

@@ -3,7 +3,7 @@ use Rattle.std.proofs.lemmas.List.Concat.{flat_map-cons}
 use Rattle.std.proofs.KnownBytes.{Appends-trans}
 use Rattle.row_view.specs.ColumnValue.{column_value}
 use Rattle.vrepl_main.specs.Cells.{cell, cells}
-use Rattle.vrepl_main.proofs.ShownLaws.{moves, ends}
+use Rattle.vrepl_main.proofs.PrintLaws.{moves, ends}
 use Rattle.vrepl_main.proofs.cells.print_cells.Goals as goal
 
 -- the first cell of what is left

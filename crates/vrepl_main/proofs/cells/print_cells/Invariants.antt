@@ -1,5 +1,5 @@
 use Rattle.vrepl_main.specs.Cells.{cells}
-use Rattle.vrepl_main.proofs.ShownLaws.{Completes}
+use Rattle.vrepl_main.proofs.PrintLaws.{Completes}
 use Rattle.vrepl_main.proofs.cells.print_cells.Given as goal
 
 -- what is printed and what is left are the whole

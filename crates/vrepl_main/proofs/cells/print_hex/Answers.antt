@@ -1,6 +1,6 @@
 use Rattle.std.proofs.Common.{◌≡◌, ◌++◌, List, [], ℕ, rules, ap, ◌∙◌, sym, take, drop, drop_of_length-le}
 use Rattle.hex.specs.Hex.{encode_lower}
-use Rattle.vrepl_main.proofs.ShownLaws.{moves, ends, hex_parts, no_hex}
+use Rattle.vrepl_main.proofs.PrintLaws.{moves, ends, hex_parts, no_hex}
 use Rattle.vrepl_main.proofs.cells.print_hex.Goals as goal
 
 pub loop-rest-preserved : goal.loop-rest-preserved

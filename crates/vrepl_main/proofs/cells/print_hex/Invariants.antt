@@ -1,6 +1,6 @@
 use Rattle.std.proofs.Common.{length}
 use Rattle.hex.specs.Hex.{encode_lower}
-use Rattle.vrepl_main.proofs.ShownLaws.{Completes}
+use Rattle.vrepl_main.proofs.PrintLaws.{Completes}
 use Rattle.vrepl_main.proofs.cells.print_hex.Given as goal
 
 -- what is printed and what is left are the whole

@@ -1,5 +1,5 @@
 use Rattle.vrepl_main.specs.Shown.{change_text}
-use Rattle.vrepl_main.proofs.ShownLaws.{moves, ends, first_piece, no_piece}
+use Rattle.vrepl_main.proofs.PrintLaws.{moves, ends, first_piece, no_piece}
 use Rattle.vrepl_main.proofs.shown.print_changes.Goals as goal
 
 pub loop-change-preserved : goal.loop-change-preserved

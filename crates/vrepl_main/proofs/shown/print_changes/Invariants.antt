@@ -1,6 +1,6 @@
 use Rattle.std.proofs.Common.{drop}
 use Rattle.vrepl_main.specs.Shown.{changes_text}
-use Rattle.vrepl_main.proofs.ShownLaws.{Completes}
+use Rattle.vrepl_main.proofs.PrintLaws.{Completes}
 use Rattle.vrepl_main.proofs.shown.print_changes.Given as goal
 
 -- what is printed and what is left are the whole

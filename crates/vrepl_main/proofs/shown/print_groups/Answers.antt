@@ -1,5 +1,5 @@
 use Rattle.vrepl_main.specs.Shown.{group_text}
-use Rattle.vrepl_main.proofs.ShownLaws.{moves, ends, first_piece, no_piece}
+use Rattle.vrepl_main.proofs.PrintLaws.{moves, ends, first_piece, no_piece}
 use Rattle.vrepl_main.proofs.shown.print_groups.Goals as goal
 
 pub loop-group-preserved : goal.loop-group-preserved
