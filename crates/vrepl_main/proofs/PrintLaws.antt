@@ -1,5 +1,5 @@
 -- Text that is printed piece by piece: what is printed and what is left are the whole.
-use Rattle.std.proofs.Common.{◌≡◌, ℕ, ◌+◌, ◌<◌, ◌≤◌, ◌/◌, ◌%◌, List, [], ◌∷◌, ◌++◌, length, get_or, take, drop, sym, ap, ◌∙◌, subst, refl, add-one, Option, take-append-drop}
+use Rattle.std.proofs.Common.{◌≡◌, ℕ, ◌+◌, ◌<◌, ◌≤◌, ◌/◌, ◌%◌, List, [], ◌∷◌, ◌++◌, length, get_or, drop, sym, ap, ◌∙◌, subst, refl, add-one, Option}
 use Rattle.std.specs.List.{flat_map}
 use Rattle.std.specs.Prelude.{slice_index}
 use Rattle.std.specs.Io.KnownBytes.{Appends}
@@ -35,14 +35,10 @@ pub no_piece : {X : Type 0} (f : X → List ℕ) (xs : List X) (k : ℕ) → len
 no_piece {X} f xs k le = ap (λ (ys : List X). flat_map f ys) (drop_all k xs le)
 
 -- bytes one behind the other are spelled one behind the other
-hex-append : (xs ys : List ℕ) → encode_lower (xs ++ ys) ≡ encode_lower xs ++ encode_lower ys
+pub hex-append : (xs ys : List ℕ) → encode_lower (xs ++ ys) ≡ encode_lower xs ++ encode_lower ys
 unfolding encode_with
 hex-append [] ys = refl
 hex-append (x ∷ xs) ys = ap (λ (t : List ℕ). slice_index lower_digits (x / 16) ∷ slice_index lower_digits (x % 16) ∷ t) (hex-append xs ys)
-
--- the first bytes and the others
-pub hex_parts : (bytes : List ℕ) (n : ℕ) → encode_lower bytes ≡ encode_lower (take n bytes) ++ encode_lower (drop n bytes)
-hex_parts bytes n = ap encode_lower (sym (take-append-drop n bytes)) ∙ hex-append (take n bytes) (drop n bytes)
 
 pub no_hex : (bytes : List ℕ) → bytes ≡ [] → encode_lower bytes ≡ []
 unfolding encode_with

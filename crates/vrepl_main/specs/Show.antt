@@ -1,5 +1,5 @@
 -- What `show` prints of a feed (this profile).
-use Rattle.std.specs.Prelude.{◌≡◌, ℕ, Bool, if◌then◌else◌, List, Option, None, Some, Result, Ok, Err, IsOk}
+use Rattle.std.specs.Prelude.{◌≡◌, ℕ, Bool, if◌then◌else◌, List, Option, None, Some, Result, Ok, Err, IsOk, codes}
 use Rattle.std.specs.Io.KnownBytes.{Appends}
 use Rattle.source_feed.specs.declared.fault.FeedFault.{FeedFault}
 use Rattle.source_feed.specs.GroupValue.{GroupValue}
@@ -31,8 +31,9 @@ abbrev pub Prints : Result (List ℕ) Refusal → Option (List ℕ) → Option (
 Prints (Ok text) old new = Appends old new text
 Prints (Err refusal) old new = ⊥
 
--- a refusal is the one of the feed, unless memory ran out or the feed's text can't be written
+-- a refusal is the one of the feed, unless memory ran out or the feed's text can't be written on
+-- standard output, `-`
 abbrev pub Refuses : Refusal → Result (List ℕ) Refusal → Type 0
 Refuses Memory reading = Unit {0}
-Refuses (CannotWrite file) reading = IsOk reading
+Refuses (CannotWrite file) reading = IsOk reading × (file.now ≡ codes "-")
 Refuses refusal reading = reading ≡ Err refusal

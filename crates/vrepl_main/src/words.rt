@@ -1,7 +1,8 @@
 //! The words of the command line, as `clap` reads them.
 
-ghost use Rattle.std.specs.Prelude.{◌≡◌, [], IsOkAnd};
-ghost use Rattle.vrepl_main.specs.Words.{IsShowOfInput};
+ghost use Rattle.std.specs.Prelude.{◌≡◌, [], None, Some, true, false, IsOkAnd, codes};
+ghost use Rattle.clap.specs.Words.{found_of, one_text};
+ghost use Rattle.vrepl_main.specs.Words.{IsShowOfInput, text_given};
 
 use clap::error::ErrorKind;
 use clap::{Arg, ArgAction, ArgMatches, Command, Error};
@@ -138,7 +139,13 @@ fn text<'w>(alloc: Global, name: &'w str, value: &'w str, help: &'w str) -> Arg<
         .help(help)
 }
 
-fn show_words<'w>(given: &ArgMatches<'w>) -> Show<'w> {
+fn show_words<'w>(given: &ArgMatches<'w>) -> Show<'w>
+    ensures hex { one_text (found_of given.now) (codes "hex") ≡ Some (codes "true") → result.hex ≡ true }
+    ensures bytes { one_text (found_of given.now) (codes "hex") ≡ None → result.hex ≡ false }
+    ensures keyspace { result.keyspace.now ≡ text_given (found_of given.now) (codes "keyspace") [] }
+    ensures shard { result.shard.now ≡ text_given (found_of given.now) (codes "shard") [] }
+    ensures feed { result.feed.now ≡ text_given (found_of given.now) (codes "feed") (codes "-") }
+{
     Show {
         hex: given.get_flag("hex"),
         keyspace: given.get_str("keyspace").unwrap_or(""),
@@ -147,7 +154,10 @@ fn show_words<'w>(given: &ArgMatches<'w>) -> Show<'w> {
     }
 }
 
-fn thin_words<'w>(given: &ArgMatches<'w>) -> Thin<'w> {
+fn thin_words<'w>(given: &ArgMatches<'w>) -> Thin<'w>
+    ensures table { result.table.now ≡ text_given (found_of given.now) (codes "table") [] }
+    ensures feed { result.feed.now ≡ text_given (found_of given.now) (codes "feed") [] }
+{
     Thin {
         table: given.get_str("table").unwrap_or(""),
         feed: given.get_str("feed").unwrap_or(""),
