@@ -1,5 +1,5 @@
 pub mod HexLaws
 pub mod InputLaws
-pub mod ShownLaws
+pub mod PrintLaws
 mod ThinLaws
 mod ScriptLaws

@@ -4,7 +4,7 @@ use Rattle.std.specs.Prelude.{◌-◌, ◌&&◌, nat_le, not}
 use Rattle.std.proofs.lemmas.Bool.Decides.{nat_tests}
 use Rattle.std.proofs.lemmas.Bool.{ltb-true, ltb-false}
 use Rattle.std.proofs.lemmas.List.{take_all}
-use Rattle.std.proofs.Common.{Bool, true, false, cond, ltb, eqb, length, take, drop, subst, length-drop}
+use Rattle.std.proofs.Common.{Bool, true, false, cond, ltb, length, take, drop, length-drop}
 use Rattle.std.specs.Option.{option_and_then}
 use Rattle.std.specs.List.{slice_split, position_or_len, onto_first}
 use Rattle.std.proofs.lemmas.List.Splits.{slice_split_first}

@@ -1,5 +1,5 @@
 -- What a sorted table of borrowed rows holds at a key, and that this is what some touches left.
-use Rattle.std.specs.Prelude.{◌≡◌, ℕ, List, Option, map}
+use Rattle.std.specs.Prelude.{◌≡◌, List, Option, map}
 use Rattle.std.specs.BTreeMap.{get_by, IsOrdered}
 use Rattle.std.specs.Ordering.{nat_cmp}
 use Rattle.std.specs.Cmp.Lexicographic.{slice_cmp}

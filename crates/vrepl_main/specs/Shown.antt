@@ -1,18 +1,9 @@
 -- The text that `show` prints of a feed's groups (this profile).
 use Rattle.std.specs.Prelude.{ℕ, List, [], ◌∷◌, ◌++◌, Option, None, Some, codes, decimal}
 use Rattle.std.specs.List.{flat_map}
-use Rattle.hex.specs.Hex.{encode_lower}
 use Rattle.gtid_set.specs.Printed.{printed_position}
 use Rattle.source_feed.specs.GroupValue.{TableChangeValue, GroupValue}
-
--- a column: `N` for NULL, else `x` and its bytes in lower case hexadecimal
-abbrev pub cell : Option (List ℕ) → List ℕ
-cell None = codes "N"
-cell (Some bytes) = codes "x" ++ encode_lower bytes
-
--- the cells of a row, each behind a tab
-abbrev pub cells : List (Option (List ℕ)) → List ℕ
-cells row = flat_map (λ column. 9 ∷ cell column) row
+use Rattle.vrepl_main.specs.Cells.{cells}
 
 -- the line of a row of a table behind its mark
 abbrev pub row_line : List ℕ → List ℕ → List (Option (List ℕ)) → List ℕ

@@ -2,7 +2,6 @@
 use Rattle.std.specs.Prelude.{◌≡◌, ℕ, List, [], Result, Ok, Err}
 use Rattle.source_feed.specs.declared.fault.FeedFault.{FeedFault}
 use Rattle.source_feed.specs.GroupValue.{GroupValue}
-use Rattle.source_feed.specs.SourceValue.{SourceValue}
 use Rattle.source_feed.specs.Groups.{groups}
 use Rattle.vrepl_main.specs.Script.{script_steps}
 use Rattle.vrepl_main.specs.ThinSteps.{AnswersEach}

@@ -1,7 +1,9 @@
 //! Files and standard input, read whole.
 
-ghost use Rattle.std.specs.Prelude.{◌≡◌, ◌*◌, ◌^◌, ◌≤◌, length, IfOk, IfSome, OnOk, IsErr};
+ghost use Rattle.std.specs.Prelude.{◌≡◌, ◌≢◌, ◌*◌, ◌^◌, ◌≤◌, length, IfOk, IfSome, OnOk, IsErr};
 ghost use Rattle.std.specs.Io.KnownBytes.{IsAtEnd};
+ghost use Rattle.std.specs.IoError.{error_kind};
+ghost use Rattle.std.specs.declared.io.ErrorKind.TheVariants.{OutOfMemory};
 
 use std::alloc::Global;
 use std::fs::File;
@@ -79,7 +81,10 @@ pub fn read_within<R: Read>(alloc: Global, input: &mut R, reads: u64) -> Result<
     Err(InputFault::CannotRead)
 }
 
-fn fault_of(fault: &io::Error) -> InputFault {
+fn fault_of(fault: &io::Error) -> InputFault
+    ensures memory { error_kind fault.now ≡ OutOfMemory → result ≡ InputFault.Memory }
+    ensures other { error_kind fault.now ≢ OutOfMemory → result ≡ InputFault.CannotRead }
+{
     if fault.kind() == io::ErrorKind::OutOfMemory {
         InputFault::Memory
     } else {

@@ -1,7 +1,8 @@
 //! The words of the command line, as `clap` reads them.
 
-ghost use Rattle.std.specs.Prelude.{◌≡◌, [], IsOkAnd};
-ghost use Rattle.vrepl_main.specs.Words.{IsShowOfInput};
+ghost use Rattle.std.specs.Prelude.{◌≡◌, [], None, Some, true, false, IsOkAnd, codes};
+ghost use Rattle.clap.specs.Words.{found_of, one_text};
+ghost use Rattle.vrepl_main.specs.Words.{IsShowOfInput, text_given};
 
 use clap::error::ErrorKind;
 use clap::{Arg, ArgAction, ArgMatches, Command, Error};
@@ -61,6 +62,23 @@ pub fn read<'w>(alloc: Global, words: &'w [String]) -> Result<Words<'w>, Error>
     }
 }
 
+/// A call of `show` and what it prints.
+const SHOW_EXAMPLE: &str = "\
+Example:
+  $ vrepl show --hex examples/one_insert.hex
+  group 1 3e11fa47-71ca-11e1-9e33-c80aa9429562:1
+  + t\tx31\tx6162";
+
+/// A call of `thin` and what it prints.
+const THIN_EXAMPLE: &str = "\
+Example:
+  $ xxd -r -p examples/one_insert.hex > /tmp/feed
+  $ vrepl thin t /tmp/feed < examples/apply_one.script
+  read 1
+  applied 1
+  table t
+  x31\tx6162";
+
 fn program<'w>(alloc: Global) -> Result<Command<'w>, AllocError> {
     Command::new(alloc, "vrepl")
         .bin_name("vrepl")?
@@ -75,6 +93,7 @@ fn program<'w>(alloc: Global) -> Result<Command<'w>, AllocError> {
 fn show_command<'w>(alloc: Global) -> Result<Command<'w>, AllocError> {
     Command::new(alloc, "show")
         .about("Prints the transactions of a feed with their positions")
+        .after_help(SHOW_EXAMPLE)
         .arg(hex(alloc))?
         .arg(text(alloc, "keyspace", "K", "The feed's keyspace"))?
         .arg(text(alloc, "shard", "S", "The feed's shard, as --shard=-80"))?
@@ -89,6 +108,7 @@ fn show_command<'w>(alloc: Global) -> Result<Command<'w>, AllocError> {
 fn thin_command<'w>(alloc: Global) -> Result<Command<'w>, AllocError> {
     Command::new(alloc, "thin")
         .about("Takes the steps of a script on standard input over a feed and a table")
+        .after_help(THIN_EXAMPLE)
         .arg(
             Arg::new(alloc, "table")
                 .value_name("TABLE")
@@ -119,7 +139,13 @@ fn text<'w>(alloc: Global, name: &'w str, value: &'w str, help: &'w str) -> Arg<
         .help(help)
 }
 
-fn show_words<'w>(given: &ArgMatches<'w>) -> Show<'w> {
+fn show_words<'w>(given: &ArgMatches<'w>) -> Show<'w>
+    ensures hex { one_text (found_of given.now) (codes "hex") ≡ Some (codes "true") → result.hex ≡ true }
+    ensures bytes { one_text (found_of given.now) (codes "hex") ≡ None → result.hex ≡ false }
+    ensures keyspace { result.keyspace.now ≡ text_given (found_of given.now) (codes "keyspace") [] }
+    ensures shard { result.shard.now ≡ text_given (found_of given.now) (codes "shard") [] }
+    ensures feed { result.feed.now ≡ text_given (found_of given.now) (codes "feed") (codes "-") }
+{
     Show {
         hex: given.get_flag("hex"),
         keyspace: given.get_str("keyspace").unwrap_or(""),
@@ -128,7 +154,10 @@ fn show_words<'w>(given: &ArgMatches<'w>) -> Show<'w> {
     }
 }
 
-fn thin_words<'w>(given: &ArgMatches<'w>) -> Thin<'w> {
+fn thin_words<'w>(given: &ArgMatches<'w>) -> Thin<'w>
+    ensures table { result.table.now ≡ text_given (found_of given.now) (codes "table") [] }
+    ensures feed { result.feed.now ≡ text_given (found_of given.now) (codes "feed") [] }
+{
     Thin {
         table: given.get_str("table").unwrap_or(""),
         feed: given.get_str("feed").unwrap_or(""),

@@ -2,6 +2,7 @@
 
 use super::*;
 use std::alloc::AllocError;
+use std::io::Cursor;
 use std::process::Abort;
 use std::test::Fail;
 
@@ -49,6 +50,33 @@ fn prints_the_first_group(rt: HostRuntime) -> Result<(), Fail> {
 #[test]
 fn empty_feed_shows_nothing(rt: HostRuntime) -> Result<(), Fail> {
     check(&rt, "", 0, "", "")
+}
+
+#[test]
+fn output_without_room(rt: HostRuntime) -> Result<(), Fail> {
+    for room in [0, 20, 60] {
+        let mut bytes = [0u8; 60];
+        let mut refused = Vec::with_capacity(rt.alloc(), 256)?;
+        let ended = show(
+            rt.alloc(),
+            true,
+            FIRST_GROUP.as_bytes(),
+            "",
+            "",
+            &mut Cursor::new(&mut bytes[..room]),
+            &mut refused,
+        );
+        if refused.as_slice() == b"refused 72\n".as_slice() {
+            return Err(AllocError.into());
+        }
+        assert_eq!(rt;
+            refused.as_slice(),
+            b"refused 132 file -\n".as_slice(),
+            "{room}"
+        );
+        assert_eq!(rt; ended, 1, "{room}");
+    }
+    Ok(())
 }
 
 #[test]

@@ -1,4 +1,4 @@
-use Rattle.std.proofs.Common.{◌≡◌, ◌++◌, List, drop}
+use Rattle.std.proofs.Common.{◌++◌, List, drop}
 use Rattle.vrepl_main.specs.declared.thin.step.Answer.{Answer}
 use Rattle.vrepl_main.specs.ThinSteps.{AnswersEach}
 use Rattle.vrepl_main.specs.StreamKeeps.{Keeps, progress_of}

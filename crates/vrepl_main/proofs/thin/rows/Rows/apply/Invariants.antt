@@ -1,4 +1,4 @@
-use Rattle.std.proofs.Common.{◌≡◌, ◌++◌, List, take}
+use Rattle.std.proofs.Common.{◌++◌, List, take}
 use Rattle.vrepl_main.specs.RowAt.{Touch}
 use Rattle.vrepl_main.specs.Thin.{Key, Row, touches}
 use Rattle.vrepl_main.specs.RowsHold.{Holds}

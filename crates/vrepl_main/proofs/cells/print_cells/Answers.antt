@@ -1,0 +1,20 @@
+use Rattle.std.proofs.Common.{◌≡◌, ◌++◌, ◌∷◌, [], List, ℕ, Option, ap, ◌∙◌}
+use Rattle.std.proofs.lemmas.List.Concat.{flat_map-cons}
+use Rattle.std.proofs.KnownBytes.{Appends-trans}
+use Rattle.row_view.specs.ColumnValue.{column_value}
+use Rattle.vrepl_main.specs.Cells.{cell, cells}
+use Rattle.vrepl_main.proofs.PrintLaws.{moves, ends}
+use Rattle.vrepl_main.proofs.cells.print_cells.Goals as goal
+
+-- the first cell of what is left
+first_cell : (left rest : List (Option (List ℕ))) (value : Option (List ℕ)) → left ≡ value ∷ rest → cells left ≡ (9 ∷ cell value) ++ cells rest
+first_cell left rest value is = ap cells is ∙ flat_map-cons (λ column. 9 ∷ cell column) value rest
+
+pub loop-column-preserved : goal.loop-column-preserved
+loop-column-preserved g c =
+    let value : Option (List ℕ) = column_value c.in-Some.column in
+    let parts = first_cell c.loop-column.column-iterator c.next.new.self value c.in-Some.ensures.steps in
+    moves _ _ _ _ _ _ _ parts c.loop-column.invariant (Appends-trans _ _ _ (9 ∷ []) (cell value) c.in_ok-write_all.ensures.bytes c.in_ok-print_cell.ensures)
+
+pub returns : goal.returns
+returns g c = ends _ _ _ _ c.loop-column.invariant (ap cells c.in-None.ensures.steps.0)

@@ -1,0 +1,11 @@
+use Rattle.vrepl_main.specs.Shown.{change_text}
+use Rattle.vrepl_main.proofs.PrintLaws.{moves, ends, first_piece, no_piece}
+use Rattle.vrepl_main.proofs.shown.print_changes.Goals as goal
+
+pub loop-change-preserved : goal.loop-change-preserved
+loop-change-preserved g c =
+    let parts = first_piece change_text c.args.changes.now c.loop-change.change-index c.change-item.result c.loop-change-test.true c.change-item.is in
+    moves _ _ _ _ _ _ _ parts c.loop-change.invariant c.in_ok-print_change.ensures
+
+pub returns : goal.returns
+returns g c = ends _ _ _ _ c.loop-change.invariant (no_piece change_text c.args.changes.now c.loop-change.change-index c.loop-change-test.false)

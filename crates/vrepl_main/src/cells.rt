@@ -1,0 +1,81 @@
+//! The columns of a row as text: cells parted by tabs.
+
+ghost use Rattle.std.specs.Prelude.{◌≡◌, ◌≤◌, OnOk, length};
+ghost use Rattle.std.specs.Io.KnownBytes.{Appends};
+ghost use Rattle.hex.specs.Hex.{encode_lower};
+ghost use Rattle.row_view.specs.ColumnValue.{column_value};
+ghost use Rattle.vrepl_main.specs.Cells.{cell, cells};
+
+use row_view::{Column, Columns};
+use std::io;
+use std::io::Write;
+
+/// The most bytes of a value that are spelled at once.
+const PIECE: usize = 64;
+
+/// Prints each column as a cell behind a tab.
+pub fn print_cells<W: Write>(out: &mut W, columns: Columns<'_>) -> io::Result<()>
+    ensures { OnOk result (Appends (W.contents out.old) (W.contents out.new) (cells columns.entry)) }
+{
+    for column in columns {
+        out.write_all(b"\t")?;
+        print_cell(out, &column)?;
+    }
+    Ok(())
+}
+
+/// Prints a column: `N` for NULL, else `x` and its bytes in hexadecimal.
+pub fn print_cell<W: Write>(out: &mut W, column: &Column<'_>) -> io::Result<()>
+    ensures { OnOk result (Appends (W.contents out.old) (W.contents out.new) (cell (column_value column.now))) }
+{
+    match column {
+        Column::Null => out.write_all(b"N"),
+        Column::Bytes(value) => {
+            out.write_all(b"x")?;
+            print_hex(out, value)
+        }
+    }
+}
+
+/// Prints bytes in lower case hexadecimal, two digits a byte, the high half first.
+fn print_hex<W: Write>(out: &mut W, bytes: &[u8]) -> io::Result<()>
+    ensures { OnOk result (Appends (W.contents out.old) (W.contents out.new) (encode_lower bytes.now)) }
+{
+    let mut rest = bytes;
+    while !rest.is_empty() {
+        let (piece, behind) = rest.split_at(rest.len().min(PIECE));
+        print_piece(out, piece)?;
+        rest = behind;
+    }
+    Ok(())
+}
+
+/// Prints a piece of at most `PIECE` bytes in hexadecimal, with one write.
+fn print_piece<W: Write>(out: &mut W, piece: &[u8]) -> io::Result<()>
+    requires { length piece.now ≤ PIECE }
+    ensures { OnOk result (Appends (W.contents out.old) (W.contents out.new) (encode_lower piece.now)) }
+{
+    let mut digits = [0u8; 2 * PIECE];
+    let text = &mut digits[..2 * piece.len()];
+    let Ok(()) = hex::encode_to_slice(piece, text) else {
+        unreachable!()
+    };
+    out.write_all(text)
+}
+
+#[cfg(test)]
+mod tests {
+    use super::*;
+    use std::test::Fail;
+
+    #[test]
+    fn prints_a_value_of_two_pieces(rt: HostRuntime) -> Result<(), Fail> {
+        let value = [0xa7u8; PIECE + 1];
+        let mut text = Vec::with_capacity(rt.alloc(), 3 * PIECE)?;
+        print_cell(&mut text, &Column::Bytes(&value))?;
+        assert_eq!(rt; text.len(), 2 * PIECE + 3);
+        assert!(rt; text.as_slice().starts_with(b"xa7a7"));
+        assert!(rt; text.as_slice().ends_with(b"a7a7"));
+        Ok(())
+    }
+}
