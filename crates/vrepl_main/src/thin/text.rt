@@ -25,11 +25,7 @@ fn print_row<W: Write>(out: &mut W, row: &RowView<'_>) -> io::Result<()>
 }
 
 /// The line that names the table, and then a line for each of its rows, in key order.
-pub(crate) fn table_text(
-    alloc: Global,
-    table: &str,
-    rows: &Rows<'_>,
-) -> Result<Vec<u8>, AllocError>
+pub(crate) fn table_text(alloc: Global, table: &str, rows: &Rows<'_>) -> Result<Vec<u8>, AllocError>
     ensures text { IfOk result (λ text. text.items ≡ table_text table.now (rows_in rows.now)) }
     ensures rising { OnOk result (IsRising rows.now) }
 {
