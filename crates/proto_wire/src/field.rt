@@ -58,6 +58,7 @@ fn number_of_tag(number: u64) -> Result<u32, WireFault>
 }
 
 /// The payload of a wire type, if it has one, and the bytes after it.
+#[inline(always)]
 #[tactic(auto, unfolding(crate::specs::Field::payload_at))]
 fn payload_of(kind: u64, body: &[u8]) -> Result<(Option<Payload<'_>>, &[u8]), WireFault>
     ensures { Gives (λ x. (option_map wire_value x.0, x.1.now)) result (payload_at kind body.now) }
@@ -84,6 +85,7 @@ fn payload_of(kind: u64, body: &[u8]) -> Result<(Option<Payload<'_>>, &[u8]), Wi
 }
 
 /// The field at the front, and the bytes after it.
+#[inline(always)]
 #[tactic(auto, unfolding(crate::specs::Field::field_at, crate::specs::Field::field_behind))]
 pub(crate) fn field_of(bytes: &[u8]) -> Result<(Field<'_>, &[u8]), WireFault>
     ensures { Gives (λ x. (wire_field x.0, x.1.now)) result (field_at bytes.now) }

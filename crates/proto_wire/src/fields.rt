@@ -40,6 +40,7 @@ impl<'b> Fields<'b> {
 
     /// The next field, or `None` at the end. After the end the end is answered again, and after a
     /// fault the same fault; neither changes anything. Takes no memory.
+    #[inline(always)]
     pub fn next_field(&mut self) -> Result<Option<Field<'b>>, WireFault>
         ensures { Next wire_field self.old result self.new }
     {

@@ -5,8 +5,20 @@ ghost use Rattle.proto_wire.specs.Varint.{varint_at};
 
 use crate::fault::WireFault;
 
-/// The varint at the front, and the bytes after it.
+/// The varint at the front, and the bytes after it. Most have one byte.
+#[inline(always)]
+#[tactic(auto, unfolding(crate::specs::Varint::varint_at, crate::specs::Varint::varint_within))]
 pub(crate) fn varint_of(bytes: &[u8]) -> Result<(u64, &[u8]), WireFault>
+    ensures { Gives (λ x. (x.0, x.1.now)) result (varint_at bytes.now) }
+{
+    match bytes {
+        [byte, after @ ..] if *byte < 128 => Ok((u64::from(*byte), after)),
+        _ => longer_varint_of(bytes),
+    }
+}
+
+/// The same of any number of bytes.
+fn longer_varint_of(bytes: &[u8]) -> Result<(u64, &[u8]), WireFault>
     ensures { Gives (λ x. (x.0, x.1.now)) result (varint_at bytes.now) }
 {
     let mut value: u64 = 0;

@@ -1,7 +1,7 @@
 use Rattle.std.proofs.Common.{◌≡◌, ℕ, suc, ◌+◌, ◌-◌, ◌*◌, ◌^◌, ◌<◌, ◌≤◌, List, ◌∷◌, subst, arith}
 use Rattle.std.proofs.lemmas.List.{nil_from_length}
 use Rattle.proto_wire.proofs.VarintLoop.{Reads, starts, cut_short, last_byte, weight_fits, group_fits, another_byte, tenth_byte, tenth_above}
-use Rattle.proto_wire.proofs.varint.varint_of.Goals as goal
+use Rattle.proto_wire.proofs.varint.longer_varint_of.Goals as goal
 
 pub loop-init : goal.loop-init
 loop-init c = starts c.args.bytes.now
