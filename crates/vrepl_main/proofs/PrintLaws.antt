@@ -13,10 +13,6 @@ use Rattle.hex.specs.Hex.{encode_lower, encode_with, lower_digits}
 abbrev pub Completes : Option (List ℕ) → Option (List ℕ) → List ℕ → List ℕ → Type 0
 Completes old now left whole = (end : Option (List ℕ)) → Appends now end left → Appends old end whole
 
--- nothing is printed yet
-pub starts : (old : Option (List ℕ)) (whole : List ℕ) → Completes old old whole whole
-starts old whole end printed = printed
-
 -- one piece more of what is left is printed
 pub moves : (old now new : Option (List ℕ)) (piece left rest whole : List ℕ) → left ≡ piece ++ rest → Completes old now left whole → Appends now new piece → Completes old new rest whole
 moves old now new piece left rest whole parts before printed end others = before end (subst (Appends now end) (sym parts) (Appends-trans now new end piece rest printed others))
