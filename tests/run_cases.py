@@ -7,13 +7,15 @@ A case is a folder of tests/cases with these files, each of which may be missing
 
     args     the words, one a line                      missing: no words
     stdin    standard input                             missing: empty
-    files/   what lies in the folder that it runs in    missing: nothing
+    input    a file that is standard input in place of stdin, named from the folder that it runs in
+    files/   what lies in that folder                   missing: nothing
     output   'closed', or a file such as /dev/full: where standard output goes in place of a pipe
     stdout   the wanted standard output                 missing: nothing
     stderr   the wanted standard error                  missing: nothing, and for status 2 any text
     status   the wanted status                          missing: 0
 
-It runs in a copy of files/. The last line is 'N passed, M failed'.
+It runs in a copy of files/, which has a copy of the repository's examples/ too. The last line is
+'N passed, M failed'.
 """
 import os
 import shutil
@@ -21,7 +23,9 @@ import subprocess
 import sys
 import tempfile
 
-CASES = os.path.join(os.path.dirname(os.path.abspath(__file__)), "cases")
+TESTS = os.path.dirname(os.path.abspath(__file__))
+CASES = os.path.join(TESTS, "cases")
+EXAMPLES = os.path.join(os.path.dirname(TESTS), "examples")
 SECONDS = 60
 
 
@@ -42,6 +46,7 @@ class Case:
         args = read(self.folder, "args", b"")
         self.words = args.removesuffix(b"\n").split(b"\n") if args else []
         self.stdin = read(self.folder, "stdin", b"")
+        self.input = read(self.folder, "input", b"").decode().strip()
         self.output = read(self.folder, "output", b"").decode().strip()
         self.stdout = read(self.folder, "stdout", b"")
         self.status = int(read(self.folder, "status", b"0"))
@@ -53,10 +58,10 @@ class Case:
             place = os.path.join(room, "files")
             if os.path.isdir(os.path.join(self.folder, "files")):
                 shutil.copytree(os.path.join(self.folder, "files"), place)
-            else:
-                os.mkdir(place)
+            shutil.copytree(EXAMPLES, os.path.join(place, "examples"))
+            stdin = read(place, self.input, b"") if self.input else self.stdin
             words = [os.fsencode(program), *self.words]
-            how = {"cwd": place, "env": environment, "timeout": SECONDS, "input": self.stdin}
+            how = {"cwd": place, "env": environment, "timeout": SECONDS, "input": stdin}
             how |= {"stdout": subprocess.PIPE, "stderr": subprocess.PIPE}
             if self.output == "closed":
                 how |= {"stdout": None, "preexec_fn": lambda: os.close(1)}
