@@ -12,6 +12,21 @@ const FIRST_GROUP: &str = "6c0a0208020a18080d32140a017412070a02696410890212060a0
     0a3208011a2e4d7953514c35362f33653131666134372d373163612d313165312d396533332d633830616139343239353632\
     3a310a020803";
 
+/// Two rows of three columns in one transaction, their lengths packed in the first.
+const PACKED_AND_SINGLE: &str =
+    "8401 0a020802 0a20 080d321c0a0174 12070a026964108902 12060a016e109530 12060a0176109530\
+    0a24 080c2a200a0174 120c120a0a03020104 1203316162 120d120b 1203316162 080208010804\
+    0a3208011a2e4d7953514c35362f33653131666134372d373163612d313165312d396533332d633830616139343239353632\
+    3a310a020803";
+
+/// A row of the one-column table t whose only length, 5, is more than its three bytes of values.
+const LENGTH_PAST_VALUES: &str =
+    "2b 0a020802 0a10080d320c0a017412070a026964108902 0a13080c2a0f0a0174120a1208 0a010a1203316162";
+
+/// A row of two columns of the same table.
+const ROW_OF_TWO_COLUMNS: &str =
+    "2b 0a020802 0a10080d320c0a017412070a026964108902 0a13080c2a0f0a0174120a1208 0a02020212023161";
+
 /// `show --hex` over the feed ends with this status and has printed this on its two streams.
 fn check(
     rt: &(impl Abort + AllocGlobal),
@@ -45,6 +60,13 @@ fn check(
 fn prints_the_first_group(rt: HostRuntime) -> Result<(), Fail> {
     let wanted = "group 1 3e11fa47-71ca-11e1-9e33-c80aa9429562:1\n+ t\tx31\tx6162\n";
     check(&rt, FIRST_GROUP, 0, wanted, "")
+}
+
+#[test]
+fn packed_and_single_lengths(rt: HostRuntime) -> Result<(), Fail> {
+    let wanted =
+        "group 1 3e11fa47-71ca-11e1-9e33-c80aa9429562:1\n+ t\tx31\tN\tx6162\n+ t\tx31\tN\tx6162\n";
+    check(&rt, PACKED_AND_SINGLE, 0, wanted, "")
 }
 
 #[test]
@@ -113,6 +135,13 @@ fn broken_feeds_by_number(rt: HostRuntime) -> Result<(), Fail> {
             "0d 0a 0b 08 0c 2a 07 0a 01 74 12 02 18 01",
             "refused 82 cause 25\n",
         ),
+        (
+            "0c 08 80 80 80 80 80 80 80 80 80 80 01",
+            "refused 82 cause 2\n",
+        ),
+        (LENGTH_PAST_VALUES, "refused 82 cause 12\n"),
+        (ROW_OF_TWO_COLUMNS, "refused 87\n"),
+        ("06 0a 04 08 0f 3a 00", "refused 89\n"),
         ("07 0a 05 08 01 1a 01 78", "refused 94 cause 32\n"),
         ("ff ff ff ff ff ff ff ff ff ff", "refused 81\n"),
         ("6", "refused 93\n"),
