@@ -126,97 +126,82 @@ fn filter_forms(rt: HostRuntime) -> Result<(), Fail> {
     Ok(())
 }
 
+/// The parts of a workflow file of one table and one stream: columns, key, vindex and rules.
+type Parts = (&'static str, &'static str, &'static str, &'static str);
+
+/// The file of these parts is refused with this number, or read for 0.
+fn check_parts(rt: &(impl Abort + AllocGlobal), parts: Parts, number: u8) -> Result<(), Fail> {
+    let (columns, key, vindex, rules) = parts;
+    let text = workflow(rt.alloc(), columns, key, vindex, rules)?;
+    assert_eq!(rt;
+        number_of(rt.alloc(), text.as_str()),
+        number,
+        "{}",
+        text.as_str()
+    );
+    Ok(())
+}
+
 #[test]
 fn workflow_faults_in_order(rt: HostRuntime) -> Result<(), Fail> {
-    let alloc = rt.alloc();
-    for (columns, key, vindex, rules, number) in [
-        // an unknown type, though there is no key column
-        ("[[\"id\",\"INT\"]]", "[]", "", EVERY_ROW, 52),
-        // no key column, though a rule is bad
-        (COLUMNS, "[]", "", "[{\"match\":\"/\"}]", 56),
-        // an absent column of the key, though an earlier one has an unfit type
-        ("[[\"id\",\"TEXT\"]]", "[\"id\",\"x\"]", "", EVERY_ROW, 53),
-        // an absent column of the vindex, though the key's type is unfit
-        (
-            "[[\"id\",\"TEXT\"]]",
-            KEY,
-            ",\"vindex\":[\"x\",\"numeric\"]",
-            EVERY_ROW,
-            53,
-        ),
-        ("[[\"id\",\"TEXT\"]]", KEY, "", "[{\"match\":\"/\"}]", 54),
-        // a filter's column, then its type
-        (
-            COLUMNS,
-            KEY,
-            VINDEX,
-            "[{\"match\":\"t\",\"filter\":\"select * from t where in_keyrange(x, 'numeric', '-')\"}]",
-            53,
-        ),
-        (
-            COLUMNS,
-            KEY,
-            VINDEX,
-            "[{\"match\":\"t\",\"filter\":\"select * from t where in_keyrange(v, 'numeric', '-')\"}]",
-            54,
-        ),
-        // a key range under a table without a vindex
-        (
-            COLUMNS,
-            KEY,
-            "",
-            "[{\"match\":\"t\",\"filter\":\"-80\"}]",
-            55,
-        ),
-        // a rule that is first for no table is read for its form alone
-        (
-            COLUMNS,
-            KEY,
-            "",
-            "[{\"match\":\"t\"},{\"match\":\"/.*\",\"filter\":\"-80\"}]",
-            0,
-        ),
-        (
-            COLUMNS,
-            KEY,
-            "",
-            "[{\"match\":\"t\"},{\"match\":\"/.*\",\"filter\":\"8-\"}]",
-            55,
-        ),
-        // a name in the key is unfit before it is absent
-        (COLUMNS, "[\"\"]", "", EVERY_ROW, 52),
-        (COLUMNS, "[\"id\",\"id\"]", "", EVERY_ROW, 52),
-        (
-            "[[\"id\",\"INT64\"],[\"id\",\"INT64\"]]",
-            KEY,
-            "",
-            EVERY_ROW,
-            52,
-        ),
-        (COLUMNS, KEY, ",\"vindex\":null", EVERY_ROW, 52),
-        (COLUMNS, KEY, "", "[{\"match\":\"t\",\"filter\":null}]", 52),
-        (COLUMNS, KEY, "", "[{}]", 52),
-        (COLUMNS, KEY, "", "[{\"match\":\"\"}]", 0),
-        (COLUMNS, KEY, ",\"unknown\":[1.5]", EVERY_ROW, 0),
-        (COLUMNS, KEY, ",\"unknown\":1e999", EVERY_ROW, 51),
-        (
-            COLUMNS,
-            KEY,
-            ",\"vindex\":3,\"vindex\":[\"id\",\"numeric\"]",
-            EVERY_ROW,
-            0,
-        ),
-    ] {
-        let text = workflow(alloc, columns, key, vindex, rules)?;
-        assert_eq!(rt;
-            number_of(alloc, text.as_str()),
-            number,
-            "{}",
-            text.as_str()
-        );
-    }
-    assert_eq!(rt; number_of(alloc, "{"), 51);
-    assert_eq!(rt; number_of(alloc, "[]"), 52);
+    let text = "[[\"id\",\"TEXT\"]]";
+    let bad_rule = "[{\"match\":\"/\"}]";
+    let vindex_of_x = ",\"vindex\":[\"x\",\"numeric\"]";
+    // an unknown type, though there is no key column
+    check_parts(&rt, ("[[\"id\",\"INT\"]]", "[]", "", EVERY_ROW), 52)?;
+    // no key column, though a rule is bad
+    check_parts(&rt, (COLUMNS, "[]", "", bad_rule), 56)?;
+    // an absent column of the key, though an earlier one has an unfit type
+    check_parts(&rt, (text, "[\"id\",\"x\"]", "", EVERY_ROW), 53)?;
+    // an absent column of the vindex, though the key's type is unfit
+    check_parts(&rt, (text, KEY, vindex_of_x, EVERY_ROW), 53)?;
+    // an unfit type of the key, though a rule is bad
+    check_parts(&rt, (text, KEY, "", bad_rule), 54)?;
+    // a name in the key is unfit before it is absent
+    check_parts(&rt, (COLUMNS, "[\"\"]", "", EVERY_ROW), 52)
+}
+
+#[test]
+fn faults_of_a_rule_in_order(rt: HostRuntime) -> Result<(), Fail> {
+    // a filter's column, then its type
+    let absent =
+        "[{\"match\":\"t\",\"filter\":\"select * from t where in_keyrange(x, 'numeric', '-')\"}]";
+    let unfit =
+        "[{\"match\":\"t\",\"filter\":\"select * from t where in_keyrange(v, 'numeric', '-')\"}]";
+    check_parts(&rt, (COLUMNS, KEY, VINDEX, absent), 53)?;
+    check_parts(&rt, (COLUMNS, KEY, VINDEX, unfit), 54)?;
+    // a key range under a table without a vindex
+    let range = "[{\"match\":\"t\",\"filter\":\"-80\"}]";
+    check_parts(&rt, (COLUMNS, KEY, "", range), 55)?;
+    // a rule that is first for no table is read for its form alone
+    let behind = "[{\"match\":\"t\"},{\"match\":\"/.*\",\"filter\":\"-80\"}]";
+    let bad_behind = "[{\"match\":\"t\"},{\"match\":\"/.*\",\"filter\":\"8-\"}]";
+    check_parts(&rt, (COLUMNS, KEY, "", behind), 0)?;
+    check_parts(&rt, (COLUMNS, KEY, "", bad_behind), 55)
+}
+
+#[test]
+fn names_and_kinds_of_another_shape(rt: HostRuntime) -> Result<(), Fail> {
+    let twice = "[[\"id\",\"INT64\"],[\"id\",\"INT64\"]]";
+    let null_filter = "[{\"match\":\"t\",\"filter\":null}]";
+    check_parts(&rt, (twice, KEY, "", EVERY_ROW), 52)?;
+    check_parts(&rt, (COLUMNS, "[\"id\",\"id\"]", "", EVERY_ROW), 52)?;
+    check_parts(&rt, (COLUMNS, KEY, ",\"vindex\":null", EVERY_ROW), 52)?;
+    check_parts(&rt, (COLUMNS, KEY, "", null_filter), 52)?;
+    check_parts(&rt, (COLUMNS, KEY, "", "[{}]"), 52)?;
+    check_parts(&rt, (COLUMNS, KEY, "", "[{\"match\":\"\"}]"), 0)
+}
+
+#[test]
+fn json_oddities(rt: HostRuntime) -> Result<(), Fail> {
+    // a key that is ignored, whatever it holds, if that is JSON
+    check_parts(&rt, (COLUMNS, KEY, ",\"unknown\":[1.5]", EVERY_ROW), 0)?;
+    check_parts(&rt, (COLUMNS, KEY, ",\"unknown\":1e999", EVERY_ROW), 51)?;
+    // of a key that stands twice the last counts
+    let twice = ",\"vindex\":3,\"vindex\":[\"id\",\"numeric\"]";
+    check_parts(&rt, (COLUMNS, KEY, twice, EVERY_ROW), 0)?;
+    assert_eq!(rt; number_of(rt.alloc(), "{"), 51);
+    assert_eq!(rt; number_of(rt.alloc(), "[]"), 52);
     Ok(())
 }
 
