@@ -26,6 +26,3 @@ pub use filter::{Condition, Filter};
 pub use plan::Plan;
 pub use table::{ColumnDef, Table};
 pub use types::is_whole_number;
-
-#[cfg(test)]
-mod tests;

@@ -19,6 +19,3 @@ pub use laws::{
     union_is_the_least_set_over_both, union_with_a_superset_is_the_superset, within_is_subset,
 };
 pub use set::GtidSet;
-
-#[cfg(test)]
-mod tests;

@@ -18,6 +18,3 @@ pub use frames::Frames;
 pub use laws::longer_spelling;
 pub use sint64::{unzigzag, zigzag};
 pub use varints::Varints;
-
-#[cfg(test)]
-mod tests;

@@ -13,6 +13,3 @@ pub use column::Column;
 pub use columns::Columns;
 pub use fault::RowFault;
 pub use row::{ROW_BYTES, ROW_COLUMNS, RowView};
-
-#[cfg(test)]
-mod tests;

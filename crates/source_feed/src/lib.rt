@@ -8,8 +8,6 @@ mod groups;
 mod laws;
 mod pass;
 mod source;
-#[cfg(test)]
-mod tests;
 mod watch;
 mod widths;
 

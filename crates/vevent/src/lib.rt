@@ -25,8 +25,3 @@ pub use ignored::IgnoredEvent;
 pub use response::Response;
 pub use row_event::{RowChange, RowChanges, RowEvent};
 pub use vgtid_event::{ShardGtid, ShardGtids, VGtid};
-
-#[cfg(test)]
-mod samples;
-#[cfg(test)]
-mod tests;

@@ -5,8 +5,6 @@ mod faults;
 mod ids;
 mod key_ranges;
 mod numbers;
-#[cfg(test)]
-mod tests;
 mod tiling;
 mod vindexes;
 

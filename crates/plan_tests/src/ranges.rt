@@ -1,6 +1,6 @@
-use super::*;
 use row_view::Column;
 use std::test::Fail;
+use vindex::*;
 
 // The digests and bytes stand in RFC 1321 and the Vitess documents on vindexes.
 #[test]

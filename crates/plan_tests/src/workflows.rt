@@ -1,4 +1,4 @@
-use super::*;
+use filter_rule::*;
 use row_view::RowView;
 use std::alloc::Global;
 use std::process::Abort;

@@ -1,7 +1,7 @@
 //! Rows as bytes and the columns that they are, worked by hand from `query.proto` and the protobuf
 //! encoding guide.
 
-use super::*;
+use row_view::*;
 use std::process::Abort;
 use std::test::Fail;
 

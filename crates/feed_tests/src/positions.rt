@@ -1,4 +1,4 @@
-use super::*;
+use gtid_set::*;
 use std::alloc::{AllocError, Global};
 use std::test::*;
 

@@ -1,9 +1,9 @@
 //! Feeds of a source, read whole.
 
-use crate::{Change, Feed, Group, read_groups};
 use filter_rule::Plan;
 use gtid_set::GtidSet;
 use row_view::{Column, RowView};
+use source_feed::{Change, Feed, Group, read_groups};
 use std::alloc::Global;
 use std::test::Fail;
 

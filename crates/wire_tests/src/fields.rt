@@ -1,6 +1,6 @@
 //! Values from outside: the worked edges of the encoding.
 
-use super::*;
+use proto_wire::*;
 
 /// The first varint of `bytes` and what comes after the list, as a packed list reads it.
 fn first_varint(bytes: &[u8]) -> Result<Option<u64>, WireFault> {

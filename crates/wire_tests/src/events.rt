@@ -1,11 +1,11 @@
 //! Events as bytes, by hand from `binlogdata.proto`, `query.proto` and the protobuf encoding guide,
 //! and as Google's library writes them.
 
-use super::*;
 use crate::samples::RESPONSE;
 use proto_wire::WireFault;
 use row_view::{Column, RowFault, RowView};
 use std::process::Abort;
+use vevent::*;
 
 const GROUP: EventFault = EventFault::Wire(WireFault::GroupWireType);
 

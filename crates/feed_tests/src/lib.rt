@@ -1,0 +1,7 @@
+//! Tests of the crates that read a feed: positions and groups.
+#![tactic(auto)]
+
+#[cfg(test)]
+mod groups;
+#[cfg(test)]
+mod positions;

@@ -1,0 +1,7 @@
+//! Tests of the crates that read a workflow: key ranges, ids and plans.
+#![tactic(auto)]
+
+#[cfg(test)]
+mod ranges;
+#[cfg(test)]
+mod workflows;

@@ -1,0 +1,11 @@
+//! Tests of the crates that read bytes: fields, rows and events.
+#![tactic(auto)]
+
+#[cfg(test)]
+mod events;
+#[cfg(test)]
+mod fields;
+#[cfg(test)]
+mod rows;
+#[cfg(test)]
+mod samples;
