@@ -34,10 +34,13 @@ pub fn union_is_the_least_set_over_both()
     ensures least { (a b all : List Interval) → IsCanonical a → IsCanonical b → IsWithin a all → IsWithin b all → IsWithin (union_of a b) all }
 {}
 
-/// The union of a set and one that holds it is the latter, either way round.
+/// The union of a set and one that holds it is the latter, either way round; so it is where
+/// `is_within` answers that one holds the other.
 pub fn union_with_a_superset_is_the_superset()
     ensures behind { (a b : List Interval) → IsCanonical a → IsCanonical b → IsWithin a b → union_of a b ≡ b }
     ensures before { (a b : List Interval) → IsCanonical a → IsCanonical b → IsWithin a b → union_of b a ≡ b }
+    ensures computed_behind { (a b : List Interval) → IsCanonical a → IsCanonical b → IsTrue (within_of a b) → union_of a b ≡ b }
+    ensures computed_before { (a b : List Interval) → IsCanonical a → IsCanonical b → IsTrue (within_of a b) → union_of b a ≡ b }
 {}
 
 /// The set that a position text means is merged and rising.
