@@ -19,12 +19,6 @@ Spells IsItem NoItem bytes (x ∷ xs) end = (front : List ℕ) × (rest : List �
 
 -- ---- as a function
 
--- one step of a reader and then another
-infixl 10 ◌>>=◌
-abbrev pub ◌>>=◌ : {A B F : Type 0} → Result A F → (A → Result B F) → Result B F
-(Ok x) >>= f = f x
-(Err e) >>= f = Err e
-
 -- the item at the front, and then the others; or the fault at the front
 abbrev pub put_first : {A F : Type 0} → Result (A × List ℕ) F → (List ℕ → Reading A F) → Reading A F
 put_first (Ok x) others = let rest = others x.1 in record { items = x.0 ∷ rest.items; fault = rest.fault }
@@ -49,8 +43,3 @@ abbrev pub Next : {X A F : Type 0} → (X → A) → Reading A F → Result (Opt
 Next view old (Ok (Some x)) new = (old.items ≡ view x ∷ new.items) × (old.fault ≡ new.fault)
 Next view old (Ok None) new = (old.items ≡ []) × (old.fault ≡ None) × (new ≡ old)
 Next view old (Err f) new = (old.items ≡ []) × (old.fault ≡ Some f) × (new ≡ old)
-
--- ---- a function that reads something from the front of the bytes, seen by `view`
-abbrev pub Gives : {X Y F : Type 0} → (X → Y) → Result X F → Result Y F → Type 0
-Gives view (Ok x) read = read ≡ Ok (view x)
-Gives view (Err f) read = read ≡ Err f

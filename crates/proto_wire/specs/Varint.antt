@@ -4,7 +4,8 @@
 use Rattle.std.specs.Prelude.{◌≡◌, ℕ, zero, suc, ◌+◌, ◌-◌, ◌*◌, ◌<◌, ◌≤◌, ◌⊎◌, List, [], ◌∷◌, ◌++◌, length, Result, Ok, Err, nat_lt, if◌then◌else◌}
 use Rattle.proto_wire.specs.declared.fault.WireFault.{WireFault}
 use Rattle.proto_wire.specs.declared.fault.WireFault.TheVariants.{Truncated, VarintTooLong}
-use Rattle.proto_wire.specs.Reading.{Reading, ◌>>=◌, reading_of, Spells}
+use Rattle.outcome.specs.Outcome.{◌>>=◌}
+use Rattle.proto_wire.specs.Reading.{Reading, reading_of, Spells}
 
 -- ---- as a relation
 

@@ -1,7 +1,7 @@
 //! One field at the front of the bytes.
 
 ghost use Rattle.std.specs.Option.{option_map};
-ghost use Rattle.proto_wire.specs.Reading.{Gives};
+ghost use Rattle.outcome.specs.Outcome.{Gives};
 ghost use Rattle.proto_wire.specs.Field.{wire_value, wire_field, bytes_at, sized_at, number_at, payload_at, field_at};
 
 use crate::fault::WireFault;

@@ -1,6 +1,6 @@
 //! One varint at the front of the bytes.
 
-ghost use Rattle.proto_wire.specs.Reading.{Gives};
+ghost use Rattle.outcome.specs.Outcome.{Gives};
 ghost use Rattle.proto_wire.specs.Varint.{varint_at};
 
 use crate::fault::WireFault;

@@ -45,17 +45,17 @@ pub record IsRow (bytes : List ℕ) (columns : List (Option (List ℕ))) : Type 
 -- ---- as a function
 
 -- the columns of these lengths, where the values begin with the first one's
-abbrev pub columns_of : List ℕ → List ℤ → List (Option (List ℕ))
-columns_of values [] = []
-columns_of values (pos n ∷ ns) = Some (take n values) ∷ columns_of (drop n values) ns
-columns_of values (negsuc n ∷ ns) = None ∷ columns_of values ns
+abbrev pub columns_over : List ℕ → List ℤ → List (Option (List ℕ))
+columns_over values [] = []
+columns_over values (pos n ∷ ns) = Some (take n values) ∷ columns_over (drop n values) ns
+columns_over values (negsuc n ∷ ns) = None ∷ columns_over values ns
 
 -- the row of these values and lengths
 unfoldable pub row_with : List ℕ → List ℤ → Result (List (Option (List ℕ))) RowFault
 row_with values lengths =
     if nat_lt 256 (length lengths) then Err TooManyColumns else
     if nat_lt (length values) (size_of_all lengths) then Err LengthsPastValues else
-    Ok (columns_of values lengths)
+    Ok (columns_over values lengths)
 
 -- the wire's fault, or the row where there is none
 abbrev pub unless_broken : Option WireFault → Result (List (Option (List ℕ))) RowFault → Result (List (Option (List ℕ))) RowFault
@@ -63,7 +63,7 @@ unless_broken (Some fault) row = Err (Wire fault)
 unless_broken None row = row
 
 -- the columns of the message, or its first fault: its size, the wire's, the count, the sum
-unfoldable pub row_at : List ℕ → Result (List (Option (List ℕ))) RowFault
-row_at bytes =
+unfoldable pub row_of_message : List ℕ → Result (List (Option (List ℕ))) RowFault
+row_of_message bytes =
     if nat_lt (2 ^ 24) (length bytes) then Err RowTooLong else
     unless_broken (row_wire_fault bytes) (row_with (row_values bytes) (row_lengths bytes))

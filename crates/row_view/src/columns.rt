@@ -4,7 +4,7 @@ ghost use Rattle.std.specs.Prelude.{◌≡◌, ℕ, ◌≤◌, List, length};
 ghost use Rattle.std.specs.Iterator.{YieldsFirstBy, item_count};
 ghost use Rattle.row_view.specs.ColumnValue.{column_value};
 ghost use Rattle.row_view.specs.RowFields.{row_lengths};
-ghost use Rattle.row_view.specs.Row.{size_of_all, columns_of};
+ghost use Rattle.row_view.specs.Row.{size_of_all, columns_over};
 
 use crate::column::Column;
 use crate::lengths::Lengths;
@@ -21,11 +21,11 @@ pub struct Columns<'b> {
 
 impl<'b> Model for Columns<'b> {
     ghost use Rattle.std.specs.Prelude.{ℕ, ◌≤◌, List, Option, length};
-    ghost use Rattle.row_view.specs.Row.{size_of_all, columns_of};
+    ghost use Rattle.row_view.specs.Row.{size_of_all, columns_over};
 
     ghost Value = { List (Option (List ℕ)) };
 
-    ghost view = { λ a. columns_of a.values.now a.lengths };
+    ghost view = { λ a. columns_over a.values.now a.lengths };
 
     ghost invariant = { λ a. size_of_all a.lengths ≤ length a.values.now };
 }
@@ -34,7 +34,7 @@ impl<'b> Columns<'b> {
     /// The columns of the lengths of a message, over these values.
     pub(crate) fn new(message: &'b [u8], values: &'b [u8]) -> Columns<'b>
         requires { size_of_all (row_lengths message.now) ≤ length values.now }
-        ensures { result ≡ columns_of values.now (row_lengths message.now) }
+        ensures { result ≡ columns_over values.now (row_lengths message.now) }
     {
         Columns {
             lengths: Lengths::new(message),

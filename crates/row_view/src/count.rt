@@ -8,6 +8,7 @@ ghost use Rattle.row_view.specs.RowFields.{lengths_at, packed_fault_at};
 ghost use Rattle.row_view.specs.Row.{size_of};
 ghost use Rattle.row_view.specs.Counted.{Counts};
 
+use crate::found::LENGTHS;
 use proto_wire::{Field, Payload, Varints, WireFault, unzigzag};
 
 /// What the lengths so far come to. Both numbers stop at their type's greatest, so that no lengths,
@@ -59,11 +60,11 @@ impl Count {
             (λ fault. packed_fault_at (wire_field field.now) ≡ Some fault) }
     {
         match (field.number, field.payload) {
-            (1, Payload::Varint(number)) => {
+            (LENGTHS, Payload::Varint(number)) => {
                 self.put_length(number);
                 Ok(())
             }
-            (1, Payload::Bytes(packed)) => self.put_packed(packed),
+            (LENGTHS, Payload::Bytes(packed)) => self.put_packed(packed),
             _ => Ok(()),
         }
     }

@@ -1,13 +1,17 @@
 //! What the fields of a row message say.
 
 ghost use Rattle.std.specs.Prelude.{◌≡◌, MatchResult};
-ghost use Rattle.std.specs.Option.{option_map};
-ghost use Rattle.proto_wire.specs.Field.{wire_field};
-ghost use Rattle.row_view.specs.RowFields.{values_at, row_lengths, row_values, row_wire_fault};
+ghost use Rattle.row_view.specs.RowFields.{row_lengths, row_values, row_wire_fault};
 ghost use Rattle.row_view.specs.Counted.{Counts};
 
 use crate::count::Count;
-use proto_wire::{Field, Fields, Payload, WireFault};
+use proto_wire::{Fields, WireFault};
+
+/// The number of the lengths in a row message (`query.proto`, Row).
+pub(crate) const LENGTHS: u32 = 1;
+
+/// The number of the values in a row message.
+pub(crate) const VALUES: u32 = 2;
 
 /// The values of a row message, and how many columns its lengths are.
 #[derive(Clone, Copy)]
@@ -16,16 +20,6 @@ pub(crate) struct Found<'b> {
     pub(crate) values: &'b [u8],
     /// all lengths of the message
     pub(crate) count: Count,
-}
-
-/// The values in a field.
-fn values_in<'b>(field: &Field<'b>) -> Option<&'b [u8]>
-    ensures { option_map (λ values. values.now) result ≡ values_at (wire_field field.now) }
-{
-    match (field.number, field.payload) {
-        (2, Payload::Bytes(values)) => Some(values),
-        _ => None,
-    }
 }
 
 /// Reads the fields of a row message, or finds the fault of the wire that lies furthest left.
@@ -43,7 +37,7 @@ pub(crate) fn found_in(bytes: &[u8]) -> Result<Found<'_>, WireFault>
     let mut fields = Fields::new(bytes);
     while let Some(field) = fields.next_field()? {
         count.put(&field)?;
-        if let Some(last) = values_in(&field) {
+        if let Some(last) = field.part(VALUES) {
             values = last;
         }
     }

@@ -4,6 +4,7 @@ ghost use Rattle.std.specs.Prelude.{◌≡◌, ℤ, List};
 ghost use Rattle.std.specs.Iterator.{YieldsFirst};
 ghost use Rattle.row_view.specs.RowFields.{row_lengths};
 
+use crate::found::LENGTHS;
 use proto_wire::{Fields, Payload, Varints, unzigzag};
 use std::marker::Model;
 
@@ -49,8 +50,8 @@ impl<'b> Lengths<'b> {
                 return None;
             };
             match (field.number, field.payload) {
-                (1, Payload::Varint(number)) => return Some(unzigzag(number)),
-                (1, Payload::Bytes(packed)) => self.packed = Varints::new(packed),
+                (LENGTHS, Payload::Varint(number)) => return Some(unzigzag(number)),
+                (LENGTHS, Payload::Bytes(packed)) => self.packed = Varints::new(packed),
                 _ => {}
             }
         }

@@ -4,7 +4,7 @@ ghost use Rattle.std.specs.Prelude.{◌≡◌, ℕ, ◌^◌, ◌<◌, ◌≤◌,
 ghost use Rattle.proto_wire.specs.declared.fault.WireFault.{WireFault};
 ghost use Rattle.row_view.specs.ColumnValue.{column_value};
 ghost use Rattle.row_view.specs.RowFields.{row_lengths, row_values, row_wire_fault};
-ghost use Rattle.row_view.specs.Row.{IsRow, IsWhole, size_of_all, row_at};
+ghost use Rattle.row_view.specs.Row.{IsRow, IsWhole, size_of_all, row_of_message};
 
 use crate::column::Column;
 use crate::columns::Columns;
@@ -32,11 +32,11 @@ pub struct RowView<'b> {
 impl<'b> Model for RowView<'b> {
     ghost use Rattle.std.specs.Prelude.{◌≡◌, ℕ, ◌≤◌, List, Option, length};
     ghost use Rattle.row_view.specs.RowFields.{row_lengths};
-    ghost use Rattle.row_view.specs.Row.{size_of_all, columns_of};
+    ghost use Rattle.row_view.specs.Row.{size_of_all, columns_over};
 
     ghost Value = { List (Option (List ℕ)) };
 
-    ghost view = { λ a. columns_of a.values.now (row_lengths a.message.now) };
+    ghost view = { λ a. columns_over a.values.now (row_lengths a.message.now) };
 
     ghost invariant = { λ a. (a.columns ≡ length (row_lengths a.message.now))
         × (length (row_lengths a.message.now) ≤ 256)
@@ -54,7 +54,7 @@ impl<'b> RowView<'b> {
     /// lies further left; `TooManyColumns` for more than 256 columns; `LengthsPastValues` where the
     /// lengths that aren't negative add up to more than the size of the values.
     pub fn read(bytes: &'b [u8]) -> Result<RowView<'b>, RowFault>
-        ensures reading { result ≡ row_at bytes.now }
+        ensures reading { result ≡ row_of_message bytes.now }
         // It is accepted exactly where the columns are defined, and these are they.
         ensures row { (columns : List (Option (List ℕ)))
             → (result ≡ Ok columns) ↔ IsRow bytes.now columns }
@@ -112,9 +112,9 @@ impl<'b> RowView<'b> {
 }
 
 /// The row of the message, or its first fault.
-#[tactic(auto, unfolding(crate::specs::Row::row_at, crate::specs::Row::row_with))]
+#[tactic(auto, unfolding(crate::specs::Row::row_of_message, crate::specs::Row::row_with))]
 fn row_of(bytes: &[u8]) -> Result<RowView<'_>, RowFault>
-    ensures { result ≡ row_at bytes.now }
+    ensures { result ≡ row_of_message bytes.now }
 {
     if bytes.len() > ROW_BYTES {
         return Err(RowFault::RowTooLong);

@@ -5,14 +5,14 @@ use Rattle.std.specs.List.{cons_option, filter_map}
 use Rattle.std.specs.Result.{result_err}
 use Rattle.std.proofs.lemmas.Bool.{eqb-true}
 use Rattle.proto_wire.specs.Field.{WireField}
-use Rattle.row_view.specs.Row.{row_at}
+use Rattle.row_view.specs.Row.{row_of_message}
 use Rattle.vevent.specs.Parts.{bytes_in, part_in, first_of}
 use Rattle.vevent.specs.Fault.{first_in, in_change}
 use Rattle.vevent.proofs.FirstFault.{none_first, none_second}
 
-sound_row : (number : ℕ) (row : List ℕ) → (number ≡ 1) ⊎ (number ≡ 2) → in_change number row ≡ None → result_err (row_at row) ≡ None
-sound_row number row (inl e) h = subst (λ (n : ℕ). in_change n row ≡ None → result_err (row_at row) ≡ None) (sym e) (λ none. none) h
-sound_row number row (inr e) h = subst (λ (n : ℕ). in_change n row ≡ None → result_err (row_at row) ≡ None) (sym e) (λ none. none) h
+sound_row : (number : ℕ) (row : List ℕ) → (number ≡ 1) ⊎ (number ≡ 2) → in_change number row ≡ None → result_err (row_of_message row) ≡ None
+sound_row number row (inl e) h = subst (λ (n : ℕ). in_change n row ≡ None → result_err (row_of_message row) ≡ None) (sym e) (λ none. none) h
+sound_row number row (inr e) h = subst (λ (n : ℕ). in_change n row ≡ None → result_err (row_of_message row) ≡ None) (sym e) (λ none. none) h
 
 -- the first is that of the front, or else of the others
 first_is : (b : Bool) (o : Option (List ℕ)) (more : List (List ℕ)) (row : List ℕ) → first_of (cons_option (cond b o None) more) ≡ Some row → ((b ≡ true) × (o ≡ Some row)) ⊎ (first_of more ≡ Some row)
@@ -20,7 +20,7 @@ first_is false o more row h = inr h
 first_is true None more row h = inr h
 first_is true (Some p) more row h = inl (refl, h)
 
-pub single_is_sound : (number : ℕ) (fs : List WireField) (row : List ℕ) → (number ≡ 1) ⊎ (number ≡ 2) → first_in in_change fs None ≡ None → first_of (filter_map (part_in number) fs) ≡ Some row → result_err (row_at row) ≡ None
+pub single_is_sound : (number : ℕ) (fs : List WireField) (row : List ℕ) → (number ≡ 1) ⊎ (number ≡ 2) → first_in in_change fs None ≡ None → first_of (filter_map (part_in number) fs) ≡ Some row → result_err (row_of_message row) ≡ None
 single_is_sound number [] row which sound h = absurd cc
 single_is_sound number (f ∷ fs) row which sound h =
     let here = none_first (option_and_then (in_change f.number) (bytes_in f.value)) (first_in in_change fs None) sound in

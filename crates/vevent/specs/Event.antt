@@ -1,7 +1,7 @@
 -- An event: what its bytes say, or the first of its faults in the order of their numbers.
 use Rattle.std.specs.Prelude.{◌≡◌, ℕ, not, Bool, true, false, List, Option, Some, None, option_map, Result, Ok, Err, ok_or}
 use Rattle.std.specs.List.{list_any}
-use Rattle.proto_wire.specs.Reading.{◌>>=◌}
+use Rattle.outcome.specs.Outcome.{◌>>=◌}
 use Rattle.vevent.specs.declared.fault.EventFault.{EventFault}
 use Rattle.vevent.specs.declared.fault.EventFault.TheVariants.{Wire, RepeatedMessage, BadType, NotUtf8, PartialRow, Row}
 use Rattle.vevent.specs.declared.kind.EventKind.{EventKind}

@@ -7,7 +7,7 @@ use Rattle.std.specs.Str.{is_utf8}
 use Rattle.proto_wire.specs.declared.fault.WireFault.{WireFault}
 use Rattle.proto_wire.specs.Field.{WireField, fields_of}
 use Rattle.row_view.specs.declared.fault.RowFault.{RowFault}
-use Rattle.row_view.specs.Row.{row_at}
+use Rattle.row_view.specs.Row.{row_of_message}
 use Rattle.vevent.specs.declared.kind.EventKind.{EventKind}
 use Rattle.vevent.specs.declared.kind.EventKind.TheVariants.{Gtid, Begin, Commit, Rollback, Row, Field, Vgtid, Ignored}
 use Rattle.vevent.specs.Parts.{bytes_in, text, parts, embedded, is_repeated}
@@ -85,7 +85,7 @@ is_partial change = list_any is_other_field (fields_of change).items
 
 -- what is at fault in a row of a row change: before = 1, after = 2
 abbrev pub in_change : ℕ → List ℕ → Option RowFault
-in_change number row = if number == 1 || number == 2 then result_err (row_at row) else None
+in_change number row = if number == 1 || number == 2 then result_err (row_of_message row) else None
 
 -- the first in a row change, and in several, from the left
 abbrev pub change_fault : List ℕ → Option RowFault

@@ -3,7 +3,7 @@
 -- is the empty one, but an absent row is no row.
 use Rattle.std.specs.Prelude.{ℕ, List, [], Option, option_map, map}
 use Rattle.std.specs.Result.{result_unwrap_or}
-use Rattle.row_view.specs.Row.{row_at}
+use Rattle.row_view.specs.Row.{row_of_message}
 use Rattle.vevent.specs.declared.kind.EventKind.{EventKind}
 use Rattle.vevent.specs.declared.kind.EventKind.TheVariants as kind
 use Rattle.vevent.specs.EventValue.{ChangeValue, FieldValue, ShardGtidValue, EventValue, Gtid, Begin, Commit, Rollback, Row, Field, Vgtid, Ignored}
@@ -11,7 +11,7 @@ use Rattle.vevent.specs.Parts.{text, scalar, parts, single, embedded}
 
 -- the columns of a row; where an event is accepted, each of its rows has them
 abbrev pub row_of : List ℕ → List (Option (List ℕ))
-row_of row = result_unwrap_or (row_at row) []
+row_of row = result_unwrap_or (row_of_message row) []
 
 -- RowChange: before = 1, after = 2
 abbrev pub change_of : List ℕ → ChangeValue

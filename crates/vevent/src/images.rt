@@ -4,7 +4,7 @@ ghost use Rattle.std.specs.Prelude.{◌≡◌, ◌||◌, List, [], ◌∷◌, No
 ghost use Rattle.std.specs.List.{filter_map, list_any};
 ghost use Rattle.std.specs.Result.{result_err};
 ghost use Rattle.proto_wire.specs.Field.{WireField, wire_field};
-ghost use Rattle.row_view.specs.Row.{row_at};
+ghost use Rattle.row_view.specs.Row.{row_of_message};
 ghost use Rattle.vevent.specs.Parts.{part_in};
 ghost use Rattle.vevent.specs.Fault.{or_else, first_in, in_change, change_fault, is_other_field, is_partial, repeats_a_row};
 ghost use Rattle.vevent.specs.Single.{repeats_behind};
@@ -27,7 +27,7 @@ pub(crate) struct Images<'b> {
 impl<'b> Images<'b> {
     /// Looks for the fault of a row, where none was found before.
     fn check_row(&mut self, row: &[u8])
-        ensures fault { self.new.fault ≡ or_else self.old.fault (result_err (row_at row.now)) }
+        ensures fault { self.new.fault ≡ or_else self.old.fault (result_err (row_of_message row.now)) }
         ensures before { self.new.before ≡ self.old.before }
         ensures after { self.new.after ≡ self.old.after }
         ensures partial { self.new.is_partial ≡ self.old.is_partial }

@@ -1,6 +1,6 @@
 use Rattle.std.proofs.Common.{◌∙◌}
 use Rattle.row_view.proofs.CountLaws.{Counts-append}
-use Rattle.row_view.proofs.FoundLaws.{fault_of-next, last_or-past}
+use Rattle.row_view.proofs.FoundLaws.{fault_of-next, last_of-past}
 use Rattle.row_view.proofs.found.found_in.Goals as goal
 
 pub loop-field-preserved : goal.loop-field-preserved
@@ -9,6 +9,6 @@ loop-field-preserved c =
     let put = c.in_ok-put.ensures in
     record {
       fault = fault_of-next _ _ _ next.0 next.1 put.0 ∙ c.loop-field.invariant.fault;
-      values = last_or-past _ _ _ _ next.0 c.in_default-values_in.ensures ∙ c.loop-field.invariant.values;
+      values = last_of-past _ _ _ _ _ next.0 c.in_default-part.ensures ∙ c.loop-field.invariant.values;
       counted = λ new rest. c.loop-field.invariant.counted new (rw next.0 (Counts-append _ _ put.1 rest));
     }

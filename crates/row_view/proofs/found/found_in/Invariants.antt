@@ -1,7 +1,9 @@
 use Rattle.std.proofs.Common.{◌≡◌, length}
 use Rattle.std.specs.List.{filter_map}
 use Rattle.row_view.specs.declared.count.Count.{Count}
-use Rattle.row_view.specs.RowFields.{lengths_of, values_at, last_or, fault_of, row_lengths, row_values, row_wire_fault}
+use Rattle.proto_wire.specs.Parts.{part_in, last_of}
+use Rattle.row_view.specs.declared.found.TheConstants.{VALUES}
+use Rattle.row_view.specs.RowFields.{lengths_of, fault_of, row_lengths, row_values, row_wire_fault}
 use Rattle.row_view.specs.Counted.{Counts}
 use Rattle.row_view.proofs.found.found_in.Given as goal
 
@@ -10,7 +12,7 @@ use Rattle.row_view.proofs.found.found_in.Given as goal
 abbrev pub invariant-loop-field : goal.invariant-loop-field
 invariant-loop-field l = record {
   fault : fault_of l.fields ≡ row_wire_fault l.bytes;
-  values : last_or l.values (filter_map values_at l.fields.items) ≡ row_values l.bytes;
+  values : last_of l.values (filter_map (part_in VALUES) l.fields.items) ≡ row_values l.bytes;
   counted : (new : Count) → Counts l.count (lengths_of l.fields.items) new → Counts (record { columns = 0; bytes = 0 }) (row_lengths l.bytes) new;
 }
 
