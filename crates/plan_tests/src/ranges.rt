@@ -176,32 +176,66 @@ fn minus_zero_and_zeros(rt: HostRuntime) -> Result<(), Fail> {
         b"00000000000000000000000000000000000000",
     ];
     for value in zeros {
-        assert_eq!(rt; number_of(value), Some(Number::NotNegative(0)));
+        assert_eq!(rt; value_of(value), Some(0));
         let id = Vindex::Numeric.id(Column::Bytes(value))?;
         assert_eq!(rt; id.bytes(), [0u8; 8].as_slice());
     }
-    let seven = Some(Number::NotNegative(7));
+    assert!(rt; number_of(b"-0") == number_of(b"0"));
     assert_eq!(rt;
-        number_of(b"0000000000000000000000000000000000000000000000000000007"),
-        seven
+        value_of(b"0000000000000000000000000000000000000000000000000000007"),
+        Some(7)
     );
-    assert_eq!(rt; number_of(b"-0010"), Some(Number::Negative(-10)));
+    assert_eq!(rt; value_of(b"-0010"), Some(-10));
     Ok(())
+}
+
+// The value of the number that a text writes.
+fn value_of(text: &[u8]) -> Option<i128> {
+    Some(number_of(text)?.value())
 }
 
 #[test]
 fn number_limits(rt: HostRuntime) {
     assert_eq!(rt;
-        number_of(b"-9223372036854775808"),
-        Some(Number::Negative(i64::MIN))
+        value_of(b"-9223372036854775808"),
+        Some(-9223372036854775808)
     );
     assert_eq!(rt;
-        number_of(b"18446744073709551615"),
-        Some(Number::NotNegative(u64::MAX))
+        value_of(b"18446744073709551615"),
+        Some(18446744073709551615)
     );
-    assert_eq!(rt; number_of(b"-9223372036854775809"), None);
-    assert_eq!(rt; number_of(b"18446744073709551616"), None);
-    assert!(rt; Number::Negative(-2) < Number::Negative(-1));
-    assert!(rt; Number::Negative(-1) < Number::NotNegative(0));
-    assert!(rt; Number::NotNegative(2) < Number::NotNegative(10));
+    assert_eq!(rt; value_of(b"-9223372036854775809"), None);
+    assert_eq!(rt; value_of(b"18446744073709551616"), None);
+    assert_eq!(rt; natural_of(b"0018446744073709551615"), Some(u64::MAX));
+    assert_eq!(rt; natural_of(b"-1"), None);
+}
+
+// Numbers are ordered and equal by value, whatever their texts.
+#[test]
+fn numbers_by_value(rt: HostRuntime) {
+    let rising: [&[u8]; 5] = [b"-10", b"-2", b"-0", b"02", b"10"];
+    for i in 1..rising.len() {
+        assert!(rt; number_of(rising[i - 1]) < number_of(rising[i]));
+    }
+    assert!(rt; number_of(b"-007") == number_of(b"-7"));
+}
+
+#[test]
+fn shortest_text_of_a_number(rt: HostRuntime) -> Result<(), Fail> {
+    let texts: [(&[u8], &str); 5] = [
+        (b"-0", "0"),
+        (b"0010", "10"),
+        (b"-0010", "-10"),
+        (b"18446744073709551615", "18446744073709551615"),
+        (b"-9223372036854775808", "-9223372036854775808"),
+    ];
+    for (text, shortest) in texts {
+        let mut buffer = Buffer::new();
+        assert!(rt; number_of(text).is_some());
+        if let Some(number) = number_of(text) {
+            assert_eq!(rt; number.text(&mut buffer), shortest);
+            assert_eq!(rt; format!(in rt.alloc(); "{number}")?.as_str(), shortest);
+        }
+    }
+    Ok(())
 }

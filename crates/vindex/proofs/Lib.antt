@@ -1,3 +1,4 @@
 mod NumberLemmas
+mod NumberTextLaws
 mod RangeLemmas
 mod TilingLemmas

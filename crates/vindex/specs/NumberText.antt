@@ -1,12 +1,16 @@
 -- Numbers as a row carries them: an optional `-` and one or more decimal digits, in value from -2^63
 -- to 2^64 - 1. Leading zeros are allowed, and `-0` is 0 (this profile).
-use Rattle.std.specs.Prelude.{ℕ, ◌+◌, ◌^◌, ◌==◌, ◌&&◌, nat_lt, List, [], ◌∷◌, Option, None, Some, if◌then◌else◌, ℤ, pos, neg_ℤ, ◌<ℤ◌, ⊤}
+use Rattle.std.specs.Prelude.{◌≡◌, ℕ, ◌+◌, ◌^◌, ◌<◌, ◌≤◌, ◌==◌, ◌&&◌, nat_lt, List, [], ◌∷◌, length, Option, None, Some, if◌then◌else◌, ℤ, pos, negsuc, neg_ℤ}
 use Rattle.std.specs.Char.{is_ascii_digit}
+use Rattle.std.specs.Fmt.{signed_decimal}
 use Rattle.std.specs.List.{list_all}
 use Rattle.std.specs.Option.{option_map}
 use Rattle.std.specs.Str.Parse.{digits_value}
-use Rattle.vindex.specs.declared.numbers.Number.{Number}
-use Rattle.vindex.specs.declared.numbers.Number.TheVariants.{Negative, NotNegative}
+
+-- an integer from -2^63 to 2^64 - 1, `negsuc n` being -(n + 1)
+abbrev pub IsNumber : ℤ → Type 0
+IsNumber (pos n) = n < 2 ^ 64
+IsNumber (negsuc n) = n < 2 ^ 63
 
 -- what one or more decimal digits write, if it is below a limit
 abbrev pub decimal_below : ℕ → List ℕ → Option ℕ
@@ -23,12 +27,11 @@ number_of_text (byte ∷ rest) =
     if byte == 45 then option_map (λ n. neg_ℤ (pos n)) (decimal_below (2 ^ 63 + 1) rest)
     else option_map pos (decimal_below (2 ^ 64) (byte ∷ rest))
 
--- the value of a number that was read
-abbrev pub value_of : Number → ℤ
-value_of (Negative z) = z
-value_of (NotNegative n) = pos n
+-- the shortest text that writes a number: its digits without zeros in front, behind a `-` where it is
+-- below 0
+abbrev pub shortest_text : ℤ → List ℕ
+shortest_text = signed_decimal
 
--- a number is `Negative` only where it is below 0, so each number has one spelling
-abbrev pub HasItsSign : Number → Type 0
-HasItsSign (Negative z) = z <ℤ pos 0
-HasItsSign (NotNegative n) = ⊤
+-- every text of a number is as long as this one at least
+abbrev pub IsShortest : ℤ → List ℕ → Type 0
+IsShortest number text = (other : List ℕ) → number_of_text other ≡ Some number → length text ≤ length other

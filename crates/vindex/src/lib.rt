@@ -10,7 +10,8 @@ mod vindexes;
 
 pub use faults::VindexFault;
 pub use ids::Id;
+pub use itoa::Buffer;
 pub use key_ranges::KeyRange;
-pub use numbers::{Number, number_of};
+pub use numbers::{Number, natural_of, number_of};
 pub use tiling::tiles;
 pub use vindexes::Vindex;

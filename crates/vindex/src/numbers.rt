@@ -1,75 +1,63 @@
 //! The numbers that a row carries as decimal text.
 
-ghost use Rattle.std.specs.Prelude.{◌≡◌, ◌+◌, ◌-◌, ◌*◌, ◌^◌, ◌<◌, IfSome, IsTrue, pos};
-ghost use Rattle.std.proofs.Common.{rules};
-ghost use Rattle.std.specs.Cmp.{partial_order_from_own_ties};
-ghost use Rattle.std.specs.Cmp.Rules.{comparing};
+ghost use Rattle.std.specs.Prelude.{◌≡◌, ◌+◌, ◌-◌, ◌*◌, ◌^◌, ◌<◌, ◌≤◌, Some, length, IsTrue};
 ghost use Rattle.std.specs.Char.{is_ascii_digit};
-ghost use Rattle.std.specs.Option.{option_map, SomeIff};
-ghost use Rattle.std.specs.Ordering.{on, int_eq, int_cmp, as_partial_cmp};
-ghost use Rattle.vindex.specs.NumberText.{decimal_below, number_of_text, value_of, HasItsSign};
+ghost use Rattle.std.specs.Option.{SomeIff};
+ghost use Rattle.vindex.specs.NumberText.{IsNumber, IsShortest, decimal_below, number_of_text, shortest_text};
 
-use std::cmp::Ordering;
+use itoa::Buffer;
+use std::fmt;
+use std::marker::Model;
 
-/// A number from -2^63 to 2^64 - 1. Numbers compare by their values.
-#[derive(Clone, Copy, Debug)]
-pub enum Number {
-    /// A number below 0.
-    Negative(i64),
-    /// 0 or a number above it.
-    NotNegative(u64),
+/// A number from -2^63 to 2^64 - 1. Numbers are equal and ordered as the integers that they are.
+#[derive(Clone, Copy, Debug, PartialEq, Eq, PartialOrd, Ord)]
+pub struct Number {
+    value: i128,
 }
 
-impl PartialEq for Number {
-    ghost eq = { on value_of int_eq };
+impl Model for Number {
+    ghost use Rattle.std.specs.Prelude.{ℤ};
 
-    ghost laws = { Prim.search (comparing, rules) };
+    ghost Value = { ℤ };
 
-    fn eq(&self, other: &Number) -> bool {
-        self.cmp(other) == Ordering::Equal
+    ghost use Rattle.vindex.specs.NumberText.{IsNumber};
+
+    ghost view = { λ number. number.value };
+
+    ghost invariant = { λ number. IsNumber number.value };
+
+    ghost inverse = { λ value. record { value = value } };
+}
+
+impl Number {
+    /// The integer: from -2^63 to 2^64 - 1.
+    pub fn value(self) -> i128
+        ensures value { result ≡ self }
+        ensures within { IsNumber self }
+    {
+        self.value
+    }
+
+    /// The number's shortest decimal text, written into a buffer. Takes no memory.
+    pub fn text(self, buffer: &mut Buffer) -> &str
+        ensures text { result.now ≡ shortest_text self }
+        ensures reads_back { number_of_text (shortest_text self) ≡ Some self }
+        // No text of the number is shorter.
+        ensures shortest { IsShortest self (shortest_text self) }
+        ensures fits { length (shortest_text self) ≤ 20 }
+    {
+        buffer.format(self.value)
     }
 }
 
-impl Eq for Number {
-    ghost laws = { Prim.search (comparing, rules) };
-}
+impl fmt::Display for Number {
+    ghost use Rattle.std.specs.Prelude.{Some};
+    ghost use Rattle.vindex.specs.NumberText.{shortest_text};
 
-impl PartialOrd for Number {
-    ghost partial_cmp = { as_partial_cmp (on value_of int_cmp) };
+    ghost output = { λ number. Some (shortest_text number) };
 
-    ghost laws = { partial_order_from_own_ties (Prim.search (comparing, rules)) (Prim.search (comparing, rules)) };
-
-    fn partial_cmp(&self, other: &Number) -> Option<Ordering> {
-        Some(self.cmp(other))
-    }
-}
-
-impl Ord for Number {
-    ghost cmp = { on value_of int_cmp };
-
-    ghost total = { Prim.search (comparing, rules) };
-
-    ghost matches_partial_cmp = { Prim.search (comparing, rules) };
-
-    ghost matches_eq = { Prim.search (comparing, rules) };
-
-    fn cmp(&self, other: &Number) -> Ordering {
-        match (self, other) {
-            (Number::Negative(a), Number::Negative(b)) => a.cmp(b),
-            (Number::Negative(a), Number::NotNegative(b)) => compare(*a, *b),
-            (Number::NotNegative(a), Number::Negative(b)) => compare(*b, *a).reverse(),
-            (Number::NotNegative(a), Number::NotNegative(b)) => a.cmp(b),
-        }
-    }
-}
-
-// A signed number beside an unsigned one, by value.
-fn compare(signed: i64, unsigned: u64) -> Ordering
-    ensures { result ≡ int_cmp signed (pos unsigned) }
-{
-    match u64::try_from(signed) {
-        Ok(not_negative) => not_negative.cmp(&unsigned),
-        Err(_) => Ordering::Less,
+    fn fmt<W: fmt::Write>(&self, f: &mut fmt::Formatter<W>) -> fmt::Result {
+        write!(f, "{}", self.value)
     }
 }
 
@@ -78,20 +66,27 @@ fn compare(signed: i64, unsigned: u64) -> Ordering
 /// memory.
 #[tactic(auto, unfolding(crate::specs::NumberText::number_of_text))]
 pub fn number_of(text: &[u8]) -> Option<Number>
-    ensures value { option_map value_of result ≡ number_of_text text.now }
-    ensures sign { IfSome result HasItsSign }
+    ensures { result ≡ number_of_text text.now }
 {
     match text {
-        [b'-', digits @ ..] => match magnitude_of(digits)? {
-            0 => Some(Number::NotNegative(0)),
-            magnitude => Some(Number::Negative(0i64.checked_sub_unsigned(magnitude)?)),
-        },
-        digits => Some(Number::NotNegative(magnitude_of(digits)?)),
+        [b'-', digits @ ..] => {
+            let magnitude = natural_of(digits)?;
+            if magnitude > 1 << 63 {
+                return None;
+            }
+            Some(Number {
+                value: -i128::from(magnitude),
+            })
+        }
+        digits => Some(Number {
+            value: i128::from(natural_of(digits)?),
+        }),
     }
 }
 
-// The number that one or more decimal digits write, if it is below 2^64.
-fn magnitude_of(digits: &[u8]) -> Option<u64>
+/// The number that one or more decimal digits write, if it is below 2^64. Leading zeros are allowed.
+/// `None` is for every other text. Takes no memory.
+pub fn natural_of(digits: &[u8]) -> Option<u64>
     ensures { result ≡ decimal_below (2 ^ 64) digits.now }
 {
     if digits.is_empty() {

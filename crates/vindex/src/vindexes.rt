@@ -1,6 +1,6 @@
 //! Vindexes, which give a column's value its keyspace id.
 
-ghost use Rattle.std.specs.Prelude.{◌≡◌, ◌↔◌, Ok, Err, IsErrOf, None, IfErr};
+ghost use Rattle.std.specs.Prelude.{◌≡◌, ◌↔◌, ◌⊎◌, Ok, Err, IsErrOf, None, IfErr};
 ghost use Rattle.std.specs.Result.{result_map_both};
 ghost use Rattle.std.specs.Option.{ok_or};
 ghost use Rattle.row_view.specs.ColumnValue.{column_value};
@@ -10,7 +10,7 @@ ghost use Rattle.vindex.specs.declared.faults.VindexFault.TheVariants.{UnknownVi
 
 use crate::faults::VindexFault;
 use crate::ids::Id;
-use crate::numbers::{Number, number_of};
+use crate::numbers::number_of;
 use md5::{Digest, Md5};
 use row_view::Column;
 
@@ -53,6 +53,7 @@ impl Vindex {
     pub fn id<'b>(self, column: Column<'b>) -> Result<Id<'b>, VindexFault>
         ensures value { result_map_both id_bytes (λ fault. fault) result ≡ id_of self (column_value column.entry) }
         ensures null { IsErrOf result NullValue ↔ (column_value column.entry ≡ None) }
+        ensures refused { IfErr result (λ fault. (fault ≡ NullValue) ⊎ (fault ≡ NotANumber)) }
         ensures not_a_number { IsErrOf result NotANumber ↔ IsNoUnsigned self (column_value column.entry) }
     {
         let Column::Bytes(bytes) = column else {
@@ -71,8 +72,11 @@ impl Vindex {
 fn unsigned_of(text: &[u8]) -> Result<u64, VindexFault>
     ensures { result ≡ ok_or (unsigned (number_of_text text.now)) NotANumber }
 {
-    match number_of(text) {
-        Some(Number::NotNegative(number)) => Ok(number),
-        _ => Err(VindexFault::NotANumber),
+    let Some(number) = number_of(text) else {
+        return Err(VindexFault::NotANumber);
+    };
+    match u64::try_from(number.value()) {
+        Ok(number) => Ok(number),
+        Err(_) => Err(VindexFault::NotANumber),
     }
 }

@@ -2,7 +2,7 @@ use Rattle.std.proofs.Common.{◌≡◌, ◌<◌, ◌^◌, take, true}
 use Rattle.std.specs.Char.{is_ascii_digit}
 use Rattle.std.specs.List.{list_all}
 use Rattle.std.specs.Str.Parse.{digits_value}
-use Rattle.vindex.proofs.numbers.magnitude_of.Given as goal
+use Rattle.vindex.proofs.numbers.natural_of.Given as goal
 
 -- the digits so far are digits, and write the magnitude
 abbrev pub invariant-loop-digit : goal.invariant-loop-digit

@@ -1,7 +1,7 @@
 use Rattle.std.proofs.Common.{◌^◌, ◌<◌, length, sym, ◌∙◌, arith}
 use Rattle.std.proofs.lemmas.Bool.Decides.{nat_tests}
 use Rattle.vindex.proofs.NumberLemmas.{decimal_below-refused, value-more, all-more, decimal_below-done}
-use Rattle.vindex.proofs.numbers.magnitude_of.Goals as goal
+use Rattle.vindex.proofs.numbers.natural_of.Goals as goal
 
 pub returns-in_err-magnitude : goal.returns-in_err-magnitude
 returns-in_err-magnitude c =
