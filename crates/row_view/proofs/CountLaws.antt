@@ -2,7 +2,7 @@
 use Rattle.std.proofs.Common.{◌≡◌, ℤ, ◌+◌, List, [], ◌∷◌, ◌++◌, arith, length-append}
 use Rattle.row_view.specs.declared.count.Count.{Count}
 use Rattle.row_view.specs.Row.{size_of_all}
-use Rattle.row_view.specs.Counted.{Counts}
+use Rattle.row_view.specs.Private.Counted.{Counts}
 
 pub size_of_all-append : (xs ys : List ℤ) → size_of_all (xs ++ ys) ≡ size_of_all xs + size_of_all ys
 size_of_all-append [] ys = omega arith

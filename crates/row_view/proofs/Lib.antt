@@ -2,3 +2,4 @@ pub mod CountLaws
 pub mod FoundLaws
 pub mod ColumnLaws
 pub mod RowLaws
+pub mod KeptLaws

@@ -39,7 +39,7 @@ IsWhole-from_none bytes e =
     let parts = none-from_first (fields_of bytes).items (fields_of bytes).fault e in
     record { fields = parts.0; packed = parts.1 }
 
-none_from_IsWhole : (bytes : List ℕ) → IsWhole bytes → row_wire_fault bytes ≡ None
+pub none_from_IsWhole : (bytes : List ℕ) → IsWhole bytes → row_wire_fault bytes ≡ None
 none_from_IsWhole bytes whole = first-from_none (fields_of bytes).items (fields_of bytes).fault whole.fields whole.packed
 
 -- ---- the five cases

@@ -2,4 +2,4 @@ pub mod ColumnValue
 pub mod FaultNumber
 pub mod RowFields
 pub mod Row
-pub mod Counted
+pub mod Private

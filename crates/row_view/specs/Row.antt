@@ -50,6 +50,10 @@ columns_over values [] = []
 columns_over values (pos n ∷ ns) = Some (take n values) ∷ columns_over (drop n values) ns
 columns_over values (negsuc n ∷ ns) = None ∷ columns_over values ns
 
+-- the columns of a message whose lengths and values are right
+abbrev pub columns_in : List ℕ → List (Option (List ℕ))
+columns_in bytes = columns_over (row_values bytes) (row_lengths bytes)
+
 -- the row of these values and lengths
 unfoldable pub row_with : List ℕ → List ℤ → Result (List (Option (List ℕ))) RowFault
 row_with values lengths =

@@ -6,7 +6,7 @@ ghost use Rattle.proto_wire.specs.Zigzag.{unzigzag_of};
 ghost use Rattle.proto_wire.specs.Field.{wire_field};
 ghost use Rattle.row_view.specs.RowFields.{lengths_at, packed_fault_at};
 ghost use Rattle.row_view.specs.Row.{size_of};
-ghost use Rattle.row_view.specs.Counted.{Counts};
+ghost use Rattle.row_view.specs.Private.Counted.{Counts};
 
 use crate::found::LENGTHS;
 use proto_wire::{Field, Payload, Varints, WireFault, unzigzag};

@@ -2,7 +2,7 @@
 
 ghost use Rattle.std.specs.Prelude.{◌≡◌, MatchResult};
 ghost use Rattle.row_view.specs.RowFields.{row_lengths, row_values, row_wire_fault};
-ghost use Rattle.row_view.specs.Counted.{Counts};
+ghost use Rattle.row_view.specs.Private.Counted.{Counts};
 
 use crate::count::Count;
 use proto_wire::{Fields, WireFault};

@@ -8,8 +8,11 @@ mod fault;
 mod found;
 mod lengths;
 mod row;
+mod row_bytes;
+mod same;
 
 pub use column::Column;
 pub use columns::Columns;
 pub use fault::RowFault;
 pub use row::{ROW_BYTES, ROW_COLUMNS, RowView};
+pub use row_bytes::RowBytes;

@@ -4,12 +4,15 @@ ghost use Rattle.std.specs.Prelude.{◌≡◌, ℕ, ◌^◌, ◌<◌, ◌≤◌,
 ghost use Rattle.proto_wire.specs.declared.fault.WireFault.{WireFault};
 ghost use Rattle.row_view.specs.ColumnValue.{column_value};
 ghost use Rattle.row_view.specs.RowFields.{row_lengths, row_values, row_wire_fault};
-ghost use Rattle.row_view.specs.Row.{IsRow, IsWhole, size_of_all, row_of_message};
+ghost use Rattle.row_view.specs.Row.{IsRow, IsWhole, size_of_all, columns_in, row_of_message};
+ghost use Rattle.row_view.specs.Private.Kept.{IsGood};
 
 use crate::column::Column;
 use crate::columns::Columns;
 use crate::fault::RowFault;
 use crate::found::found_in;
+use crate::row_bytes::RowBytes;
+use crate::same::are_same;
 use std::marker::Model;
 
 /// The most bytes that a row message may have (this profile's limit).
@@ -30,17 +33,15 @@ pub struct RowView<'b> {
 }
 
 impl<'b> Model for RowView<'b> {
-    ghost use Rattle.std.specs.Prelude.{◌≡◌, ℕ, ◌≤◌, List, Option, length};
-    ghost use Rattle.row_view.specs.RowFields.{row_lengths};
-    ghost use Rattle.row_view.specs.Row.{size_of_all, columns_over};
+    ghost use Rattle.std.specs.Prelude.{ℕ, List, Option};
+    ghost use Rattle.row_view.specs.Row.{columns_in};
+    ghost use Rattle.row_view.specs.Private.Kept.{IsKept};
 
     ghost Value = { List (Option (List ℕ)) };
 
-    ghost view = { λ a. columns_over a.values.now (row_lengths a.message.now) };
+    ghost view = { λ a. columns_in a.message.now };
 
-    ghost invariant = { λ a. (a.columns ≡ length (row_lengths a.message.now))
-        × (length (row_lengths a.message.now) ≤ 256)
-        × (size_of_all (row_lengths a.message.now) ≤ length a.values.now) };
+    ghost invariant = { λ a. IsKept a.message.now a.values.now a.columns };
 }
 
 impl<'b> RowView<'b> {
@@ -72,6 +73,19 @@ impl<'b> RowView<'b> {
             × (length (row_values bytes.now) < size_of_all (row_lengths bytes.now))) }
     {
         row_of(bytes)
+    }
+
+    /// The row of a message that is one. Reads its lengths.
+    pub(crate) fn of_row(message: &'b [u8]) -> RowView<'b>
+        requires { IsGood message.now }
+        ensures { result ≡ columns_in message.now }
+    {
+        let found = found_in(message).unwrap();
+        RowView {
+            message,
+            values: found.values,
+            columns: found.count.columns,
+        }
     }
 
     /// How many columns the row has, at most 256. Takes no memory and reads nothing again.
@@ -108,6 +122,31 @@ impl<'b> RowView<'b> {
         ensures { result ≡ self.now }
     {
         Columns::new(self.message, self.values)
+    }
+
+    /// The bytes of the row, which can be kept in its place. Takes no memory and reads nothing again.
+    pub fn bytes(&self) -> RowBytes<'b>
+        ensures { result ≡ self.now }
+    {
+        RowBytes::of_row(self.message)
+    }
+
+    /// A second view of the same row. Takes no memory and reads nothing again.
+    pub fn copy(&self) -> RowView<'b>
+        ensures { result ≡ self.now }
+    {
+        RowView {
+            message: self.message,
+            values: self.values,
+            columns: self.columns,
+        }
+    }
+
+    /// Whether the other row has the same columns, NULL and empty bytes told apart. Takes no memory.
+    pub fn same(&self, other: &RowView<'_>) -> bool
+        ensures { IsTrue result ↔ (self.now ≡ other.now) }
+    {
+        are_same(self.columns(), other.columns())
     }
 }
 

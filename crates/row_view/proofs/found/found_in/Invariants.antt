@@ -4,7 +4,7 @@ use Rattle.row_view.specs.declared.count.Count.{Count}
 use Rattle.proto_wire.specs.Parts.{part_in, last_of}
 use Rattle.row_view.specs.declared.found.TheConstants.{VALUES}
 use Rattle.row_view.specs.RowFields.{lengths_of, fault_of, row_lengths, row_values, row_wire_fault}
-use Rattle.row_view.specs.Counted.{Counts}
+use Rattle.row_view.specs.Private.Counted.{Counts}
 use Rattle.row_view.proofs.found.found_in.Given as goal
 
 -- What is read so far and the fields that are still to come say together what the message says: the

@@ -2,7 +2,7 @@ use Rattle.std.proofs.Common.{◌≡◌, map, length}
 use Rattle.proto_wire.specs.Varint.{varints_of}
 use Rattle.proto_wire.specs.Zigzag.{unzigzag_of}
 use Rattle.row_view.specs.declared.count.Count.{Count}
-use Rattle.row_view.specs.Counted.{Counts}
+use Rattle.row_view.specs.Private.Counted.{Counts}
 use Rattle.row_view.proofs.count.Count.put_packed.Given as goal
 
 -- the fault is that of the whole part, and whatever the rest counts up to, the whole part does

@@ -1,0 +1,81 @@
+//! The bytes of a row.
+
+ghost use Rattle.std.specs.Prelude.{◌≡◌, ◌↔◌, IsTrue, IsOk, Ok};
+ghost use Rattle.row_view.specs.Row.{row_of_message};
+
+use crate::columns::Columns;
+use crate::fault::RowFault;
+use crate::found::{VALUES, found_in};
+use crate::row::RowView;
+use crate::same::are_same;
+use proto_wire::last_text;
+use std::marker::Model;
+
+/// The bytes of a message that is known to be a row, in 16 bytes: what is kept of a row. Seen in
+/// contracts as the list of its columns' values, `None` for NULL, as a view of it is. Nothing is
+/// copied.
+#[derive(Drop)]
+pub struct RowBytes<'b> {
+    message: &'b [u8],
+}
+
+impl<'b> Model for RowBytes<'b> {
+    ghost use Rattle.std.specs.Prelude.{ℕ, List, Option};
+    ghost use Rattle.row_view.specs.Row.{columns_in};
+    ghost use Rattle.row_view.specs.Private.Kept.{IsGood};
+
+    ghost Value = { List (Option (List ℕ)) };
+
+    ghost view = { λ a. columns_in a.message.now };
+
+    ghost invariant = { λ a. IsGood a.message.now };
+}
+
+impl<'b> RowBytes<'b> {
+    /// Reads a row message. Refused as `RowView::read` refuses it. Takes no memory.
+    pub fn read(bytes: &'b [u8]) -> Result<RowBytes<'b>, RowFault>
+        ensures { result ≡ row_of_message bytes.now }
+    {
+        let row = RowView::read(bytes)?;
+        Ok(row.bytes())
+    }
+
+    /// The bytes of a row that was read before: that they are one is the caller's. Reads nothing and
+    /// takes no memory.
+    pub fn of_row(bytes: &'b [u8]) -> RowBytes<'b>
+        requires { IsOk (row_of_message bytes.now) }
+        ensures { row_of_message bytes.now ≡ Ok result }
+    {
+        RowBytes { message: bytes }
+    }
+
+    /// The row itself. Reads its lengths once more, and takes no memory.
+    pub fn view(&self) -> RowView<'b>
+        ensures { result ≡ self.now }
+    {
+        RowView::of_row(self.message)
+    }
+
+    /// The columns of the row in order. Looks for the values once more, and takes no memory.
+    pub fn columns(&self) -> Columns<'b>
+        ensures { result ≡ self.now }
+    {
+        Columns::new(self.message, last_text(self.message, VALUES))
+    }
+
+    /// The bytes of the same row again. Takes no memory.
+    pub fn copy(&self) -> RowBytes<'b>
+        ensures { result ≡ self.now }
+    {
+        RowBytes {
+            message: self.message,
+        }
+    }
+
+    /// Whether the other row has the same columns, NULL and empty bytes told apart. Takes no memory.
+    pub fn same(&self, other: &RowBytes<'_>) -> bool
+        ensures { IsTrue result ↔ (self.now ≡ other.now) }
+    {
+        are_same(self.columns(), other.columns())
+    }
+}
