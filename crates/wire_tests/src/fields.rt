@@ -1,6 +1,8 @@
 //! Values from outside: the worked edges of the encoding.
 
 use proto_wire::*;
+use std::alloc::{AllocError, Global};
+use std::test::Fail;
 
 /// The first varint of `bytes` and what comes after the list, as a packed list reads it.
 fn first_varint(bytes: &[u8]) -> Result<Option<u64>, WireFault> {
@@ -27,6 +29,13 @@ fn varint_edges(rt: HostRuntime) {
     assert_eq!(rt; first_varint(&TOO_LARGE), Err(WireFault::VarintTooLong));
     assert_eq!(rt; first_varint(&[0x80]), Err(WireFault::Truncated));
     assert_eq!(rt; first_varint(&[]), Ok(None));
+}
+
+/// Ten bytes, the tenth 1.
+#[test]
+fn varint_limit(rt: HostRuntime) {
+    assert_eq!(rt; first_varint(&TWO_TO_63), Ok(Some(1 << 63)));
+    assert_eq!(rt; first_varint(&TOO_LARGE), Err(WireFault::VarintTooLong));
 }
 
 /// The fault at which the fields of `bytes` end, and how many come before it.
@@ -96,13 +105,22 @@ fn wire_type_six_or_seven(rt: HostRuntime) {
     );
 }
 
+/// 1 and 2^29 - 1 stand, 2^29 and 0 don't.
 #[test]
-fn field_number_out_of_range(rt: HostRuntime) {
-    // 2^29 - 1 stands, 2^29 and 0 don't
+fn field_number_limit(rt: HostRuntime) {
+    assert_eq!(rt; end_of(&[0x08, 0x01]), (1, None));
     assert_eq!(rt; end_of(&[0xf8, 0xff, 0xff, 0xff, 0x0f, 0x01]), (1, None));
     let above = [0x80, 0x80, 0x80, 0x80, 0x10, 0x01];
     assert_eq!(rt; end_of(&above), (0, Some(WireFault::BadFieldNumber)));
     assert_eq!(rt; end_of(&[0x00, 0x01]), (0, Some(WireFault::BadFieldNumber)));
+}
+
+/// Before the wire type, whatever it is.
+#[test]
+fn field_number_out_of_range(rt: HostRuntime) {
+    for tag in [0x03, 0x04, 0x06, 0x07] {
+        assert_eq!(rt; end_of(&[tag]), (0, Some(WireFault::BadFieldNumber)));
+    }
 }
 
 #[test]
@@ -145,4 +163,46 @@ fn zigzag_of_small_numbers(rt: HostRuntime) {
         assert_eq!(rt; zigzag(value), number);
         assert_eq!(rt; unzigzag(number), value);
     }
+}
+
+/// The text of a fault.
+fn text_of(alloc: Global, fault: WireFault) -> Result<String, AllocError> {
+    format!(in alloc; "{fault}")
+}
+
+#[test]
+fn texts_of_wire_faults(rt: HostRuntime) -> Result<(), Fail> {
+    for (fault, text) in [
+        (WireFault::Truncated, "the bytes end inside a field"),
+        (WireFault::VarintTooLong, "a varint has more than 64 bits"),
+        (
+            WireFault::GroupWireType,
+            "a field has the wire type of a group",
+        ),
+        (
+            WireFault::BadWireType,
+            "a field has a wire type that is not known",
+        ),
+        (
+            WireFault::BadFieldNumber,
+            "a field has a number out of range",
+        ),
+    ] {
+        assert_eq!(rt; text_of(rt.alloc(), fault)?.as_str(), text);
+    }
+    Ok(())
+}
+
+#[test]
+fn text_of_a_frame_fault(rt: HostRuntime) -> Result<(), Fail> {
+    let fault = FrameFault {
+        place: 17,
+        cause: WireFault::Truncated,
+    };
+    let text = format!(in rt.alloc(); "{fault}")?;
+    assert_eq!(rt;
+        text.as_str(),
+        "a message is broken at byte 17: the bytes end inside a field"
+    );
+    Ok(())
 }

@@ -1,7 +1,9 @@
 //! Rows as bytes and the columns that they are, worked by hand from `query.proto` and the protobuf
 //! encoding guide.
 
+use proto_wire::WireFault;
 use row_view::*;
+use std::alloc::{AllocError, Global};
 use std::process::Abort;
 use std::test::Fail;
 
@@ -72,6 +74,7 @@ fn column_outlives_its_view(rt: HostRuntime) {
 #[test]
 fn a_view_is_small(rt: HostRuntime) {
     assert!(rt; size_of::<RowView<'static>>() <= 40);
+    assert!(rt; size_of::<RowBytes<'static>>() <= 16);
 }
 
 #[test]
@@ -143,5 +146,32 @@ fn row_bytes_limit(rt: HostRuntime) -> Result<(), Fail> {
 fn row_too_long(rt: HostRuntime) -> Result<(), Fail> {
     let bytes = vec![in rt.alloc(); 0u8; 16_777_217]?;
     check_refused(&rt, &bytes, 14, 14);
+    Ok(())
+}
+
+/// The text of a fault.
+fn text_of(alloc: Global, fault: RowFault) -> Result<String, AllocError> {
+    format!(in alloc; "{fault}")
+}
+
+#[test]
+fn texts_of_row_faults(rt: HostRuntime) -> Result<(), Fail> {
+    for (fault, text) in [
+        (
+            RowFault::RowTooLong,
+            "a row message has more than 16777216 bytes",
+        ),
+        (
+            RowFault::Wire(WireFault::Truncated),
+            "a row message is broken: the bytes end inside a field",
+        ),
+        (RowFault::TooManyColumns, "a row has more than 256 columns"),
+        (
+            RowFault::LengthsPastValues,
+            "the lengths of a row are more than its values",
+        ),
+    ] {
+        assert_eq!(rt; text_of(rt.alloc(), fault)?.as_str(), text);
+    }
     Ok(())
 }
