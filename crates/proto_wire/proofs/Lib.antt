@@ -1,4 +1,5 @@
 pub mod VarintLoop
 pub mod ReadingLaws
 pub mod VarintLaws
+pub mod ShortestLaws
 pub mod FieldLaws

@@ -9,7 +9,7 @@ use Rattle.proto_wire.specs.Varint.{IsContinued, value_of, IsVarint, NoVarint, v
 use Rattle.proto_wire.proofs.ReadingLaws.{TakesBytes, IsReader}
 
 -- a varint and its absence, where at most `more` bytes are continued
-abbrev IsWithin : ℕ → List ℕ → ℕ → Type 0
+abbrev pub IsWithin : ℕ → List ℕ → ℕ → Type 0
 IsWithin more bytes n = (front : List ℕ) × (last : ℕ) × (bytes ≡ front ++ last ∷ []) × IsContinued front × (last < 128) × (length front ≤ more) × (length front ≡ more → last ≤ 1) × (n ≡ value_of bytes)
 
 abbrev NoneWithin : ℕ → List ℕ → WireFault → Type 0
@@ -40,10 +40,10 @@ within-too_long : (b : ℕ) (bytes : List ℕ) → 2 ≤ b → varint_within 0 (
 unfolding varint_within
 within-too_long b bytes le = let test : ltb b 2 ≡ false = le-ltb b 2 le in rw test refl
 
-value-low : (b : ℕ) → b < 128 → value_of (b ∷ []) ≡ b
+pub value-low : (b : ℕ) → b < 128 → value_of (b ∷ []) ≡ b
 value-low b lt = let test : ltb b 128 ≡ true = lt-ltb b 128 lt in rw test (omega arith)
 
-value-high : (b : ℕ) (bytes : List ℕ) → 128 ≤ b → value_of (b ∷ bytes) ≡ b - 128 + 128 * value_of bytes
+pub value-high : (b : ℕ) (bytes : List ℕ) → 128 ≤ b → value_of (b ∷ bytes) ≡ b - 128 + 128 * value_of bytes
 value-high b bytes le = let test : ltb b 128 ≡ false = le-ltb b 128 le in rw test refl
 
 -- ---- what stands there is read
@@ -73,9 +73,6 @@ refuses_long zero (b ∷ front) tenth rest c len le = absurd (omega arith)
 refuses_long (suc more) (b ∷ front) tenth rest c len le = within-high more b (front ++ tenth ∷ rest) c.0 ∙ ap (above b) (refuses_long more front tenth rest c.1 (omega arith) le)
 
 -- ---- what is read stands there
-
-ok_is : (x y : ℕ × List ℕ) → (let e : Result (ℕ × List ℕ) WireFault = Ok x in e ≡ Ok y) → x ≡ y
-ok_is x y e = cc
 
 -- an answer above a group came from an answer
 above_ok : (b : ℕ) (r : Result (ℕ × List ℕ) WireFault) (y : ℕ × List ℕ) → above b r ≡ Ok y → (x : ℕ × List ℕ) × (r ≡ Ok x) × (y ≡ (b - 128 + 128 * x.0, x.1))

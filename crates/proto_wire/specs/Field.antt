@@ -22,18 +22,20 @@ pub record WireField : Type 0 where
   pub number : ℕ
   pub value : WireValue
 
--- how a payload and a field of the program are seen
+-- how a payload of the program is seen
 abbrev pub wire_value : Payload → WireValue
 wire_value (payload.Varint n) = Varint n
 wire_value (payload.Eight b) = Eight b.now
 wire_value (payload.Bytes b) = Bytes b.now
 wire_value (payload.Four b) = Four b.now
 
+-- how a field of the program is seen
 abbrev pub wire_field : Field → WireField
 wire_field f = record { number = f.number; value = wire_value f.payload }
 
 -- ---- as a relation
 
+-- the wire type of a payload
 abbrev pub wire_type : WireValue → ℕ
 wire_type (Varint n) = 0
 wire_type (Eight b) = 1

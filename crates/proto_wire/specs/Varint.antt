@@ -1,7 +1,8 @@
 -- Varints: seven bits a byte, lowest group first; the high bit says that another byte follows
 -- (protobuf encoding guide, "Base 128 Varints"). At most ten bytes, the tenth at most 1, so that the
 -- value has 64 bits; longer spellings than needed are varints too.
-use Rattle.std.specs.Prelude.{◌≡◌, ℕ, zero, suc, ◌+◌, ◌-◌, ◌*◌, ◌<◌, ◌≤◌, ◌⊎◌, List, [], ◌∷◌, ◌++◌, length, Result, Ok, Err, nat_lt, if◌then◌else◌}
+use Rattle.std.specs.Prelude.{◌≡◌, ℕ, zero, suc, ◌+◌, ◌-◌, ◌*◌, ◌/◌, ◌%◌, ◌<◌, ◌≤◌, ◌⊎◌, List, [], ◌∷◌, ◌++◌, length, Result, Ok, Err, nat_lt, if◌then◌else◌}
+use Rattle.std.specs.List.{AllByRecursion}
 use Rattle.proto_wire.specs.declared.fault.WireFault.{WireFault}
 use Rattle.proto_wire.specs.declared.fault.WireFault.TheVariants.{Truncated, VarintTooLong}
 use Rattle.outcome.specs.Outcome.{◌>>=◌}
@@ -50,3 +51,18 @@ AreVarints bytes r = Spells IsVarint NoVarint bytes r.items r.fault
 -- the varints of a packed list, and the fault that ends them
 abbrev pub varints_of : List ℕ → Reading ℕ WireFault
 varints_of bytes = reading_of varint_at bytes
+
+-- ---- the shortest spelling
+
+-- each is a byte
+abbrev pub AreBytes : List ℕ → Type 0
+AreBytes bytes = AllByRecursion (λ b. b < 256) bytes
+
+-- a number in as few bytes as it needs, of which at most `more` are continued
+unfoldable pub shortest_within : ℕ → ℕ → List ℕ
+shortest_within zero n = n ∷ []
+shortest_within (suc more) n = if nat_lt n 128 then n ∷ [] else (n % 128 + 128) ∷ shortest_within more (n / 128)
+
+-- the shortest spelling of a number of 64 bits, the one in which varints are written
+unfoldable pub shortest : ℕ → List ℕ
+shortest n = shortest_within 9 n

@@ -11,7 +11,7 @@ use std::marker::Model;
 
 /// The messages of a buffer that are still to come, in the order of the bytes. Seen in contracts as
 /// that list and the fault that ends it, if one does.
-#[derive(Debug, Drop)]
+#[derive(Drop)]
 pub struct Frames<'b> {
     rest: &'b [u8],
     /// how many bytes the whole buffer has

@@ -16,7 +16,7 @@ pub use fault::{FrameFault, WireFault};
 pub use field::{Field, Payload};
 pub use fields::Fields;
 pub use frames::Frames;
-pub use laws::longer_spelling;
+pub use laws::{longer_spelling, shortest_spelling};
 pub use parts::{Parts, last_text, last_varint, single_of};
 pub use sint64::{unzigzag, zigzag};
 pub use varints::Varints;

@@ -11,7 +11,7 @@ use std::marker::Model;
 
 /// The varints of a packed list that are still to come. Seen in contracts as that list and the fault
 /// that ends it, if one does.
-#[derive(Debug, Drop)]
+#[derive(Drop)]
 pub struct Varints<'b> {
     rest: &'b [u8],
 }

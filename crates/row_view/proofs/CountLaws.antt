@@ -8,10 +8,6 @@ pub size_of_all-append : (xs ys : List ℤ) → size_of_all (xs ++ ys) ≡ size_
 size_of_all-append [] ys = omega arith
 size_of_all-append (x ∷ xs) ys = omega (arith, size_of_all-append xs ys)
 
--- no lengths change nothing
-pub Counts-none : (count : Count) → Counts count [] count
-Counts-none count = record { columns = omega arith; bytes = omega arith }
-
 -- some lengths, and then others
 pub Counts-append : {a b c : Count} (xs ys : List ℤ) → Counts a xs b → Counts b ys c → Counts a (xs ++ ys) c
 Counts-append xs ys first others = record {

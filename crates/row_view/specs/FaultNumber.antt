@@ -4,6 +4,7 @@ use Rattle.proto_wire.specs.FaultNumber as wire
 use Rattle.row_view.specs.declared.fault.RowFault.{RowFault}
 use Rattle.row_view.specs.declared.fault.RowFault.TheVariants.{RowTooLong, Wire, TooManyColumns, LengthsPastValues}
 
+-- the number of each fault
 abbrev pub number_of : RowFault → ℕ
 number_of RowTooLong = 14
 number_of (Wire fault) = 11

@@ -12,7 +12,7 @@ use std::marker::Model;
 
 /// The columns of a row that are still to come. Seen in contracts as the list of their values,
 /// `None` for NULL. Takes no memory.
-#[derive(Debug, Drop)]
+#[derive(Drop)]
 pub struct Columns<'b> {
     lengths: Lengths<'b>,
     /// the values from the next column on

@@ -13,7 +13,7 @@ use proto_wire::{Field, Payload, Varints, WireFault, unzigzag};
 
 /// What the lengths so far come to. Both numbers stop at their type's greatest, so that no lengths,
 /// however long, wrap.
-#[derive(Clone, Copy, Debug, PartialEq, Eq)]
+#[derive(Clone, Copy)]
 pub(crate) struct Count {
     /// how many lengths there are
     pub(crate) columns: u16,

@@ -10,7 +10,7 @@ use std::marker::Model;
 
 /// The lengths that are still to come, in the order of the bytes. Seen in contracts as that list. A
 /// fault of the wire ends them, so a caller has looked for faults before.
-#[derive(Debug, Drop)]
+#[derive(Drop)]
 pub(crate) struct Lengths<'b> {
     fields: Fields<'b>,
     /// what is left of the packed part that was entered last

@@ -23,7 +23,7 @@ pub const ROW_COLUMNS: u16 = 256;
 
 /// A row, read from its message. Seen in contracts as the list of its columns' values, `None` for
 /// NULL. Nothing is copied: columns are slices of the message.
-#[derive(Debug, Drop)]
+#[derive(Drop)]
 pub struct RowView<'b> {
     message: &'b [u8],
     /// the last values of the message
