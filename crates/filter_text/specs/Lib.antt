@@ -1,0 +1,6 @@
+pub mod Lexemes
+pub mod Tokens
+pub mod FilterText
+pub mod RuleScope
+pub mod Views
+pub mod Private

@@ -1,0 +1,13 @@
+//! The text of a filter rule: what it says, by its tokens and forms.
+#![tactic(auto)]
+
+mod fault;
+mod filter;
+mod form;
+mod scope;
+mod token;
+mod tokens;
+
+pub use fault::FilterFault;
+pub use filter::{Filter, Rows};
+pub use scope::Scope;

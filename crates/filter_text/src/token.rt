@@ -1,0 +1,60 @@
+//! A token of a filter's text.
+
+ghost use Rattle.std.specs.Prelude.{◌≡◌, option_map};
+ghost use Rattle.filter_text.specs.Lexemes.{is_key, is_this_mark, named, text_in_quotes};
+ghost use Rattle.filter_text.specs.Views.{lexeme};
+
+/// A token, lent from the text.
+#[derive(Clone, Copy, Debug, PartialEq, Eq)]
+pub enum Token<'t> {
+    /// Letters, digits, `_` and `$`, as many as stand together: a key word or a plain name.
+    Word(&'t str),
+    /// What stands between two backquotes, at least one byte: a name, never a key word.
+    Name(&'t str),
+    /// What stands between two quotes.
+    Quoted(&'t str),
+    /// One of `*`, `(`, `)` and `,`.
+    Mark(u8),
+}
+
+impl<'t> Token<'t> {
+    /// Whether it is this key word, in any case.
+    pub fn is_key(&self, key: &str) -> bool
+        ensures { result ≡ is_key key.now (lexeme self.now) }
+    {
+        match self {
+            Token::Word(word) => word.eq_ignore_ascii_case(key),
+            _ => false,
+        }
+    }
+
+    /// Whether it is this mark.
+    pub fn is_mark(&self, mark: u8) -> bool
+        ensures { result ≡ is_this_mark mark (lexeme self.now) }
+    {
+        match self {
+            Token::Mark(found) => *found == mark,
+            _ => false,
+        }
+    }
+
+    /// The name that it is, with or without backquotes.
+    pub fn name(&self) -> Option<&'t str>
+        ensures { option_map (λ t. t.now) result ≡ named (lexeme self.now) }
+    {
+        match self {
+            Token::Word(name) | Token::Name(name) => Some(name),
+            _ => None,
+        }
+    }
+
+    /// What stands between its quotes.
+    pub fn quoted(&self) -> Option<&'t str>
+        ensures { option_map (λ t. t.now) result ≡ text_in_quotes (lexeme self.now) }
+    {
+        match self {
+            Token::Quoted(text) => Some(text),
+            _ => None,
+        }
+    }
+}
