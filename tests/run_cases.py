@@ -7,7 +7,8 @@ A case is a folder of tests/cases with these files, each of which may be missing
 
     args     the words, one a line                      missing: no words
     stdin    standard input                             missing: empty
-    input    a file that is standard input in place of stdin, named from the folder that it runs in
+    input    a file that is standard input in place of stdin, named from the folder that it runs in;
+             or a folder, which can be opened and not read
     files/   what lies in that folder                   missing: nothing
     output   'closed', or a file such as /dev/full: where standard output goes in place of a pipe
     stdout   the wanted standard output                 missing: nothing
@@ -59,16 +60,26 @@ class Case:
             if os.path.isdir(os.path.join(self.folder, "files")):
                 shutil.copytree(os.path.join(self.folder, "files"), place)
             shutil.copytree(EXAMPLES, os.path.join(place, "examples"))
-            stdin = read(place, self.input, b"") if self.input else self.stdin
             words = [os.fsencode(program), *self.words]
-            how = {"cwd": place, "env": environment, "timeout": SECONDS, "input": stdin}
-            how |= {"stdout": subprocess.PIPE, "stderr": subprocess.PIPE}
+            how = {"cwd": place, "env": environment, "timeout": SECONDS}
+            how |= {"stdout": subprocess.PIPE, "stderr": subprocess.PIPE} | self.standard_input(place)
             if self.output == "closed":
                 how |= {"stdout": None, "preexec_fn": lambda: os.close(1)}
             elif self.output:
                 how["stdout"] = open(self.output, "wb", buffering=0)
-            ran = subprocess.run(words, **how)
+            try:
+                ran = subprocess.run(words, **how)
+            finally:
+                if "stdin" in how:
+                    os.close(how["stdin"])
             return ran.returncode, ran.stdout or b"", ran.stderr
+
+    def standard_input(self, place):
+        """Answers the words of `subprocess.run` that give the program its standard input."""
+        given = os.path.join(place, self.input)
+        if self.input and os.path.isdir(given):
+            return {"stdin": os.open(given, os.O_RDONLY)}
+        return {"input": read(place, self.input, b"") if self.input else self.stdin}
 
     def faults(self, status, stdout, stderr):
         """Answers a line for each thing that isn't as wanted."""

@@ -21,7 +21,7 @@ import tempfile
 import run_cases
 
 # The crates whose tests allocate, each with the last growth that is refused.
-SWEPT = {"vrepl_main": 3}
+SWEPT = {"program_tests": 3}
 
 TESTS = os.path.dirname(os.path.abspath(__file__))
 ROOT = os.path.dirname(TESTS)

@@ -1,6 +1,5 @@
 pub mod HexText
 pub mod Refusals
-pub mod Words
 pub mod Cells
 pub mod Shown
 pub mod Show

@@ -62,20 +62,3 @@ fn print_piece<W: Write>(out: &mut W, piece: &[u8]) -> io::Result<()>
     };
     out.write_all(text)
 }
-
-#[cfg(test)]
-mod tests {
-    use super::*;
-    use std::test::Fail;
-
-    #[test]
-    fn prints_a_value_of_two_pieces(rt: HostRuntime) -> Result<(), Fail> {
-        let value = [0xa7u8; PIECE + 1];
-        let mut text = Vec::with_capacity(rt.alloc(), 3 * PIECE)?;
-        print_cell(&mut text, &Column::Bytes(&value))?;
-        assert_eq!(rt; text.len(), 2 * PIECE + 3);
-        assert!(rt; text.as_slice().starts_with(b"xa7a7"));
-        assert!(rt; text.as_slice().ends_with(b"a7a7"));
-        Ok(())
-    }
-}

@@ -91,31 +91,3 @@ fn fault_of(fault: &io::Error) -> InputFault
         InputFault::CannotRead
     }
 }
-
-#[cfg(test)]
-mod tests {
-    use super::*;
-    use std::test::Fail;
-
-    #[test]
-    fn reads_an_input_to_its_end(rt: HostRuntime) -> Result<(), Fail> {
-        let bytes = read_whole(rt.alloc(), &mut b"abc".as_slice())?;
-        assert_eq!(rt; bytes.as_slice(), b"abc".as_slice());
-        Ok(())
-    }
-
-    #[test]
-    fn gives_up_an_input_without_end(rt: HostRuntime) {
-        let fault = read_within(rt.alloc(), &mut io::repeat(7), 3).err();
-        assert_eq!(rt; fault, Some(InputFault::CannotRead));
-    }
-
-    #[test]
-    fn the_end_counts_as_a_read(rt: HostRuntime) {
-        let given_up = Some(InputFault::CannotRead);
-        for (reads, wanted) in [(0, given_up), (1, given_up), (2, None)] {
-            let fault = read_within(rt.alloc(), &mut b"abc".as_slice(), reads).err();
-            assert_eq!(rt; fault, wanted, "{reads} reads");
-        }
-    }
-}

@@ -18,18 +18,3 @@ pub fn write_whole<W: Write>(out: &mut W, bytes: &[u8]) -> Result<(), OutputFaul
     }
     Ok(())
 }
-
-#[cfg(test)]
-mod tests {
-    use super::*;
-    use std::io::Cursor;
-
-    #[test]
-    fn faults_where_room_ends(rt: HostRuntime) {
-        for (room, is_written) in [(2, false), (3, true), (4, true)] {
-            let mut bytes = [0u8; 4];
-            let mut out = Cursor::new(&mut bytes[..room]);
-            assert_eq!(rt; write_whole(&mut out, b"abc").is_ok(), is_written, "{room}");
-        }
-    }
-}

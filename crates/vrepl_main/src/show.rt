@@ -90,6 +90,3 @@ pub fn show<W: Write, E: Write>(
         Err(refusal) => refuse(err, &refusal),
     }
 }
-
-#[cfg(test)]
-mod tests;

@@ -10,8 +10,6 @@ mod rows;
 pub mod script;
 pub mod step;
 mod stream;
-#[cfg(test)]
-mod tests;
 mod text;
 
 use crate::output::write_whole;

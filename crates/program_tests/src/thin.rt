@@ -1,7 +1,9 @@
-use crate::thin::step::{Answer, Step};
-use crate::thin::thin_steps;
+//! One stream over one table.
+
 use source_feed::read_groups;
 use std::test::Fail;
+use vrepl_main::thin::step::{Answer, Step};
+use vrepl_main::thin::thin_steps;
 
 /// Group 1 puts (3, c), (5, e), (7, g); group 2 updates (7, g) to (4, h); group 3 (3, c) to (8, k).
 const FEED: &[u8] =

@@ -2,7 +2,7 @@
 
 ghost use Rattle.std.specs.Prelude.{◌≡◌, [], None, Some, true, false, IsOkAnd, codes};
 ghost use Rattle.clap.specs.Words.{found_of, one_text};
-ghost use Rattle.vrepl_main.specs.Words.{IsShowOfInput, text_given};
+ghost use Rattle.vrepl.specs.Words.{IsShowOfInput, text_given};
 
 use clap::error::ErrorKind;
 use clap::{Arg, ArgAction, ArgMatches, Command, Error};

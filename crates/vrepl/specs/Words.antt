@@ -2,8 +2,8 @@
 use Rattle.std.specs.Prelude.{◌≡◌, ℕ, List, true, [], codes, unwrap_or}
 use Rattle.clap.specs.declared.parser.matches.Found.{Found}
 use Rattle.clap.specs.Words.{first_value}
-use Rattle.vrepl_main.specs.declared.words.Words.{Words}
-use Rattle.vrepl_main.specs.declared.words.Words.TheVariants.{Show}
+use Rattle.vrepl.specs.declared.words.Words.{Words}
+use Rattle.vrepl.specs.declared.words.Words.TheVariants.{Show}
 
 -- the words are `show --hex -`: a feed in hexadecimal text on standard input, with no keyspace or shard
 abbrev pub IsShowOfInput : Words → Type 0

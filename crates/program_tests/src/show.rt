@@ -1,10 +1,10 @@
 //! Feeds in hexadecimal text, and what `show` prints of them.
 
-use super::*;
 use std::alloc::AllocError;
 use std::io::Cursor;
 use std::process::Abort;
 use std::test::Fail;
+use vrepl_main::show::show;
 
 /// One transaction: a row (1, ab) of the table t, and the position behind it.
 const FIRST_GROUP: &str = "6c0a0208020a18080d32140a017412070a02696410890212060a0176109530\
