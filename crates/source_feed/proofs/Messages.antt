@@ -3,7 +3,7 @@ use Rattle.std.proofs.Common.{◌≡◌, ℕ, zero, suc, ◌+◌, ◌≤◌, ◌
 use Rattle.std.proofs.lemmas.List.{length-append}
 use Rattle.std.proofs.lemmas.List.Folds.{list_any-append}
 use Rattle.std.specs.List.{filter_map, cons_option, list_any}
-use Rattle.vevent.specs.Parts.{part_in}
+use Rattle.proto_wire.specs.Parts.{part_in}
 use Rattle.proto_wire.specs.declared.fault.WireFault.{WireFault}
 use Rattle.proto_wire.specs.Reading.{Reading, Spells, reading_within, reading_of, put_first}
 use Rattle.proto_wire.specs.Field.{field_at, fields_of}

@@ -20,7 +20,7 @@ source_of plan = record { keyspace = plan.keyspace; shard = plan.shard }
 
 -- a column of a FIELD event is one of the plan: the same name and the same type
 abbrev pub same_column : ColumnValue → FieldValue → Bool
-same_column column field = bytes_eq column.name field.name && column.type_number == field.kind
+same_column column field = bytes_eq column.name field.name && column.type_number == field.type_number
 
 -- the same columns in the same order
 abbrev pub same_columns : List ColumnValue → List FieldValue → Bool

@@ -48,7 +48,9 @@ fn are_same_columns(columns: &[ColumnDef], fields: ColumnFields<'_>) -> bool
     for column in columns {
         match fields.next() {
             Some(field) => {
-                if column.name() != field.name || u64::from(column.type_number()) != field.kind {
+                if column.name() != field.name
+                    || u64::from(column.type_number()) != field.type_number
+                {
                     return false;
                 }
             }

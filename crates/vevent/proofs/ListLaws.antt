@@ -5,12 +5,13 @@ use Rattle.std.specs.List.{AllByRecursion}
 use Rattle.std.proofs.lemmas.Bool.{cases_eq, eq-eqb, ne_eqb}
 use Rattle.proto_wire.specs.declared.fault.WireFault.{WireFault}
 use Rattle.proto_wire.specs.Field.{WireField, fields_of}
-use Rattle.vevent.specs.Parts.{bytes_in}
-use Rattle.vevent.specs.Fault.{or_else, first_in, wire_fault_by, in_plain, in_event, event_wire_fault}
+use Rattle.proto_wire.specs.Parts.{bytes_in}
+use Rattle.std.specs.Option.{option_or}
+use Rattle.vevent.specs.Fault.{first_in, wire_fault_by, in_plain, in_event, event_wire_fault}
 use Rattle.vevent.specs.Standing.{IsList, HoldsLists, IsKnownList, AreLists}
 use Rattle.vevent.proofs.FirstFault.{none_first, none_second}
 
-both_none : {F : Type 0} (a b : Option F) → a ≡ None → b ≡ None → or_else a b ≡ None
+both_none : {F : Type 0} (a b : Option F) → a ≡ None → b ≡ None → option_or a b ≡ None
 both_none None b e h = h
 both_none (Some f) b e h = absurd cc
 

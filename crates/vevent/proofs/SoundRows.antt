@@ -1,12 +1,12 @@
 -- The row that stands alone in a row change can be read, where none of its rows is at fault.
 use Rattle.std.proofs.Common.{◌≡◌, ℕ, Bool, true, false, cond, eqb, List, [], ◌∷◌, Option, Some, None, Result, Ok, Err, refl, sym, subst, ◌⊎◌, inl, inr}
-use Rattle.std.specs.Prelude.{option_and_then}
+use Rattle.std.specs.Prelude.{option_and_then, IsOk}
 use Rattle.std.specs.List.{cons_option, filter_map}
 use Rattle.std.specs.Result.{result_err}
 use Rattle.std.proofs.lemmas.Bool.{eqb-true}
 use Rattle.proto_wire.specs.Field.{WireField}
 use Rattle.row_view.specs.Row.{row_of_message}
-use Rattle.vevent.specs.Parts.{bytes_in, part_in, first_of}
+use Rattle.proto_wire.specs.Parts.{bytes_in, part_in, first_of}
 use Rattle.vevent.specs.Fault.{first_in, in_change}
 use Rattle.vevent.proofs.FirstFault.{none_first, none_second}
 
@@ -32,6 +32,6 @@ single_is_sound number (f ∷ fs) row which sound h =
       | inr more ↦ single_is_sound number fs row which others more
     ]
 
-pub no_fault : {A F : Type 0} (r : Result A F) (f : F) → Err f ≡ r → result_err r ≡ None → ⊥
-no_fault (Ok x) f e h = cc
-no_fault (Err g) f e h = cc
+pub ok_without_fault : {A F : Type 0} (r : Result A F) → result_err r ≡ None → IsOk r
+ok_without_fault (Ok x) h = refl
+ok_without_fault (Err f) h = absurd cc

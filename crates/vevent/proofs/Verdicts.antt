@@ -3,7 +3,7 @@ use Rattle.std.proofs.Common.{◌≡◌, ℕ, Bool, true, false, List, Option, S
 use Rattle.std.specs.Prelude.{not, option_map, ok_or, IfOk, IfErr}
 use Rattle.std.specs.List.{list_any}
 use Rattle.proto_wire.specs.declared.fault.WireFault.{WireFault}
-use Rattle.outcome.specs.Outcome.{◌>>=◌, Gives}
+use Rattle.outcome.specs.Outcome.{◌>>=◌, Gives, unless, refused_if}
 use Rattle.row_view.specs.declared.fault.RowFault.{RowFault}
 use Rattle.vevent.specs.declared.event.Event.{Event}
 use Rattle.vevent.specs.declared.fault.EventFault.{EventFault}
@@ -12,10 +12,10 @@ use Rattle.vevent.specs.declared.kind.EventKind.{EventKind}
 use Rattle.vevent.specs.EventValue.{EventValue}
 use Rattle.vevent.specs.EventView.{event_value}
 use Rattle.vevent.specs.Kind.{kind_of}
-use Rattle.vevent.specs.Parts.{scalar}
+use Rattle.proto_wire.specs.Parts.{scalar}
 use Rattle.vevent.specs.Fault.{event_wire_fault, repeats_a_message, are_texts, row_changes, is_partial, first_row_fault}
 use Rattle.vevent.specs.Message.{event_of}
-use Rattle.vevent.specs.Event.{unless, refused_if, accepted_at, event_at}
+use Rattle.vevent.specs.Event.{accepted_at, event_at}
 use Rattle.vevent.proofs.ListLaws.{lists_from, lists_to}
 use Rattle.vevent.specs.Standing.{AreLists, StandAlone, HasType, HasTexts, HasWholeRows, IsAccepted, IsEvent, IsRefused}
 
@@ -150,13 +150,19 @@ is_refused_by : (event : List ℕ) (fault : EventFault) (verdict : Verdict) → 
 is_refused_by event fault (Ok kind) e h = absurd cc
 is_refused_by event fault (Err f) e h = let same : f ≡ fault = cc in subst (IsRefused event) same (stands event (Err f) e)
 
+pub event_from : (event : List ℕ) (value : EventValue) → event_at event ≡ Ok value → IsEvent event value
+event_from event value e = is_event_by event value (accepted_at event) refl (sym (event_at_is event) ∙ e)
+
+pub refusal_from : (event : List ℕ) (fault : EventFault) → event_at event ≡ Err fault → IsRefused event fault
+refusal_from event fault e = is_refused_by event fault (accepted_at event) refl (sym (event_at_is event) ∙ e)
+
 pub event_stands : (r : Result Event EventFault) (event : List ℕ) → Gives event_value r (event_at event) → IfOk r (λ x. IsEvent event (event_value x))
-event_stands (Ok x) event h = is_event_by event (event_value x) (accepted_at event) refl (sym (event_at_is event) ∙ h)
+event_stands (Ok x) event h = event_from event (event_value x) h
 event_stands (Err f) event h = tt
 
 pub refusal_stands : (r : Result Event EventFault) (event : List ℕ) → Gives event_value r (event_at event) → IfErr r (λ f. IsRefused event f)
 refusal_stands (Ok x) event h = tt
-refusal_stands (Err f) event h = is_refused_by event f (accepted_at event) refl (sym (event_at_is event) ∙ h)
+refusal_stands (Err f) event h = refusal_from event f h
 
 pub every_event : (event : List ℕ) (value : EventValue) → IsEvent event value → event_at event ≡ Ok value
 every_event event value h = event_at_is event ∙ ap (answered event) (is_accepted event h.0 h.1) ∙ ap (λ (v : EventValue). Ok v) (sym h.2)

@@ -11,7 +11,7 @@ pub record ChangeValue : Type 0 where
 -- a column's name and the number of its type
 pub record FieldValue : Type 0 where
   pub name : List ℕ
-  pub kind : ℕ
+  pub type_number : ℕ
 
 -- the position of one shard
 pub record ShardGtidValue : Type 0 where
@@ -19,11 +19,12 @@ pub record ShardGtidValue : Type 0 where
   pub shard : List ℕ
   pub gtid : List ℕ
 
--- changes of one table's rows, and the columns of one table
+-- changes of one table's rows
 pub record RowEventValue : Type 0 where
   pub table_name : List ℕ
   pub changes : List ChangeValue
 
+-- the columns of one table
 pub record FieldEventValue : Type 0 where
   pub table_name : List ℕ
   pub fields : List FieldValue

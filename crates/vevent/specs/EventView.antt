@@ -3,6 +3,7 @@ use Rattle.vevent.specs.declared.event.Event.{Event}
 use Rattle.vevent.specs.declared.event.Event.TheVariants as events
 use Rattle.vevent.specs.EventValue.{EventValue, Gtid, Begin, Commit, Rollback, Row, Field, Vgtid, Ignored}
 
+-- an event by its type, with the values of what it lends
 abbrev pub event_value : Event → EventValue
 event_value (events.Gtid position) = Gtid position.now
 event_value events.Begin = Begin

@@ -5,6 +5,7 @@ use Rattle.row_view.specs.FaultNumber as row
 use Rattle.vevent.specs.declared.fault.EventFault.{EventFault}
 use Rattle.vevent.specs.declared.fault.EventFault.TheVariants.{Wire, RepeatedMessage, BadType, NotUtf8, PartialRow, Row}
 
+-- the event's own number, or the row's
 abbrev pub number_of : EventFault → ℕ
 number_of (Wire f) = 21
 number_of RepeatedMessage = 22

@@ -4,6 +4,7 @@ use Rattle.vevent.specs.declared.ignored.IgnoredEvent.TheVariants.{Ddl, Other, H
 use Rattle.vevent.specs.declared.kind.EventKind.{EventKind}
 use Rattle.vevent.specs.declared.kind.EventKind.TheVariants.{Gtid, Begin, Commit, Rollback, Row, Field, Vgtid, Ignored}
 
+-- the type of a number, the whole varint; of other numbers none
 abbrev pub kind_of : ℕ → Option EventKind
 kind_of n =
     if n == 1 then Some Gtid else

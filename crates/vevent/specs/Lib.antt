@@ -1,9 +1,6 @@
 pub mod EventValue
 pub mod FaultNumber
 pub mod Kind
-pub mod Parts
-pub mod Single
-pub mod EventParts
 pub mod Message
 pub mod Fault
 pub mod Event
@@ -12,3 +9,5 @@ pub mod ColumnView
 pub mod ShardGtidView
 pub mod EventView
 pub mod Response
+pub mod Private
+pub mod Columns

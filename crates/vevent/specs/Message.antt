@@ -7,27 +7,27 @@ use Rattle.row_view.specs.Row.{row_of_message}
 use Rattle.vevent.specs.declared.kind.EventKind.{EventKind}
 use Rattle.vevent.specs.declared.kind.EventKind.TheVariants as kind
 use Rattle.vevent.specs.EventValue.{ChangeValue, FieldValue, ShardGtidValue, EventValue, Gtid, Begin, Commit, Rollback, Row, Field, Vgtid, Ignored}
-use Rattle.vevent.specs.Parts.{text, scalar, parts, single, embedded}
+use Rattle.proto_wire.specs.Parts.{text, scalar, parts, single, embedded}
 
 -- the columns of a row; where an event is accepted, each of its rows has them
-abbrev pub row_of : List ℕ → List (Option (List ℕ))
-row_of row = result_unwrap_or (row_of_message row) []
+abbrev pub image_of : List ℕ → List (Option (List ℕ))
+image_of row = result_unwrap_or (row_of_message row) []
 
 -- RowChange: before = 1, after = 2
 abbrev pub change_of : List ℕ → ChangeValue
-change_of change = record { before = option_map row_of (single 1 change); after = option_map row_of (single 2 change) }
+change_of change = record { before = option_map image_of (single 1 change); after = option_map image_of (single 2 change) }
 
 -- RowEvent: table_name = 1, row_changes = 2
 abbrev pub changes_of : List ℕ → List ChangeValue
 changes_of event = map change_of (parts 2 event)
 
 -- Field: name = 1, type = 2
-abbrev pub column_of : List ℕ → FieldValue
-column_of field = record { name = text 1 field; kind = scalar 2 field }
+abbrev pub column_field_of : List ℕ → FieldValue
+column_field_of field = record { name = text 1 field; type_number = scalar 2 field }
 
 -- FieldEvent: table_name = 1, fields = 2
-abbrev pub columns_of : List ℕ → List FieldValue
-columns_of event = map column_of (parts 2 event)
+abbrev pub column_fields_of : List ℕ → List FieldValue
+column_fields_of event = map column_field_of (parts 2 event)
 
 -- ShardGtid: keyspace = 1, shard = 2, gtid = 3
 abbrev pub shard_gtid_of : List ℕ → ShardGtidValue
@@ -44,6 +44,6 @@ event_of kind.Begin event = Begin
 event_of kind.Commit event = Commit
 event_of kind.Rollback event = Rollback
 event_of kind.Row event = Row (text 1 (embedded 5 event)) (changes_of (embedded 5 event))
-event_of kind.Field event = Field (text 1 (embedded 6 event)) (columns_of (embedded 6 event))
+event_of kind.Field event = Field (text 1 (embedded 6 event)) (column_fields_of (embedded 6 event))
 event_of kind.Vgtid event = Vgtid (entries_of (embedded 7 event))
 event_of (kind.Ignored which) event = Ignored which

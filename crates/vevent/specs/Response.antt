@@ -1,14 +1,32 @@
 -- The events of a response (`binlogdata.proto`, VStreamResponse: events = 1), in order, and the
 -- fault that ends them: that of an event, or the wire's where the response stops to be fields.
-use Rattle.std.specs.Prelude.{ℕ, List, [], ◌∷◌, Option, Some, None, option_map, Result, Ok, Err}
+use Rattle.std.specs.Prelude.{◌≡◌, ℕ, List, [], ◌∷◌, Option, Some, None, option_map, Result, Ok, Err}
 use Rattle.proto_wire.specs.declared.fault.WireFault.{WireFault}
 use Rattle.proto_wire.specs.Reading.{Reading}
-use Rattle.proto_wire.specs.Field.{fields_of}
+use Rattle.proto_wire.specs.Field.{WireField, AreFields, fields_of}
 use Rattle.vevent.specs.declared.fault.EventFault.{EventFault}
 use Rattle.vevent.specs.declared.fault.EventFault.TheVariants.{Wire}
 use Rattle.vevent.specs.EventValue.{EventValue}
-use Rattle.vevent.specs.Parts.{parts_left}
+use Rattle.proto_wire.specs.Parts.{parts_left}
 use Rattle.vevent.specs.Event.{event_at}
+use Rattle.vevent.specs.Standing.{IsEvent, IsRefused}
+
+-- ---- as a relation
+
+-- The messages are these events one after another, and then the messages' own end or fault, or a
+-- message that is refused.
+abbrev pub AreEvents : List (List ℕ) → Option WireFault → List EventValue → Option EventFault → Type 0
+AreEvents [] end [] fault = fault ≡ option_map Wire end
+AreEvents [] end (event ∷ events) fault = ⊥
+AreEvents (message ∷ messages) end [] fault = (refusal : EventFault) × IsRefused message refusal × (fault ≡ Some refusal)
+AreEvents (message ∷ messages) end (event ∷ events) fault = IsEvent message event × AreEvents messages end events fault
+
+-- The bytes are a response of these events: they are fields one after another, and those of number 1
+-- are the events.
+abbrev pub IsResponse : List ℕ → Reading EventValue EventFault → Type 0
+IsResponse bytes r = (fields : Reading WireField WireFault) × AreFields bytes fields × AreEvents (parts_left 1 fields).items fields.fault r.items r.fault
+
+-- ---- as a function
 
 -- an event before others, or the fault in its place
 abbrev pub put_event : Result EventValue EventFault → Reading EventValue EventFault → Reading EventValue EventFault
@@ -20,6 +38,7 @@ abbrev pub events_of : List (List ℕ) → Option WireFault → Reading EventVal
 events_of [] end = record { items = []; fault = option_map Wire end }
 events_of (e ∷ es) end = put_event (event_at e) (events_of es end)
 
+-- the events of messages that are still to come
 abbrev pub events_in : Reading (List ℕ) WireFault → Reading EventValue EventFault
 events_in messages = events_of messages.items messages.fault
 

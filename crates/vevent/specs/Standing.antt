@@ -8,7 +8,7 @@ use Rattle.vevent.specs.declared.fault.EventFault.TheVariants.{Wire, RepeatedMes
 use Rattle.vevent.specs.declared.kind.EventKind.{EventKind}
 use Rattle.vevent.specs.EventValue.{EventValue}
 use Rattle.vevent.specs.Kind.{kind_of}
-use Rattle.vevent.specs.Parts.{bytes_in, scalar}
+use Rattle.proto_wire.specs.Parts.{bytes_in, scalar}
 use Rattle.vevent.specs.Fault.{event_wire_fault, repeats_a_message, are_texts, row_changes, is_partial, first_row_fault}
 use Rattle.vevent.specs.Message.{event_of}
 

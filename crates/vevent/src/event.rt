@@ -5,9 +5,10 @@ ghost use Rattle.outcome.specs.Outcome.{Gives};
 ghost use Rattle.vevent.specs.declared.fault.EventFault.{EventFault};
 ghost use Rattle.vevent.specs.EventValue.{EventValue};
 ghost use Rattle.vevent.specs.Message.{event_of};
-ghost use Rattle.vevent.specs.Event.{accepted_at, event_at, IsSound};
+ghost use Rattle.vevent.specs.Event.{accepted_at, event_at};
 ghost use Rattle.vevent.specs.Standing.{IsEvent, IsRefused};
-ghost use Rattle.vevent.specs.EventParts.{IsHeld};
+ghost use Rattle.vevent.specs.Private.EventParts.{AreAllParts};
+ghost use Rattle.vevent.specs.Private.Sound.{IsSound};
 ghost use Rattle.vevent.specs.EventView.{event_value};
 
 use crate::event_parts::{EventParts, event_parts_of};
@@ -15,16 +16,15 @@ use crate::fault::EventFault;
 use crate::field_event::FieldEvent;
 use crate::ignored::IgnoredEvent;
 use crate::kind::EventKind;
-use crate::parts::last_text;
 use crate::row_event::RowEvent;
-use crate::row_parts::{RowParts, row_parts_of};
 use crate::text::text_of;
 use crate::used_texts::are_used_texts;
 use crate::vgtid_event::VGtid;
+use proto_wire::last_text;
 
 /// An event of a VStream (`binlogdata.proto`, VEvent), by its type. What it holds is lent from the
 /// bytes that were read.
-#[derive(Debug, Drop)]
+#[derive(Drop)]
 pub enum Event<'b> {
     /// Type 1: the whole position after the transaction.
     Gtid(&'b str),
@@ -48,8 +48,7 @@ pub enum Event<'b> {
 #[derive(Drop)]
 struct Accepted<'b> {
     kind: EventKind,
-    event: EventParts<'b>,
-    row_event: RowParts<'b>,
+    parts: EventParts<'b>,
 }
 
 /// What the bytes hold as an event, or the first of their faults.
@@ -57,49 +56,46 @@ struct Accepted<'b> {
 fn accept(bytes: &[u8]) -> Result<Accepted<'_>, EventFault>
     ensures kind { Gives (λ accepted. accepted.kind) result (accepted_at bytes.now) }
     ensures sound { IfOk result (λ accepted. IsSound accepted.kind bytes.now) }
-    ensures held { IfOk result (λ accepted. IsHeld bytes.now accepted.event accepted.row_event) }
+    ensures held { IfOk result (λ accepted. AreAllParts bytes.now accepted.parts) }
 {
-    let event = event_parts_of(bytes).map_err(EventFault::Wire)?;
-    let row_event = row_parts_of(event.row_event.message());
-    if event.repeats() || row_event.repeats {
+    let parts = event_parts_of(bytes).map_err(EventFault::Wire)?;
+    if parts.repeats() {
         return Err(EventFault::RepeatedMessage);
     }
-    let kind = EventKind::from_number(event.kind).ok_or(EventFault::BadType(event.kind))?;
-    if !are_used_texts(kind, &event, &row_event) {
+    let number = parts.type_number;
+    let kind = EventKind::from_number(number).ok_or(EventFault::BadType(number))?;
+    if !are_used_texts(kind, &parts) {
         return Err(EventFault::NotUtf8);
     }
-    if row_event.is_partial {
+    if parts.rows.is_partial {
         return Err(EventFault::PartialRow);
     }
-    if let Some(fault) = row_event.fault {
+    if let Some(fault) = parts.rows.fault {
         return Err(EventFault::Row(fault));
     }
-    Ok(Accepted {
-        kind,
-        event,
-        row_event,
-    })
+    Ok(Accepted { kind, parts })
 }
 
 /// The event of the bytes that were accepted so.
 fn event_as<'b>(accepted: &Accepted<'b>) -> Event<'b>
-    requires { (bytes : List ℕ) × IsSound accepted.now.kind bytes × IsHeld bytes accepted.now.event accepted.now.row_event }
-    ensures { (bytes : List ℕ) → IsHeld bytes accepted.now.event accepted.now.row_event → event_value result ≡ event_of accepted.now.kind bytes }
+    requires { (bytes : List ℕ) × IsSound accepted.now.kind bytes × AreAllParts bytes accepted.now.parts }
+    ensures { (bytes : List ℕ) → AreAllParts bytes accepted.now.parts → event_value result ≡ event_of accepted.now.kind bytes }
 {
+    let parts = &accepted.parts;
     match accepted.kind {
-        EventKind::Gtid => Event::Gtid(text_of(accepted.event.gtid)),
+        EventKind::Gtid => Event::Gtid(text_of(parts.gtid)),
         EventKind::Begin => Event::Begin,
         EventKind::Commit => Event::Commit,
         EventKind::Rollback => Event::Rollback,
         EventKind::Row => {
-            let name = text_of(accepted.row_event.table_name);
-            Event::Row(RowEvent::new(name, accepted.event.row_event.message()))
+            let name = text_of(parts.rows.table_name);
+            Event::Row(RowEvent::new(name, parts.row_event.message(), parts.rows.columns))
         }
         EventKind::Field => {
-            let message = accepted.event.field_event.message();
+            let message = parts.field_event.message();
             Event::Field(FieldEvent::new(text_of(last_text(message, 1)), message))
         }
-        EventKind::Vgtid => Event::Vgtid(VGtid::new(accepted.event.vgtid.message())),
+        EventKind::Vgtid => Event::Vgtid(VGtid::new(parts.vgtid.message())),
         EventKind::Ignored(which) => Event::Ignored(which),
     }
 }

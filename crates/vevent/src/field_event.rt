@@ -4,17 +4,17 @@ ghost use Rattle.std.specs.Prelude.{◌≡◌, true};
 ghost use Rattle.std.specs.Iterator.{YieldsFirstBy, item_count};
 ghost use Rattle.std.specs.List.{list_all};
 ghost use Rattle.std.specs.Str.{is_utf8};
-ghost use Rattle.vevent.specs.Parts.{text, parts};
-ghost use Rattle.vevent.specs.Message.{columns_of};
+ghost use Rattle.proto_wire.specs.Parts.{text, parts};
+ghost use Rattle.vevent.specs.Message.{column_fields_of};
 ghost use Rattle.vevent.specs.ColumnView.{field_value};
 
-use crate::parts::{Parts, last_text, last_varint};
 use crate::text::text_of;
+use proto_wire::{Parts, last_text, last_varint};
 use std::marker::Model;
 
 /// A field event (`binlogdata.proto`, FieldEvent). Seen in contracts as the table's name and the
 /// list of its columns. It is made by reading an event alone, so each name is a text.
-#[derive(Debug, Drop)]
+#[derive(Drop)]
 pub struct FieldEvent<'b> {
     table_name: &'b str,
     message: &'b [u8],
@@ -25,12 +25,12 @@ impl<'b> Model for FieldEvent<'b> {
     ghost use Rattle.std.specs.List.{list_all};
     ghost use Rattle.std.specs.Str.{is_utf8};
     ghost use Rattle.vevent.specs.EventValue.{FieldEventValue};
-    ghost use Rattle.vevent.specs.Parts.{text, parts};
-    ghost use Rattle.vevent.specs.Message.{columns_of};
+    ghost use Rattle.proto_wire.specs.Parts.{text, parts};
+    ghost use Rattle.vevent.specs.Message.{column_fields_of};
 
     ghost Value = { FieldEventValue };
 
-    ghost view = { λ a. record { table_name = a.table_name.now; fields = columns_of a.message.now } };
+    ghost view = { λ a. record { table_name = a.table_name.now; fields = column_fields_of a.message.now } };
 
     ghost invariant = { λ a. list_all (λ field. is_utf8 (text 1 field)) (parts 2 a.message.now) ≡ true };
 }
@@ -40,7 +40,7 @@ impl<'b> FieldEvent<'b> {
     pub(crate) fn new(table_name: &'b str, message: &'b [u8]) -> FieldEvent<'b>
         requires { list_all (λ field. is_utf8 (text 1 field)) (parts 2 message.now) ≡ true }
         ensures name { result.table_name ≡ table_name.now }
-        ensures fields { result.fields ≡ columns_of message.now }
+        ensures fields { result.fields ≡ column_fields_of message.now }
     {
         FieldEvent {
             table_name,
@@ -66,7 +66,7 @@ impl<'b> FieldEvent<'b> {
 }
 
 /// The columns of a field event that are still to come. Seen in contracts as the list of them.
-#[derive(Debug, Drop)]
+#[derive(Drop)]
 pub struct ColumnFields<'b> {
     parts: Parts<'b>,
 }
@@ -76,12 +76,12 @@ impl<'b> Model for ColumnFields<'b> {
     ghost use Rattle.std.specs.List.{list_all};
     ghost use Rattle.std.specs.Str.{is_utf8};
     ghost use Rattle.vevent.specs.EventValue.{FieldValue};
-    ghost use Rattle.vevent.specs.Parts.{text};
-    ghost use Rattle.vevent.specs.Message.{column_of};
+    ghost use Rattle.proto_wire.specs.Parts.{text};
+    ghost use Rattle.vevent.specs.Message.{column_field_of};
 
     ghost Value = { List FieldValue };
 
-    ghost view = { λ a. map column_of a.parts };
+    ghost view = { λ a. map column_field_of a.parts };
 
     ghost invariant = { λ a. list_all (λ field. is_utf8 (text 1 field)) a.parts ≡ true };
 }
@@ -97,15 +97,15 @@ impl<'b> Iterator for ColumnFields<'b> {
         let field = self.parts.next()?;
         Some(ColumnField {
             name: text_of(last_text(field, 1)),
-            kind: last_varint(field, 2),
+            type_number: last_varint(field, 2),
         })
     }
 }
 
 /// A column (`query.proto`, Field).
-#[derive(Clone, Copy, Debug, PartialEq, Eq)]
+#[derive(Clone, Copy)]
 pub struct ColumnField<'b> {
     pub name: &'b str,
     /// The number of its type, the whole varint.
-    pub kind: u64,
+    pub type_number: u64,
 }

@@ -1,7 +1,7 @@
 //! The events that the target side reads over.
 
 /// An event that changes nothing here, by its type.
-#[derive(Clone, Copy, Debug, PartialEq, Eq)]
+#[derive(Clone, Copy)]
 pub enum IgnoredEvent {
     /// Type 5: a statement that changed the schema.
     Ddl,

@@ -1,57 +1,64 @@
-//! The rows of a row change, gathered in one pass.
+//! The rows before and after a row change, in one pass.
 
-ghost use Rattle.std.specs.Prelude.{◌≡◌, ◌||◌, List, [], ◌∷◌, None};
-ghost use Rattle.std.specs.List.{filter_map, list_any};
+ghost use Rattle.std.specs.Prelude.{◌≡◌, ◌||◌, ◌&&◌, ℕ, List, [], ◌∷◌, None, Some, MatchResult};
 ghost use Rattle.std.specs.Result.{result_err};
-ghost use Rattle.proto_wire.specs.Field.{WireField, wire_field};
+ghost use Rattle.proto_wire.specs.Field.{WireField, wire_field, fields_of};
 ghost use Rattle.row_view.specs.Row.{row_of_message};
-ghost use Rattle.vevent.specs.Parts.{part_in};
-ghost use Rattle.vevent.specs.Fault.{or_else, first_in, in_change, change_fault, is_other_field, is_partial, repeats_a_row};
-ghost use Rattle.vevent.specs.Single.{repeats_behind};
+ghost use Rattle.std.specs.Option.{option_or};
+ghost use Rattle.vevent.specs.Private.Singular.{repeats_behind};
+ghost use Rattle.vevent.specs.Private.ColumnCount.{all_have, image_has};
+ghost use Rattle.vevent.specs.Private.EventParts.{AreImages};
 
-use crate::single::Single;
-use proto_wire::{Field, Fields, Payload};
+use crate::column_count::ColumnCount;
+use crate::singular::Singular;
+use proto_wire::{Field, Fields, Payload, WireFault};
 use row_view::{RowFault, RowView};
 
 /// What was met so far of a row change.
 #[derive(Drop)]
 pub(crate) struct Images<'b> {
-    before: Single<'b>,
-    after: Single<'b>,
+    before: Singular<'b>,
+    after: Singular<'b>,
     /// whether there is a field besides the rows
     pub(crate) is_partial: bool,
     /// the first fault of a row
     pub(crate) fault: Option<RowFault>,
+    /// how many columns the rows have
+    pub(crate) columns: ColumnCount,
 }
 
 impl<'b> Images<'b> {
-    /// Looks for the fault of a row, where none was found before.
-    fn check_row(&mut self, row: &[u8])
-        ensures fault { self.new.fault ≡ or_else self.old.fault (result_err (row_of_message row.now)) }
+    /// Reads a row: its fault, where none was found before, and how many columns it has. One that
+    /// can't be read has none.
+    fn put_row(&mut self, row: &[u8])
+        ensures fault { self.new.fault ≡ option_or self.old.fault (result_err (row_of_message row.now)) }
+        ensures columns { (wanted : ℕ) → all_have self.new.columns wanted ≡ (all_have self.old.columns wanted && image_has wanted row.now) }
         ensures before { self.new.before ≡ self.old.before }
         ensures after { self.new.after ≡ self.old.after }
         ensures partial { self.new.is_partial ≡ self.old.is_partial }
     {
-        if self.fault.is_none() {
-            self.fault = RowView::read(row).err();
-        }
+        let columns = match RowView::read(row) {
+            Ok(row) => row.len(),
+            Err(fault) => {
+                self.fault = self.fault.or(Some(fault));
+                0
+            }
+        };
+        self.columns = self.columns.and(ColumnCount::Same(columns));
     }
 
     /// Meets a field.
     fn put(&mut self, field: Field<'b>)
-        ensures before { (more : List WireField) → repeats_behind self.new.before (filter_map (part_in 1) more) ≡ repeats_behind self.old.before (filter_map (part_in 1) (wire_field field.entry ∷ more)) }
-        ensures after { (more : List WireField) → repeats_behind self.new.after (filter_map (part_in 2) more) ≡ repeats_behind self.old.after (filter_map (part_in 2) (wire_field field.entry ∷ more)) }
-        ensures partial { (more : List WireField) → (self.new.is_partial || list_any is_other_field more) ≡ (self.old.is_partial || list_any is_other_field (wire_field field.entry ∷ more)) }
-        ensures fault { (more : List WireField) → or_else self.new.fault (first_in in_change more None) ≡ or_else self.old.fault (first_in in_change (wire_field field.entry ∷ more) None) }
+        ensures { (change : List ℕ) (more : List WireField) → AreImages change self.old (wire_field field.entry ∷ more) → AreImages change self.new more }
     {
         match (field.number, field.payload) {
             (1, Payload::Bytes(row)) => {
                 self.before.put(row);
-                self.check_row(row);
+                self.put_row(row);
             }
             (2, Payload::Bytes(row)) => {
                 self.after.put(row);
-                self.check_row(row);
+                self.put_row(row);
             }
             (1 | 2, _) => {}
             _ => self.is_partial = true,
@@ -66,21 +73,22 @@ impl<'b> Images<'b> {
     }
 }
 
-/// The rows of a whole row change.
-pub(crate) fn images_of(change: &[u8]) -> Images<'_>
-    ensures repeats { (repeats_behind result.before [] || repeats_behind result.after []) ≡ repeats_a_row change.now }
-    ensures partial { result.is_partial ≡ is_partial change.now }
-    ensures fault { result.fault ≡ change_fault change.now }
+/// The rows of a row change, or why it isn't a list of fields.
+pub(crate) fn images_of(change: &[u8]) -> Result<Images<'_>, WireFault>
+    ensures { MatchResult result
+        (λ images. ((fields_of change.now).fault ≡ None) × AreImages change.now images [])
+        (λ fault. (fields_of change.now).fault ≡ Some fault) }
 {
     let mut images = Images {
-        before: Single::Absent,
-        after: Single::Absent,
+        before: Singular::Absent,
+        after: Singular::Absent,
         is_partial: false,
         fault: None,
+        columns: ColumnCount::NoRow,
     };
     let mut fields = Fields::new(change);
-    while let Ok(Some(field)) = fields.next_field() {
+    while let Some(field) = fields.next_field()? {
         images.put(field);
     }
-    images
+    Ok(images)
 }

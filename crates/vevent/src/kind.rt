@@ -6,7 +6,7 @@ ghost use Rattle.vevent.specs.Kind.{kind_of};
 use crate::ignored::IgnoredEvent;
 
 /// The type of an event that this profile reads.
-#[derive(Clone, Copy, Debug, PartialEq, Eq)]
+#[derive(Clone, Copy)]
 pub(crate) enum EventKind {
     Gtid,
     Begin,

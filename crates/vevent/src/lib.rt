@@ -1,6 +1,7 @@
 //! The events of a VStream (`binlogdata.proto`), read without a copy.
 #![tactic(auto)]
 
+mod column_count;
 mod event;
 mod event_parts;
 mod fault;
@@ -8,11 +9,10 @@ mod field_event;
 mod ignored;
 mod images;
 mod kind;
-mod parts;
 mod response;
 mod row_event;
 mod row_parts;
-mod single;
+mod singular;
 mod text;
 mod used_texts;
 mod vgtid_event;

@@ -1,19 +1,20 @@
 //! The events of a response.
 
 ghost use Rattle.std.specs.Prelude.{◌≡◌};
-ghost use Rattle.proto_wire.specs.Reading.{Next};
+ghost use Rattle.proto_wire.specs.Reading.{Reading, Next};
+ghost use Rattle.vevent.specs.declared.fault.EventFault.{EventFault};
+ghost use Rattle.vevent.specs.EventValue.{EventValue};
 ghost use Rattle.vevent.specs.EventView.{event_value};
-ghost use Rattle.vevent.specs.Response.{response_of};
+ghost use Rattle.vevent.specs.Response.{response_of, IsResponse};
 
 use crate::event::Event;
 use crate::fault::EventFault;
-use crate::parts::next_part;
 use proto_wire::Fields;
 use std::marker::Model;
 
 /// The events of a response that are still to come (`binlogdata.proto`, VStreamResponse), in the
 /// order of the bytes. Seen in contracts as that list and the fault that ends it, if one does.
-#[derive(Debug, Drop)]
+#[derive(Drop)]
 pub struct Response<'b> {
     fields: Fields<'b>,
     /// the fault of the event that ended the reading
@@ -24,7 +25,7 @@ impl<'b> Model for Response<'b> {
     ghost use Rattle.proto_wire.specs.Reading.{Reading};
     ghost use Rattle.vevent.specs.declared.fault.EventFault.{EventFault};
     ghost use Rattle.vevent.specs.EventValue.{EventValue};
-    ghost use Rattle.vevent.specs.Parts.{parts_left};
+    ghost use Rattle.proto_wire.specs.Parts.{parts_left};
     ghost use Rattle.vevent.specs.Response.{events_in, unless_ended};
 
     ghost Value = { Reading EventValue EventFault };
@@ -36,7 +37,11 @@ impl<'b> Response<'b> {
     /// The events of the whole of `bytes`. Nothing is read yet, and no memory is taken.
     #[tactic(auto, unfolding(crate::specs::Response::response_of))]
     pub fn new(bytes: &'b [u8]) -> Response<'b>
-        ensures { result ≡ response_of bytes.now }
+        ensures reading { result ≡ response_of bytes.now }
+        // The bytes are a response of these events, and then the end or that fault,
+        ensures spelled { IsResponse bytes.now result }
+        // and of no others.
+        ensures only { (other : Reading EventValue EventFault) → IsResponse bytes.now other → other ≡ result }
     {
         Response {
             fields: Fields::new(bytes),
@@ -53,7 +58,7 @@ impl<'b> Response<'b> {
         if let Some(fault) = self.ended {
             return Err(fault);
         }
-        let Some(message) = next_part(&mut self.fields, 1).map_err(EventFault::Wire)? else {
+        let Some(message) = self.fields.next_part(1).map_err(EventFault::Wire)? else {
             return Ok(None);
         };
         match Event::read(message) {

@@ -1,47 +1,57 @@
 //! Row events: changes of one table's rows.
 
-ghost use Rattle.std.specs.Prelude.{◌≡◌, ◌⊎◌, None, option_map};
+ghost use Rattle.std.specs.Prelude.{◌≡◌, ◌⊎◌, None, option_map, is_some};
 ghost use Rattle.std.specs.Iterator.{YieldsFirstBy, item_count};
-ghost use Rattle.vevent.specs.Parts.{parts, single};
+ghost use Rattle.std.specs.List.{list_all};
+ghost use Rattle.proto_wire.specs.Parts.{parts, single};
 ghost use Rattle.vevent.specs.Fault.{change_fault, first_row_fault};
-ghost use Rattle.vevent.specs.Message.{row_of, changes_of};
+ghost use Rattle.vevent.specs.Message.{image_of, changes_of};
+ghost use Rattle.vevent.specs.Columns.{have_columns};
+ghost use Rattle.vevent.specs.Private.ColumnCount.{IsCountOf};
 
-use crate::parts::{Parts, single_of};
-use row_view::RowView;
+use crate::column_count::ColumnCount;
+use proto_wire::{Parts, single_of};
+use row_view::{RowBytes, RowView};
 use std::marker::Model;
 
 /// A row event (`binlogdata.proto`, RowEvent). Seen in contracts as the table's name and the list of
-/// its row changes. It is made by reading an event alone, so each of its rows can be read.
-#[derive(Debug, Drop)]
+/// its row changes. It is made by reading an event alone, so each of its rows can be read, and how
+/// many columns they have is known.
+#[derive(Drop)]
 pub struct RowEvent<'b> {
     table_name: &'b str,
     message: &'b [u8],
+    columns: ColumnCount,
 }
 
 impl<'b> Model for RowEvent<'b> {
     ghost use Rattle.std.specs.Prelude.{◌≡◌, None};
     ghost use Rattle.vevent.specs.EventValue.{RowEventValue};
-    ghost use Rattle.vevent.specs.Parts.{parts};
+    ghost use Rattle.proto_wire.specs.Parts.{parts};
     ghost use Rattle.vevent.specs.Fault.{first_row_fault};
     ghost use Rattle.vevent.specs.Message.{changes_of};
+    ghost use Rattle.vevent.specs.Private.ColumnCount.{IsCountOf};
 
     ghost Value = { RowEventValue };
 
     ghost view = { λ a. record { table_name = a.table_name.now; changes = changes_of a.message.now } };
 
-    ghost invariant = { λ a. first_row_fault (parts 2 a.message.now) ≡ None };
+    ghost invariant = { λ a. (first_row_fault (parts 2 a.message.now) ≡ None)
+        × IsCountOf a.columns (changes_of a.message.now) };
 }
 
 impl<'b> RowEvent<'b> {
-    /// The row event of a message whose rows can be read.
-    pub(crate) fn new(table_name: &'b str, message: &'b [u8]) -> RowEvent<'b>
-        requires { first_row_fault (parts 2 message.now) ≡ None }
+    /// The row event of a message whose rows can be read and have this count of columns.
+    pub(crate) fn new(table_name: &'b str, message: &'b [u8], columns: ColumnCount) -> RowEvent<'b>
+        requires sound { first_row_fault (parts 2 message.now) ≡ None }
+        requires count { IsCountOf columns (changes_of message.now) }
         ensures name { result.table_name ≡ table_name.now }
         ensures changes { result.changes ≡ changes_of message.now }
     {
         RowEvent {
             table_name,
             message,
+            columns,
         }
     }
 
@@ -52,7 +62,14 @@ impl<'b> RowEvent<'b> {
         self.table_name
     }
 
-    /// The row changes, in the order of the bytes. Takes no memory.
+    /// Whether each row of each change has so many columns. Nothing is read again.
+    pub fn all_have(&self, columns: usize) -> bool
+        ensures { result ≡ list_all (have_columns columns) self.now.changes }
+    {
+        self.columns.all_have(columns)
+    }
+
+    /// The row changes, in the order of the bytes. Takes no memory, and reads no row.
     pub fn changes(&self) -> RowChanges<'b>
         ensures { result ≡ self.now.changes }
     {
@@ -63,7 +80,7 @@ impl<'b> RowEvent<'b> {
 }
 
 /// The row changes of a row event that are still to come. Seen in contracts as the list of them.
-#[derive(Debug, Drop)]
+#[derive(Drop)]
 pub struct RowChanges<'b> {
     parts: Parts<'b>,
 }
@@ -98,7 +115,7 @@ impl<'b> Iterator for RowChanges<'b> {
 /// A row change (`binlogdata.proto`, RowChange): only `after` is an insert, both are an update, only
 /// `before` is a delete. Seen in contracts as these two. It is made by reading an event alone, so each
 /// of its rows can be read; a view of a row is made when it is asked for.
-#[derive(Debug, Drop)]
+#[derive(Drop)]
 pub struct RowChange<'b> {
     message: &'b [u8],
 }
@@ -117,32 +134,59 @@ impl<'b> Model for RowChange<'b> {
 }
 
 impl<'b> RowChange<'b> {
-    /// The row before the change, or `None` for an insert. Reads the row's message once more, and takes
-    /// no memory.
-    pub fn before(&self) -> Option<RowView<'b>>
+    /// Whether there is a row before the change. Reads no row.
+    pub fn has_before(&self) -> bool
+        ensures { result ≡ is_some self.now.before }
+    {
+        self.before_bytes().is_some()
+    }
+
+    /// Whether there is a row after the change. Reads no row.
+    pub fn has_after(&self) -> bool
+        ensures { result ≡ is_some self.now.after }
+    {
+        self.after_bytes().is_some()
+    }
+
+    /// The bytes of the row before the change, or `None` for an insert. Reads no row.
+    pub fn before_bytes(&self) -> Option<RowBytes<'b>>
         ensures { result ≡ self.now.before }
     {
         row_under(self.message, 1)
     }
 
-    /// The row after the change, or `None` for a delete. Reads the row's message once more, and takes
-    /// no memory.
-    pub fn after(&self) -> Option<RowView<'b>>
+    /// The bytes of the row after the change, or `None` for a delete. Reads no row.
+    pub fn after_bytes(&self) -> Option<RowBytes<'b>>
         ensures { result ≡ self.now.after }
     {
         row_under(self.message, 2)
     }
+
+    /// The row before the change, or `None` for an insert. Reads its lengths once more, and takes no
+    /// memory.
+    pub fn before(&self) -> Option<RowView<'b>>
+        ensures { result ≡ self.now.before }
+    {
+        let row = self.before_bytes()?;
+        Some(row.view())
+    }
+
+    /// The row after the change, or `None` for a delete. Reads its lengths once more, and takes no
+    /// memory.
+    pub fn after(&self) -> Option<RowView<'b>>
+        ensures { result ≡ self.now.after }
+    {
+        let row = self.after_bytes()?;
+        Some(row.view())
+    }
 }
 
 /// The row under one of the two numbers of rows.
-fn row_under(change: &[u8], number: u32) -> Option<RowView<'_>>
+fn row_under(change: &[u8], number: u32) -> Option<RowBytes<'_>>
     requires number { (number ≡ 1) ⊎ (number ≡ 2) }
     requires sound { change_fault change.now ≡ None }
-    ensures { result ≡ option_map row_of (single number change.now) }
+    ensures { result ≡ option_map image_of (single number change.now) }
 {
     let row = single_of(change, number)?;
-    match RowView::read(row) {
-        Ok(view) => Some(view),
-        Err(_) => unreachable!(),
-    }
+    Some(RowBytes::of_row(row))
 }

@@ -1,14 +1,16 @@
-//! What a row event holds, gathered in one pass.
+//! What a row event holds, in one pass over it and its row changes.
 
-ghost use Rattle.std.specs.Prelude.{◌≡◌, ◌||◌, ℕ, List, ◌∷◌};
-ghost use Rattle.std.specs.List.{filter_map, list_any};
-ghost use Rattle.proto_wire.specs.Field.{WireField, wire_field};
-ghost use Rattle.vevent.specs.Parts.{part_in, last_of};
-ghost use Rattle.vevent.specs.Fault.{or_else, first_row_fault, is_partial, repeats_a_row};
-ghost use Rattle.vevent.specs.EventParts.{AreRowParts};
+ghost use Rattle.std.specs.Prelude.{◌≡◌, ◌||◌, ◌&&◌, ℕ, List, [], ◌∷◌, None, Some, MatchResult, OnOk, option_and_then};
+ghost use Rattle.std.specs.List.{filter_map};
+ghost use Rattle.std.specs.Result.{result_err};
+ghost use Rattle.proto_wire.specs.Field.{WireField, wire_field, fields_of};
+ghost use Rattle.proto_wire.specs.Parts.{bytes_in, part_in};
+ghost use Rattle.vevent.specs.Fault.{in_plain, wire_fault_by};
+ghost use Rattle.vevent.specs.Private.EventParts.{AreRowParts, AreAllRowParts, PutsChange};
 
+use crate::column_count::ColumnCount;
 use crate::images::images_of;
-use proto_wire::{Field, Fields, Payload};
+use proto_wire::{Field, Fields, Payload, WireFault};
 use row_view::RowFault;
 
 /// What was met so far of a row event.
@@ -22,50 +24,64 @@ pub(crate) struct RowParts<'b> {
     pub(crate) is_partial: bool,
     /// the first fault of a row
     pub(crate) fault: Option<RowFault>,
+    /// how many columns the rows have
+    pub(crate) columns: ColumnCount,
 }
 
 impl<'b> RowParts<'b> {
-    /// Meets a row change.
-    fn put_change(&mut self, change: &[u8])
-        ensures name { self.new.table_name.now ≡ self.old.table_name.now }
-        ensures repeats { (more : List (List ℕ)) → (self.new.repeats || list_any repeats_a_row more) ≡ (self.old.repeats || list_any repeats_a_row (change.now ∷ more)) }
-        ensures partial { (more : List (List ℕ)) → (self.new.is_partial || list_any is_partial more) ≡ (self.old.is_partial || list_any is_partial (change.now ∷ more)) }
-        ensures fault { (more : List (List ℕ)) → or_else self.new.fault (first_row_fault more) ≡ or_else self.old.fault (first_row_fault (change.now ∷ more)) }
+    /// Nothing was met.
+    pub(crate) fn new() -> RowParts<'b>
+        ensures { (row_event : List ℕ) → AreRowParts row_event result (fields_of row_event).items }
     {
-        let images = images_of(change);
+        RowParts {
+            table_name: &[],
+            repeats: false,
+            is_partial: false,
+            fault: None,
+            columns: ColumnCount::NoRow,
+        }
+    }
+
+    /// Meets a row change.
+    fn put_change(&mut self, change: &[u8]) -> Result<(), WireFault>
+        ensures wire { result_err result ≡ (fields_of change.now).fault }
+        ensures put { OnOk result (PutsChange change.now self.old self.new) }
+    {
+        let images = images_of(change)?;
         self.repeats = self.repeats || images.repeats();
         self.is_partial = self.is_partial || images.is_partial;
         self.fault = self.fault.or(images.fault);
+        self.columns = self.columns.and(images.columns);
+        Ok(())
     }
 
     /// Meets a field.
-    fn put(&mut self, field: Field<'b>)
-        ensures name { (more : List WireField) → last_of self.new.table_name.now (filter_map (part_in 1) more) ≡ last_of self.old.table_name.now (filter_map (part_in 1) (wire_field field.entry ∷ more)) }
-        ensures repeats { (more : List WireField) → (self.new.repeats || list_any repeats_a_row (filter_map (part_in 2) more)) ≡ (self.old.repeats || list_any repeats_a_row (filter_map (part_in 2) (wire_field field.entry ∷ more))) }
-        ensures partial { (more : List WireField) → (self.new.is_partial || list_any is_partial (filter_map (part_in 2) more)) ≡ (self.old.is_partial || list_any is_partial (filter_map (part_in 2) (wire_field field.entry ∷ more))) }
-        ensures fault { (more : List WireField) → or_else self.new.fault (first_row_fault (filter_map (part_in 2) more)) ≡ or_else self.old.fault (first_row_fault (filter_map (part_in 2) (wire_field field.entry ∷ more))) }
+    fn put(&mut self, field: Field<'b>) -> Result<(), WireFault>
+        ensures wire { let f = wire_field field.entry in
+            result_err result ≡ option_and_then (in_plain 2 f.number) (bytes_in f.value) }
+        ensures put { OnOk result ((row_event : List ℕ) (more : List WireField) → AreRowParts row_event self.old (wire_field field.entry ∷ more) → AreRowParts row_event self.new more) }
     {
         match (field.number, field.payload) {
-            (1, Payload::Bytes(name)) => self.table_name = name,
+            (1, Payload::Bytes(name)) => {
+                self.table_name = name;
+                Ok(())
+            }
             (2, Payload::Bytes(change)) => self.put_change(change),
-            _ => {}
+            _ => Ok(()),
         }
     }
 }
 
-/// All that a row event holds.
-pub(crate) fn row_parts_of(row_event: &[u8]) -> RowParts<'_>
-    ensures { AreRowParts row_event.now result }
+/// All that a row event holds, or the first fault from the left of what isn't a list of fields in it.
+pub(crate) fn row_parts_of(row_event: &[u8]) -> Result<RowParts<'_>, WireFault>
+    ensures { MatchResult result
+        (λ parts. (wire_fault_by (in_plain 2) row_event.now ≡ None) × AreAllRowParts row_event.now parts)
+        (λ fault. wire_fault_by (in_plain 2) row_event.now ≡ Some fault) }
 {
-    let mut parts = RowParts {
-        table_name: &[],
-        repeats: false,
-        is_partial: false,
-        fault: None,
-    };
+    let mut parts = RowParts::new();
     let mut fields = Fields::new(row_event);
-    while let Ok(Some(field)) = fields.next_field() {
-        parts.put(field);
+    while let Some(field) = fields.next_field()? {
+        parts.put(field)?;
     }
-    parts
+    Ok(parts)
 }

@@ -3,15 +3,14 @@
 ghost use Rattle.std.specs.Prelude.{◌≡◌, ℕ, List};
 ghost use Rattle.std.specs.List.{list_all};
 ghost use Rattle.std.specs.Str.{is_utf8};
-ghost use Rattle.vevent.specs.Parts.{text, parts};
+ghost use Rattle.proto_wire.specs.Parts.{text, parts};
 ghost use Rattle.vevent.specs.Fault.{are_entry_texts, are_texts};
-ghost use Rattle.vevent.specs.EventParts.{IsHeld};
+ghost use Rattle.vevent.specs.Private.EventParts.{AreAllParts};
 
 use crate::event_parts::EventParts;
 use crate::kind::EventKind;
-use crate::parts::{Parts, last_text};
-use crate::row_parts::RowParts;
 use crate::text::is_text;
+use proto_wire::{Parts, last_text};
 
 /// The names of all columns of a field event.
 fn are_names(field_event: &[u8]) -> bool
@@ -45,21 +44,17 @@ fn are_texts_of_entries(vgtid: &[u8]) -> bool
 }
 
 /// The texts that an event of this type uses.
-pub(crate) fn are_used_texts(
-    kind: EventKind,
-    event: &EventParts<'_>,
-    row_event: &RowParts<'_>,
-) -> bool
-    ensures { (bytes : List ℕ) → IsHeld bytes event.now row_event.now → result ≡ are_texts kind bytes }
+pub(crate) fn are_used_texts(kind: EventKind, parts: &EventParts<'_>) -> bool
+    ensures { (bytes : List ℕ) → AreAllParts bytes parts.now → result ≡ are_texts kind bytes }
 {
     match kind {
-        EventKind::Gtid => is_text(event.gtid),
-        EventKind::Row => is_text(row_event.table_name),
+        EventKind::Gtid => is_text(parts.gtid),
+        EventKind::Row => is_text(parts.rows.table_name),
         EventKind::Field => {
-            let field_event = event.field_event.message();
+            let field_event = parts.field_event.message();
             is_text(last_text(field_event, 1)) && are_names(field_event)
         }
-        EventKind::Vgtid => are_texts_of_entries(event.vgtid.message()),
+        EventKind::Vgtid => are_texts_of_entries(parts.vgtid.message()),
         EventKind::Begin | EventKind::Commit | EventKind::Rollback | EventKind::Ignored(_) => true,
     }
 }

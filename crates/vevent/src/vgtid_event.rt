@@ -3,18 +3,18 @@
 ghost use Rattle.std.specs.Prelude.{◌≡◌, true};
 ghost use Rattle.std.specs.Iterator.{YieldsFirstBy, item_count};
 ghost use Rattle.std.specs.List.{list_all};
-ghost use Rattle.vevent.specs.Parts.{parts};
+ghost use Rattle.proto_wire.specs.Parts.{parts};
 ghost use Rattle.vevent.specs.Fault.{are_entry_texts};
 ghost use Rattle.vevent.specs.Message.{entries_of};
 ghost use Rattle.vevent.specs.ShardGtidView.{shard_gtid_value};
 
-use crate::parts::{Parts, last_text};
 use crate::text::text_of;
+use proto_wire::{Parts, last_text};
 use std::marker::Model;
 
 /// The position of each shard of a stream (`binlogdata.proto`, VGtid). Seen in contracts as the list
 /// of its entries. It is made by reading an event alone, so each text is one.
-#[derive(Debug, Drop)]
+#[derive(Drop)]
 pub struct VGtid<'b> {
     message: &'b [u8],
 }
@@ -23,7 +23,7 @@ impl<'b> Model for VGtid<'b> {
     ghost use Rattle.std.specs.Prelude.{◌≡◌, true, List};
     ghost use Rattle.std.specs.List.{list_all};
     ghost use Rattle.vevent.specs.EventValue.{ShardGtidValue};
-    ghost use Rattle.vevent.specs.Parts.{parts};
+    ghost use Rattle.proto_wire.specs.Parts.{parts};
     ghost use Rattle.vevent.specs.Fault.{are_entry_texts};
     ghost use Rattle.vevent.specs.Message.{entries_of};
 
@@ -54,7 +54,7 @@ impl<'b> VGtid<'b> {
 }
 
 /// The entries of a VGTID that are still to come. Seen in contracts as the list of them.
-#[derive(Debug, Drop)]
+#[derive(Drop)]
 pub struct ShardGtids<'b> {
     parts: Parts<'b>,
 }
@@ -91,7 +91,7 @@ impl<'b> Iterator for ShardGtids<'b> {
 }
 
 /// The position of one shard (`binlogdata.proto`, ShardGtid).
-#[derive(Clone, Copy, Debug, PartialEq, Eq)]
+#[derive(Clone, Copy)]
 pub struct ShardGtid<'b> {
     pub keyspace: &'b str,
     pub shard: &'b str,

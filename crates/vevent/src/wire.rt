@@ -1,10 +1,10 @@
-//! Whether an event and the messages in it are lists of fields.
+//! Whether a message and those in it are lists of fields.
 
 ghost use Rattle.std.specs.Prelude.{◌≡◌, option_and_then};
 ghost use Rattle.std.specs.Result.{result_err};
 ghost use Rattle.proto_wire.specs.Field.{wire_field, fields_of};
-ghost use Rattle.vevent.specs.Parts.{bytes_in};
-ghost use Rattle.vevent.specs.Fault.{in_plain, in_event, wire_fault_by};
+ghost use Rattle.proto_wire.specs.Parts.{bytes_in};
+ghost use Rattle.vevent.specs.Fault.{in_plain, wire_fault_by};
 
 use proto_wire::{Field, Fields, Payload, WireFault};
 
@@ -29,7 +29,7 @@ fn check_plain_in(field: Field<'_>, wanted: u32) -> Result<(), WireFault>
 }
 
 /// The first fault in a message that holds plain ones under one number.
-fn check_holder(message: &[u8], wanted: u32) -> Result<(), WireFault>
+pub(crate) fn check_holder(message: &[u8], wanted: u32) -> Result<(), WireFault>
     ensures { result_err result ≡ wire_fault_by (in_plain wanted) message.now }
 {
     let mut fields = Fields::new(message);
@@ -37,16 +37,4 @@ fn check_holder(message: &[u8], wanted: u32) -> Result<(), WireFault>
         check_plain_in(field, wanted)?;
     }
     Ok(())
-}
-
-/// The fault within a field of an event.
-pub(crate) fn check_known(field: Field<'_>) -> Result<(), WireFault>
-    ensures { let f = wire_field field.entry in
-        result_err result ≡ option_and_then (in_event f.number) (bytes_in f.value) }
-{
-    match (field.number, field.payload) {
-        (5 | 6, Payload::Bytes(part)) => check_holder(part, 2),
-        (7, Payload::Bytes(part)) => check_holder(part, 1),
-        _ => Ok(()),
-    }
 }

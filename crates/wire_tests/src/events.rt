@@ -4,7 +4,9 @@
 use crate::samples::RESPONSE;
 use proto_wire::WireFault;
 use row_view::{Column, RowFault, RowView};
+use std::alloc::{AllocError, Global};
 use std::process::Abort;
+use std::test::Fail;
 use vevent::*;
 
 const GROUP: EventFault = EventFault::Wire(WireFault::GroupWireType);
@@ -143,7 +145,7 @@ fn type_is_whole_varint(rt: HostRuntime) {
     let far = Some(EventFault::BadType(4_294_967_298));
     assert_eq!(rt; fault_of(b"\x08\x82\x80\x80\x80\x10"), far);
     let column = column_of(b"\x08\x0d\x32\x08\x12\x06\x10\x82\x80\x80\x80\x10");
-    assert_eq!(rt; column.expect(&rt, "a column").kind, 4_294_967_298);
+    assert_eq!(rt; column.expect(&rt, "a column").type_number, 4_294_967_298);
 }
 
 #[test]
@@ -217,7 +219,7 @@ fn last_text_and_number_of_a_column(rt: HostRuntime) {
     let column = column_of(b"\x08\x0d\x32\x0c\x12\x0a\x0a\x01a\x10\x05\x0a\x01b\x10\x07");
     let column = column.expect(&rt, "a column");
     assert_eq!(rt; column.name.as_bytes(), b"b".as_slice());
-    assert_eq!(rt; column.kind, 7);
+    assert_eq!(rt; column.type_number, 7);
     let entry = entry_of(b"\x08\x0f\x3a\x0b\x0a\x09\x1a\x01c\x12\x01b\x0a\x01a");
     let entry = entry.expect(&rt, "an entry");
     assert_eq!(rt; entry.keyspace.as_bytes(), b"a".as_slice());
@@ -286,6 +288,61 @@ fn first_row_fault_in_order(rt: HostRuntime) {
     check_numbers(&rt, past, 12, 12);
 }
 
+/// Whether all rows of a row event have so many columns.
+fn all_have(bytes: &[u8], columns: usize) -> Option<bool> {
+    match Event::read(bytes) {
+        Ok(Event::Row(event)) => Some(event.all_have(columns)),
+        _ => None,
+    }
+}
+
+#[test]
+fn columns_of_all_rows(rt: HostRuntime) {
+    // Rows of one NULL, and at last one of two.
+    let update = b"\x08\x0c\x2a\x0c\x12\x0a\x0a\x03\x0a\x01\x01\x12\x03\x0a\x01\x01";
+    assert_eq!(rt; all_have(update, 1), Some(true));
+    assert_eq!(rt; all_have(update, 2), Some(false));
+    let two = b"\x08\x0c\x2a\x0e\x12\x05\x12\x03\x0a\x01\x01\x12\x05\x12\x03\x0a\x01\x01";
+    assert_eq!(rt; all_have(two, 1), Some(true));
+    let mixed = b"\x08\x0c\x2a\x0f\x12\x05\x12\x03\x0a\x01\x01\x12\x06\x0a\x04\x0a\x02\x01\x01";
+    assert_eq!(rt; all_have(mixed, 1), Some(false));
+    assert_eq!(rt; all_have(mixed, 2), Some(false));
+    // Without a row any count is that of all.
+    assert_eq!(rt; all_have(b"\x08\x0c\x2a\x02\x12\x00", 7), Some(true));
+}
+
+/// The text of a fault.
+fn text_of(alloc: Global, fault: EventFault) -> Result<String, AllocError> {
+    format!(in alloc; "{fault}")
+}
+
+#[test]
+fn texts_of_event_faults(rt: HostRuntime) -> Result<(), Fail> {
+    for (fault, text) in [
+        (
+            GROUP,
+            "an event isn't a list of fields: a field has the wire type of a group",
+        ),
+        (
+            EventFault::RepeatedMessage,
+            "an embedded message occurs twice",
+        ),
+        (
+            EventFault::BadType(6),
+            "an event has the type 6, which is not read",
+        ),
+        (EventFault::NotUtf8, "a text isn't UTF-8"),
+        (EventFault::PartialRow, "a row image is partial"),
+        (
+            EventFault::Row(RowFault::TooManyColumns),
+            "a row is at fault: a row has more than 256 columns",
+        ),
+    ] {
+        assert_eq!(rt; text_of(rt.alloc(), fault)?.as_str(), text);
+    }
+    Ok(())
+}
+
 /// The next event of a response that has one.
 fn next_of<'b>(rt: &impl Abort, response: &mut Response<'b>) -> Event<'b> {
     response
@@ -316,10 +373,10 @@ fn check_columns(rt: &impl Abort, event: &FieldEvent<'_>) {
     let mut columns = event.fields();
     let column = columns.next().expect(rt, "a column");
     assert_eq!(rt; column.name.as_bytes(), b"id".as_slice());
-    assert_eq!(rt; column.kind, 265);
+    assert_eq!(rt; column.type_number, 265);
     let column = columns.next().expect(rt, "a second column");
     assert_eq!(rt; column.name.as_bytes(), b"v".as_slice());
-    assert_eq!(rt; column.kind, 6165);
+    assert_eq!(rt; column.type_number, 6165);
     assert!(rt; columns.next().is_none());
 }
 
@@ -337,12 +394,14 @@ fn check_changes(rt: &impl Abort, event: &RowEvent<'_>) {
     assert_eq!(rt; event.table_name().as_bytes(), b"ks.t".as_slice());
     let mut changes = event.changes();
     let change = changes.next().expect(rt, "an insert");
+    assert!(rt; !change.has_before() && change.has_after());
     assert!(rt; change.before().is_none());
     check_row(rt, change.after(), Column::Null);
     let change = changes.next().expect(rt, "an update");
     check_row(rt, change.before(), Column::Null);
     check_row(rt, change.after(), Column::Bytes(b"ab"));
     let change = changes.next().expect(rt, "a delete");
+    assert!(rt; change.has_before() && !change.has_after());
     check_row(rt, change.before(), Column::Bytes(b"ab"));
     assert!(rt; change.after().is_none());
     assert!(rt; changes.next().is_none());

@@ -1,16 +1,13 @@
-use Rattle.std.proofs.Common.{◌≡◌, ◌||◌, length}
-use Rattle.std.specs.List.{filter_map, list_any}
-use Rattle.vevent.specs.Parts.{part_in, last_of, text, parts}
-use Rattle.vevent.specs.Fault.{or_else, first_row_fault, is_partial, repeats_a_row}
+use Rattle.std.proofs.Common.{◌≡◌, length}
+use Rattle.vevent.specs.Fault.{first_in, in_plain, wire_fault_by}
+use Rattle.vevent.specs.Private.EventParts.{AreRowParts}
 use Rattle.vevent.proofs.row_parts.row_parts_of.Given as goal
 
--- what was met and the rest are the whole row event
+-- what was met and the rest are the whole row event, and nothing is at fault in what was met
 abbrev pub invariant-loop-field : goal.invariant-loop-field
 invariant-loop-field l =
-    (last_of l.parts.table_name.now (filter_map (part_in 1) l.fields.items) ≡ text 1 l.fn.row_event)
-    × ((l.parts.repeats || list_any repeats_a_row (filter_map (part_in 2) l.fields.items)) ≡ list_any repeats_a_row (parts 2 l.fn.row_event))
-    × ((l.parts.is_partial || list_any is_partial (filter_map (part_in 2) l.fields.items)) ≡ list_any is_partial (parts 2 l.fn.row_event))
-    × (or_else l.parts.fault (first_row_fault (filter_map (part_in 2) l.fields.items)) ≡ first_row_fault (parts 2 l.fn.row_event))
+    AreRowParts l.fn.row_event l.parts l.fields.items
+    × (first_in (in_plain 2) l.fields.items l.fields.fault ≡ wire_fault_by (in_plain 2) l.fn.row_event)
 
 abbrev pub decreases-loop-field : goal.decreases-loop-field
 decreases-loop-field l = length l.fields.items

@@ -1,7 +1,7 @@
 use Rattle.std.proofs.Common.{◌≡◌}
 use Rattle.std.specs.List.{list_all}
 use Rattle.std.specs.Str.{is_utf8}
-use Rattle.vevent.specs.Parts.{text, parts}
+use Rattle.proto_wire.specs.Parts.{text, parts}
 use Rattle.vevent.proofs.used_texts.are_names.Given as goal
 
 abbrev pub invariant-loop-field : goal.invariant-loop-field

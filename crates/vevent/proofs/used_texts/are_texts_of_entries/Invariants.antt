@@ -1,6 +1,6 @@
 use Rattle.std.proofs.Common.{◌≡◌}
 use Rattle.std.specs.List.{list_all}
-use Rattle.vevent.specs.Parts.{parts}
+use Rattle.proto_wire.specs.Parts.{parts}
 use Rattle.vevent.specs.Fault.{are_entry_texts}
 use Rattle.vevent.proofs.used_texts.are_texts_of_entries.Given as goal
 
