@@ -5,3 +5,4 @@ pub mod CutLaws
 pub mod SpellLaws
 pub mod FormLaws
 pub mod SliceLaws
+pub mod SpellingLaws

@@ -38,7 +38,7 @@ quoted_back q rest none =
     ∙ ap (option_map as_quoted) (until_cut 39 q rest refl none)
     ∙ quoted_at q (tokens_of rest)
 
-written_read : (t : Lexeme) (front rest : List ℕ) → IsWritten t front → EndsAt t rest → tokens_of (front ++ rest) ≡ with_token t (tokens_of rest)
+pub written_read : (t : Lexeme) (front rest : List ℕ) → IsWritten t front → EndsAt t rest → tokens_of (front ++ rest) ≡ with_token t (tokens_of rest)
 written_read (word []) front rest w e = absurd (w.1 refl)
 written_read (word (b ∷ v)) front rest w e = ap (λ s. tokens_of (s ++ rest)) w.0 ∙ word_read b v rest w.2 e
 written_read (name n) front rest w e = ap (λ s. tokens_of (s ++ rest)) w.0 ∙ name_back n rest w.1 w.2

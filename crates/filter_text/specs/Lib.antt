@@ -1,6 +1,7 @@
 pub mod Lexemes
 pub mod Tokens
 pub mod FilterText
+pub mod Spelling
 pub mod RuleScope
 pub mod Views
 pub mod Private

@@ -1,7 +1,8 @@
 //! What a filter's text says.
 
-ghost use Rattle.std.specs.Prelude.{◌≡◌, IfOk, Some};
-ghost use Rattle.filter_text.specs.FilterText.{Meaning, Says, begins_with_select, filter_of};
+ghost use Rattle.std.specs.Prelude.{◌≡◌, ℕ, List, IfOk, Some};
+ghost use Rattle.filter_text.specs.FilterText.{RowsSaid, Meaning, selected, Says, begins_with_select, filter_of};
+ghost use Rattle.filter_text.specs.Spelling.{IsSpelling};
 ghost use Rattle.filter_text.specs.Views.{Reads, meaning};
 
 use crate::fault::FilterFault;
@@ -59,6 +60,9 @@ impl<'t> Filter<'t> {
         ensures says { IfOk result (λ filter. Says text.now (meaning filter)) }
         // What a text says is read, unless memory ran out.
         ensures only { (said : Meaning) → Says text.now said → Reads meaning result (Some said) }
+        // Each selection has a text, and that text is read as it.
+        ensures spelled { (table range : List ℕ) (rows : RowsSaid)
+            → IsSpelling text.now table range rows → Reads meaning result (Some (selected table rows)) }
     {
         filter_of(alloc, text)
     }
