@@ -79,7 +79,7 @@ fn one_inserted_row_is_a_group(rt: HostRuntime) -> Result<(), Fail> {
 #[test]
 fn changes_and_groups_are_small(rt: HostRuntime) {
     assert!(rt; size_of::<Change<'static>>() <= 32);
-    assert!(rt; size_of::<Group<'static>>() <= 64);
+    assert!(rt; size_of::<Group<'static>>() <= 96);
 }
 
 #[test]

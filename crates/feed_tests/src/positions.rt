@@ -47,7 +47,7 @@ fn position_texts(rt: HostRuntime) -> Result<(), Fail> {
         let text = format!(in alloc; "{U}:{interval}")?;
         let set = GtidSet::parse(alloc, text.as_str())?;
         assert!(rt; set.is_empty(), "at {interval}");
-        assert!(rt; set == GtidSet::new(alloc));
+        assert!(rt; set == GtidSet::new());
     }
     assert_eq!(rt;
         refusal(alloc, format!(in alloc; "{U}:0")?.as_str()),
@@ -94,7 +94,7 @@ fn union_add_and_clone(rt: HostRuntime) -> Result<(), Fail> {
     assert!(rt; !both.is_within(&one));
 
     let mut set = GtidSet::parse(alloc, format!(in alloc; "{U}:1-3")?.as_str())?;
-    set.add(&U_BYTES, 5)?;
+    set.add(alloc, &U_BYTES, 5)?;
     assert_eq!(rt;
         format!(in alloc; "{set}")?.as_str(),
         format!(in alloc; "{U}:1-3:5")?.as_str()
@@ -104,7 +104,7 @@ fn union_add_and_clone(rt: HostRuntime) -> Result<(), Fail> {
         format!(in alloc; "{copy}")?.as_str(),
         format!(in alloc; "{U}:1-3:5")?.as_str()
     );
-    set.add(&U_BYTES, 4)?;
+    set.add(alloc, &U_BYTES, 4)?;
     assert_eq!(rt;
         format!(in alloc; "{set}")?.as_str(),
         format!(in alloc; "{U}:1-5")?.as_str()
@@ -210,5 +210,72 @@ fn position_text_too_large(rt: HostRuntime) -> Result<(), Fail> {
     let mut text = blanks(rt.alloc(), 131_072)?;
     text.push_str("MariaDB/x")?;
     assert_eq!(rt; refusal(rt.alloc(), text.as_str()), Some(36));
+    Ok(())
+}
+
+/// The text of the even numbers from 2 on, each an interval of its own.
+fn even_numbers(alloc: Global, count: u32) -> Result<String, AllocError> {
+    let mut text = format!(in alloc; "{U}")?;
+    for number in 0..count {
+        text.push_str(format!(in alloc; ":{}", 2 * u64::from(number) + 2)?.as_str())?;
+    }
+    Ok(text)
+}
+
+#[test]
+fn more_intervals_than_sixteen_bits_count(rt: HostRuntime) -> Result<(), Fail> {
+    let alloc = rt.alloc();
+    let text = even_numbers(alloc, 70_000)?;
+    let set = GtidSet::parse(alloc, text.as_str())?;
+    assert_eq!(rt; set.intervals().len(), 70_000);
+    assert_eq!(rt; format!(in alloc; "{set}")?.as_str(), text.as_str());
+    assert!(rt; set.contains(&U_BYTES, 140_000));
+    assert!(rt; !set.contains(&U_BYTES, 139_999));
+
+    let copy = set.try_clone(alloc)?;
+    assert!(rt; copy == set);
+    let behind = GtidSet::parse(alloc, format!(in alloc; "{U}:140001-140002")?.as_str())?;
+    let both = set.union(alloc, &behind)?;
+    assert_eq!(rt; both.intervals().len(), 70_000);
+    assert!(rt; set.is_within(&both));
+    assert!(rt; behind.is_within(&both));
+    assert!(rt; !both.is_within(&set));
+    Ok(())
+}
+
+#[test]
+fn texts_of_position_faults(rt: HostRuntime) -> Result<(), Fail> {
+    let alloc = rt.alloc();
+    for (fault, number, text) in [
+        (
+            GtidFault::TooLarge,
+            36,
+            "the position text has more than 1,048,576 bytes",
+        ),
+        (
+            GtidFault::Flavor,
+            31,
+            "the position is of another flavor than MySQL56",
+        ),
+        (
+            GtidFault::BadUuid,
+            32,
+            "a part of the position doesn't begin with a uuid",
+        ),
+        (
+            GtidFault::Syntax,
+            35,
+            "no colon follows a uuid of the position",
+        ),
+        (
+            GtidFault::BadNumber,
+            33,
+            "a number of the position is malformed or out of range",
+        ),
+        (GtidFault::Memory, 72, "out of memory"),
+    ] {
+        assert_eq!(rt; fault.number(), number);
+        assert_eq!(rt; format!(in alloc; "{fault}")?.as_str(), text);
+    }
     Ok(())
 }

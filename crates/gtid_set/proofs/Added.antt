@@ -1,13 +1,13 @@
 -- One pair more: it stands in a gap, or widens an interval that may then touch the next one.
 use Rattle.std.proofs.Common.{◌≡◌, ℕ, zero, suc, ◌+◌, ◌<◌, ◌≤◌, Bool, true, false, refl, sym, ◌∙◌, ap, subst, arith, add-one, min, List, [], ◌∷◌, length, get_or, set, take}
 use Rattle.std.specs.List.{insert, remove}
-use Rattle.std.proofs.lemmas.Bool.{cond-true, cond-false}
+use Rattle.std.proofs.lemmas.Bool.{cond-true, cond-false, or_from}
 use Rattle.std.proofs.lemmas.Bool.Decides.{nat_tests}
 use Rattle.gtid_set.specs.declared.interval.Interval.{Interval}
-use Rattle.gtid_set.specs.Position.{ends_before, hull, joined, IsInterval, IsCanonical}
-use Rattle.gtid_set.specs.Order.{AllEndBefore, wider, merged_front, widened}
-use Rattle.gtid_set.proofs.Joined.{joined-front, joined-place, joined-merge, one_uuid}
-use Rattle.gtid_set.proofs.Same.{same_interval}
+use Rattle.gtid_set.specs.Position.{holds, has, ends_before, hull, joined, IsInterval, IsCanonical, StandsApart}
+use Rattle.gtid_set.specs.Inner.Order.{AllEndBefore, wider, merged_front, widened}
+use Rattle.gtid_set.proofs.Joined.{joined-front, joined-place, joined-merge, one_uuid, all_end-trans}
+use Rattle.gtid_set.proofs.Same.{same_interval, not_behind}
 
 -- ---- in a gap
 
@@ -120,3 +120,19 @@ merge (a ∷ b ∷ s) (suc place) number x y lt at next e = ap (λ t. a ∷ t) (
 pub set-merged : (s : List Interval) (place number : ℕ) (x y : Interval) → place + 1 < length s → x ≡ get_or s place x → y ≡ get_or s (place + 1) y → ends_before (wider x number) y ≡ false
     → set (remove s (place + 1)) place (record { uuid = x.uuid; first = min x.first number; last = y.last }) ≡ widened s place number
 set-merged s place number x y lt at next e = rw add-one (merge s place number x y (omega arith) at (rw add-one at next) e)
+
+-- ---- a pair that stands apart
+
+not_held : (x : Interval) (uuid number n : ℕ) → ends_before x (pair_at uuid number) ≡ true → number ≤ n + 1 → holds x uuid n ≡ false
+not_held x uuid number n e low = grind (arith, nat_tests)
+
+pub stands_apart : (s : List Interval) (place uuid number : ℕ) → place ≤ length s → IsCanonical s → AllEndBefore (pair_at uuid number) (take place s)
+    → (place < length s → (d : Interval) → ends_before (pair_at uuid number) (get_or s place d) ≡ true) → StandsApart s uuid number
+stands_apart [] zero uuid number le c all next n low high = refl
+stands_apart [] (suc place) uuid number le c all next n low high = refl
+stands_apart (x ∷ s) zero uuid number le c all next n low high =
+    let e : ends_before (pair_at uuid number) x ≡ true = next (omega arith) x in
+    not_behind (pair_at uuid number) (x ∷ s) n (e, all_end-trans (pair_at uuid number) x s c.0 e c.1) high
+stands_apart (x ∷ s) (suc place) uuid number le c all next n low high =
+    or_from (holds x uuid n) (has s uuid n) (not_held x uuid number n all.0 low)
+    (stands_apart s place uuid number (omega arith) c.2 all.1 (λ lt d. next (omega arith) d) n low high)

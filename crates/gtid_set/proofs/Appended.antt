@@ -6,7 +6,7 @@ use Rattle.std.proofs.lemmas.Grind.{common_steps, take_at_read}
 use Rattle.std.proofs.lemmas.List.{get_or-take, take_more_set, set_at, length-take-le}
 use Rattle.gtid_set.specs.declared.interval.Interval.{Interval}
 use Rattle.gtid_set.specs.Position.{ends_before, starts_by, hull, joined, IsInterval, IsCanonical}
-use Rattle.gtid_set.specs.Order.{AllStartBy, AllEndBefore}
+use Rattle.gtid_set.specs.Inner.Order.{AllStartBy, AllEndBefore}
 use Rattle.gtid_set.proofs.Joined.{AllEnd, joined-front, joined-merge}
 use Rattle.gtid_set.proofs.Same.{same_interval}
 

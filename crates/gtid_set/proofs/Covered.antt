@@ -1,5 +1,5 @@
 -- The one interval of a set that can cover another is the first that doesn't end before it.
-use Rattle.std.proofs.Common.{◌≡◌, ℕ, zero, suc, ◌+◌, ◌<◌, ◌≤◌, Bool, true, false, refl, sym, ◌∙◌, ap, subst, arith, add-one, ◌||◌, List, [], ◌∷◌, ◌++◌, length, get_or, take, drop}
+use Rattle.std.proofs.Common.{◌≡◌, ℕ, zero, suc, ◌+◌, ◌<◌, ◌≤◌, Bool, true, false, refl, sym, ◌∙◌, ap, subst, arith, ◌||◌, List, [], ◌∷◌, ◌++◌, length, get_or, take, drop}
 use Rattle.std.specs.List.{AllByRecursion, AllWithin, list_any}
 use Rattle.std.specs.List.Sorted.{IsPartitionedBy}
 use Rattle.std.proofs.lemmas.Bool.{or_from}
@@ -7,7 +7,7 @@ use Rattle.std.proofs.lemmas.Bool.Decides.{nat_tests}
 use Rattle.std.proofs.lemmas.List.{take-append-drop, take_all}
 use Rattle.gtid_set.specs.declared.interval.Interval.{Interval}
 use Rattle.gtid_set.specs.Position.{ends_before, covers, IsInterval, IsCanonical}
-use Rattle.gtid_set.specs.Order.{AllEndBefore}
+use Rattle.gtid_set.specs.Inner.Order.{AllEndBefore}
 use Rattle.gtid_set.proofs.IntervalFacts.{ends-trans}
 use Rattle.gtid_set.proofs.Joined.{AllEnd, canonical-intervals}
 use Rattle.gtid_set.proofs.Merging.{drop-front, canonical-drop, interval-at}
@@ -68,15 +68,6 @@ passed-rest front x (y ∷ list) one ends all = (AllPassed-trans front x y one e
 pub passed-none : (list : List Interval) → AllPassed [] list
 passed-none [] = tt
 passed-none (y ∷ list) = (tt, passed-none list)
-
--- one more
-next_before : (set : List Interval) (k : ℕ) (j x : Interval) → k < length set → j ≡ get_or set k j → AllEndBefore x (take k set) → ends_before j x ≡ true → AllEndBefore x (take (suc k) set)
-next_before [] k j x lt e all ends = absurd (omega arith)
-next_before (y ∷ set) zero j x lt e all ends = (subst (λ (i : Interval). ends_before i x ≡ true) e ends, tt)
-next_before (y ∷ set) (suc k) j x lt e all ends = (all.0, next_before set k j x (omega arith) e all.1 ends)
-
-pub AllEndBefore-more : (set : List Interval) (k : ℕ) (j x : Interval) → k < length set → j ≡ get_or set k j → AllEndBefore x (take k set) → ends_before j x ≡ true → AllEndBefore x (take (k + 1) set)
-AllEndBefore-more set k j x lt e all ends = rw add-one (next_before set k j x lt e all ends)
 
 -- ---- the place that a partition point gives
 

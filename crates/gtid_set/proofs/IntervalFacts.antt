@@ -1,24 +1,11 @@
 -- What the tests of intervals say.
-use Rattle.std.proofs.Common.{◌≡◌, ℕ, ◌+◌, ◌<◌, ◌≤◌, true, false, ◌⊎◌, arith, ◌||◌}
+use Rattle.std.proofs.Common.{◌≡◌, ℕ, ◌≤◌, true, false, arith, ◌||◌}
 use Rattle.std.proofs.lemmas.Bool.Decides.{nat_tests}
 use Rattle.gtid_set.specs.declared.interval.Interval.{Interval}
 use Rattle.gtid_set.specs.Position.{holds, ends_before, hull, IsInterval}
 
--- one interval ends before another begins, with a number between them where both are of one uuid
-abbrev pub Ends : Interval → Interval → Type 0
-Ends one other = (one.uuid < other.uuid) ⊎ ((one.uuid ≡ other.uuid) × (one.last + 1 < other.first))
-
 abbrev pub Holds : Interval → ℕ → ℕ → Type 0
 Holds i u n = (i.uuid ≡ u) × (i.first ≤ n) × (n ≤ i.last)
-
-pub ends-true : (one other : Interval) → ends_before one other ≡ true → Ends one other
-ends-true one other e = grind (arith, nat_tests)
-
-pub true-ends : (one other : Interval) → Ends one other → ends_before one other ≡ true
-true-ends one other e = grind (arith, nat_tests)
-
-pub ends-false : (one other : Interval) → ends_before one other ≡ false → (other.uuid < one.uuid) ⊎ ((one.uuid ≡ other.uuid) × (other.first ≤ one.last + 1))
-ends-false one other e = grind (arith, nat_tests)
 
 pub ends-trans : (a b c : Interval) → IsInterval b → ends_before a b ≡ true → ends_before b c ≡ true → ends_before a c ≡ true
 ends-trans a b c i p q = let h = i.holds_first in grind (arith, nat_tests)

@@ -5,7 +5,7 @@ use Rattle.std.proofs.lemmas.Bool.Decides.{nat_tests}
 use Rattle.std.proofs.lemmas.List.{drop-drop, get_or-drop}
 use Rattle.gtid_set.specs.declared.interval.Interval.{Interval}
 use Rattle.gtid_set.specs.Position.{holds, has, ends_before, starts_by, hull, joined, union_of, IsInterval, IsCanonical}
-use Rattle.gtid_set.specs.Order.{AllStartBy, AllStartOver, IsRising}
+use Rattle.gtid_set.specs.Inner.Order.{AllStartBy, AllStartOver, IsRising}
 use Rattle.gtid_set.proofs.Joined.{AllEnd, by_joined, one_uuid, has-joined, joined-canonical, canonical-intervals}
 use Rattle.gtid_set.proofs.Same.{equal_sets}
 use Rattle.gtid_set.proofs.Within.{union-pairs, canonical-union}
@@ -128,9 +128,6 @@ left-at set items rising k x lt e same each over =
     }
 
 -- ---- two sets
-
-abbrev Pairs : List Interval → List Interval → List Interval → ℕ → ℕ → Bool
-Pairs both one other u n = has both u n || (has one u n || has other u n)
 
 pub record Merged (both one other new one' other' : List Interval) : Type 0 where
   pub canonical : IsCanonical new

@@ -1,16 +1,17 @@
 -- What a position text means, from the intervals that it names.
-use Rattle.std.proofs.Common.{◌≡◌, inl, inr, ◌==◌, ◌&&◌, ◌||◌, ℕ, ◌<◌, ◌≤◌, ◌^◌, Bool, true, false, refl, sym, ◌∙◌, ap, subst, arith, ltb, List, [], length, Result, Ok, Err, OnOk, OnErr, IsPermutation}
+use Rattle.std.proofs.Common.{◌≡◌, inl, inr, ◌==◌, ◌&&◌, ◌||◌, ℕ, ◌<◌, ◌≤◌, ◌^◌, Bool, true, false, refl, sym, ◌∙◌, ap, subst, arith, ltb, List, [], length, Result, Ok, Err}
 use Rattle.std.proofs.lemmas.Bool.{cases_Bool, cond-true, cond-false}
 use Rattle.std.proofs.lemmas.Bool.Decides.{nat_tests}
 use Rattle.gtid_set.specs.declared.interval.Interval.{Interval}
 use Rattle.gtid_set.specs.declared.fault.GtidFault.{GtidFault}
-use Rattle.gtid_set.specs.declared.fault.GtidFault.TheVariants.{TooLarge}
-use Rattle.gtid_set.specs.Fault.{◌>>=◌, Refuses}
-use Rattle.gtid_set.specs.Position.{has, holds, IsInterval, IsCanonical, HasPairMore, union_of, with_pair, last_number}
-use Rattle.gtid_set.specs.Text.{intervals_of_text, within_limit, text_limit, set_of, position_of_text, IsOfText}
+use Rattle.gtid_set.specs.declared.fault.GtidFault.TheVariants.{TooLarge, Flavor, BadUuid, Syntax, BadNumber, Memory}
+use Rattle.outcome.specs.Outcome.{◌>>=◌, Refuses}
+use Rattle.gtid_set.specs.Fault.{meant}
+use Rattle.gtid_set.specs.Inner.Kept.{RefusedBy}
+use Rattle.gtid_set.specs.Position.{has, holds, IsInterval, IsCanonical, HasPairMore, with_pair, last_number}
+use Rattle.gtid_set.specs.Text.{intervals_of_text, within_limit, text_limit, set_of, position_of_text, IsOfText, NamesSeveral}
 use Rattle.gtid_set.proofs.Joined.{canonical-intervals, has-joined, union-canonical, has-union_of}
-use Rattle.gtid_set.proofs.Reading.{refuses-all}
-use Rattle.gtid_set.proofs.Named.{Each, each-named, set-sorted, bind_ok, ok_is}
+use Rattle.gtid_set.proofs.TextIntervals.{Each, each-named, bind_ok, ok_is}
 
 pub position-is : (text : List ℕ) → position_of_text text ≡ (within_limit text >>= λ l. Ok (set_of l))
 unfolding position_of_text within_limit
@@ -31,10 +32,41 @@ named-within text l e =
     not_ok : (l : List Interval) → ◌≡◌ {A = Result (List Interval) GtidFault} (Err TooLarge) (Ok l) → ⊥
     not_ok l e = cc
 
-pub refused : (e : GtidFault) (text bytes : List ℕ) → bytes ≡ text → Refuses e (within_limit bytes) → Refuses e (position_of_text text)
-refused e text bytes same h =
-    let here : Refuses e (within_limit text) = subst (λ (t : List ℕ). Refuses e (within_limit t)) same h in
-    subst (λ (r : Result (List Interval) GtidFault). Refuses e r) (sym (position-is text)) (refuses-all e (within_limit text) (λ l. Ok (set_of l)) here)
+position-refused : (text bytes : List ℕ) (e : GtidFault) → bytes ≡ text → within_limit bytes ≡ Err e → position_of_text text ≡ Err e
+position-refused text bytes e same h = position-is text ∙ ap (λ (r : Result (List Interval) GtidFault). r >>= λ l. Ok (set_of l)) (ap within_limit (sym same) ∙ h)
+
+pub same_fault : (e f : GtidFault) → ◌≡◌ {A = Result (List Interval) GtidFault} (Err e) (Err f) → e ≡ f
+same_fault e f p = cc
+
+pub fault_same : (e f : GtidFault) → e ≡ f → ◌≡◌ {A = Result (List Interval) GtidFault} (Err e) (Err f)
+fault_same e f p = cc
+
+pub no_fault : (set : List Interval) (f : GtidFault) → ◌≡◌ {A = Result (List Interval) GtidFault} (Ok set) (Err f) → ⊥
+no_fault set f p = cc
+
+-- what a refusal says of the text
+pub record IsRefusal (e : GtidFault) (text : List ℕ) : Type 0 where
+  pub exact : Refuses meant e (position_of_text text)
+  pub every_fault : (f : GtidFault) → position_of_text text ≡ Err f → e ≡ f
+  pub memory : e ≡ Memory → NamesSeveral text
+
+own : (e : GtidFault) (text : List ℕ) → position_of_text text ≡ Err e → Refuses meant e (position_of_text text) → (e ≡ Memory → ⊥) → IsRefusal e text
+own e text p exact other = record { exact = exact; every_fault = λ f q. same_fault e f (sym p ∙ q); memory = λ m. absurd (other m) }
+
+pub refused : (e : GtidFault) (text bytes : List ℕ) → bytes ≡ text → RefusedBy e (within_limit bytes) → IsRefusal e text
+refused TooLarge text bytes same h = let p = position-refused text bytes TooLarge same h in own TooLarge text p p (λ m. cc)
+refused Flavor text bytes same h = let p = position-refused text bytes Flavor same h in own Flavor text p p (λ m. cc)
+refused BadUuid text bytes same h = let p = position-refused text bytes BadUuid same h in own BadUuid text p p (λ m. cc)
+refused Syntax text bytes same h = let p = position-refused text bytes Syntax same h in own Syntax text p p (λ m. cc)
+refused BadNumber text bytes same h = let p = position-refused text bytes BadNumber same h in own BadNumber text p p (λ m. cc)
+refused Memory text bytes same h =
+    let named : within_limit text ≡ Ok h.0 = ap within_limit (sym same) ∙ h.1 in
+    let read : position_of_text text ≡ Ok (set_of h.0) = position-is text ∙ ap (λ (r : Result (List Interval) GtidFault). r >>= λ l. Ok (set_of l)) named in
+    record {
+      exact = tt;
+      every_fault = λ f q. absurd (no_fault (set_of h.0) f (sym read ∙ q));
+      memory = λ m. (h.0, named-within text h.0 named, h.2);
+    }
 
 pub each-within : (text : List ℕ) (l : List Interval) → within_limit text ≡ Ok l → Each l
 each-within text l e = each-named text l (named-within text l e)
@@ -53,10 +85,8 @@ set-parsed text named e =
       canonical = union-canonical [] named tt each;
     }
 
-pub is_parsed : (text bytes : List ℕ) (named sorted set : List Interval) → bytes ≡ text → within_limit bytes ≡ Ok named → IsPermutation named sorted → set ≡ union_of [] sorted → IsParsed text set
-is_parsed text bytes named sorted set same e p is =
-    let here : within_limit text ≡ Ok named = ap within_limit (sym same) ∙ e in
-    subst (IsParsed text) (sym (is ∙ set-sorted named sorted p (each-within text named here))) (set-parsed text named here)
+pub is_parsed : (text bytes : List ℕ) (named set : List Interval) → bytes ≡ text → within_limit bytes ≡ Ok named → set ≡ set_of named → IsParsed text set
+is_parsed text bytes named set same e is = subst (IsParsed text) (sym is) (set-parsed text named (ap within_limit (sym same) ∙ e))
 
 -- ---- one pair more
 
@@ -80,10 +110,6 @@ pair-more s uuid number c one u n =
     has-joined s (pair_of uuid number) u n (canonical-intervals s c) one
     ∙ ap (λ b. b || has s u n) (holds-pair uuid number u n)
     ∙ or_swapped (u == uuid && n == number) (has s u n)
-
-pub canonical-kept : {T E : Type 0} (r : Result T E) (new more old : List Interval) → OnOk r (new ≡ more) → OnErr r (new ≡ old) → IsCanonical more → IsCanonical old → IsCanonical new
-canonical-kept (Ok x) new more old a b c d = subst (λ (s : List Interval). IsCanonical s) (sym a) c
-canonical-kept (Err x) new more old a b c d = subst (λ (s : List Interval). IsCanonical s) (sym b) d
 
 pub position-canonical : (text : List ℕ) (set : List Interval) → position_of_text text ≡ Ok set → IsCanonical set
 position-canonical text set e =

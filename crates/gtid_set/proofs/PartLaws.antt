@@ -5,7 +5,8 @@ use Rattle.std.proofs.lemmas.List.{length-take, length-drop, append-nil}
 use Rattle.gtid_set.specs.declared.interval.Interval.{Interval}
 use Rattle.gtid_set.specs.declared.fault.GtidFault.{GtidFault}
 use Rattle.gtid_set.specs.declared.fault.GtidFault.TheVariants.{BadUuid, Syntax}
-use Rattle.gtid_set.specs.Fault.{Gives}
+use Rattle.gtid_set.specs.declared.named.Named.{Named}
+use Rattle.gtid_set.specs.Inner.Kept.{Reads}
 use Rattle.gtid_set.specs.Blank.{parts_between}
 use Rattle.gtid_set.specs.Digits.{is_hyphenated, uuid_of}
 use Rattle.gtid_set.specs.Text.{all_of, behind, intervals_of_piece, intervals_behind, intervals_for, intervals_of_part}
@@ -43,7 +44,7 @@ part-from part uuid lt e = part-is part (omega arith) ∙ ap (λ (o : Option ℕ
 pub part-no_colon : (front : List Interval) (part : List ℕ) (uuid : ℕ) → 36 < length part → uuid_of (take 36 part) ≡ Some uuid → (get_or part 36 0 ≡ 58 → ⊥) → behind front (intervals_of_part part) ≡ Err Syntax
 part-no_colon front part uuid lt e ne = ap (behind front) (part-from part uuid lt e ∙ cond-false (eqb (get_or part 36 0) 58) _ _ (ne_eqb (get_or part 36 0) 58 ne))
 
-pub part-colon : (front : List Interval) (part : List ℕ) (uuid : ℕ) → 36 < length part → uuid_of (take 36 part) ≡ Some uuid → get_or part 36 0 ≡ 58
+part-colon : (front : List Interval) (part : List ℕ) (uuid : ℕ) → 36 < length part → uuid_of (take 36 part) ≡ Some uuid → get_or part 36 0 ≡ 58
     → behind front (intervals_of_part part) ≡ behind front (all_of (intervals_of_piece uuid) (parts_between 58 (drop 37 part)))
 part-colon front part uuid lt e colon = ap (behind front) (part-from part uuid lt e ∙ cond-true (eqb (get_or part 36 0) 58) _ _ (eq-eqb (get_or part 36 0) 58 colon))
 
@@ -53,6 +54,6 @@ part-nothing front [] e = ap (λ (l : List Interval). Ok l) (append-nil front)
 part-nothing front (b ∷ part) e = absurd (omega arith)
 
 -- what the rest of a text gives is what the part gives
-pub gives-part : (r : Result (Unit {0}) GtidFault) (front new : List Interval) (part : List ℕ) (uuid : ℕ) → 36 < length part → uuid_of (take 36 part) ≡ Some uuid → get_or part 36 0 ≡ 58
-    → Gives (λ (x : Unit {0}). new) r (behind front (all_of (intervals_of_piece uuid) (parts_between 58 (drop 37 part)))) → Gives (λ (x : Unit {0}). new) r (behind front (intervals_of_part part))
-gives-part r front new part uuid lt e colon h = subst (λ (x : Result (List Interval) GtidFault). Gives (λ (y : Unit {0}). new) r x) (sym (part-colon front part uuid lt e colon)) h
+pub reads-part : (r : Result (Unit {0}) GtidFault) (named : Named) (front : List Interval) (part : List ℕ) (uuid : ℕ) → 36 < length part → uuid_of (take 36 part) ≡ Some uuid → get_or part 36 0 ≡ 58
+    → Reads r named (behind front (all_of (intervals_of_piece uuid) (parts_between 58 (drop 37 part)))) → Reads r named (behind front (intervals_of_part part))
+reads-part r named front part uuid lt e colon h = subst (λ (x : Result (List Interval) GtidFault). Reads r named x) (sym (part-colon front part uuid lt e colon)) h

@@ -1,6 +1,6 @@
 -- Blanks at the end of a text, and the parts between separators.
-use Rattle.std.proofs.Common.{◌≡◌, ℕ, ◌+◌, ◌-◌, ◌<◌, Bool, true, false, eqb, refl, sym, ◌∙◌, ap, arith, add-one, drop-cons, List, [], ◌∷◌, ◌++◌, append_assoc, append-nil, length, get_or, take, drop, Option, Some, None}
-use Rattle.std.proofs.lemmas.Bool.{cond-true, cond-false, eq-eqb, ne_eqb}
+use Rattle.std.proofs.Common.{◌≡◌, ℕ, ◌+◌, ◌-◌, ◌<◌, Bool, true, false, eqb, refl, sym, ◌∙◌, ap, arith, List, [], ◌∷◌, ◌++◌, length, get_or, take, Option, Some, None}
+use Rattle.std.proofs.lemmas.Bool.{cond-true, cond-false}
 use Rattle.std.proofs.lemmas.Grind.{common_steps, take_at_read}
 use Rattle.gtid_set.specs.Blank.{is_blank, unless_blank, trimmed_end, cut, with_first, parts_between}
 
@@ -36,29 +36,6 @@ trimmed_end-last_other s x some at e =
 -- what stands in front of a cut
 abbrev pub cut_behind : List ℕ → List ℕ × Option (List ℕ) → List ℕ × Option (List ℕ)
 cut_behind front rest = (front ++ rest.0, rest.1)
-
-pub cut-found : (c : ℕ) (front text : List ℕ) (b : ℕ) → b ≡ c → cut_behind front (cut c (b ∷ text)) ≡ (front ++ [], Some text)
-cut-found c front text b e = ap (cut_behind front) (cond-true (eqb b c) _ _ (eq-eqb b c e))
-
-pub cut-passed : (c : ℕ) (front text : List ℕ) (b : ℕ) → (b ≡ c → ⊥) → cut_behind front (cut c (b ∷ text)) ≡ cut_behind (front ++ b ∷ []) (cut c text)
-cut-passed c front text b ne =
-    ap (cut_behind front) (cond-false (eqb b c) _ _ (ne_eqb b c ne))
-    ∙ ap (λ (s : List ℕ). (s, (cut c text).1)) (sym (append_assoc front (b ∷ []) (cut c text).0))
-
-byte_front : (s : List ℕ) (k : ℕ) → k < length s → drop k s ≡ get_or s k 0 ∷ drop (k + 1) s
-byte_front s k lt = rw add-one (drop-cons s k 0 lt)
-
-pub cut-next : (c : ℕ) (s : List ℕ) (k : ℕ) → k < length s → (get_or s k 0 ≡ c → ⊥) → cut_behind (take (k + 1) s) (cut c (drop (k + 1) s)) ≡ cut_behind (take k s) (cut c (drop k s))
-cut-next c s k lt ne =
-    sym (ap (λ (t : List ℕ). cut_behind (take k s) (cut c t)) (byte_front s k lt)
-    ∙ cut-passed c (take k s) (drop (k + 1) s) (get_or s k 0) ne
-    ∙ ap (λ (t : List ℕ). cut_behind t (cut c (drop (k + 1) s))) (sym (take_at_read s k 0 lt).1))
-
-pub cut-here : (c : ℕ) (s : List ℕ) (k : ℕ) → k < length s → get_or s k 0 ≡ c → cut_behind (take k s) (cut c (drop k s)) ≡ (take k s, Some (drop (k + 1) s))
-cut-here c s k lt e =
-    ap (λ (t : List ℕ). cut_behind (take k s) (cut c t)) (byte_front s k lt)
-    ∙ cut-found c (take k s) (drop (k + 1) s) (get_or s k 0) e
-    ∙ ap (λ (t : List ℕ). (t, Some (drop (k + 1) s))) (append-nil (take k s))
 
 -- the parts behind a cut: none, or those of what stands behind it
 abbrev pub parts_after : ℕ → Option (List ℕ) → List (List ℕ)

@@ -11,9 +11,6 @@ uuid_after before (i ∷ set) = uuid_after (Some i.uuid) set
 abbrev pub last_uuid : List Interval → Option ℕ
 last_uuid set = uuid_after None set
 
-abbrev pub printed_front : Option ℕ → List Interval → List ℕ
-printed_front before set = printed_behind before set
-
 printed_behind-push : (before : Option ℕ) (set : List Interval) (i : Interval) → printed_behind before (set ++ i ∷ []) ≡ printed_behind before set ++ interval_text (uuid_after before set) i
 printed_behind-push before [] i = append-nil (interval_text before i)
 printed_behind-push before (j ∷ set) i =

@@ -165,10 +165,10 @@ module _ (a b c d e f g h : ℕ) (sa : a < 65536) (sb : b < 65536) (sc : c < 655
       ∙ last-reads (((((0 * 65536 + a) * 65536 + b) * 65536 + c) * 65536 + d) * 65536 + e)
       ∙ ap (λ (n : ℕ). Some n) (omega arith)
 
-group_small : (uuid place : ℕ) → group_of uuid place < 65536
+pub group_small : (uuid place : ℕ) → group_of uuid place < 65536
 group_small uuid place = omega arith
 
-sum_of_groups : (u : ℕ) → u < 2 ^ 128 → ((((((group_of u 112 * 65536 + group_of u 96) * 65536 + group_of u 80) * 65536 + group_of u 64) * 65536 + group_of u 48) * 65536 + group_of u 32) * 65536 + group_of u 16) * 65536 + group_of u 0 ≡ u
+pub sum_of_groups : (u : ℕ) → u < 2 ^ 128 → ((((((group_of u 112 * 65536 + group_of u 96) * 65536 + group_of u 80) * 65536 + group_of u 64) * 65536 + group_of u 48) * 65536 + group_of u 32) * 65536 + group_of u 16) * 65536 + group_of u 0 ≡ u
 sum_of_groups u small =
     let s7 : u / 2 ^ 112 % 65536 ≡ u / 2 ^ 112 = omega arith in
     let s6 : u / 2 ^ 112 * 65536 + u / 2 ^ 96 % 65536 ≡ u / 2 ^ 96 = omega arith in

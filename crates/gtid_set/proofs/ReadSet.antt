@@ -1,24 +1,29 @@
 -- A printed set is read as the set.
-use Rattle.std.proofs.Common.{◌≡◌, ℕ, ◌^◌, ◌<◌, ◌≤◌, ◌==◌, ◌&&◌, ◌||◌, nat_le, ltb, Bool, true, false, eqb, refl, sym, ◌∙◌, ap, arith, inl, inr, List, [], ◌∷◌, ◌++◌, append_assoc, append-nil, length, length-append, drop, Option, Some, None, Result, Ok, IsTrue, codes}
+use Rattle.std.proofs.Common.{◌≡◌, ℕ, ◌^◌, ◌<◌, ◌≤◌, ◌==◌, ◌&&◌, ◌||◌, nat_le, ltb, Bool, true, false, eqb, refl, sym, ◌∙◌, ap, subst, arith, inl, inr, if◌then◌else◌, List, [], ◌∷◌, ◌++◌, append_assoc, append-nil, length, length-append, map, take, drop, Option, Some, None, Result, Ok, IsTrue, codes}
 use Rattle.std.specs.List.{AllByRecursion}
+use Rattle.std.specs.List.Sorted.{IsStrictlySortedBy}
+use Rattle.std.specs.declared.cmp.Ordering.TheVariants.{Less}
+use Rattle.std.specs.Ordering.{nat_cmp}
+use Rattle.std.specs.Cmp.Lexicographic.{slice_cmp}
 use Rattle.std.specs.Fmt.{decimal}
-use Rattle.std.proofs.lemmas.Bool.{cases_Bool, cond-true, cond-false, eqb-true, le-leb, and_from, or_left, le-ltb}
+use Rattle.std.proofs.lemmas.Bool.{cases_Bool, cond-true, cond-false, eqb-true, eqb-false, le-leb, and_from, or_left, le-ltb}
 use Rattle.std.proofs.lemmas.Bool.Decides.{nat_tests}
 use Rattle.std.proofs.lemmas.List.{take_at, drop_at}
 use Rattle.gtid_set.specs.declared.interval.Interval.{Interval}
 use Rattle.gtid_set.specs.declared.fault.GtidFault.{GtidFault}
-use Rattle.gtid_set.specs.Fault.{◌>>=◌}
-use Rattle.gtid_set.specs.Position.{IsInterval, IsCanonical, last_number}
+use Rattle.outcome.specs.Outcome.{◌>>=◌}
+use Rattle.gtid_set.specs.Position.{ends_before, IsInterval, IsCanonical, last_number}
 use Rattle.gtid_set.specs.Blank.{is_blank, trimmed, cut, parts_between}
 use Rattle.gtid_set.specs.Digits.{decimal_of, uuid_of}
-use Rattle.gtid_set.specs.Printed.{uuid_text, span_text, numbers_text, interval_text, printed_behind, printed_position}
+use Rattle.gtid_set.specs.Printed.{uuid_text, span_text, numbers_text, interval_text, printed_behind, printed_position, printed_uuids}
 use Rattle.gtid_set.specs.Text.{all_of, number_from, upper_from, interval_list, intervals_of_piece, intervals_behind, intervals_for, intervals_of_part, behind_flavor, without_flavor, intervals_of_text, within_limit, text_limit, set_of, position_of_text}
 use Rattle.gtid_set.proofs.Joined.{canonical-intervals, union-canonical, has-union_of}
 use Rattle.gtid_set.proofs.Same.{equal_sets}
-use Rattle.gtid_set.proofs.Named.{Each, ok_is}
+use Rattle.gtid_set.proofs.TextIntervals.{Each, ok_is}
 use Rattle.gtid_set.proofs.PartLaws.{part-is}
 use Rattle.gtid_set.proofs.Parsed.{position-is}
 use Rattle.gtid_set.proofs.ReadBack.{is_plain, AllPlain, plain-append, decimal-is, decimal-read, uuid-reads, uuid-plain, uuid-length}
+use Rattle.gtid_set.proofs.UuidOrder.{uuid_text-less}
 use Rattle.gtid_set.proofs.ReadParts.{AllNot, all-weaker, all-append, cut-none, cut-first, parts-none, parts-first, parts-push, trimmed-full, all_of-one, all_of-front, all_of-push}
 
 -- ---- the numbers of an interval
@@ -76,9 +81,6 @@ plain_inner b e = or_left (is_plain b) (b == 58) e
 
 inner_no_comma : (b : ℕ) → is_inner b ≡ true → eqb b 44 ≡ false
 inner_no_comma b e = grind (arith, nat_tests)
-
-inner_no_slash : (b : ℕ) → is_inner b ≡ true → eqb b 47 ≡ false
-inner_no_slash b e = grind (arith, nat_tests)
 
 inner_full : (b : ℕ) → is_inner b ≡ true → is_blank b ≡ false
 inner_full b e = grind (arith, nat_tests)
@@ -250,3 +252,88 @@ flavored-printed-reads set c le = position-reads (codes "MySQL56/" ++ printed_po
 -- sets that print one text are one set
 pub printed-differ : (a b : List Interval) → IsCanonical a → IsCanonical b → printed_position a ≡ printed_position b → a ≡ b
 printed-differ a b c d e = ok_is a b (sym (text-reads a (canonical-intervals a c)) ∙ ap intervals_of_text e ∙ text-reads b (canonical-intervals b d))
+
+-- ---- the uuids of a printed set
+
+-- the texts of the uuids behind one of this uuid, each once
+abbrev uuids_behind : ℕ → List Interval → List (List ℕ)
+uuids_behind u [] = []
+uuids_behind u (i ∷ set) = if u == i.uuid then uuids_behind u set else uuid_text i.uuid ∷ uuids_behind i.uuid set
+
+tail-uuids : (set : List Interval) (u : ℕ) (q : List ℕ) → Each set → AllInner q → map (take 36) (parts_between 44 (part_text u q ++ printed_behind (Some u) set)) ≡ uuid_text u ∷ uuids_behind u set
+tail-uuids [] u q each inner =
+    ap (λ (t : List ℕ). map (take 36) (parts_between 44 t)) (append-nil (part_text u q))
+    ∙ ap (map (take 36)) (parts-none 44 (part_text u q) (no_comma (part_text u q) (part-inner u q inner)))
+    ∙ ap (λ (t : List ℕ). t ∷ []) (take_at (uuid_text u) (58 ∷ q) 36 (uuid-length u))
+tail-uuids (i ∷ set) u q each inner =
+    let n = numbers_text i in
+    let rest = printed_behind (Some i.uuid) set in
+    let plain = numbers-plain i each.0 in
+    let p = part_text u q in
+    elim (cases_Bool (u == i.uuid)) [
+      | inl t ↦
+          let same : u ≡ i.uuid = eqb-true u i.uuid t in
+          let q' = q ++ 58 ∷ n in
+          let inner' : AllInner q' = all-append (λ b. IsTrue (is_inner b)) q (58 ∷ n) inner (refl, plain-inner n plain) in
+          let text : p ++ printed_behind (Some u) (i ∷ set) ≡ part_text u q' ++ printed_behind (Some u) set =
+          ap (λ (s : List ℕ). p ++ (s ++ rest)) (cond-true (u == i.uuid) (58 ∷ n) (44 ∷ uuid_text i.uuid ++ 58 ∷ n) t)
+          ∙ sym (append_assoc p (58 ∷ n) rest)
+          ∙ ap (λ (s : List ℕ). s ++ rest) (append_assoc (uuid_text u) (58 ∷ q) (58 ∷ n))
+          ∙ ap (λ (v : ℕ). part_text u q' ++ printed_behind (Some v) set) (sym same) in
+          ap (λ (s : List ℕ). map (take 36) (parts_between 44 s)) text
+          ∙ tail-uuids set u q' each.1 inner'
+          ∙ ap (λ (l : List (List ℕ)). uuid_text u ∷ l) (sym (cond-true (u == i.uuid) (uuids_behind u set) (uuid_text i.uuid ∷ uuids_behind i.uuid set) t))
+      | inr f ↦
+          let text : p ++ printed_behind (Some u) (i ∷ set) ≡ p ++ 44 ∷ (part_text i.uuid n ++ rest) =
+          ap (λ (s : List ℕ). p ++ (s ++ rest)) (cond-false (u == i.uuid) (58 ∷ n) (44 ∷ uuid_text i.uuid ++ 58 ∷ n) f) in
+          ap (λ (s : List ℕ). map (take 36) (parts_between 44 s)) text
+          ∙ ap (map (take 36)) (parts-first 44 p (part_text i.uuid n ++ rest) (no_comma p (part-inner u q inner)))
+          ∙ ap (λ (t : List ℕ). t ∷ map (take 36) (parts_between 44 (part_text i.uuid n ++ rest))) (take_at (uuid_text u) (58 ∷ q) 36 (uuid-length u))
+          ∙ ap (λ (l : List (List ℕ)). uuid_text u ∷ l) (tail-uuids set i.uuid n each.1 (plain-inner n plain)
+          ∙ sym (cond-false (u == i.uuid) (uuids_behind u set) (uuid_text i.uuid ∷ uuids_behind i.uuid set) f))
+    ]
+
+-- no interval of a set is of a lesser uuid
+abbrev AllFrom : ℕ → List Interval → Type 0
+AllFrom u set = AllByRecursion (λ i. u ≤ i.uuid) set
+
+ends-from : (x : Interval) (set : List Interval) → AllByRecursion (λ later. IsTrue (ends_before x later)) set → AllFrom x.uuid set
+ends-from x [] all = tt
+ends-from x (y ∷ set) all = (from x y all.0, ends-from x set all.1)
+  where
+    from : (x y : Interval) → ends_before x y ≡ true → x.uuid ≤ y.uuid
+    from x y e = grind (arith, nat_tests)
+
+-- a uuid's text is less than those of the greater uuids behind it
+uuids-less : (set : List Interval) (w u : ℕ) → w < 2 ^ 128 → w ≤ u → IsCanonical set → AllFrom u set → AllByRecursion (λ t. slice_cmp nat_cmp (uuid_text w) t ≡ Less) (uuids_behind u set)
+uuids-less [] w u small le c from = tt
+uuids-less (i ∷ set) w u small le c from =
+    elim (cases_Bool (u == i.uuid)) [
+      | inl t ↦
+          let same : u ≡ i.uuid = eqb-true u i.uuid t in
+          rw t (uuids-less set w u small le c.2 (rw (← same) at (ends-from i set c.1)))
+      | inr f ↦
+          let more : u < i.uuid = let differ = eqb-false u i.uuid f in let low = from.0 in omega (arith, differ) in
+          rw f (uuid_text-less w i.uuid small c.0.uuid (omega arith), uuids-less set w i.uuid small (omega arith) c.2 (ends-from i set c.1))
+    ]
+
+uuids-rise : (set : List Interval) (u : ℕ) → u < 2 ^ 128 → IsCanonical set → AllFrom u set → IsStrictlySortedBy (slice_cmp nat_cmp) (uuid_text u ∷ uuids_behind u set)
+unfolding IsStrictlySortedBy
+uuids-rise [] u small c from = (tt, tt)
+uuids-rise (i ∷ set) u small c from = (
+  uuids-less (i ∷ set) u u small (omega arith) c from,
+  elim (cases_Bool (u == i.uuid)) [
+    | inl t ↦
+        let same : u ≡ i.uuid = eqb-true u i.uuid t in
+        rw t ((uuids-rise set u small c.2 (rw (← same) at (ends-from i set c.1))).1)
+    | inr f ↦ rw f (uuids-rise set i.uuid c.0.uuid c.2 (ends-from i set c.1))
+  ],
+)
+
+pub printed-uuids-rise : (set : List Interval) → IsCanonical set → IsStrictlySortedBy (slice_cmp nat_cmp) (printed_uuids set)
+unfolding IsStrictlySortedBy
+printed-uuids-rise [] c = (tt, tt)
+printed-uuids-rise (i ∷ set) c =
+    let n = numbers_text i in
+    subst (λ (l : List (List ℕ)). IsStrictlySortedBy (slice_cmp nat_cmp) l) (sym (tail-uuids set i.uuid n (canonical-intervals set c.2) (plain-inner n (numbers-plain i c.0))))
+    (uuids-rise set i.uuid c.0.uuid c.2 (ends-from i set c.1))

@@ -11,9 +11,6 @@ use Rattle.gtid_set.proofs.Joined.{AllEnd}
 pub holds_first : (i : Interval) → IsInterval i → holds i i.uuid i.first ≡ true
 holds_first i one = let h = one.holds_first in grind (arith, nat_tests)
 
-pub holds_last : (i : Interval) → IsInterval i → holds i i.uuid i.last ≡ true
-holds_last i one = let h = one.holds_first in grind (arith, nat_tests)
-
 -- what an interval ends before holds nothing up to the number behind it
 not_held : (x y : Interval) (n : ℕ) → ends_before x y ≡ true → n ≤ x.last + 1 → holds y x.uuid n ≡ false
 not_held x y n e le = grind (arith, nat_tests)

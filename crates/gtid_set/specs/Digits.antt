@@ -27,10 +27,6 @@ abbrev pub decimal_of : List ℕ → Option ℕ
 decimal_of [] = None
 decimal_of (b ∷ text) = number_behind digit_of 10 0 (b ∷ text)
 
--- the number of hexadecimal digits
-abbrev pub hex_of : List ℕ → Option ℕ
-hex_of text = number_behind hex_digit_of 16 0 text
-
 -- the four hyphens of a uuid's 36 bytes stand at their places
 abbrev pub is_hyphenated : List ℕ → Bool
 is_hyphenated text = length text == 36 && (slice_index text 8 == 45 && (slice_index text 13 == 45 && (slice_index text 18 == 45 && slice_index text 23 == 45)))

@@ -16,5 +16,6 @@ transitive a b c p q = grind (arith, nat_tests)
 same_interval-laws : IsPartialEquivalence same_interval
 same_interval-laws = record { symm = symmetric; trans = transitive }
 
+-- the same of lists
 pub same_set-laws : IsPartialEquivalence same_set
 same_set-laws = lists_per same_interval-laws

@@ -1,6 +1,6 @@
 pub mod Position
 pub mod Equal
-pub mod Order
+pub mod Inner
 pub mod Blank
 pub mod Digits
 pub mod Text

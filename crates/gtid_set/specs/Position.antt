@@ -1,6 +1,6 @@
 -- Positions: a position is a set of pairs (uuid, number), a GTID set (MySQL manual, 'GTID Sets').
 -- A set is seen as its intervals: the numbers of a uuid from a first one to a last one. A uuid is its number of 128 bits, high byte first.
-use Rattle.std.specs.Prelude.{◌≡◌, ℕ, ◌+◌, ◌-◌, ◌^◌, ◌<◌, ◌≤◌, ◌==◌, ◌&&◌, ◌||◌, Bool, nat_lt, nat_le, min, max, if◌then◌else◌, IsTrue, List, [], ◌∷◌}
+use Rattle.std.specs.Prelude.{◌≡◌, ℕ, ◌+◌, ◌-◌, ◌^◌, ◌<◌, ◌≤◌, ◌==◌, ◌&&◌, ◌||◌, Bool, false, nat_lt, nat_le, min, max, if◌then◌else◌, IsTrue, List, [], ◌∷◌}
 use Rattle.std.specs.Cmp.Lexicographic.{pointwise}
 use Rattle.std.specs.List.{list_any, list_all, AllByRecursion}
 use Rattle.gtid_set.specs.declared.interval.Interval.{Interval}
@@ -90,8 +90,13 @@ HasBoth one other both = (uuid number : ℕ) → has both uuid number ≡ (has o
 abbrev pub HasPairMore : List Interval → ℕ → ℕ → List Interval → Type 0
 HasPairMore old uuid number new = (u n : ℕ) → has new u n ≡ (has old u n || (u == uuid && n == number))
 
+-- no number from the one before it to the one behind it is in the set
+abbrev pub StandsApart : List Interval → ℕ → ℕ → Type 0
+StandsApart set uuid number = (n : ℕ) → number ≤ n + 1 → n ≤ number + 1 → has set uuid n ≡ false
+
 -- ---- equality, computed
 
+-- the same uuid, first and last number
 abbrev pub same_interval : Interval → Interval → Bool
 same_interval one other = one.uuid == other.uuid && (one.first == other.first && one.last == other.last)
 

@@ -1,7 +1,8 @@
 -- The printed form of a set: no flavour, lower case, uuids in the order of their text, intervals rising, joined by commas without blanks.
-use Rattle.std.specs.Prelude.{ℕ, ◌+◌, ◌/◌, ◌%◌, ◌^◌, ◌==◌, nat_lt, if◌then◌else◌, Option, Some, None, List, [], ◌∷◌, ◌++◌}
+use Rattle.std.specs.Prelude.{ℕ, ◌+◌, ◌/◌, ◌%◌, ◌^◌, ◌==◌, nat_lt, if◌then◌else◌, Option, Some, None, List, [], ◌∷◌, ◌++◌, map, take}
 use Rattle.std.specs.Fmt.{decimal}
 use Rattle.gtid_set.specs.declared.interval.Interval.{Interval}
+use Rattle.gtid_set.specs.Blank.{parts_between}
 
 -- a hexadecimal digit in lower case
 abbrev pub hex_glyph : ℕ → ℕ
@@ -25,6 +26,7 @@ uuid_text uuid =
 abbrev pub span_text : ℕ → ℕ → List ℕ
 span_text first last = if first == last then decimal first else decimal first ++ 45 ∷ decimal last
 
+-- the numbers of an interval
 abbrev pub numbers_text : Interval → List ℕ
 numbers_text i = span_text i.first i.last
 
@@ -42,3 +44,7 @@ printed_behind before (i ∷ set) = interval_text before i ++ printed_behind (So
 -- the text of a set
 abbrev pub printed_position : List Interval → List ℕ
 printed_position set = printed_behind None set
+
+-- the uuids of a printed set: the first 36 bytes of each part between its commas
+abbrev pub printed_uuids : List Interval → List (List ℕ)
+printed_uuids set = map (take 36) (parts_between 44 (printed_position set))

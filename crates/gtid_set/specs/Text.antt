@@ -1,10 +1,10 @@
 -- The set that a position text means, or its first fault (MySQL manual, 'GTID Sets'; the flavour and the limits are this profile's).
-use Rattle.std.specs.Prelude.{◌≡◌, ℕ, ◌==◌, ◌&&◌, nat_lt, nat_le, if◌then◌else◌, Option, Some, None, Result, Ok, Err, List, [], ◌∷◌, ◌++◌, length, take, drop, codes}
+use Rattle.std.specs.Prelude.{◌≡◌, ℕ, ◌≤◌, ◌==◌, ◌&&◌, nat_lt, nat_le, if◌then◌else◌, Option, Some, None, Result, Ok, Err, List, [], ◌∷◌, ◌++◌, length, take, drop, codes}
 use Rattle.gtid_set.specs.declared.interval.Interval.{Interval}
 use Rattle.gtid_set.specs.declared.fault.GtidFault.{GtidFault}
 use Rattle.gtid_set.specs.declared.fault.GtidFault.TheVariants.{TooLarge, Flavor, BadUuid, Syntax, BadNumber}
 use Rattle.std.specs.Cmp.Lexicographic.{pointwise}
-use Rattle.gtid_set.specs.Fault.{◌>>=◌}
+use Rattle.outcome.specs.Outcome.{◌>>=◌}
 use Rattle.gtid_set.specs.Position.{last_number, union_of, SamePairs}
 use Rattle.gtid_set.specs.Blank.{trimmed, cut, parts_between}
 use Rattle.gtid_set.specs.Digits.{decimal_of, uuid_of}
@@ -97,3 +97,7 @@ position_of_text text = if nat_lt text_limit (length text) then Err TooLarge els
 -- the set has exactly the pairs that the text names
 abbrev pub IsOfText : List ℕ → List Interval → Type 0
 IsOfText text set = (intervals : List Interval) × (intervals_of_text text ≡ Ok intervals) × SamePairs set intervals
+
+-- the text has no fault and names two intervals or more
+abbrev pub NamesSeveral : List ℕ → Type 0
+NamesSeveral text = (intervals : List Interval) × (intervals_of_text text ≡ Ok intervals) × (2 ≤ length intervals)

@@ -4,11 +4,11 @@ ghost use Rattle.std.specs.Prelude.{◌≡◌};
 ghost use Rattle.gtid_set.specs.declared.fault.GtidFault.TheVariants.{Memory};
 ghost use Rattle.gtid_set.specs.Fault.{number_of_fault};
 
-use std::alloc::{AllocError, AllocFailed};
+use std::alloc::AllocError;
 use thiserror::Error;
 
 /// Why a position text isn't read, or why a set couldn't grow.
-#[derive(Debug, Drop, Error)]
+#[derive(Clone, Copy, Debug, PartialEq, Eq, Error)]
 pub enum GtidFault {
     /// The text has more than 1,048,576 bytes (this profile's limit).
     #[error("the position text has more than 1,048,576 bytes")]
@@ -50,14 +50,6 @@ impl From<AllocError> for GtidFault {
     ghost from_gives = { λ _ e. e ≡ Memory };
 
     fn from(_e: AllocError) -> GtidFault {
-        GtidFault::Memory
-    }
-}
-
-impl<T: Drop> From<AllocFailed<T>> for GtidFault {
-    ghost from_gives = { λ _ e. e ≡ Memory };
-
-    fn from(_e: AllocFailed<T>) -> GtidFault {
         GtidFault::Memory
     }
 }

@@ -2,7 +2,7 @@
 
 /// The numbers of a uuid from `first` to `last`, both included. The uuid is its number of 128
 /// bits, high byte first (RFC 9562), so uuids are ordered as their texts are.
-#[derive(Clone, Copy, Debug, PartialEq, Eq, PartialOrd, Ord)]
+#[derive(Clone, Copy, PartialEq, Eq, PartialOrd, Ord)]
 pub struct Interval {
     pub uuid: u128,
     pub first: u64,
@@ -12,6 +12,7 @@ pub struct Interval {
 impl Interval {
     ghost use Rattle.std.specs.Prelude.{◌≡◌};
     ghost use Rattle.gtid_set.specs.Position.{holds, ends_before, starts_by, covers};
+    ghost use Rattle.gtid_set.specs.Inner.Order.{wider};
 
     /// The number of the uuid is in the interval.
     pub fn holds(&self, uuid: u128, number: u64) -> bool
@@ -34,6 +35,17 @@ impl Interval {
         ensures { result ≡ starts_by self.now other.now }
     {
         self.uuid < other.uuid || (self.uuid == other.uuid && self.first <= other.first)
+    }
+
+    /// The interval with one number more, which it holds or which is next to it.
+    pub fn wider(&self, number: u64) -> Interval
+        ensures { result ≡ wider self.now number }
+    {
+        Interval {
+            first: self.first.min(number),
+            last: self.last.max(number),
+            ..*self
+        }
     }
 
     /// Each number of the other interval is in this one.

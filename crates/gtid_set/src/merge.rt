@@ -1,11 +1,14 @@
-//! Merged rising intervals: membership, subset, union and one pair more.
+//! Rising intervals merged into a set, and the union of two sets.
 
-ghost use Rattle.std.specs.Prelude.{◌≡◌, ◌+◌, ◌≤◌, ◌<◌, ◌^◌, [], IfOk, OnOk, OnErr, length, take, drop, false, vec_len};
-ghost use Rattle.std.specs.List.{AllByRecursion, HoldsAt};
-ghost use Rattle.gtid_set.specs.Position.{has, ends_before, IsInterval, IsCanonical, last_number, joined, union_of, with_pair, within_of};
-ghost use Rattle.gtid_set.specs.Order.{AllStartBy, AllStartOver, AllEndBefore, IsRising, widened};
+ghost use Rattle.std.specs.Prelude.{◌≡◌, ◌+◌, ◌≤◌, ◌<◌, [], IfOk, OnOk, OnErr, length, take, drop};
+ghost use Rattle.std.specs.List.{AllByRecursion};
+ghost use Rattle.gtid_set.specs.Position.{IsInterval, IsCanonical, joined, union_of};
+ghost use Rattle.gtid_set.specs.Text.{set_of};
+ghost use Rattle.gtid_set.specs.Inner.Kept.{listed};
+ghost use Rattle.gtid_set.specs.Inner.Order.{AllStartBy, AllStartOver, IsRising};
 
 use crate::interval::Interval;
+use crate::intervals::Intervals;
 use std::alloc::{AllocError, Global};
 
 /// Adds an interval to a set of which none begins after it.
@@ -48,7 +51,7 @@ fn append_all(set: &mut Vec<Interval>, rising: &[Interval]) -> Result<(), AllocE
 
 /// Adds an interval to the set that stands before `kept`, of which none begins after it, and says
 /// how long that set then is.
-fn settle(set: &mut Vec<Interval>, kept: usize, next: Interval) -> usize
+fn append_in_place(set: &mut Vec<Interval>, kept: usize, next: Interval) -> usize
     requires inside { kept < length set.old.items }
     requires canonical { IsCanonical (take kept set.old.items) }
     requires interval { IsInterval next }
@@ -71,17 +74,33 @@ fn settle(set: &mut Vec<Interval>, kept: usize, next: Interval) -> usize
 
 /// Makes a set of intervals that rise by their beginnings, in place, and gives back what room it
 /// can.
-pub fn merge(intervals: &mut Vec<Interval>)
+fn merge(intervals: &mut Vec<Interval>)
     requires each { AllByRecursion IsInterval intervals.old.items }
     requires rising { IsRising intervals.old.items }
     ensures { intervals.new.items ≡ union_of [] intervals.old.items }
 {
     let mut kept = 0;
     for place in 0..intervals.len() {
-        kept = settle(intervals, kept, intervals[place]);
+        kept = append_in_place(intervals, kept, intervals[place]);
     }
     intervals.truncate(kept);
     intervals.shrink_to_fit();
+}
+
+/// The set of some intervals, in any order.
+pub fn merged(intervals: Intervals) -> Intervals
+    requires { AllByRecursion IsInterval (listed intervals) }
+    ensures { listed result ≡ set_of (listed intervals) }
+{
+    match intervals {
+        Intervals::Empty => Intervals::Empty,
+        Intervals::One(only) => Intervals::One(only),
+        Intervals::Many(mut many) => {
+            many.sort_unstable();
+            merge(&mut many);
+            Intervals::from_vec(many)
+        }
+    }
 }
 
 /// The union of two sets, without spare room where the allocator gives it back.
@@ -110,108 +129,4 @@ pub fn union(
     append_all(&mut both, &other[j..])?;
     both.shrink_to_fit();
     Ok(both)
-}
-
-/// The place of the first interval from `from` on that doesn't end before `interval` begins.
-fn reach(set: &[Interval], from: usize, interval: &Interval) -> usize
-    requires inside { from ≤ length set.now }
-    requires passed { AllEndBefore interval.now (take from set.now) }
-    ensures bound { result ≤ length set.now }
-    ensures passed { AllEndBefore interval.now (take result set.now) }
-    ensures stops { result < length set.now → HoldsAt (λ i. ends_before i interval.now ≡ false) set.now result }
-{
-    let mut place = from;
-    while place < set.len() && set[place].ends_before(interval) {
-        place += 1;
-    }
-    place
-}
-
-/// Each interval of `some` lies in one of `all`.
-pub fn are_within(some: &[Interval], all: &[Interval]) -> bool
-    requires some { IsCanonical some.now }
-    requires all { IsCanonical all.now }
-    ensures { result ≡ within_of some.now all.now }
-{
-    let mut place = 0;
-    for interval in some {
-        place = reach(all, place, interval);
-        if place == all.len() || !all[place].covers(interval) {
-            return false;
-        }
-    }
-    true
-}
-
-/// The place of the first interval that doesn't end before `interval` begins, by halves.
-fn place_of(set: &[Interval], interval: &Interval) -> usize
-    requires { IsCanonical set.now }
-    ensures bound { result ≤ length set.now }
-    ensures passed { AllEndBefore interval.now (take result set.now) }
-    ensures stops { result < length set.now → HoldsAt (λ i. ends_before i interval.now ≡ false) set.now result }
-{
-    set.partition_point(|i| i.ends_before(interval))
-}
-
-/// The pair is in the set.
-pub fn has_pair(set: &[Interval], uuid: u128, number: u64) -> bool
-    requires { IsCanonical set.now }
-    ensures { result ≡ has set.now uuid number }
-{
-    let pair = Interval {
-        uuid,
-        first: number,
-        last: number,
-    };
-    let place = place_of(set, &pair);
-    place < set.len() && set[place].covers(&pair)
-}
-
-/// Adds a pair to a set. An error leaves the set as it was.
-pub fn add_pair(set: &mut Vec<Interval>, uuid: u128, number: u64) -> Result<(), AllocError>
-    requires canonical { IsCanonical set.old.items }
-    requires uuid { uuid < 2 ^ 128 }
-    requires from_one { 1 ≤ number }
-    requires to_last { number ≤ last_number }
-    ensures ok { OnOk result (set.new.items ≡ with_pair set.old.items uuid number) }
-    ensures err { OnErr result (set.new.items ≡ set.old.items) }
-{
-    let pair = Interval {
-        uuid,
-        first: number,
-        last: number,
-    };
-    let place = place_of(set, &pair);
-    if place == set.len() || pair.ends_before(&set[place]) {
-        set.insert(place, pair)?;
-        return Ok(());
-    }
-    widen(set, place, number);
-    Ok(())
-}
-
-/// Makes the interval at `place` hold a number that it holds or that is next to it, and merges it
-/// with the one behind it where they touch.
-fn widen(set: &mut Vec<Interval>, place: usize, number: u64)
-    requires inside { place < vec_len set.old }
-    ensures { set.new.items ≡ widened set.old.items place number }
-{
-    let old = set[place];
-    let wide = Interval {
-        uuid: old.uuid,
-        first: old.first.min(number),
-        last: old.last.max(number),
-    };
-    if place + 1 < set.len() {
-        let next = set[place + 1];
-        if !wide.ends_before(&next) {
-            set.remove(place + 1);
-            set[place] = Interval {
-                last: next.last,
-                ..wide
-            };
-            return;
-        }
-    }
-    set[place] = wide;
 }

@@ -1,13 +1,17 @@
 //! The intervals that a position text names.
 
-ghost use Rattle.std.specs.Prelude.{◌≡◌};
-ghost use Rattle.gtid_set.specs.Fault.{Gives};
+ghost use Rattle.std.specs.Prelude.{◌≡◌, List, Ok, IfOk, IfErr};
+ghost use Rattle.gtid_set.specs.declared.interval.Interval.{Interval as IntervalValue};
+ghost use Rattle.gtid_set.specs.Inner.Kept.{listed, Keeps, Reads, RefusedBy};
+ghost use Rattle.outcome.specs.Outcome.{Gives};
 ghost use Rattle.gtid_set.specs.Blank.{parts_between};
 ghost use Rattle.gtid_set.specs.Text.{all_of, intervals_of_piece, intervals_behind, intervals_of_part, without_flavor, intervals_of_text, behind, within_limit};
 
 use crate::digits::{number, uuid};
 use crate::fault::GtidFault;
 use crate::interval::Interval;
+use crate::intervals::Intervals;
+use crate::named::Named;
 use crate::text::{cut, trimmed};
 use std::alloc::Global;
 
@@ -16,8 +20,8 @@ const TEXT_LIMIT: usize = 1_048_576;
 
 /// Adds the interval `m` or `m-n` of a uuid, if it holds a number.
 #[tactic(auto, unfolding(crate::specs::Text::intervals_of_piece))]
-fn push_piece(intervals: &mut Vec<Interval>, uuid: u128, piece: &[u8]) -> Result<(), GtidFault>
-    ensures { Gives (λ _. intervals.new.items) result (behind intervals.old.items (intervals_of_piece uuid piece.now)) }
+fn push_piece(named: &mut Named, alloc: Global, uuid: u128, piece: &[u8]) -> Result<(), GtidFault>
+    ensures { (front : List IntervalValue) → Keeps named.old front → Reads result named.new (behind front (intervals_of_piece uuid piece.now)) }
 {
     let (lower, upper) = cut(piece, b'-');
     let first = number(lower, 1)?;
@@ -26,27 +30,27 @@ fn push_piece(intervals: &mut Vec<Interval>, uuid: u128, piece: &[u8]) -> Result
         None => first,
     };
     if first <= last {
-        intervals.push(Interval { uuid, first, last })?;
+        named.put(alloc, Interval { uuid, first, last });
     }
     Ok(())
 }
 
 /// Adds the intervals of a uuid that stand between colons.
-fn push_pieces(intervals: &mut Vec<Interval>, uuid: u128, text: &[u8]) -> Result<(), GtidFault>
-    ensures { Gives (λ _. intervals.new.items) result (behind intervals.old.items (all_of (intervals_of_piece uuid) (parts_between 58 text.now))) }
+fn push_pieces(named: &mut Named, alloc: Global, uuid: u128, text: &[u8]) -> Result<(), GtidFault>
+    ensures { (front : List IntervalValue) → Keeps named.old front → Reads result named.new (behind front (all_of (intervals_of_piece uuid) (parts_between 58 text.now))) }
 {
     let mut rest = Some(text);
     while let Some(pieces) = rest {
         let (piece, others) = cut(pieces, b':');
-        push_piece(intervals, uuid, piece)?;
+        push_piece(named, alloc, uuid, piece)?;
         rest = others;
     }
     Ok(())
 }
 
 /// Adds the intervals of a part, which has no blanks at its ends.
-fn push_part(intervals: &mut Vec<Interval>, part: &[u8]) -> Result<(), GtidFault>
-    ensures { Gives (λ _. intervals.new.items) result (behind intervals.old.items (intervals_of_part part.now)) }
+fn push_part(named: &mut Named, alloc: Global, part: &[u8]) -> Result<(), GtidFault>
+    ensures { (front : List IntervalValue) → Keeps named.old front → Reads result named.new (behind front (intervals_of_part part.now)) }
 {
     if part.is_empty() {
         return Ok(());
@@ -60,7 +64,7 @@ fn push_part(intervals: &mut Vec<Interval>, part: &[u8]) -> Result<(), GtidFault
     if part.len() == 36 || part[36] != b':' {
         return Err(GtidFault::Syntax);
     }
-    push_pieces(intervals, uuid, &part[37..])
+    push_pieces(named, alloc, uuid, &part[37..])
 }
 
 /// The text behind its flavor, if it has one.
@@ -74,31 +78,26 @@ fn without_flavor(text: &[u8]) -> Result<&[u8], GtidFault>
     }
 }
 
-/// The most intervals that a text can name: each stands behind a colon, and no colon before the 36
-/// bytes of the first uuid.
-fn most_intervals(text: &[u8]) -> usize {
-    let mut count = 0;
-    for byte in &text[text.len().min(36)..] {
-        count += usize::from(*byte == b':');
-    }
-    count
-}
-
-/// All intervals that a text names, in its order, and room for as many as it can name.
+/// All intervals that a text names, in its order. Its own faults are told before want of memory,
+/// which comes only where it names two intervals or more.
 #[tactic(auto, unfolding(crate::specs::Text::within_limit, crate::specs::Text::intervals_of_text))]
-pub fn intervals_of(alloc: Global, text: &[u8]) -> Result<Vec<Interval>, GtidFault>
-    ensures { Gives (λ v. v.items) result (within_limit text.now) }
+pub fn intervals_of(alloc: Global, text: &[u8]) -> Result<Intervals, GtidFault>
+    ensures named { IfOk result (λ intervals. within_limit text.now ≡ Ok (listed intervals)) }
+    ensures refused { IfErr result (λ fault. RefusedBy fault (within_limit text.now)) }
 {
     if text.len() > TEXT_LIMIT {
         return Err(GtidFault::TooLarge);
     }
     let parts = without_flavor(trimmed(text))?;
-    let mut intervals = Vec::with_capacity(alloc, most_intervals(parts))?;
+    let mut named = Named::Kept(Intervals::Empty);
     let mut rest = Some(parts);
     while let Some(parts) = rest {
         let (part, others) = cut(parts, b',');
-        push_part(&mut intervals, trimmed(part))?;
+        push_part(&mut named, alloc, trimmed(part))?;
         rest = others;
     }
-    Ok(intervals)
+    match named {
+        Named::Kept(intervals) => Ok(intervals),
+        Named::Wanting => Err(GtidFault::Memory),
+    }
 }

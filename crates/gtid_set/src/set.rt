@@ -1,114 +1,147 @@
 //! Sets of pairs of a uuid and a number.
 
-ghost use Rattle.std.specs.Prelude.{◌≡◌, ◌≤◌, ◌↔◌, ◌||◌, ℕ, [], IsTrue, IfOk, OnOk, OnErr};
+ghost use Rattle.std.specs.Prelude.{◌≡◌, ◌≤◌, ◌<◌, ◌↔◌, ◌||◌, ℕ, [], IsTrue, IfOk, IfErr, OnOk, OnErr, Err, length};
 ghost use Rattle.std.specs.Int.{w128, from_be_bytes};
+ghost use Rattle.gtid_set.specs.declared.fault.GtidFault.{GtidFault as FaultValue};
+ghost use Rattle.gtid_set.specs.declared.fault.GtidFault.TheVariants.{Memory};
 ghost use Rattle.gtid_set.specs.Fault.{Gives};
-ghost use Rattle.gtid_set.specs.Position.{has, IsWithin, SamePairs, IsCanonical, HasBoth, HasPairMore, last_number, union_of, with_pair, within_of};
-ghost use Rattle.gtid_set.specs.Text.{position_of_text, IsOfText};
+ghost use Rattle.gtid_set.specs.Position.{has, IsWithin, SamePairs, IsCanonical, HasBoth, HasPairMore, StandsApart, last_number, union_of, with_pair, within_of};
+ghost use Rattle.gtid_set.specs.Text.{position_of_text, IsOfText, NamesSeveral};
 
+use crate::add::add_pair;
 use crate::fault::GtidFault;
 use crate::interval::Interval;
-use crate::merge::{add_pair, are_within, has_pair, merge, union};
+use crate::intervals::Intervals;
+use crate::merge::{merged, union};
 use crate::read::intervals_of;
-use std::alloc::{AllocError, Global};
+use crate::search::{are_within, has_pair};
+use std::alloc::Global;
 use std::marker::Model;
+use std::mem::size_of;
 
 /// A set of pairs of a uuid and a number (MySQL manual, "GTID Sets"), kept as its merged rising
-/// intervals, so that sets with the same pairs are equal. Numbers are from 1 to 2^63 - 2.
+/// intervals, so that sets with the same pairs are equal. Numbers are from 1 to 2^63 - 2. A set of
+/// one interval, as most positions are, takes 48 bytes and no block of memory.
 #[derive(Drop)]
 pub struct GtidSet {
-    intervals: Vec<Interval>,
+    intervals: Intervals,
 }
+
+const _: () = prove!(size_of::<GtidSet>() == 48);
 
 impl Model for GtidSet {
     ghost use Rattle.std.specs.Prelude.{List};
     ghost use Rattle.gtid_set.specs.declared.interval.Interval.{Interval};
     ghost use Rattle.gtid_set.specs.Position.{IsCanonical};
+    ghost use Rattle.gtid_set.specs.Inner.Kept.{listed};
 
     ghost Value = { List Interval };
 
-    ghost view = { λ s. s.intervals.items };
+    ghost view = { λ s. listed s.intervals };
 
-    ghost invariant = { λ s. IsCanonical s.intervals.items };
+    ghost invariant = { λ s. IsCanonical (listed s.intervals) };
 }
 
 impl GtidSet {
-    /// The empty set. Takes no memory.
-    pub fn new(alloc: Global) -> GtidSet
+    /// The empty set. It takes no memory, so it needs no allocator.
+    pub fn new() -> GtidSet
         ensures { result ≡ [] }
     {
         GtidSet {
-            intervals: Vec::new(alloc),
+            intervals: Intervals::Empty,
         }
     }
 
     /// The set that a position text means: an optional flavor `MySQL56/`, then parts between
     /// commas, each a uuid and its intervals `m` or `m-n` behind colons. Refused: `TooLarge` for
     /// more than 1,048,576 bytes, before all else; then the first from the left of `Flavor`,
-    /// `BadUuid`, `Syntax` for no colon behind a uuid, and `BadNumber`; and `Memory`.
+    /// `BadUuid`, `Syntax` for no colon behind a uuid, and `BadNumber`. `Memory` comes only for a
+    /// text without such a fault that names two intervals or more. Takes time linear in the text,
+    /// and for `n` intervals that don't rise `n log n`.
     pub fn parse(alloc: Global, text: &str) -> Result<GtidSet, GtidFault>
         ensures exact { Gives (λ set. set) result (position_of_text text.now) }
+        ensures every_fault { (fault : FaultValue) → position_of_text text.now ≡ Err fault → result ≡ Err fault }
+        ensures memory { result ≡ Err Memory → NamesSeveral text.now }
         ensures pairs { IfOk result (IsOfText text.now) }
         ensures canonical { IfOk result IsCanonical }
     {
-        let mut intervals = intervals_of(alloc, text.as_bytes())?;
-        intervals.sort_unstable();
-        merge(&mut intervals);
-        Ok(GtidSet { intervals })
+        let named = intervals_of(alloc, text.as_bytes())?;
+        Ok(GtidSet {
+            intervals: merged(named),
+        })
     }
 
     /// The set has no pair.
     pub fn is_empty(&self) -> bool
         ensures { IsTrue result ↔ (self.now ≡ []) }
     {
-        self.intervals.is_empty()
+        self.intervals.as_slice().is_empty()
     }
 
-    /// The pair is in the set. A uuid is its 16 bytes. Takes no memory.
+    /// The pair is in the set. A uuid is its 16 bytes. Takes no memory, and the logarithm of the
+    /// set's intervals in time.
     pub fn contains(&self, uuid: &[u8; 16], number: u64) -> bool
         ensures { result ≡ has self.now (from_be_bytes w128 uuid.now) number }
     {
-        has_pair(&self.intervals, u128::from_be_bytes(*uuid), number)
+        let intervals = self.intervals.as_slice();
+        has_pair(intervals, u128::from_be_bytes(*uuid), number)
     }
 
-    /// Each pair of the set is in the other. Takes no memory, and time linear in the intervals of
-    /// both.
+    /// Each pair of the set is in the other. Takes no memory. A set of `m` intervals against one
+    /// of `n` takes time of the order of `m`, times the logarithm of `n / m` where that is more,
+    /// and no more than `m` and `n` together.
     pub fn is_within(&self, other: &GtidSet) -> bool
         ensures value { result ≡ within_of self.now other.now }
         ensures subset { IsTrue result ↔ IsWithin self.now other.now }
     {
-        are_within(&self.intervals, &other.intervals)
+        are_within(self.intervals.as_slice(), other.intervals.as_slice())
     }
 
-    /// The pairs of both sets, in time linear in their intervals. Fails for want of memory alone.
-    pub fn union(&self, alloc: Global, other: &GtidSet) -> Result<GtidSet, AllocError>
+    /// The pairs of both sets, in time linear in their intervals. `Memory` is its only fault.
+    pub fn union(&self, alloc: Global, other: &GtidSet) -> Result<GtidSet, GtidFault>
         ensures value { IfOk result (λ both. both ≡ union_of self.now other.now) }
         ensures pairs { IfOk result (HasBoth self.now other.now) }
         ensures canonical { IfOk result IsCanonical }
+        ensures memory { IfErr result (λ fault. fault ≡ Memory) }
     {
+        let both = union(alloc, self.intervals.as_slice(), other.intervals.as_slice())?;
         Ok(GtidSet {
-            intervals: union(alloc, &self.intervals, &other.intervals)?,
+            intervals: Intervals::from_vec(both),
         })
     }
 
-    /// Adds a pair, of a number from 1 to 2^63 - 2. A number that follows an interval is added in
-    /// place. Fails for want of memory alone, and then leaves the set as it was.
-    pub fn add(&mut self, uuid: &[u8; 16], number: u64) -> Result<(), AllocError>
+    /// Adds a pair, of a number from 1 to 2^63 - 2. `Memory` is its only fault, and then the set is
+    /// as it was. It comes only where the set isn't empty and the pair stands apart from its
+    /// intervals: a number that is there already, or next to one, takes no memory. Takes the
+    /// logarithm of the intervals in time, and what moving those behind the pair takes.
+    pub fn add(&mut self, alloc: Global, uuid: &[u8; 16], number: u64) -> Result<(), GtidFault>
         requires from_one { 1 ≤ number }
         requires to_last { number ≤ last_number }
         ensures value { OnOk result (self.new ≡ with_pair self.old (from_be_bytes w128 uuid.now) number) }
         ensures pairs { OnOk result (HasPairMore self.old (from_be_bytes w128 uuid.now) number self.new) }
         ensures err { OnErr result (self.new ≡ self.old) }
+        ensures memory { IfErr result (λ fault. fault ≡ Memory) }
+        ensures some { OnErr result (1 ≤ length self.old) }
+        ensures apart { OnErr result (StandsApart self.old (from_be_bytes w128 uuid.now) number) }
     {
-        add_pair(&mut self.intervals, u128::from_be_bytes(*uuid), number)
+        add_pair(
+            &mut self.intervals,
+            alloc,
+            u128::from_be_bytes(*uuid),
+            number,
+        )?;
+        Ok(())
     }
 
-    /// The same set once more. Fails for want of memory alone.
-    pub fn try_clone(&self, alloc: Global) -> Result<GtidSet, AllocError>
-        ensures { IfOk result (λ copy. copy ≡ self.now) }
+    /// The same set once more. `Memory` is its only fault, and comes only for two intervals or
+    /// more.
+    pub fn try_clone(&self, alloc: Global) -> Result<GtidSet, GtidFault>
+        ensures value { IfOk result (λ copy. copy ≡ self.now) }
+        ensures memory { IfErr result (λ fault. fault ≡ Memory) }
+        ensures several { OnErr result (2 ≤ length self.now) }
     {
         Ok(GtidSet {
-            intervals: Vec::from_slice(alloc, &self.intervals)?,
+            intervals: Intervals::copied(alloc, self.intervals.as_slice())?,
         })
     }
 
@@ -117,7 +150,7 @@ impl GtidSet {
         ensures value { result.now ≡ self.now }
         ensures canonical { IsCanonical result.now }
     {
-        &self.intervals
+        self.intervals.as_slice()
     }
 }
 
@@ -131,6 +164,6 @@ impl PartialEq for GtidSet {
     ghost laws = { same_set-laws };
 
     fn eq(&self, other: &GtidSet) -> bool {
-        self.intervals == other.intervals
+        self.intervals.as_slice() == other.intervals.as_slice()
     }
 }

@@ -126,7 +126,7 @@ fn end_block<'h>(
     ensures block { Gives (λ _. groups.new.items) result (block_end groups.old.items position changes.entry.items) }
     ensures grows { length groups.new.items ≤ length groups.old.items + 1 }
 {
-    let empty = GtidSet::new(alloc);
+    let empty = GtidSet::new();
     let last = last_position(groups, &empty);
     if position.is_within(last) {
         return Ok(());

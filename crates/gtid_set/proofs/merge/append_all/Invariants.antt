@@ -1,6 +1,6 @@
 use Rattle.std.proofs.Common.{◌≡◌, drop}
 use Rattle.gtid_set.specs.Position.{IsCanonical, union_of}
-use Rattle.gtid_set.specs.Order.{AllStartOver}
+use Rattle.gtid_set.specs.Inner.Order.{AllStartOver}
 use Rattle.gtid_set.proofs.merge.append_all.Given as goal
 
 -- the set so far and what is left make the union

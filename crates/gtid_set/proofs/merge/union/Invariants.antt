@@ -1,6 +1,6 @@
 use Rattle.std.proofs.Common.{◌≡◌, ℕ, ◌+◌, ◌-◌, ◌≤◌, ◌||◌, length, drop}
 use Rattle.gtid_set.specs.Position.{has, IsCanonical}
-use Rattle.gtid_set.specs.Order.{AllStartOver}
+use Rattle.gtid_set.specs.Inner.Order.{AllStartOver}
 use Rattle.gtid_set.proofs.merge.union.Given as goal
 
 -- the pairs so far and those of what is left are those of both sets

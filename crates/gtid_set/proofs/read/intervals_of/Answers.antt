@@ -1,33 +1,58 @@
-use Rattle.std.proofs.Common.{subst, ℕ, sym, ◌∙◌, ap, List, Result}
+use Rattle.std.proofs.Common.{◌≡◌, subst, ℕ, refl, sym, ◌∙◌, ap, List, [], Result, Ok, Err}
 use Rattle.std.proofs.lemmas.Result.{err_from_is_err_and}
 use Rattle.gtid_set.specs.declared.interval.Interval.{Interval}
 use Rattle.gtid_set.specs.declared.fault.GtidFault.{GtidFault}
+use Rattle.gtid_set.specs.declared.named.Named.{Named}
 use Rattle.gtid_set.specs.Blank.{trimmed, parts_between}
+use Rattle.gtid_set.specs.Inner.Kept.{listed, Keeps}
 use Rattle.gtid_set.specs.Text.{all_of, behind, intervals_of_part, within_limit}
-use Rattle.gtid_set.specs.Fault.{Refuses}
-use Rattle.gtid_set.proofs.WholeText.{whole-text, refuses-same}
-use Rattle.gtid_set.proofs.Reading.{next_part, bad_part, smaller_some, at_some}
+use Rattle.gtid_set.proofs.WholeText.{whole-text}
+use Rattle.gtid_set.proofs.Reading.{read_next, read_bad, read_all, smaller_some}
+use Rattle.gtid_set.proofs.TextFaults.{own_fault}
 use Rattle.gtid_set.proofs.read.intervals_of.Goals as goal
 
 abbrev step : List ℕ → Result (List Interval) GtidFault
 step part = intervals_of_part (trimmed part)
 
-pub returns-in_err-push_part : goal.returns-in_err-push_part
-returns-in_err-push_part c =
-    let total : Result (List Interval) GtidFault = behind c.in_ok-intervals.intervals.items (all_of step (parts_between 44 c.in_ok-parts.parts.now)) in
-    let so_far = at_some step 44 c.loop-rest.intervals.items c.loop-rest.rest c.in-Some.parts total c.in-Some.is c.loop-rest.invariant in
-    let refused = subst (λ (t : List ℕ). Refuses c.in_err-push_part.field-0.0 (behind c.loop-rest.intervals.items (intervals_of_part t))) c.trimmed-in-Some.ensures c.in_err-push_part.ensures in
-    let all = bad_part step 44 c.loop-rest.intervals.items c.in-Some.parts.now c.cut.result.0.now _ total c.in_err-push_part.field-0.0 c.cut.ensures refused so_far in
+abbrev whole : List ℕ → Result (List Interval) GtidFault
+whole parts = behind [] (all_of step (parts_between 44 parts))
+
+pub loop-rest-init : goal.loop-rest-init
+loop-rest-init c = ([], refl, refl)
+
+pub returns-in_err-push_part-clause-refused : goal.returns-in_err-push_part-clause-refused
+returns-in_err-push_part-clause-refused c =
+    let fault = c.in_err-push_part.field-0.0 in
     let flavor = rw c.trimmed.ensures at c.in_ok-parts.ensures in
+    let is : whole c.in_ok-parts.parts.now ≡ within_limit c.args.text.now = whole-text c.args.text.now c.in_ok-parts.parts.now c.if-text-gt-TEXT_LIMIT.false flavor in
+    let refused : (front : List Interval) → Keeps c.loop-rest.named front → behind front (step c.cut.result.0.now) ≡ Err fault = λ front kept.
+    ap (λ (t : List ℕ). behind front (intervals_of_part t)) (sym c.trimmed-in-Some.ensures) ∙ c.in_err-push_part.ensures front kept in
+    let bad : whole c.in_ok-parts.parts.now ≡ Err fault = read_bad step 44 c.loop-rest.named c.loop-rest.rest c.cut.result.1 c.in-Some.parts c.cut.result.0.now _ fault c.in-Some.is c.cut.ensures refused c.loop-rest.invariant in
     let p = err_from_is_err_and c.from_residual-in_err-push_part.result c.from_residual-in_err-push_part.ensures.1 in
-    rw (p.1, p.2) (refuses-same c.in_err-push_part.field-0.0 total (within_limit c.args.text.now) (whole-text c.args.text.now c.in_ok-parts.parts.now c.in_ok-intervals.intervals.items c.in_ok-intervals.ensures.items c.if-text-gt-TEXT_LIMIT.false flavor) all)
+    rw (p.1, p.2) (own_fault c.args.text.now fault (sym is ∙ bad))
 
 pub loop-rest-smaller : goal.loop-rest-smaller
 loop-rest-smaller c = smaller_some 44 c.loop-rest.rest c.cut.result.1 c.in-Some.parts c.cut.result.0.now c.in-Some.is c.cut.ensures
 
 pub loop-rest-preserved : goal.loop-rest-preserved
 loop-rest-preserved c =
-    let total : Result (List Interval) GtidFault = behind c.in_ok-intervals.intervals.items (all_of step (parts_between 44 c.in_ok-parts.parts.now)) in
-    let so_far = at_some step 44 c.loop-rest.intervals.items c.loop-rest.rest c.in-Some.parts total c.in-Some.is c.loop-rest.invariant in
-    let read = ap (λ (t : List ℕ). behind c.loop-rest.intervals.items (intervals_of_part t)) (sym c.trimmed-in-Some.ensures) ∙ c.in_ok-push_part.ensures in
-    next_part step 44 c.loop-rest.intervals.items c.push_part.new.intervals.items c.in-Some.parts.now c.cut.result.0.now _ total c.cut.ensures read so_far
+    read_next step 44 c.loop-rest.named c.push_part.new.named c.loop-rest.rest c.cut.result.1 c.in-Some.parts c.cut.result.0.now _ c.in-Some.is c.cut.ensures
+    (λ front kept.
+    let r = c.in_ok-push_part.ensures front kept in
+    (r.0, ap (λ (t : List ℕ). behind front (intervals_of_part t)) (sym c.trimmed-in-Some.ensures) ∙ r.1, r.2))
+    c.loop-rest.invariant
+
+pub returns-in-Kept-clause-named : goal.returns-in-Kept-clause-named
+returns-in-Kept-clause-named c =
+    let flavor = rw c.trimmed.ensures at c.in_ok-parts.ensures in
+    let is : whole c.in_ok-parts.parts.now ≡ within_limit c.args.text.now = whole-text c.args.text.now c.in_ok-parts.parts.now c.if-text-gt-TEXT_LIMIT.false flavor in
+    let r = read_all step 44 c.loop-rest.named c.loop-rest.rest (whole c.in_ok-parts.parts.now) c.in_default.not-Some c.loop-rest.invariant in
+    let kept : listed c.in-Kept.intervals ≡ r.0 = subst (λ (n : Named). Keeps n r.0) c.in-Kept.is r.2 in
+    sym is ∙ r.1 ∙ ap (λ (l : List Interval). Ok l) (sym kept)
+
+pub returns-in-Wanting-clause-refused : goal.returns-in-Wanting-clause-refused
+returns-in-Wanting-clause-refused c =
+    let flavor = rw c.trimmed.ensures at c.in_ok-parts.ensures in
+    let is : whole c.in_ok-parts.parts.now ≡ within_limit c.args.text.now = whole-text c.args.text.now c.in_ok-parts.parts.now c.if-text-gt-TEXT_LIMIT.false flavor in
+    let r = read_all step 44 c.loop-rest.named c.loop-rest.rest (whole c.in_ok-parts.parts.now) c.in_default.not-Some c.loop-rest.invariant in
+    (r.0, sym is ∙ r.1, subst (λ (n : Named). Keeps n r.0) c.in-Wanting.is r.2)

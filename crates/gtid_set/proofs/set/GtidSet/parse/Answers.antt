@@ -1,29 +1,43 @@
+use Rattle.std.proofs.Common.{sym, ◌∙◌}
 use Rattle.std.proofs.lemmas.Result.{err_from_is_err_and}
-use Rattle.gtid_set.proofs.Named.{Each-permutation, sorted-rising}
-use Rattle.gtid_set.proofs.Parsed.{IsParsed, is_parsed, refused, each-within}
+use Rattle.gtid_set.specs.declared.fault.GtidFault.TheVariants.{Memory}
+use Rattle.gtid_set.specs.Inner.Kept.{listed}
+use Rattle.gtid_set.proofs.Parsed.{IsParsed, is_parsed, refused, each-within, same_fault, fault_same, no_fault}
 use Rattle.gtid_set.proofs.set.GtidSet.parse.Goals as goal
 
-pub returns-in_err-intervals-clause-exact : goal.returns-in_err-intervals-clause-exact
-returns-in_err-intervals-clause-exact c =
+pub returns-in_err-named-clause-exact : goal.returns-in_err-named-clause-exact
+returns-in_err-named-clause-exact c =
     let p = err_from_is_err_and c.from_residual.result c.from_residual.ensures.1 in
-    rw (p.1, p.2) (refused c.in_err-intervals.field-0.0 c.args.text.now c.as_bytes.result.now c.as_bytes.ensures.value c.in_err-intervals.ensures)
+    rw (p.1, p.2) (refused c.in_err-named.field-0.0 c.args.text.now c.as_bytes.result.now c.as_bytes.ensures.value c.in_err-named.ensures.refused).exact
 
-pub merge-requires-clause-each : goal.merge-requires-clause-each
-merge-requires-clause-each c =
-    let each = each-within c.as_bytes.result.now c.in_ok-intervals.intervals.items c.in_ok-intervals.ensures in
-    Each-permutation c.in_ok-intervals.intervals.items c.sort_unstable.new.self.items c.sort_unstable.ensures.permutation each
+pub returns-in_err-named-clause-every_fault : goal.returns-in_err-named-clause-every_fault
+returns-in_err-named-clause-every_fault c =
+    let e = c.in_err-named.field-0.0 in
+    let r = refused e c.args.text.now c.as_bytes.result.now c.as_bytes.ensures.value c.in_err-named.ensures.refused in
+    let p = err_from_is_err_and c.from_residual.result c.from_residual.ensures.1 in
+    rw (p.1, p.2) (λ f q. fault_same e f (r.every_fault f q))
 
-pub merge-requires-clause-rising : goal.merge-requires-clause-rising
-merge-requires-clause-rising c = sorted-rising c.sort_unstable.new.self.items c.sort_unstable.ensures.sorted
+pub returns-in_err-named-clause-memory : goal.returns-in_err-named-clause-memory
+returns-in_err-named-clause-memory c =
+    let e = c.in_err-named.field-0.0 in
+    let r = refused e c.args.text.now c.as_bytes.result.now c.as_bytes.ensures.value c.in_err-named.ensures.refused in
+    let p = err_from_is_err_and c.from_residual.result c.from_residual.ensures.1 in
+    rw (p.1, p.2) (λ q. r.memory (same_fault e Memory q))
 
-parsed : (c : goal.After-merge) → IsParsed c.args.text.now c.merge.new.intervals.items
-parsed c = is_parsed c.args.text.now c.as_bytes.result.now c.in_ok-intervals.intervals.items c.sort_unstable.new.self.items c.merge.new.intervals.items c.as_bytes.ensures.value c.in_ok-intervals.ensures c.sort_unstable.ensures.permutation c.merge.ensures
+pub merged-requires : goal.merged-requires
+merged-requires c = each-within c.as_bytes.result.now (listed c.in_ok-named.named) c.in_ok-named.ensures.named
+
+parsed : (c : goal.After-merged) → IsParsed c.args.text.now (listed c.merged.result)
+parsed c = is_parsed c.args.text.now c.as_bytes.result.now (listed c.in_ok-named.named) (listed c.merged.result) c.as_bytes.ensures.value c.in_ok-named.ensures.named c.merged.ensures
 
 pub invariant_of-result : goal.invariant_of-result
 invariant_of-result c = (parsed c).canonical
 
 pub returns-clause-exact : goal.returns-clause-exact
 returns-clause-exact c = (parsed c).exact
+
+pub returns-clause-every_fault : goal.returns-clause-every_fault
+returns-clause-every_fault c = λ f q. absurd (no_fault (listed c.merged.result) f (sym (parsed c).exact ∙ q))
 
 pub returns-clause-pairs : goal.returns-clause-pairs
 returns-clause-pairs c = (parsed c).pairs

@@ -13,9 +13,9 @@ use Rattle.std.proofs.lemmas.List.Elements.{All-from_recursion, recursion_from_A
 use Rattle.gtid_set.specs.declared.interval.Interval.{Interval}
 use Rattle.gtid_set.specs.declared.fault.GtidFault.{GtidFault}
 use Rattle.gtid_set.specs.declared.fault.GtidFault.TheVariants.{BadNumber, Syntax}
-use Rattle.gtid_set.specs.Fault.{◌>>=◌}
+use Rattle.outcome.specs.Outcome.{◌>>=◌}
 use Rattle.gtid_set.specs.Position.{holds, starts_by, last_number, IsInterval, SamePairs, union_of}
-use Rattle.gtid_set.specs.Order.{IsRising}
+use Rattle.gtid_set.specs.Inner.Order.{IsRising}
 use Rattle.gtid_set.specs.Blank.{trimmed, cut, parts_between}
 use Rattle.gtid_set.specs.Digits.{hex_digit_of, number_behind, decimal_of, is_hyphenated, uuid_of}
 use Rattle.gtid_set.specs.Text.{all_of, number_from, upper_from, interval_list, intervals_of_piece, intervals_behind, intervals_for, intervals_of_part, without_flavor, intervals_of_text}

@@ -1,7 +1,7 @@
 use Rattle.std.proofs.Common.{◌≡◌, ◌≤◌, length, take, drop}
 use Rattle.gtid_set.specs.Position.{within_of}
 use Rattle.gtid_set.proofs.Covered.{AllPassed}
-use Rattle.gtid_set.proofs.merge.are_within.Given as goal
+use Rattle.gtid_set.proofs.search.are_within.Given as goal
 
 -- what was passed ends before all that is left, and the answer is that of what is left
 abbrev pub invariant-loop-interval : goal.invariant-loop-interval

@@ -4,8 +4,8 @@ use Rattle.gtid_set.specs.declared.interval.Interval.{Interval}
 use Rattle.gtid_set.specs.Position.{IsCanonical, within_of}
 use Rattle.gtid_set.proofs.Merging.{drop-front, canonical-drop}
 use Rattle.gtid_set.proofs.Covered.{covered_by, covered-at, covered-nowhere, passed-rest}
-use Rattle.gtid_set.proofs.merge.are_within.Goals as goal
-use Rattle.gtid_set.proofs.merge.are_within.Goals.{then-place-all-via-then-place-all, then-place-all-via-else-place-all+then-not-covers}
+use Rattle.gtid_set.proofs.search.are_within.Goals as goal
+use Rattle.gtid_set.proofs.search.are_within.Goals.{then-place-all-via-then-place-all, then-place-all-via-else-place-all+then-not-covers}
 
 abbrev nowhere : Interval
 nowhere = record { uuid = 0; first = 0; last = 0 }

@@ -3,7 +3,7 @@ use Rattle.std.proofs.lemmas.List.Sorted.{IsPartitionPoint-from_clause}
 use Rattle.gtid_set.specs.declared.interval.Interval.{Interval}
 use Rattle.gtid_set.specs.Position.{ends_before}
 use Rattle.gtid_set.proofs.Covered.{partitioned, AllEndBefore-within}
-use Rattle.gtid_set.proofs.merge.place_of.Goals as goal
+use Rattle.gtid_set.proofs.search.place_of.Goals as goal
 
 pub returns-clause-passed : goal.returns-clause-passed
 returns-clause-passed c =

@@ -2,8 +2,8 @@ use Rattle.std.proofs.Common.{◌≡◌, ◌∙◌, ◌-◌, sym, arith, false}
 use Rattle.std.proofs.lemmas.List.{get_or_default}
 use Rattle.gtid_set.specs.Position.{ends_before}
 use Rattle.gtid_set.proofs.Appended.{take-set_last-joined, take-set-joined, take-set-joined-none}
-use Rattle.gtid_set.proofs.merge.settle.Goals as goal
-use Rattle.gtid_set.proofs.merge.settle.Goals.{then-kept-gt0+else-not-ends_before, else-kept-gt0}
+use Rattle.gtid_set.proofs.merge.append_in_place.Goals as goal
+use Rattle.gtid_set.proofs.merge.append_in_place.Goals.{then-kept-gt0+else-not-ends_before, else-kept-gt0}
 
 pub returns-then-not-ends_before-clause-joined : goal.returns-then-not-ends_before-clause-joined
 returns-then-not-ends_before-clause-joined c =

@@ -3,7 +3,7 @@ use Rattle.std.proofs.lemmas.Bool.{le-ltb}
 use Rattle.std.proofs.lemmas.List.{get_or_default}
 use Rattle.gtid_set.specs.declared.interval.Interval.{Interval}
 use Rattle.gtid_set.proofs.Covered.{covered-at, covered-nowhere}
-use Rattle.gtid_set.proofs.merge.has_pair.Goals as goal
+use Rattle.gtid_set.proofs.search.has_pair.Goals as goal
 
 abbrev nowhere : Interval
 nowhere = record { uuid = 0; first = 0; last = 0 }
