@@ -16,7 +16,7 @@ use Rattle.filter_rule.specs.Resolving.{place_in, vindex_type, resolved}
 use Rattle.filter_rule.specs.Rules.{Scope, every_table, one_table, begins_with_slash, scope_of, is_for, Action, all_rows, own_vindex, named_column, RuleForm, form_of, or_bad, agreeing, action_of, range_in, own_decision, decide, settle_one, settle}
 use Rattle.filter_rule.specs.declared.decision.Decision.{Decision}
 use Rattle.filter_rule.specs.declared.decision.Decision.TheVariants.{NoRule, EveryRow, InRange}
-use Rattle.filter_rule.proofs.ShapeLaws.{then_ok, same_ok, read_as}
+use Rattle.filter_rule.proofs.StepLaws.{then_ok, same_ok, read_as}
 
 -- ---- a rule's form is for the tables that the rule matches
 
@@ -30,7 +30,7 @@ found_ok : {A : Type 0} (s n : ℕ) (o : Option A) (x : A) → or_bad s n o ≡ 
 found_ok s n None x e = cc
 found_ok s n (Some y) x e = cc
 
-form_match : (s n : ℕ) (r : RuleSaid) (form : RuleForm) (table : List ℕ) → form_of s n r ≡ Ok form → is_for form.scope table ≡ is_match r table
+pub form_match : (s n : ℕ) (r : RuleSaid) (form : RuleForm) (table : List ℕ) → form_of s n r ≡ Ok form → is_for form.scope table ≡ is_match r table
 unfolding form_of
 form_match s n r form table is =
     then_ok _ (or_bad s n (scope_of r.matches)) form is (λ scope scope_is h2.
@@ -52,7 +52,7 @@ own_decides : (s n : ℕ) (range : List ℕ) (v : Option (ℕ × Vindex)) → ow
 own_decides s n range None h = cc
 own_decides s n range (Some v) h = then_ok _ (or_bad s n (range_in range)) NoRule h (λ bounds is e. no_range v.0 v.1 bounds (same_ok (InRange v.0 v.1 bounds) NoRule e))
 
-decide_decides : (s n : ℕ) (action : Action) (t : TableValue) → decide s n action t ≡ Ok NoRule → ⊥
+pub decide_decides : (s n : ℕ) (action : Action) (t : TableValue) → decide s n action t ≡ Ok NoRule → ⊥
 decide_decides s n all_rows t h = no_every (same_ok EveryRow NoRule h)
 decide_decides s n (own_vindex range) t h = own_decides s n range t.vindex h
 decide_decides s n (named_column column vindex range) t h =

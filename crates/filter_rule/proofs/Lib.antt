@@ -1,3 +1,7 @@
+pub mod StepLaws
+pub mod PlanShapeLaws
+pub mod DistinctNames
+pub mod TableLaws
 pub mod SplitLaws
 pub mod SpanLaws
 pub mod TokenLaws
@@ -13,4 +17,9 @@ pub mod JsonText
 pub mod PlanLaws
 pub mod FirstRuleLaws
 pub mod ReadLaws
-pub mod JsonFault
+pub mod RefusedSteps
+pub mod StandingTables
+pub mod StandingRules
+pub mod ShapeFault
+pub mod StandingLaws
+pub mod WholeLaws

@@ -1,11 +1,13 @@
 -- What is read is a plan, and the plans of streams as far as a loop has come.
 use Rattle.std.proofs.Common.{◌≡◌, ℕ, ◌+◌, ◌<◌, ◌≤◌, List, [], ◌∷◌, ◌++◌, length, drop, get_or, map, String, Vec, Global, Result, Ok, Err, refl, sym, ap, subst, ◌∙◌, arith}
+use Rattle.std.specs.Prelude.{slice_get}
 use Rattle.std.specs.Arc.{arc_value}
 use Rattle.std.specs.declared.sync.Arc.{Arc}
-use Rattle.filter_rule.specs.Document.{RuleSaid, StreamSaid, TableSaid}
+use Rattle.filter_rule.specs.Private.Accepted.{AreNarrow, IsAccepted}
+use Rattle.filter_rule.specs.Document.{RuleSaid, StreamSaid, TableSaid, DocumentSaid}
 use Rattle.filter_rule.specs.Faults.{Fault, ◌>>=◌, each}
-use Rattle.filter_rule.specs.PlanParts.{plan_value}
-use Rattle.filter_rule.specs.PlanShape.{AreTables, IsPlan}
+use Rattle.filter_rule.specs.Private.PlanParts.{plan_value}
+use Rattle.filter_rule.specs.WellFormed.{AreTables, IsPlan}
 use Rattle.filter_rule.specs.PlanTable.{TableValue}
 use Rattle.filter_rule.specs.PlanValue.{PlanValue}
 use Rattle.filter_rule.specs.Reading.{decisions_of, plan_of, plans_from}
@@ -14,13 +16,14 @@ use Rattle.filter_rule.specs.declared.plan.Schema.{Schema}
 use Rattle.filter_rule.proofs.EachLaws.{with_front, front_more, append_none, drop_at}
 use Rattle.filter_rule.proofs.SettleLaws.{drop_all}
 use Rattle.filter_rule.specs.Resolving.{resolved}
-use Rattle.filter_rule.proofs.ShapeLaws.{all_resolved, decisions_decided, decided_length, decided_within}
+use Rattle.filter_rule.proofs.ShapeLaws.{decisions_decided, decided_length, decided_fit}
+use Rattle.filter_rule.proofs.TableLaws.{accepted_names, accepted_within, table_counts, tables_fit}
 
-parts_shape : (keyspace shard : List ℕ) (tables : List TableValue) (decisions : List Decision) (n : ℕ) (rs : List RuleSaid) → AreTables tables → decisions_of n tables rs ≡ Ok decisions
+pub parts_shape : (keyspace shard : List ℕ) (tables : List TableValue) (decisions : List Decision) (n : ℕ) (rs : List RuleSaid) → AreTables tables → decisions_of n tables rs ≡ Ok decisions
     → IsPlan (record { keyspace = keyspace; shard = shard; tables = tables; decisions = decisions })
 parts_shape keyspace shard tables decisions n rs fit is =
-    let decided = decisions_decided n tables rs decisions fit.vindexes is in
-    record { table_count = fit.count; decided = decided_length tables decisions decided; within = decided_within tables decisions decided }
+    let decided = decisions_decided n tables rs decisions fit is in
+    record { tables = fit; decided = decided_length tables decisions decided; filters = decided_fit tables decisions decided }
 
 pub plan_shape : (schema copy : Arc Schema Global) (shard : String Global) (decisions : Vec Decision Global) (n : ℕ) (rs : List RuleSaid) → arc_value copy ≡ arc_value schema
     → AreTables (arc_value schema).tables.items → decisions_of n (arc_value schema).tables.items rs ≡ Ok decisions.items → IsPlan (plan_value copy shard decisions)
@@ -74,8 +77,10 @@ plans_end keyspace tables n front ss whole past so_far =
 
 -- ---- the tables
 
-pub are_tables : (said shown : List TableSaid) (tables : List TableValue) → said ≡ shown → length shown ≤ 64 → each resolved said ≡ Ok tables → AreTables tables
-are_tables said shown tables same few is =
-    let all = all_resolved said tables is in
-    let equal : length said ≡ length shown = ap length same in
-    record { count = omega (arith, all.count, equal, few); vindexes = all.vindexes }
+pub are_tables : (said : List TableSaid) (d : DocumentSaid) (tables : List TableValue) → said ≡ d.tables → IsAccepted d → each resolved said ≡ Ok tables → AreTables tables
+are_tables said d tables same accepted is =
+    tables_fit d tables (accepted_names d accepted) (accepted_within d accepted) (ap (each resolved) (sym same) ∙ is)
+
+pub are_narrow : (said : List TableSaid) (d : DocumentSaid) → said ≡ d.tables → IsAccepted d → AreNarrow said
+are_narrow said d same accepted i t is =
+    (table_counts d i t (accepted_within d accepted) (ap (λ (ts : List TableSaid). slice_get ts i) (sym same) ∙ is)).0.1

@@ -1,5 +1,5 @@
 -- Why a workflow file is refused, and what it means that a step of the code gives what reading gives.
-use Rattle.std.specs.Prelude.{◌≡◌, ℕ, List, [], ◌∷◌, Result, Ok, Err, string_bytes}
+use Rattle.std.specs.Prelude.{◌≡◌, ℕ, List, [], ◌∷◌, Option, Some, None, Result, Ok, Err, string_bytes}
 use Rattle.filter_rule.specs.declared.fault.PlanFault.{PlanFault}
 use Rattle.filter_rule.specs.declared.fault.PlanFault.TheVariants as errors
 
@@ -11,6 +11,16 @@ pub data Fault : Type 0 where
   no_such_column : List ℕ → List ℕ → Fault
   key_type : List ℕ → List ℕ → Fault
   bad_rule : ℕ → ℕ → Fault
+
+-- the fault that is meant, none for want of memory
+abbrev pub meant : PlanFault → Option Fault
+meant errors.Memory = None
+meant errors.Json = Some json
+meant errors.Shape = Some shape
+meant errors.Limit = Some limit
+meant (errors.NoSuchColumn table column) = Some (no_such_column (string_bytes table) (string_bytes column))
+meant (errors.KeyType table column) = Some (key_type (string_bytes table) (string_bytes column))
+meant (errors.BadRule stream rule) = Some (bad_rule stream rule)
 
 infixl 10 ◌>>=◌
 abbrev pub ◌>>=◌ : {A B : Type 0} → Result A Fault → (A → Result B Fault) → Result B Fault

@@ -6,12 +6,12 @@ pub mod Document
 pub mod Limits
 pub mod Resolving
 pub mod Rules
-pub mod RuleViews
 pub mod Reading
-pub mod PlanParts
 pub mod FirstRule
-pub mod Seen
 pub mod PlanTable
 pub mod PlanValue
-pub mod PlanShape
+pub mod WellFormed
+pub mod Streams
+pub mod Standing
 pub mod Splitting
+pub mod Private

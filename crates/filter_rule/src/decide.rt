@@ -3,7 +3,7 @@
 ghost use Rattle.std.specs.Prelude.{◌≡◌, length};
 ghost use Rattle.filter_rule.specs.Faults.{Gives};
 ghost use Rattle.filter_rule.specs.Rules.{own_decision, decide, settle_one, settle};
-ghost use Rattle.filter_rule.specs.RuleViews.{action_seen, form_seen};
+ghost use Rattle.filter_rule.specs.Private.RuleViews.{action_seen, form_seen};
 
 use crate::decision::Decision;
 use crate::fault::PlanFault;

@@ -2,7 +2,7 @@
 
 ghost use Rattle.std.specs.Prelude.{◌≡◌, length};
 ghost use Rattle.filter_rule.specs.PlanValue.{kept_under};
-ghost use Rattle.filter_rule.specs.PlanShape.{IsWithin};
+ghost use Rattle.filter_rule.specs.Private.Accepted.{IsWithin};
 
 use crate::same::Same;
 use row_view::RowView;

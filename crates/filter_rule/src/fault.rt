@@ -8,7 +8,7 @@ use thiserror::Error;
 
 /// Why a workflow file is refused: the first fault in the order of the variants, `Limit` before
 /// `NoSuchColumn`. Tables come before rules, and each refusal carries what its printed line names.
-#[derive(Debug, Drop, Error)]
+#[derive(Debug, Drop, PartialEq, Eq, Error)]
 pub enum PlanFault {
     /// The text isn't JSON in UTF-8, or nests deeper than `serde_json` reads.
     #[error("the workflow file isn't JSON")]

@@ -3,7 +3,7 @@
 ghost use Rattle.std.specs.Prelude.{◌≡◌, Some, IfSome, option_map, is_some};
 ghost use Rattle.filter_rule.specs.Tokens.{token_at};
 ghost use Rattle.filter_rule.specs.FilterText.{key_word, this_mark, a_name, a_text, own_range, range_of, arguments, condition, selection, begins_with_select, has_ended, said_at, Said, Says};
-ghost use Rattle.filter_rule.specs.Seen.{seen_rest, seen_name, seen_rows, rows_said, said};
+ghost use Rattle.filter_rule.specs.Private.Seen.{seen_rest, seen_name, seen_rows, rows_said, said};
 
 use crate::token::{Token, first_token, skip_blanks};
 

@@ -2,8 +2,8 @@
 
 ghost use Rattle.std.specs.Prelude.{◌≡◌, ◌↔◌, IsTrue, ℕ, ◌<◌, length, position, IfSome};
 ghost use Rattle.std.specs.Str.{bytes_eq};
-ghost use Rattle.filter_rule.specs.PlanParts.{plan_value};
-ghost use Rattle.filter_rule.specs.PlanShape.{IsPlan};
+ghost use Rattle.filter_rule.specs.Private.PlanParts.{plan_value};
+ghost use Rattle.filter_rule.specs.WellFormed.{IsPlan, ArePlaces};
 ghost use Rattle.filter_rule.specs.Splitting.{SplitRow};
 ghost use Rattle.filter_rule.specs.PlanValue.{PlanValue, columns_of, key_columns_of, table_of_name, passes_of};
 
@@ -38,8 +38,8 @@ impl Model for Plan {
 
     ghost Value = { PlanValue };
 
-    ghost use Rattle.filter_rule.specs.PlanParts.{plan_value};
-    ghost use Rattle.filter_rule.specs.PlanShape.{IsPlan};
+    ghost use Rattle.filter_rule.specs.Private.PlanParts.{plan_value};
+    ghost use Rattle.filter_rule.specs.WellFormed.{IsPlan};
 
     ghost view = { λ p. plan_value p.schema p.shard p.decisions };
 
@@ -73,16 +73,21 @@ impl Plan {
         self.shard.as_str()
     }
 
-    /// The tables, in copying order: 1 to 64 of them.
+    /// The tables, in copying order: 1 to 64 of them, with distinct names. A table has 1 to 256 columns
+    /// with distinct names, and 1 to 8 distinct key columns of types that a key can have; its vindex and
+    /// the plan's filters name columns of types that their vindexes can take.
     pub fn tables(&self) -> &[Table]
-        ensures { result.now ≡ self.now.tables }
+        ensures tables { result.now ≡ self.now.tables }
+        // What is true of every plan.
+        ensures well_formed { IsPlan self.now }
     {
         self.schema.tables.as_slice()
     }
 
     /// The number of the table of this name, if there is one.
     pub fn table(&self, name: &str) -> Option<u8>
-        ensures { result ≡ table_of_name self.now name.now }
+        ensures number { result ≡ table_of_name self.now name.now }
+        ensures within { IfSome result (λ t. t < length self.now.tables) }
     {
         let place = place_of_table(&self.schema.tables, name)?;
         Some(place as u8)
@@ -98,9 +103,10 @@ impl Plan {
 
     /// The places of the key columns of table `t`, from 0, in key order. That `t` is a table of the
     /// plan is the caller's.
-    pub fn key_columns(&self, t: u8) -> &[usize]
+    pub fn key_columns(&self, t: u8) -> &[u8]
         requires { t < length self.now.tables }
-        ensures { result.now ≡ key_columns_of self.now t }
+        ensures places { result.now ≡ key_columns_of self.now t }
+        ensures within { ArePlaces (columns_of self.now t) (key_columns_of self.now t) }
     {
         self.schema.tables[usize::from(t)].key()
     }

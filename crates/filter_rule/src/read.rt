@@ -1,10 +1,13 @@
 //! The workflow file: from its text to a plan for each stream.
 
-ghost use Rattle.std.specs.Prelude.{◌≡◌, ◌≤◌, ◌⊎◌, IsErrAnd, List, Ok, Err, IfOk, length, map, string_bytes};
+ghost use Rattle.std.specs.Prelude.{◌≡◌, ◌⊎◌, IsErrAnd, List, Ok, Err, IfOk, IfErr, IfSome, map, string_bytes};
 ghost use Rattle.std.specs.Arc.{arc_value};
-ghost use Rattle.filter_rule.specs.Faults.{Gives, each};
+ghost use Rattle.filter_rule.specs.Faults.{Gives, each, meant};
 ghost use Rattle.filter_rule.specs.FirstRule.{FollowFirstRules};
-ghost use Rattle.filter_rule.specs.PlanShape.{AreTables};
+ghost use Rattle.filter_rule.specs.Private.Accepted.{AreNarrow, IsAccepted};
+ghost use Rattle.filter_rule.specs.Standing.{Stands};
+ghost use Rattle.filter_rule.specs.Streams.{FollowStreams};
+ghost use Rattle.filter_rule.specs.WellFormed.{AreTables, ArePlans};
 ghost use Rattle.filter_rule.specs.PlanValue.{PlanValue};
 ghost use Rattle.filter_rule.specs.Resolving.{resolved};
 ghost use Rattle.filter_rule.specs.Reading.{json_of, plan_of, plans_from, plans_of_document, plans_of, IsNoJson};
@@ -35,6 +38,7 @@ fn json_of(alloc: Global, text: &[u8]) -> Result<Value, PlanFault>
 
 // The tables of the plans.
 fn tables_of(alloc: Global, tables: &[TableText<'_>]) -> Result<Vec<Table>, PlanFault>
+    requires { AreNarrow tables.now }
     ensures { Gives (λ v. v.items) result (each resolved tables.now) }
 {
     let mut found = Vec::new(alloc);
@@ -82,7 +86,7 @@ fn plans_from(
 // The plans of a document within the limits.
 #[tactic(auto, unfolding(crate::specs::Reading::plans_of_document))]
 fn plans_of_document(alloc: Global, document: &Document<'_>) -> Result<Vec<Arc<Plan>>, PlanFault>
-    requires { length document.now.tables ≤ 64 }
+    requires { IsAccepted document.now }
     ensures { Gives (λ v. map arc_value v.items) result (plans_of_document document.now) }
 {
     let tables = tables_of(alloc, &document.tables)?;
@@ -96,7 +100,8 @@ fn plans_of(alloc: Global, text: &[u8]) -> Result<Vec<Arc<Plan>>, PlanFault>
     ensures { Gives (λ v. map arc_value v.items) result (plans_of text.now) }
 {
     let value = json_of(alloc, text)?;
-    let document = within_limits(document_of(alloc, &value)?)?;
+    let said = document_of(alloc, &value)?;
+    let document = within_limits(said)?;
     plans_of_document(alloc, &document)
 }
 
@@ -112,6 +117,12 @@ impl Plan {
         // A text is refused as no JSON exactly where it is none, unless memory ran out.
         ensures no_json { result ≡ Err PlanFault.Json → IsNoJson text.now }
         ensures json { IsNoJson text.now → IsErrAnd result (λ fault. (fault ≡ PlanFault.Json) ⊎ (fault ≡ PlanFault.Memory)) }
+        // There are 1 to 64 plans, for distinct shards, over the same tables; each is well formed.
+        ensures well_formed { IfOk result (λ v. ArePlans (map arc_value v.items)) }
+        // They are those of the file's streams, in order, over its keyspace and tables.
+        ensures streams { IfOk result (λ v. FollowStreams text.now (map arc_value v.items)) }
+        // What a refusal says of the file stands in it.
+        ensures stands { IfErr result (λ fault. IfSome (meant fault) (Stands text.now)) }
         // The first rule of a stream that matches a table decides it.
         ensures first_rule { IfOk result (λ v. FollowFirstRules text.now (map arc_value v.items)) }
     {

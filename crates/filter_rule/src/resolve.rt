@@ -1,6 +1,6 @@
 //! Names of columns to their places.
 
-ghost use Rattle.std.specs.Prelude.{◌≡◌, ℕ, List, None, Ok, find, position, not, option_map, Err, ◌<◌, length, IfSome, IfOk};
+ghost use Rattle.std.specs.Prelude.{◌≡◌, ℕ, List, None, Ok, find, position, not, option_map, Err, ◌<◌, ◌≤◌, length, IfSome, IfOk};
 ghost use Rattle.std.specs.Str.{bytes_eq};
 ghost use Rattle.filter_rule.specs.Faults.{Gives, each, no_such_column, key_type, Fault};
 ghost use Rattle.filter_rule.specs.PlanTable.{ColumnValue, TableValue};
@@ -59,6 +59,7 @@ fn unfit(alloc: Global, table: &str, column: &str) -> PlanFault
 
 fn place_of(columns: &[ColumnDef], name: &str) -> Option<usize>
     ensures value { result ≡ position (λ c. bytes_eq c.name name.now) columns.now }
+    ensures within { IfSome result (λ place. place < length columns.now) }
 {
     columns.iter().position(|column| column.name() == name)
 }
@@ -70,7 +71,8 @@ pub(crate) fn place_in(
     columns: &[ColumnDef],
     name: &str,
 ) -> Result<usize, PlanFault>
-    ensures { Gives (λ n. n) result (place_in table.now columns.now name.now) }
+    ensures place { Gives (λ n. n) result (place_in table.now columns.now name.now) }
+    ensures within { IfOk result (λ place. place < length columns.now) }
 {
     match place_of(columns, name) {
         Some(place) => Ok(place),
@@ -124,12 +126,14 @@ fn places_of(
     table: &str,
     columns: &[ColumnDef],
     names: &[Name<'_>],
-) -> Result<Vec<usize>, PlanFault>
+) -> Result<Vec<u8>, PlanFault>
+    requires { length columns.now ≤ 256 }
     ensures { Gives (λ v. v.items) result (each (place_in table.now columns.now) names.now) }
 {
     let mut places = Vec::new(alloc);
     for name in names {
-        places.push(place_in(alloc, table, columns, name.as_str())?)?;
+        let place = place_in(alloc, table, columns, name.as_str())?;
+        places.push(place as u8)?;
     }
     Ok(places)
 }
@@ -193,6 +197,7 @@ fn check_own_vindex(
 // The table of a plan that a table of the workflow file names.
 #[tactic(auto, unfolding(crate::specs::Resolving::resolved))]
 pub(crate) fn resolved(alloc: Global, table: &TableText<'_>) -> Result<Table, PlanFault>
+    requires { length table.now.columns ≤ 256 }
     ensures { Gives (λ t. t) result (resolved table.now) }
 {
     let name = table.name.as_str();

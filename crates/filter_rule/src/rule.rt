@@ -3,8 +3,8 @@
 ghost use Rattle.std.specs.Prelude.{◌≡◌, option_map};
 ghost use Rattle.filter_rule.specs.Faults.{Gives};
 ghost use Rattle.filter_rule.specs.Rules.{scope_of, is_for, agrees, as_text, range_in, vindex_named, or_bad, action_of, form_of};
-ghost use Rattle.filter_rule.specs.RuleViews.{scope_seen, action_seen, form_seen};
-ghost use Rattle.filter_rule.specs.Seen.{rows_said, said};
+ghost use Rattle.filter_rule.specs.Private.RuleViews.{scope_seen, action_seen, form_seen};
+ghost use Rattle.filter_rule.specs.Private.Seen.{rows_said, said};
 
 use crate::document::RuleText;
 use crate::fault::PlanFault;

@@ -53,7 +53,7 @@ impl ColumnDef {
 pub struct Table {
     name: String,
     columns: Vec<ColumnDef>,
-    key: Vec<usize>,
+    key: Vec<u8>,
     vindex: Option<(usize, Vindex)>,
 }
 
@@ -72,7 +72,7 @@ impl Table {
         alloc: Global,
         name: &str,
         columns: Vec<ColumnDef>,
-        key: Vec<usize>,
+        key: Vec<u8>,
         vindex: Option<(usize, Vindex)>,
     ) -> Result<Table, AllocError>
         ensures { IfOk result (λ t. t ≡ record { name = name.now; columns = columns.items; key = key.items; vindex = vindex }) }
@@ -101,7 +101,7 @@ impl Table {
     }
 
     /// The places of the key columns in the table, from 0, in key order: 1 to 8 of them.
-    pub fn key(&self) -> &[usize]
+    pub fn key(&self) -> &[u8]
         ensures { result.now ≡ self.now.key }
     {
         self.key.as_slice()

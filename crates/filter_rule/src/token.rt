@@ -2,7 +2,7 @@
 
 ghost use Rattle.std.specs.Prelude.{◌≡◌, ◌==◌, ◌<◌, IfSome, ◌≤◌, not, ℕ, ◌+◌, List, length, take, drop, position, option_map};
 ghost use Rattle.filter_rule.specs.Tokens.{is_blank, is_word_byte, is_mark, after_blanks, up_to, front_len, token_at, front_token, name_at, quoted_at};
-ghost use Rattle.filter_rule.specs.Seen.{seen_token, seen_parts};
+ghost use Rattle.filter_rule.specs.Private.Seen.{seen_token, seen_parts};
 
 /// A token of a filter's text, lent from it.
 #[derive(Clone, Copy, Debug, PartialEq, Eq)]

@@ -296,31 +296,57 @@ fn number_of_counts(alloc: Global, counts: [usize; 4]) -> Result<u8, Fail> {
     Ok(number_of(alloc, text.as_str()))
 }
 
-#[test]
-fn count_out_of_limits(rt: HostRuntime) -> Result<(), Fail> {
-    let alloc = rt.alloc();
-    for (counts, number) in [
-        // streams_limit
-        ([1, 1, 1, 1], 0),
-        ([64, 1, 1, 1], 0),
-        ([0, 1, 1, 1], 56),
-        ([65, 1, 1, 1], 56),
-        // tables_limit
-        ([1, 64, 1, 1], 0),
-        ([1, 0, 1, 1], 56),
-        ([1, 65, 1, 1], 56),
-        // columns_limit
-        ([1, 1, 256, 1], 0),
-        ([1, 1, 0, 1], 56),
-        ([1, 1, 257, 1], 56),
-        // key_columns_limit
-        ([1, 1, 9, 8], 0),
-        ([1, 1, 9, 0], 56),
-        ([1, 1, 9, 9], 56),
-    ] {
-        assert_eq!(rt; number_of_counts(alloc, counts)?, number, "{counts:?}");
+/// Each count is accepted, or refused with 56, as wanted.
+fn check_counts(rt: &(impl Abort + AllocGlobal), counts: &[([usize; 4], u8)]) -> Result<(), Fail> {
+    for (counts, number) in counts {
+        assert_eq!(rt;
+            number_of_counts(rt.alloc(), *counts)?,
+            *number,
+            "{counts:?}"
+        );
     }
     Ok(())
+}
+
+#[test]
+fn streams_limit(rt: HostRuntime) -> Result<(), Fail> {
+    check_counts(
+        &rt,
+        &[
+            ([1, 1, 1, 1], 0),
+            ([64, 1, 1, 1], 0),
+            ([0, 1, 1, 1], 56),
+            ([65, 1, 1, 1], 56),
+        ],
+    )
+}
+
+#[test]
+fn tables_limit(rt: HostRuntime) -> Result<(), Fail> {
+    check_counts(
+        &rt,
+        &[([1, 64, 1, 1], 0), ([1, 0, 1, 1], 56), ([1, 65, 1, 1], 56)],
+    )
+}
+
+#[test]
+fn columns_limit(rt: HostRuntime) -> Result<(), Fail> {
+    check_counts(
+        &rt,
+        &[
+            ([1, 1, 256, 1], 0),
+            ([1, 1, 0, 1], 56),
+            ([1, 1, 257, 1], 56),
+        ],
+    )
+}
+
+#[test]
+fn key_columns_limit(rt: HostRuntime) -> Result<(), Fail> {
+    check_counts(
+        &rt,
+        &[([1, 1, 9, 8], 0), ([1, 1, 9, 0], 56), ([1, 1, 9, 9], 56)],
+    )
 }
 
 #[test]
@@ -381,6 +407,7 @@ fn not_json(rt: HostRuntime) {
     for text in [
         b"".as_slice(),
         b"{\"keyspace\":\"\",}".as_slice(),
+        b"{\"keyspace\":\"ks\",\"tables\":[{\"name\":\"t\"".as_slice(),
         b"{\"ignored\":\"\xff\"}".as_slice(),
     ] {
         let number = match Plan::read_all(alloc, text) {
@@ -389,4 +416,99 @@ fn not_json(rt: HostRuntime) {
         };
         assert_eq!(rt; number, 51);
     }
+}
+
+// A key, a vindex or a rule names a column that its table hasn't: 53 with both names.
+#[test]
+fn no_such_column(rt: HostRuntime) -> Result<(), Fail> {
+    let alloc = rt.alloc();
+    let of_x =
+        "[{\"match\":\"t\",\"filter\":\"select * from t where in_keyrange(x, 'binary', '-')\"}]";
+    for (key, vindex, rules) in [
+        ("[\"id\",\"x\"]", VINDEX, EVERY_ROW),
+        (KEY, ",\"vindex\":[\"x\",\"numeric\"]", EVERY_ROW),
+        (KEY, VINDEX, of_x),
+    ] {
+        let text = workflow(alloc, COLUMNS, key, vindex, rules)?;
+        assert!(rt;
+            is_column_fault(alloc, text.as_str(), 53, "t", "x"),
+            "{rules}"
+        );
+        assert_eq!(rt; number_of(alloc, text.as_str()), 53);
+    }
+    Ok(())
+}
+
+// A key, a vindex or a rule names a column of a type that it can't take: 54 with both names.
+#[test]
+fn unfit_key_type(rt: HostRuntime) -> Result<(), Fail> {
+    let alloc = rt.alloc();
+    let columns = "[[\"id\",\"INT64\"],[\"v\",\"TEXT\"]]";
+    let of_v =
+        "[{\"match\":\"t\",\"filter\":\"select * from t where in_keyrange(v, 'numeric', '-')\"}]";
+    for (key, vindex, rules) in [
+        ("[\"id\",\"v\"]", VINDEX, EVERY_ROW),
+        (KEY, ",\"vindex\":[\"v\",\"reverse_bits\"]", EVERY_ROW),
+        (KEY, VINDEX, of_v),
+    ] {
+        let text = workflow(alloc, columns, key, vindex, rules)?;
+        assert!(rt;
+            is_column_fault(alloc, text.as_str(), 54, "t", "v"),
+            "{rules}"
+        );
+        assert_eq!(rt; number_of(alloc, text.as_str()), 54);
+    }
+    Ok(())
+}
+
+// The refusal of a rule names its stream and its place there, from 0.
+#[test]
+fn bad_rule(rt: HostRuntime) {
+    let text =
+        "{\"keyspace\":\"\",\"tables\":[{\"name\":\"t\",\"columns\":[[\"id\",265]],\"key\":[\"id\"]}],\"streams\":[{\"shard\":\"-80\",\"filter\":{\"rules\":[{\"match\":\"t\"}]}},{\"shard\":\"80-\",\"filter\":{\"rules\":[{\"match\":\"u\"},{\"match\":\"v\"},{\"match\":\"t\",\"filter\":\"-80\"}]}}]}";
+    let place = match Plan::read_all(rt.alloc(), text.as_bytes()) {
+        Err(PlanFault::BadRule { stream, rule }) => (stream, rule),
+        _ => (9, 9),
+    };
+    assert_eq!(rt; place, (1, 2));
+    assert_eq!(rt; number_of(rt.alloc(), text), 55);
+}
+
+// Keyspace, shard and match may be empty texts, and rules as many as one likes.
+#[test]
+fn empty_words_allowed(rt: HostRuntime) -> Result<(), Fail> {
+    let alloc = rt.alloc();
+    let mut rules = String::from_str(alloc, "{\"match\":\"\"}")?;
+    for _ in 0..70 {
+        rules.push_str(",{\"match\":\"\"}")?;
+    }
+    let text = format!(in alloc;
+        "{{\"keyspace\":\"\",\"tables\":[{{\"name\":\"t\",\"columns\":[[\"id\",265]],\"key\":[\"id\"]}}],\"streams\":[{{\"shard\":\"\",\"filter\":{{\"rules\":[{rules}]}}}}]}}"
+    )?;
+    assert_eq!(rt; number_of(alloc, text.as_str()), 0);
+    Ok(())
+}
+
+// What a plan of the first worked workflow answers of itself.
+#[test]
+fn parts_of_a_plan(rt: HostRuntime) -> Result<(), Fail> {
+    let alloc = rt.alloc();
+    let columns = "[[\"v\",\"VARCHAR\"],[\"id\",\"INT64\"]]";
+    let text = workflow(alloc, columns, "[\"id\",\"v\"]", VINDEX, EVERY_ROW)?;
+    let plans = Plan::read_all(alloc, text.as_bytes())
+        .ok()
+        .ok_or("the file is good")?;
+    assert_eq!(rt; plans.len(), 1);
+    let plan = &plans[0];
+    assert_eq!(rt; plan.keyspace(), "ks");
+    assert_eq!(rt; plan.shard(), "-80");
+    assert_eq!(rt; plan.table("t"), Some(0));
+    assert_eq!(rt; plan.table("T"), None);
+    assert_eq!(rt; plan.tables().len(), 1);
+    assert_eq!(rt; plan.key_columns(0), [1u8, 0].as_slice());
+    assert_eq!(rt; plan.columns(0).len(), 2);
+    assert_eq!(rt; plan.columns(0)[0].name(), "v");
+    assert_eq!(rt; plan.columns(0)[1].type_number(), 265);
+    assert!(rt; plan.same(plan) && plan.same_tables(plan));
+    Ok(())
 }

@@ -2,7 +2,7 @@ use Rattle.std.proofs.Common.{get_or, ap, arith}
 use Rattle.std.proofs.lemmas.Grind.{common_steps}
 use Rattle.std.proofs.lemmas.Result.{err_from_is_err_and}
 use Rattle.filter_rule.specs.Rules.{settle, settle_one}
-use Rattle.filter_rule.specs.RuleViews.{form_seen}
+use Rattle.filter_rule.specs.Private.RuleViews.{form_seen}
 use Rattle.filter_rule.proofs.EachLaws.{fails_along}
 use Rattle.filter_rule.proofs.SettleLaws.{settle_turn, settle_fault, settle_end}
 use Rattle.filter_rule.proofs.decide.settle.Goals as goal

@@ -1,6 +1,6 @@
 use Rattle.std.proofs.Common.{◌≡◌, length, take, drop}
 use Rattle.filter_rule.specs.Rules.{settle}
-use Rattle.filter_rule.specs.RuleViews.{form_seen}
+use Rattle.filter_rule.specs.Private.RuleViews.{form_seen}
 use Rattle.filter_rule.proofs.EachLaws.{with_front}
 use Rattle.filter_rule.proofs.decide.settle.Given as goal
 

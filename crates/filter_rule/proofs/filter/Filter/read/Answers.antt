@@ -1,7 +1,7 @@
 use Rattle.std.proofs.Common.{◌≡◌, ℕ, List, Option, Some, None, sym, ◌∙◌}
 use Rattle.std.specs.Prelude.{option_map, IfSome}
 use Rattle.filter_rule.specs.FilterText.{Says, said_at}
-use Rattle.filter_rule.specs.Seen.{said}
+use Rattle.filter_rule.specs.Private.Seen.{said}
 use Rattle.filter_rule.specs.declared.filter.Filter.{Filter}
 use Rattle.filter_rule.proofs.FilterLaws.{says_of_said, said_of_says}
 use Rattle.filter_rule.proofs.filter.Filter.read.Goals as goal

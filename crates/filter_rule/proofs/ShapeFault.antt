@@ -1,0 +1,112 @@
+-- A value that is no document is refused for its shape alone.
+use Rattle.std.proofs.Common.{◌≡◌, ℕ, List, [], ◌∷◌, Bool, true, false, cond, map, Option, Some, None, Result, Ok, Err, refl, sym, ap, ◌∙◌, codes}
+use Rattle.serde_json.specs.Data.{Data}
+use Rattle.serde_json.specs.Find.{get, as_str}
+use Rattle.vindex.specs.KeyspaceId.{vindex_of_name}
+use Rattle.filter_rule.specs.Document.{found, member_in, text_of, list_of, text_in, list_in, two_of, pair_of, is_name, name_of, type_by, type_of, column_of, vindex_of, vindex_if, vindex_in, filter_if, filter_in, rule_of, stream_of, has_twice, distinct, table_of, document_of}
+use Rattle.filter_rule.specs.Faults.{Fault, shape, ◌>>=◌, each}
+use Rattle.filter_rule.proofs.RefusedSteps.{failed, same_fault}
+
+abbrev pub ShapeOnly : {A : Type 0} → Result A Fault → Type 0
+ShapeOnly r = (e : Fault) → r ≡ Err e → shape ≡ e
+
+ok_only : {A : Type 0} (x : A) → ShapeOnly (Ok x)
+ok_only x e h = cc
+
+shape_only : {A : Type 0} (r : Result A Fault) → r ≡ Err shape → ShapeOnly r
+shape_only {A} r is e h = same_fault {B = A} shape e (sym is ∙ h)
+
+then_only : {A B : Type 0} (f : A → Result B Fault) (r : Result A Fault) → ShapeOnly r → ((x : A) → ShapeOnly (f x)) → ShapeOnly (r >>= f)
+then_only f (Ok x) h k = k x
+then_only {A} {B} f (Err e) h k = λ d is. h d (ap (failed {B = A}) (same_fault {B = B} e d is))
+
+each_only : {A B : Type 0} (f : A → Result B Fault) (xs : List A) → ((x : A) → ShapeOnly (f x)) → ShapeOnly (each f xs)
+each_only f [] k = ok_only []
+each_only f (x ∷ xs) k = then_only _ (f x) (k x) (λ y. then_only _ (each f xs) (each_only f xs k) (λ ys. ok_only (y ∷ ys)))
+
+if_only : {A : Type 0} (b : Bool) (r s : Result A Fault) → ShapeOnly r → ShapeOnly s → ShapeOnly (cond b r s)
+if_only true r s h k = h
+if_only false r s h k = k
+
+found_only : {A : Type 0} (o : Option A) → ShapeOnly (found o)
+found_only None = shape_only _ refl
+found_only (Some x) = ok_only x
+
+-- ---- the document
+
+text_in_only : (key : List ℕ) (d : Data) → ShapeOnly (text_in key d)
+unfolding text_in
+text_in_only key d = then_only _ (member_in key d) (found_only (get key d)) (λ v. found_only _)
+
+list_in_only : (key : List ℕ) (d : Data) → ShapeOnly (list_in key d)
+unfolding list_in
+list_in_only key d = then_only _ (member_in key d) (found_only (get key d)) (λ v. found_only _)
+
+two_only : (ds : List Data) → ShapeOnly (two_of ds)
+two_only [] = shape_only _ refl
+two_only (a ∷ []) = shape_only _ refl
+two_only (a ∷ b ∷ []) = ok_only (a, b)
+two_only (a ∷ b ∷ c ∷ ds) = shape_only _ refl
+
+pair_only : (d : Data) → ShapeOnly (pair_of d)
+unfolding pair_of
+pair_only d = then_only _ (list_of d) (found_only _) two_only
+
+name_only : (d : Data) → ShapeOnly (name_of d)
+unfolding name_of
+name_only d = then_only _ (text_of d) (found_only _) (λ s. if_only (is_name s) (Ok s) (Err shape) (ok_only s) (shape_only _ refl))
+
+type_by_only : (o : Option (List ℕ)) (d : Data) → ShapeOnly (type_by o d)
+type_by_only None d = found_only _
+type_by_only (Some s) d = found_only _
+
+kind_only : (d : Data) → ShapeOnly (type_of d)
+unfolding type_of
+kind_only d = type_by_only (as_str d) d
+
+column_of_only : (d : Data) → ShapeOnly (column_of d)
+unfolding column_of
+column_of_only d = then_only _ (pair_of d) (pair_only d) (λ p. then_only _ (name_of p.0) (name_only p.0) (λ name. then_only _ (type_of p.1) (kind_only p.1) (λ number. ok_only (record { name = name; type_number = number }))))
+
+vindex_of_only : (d : Data) → ShapeOnly (vindex_of d)
+unfolding vindex_of
+vindex_of_only d = then_only _ (pair_of d) (pair_only d) (λ p. then_only _ (name_of p.0) (name_only p.0) (λ column. then_only _ (text_of p.1) (found_only _) (λ name. then_only _ (found (vindex_of_name name)) (found_only _) (λ vindex. ok_only (column, vindex)))))
+
+vindex_if_only : (o : Option Data) → ShapeOnly (vindex_if o)
+vindex_if_only None = ok_only None
+vindex_if_only (Some d) = then_only _ (vindex_of d) (vindex_of_only d) (λ v. ok_only (Some v))
+
+vindex_in_only : (d : Data) → ShapeOnly (vindex_in d)
+unfolding vindex_in
+vindex_in_only d = vindex_if_only (get (codes "vindex") d)
+
+filter_if_only : (o : Option Data) → ShapeOnly (filter_if o)
+filter_if_only None = ok_only []
+filter_if_only (Some d) = found_only _
+
+filter_in_only : (d : Data) → ShapeOnly (filter_in d)
+unfolding filter_in
+filter_in_only d = filter_if_only (get (codes "filter") d)
+
+rule_of_only : (d : Data) → ShapeOnly (rule_of d)
+unfolding rule_of
+rule_of_only d = then_only _ (text_in (codes "match") d) (text_in_only (codes "match") d) (λ m. then_only _ (filter_in d) (filter_in_only d) (λ f. ok_only (record { matches = m; filter = f })))
+
+stream_of_only : (d : Data) → ShapeOnly (stream_of d)
+unfolding stream_of
+stream_of_only d = then_only _ (text_in (codes "shard") d) (text_in_only (codes "shard") d) (λ shard. then_only _ (member_in (codes "filter") d) (found_only _) (λ filter. then_only _ (list_in (codes "rules") filter) (list_in_only (codes "rules") filter) (λ values. then_only _ (each rule_of values) (each_only rule_of values rule_of_only) (λ rs. ok_only (record { shard = shard; rules = rs })))))
+
+distinct_only : (ss : List (List ℕ)) → ShapeOnly (distinct ss)
+distinct_only ss = if_only (has_twice ss) (Err shape) (Ok ss) (shape_only _ refl) (ok_only ss)
+
+table_of_only : (d : Data) → ShapeOnly (table_of d)
+unfolding table_of
+table_of_only d = then_only _ (member_in (codes "name") d) (found_only _) (λ a. then_only _ (name_of a) (name_only a) (λ name. then_only _ (list_in (codes "columns") d) (list_in_only (codes "columns") d) (λ b. then_only _ (each column_of b) (each_only column_of b column_of_only) (λ columns.
+    then_only _ (list_in (codes "key") d) (list_in_only (codes "key") d) (λ c. then_only _ (each name_of c) (each_only name_of c name_only) (λ key. then_only _ (vindex_in d) (vindex_in_only d) (λ vindex. then_only _ (distinct (map (λ c. c.name) columns)) (distinct_only (map (λ c. c.name) columns)) (λ e. then_only _ (distinct key) (distinct_only key) (λ f.
+    ok_only (record { name = name; columns = columns; key = key; vindex = vindex }))))))))))
+
+pub document_of_only : (d : Data) → ShapeOnly (document_of d)
+unfolding document_of
+document_of_only d = then_only _ (text_in (codes "keyspace") d) (text_in_only (codes "keyspace") d) (λ keyspace. then_only _ (list_in (codes "tables") d) (list_in_only (codes "tables") d) (λ a. then_only _ (each table_of a) (each_only table_of a table_of_only) (λ tables.
+    then_only _ (list_in (codes "streams") d) (list_in_only (codes "streams") d) (λ b. then_only _ (each stream_of b) (each_only stream_of b stream_of_only) (λ streams. then_only _ (distinct (map (λ t. t.name) tables)) (distinct_only (map (λ t. t.name) tables)) (λ c. then_only _ (distinct (map (λ s. s.shard) streams)) (distinct_only (map (λ s. s.shard) streams)) (λ e.
+    ok_only (record { keyspace = keyspace; tables = tables; streams = streams }))))))))

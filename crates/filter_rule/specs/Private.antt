@@ -1,0 +1,5 @@
+-- What private steps alone are stated by.
+pub mod Accepted
+pub mod PlanParts
+pub mod RuleViews
+pub mod Seen
