@@ -3,7 +3,6 @@ use Rattle.std.proofs.Common.{◌≡◌, ℕ, zero, suc, ◌+◌, List, [], ◌�
 use Rattle.std.specs.Prelude.{slice_get}
 use Rattle.vindex.specs.declared.vindexes.Vindex.{Vindex}
 use Rattle.filter_rule.specs.Document.{RuleSaid}
-use Rattle.filter_rule.specs.Faults.{◌>>=◌}
 use Rattle.filter_rule.specs.PlanTable.{TableValue}
 use Rattle.filter_rule.specs.Reading.{rule_over, settle_all, undecided, decisions_of}
 use Rattle.filter_rule.specs.Resolving.{place_in, vindex_type}

@@ -1,5 +1,5 @@
 -- What stands in a refused file.
-use Rattle.std.proofs.Common.{◌≡◌, ◌≢◌, ℕ, List, Bool, true, false, cond, Option, Some, None, Result, Ok, Err, refl, sym, ap, subst, ◌∙◌}
+use Rattle.std.proofs.Common.{◌≡◌, ℕ, List, Bool, true, false, cond, Option, Ok, Err, sym, ap, subst, ◌∙◌}
 use Rattle.std.specs.Option.{ok_or}
 use Rattle.std.specs.Str.{is_utf8}
 use Rattle.serde_json.specs.Data.{Data}
@@ -50,10 +50,10 @@ stands text e h =
     then_err _ (json_of text) e h (λ none. no_value text e none)
     (λ value value_is h2. then_err _ (document_of value) e h2 (λ none. no_document text value e value_is none)
     (λ said said_is h3.
-        let says : document_in text ≡ Ok said = ap (λ r. r >>= document_of) value_is ∙ said_is in
-        then_err _ (within_limits said) e h3 (λ bad. in_document text said e says (limits_stand said e bad))
-        (λ document document_is h4.
-            let kept = limits_kept (is_within said) said document document_is in
-            let says_it : document_in text ≡ Ok document = says ∙ ap Ok kept.1 in
-            then_err _ (each resolved document.tables) e h4 (λ bad. in_document text document e says_it (tables_stand document e bad))
-            (λ tables tables_are h5. in_document text document e says_it (streams_stand document tables e tables_are h5)))))
+    let says : document_in text ≡ Ok said = ap (λ r. r >>= document_of) value_is ∙ said_is in
+    then_err _ (within_limits said) e h3 (λ bad. in_document text said e says (limits_stand said e bad))
+    (λ document document_is h4.
+    let kept = limits_kept (is_within said) said document document_is in
+    let says_it : document_in text ≡ Ok document = says ∙ ap Ok kept.1 in
+    then_err _ (each resolved document.tables) e h4 (λ bad. in_document text document e says_it (tables_stand document e bad))
+    (λ tables tables_are h5. in_document text document e says_it (streams_stand document tables e tables_are h5)))))

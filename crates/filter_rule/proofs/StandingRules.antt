@@ -1,25 +1,23 @@
 -- What stands in a file whose rules are refused.
-use Rattle.std.proofs.Common.{◌≡◌, ◌≢◌, ℕ, zero, suc, ◌+◌, List, [], ◌∷◌, ◌++◌, length, Bool, true, false, cond, Option, Some, None, Result, Ok, Err, refl, sym, ap, subst, ◌∙◌, append_assoc, length-append, arith}
+use Rattle.std.proofs.Common.{◌≡◌, ℕ, zero, suc, ◌+◌, List, [], ◌∷◌, ◌++◌, length, Bool, true, false, cond, Option, Some, None, Ok, Err, refl, sym, ap, subst, ◌∙◌, append_assoc, length-append, arith}
 use Rattle.std.specs.Prelude.{slice_get}
-use Rattle.std.specs.Option.{ok_or}
 use Rattle.vindex.specs.Bounds.{Bounds}
 use Rattle.vindex.specs.declared.vindexes.Vindex.{Vindex}
 use Rattle.filter_rule.specs.Document.{RuleSaid, StreamSaid, TableSaid, DocumentSaid}
-use Rattle.filter_rule.specs.Faults.{Fault, bad_rule, key_type, ◌>>=◌, each}
+use Rattle.filter_rule.specs.Faults.{Fault, bad_rule, key_type, each}
 use Rattle.filter_rule.specs.FilterText.{Rows, every_row, in_own_range, in_range_of, Said, said_at}
 use Rattle.filter_rule.specs.FirstRule.{is_match, first_match}
 use Rattle.filter_rule.specs.PlanTable.{TableValue}
-use Rattle.filter_rule.specs.PlanValue.{PlanValue}
 use Rattle.filter_rule.specs.Reading.{rule_over, settle_all, undecided, decisions_of, plan_of, plans_from}
 use Rattle.filter_rule.specs.Resolving.{is_vindex_type, place_in, type_in, vindex_place, vindex_type, unfit_key, refuse_type, own_vindex_type, resolved}
-use Rattle.filter_rule.specs.Rules.{Scope, scope_of, agrees, Action, all_rows, own_vindex, named_column, RuleForm, form_of, or_bad, agreeing, action_of, as_text, vindex_named, range_in, own_decision, decide, is_for, settle_one, settle}
-use Rattle.filter_rule.specs.Standing.{HasTable, IsFirstFor, HasNoColumn, by_rule, under_rule, no_form, no_vindex}
+use Rattle.filter_rule.specs.Rules.{scope_of, agrees, Action, all_rows, own_vindex, named_column, RuleForm, form_of, or_bad, agreeing, action_of, as_text, vindex_named, range_in, own_decision, decide, is_for, settle_one, settle}
+use Rattle.filter_rule.specs.Standing.{HasTable, IsFirstFor, by_rule, under_rule, no_form, no_vindex}
 use Rattle.filter_rule.specs.declared.decision.Decision.{Decision}
 use Rattle.filter_rule.specs.declared.decision.Decision.TheVariants.{NoRule, EveryRow, InRange}
 use Rattle.filter_rule.proofs.FirstRuleLaws.{form_match, decide_decides}
 use Rattle.filter_rule.proofs.RefusedSteps.{failed, same_fault, then_err, none_from_err, absent, unfit_column}
 use Rattle.filter_rule.proofs.StandingTables.{StandsIn, refused_type}
-use Rattle.filter_rule.proofs.StepLaws.{then_ok, read_as, same_ok, same_some, each_length, ReadFrom, each_at}
+use Rattle.filter_rule.proofs.StepLaws.{then_ok, read_as, same_ok, same_some, each_at}
 use Rattle.filter_rule.proofs.TableLaws.{resolved_parts}
 
 -- ---- a rule without a form is refused as such
@@ -191,9 +189,9 @@ rule_refused : (s : ℕ) (ts : List TableValue) (before rs : List RuleSaid) (r :
 rule_refused s ts before rs r n ds e count untouched h =
     then_err _ (form_of s n r) e h (λ bad. formless n r (get_behind before rs r n count) bad)
     (λ form form_is h2.
-        let u = settle_refused s n form ts ds e h2 in
-        let match : is_match r u.table.name ≡ true = sym (form_match s n r form u.table.name form_is) ∙ u.matches in
-        undecided_by n r form u.place u.table u.stands (matching before rs r n u.table.name count (untouched u.place u.table u.stands u.open_still) match) form_is u.gives)
+    let u = settle_refused s n form ts ds e h2 in
+    let match : is_match r u.table.name ≡ true = sym (form_match s n r form u.table.name form_is) ∙ u.matches in
+    undecided_by n r form u.place u.table u.stands (matching before rs r n u.table.name count (untouched u.place u.table u.stands u.open_still) match) form_is u.gives)
 
 still_untouched : (s n : ℕ) (before : List RuleSaid) (r : RuleSaid) (form : RuleForm) (ts : List TableValue) (ds es : List Decision) → Untouched before ts ds → form_of s n r ≡ Ok form → settle s n form ts ds ≡ Ok es → Untouched (before ++ r ∷ []) ts es
 still_untouched s n before r form ts ds es untouched form_is is i t t_is e_is =
@@ -228,13 +226,13 @@ named_refused document s n said form column vindex range t e there first action 
     let place_same : place_in t.name t.columns column ≡ place_in said.name said.columns column = ap (λ name. place_in name t.columns column) name_is ∙ ap (λ columns. place_in said.name columns column) columns_are in
     then_err _ (place_in t.name t.columns column) e h
     (λ none. let a = absent said.name said.columns column e (sym place_same ∙ none) in
-        subst (StandsIn document) a.0 (by_rule said s n form vindex range there refl first action a.1))
+    subst (StandsIn document) a.0 (by_rule said s n form vindex range there refl first action a.1))
     (λ place place_is h2. then_err _ (vindex_type t.name t.columns column vindex) e h2
     (λ unfit.
-        let r = refused_type (is_vindex_type vindex (type_in t.columns column)) column (key_type t.name column) e unfit in
-        let kind : is_vindex_type vindex (type_in said.columns column) ≡ false = ap (λ columns. is_vindex_type vindex (type_in columns column)) (sym columns_are) ∙ r.0 in
-        subst (StandsIn document) (ap (λ name. key_type name column) (sym name_is) ∙ r.1)
-        (under_rule said s n form vindex range there refl first action (unfit_column (is_vindex_type vindex) said.name said.columns column place (sym place_same ∙ place_is) kind)))
+    let r = refused_type (is_vindex_type vindex (type_in t.columns column)) column (key_type t.name column) e unfit in
+    let kind : is_vindex_type vindex (type_in said.columns column) ≡ false = ap (λ columns. is_vindex_type vindex (type_in columns column)) (sym columns_are) ∙ r.0 in
+    subst (StandsIn document) (ap (λ name. key_type name column) (sym name_is) ∙ r.1)
+    (under_rule said s n form vindex range there refl first action (unfit_column (is_vindex_type vindex) said.name said.columns column place (sym place_same ∙ place_is) kind)))
     (λ x x_is h3. then_err _ (or_bad s n (range_in range)) e h3 (λ bad. absurd (range_there s n range e range_is bad)) (λ b b_is h4. cc)))
 
 decide_refused : (document : DocumentSaid) (s n : ℕ) (said : TableSaid) (form : RuleForm) (action : Action) (t : TableValue) (e : Fault) → HasTable document said → IsFirstFor document s n said.name form → form.action ≡ action

@@ -1,17 +1,16 @@
 -- What stands in a file whose tables are refused, or whose counts are.
-use Rattle.std.proofs.Common.{◌≡◌, ◌⊎◌, inl, inr, ℕ, zero, suc, ◌<◌, ◌≤◌, List, [], ◌∷◌, length, Bool, true, false, cond, ◌&&◌, Option, Some, None, Ok, Err, refl, sym, ap, subst, ◌∙◌, arith}
-use Rattle.std.specs.Prelude.{slice_get, find, not, nat_le}
+use Rattle.std.proofs.Common.{◌≡◌, inl, inr, ℕ, suc, List, [], ◌∷◌, length, Bool, true, false, cond, ◌&&◌, Option, Some, None, Ok, Err, refl, subst, arith}
+use Rattle.std.specs.Prelude.{slice_get, not, nat_le}
 use Rattle.std.specs.List.{list_all}
 use Rattle.std.proofs.lemmas.Bool.Decides.{nat_tests}
 use Rattle.vindex.specs.declared.vindexes.Vindex.{Vindex}
 use Rattle.filter_rule.specs.Document.{TableSaid, DocumentSaid}
-use Rattle.filter_rule.specs.Faults.{Fault, json, shape, limit, no_such_column, key_type, bad_rule, ◌>>=◌, each}
+use Rattle.filter_rule.specs.Faults.{Fault, json, shape, limit, no_such_column, key_type, bad_rule, each}
 use Rattle.filter_rule.specs.Limits.{is_up_to, is_table_within, is_within, within_limits}
-use Rattle.filter_rule.specs.PlanTable.{ColumnValue, TableValue}
 use Rattle.filter_rule.specs.Resolving.{is_key_type, is_vindex_type, place_in, type_in, unfit_key, refuse_type, vindex_place, vindex_type, own_vindex_type, resolved}
 use Rattle.filter_rule.specs.Standing.{HasTable, LacksColumn, by_key, by_vindex, HasUnfitColumn, in_key, under_vindex, HasBadRule, IsOutside, IsPastLimit, streams_past, tables_past, columns_past, key_past}
-use Rattle.filter_rule.proofs.RefusedSteps.{failed, same_fault, then_err, each_refused, each_gives, absent, unfit_column, found, not_true}
-use Rattle.filter_rule.proofs.StepLaws.{then_ok, read_as, same_ok}
+use Rattle.filter_rule.proofs.RefusedSteps.{same_fault, then_err, each_refused, each_gives, absent, unfit_column, found, not_true}
+use Rattle.filter_rule.proofs.StepLaws.{then_ok, read_as}
 
 -- what stands in a document, by the fault
 abbrev pub StandsIn : DocumentSaid → Fault → Type 0
@@ -81,8 +80,8 @@ vindex_unfit document said (Some v) vindex e there is place_is h =
     then_ok _ (place_in said.name said.columns v.0) vindex place_is (λ place found_is h2.
     then_err _ (vindex_type said.name said.columns v.0 v.1) e h
     (λ unfit.
-        let r = refused_type (is_vindex_type v.1 (type_in said.columns v.0)) v.0 (key_type said.name v.0) e unfit in
-        subst (StandsIn document) r.1 (under_vindex said v there refl is refl (unfit_column (is_vindex_type v.1) said.name said.columns v.0 place found_is r.0)))
+    let r = refused_type (is_vindex_type v.1 (type_in said.columns v.0)) v.0 (key_type said.name v.0) e unfit in
+    subst (StandsIn document) r.1 (under_vindex said v there refl is refl (unfit_column (is_vindex_type v.1) said.name said.columns v.0 place found_is r.0)))
     (λ x x_is h3. cc))
 
 -- ---- the key
@@ -101,9 +100,9 @@ unfolding resolved
 table_stands document said e there h =
     then_err _ (each (place_in said.name said.columns) said.key) e h
     (λ none.
-        let r = each_refused (place_in said.name said.columns) said.key e none in
-        let a = absent said.name said.columns r.item e r.gives in
-        subst (StandsIn document) a.0 (by_key said there refl (r.place, r.stands) a.1))
+    let r = each_refused (place_in said.name said.columns) said.key e none in
+    let a = absent said.name said.columns r.item e r.gives in
+    subst (StandsIn document) a.0 (by_key said there refl (r.place, r.stands) a.1))
     (λ key key_is h2. then_err _ (vindex_place said.name said.columns said.vindex) e h2
     (λ none. vindex_absent document said said.vindex e there refl none)
     (λ vindex vindex_is h3. then_err _ (refuse_type said.name (unfit_key said.columns said.key)) e h3
