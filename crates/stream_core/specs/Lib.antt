@@ -1,0 +1,4 @@
+pub mod Standing
+pub mod Refusals
+pub mod Rows
+pub mod StepTable
