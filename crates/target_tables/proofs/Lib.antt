@@ -1,0 +1,10 @@
+pub mod Order
+pub mod Results
+pub mod Seeking
+pub mod Values
+pub mod Placed
+pub mod Sorting
+pub mod Keeping
+pub mod Judging
+pub mod Committing
+pub mod Scanning

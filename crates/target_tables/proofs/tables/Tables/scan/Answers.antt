@@ -1,0 +1,27 @@
+use Rattle.std.proofs.Common.{◌≡◌, ℕ, ◌-◌, List, length, take, drop, sym, ap, subst, ◌∙◌}
+use Rattle.target_tables.specs.Contents.{Contents, from_key}
+use Rattle.target_tables.specs.Places.{IsAt, IsGap}
+use Rattle.target_tables.specs.Rising.{IsRising}
+use Rattle.target_tables.proofs.Scanning.{from_place, from_gap, take_rest}
+use Rattle.target_tables.proofs.tables.Tables.scan.Goals as goal
+
+pub returns-in-Ok-clause-entries : goal.returns-in-Ok-clause-entries
+returns-in-Ok-clause-entries g c =
+    let P : List (g.row.K.Denot × (ℕ × g.row.R.Denot)) → Type 0 = λ es. IsAt g.K.Ord.cmp es c.args.from.now c.in-Ok.place in
+    let at : IsAt g.K.Ord.cmp c.self.inside.entries.items c.args.from.now c.in-Ok.place = subst P c.deref.ensures.value c.in-Ok.ensures in
+    c.new.ensures ∙ take_rest c.in-Ok.place c.deref-in-Ok.result.now ∙ ap (λ (es : List (g.row.K.Denot × (ℕ × g.row.R.Denot))). drop c.in-Ok.place es) c.deref-in-Ok.ensures.value
+    ∙ sym (from_place g.met.K.Ord.total c.self.inside.entries.items c.args.from.now c.in-Ok.place at)
+    ∙ ap (λ (v : Contents g.row.K.Denot g.row.R.Denot). from_key g.K.Ord.cmp v.entries c.args.from.now) c.self.view_is
+
+pub returns-in-Ok-clause-rising : goal.returns-in-Ok-clause-rising
+returns-in-Ok-clause-rising g c =
+    let P : Contents g.row.K.Denot g.row.R.Denot → Type 0 = λ v. IsRising g.K.Ord.cmp v.entries in
+    subst P c.self.view_is c.self.invariant
+
+pub returns-in-Err-clause-entries : goal.returns-in-Err-clause-entries
+returns-in-Err-clause-entries g c =
+    let P : List (g.row.K.Denot × (ℕ × g.row.R.Denot)) → Type 0 = λ es. IsGap g.K.Ord.cmp es c.args.from.now c.in-Err.place in
+    let gap : IsGap g.K.Ord.cmp c.self.inside.entries.items c.args.from.now c.in-Err.place = subst P c.deref.ensures.value c.in-Err.ensures in
+    c.new-in-Err.ensures ∙ take_rest c.in-Err.place c.deref-in-Err.result.now ∙ ap (λ (es : List (g.row.K.Denot × (ℕ × g.row.R.Denot))). drop c.in-Err.place es) c.deref-in-Err.ensures.value
+    ∙ sym (from_gap g.met.K.Ord.total c.self.inside.entries.items c.args.from.now c.in-Err.place gap)
+    ∙ ap (λ (v : Contents g.row.K.Denot g.row.R.Denot). from_key g.K.Ord.cmp v.entries c.args.from.now) c.self.view_is

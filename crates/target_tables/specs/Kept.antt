@@ -1,0 +1,36 @@
+-- What staging keeps and judges on its way; for the map's own code.
+use Rattle.std.specs.Prelude.{◌≡◌, ℕ, ◌+◌, ◌<◌, Bool, false, List, [], ◌∷◌, length, drop, Option, Some, None, ◌==◌, if◌then◌else◌}
+use Rattle.std.specs.declared.cmp.Ordering.{Ordering}
+use Rattle.std.specs.List.{AllByRecursion, HoldsAt}
+use Rattle.std.specs.Ordering.{is_eq}
+use Rattle.target_tables.specs.declared.survey.Verdict.{Verdict}
+use Rattle.target_tables.specs.declared.survey.Verdict.TheVariants.{NewKey, Foreign, Free}
+use Rattle.target_tables.specs.Contents.{value_at}
+use Rattle.target_tables.specs.Touches.{owner_in_the_way}
+
+-- the last of these has the key
+abbrev pub ends_at : {K V : Type 0} → (K → K → Ordering) → K → List (K × V) → Bool
+ends_at cmp k [] = false
+ends_at cmp k (touch ∷ []) = is_eq (cmp touch.0 k)
+ends_at cmp k (touch ∷ next ∷ later) = ends_at cmp k (next ∷ later)
+
+-- a row that is put where a row stands
+abbrev pub verdict_on : {R : Type 0} → ℕ → ℕ × R → Verdict
+verdict_on stream there = if there.0 == stream then Free else Foreign there.0
+
+-- what a change meets
+abbrev pub verdict_of : {R : Type 0} → ℕ → Option R → Option (ℕ × R) → Verdict
+verdict_of stream None there = Free
+verdict_of stream (Some row) None = NewKey
+verdict_of stream (Some row) (Some there) = verdict_on stream there
+
+module _ {K R : Type 0} (cmp : K → K → Ordering) where
+  -- no row of another stream is in the way of this change
+  abbrev pub IsFree : List (K × (ℕ × R)) → ℕ → K × Option R → Type 0
+  IsFree entries stream change = owner_in_the_way stream (Some change.1) (value_at cmp entries change.0) ≡ None
+
+  -- a row of this stream is in the way of the change at this place, and none in the way of a later one
+  pub record IsLastClash (entries : List (K × (ℕ × R))) (stream : ℕ) (changes : List (K × Option R)) (place owner : ℕ) : Type 0 where
+    pub inside : place < length changes
+    pub here : HoldsAt (λ change. owner_in_the_way stream (Some change.1) (value_at cmp entries change.0) ≡ Some owner) changes place
+    pub later : AllByRecursion (IsFree entries stream) (drop (place + 1) changes)

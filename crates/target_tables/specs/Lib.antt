@@ -1,0 +1,7 @@
+pub mod Rising
+pub mod Contents
+pub mod Touches
+pub mod Refusals
+pub mod Places
+pub mod Kept
+pub mod Clashes

@@ -1,0 +1,17 @@
+//! The rows of a target by key, each with the stream that owns it, changed a group at a time.
+#![tactic(auto)]
+
+mod changes;
+mod fault;
+mod laws;
+mod places;
+mod scan;
+mod staged;
+mod survey;
+mod tables;
+
+pub use fault::TableFault;
+pub use laws::what_comes_last_counts;
+pub use scan::Scan;
+pub use staged::Staged;
+pub use tables::Tables;
