@@ -6,21 +6,22 @@ use Rattle.vindex.specs.Bounds.{Bounds}
 use Rattle.vindex.specs.declared.vindexes.Vindex.{Vindex}
 use Rattle.filter_rule.specs.Document.{RuleSaid, StreamSaid, DocumentSaid, document_of}
 use Rattle.filter_rule.specs.Faults.{limit, ◌>>=◌, each}
-use Rattle.filter_rule.specs.FilterText.{said_at}
+use Rattle.filter_text.specs.FilterText.{RowsSaid, every_row, in_own_range, in_range_of, filter_of}
+use Rattle.filter_text.specs.RuleScope.{TablesSaid, every_table, one_table, begins_with_slash, scope_of, is_for}
 use Rattle.filter_rule.specs.FirstRule.{is_match, Decides, IsByFirst, AreByFirst, FollowFirstRules}
 use Rattle.filter_rule.specs.Limits.{is_within, within_limits}
 use Rattle.filter_rule.specs.PlanValue.{PlanValue}
 use Rattle.filter_rule.specs.PlanTable.{TableValue}
 use Rattle.filter_rule.specs.Reading.{rule_over, settle_all, undecided, decisions_of, plan_of, plans_from, json_of, plans_of_document, plans_of}
 use Rattle.filter_rule.specs.Resolving.{place_in, vindex_type, resolved}
-use Rattle.filter_rule.specs.Rules.{Scope, every_table, one_table, begins_with_slash, scope_of, is_for, Action, all_rows, own_vindex, named_column, RuleForm, form_of, or_bad, agreeing, action_of, range_in, own_decision, decide, settle_one, settle}
+use Rattle.filter_rule.specs.Rules.{RuleForm, form_of, or_bad, agreeing, own_decision, decide, settle_one, settle}
 use Rattle.filter_rule.specs.declared.decision.Decision.{Decision}
 use Rattle.filter_rule.specs.declared.decision.Decision.TheVariants.{NoRule, EveryRow, InRange}
 use Rattle.filter_rule.proofs.StepLaws.{then_ok, same_ok, read_as}
 
 -- ---- a rule's form is for the tables that the rule matches
 
-scope_match : (b c : Bool) (matches table : List ℕ) (scope : Scope) → bytes_eq matches (codes "/.*") ≡ b → begins_with_slash matches ≡ c
+scope_match : (b c : Bool) (matches table : List ℕ) (scope : TablesSaid) → bytes_eq matches (codes "/.*") ≡ b → begins_with_slash matches ≡ c
     → cond b (Some every_table) (cond c None (Some (one_table matches))) ≡ Some scope → is_for scope table ≡ (b || bytes_eq table matches)
 scope_match true c matches table scope e f is = let same : every_table ≡ scope = cc in ap (λ s. is_for s table) (sym same)
 scope_match false true matches table scope e f is = cc
@@ -34,11 +35,10 @@ pub form_match : (s n : ℕ) (r : RuleSaid) (form : RuleForm) (table : List ℕ)
 unfolding form_of
 form_match s n r form table is =
     then_ok _ (or_bad s n (scope_of r.matches)) form is (λ scope scope_is h2.
-    then_ok _ (or_bad s n (said_at r.filter)) form h2 (λ said said_is h3.
-    then_ok _ (agreeing s n scope said) form h3 (λ a a_is h4.
-    then_ok _ (action_of s n said.rows) form h4 (λ action action_is h5.
-    ap (λ (f : RuleForm). is_for f.scope table) (sym (same_ok (record { scope = scope; action = action }) form h5))
-    ∙ scope_match (bytes_eq r.matches (codes "/.*")) (begins_with_slash r.matches) r.matches table scope refl refl (found_ok s n (scope_of r.matches) scope scope_is)))))
+    then_ok _ (or_bad s n (filter_of r.filter)) form h2 (λ filter filter_is h3.
+    then_ok _ (agreeing s n scope filter) form h3 (λ a a_is h4.
+    ap (λ (f : RuleForm). is_for f.scope table) (sym (same_ok (record { scope = scope; rows = filter.rows }) form h4))
+    ∙ scope_match (bytes_eq r.matches (codes "/.*")) (begins_with_slash r.matches) r.matches table scope refl refl (found_ok s n (scope_of r.matches) scope scope_is))))
 
 no_every : EveryRow ≡ NoRule → ⊥
 no_every e = cc
@@ -48,16 +48,16 @@ no_range place vindex range e = cc
 
 -- ---- a rule that is for a table decides it
 
-own_decides : (s n : ℕ) (range : List ℕ) (v : Option (ℕ × Vindex)) → own_decision s n range v ≡ Ok NoRule → ⊥
+own_decides : (s n : ℕ) (range : Bounds) (v : Option (ℕ × Vindex)) → own_decision s n range v ≡ Ok NoRule → ⊥
 own_decides s n range None h = cc
-own_decides s n range (Some v) h = then_ok _ (or_bad s n (range_in range)) NoRule h (λ bounds is e. no_range v.0 v.1 bounds (same_ok (InRange v.0 v.1 bounds) NoRule e))
+own_decides s n range (Some v) h = no_range v.0 v.1 range (same_ok (InRange v.0 v.1 range) NoRule h)
 
-pub decide_decides : (s n : ℕ) (action : Action) (t : TableValue) → decide s n action t ≡ Ok NoRule → ⊥
-decide_decides s n all_rows t h = no_every (same_ok EveryRow NoRule h)
-decide_decides s n (own_vindex range) t h = own_decides s n range t.vindex h
-decide_decides s n (named_column column vindex range) t h =
-    then_ok _ (place_in t.name t.columns column) NoRule h (λ place place_is h2. then_ok _ (vindex_type t.name t.columns column vindex) NoRule h2 (λ a a_is h3. then_ok _ (or_bad s n (range_in range)) NoRule h3 (λ bounds bounds_is h4.
-    no_range place vindex bounds (same_ok (InRange place vindex bounds) NoRule h4))))
+pub decide_decides : (s n : ℕ) (rows : RowsSaid) (t : TableValue) → decide s n rows t ≡ Ok NoRule → ⊥
+decide_decides s n every_row t h = no_every (same_ok EveryRow NoRule h)
+decide_decides s n (in_own_range range) t h = own_decides s n range t.vindex h
+decide_decides s n (in_range_of column vindex range) t h =
+    then_ok _ (place_in t.name t.columns column) NoRule h (λ place place_is h2. then_ok _ (vindex_type t.name t.columns column vindex) NoRule h2 (λ a a_is h3.
+    no_range place vindex range (same_ok (InRange place vindex range) NoRule h3)))
 
 -- ---- one table
 
@@ -73,13 +73,13 @@ at_end s n t EveryRow = refl
 at_end s n t (InRange place vindex range) = refl
 
 -- a decision that a rule made stays
-made : (s n m : ℕ) (rs : List RuleSaid) (r : RuleSaid) (form : RuleForm) (t : TableValue) (d e : Decision) → form_of s n r ≡ Ok form → decide s n form.action t ≡ Ok d → After s m rs t d e → Decides s n r t e
-made s n m rs r form t NoRule e formed is after = absurd (decide_decides s n form.action t is)
+made : (s n m : ℕ) (rs : List RuleSaid) (r : RuleSaid) (form : RuleForm) (t : TableValue) (d e : Decision) → form_of s n r ≡ Ok form → decide s n form.rows t ≡ Ok d → After s m rs t d e → Decides s n r t e
+made s n m rs r form t NoRule e formed is after = absurd (decide_decides s n form.rows t is)
 made s n m rs r form t EveryRow e formed is after = record { form = form; formed = formed; decided = is ∙ ap read_as (sym after) }
 made s n m rs r form t (InRange place vindex range) e formed is after = record { form = form; formed = formed; decided = is ∙ ap read_as (sym after) }
 
 by_rule : (b : Bool) (s n : ℕ) (rs : List RuleSaid) (r : RuleSaid) (form : RuleForm) (t : TableValue) (m e : Decision) → is_match r t.name ≡ b → form_of s n r ≡ Ok form
-    → cond b (decide s n form.action t) (Ok NoRule) ≡ Ok m → After s (n + 1) rs t m e → IsByFirst s n (r ∷ rs) t e
+    → cond b (decide s n form.rows t) (Ok NoRule) ≡ Ok m → After s (n + 1) rs t m e → IsByFirst s n (r ∷ rs) t e
 by_rule true s n rs r form t m e match formed is after = rw match (made s n (n + 1) rs r form t m e formed is after)
 by_rule false s n rs r form t m e match formed is after =
     let none : m ≡ NoRule = sym (same_ok NoRule m is) in
@@ -87,7 +87,7 @@ by_rule false s n rs r form t m e match formed is after =
 
 one_step : (s n : ℕ) (rs : List RuleSaid) (r : RuleSaid) (form : RuleForm) (t : TableValue) (d m e : Decision) → form_of s n r ≡ Ok form → settle_one s n form t d ≡ Ok m → After s (n + 1) rs t m e → After s n (r ∷ rs) t d e
 one_step s n rs r form t NoRule m e formed is after =
-    by_rule (is_match r t.name) s n rs r form t m e refl formed (ap (λ b. cond b (decide s n form.action t) (Ok NoRule)) (sym (form_match s n r form t.name formed)) ∙ is) after
+    by_rule (is_match r t.name) s n rs r form t m e refl formed (ap (λ b. cond b (decide s n form.rows t) (Ok NoRule)) (sym (form_match s n r form t.name formed)) ∙ is) after
 one_step s n rs r form t EveryRow m e formed is after = subst (λ x. After s (n + 1) rs t x e) (sym (same_ok EveryRow m is)) after
 one_step s n rs r form t (InRange place vindex range) m e formed is after = subst (λ x. After s (n + 1) rs t x e) (sym (same_ok (InRange place vindex range) m is)) after
 

@@ -3,9 +3,6 @@ pub mod PlanShapeLaws
 pub mod DistinctNames
 pub mod TableLaws
 pub mod SplitLaws
-pub mod SpanLaws
-pub mod TokenLaws
-pub mod FilterLaws
 pub mod JsonLaws
 pub mod EachLaws
 pub mod DistinctLaws

@@ -1,35 +1,39 @@
 -- The decisions of a stream's rules fit the tables.
 use Rattle.std.proofs.Common.{◌≡◌, ℕ, zero, suc, ◌+◌, List, [], ◌∷◌, length, Bool, true, false, cond, Option, Some, None, Ok, refl, sym, ap, subst}
 use Rattle.std.specs.Prelude.{slice_get}
+use Rattle.vindex.specs.Bounds.{Bounds}
 use Rattle.vindex.specs.declared.vindexes.Vindex.{Vindex}
+use Rattle.filter_text.specs.FilterText.{RowsSaid, every_row, in_own_range, in_range_of}
+use Rattle.filter_text.specs.RuleScope.{is_for}
 use Rattle.filter_rule.specs.Document.{RuleSaid}
+use Rattle.filter_rule.specs.Faults.{◌>>=◌}
 use Rattle.filter_rule.specs.PlanTable.{TableValue}
 use Rattle.filter_rule.specs.Reading.{rule_over, settle_all, undecided, decisions_of}
 use Rattle.filter_rule.specs.Resolving.{place_in, vindex_type}
-use Rattle.filter_rule.specs.Rules.{Action, all_rows, own_vindex, named_column, RuleForm, form_of, or_bad, range_in, own_decision, decide, is_for, settle_one, settle}
+use Rattle.filter_rule.specs.Rules.{RuleForm, form_of, own_decision, decide, settle_one, settle}
 use Rattle.filter_rule.specs.WellFormed.{IsTable, AreTables, FitsTable}
 use Rattle.filter_rule.specs.declared.decision.Decision.{Decision}
 use Rattle.filter_rule.specs.declared.decision.Decision.TheVariants.{NoRule, EveryRow, InRange}
 use Rattle.filter_rule.proofs.StepLaws.{then_ok, same_ok, same_some}
 use Rattle.filter_rule.proofs.TableLaws.{FitsVindex, named_fits}
 
-own_fits : (s n : ℕ) (range : List ℕ) (t : TableValue) (v : Option (ℕ × Vindex)) (d : Decision) → FitsVindex t.columns v → own_decision s n range v ≡ Ok d → FitsTable t d
+own_fits : (s n : ℕ) (range : Bounds) (t : TableValue) (v : Option (ℕ × Vindex)) (d : Decision) → FitsVindex t.columns v → own_decision s n range v ≡ Ok d → FitsTable t d
 own_fits s n range t None d fit h = cc
-own_fits s n range t (Some v) d fit h = then_ok _ (or_bad s n (range_in range)) d h (λ bounds is e. subst (FitsTable t) (same_ok (InRange v.0 v.1 bounds) d e) fit)
+own_fits s n range t (Some v) d fit h = subst (FitsTable t) (same_ok (InRange v.0 v.1 range) d h) fit
 
-decide_fits : (s n : ℕ) (action : Action) (t : TableValue) (d : Decision) → IsTable t → decide s n action t ≡ Ok d → FitsTable t d
-decide_fits s n all_rows t d fit h = subst (FitsTable t) (same_ok EveryRow d h) tt
-decide_fits s n (own_vindex range) t d fit h = own_fits s n range t t.vindex d fit.vindex_column h
-decide_fits s n (named_column column vindex range) t d fit h =
-    then_ok _ (place_in t.name t.columns column) d h (λ place place_is h2. then_ok _ (vindex_type t.name t.columns column vindex) d h2 (λ a a_is h3. then_ok _ (or_bad s n (range_in range)) d h3 (λ bounds bounds_is h4.
-    subst (FitsTable t) (same_ok (InRange place vindex bounds) d h4) (named_fits t.name t.columns column vindex place a place_is a_is))))
+decide_fits : (s n : ℕ) (rows : RowsSaid) (t : TableValue) (d : Decision) → IsTable t → decide s n rows t ≡ Ok d → FitsTable t d
+decide_fits s n every_row t d fit h = subst (FitsTable t) (same_ok EveryRow d h) tt
+decide_fits s n (in_own_range range) t d fit h = own_fits s n range t t.vindex d fit.vindex_column h
+decide_fits s n (in_range_of column vindex range) t d fit h =
+    then_ok _ (place_in t.name t.columns column) d h (λ place place_is h2. then_ok _ (vindex_type t.name t.columns column vindex) d h2 (λ a a_is h3.
+    subst (FitsTable t) (same_ok (InRange place vindex range) d h3) (named_fits t.name t.columns column vindex place a place_is a_is)))
 
-chosen_fits : (b : Bool) (s n : ℕ) (action : Action) (t : TableValue) (d : Decision) → IsTable t → cond b (decide s n action t) (Ok NoRule) ≡ Ok d → FitsTable t d
-chosen_fits true s n action t d fit h = decide_fits s n action t d fit h
-chosen_fits false s n action t d fit h = subst (FitsTable t) (same_ok NoRule d h) tt
+chosen_fits : (b : Bool) (s n : ℕ) (rows : RowsSaid) (t : TableValue) (d : Decision) → IsTable t → cond b (decide s n rows t) (Ok NoRule) ≡ Ok d → FitsTable t d
+chosen_fits true s n rows t d fit h = decide_fits s n rows t d fit h
+chosen_fits false s n rows t d fit h = subst (FitsTable t) (same_ok NoRule d h) tt
 
 one_fits : (s n : ℕ) (form : RuleForm) (t : TableValue) (d e : Decision) → IsTable t → FitsTable t d → settle_one s n form t d ≡ Ok e → FitsTable t e
-one_fits s n form t NoRule e fit h is = chosen_fits (is_for form.scope t.name) s n form.action t e fit is
+one_fits s n form t NoRule e fit h is = chosen_fits (is_for form.scope t.name) s n form.rows t e fit is
 one_fits s n form t EveryRow e fit h is = subst (FitsTable t) (same_ok EveryRow e is) tt
 one_fits s n form t (InRange place vindex range) e fit h is = subst (FitsTable t) (same_ok (InRange place vindex range) e is) h
 

@@ -1,23 +1,26 @@
 -- What stands in a file whose rules are refused.
-use Rattle.std.proofs.Common.{◌≡◌, ℕ, zero, suc, ◌+◌, List, [], ◌∷◌, ◌++◌, length, Bool, true, false, cond, Option, Some, None, Ok, Err, refl, sym, ap, subst, ◌∙◌, append_assoc, length-append, arith}
+use Rattle.std.proofs.Common.{◌≡◌, ◌≢◌, ℕ, zero, suc, ◌+◌, List, [], ◌∷◌, ◌++◌, length, Bool, true, false, cond, Option, Some, None, Result, Ok, Err, refl, sym, ap, subst, ◌∙◌, append_assoc, length-append, arith}
 use Rattle.std.specs.Prelude.{slice_get}
+use Rattle.std.specs.Option.{ok_or}
 use Rattle.vindex.specs.Bounds.{Bounds}
 use Rattle.vindex.specs.declared.vindexes.Vindex.{Vindex}
 use Rattle.filter_rule.specs.Document.{RuleSaid, StreamSaid, TableSaid, DocumentSaid}
-use Rattle.filter_rule.specs.Faults.{Fault, bad_rule, key_type, each}
-use Rattle.filter_rule.specs.FilterText.{Rows, every_row, in_own_range, in_range_of, Said, said_at}
+use Rattle.filter_rule.specs.Faults.{Fault, bad_rule, key_type, ◌>>=◌, each}
+use Rattle.filter_text.specs.FilterText.{RowsSaid, every_row, in_own_range, in_range_of, Meaning, filter_of}
+use Rattle.filter_text.specs.RuleScope.{scope_of, is_for, agrees}
 use Rattle.filter_rule.specs.FirstRule.{is_match, first_match}
 use Rattle.filter_rule.specs.PlanTable.{TableValue}
+use Rattle.filter_rule.specs.PlanValue.{PlanValue}
 use Rattle.filter_rule.specs.Reading.{rule_over, settle_all, undecided, decisions_of, plan_of, plans_from}
 use Rattle.filter_rule.specs.Resolving.{is_vindex_type, place_in, type_in, vindex_place, vindex_type, unfit_key, refuse_type, own_vindex_type, resolved}
-use Rattle.filter_rule.specs.Rules.{scope_of, agrees, Action, all_rows, own_vindex, named_column, RuleForm, form_of, or_bad, agreeing, action_of, as_text, vindex_named, range_in, own_decision, decide, is_for, settle_one, settle}
-use Rattle.filter_rule.specs.Standing.{HasTable, IsFirstFor, by_rule, under_rule, no_form, no_vindex}
+use Rattle.filter_rule.specs.Rules.{RuleForm, form_of, or_bad, agreeing, own_decision, decide, settle_one, settle}
+use Rattle.filter_rule.specs.Standing.{HasTable, IsFirstFor, HasNoColumn, by_rule, under_rule, no_form, no_vindex}
 use Rattle.filter_rule.specs.declared.decision.Decision.{Decision}
 use Rattle.filter_rule.specs.declared.decision.Decision.TheVariants.{NoRule, EveryRow, InRange}
 use Rattle.filter_rule.proofs.FirstRuleLaws.{form_match, decide_decides}
 use Rattle.filter_rule.proofs.RefusedSteps.{failed, same_fault, then_err, none_from_err, absent, unfit_column}
 use Rattle.filter_rule.proofs.StandingTables.{StandsIn, refused_type}
-use Rattle.filter_rule.proofs.StepLaws.{then_ok, read_as, same_ok, same_some, each_at}
+use Rattle.filter_rule.proofs.StepLaws.{then_ok, read_as, same_ok, same_some, each_length, ReadFrom, each_at}
 use Rattle.filter_rule.proofs.TableLaws.{resolved_parts}
 
 -- ---- a rule without a form is refused as such
@@ -25,56 +28,15 @@ use Rattle.filter_rule.proofs.TableLaws.{resolved_parts}
 bad_is : {A : Type 0} (s n : ℕ) (o : Option A) (e : Fault) → or_bad s n o ≡ Err e → bad_rule s n ≡ e
 bad_is s n o e h = (none_from_err o (bad_rule s n) e h).1
 
-disagrees : (s n : ℕ) (b : Bool) (said : Said) (e : Fault) → cond b (read_as said) (Err (bad_rule s n)) ≡ Err e → bad_rule s n ≡ e
-disagrees s n b said e h = (refused_type b said (bad_rule s n) e h).1
-
-no_action : (s n : ℕ) (rows : Rows) (e : Fault) → action_of s n rows ≡ Err e → bad_rule s n ≡ e
-no_action s n every_row e h = cc
-no_action s n (in_own_range range) e h = then_err _ (or_bad s n (range_in range)) e h (λ is. bad_is s n (range_in range) e is) (λ b b_is h2. cc)
-no_action s n (in_range_of column vindex range) e h =
-    then_err _ (or_bad s n (as_text column)) e h (λ is. bad_is s n (as_text column) e is)
-    (λ c c_is h2. then_err _ (or_bad s n (vindex_named vindex)) e h2 (λ is. bad_is s n (vindex_named vindex) e is)
-    (λ v v_is h3. then_err _ (or_bad s n (range_in range)) e h3 (λ is. bad_is s n (range_in range) e is) (λ b b_is h4. cc)))
+disagrees : (s n : ℕ) (b : Bool) (filter : Meaning) (e : Fault) → cond b (read_as filter) (Err (bad_rule s n)) ≡ Err e → bad_rule s n ≡ e
+disagrees s n b filter e h = (refused_type b filter (bad_rule s n) e h).1
 
 no_form_is : (s n : ℕ) (r : RuleSaid) (e : Fault) → form_of s n r ≡ Err e → bad_rule s n ≡ e
 unfolding form_of
 no_form_is s n r e h =
     then_err _ (or_bad s n (scope_of r.matches)) e h (λ is. bad_is s n (scope_of r.matches) e is)
-    (λ scope scope_is h2. then_err _ (or_bad s n (said_at r.filter)) e h2 (λ is. bad_is s n (said_at r.filter) e is)
-    (λ said said_is h3. then_err _ (agreeing s n scope said) e h3 (λ is. disagrees s n (agrees scope said.table) said e is)
-    (λ same same_is h4. then_err _ (action_of s n said.rows) e h4 (λ is. no_action s n said.rows e is) (λ action action_is h5. cc))))
-
--- ---- the range of a form is one
-
-abbrev HasRange : Action → Type 0
-HasRange all_rows = Unit {0}
-HasRange (own_vindex range) = (bounds : Bounds) × (range_in range ≡ Some bounds)
-HasRange (named_column column vindex range) = (bounds : Bounds) × (range_in range ≡ Some bounds)
-
-some_from_bad : {A : Type 0} (s n : ℕ) (o : Option A) (x : A) → or_bad s n o ≡ Ok x → o ≡ Some x
-some_from_bad s n None x h = cc
-some_from_bad s n (Some y) x h = cc
-
-action_range : (s n : ℕ) (rows : Rows) (action : Action) → action_of s n rows ≡ Ok action → HasRange action
-action_range s n every_row action h = subst HasRange (same_ok all_rows action h) tt
-action_range s n (in_own_range range) action h =
-    then_ok _ (or_bad s n (range_in range)) action h (λ b b_is h2. subst HasRange (same_ok (own_vindex range) action h2) (b, some_from_bad s n (range_in range) b b_is))
-action_range s n (in_range_of column vindex range) action h =
-    then_ok _ (or_bad s n (as_text column)) action h (λ c c_is h2. then_ok _ (or_bad s n (vindex_named vindex)) action h2 (λ v v_is h3. then_ok _ (or_bad s n (range_in range)) action h3 (λ b b_is h4.
-    subst HasRange (same_ok (named_column c v range) action h4) (b, some_from_bad s n (range_in range) b b_is))))
-
-form_range : (s n : ℕ) (r : RuleSaid) (form : RuleForm) → form_of s n r ≡ Ok form → HasRange form.action
-unfolding form_of
-form_range s n r form h =
-    then_ok _ (or_bad s n (scope_of r.matches)) form h (λ scope scope_is h2. then_ok _ (or_bad s n (said_at r.filter)) form h2 (λ said said_is h3.
-    then_ok _ (agreeing s n scope said) form h3 (λ same same_is h4. then_ok _ (action_of s n said.rows) form h4 (λ action action_is h5.
-    subst (λ (f : RuleForm). HasRange f.action) (same_ok (record { scope = scope; action = action }) form h5) (action_range s n said.rows action action_is)))))
-
-range_there : (s n : ℕ) (range : List ℕ) (e : Fault) → (bounds : Bounds) × (range_in range ≡ Some bounds) → or_bad s n (range_in range) ≡ Err e → ⊥
-range_there s n range e there h =
-    let none : range_in range ≡ None = (none_from_err (range_in range) (bad_rule s n) e h).0 in
-    let some : range_in range ≡ Some there.0 = there.1 in
-    cc
+    (λ scope scope_is h2. then_err _ (or_bad s n (filter_of r.filter)) e h2 (λ is. bad_is s n (filter_of r.filter) e is)
+    (λ filter filter_is h3. then_err _ (agreeing s n scope filter) e h3 (λ is. disagrees s n (agrees scope filter.table) filter e is) (λ same same_is h4. cc)))
 
 -- ---- the rule that is refused
 
@@ -89,9 +51,9 @@ record Undecides (s n : ℕ) (form : RuleForm) (ts : List TableValue) (ds : List
   stands : slice_get ts place ≡ Some table
   open_still : slice_get ds place ≡ Some NoRule
   matches : is_for form.scope table.name ≡ true
-  gives : decide s n form.action table ≡ Err e
+  gives : decide s n form.rows table ≡ Err e
 
-one_refused : (s n : ℕ) (form : RuleForm) (t : TableValue) (ts : List TableValue) (ds : List Decision) (b : Bool) (e : Fault) → is_for form.scope t.name ≡ b → cond b (decide s n form.action t) (Ok NoRule) ≡ Err e
+one_refused : (s n : ℕ) (form : RuleForm) (t : TableValue) (ts : List TableValue) (ds : List Decision) (b : Bool) (e : Fault) → is_for form.scope t.name ≡ b → cond b (decide s n form.rows t) (Ok NoRule) ≡ Err e
     → Undecides s n form (t ∷ ts) (NoRule ∷ ds) e
 one_refused s n form t ts ds true e is h = record { place = 0; table = t; stands = refl; open_still = refl; matches = is; gives = h }
 one_refused s n form t ts ds false e is h = cc
@@ -117,8 +79,8 @@ settle_refused s n form (t ∷ ts) (d ∷ ds) e h =
 abbrev WasOpen : RuleForm → TableValue → Decision → Type 0
 WasOpen form t d = (d ≡ NoRule) × (is_for form.scope t.name ≡ false)
 
-open_at : (s n : ℕ) (form : RuleForm) (t : TableValue) (b : Bool) → is_for form.scope t.name ≡ b → cond b (decide s n form.action t) (Ok NoRule) ≡ Ok NoRule → WasOpen form t NoRule
-open_at s n form t true is h = absurd (decide_decides s n form.action t h)
+open_at : (s n : ℕ) (form : RuleForm) (t : TableValue) (b : Bool) → is_for form.scope t.name ≡ b → cond b (decide s n form.rows t) (Ok NoRule) ≡ Ok NoRule → WasOpen form t NoRule
+open_at s n form t true is h = absurd (decide_decides s n form.rows t h)
 open_at s n form t false is h = (refl, is)
 
 no_every : EveryRow ≡ NoRule → ⊥
@@ -179,7 +141,7 @@ unmatched before r name none match =
 pub data IsRefusedRule (s : ℕ) (ts : List TableValue) (rules : List RuleSaid) (e : Fault) : Type 0 where
   formless : (n : ℕ) (r : RuleSaid) → slice_get rules n ≡ Some r → form_of s n r ≡ Err e → IsRefusedRule s ts rules e
   undecided_by : (n : ℕ) (r : RuleSaid) (form : RuleForm) (i : ℕ) (t : TableValue) → slice_get ts i ≡ Some t → first_match 0 rules t.name ≡ Some (n, r) → form_of s n r ≡ Ok form
-      → decide s n form.action t ≡ Err e → IsRefusedRule s ts rules e
+      → decide s n form.rows t ≡ Err e → IsRefusedRule s ts rules e
 
 get_behind : (before rs : List RuleSaid) (r : RuleSaid) (n : ℕ) → n ≡ length before → slice_get (before ++ r ∷ rs) n ≡ Some r
 get_behind [] rs r n count = ap (slice_get (r ∷ rs)) count
@@ -213,35 +175,33 @@ decisions_refused s ts rules e h = rules_refused s ts [] rules 0 (undecided ts) 
 
 -- ---- in the document
 
-own_refused : (document : DocumentSaid) (s n : ℕ) (said : TableSaid) (form : RuleForm) (range : List ℕ) (v : Option (ℕ × Vindex)) (e : Fault) → HasTable document said → IsFirstFor document s n said.name form → form.action ≡ own_vindex range
-    → (v ≡ None → said.vindex ≡ None) → (bounds : Bounds) × (range_in range ≡ Some bounds) → own_decision s n range v ≡ Err e → StandsIn document e
-own_refused document s n said form range None e there first action none range_is h =
-    subst (StandsIn document) (same_fault {B = Decision} (bad_rule s n) e h) (no_vindex said form range there first action (none refl))
-own_refused document s n said form range (Some v) e there first action none range_is h =
-    then_err _ (or_bad s n (range_in range)) e h (λ bad. absurd (range_there s n range e range_is bad)) (λ b b_is h2. cc)
+own_refused : (document : DocumentSaid) (s n : ℕ) (said : TableSaid) (form : RuleForm) (range : Bounds) (v : Option (ℕ × Vindex)) (e : Fault) → HasTable document said → IsFirstFor document s n said.name form → form.rows ≡ in_own_range range
+    → (v ≡ None → said.vindex ≡ None) → own_decision s n range v ≡ Err e → StandsIn document e
+own_refused document s n said form range None e there first rows none h =
+    subst (StandsIn document) (same_fault {B = Decision} (bad_rule s n) e h) (no_vindex said form range there first rows (none refl))
+own_refused document s n said form range (Some v) e there first rows none h = cc
 
-named_refused : (document : DocumentSaid) (s n : ℕ) (said : TableSaid) (form : RuleForm) (column : List ℕ) (vindex : Vindex) (range : List ℕ) (t : TableValue) (e : Fault) → HasTable document said → IsFirstFor document s n said.name form
-    → form.action ≡ named_column column vindex range → t.name ≡ said.name → t.columns ≡ said.columns → (bounds : Bounds) × (range_in range ≡ Some bounds) → decide s n (named_column column vindex range) t ≡ Err e → StandsIn document e
-named_refused document s n said form column vindex range t e there first action name_is columns_are range_is h =
+named_refused : (document : DocumentSaid) (s n : ℕ) (said : TableSaid) (form : RuleForm) (column : List ℕ) (vindex : Vindex) (range : Bounds) (t : TableValue) (e : Fault) → HasTable document said → IsFirstFor document s n said.name form
+    → form.rows ≡ in_range_of column vindex range → t.name ≡ said.name → t.columns ≡ said.columns → decide s n (in_range_of column vindex range) t ≡ Err e → StandsIn document e
+named_refused document s n said form column vindex range t e there first rows name_is columns_are h =
     let place_same : place_in t.name t.columns column ≡ place_in said.name said.columns column = ap (λ name. place_in name t.columns column) name_is ∙ ap (λ columns. place_in said.name columns column) columns_are in
     then_err _ (place_in t.name t.columns column) e h
     (λ none. let a = absent said.name said.columns column e (sym place_same ∙ none) in
-    subst (StandsIn document) a.0 (by_rule said s n form vindex range there refl first action a.1))
+    subst (StandsIn document) a.0 (by_rule said s n form vindex range there refl first rows a.1))
     (λ place place_is h2. then_err _ (vindex_type t.name t.columns column vindex) e h2
     (λ unfit.
     let r = refused_type (is_vindex_type vindex (type_in t.columns column)) column (key_type t.name column) e unfit in
     let kind : is_vindex_type vindex (type_in said.columns column) ≡ false = ap (λ columns. is_vindex_type vindex (type_in columns column)) (sym columns_are) ∙ r.0 in
     subst (StandsIn document) (ap (λ name. key_type name column) (sym name_is) ∙ r.1)
-    (under_rule said s n form vindex range there refl first action (unfit_column (is_vindex_type vindex) said.name said.columns column place (sym place_same ∙ place_is) kind)))
-    (λ x x_is h3. then_err _ (or_bad s n (range_in range)) e h3 (λ bad. absurd (range_there s n range e range_is bad)) (λ b b_is h4. cc)))
+    (under_rule said s n form vindex range there refl first rows (unfit_column (is_vindex_type vindex) said.name said.columns column place (sym place_same ∙ place_is) kind)))
+    (λ x x_is h3. cc))
 
-decide_refused : (document : DocumentSaid) (s n : ℕ) (said : TableSaid) (form : RuleForm) (action : Action) (t : TableValue) (e : Fault) → HasTable document said → IsFirstFor document s n said.name form → form.action ≡ action
-    → HasRange action → t.name ≡ said.name → t.columns ≡ said.columns → (t.vindex ≡ None → said.vindex ≡ None) → decide s n action t ≡ Err e → StandsIn document e
-decide_refused document s n said form all_rows t e there first action range_is name_is columns_are none h = cc
-decide_refused document s n said form (own_vindex range) t e there first action range_is name_is columns_are none h =
-    own_refused document s n said form range t.vindex e there first action none range_is h
-decide_refused document s n said form (named_column column vindex range) t e there first action range_is name_is columns_are none h =
-    named_refused document s n said form column vindex range t e there first action name_is columns_are range_is h
+decide_refused : (document : DocumentSaid) (s n : ℕ) (said : TableSaid) (form : RuleForm) (rows : RowsSaid) (t : TableValue) (e : Fault) → HasTable document said → IsFirstFor document s n said.name form → form.rows ≡ rows
+    → t.name ≡ said.name → t.columns ≡ said.columns → (t.vindex ≡ None → said.vindex ≡ None) → decide s n rows t ≡ Err e → StandsIn document e
+decide_refused document s n said form every_row t e there first rows name_is columns_are none h = cc
+decide_refused document s n said form (in_own_range range) t e there first rows name_is columns_are none h = own_refused document s n said form range t.vindex e there first rows none h
+decide_refused document s n said form (in_range_of column vindex range) t e there first rows name_is columns_are none h =
+    named_refused document s n said form column vindex range t e there first rows name_is columns_are h
 
 -- a table has a vindex where it is said to have one
 vindex_kept : (table : List ℕ) (said : TableSaid) (v : Option (List ℕ × Vindex)) (vindex : Option (ℕ × Vindex)) → vindex_place table said.columns v ≡ Ok vindex → vindex ≡ None → v ≡ None
@@ -266,8 +226,8 @@ rule_stands document ts s stream e tables_are stands (undecided_by n r form i t 
     let from = each_at resolved document.tables ts tables_are i t t_is in
     let parts = resolved_parts from.item t from.gives in
     let at_name : first_match 0 stream.rules from.item.name ≡ Some (n, r) = ap (first_match 0 stream.rules) (sym parts.name) ∙ first in
-    decide_refused document s n from.item form form.action t e (i, from.stands) (record { said = stream; stands = stands; text = r; first = at_name; formed = form_is }) refl
-    (form_range s n r form form_is) parts.name parts.columns (no_vindex_said from.item t from.gives) bad
+    decide_refused document s n from.item form form.rows t e (i, from.stands) (record { said = stream; stands = stands; text = r; first = at_name; formed = form_is }) refl
+    parts.name parts.columns (no_vindex_said from.item t from.gives) bad
 
 plan_refused : (keyspace : List ℕ) (ts : List TableValue) (n : ℕ) (stream : StreamSaid) (e : Fault) → plan_of keyspace ts n stream ≡ Err e → IsRefusedRule n ts stream.rules e
 unfolding plan_of

@@ -1,8 +1,8 @@
 -- The tables of an accepted document are well formed.
-use Rattle.std.proofs.Common.{◌≡◌, ℕ, ◌≤◌, List, [], ◌∷◌, length, get_or, map, codes, Bool, true, false, cond, ◌&&◌, ltb, Option, Some, None, Ok, Err, refl, sym, ap, subst, ◌∙◌, arith}
-use Rattle.std.specs.Prelude.{slice_get, position, find, not, IfSome}
+use Rattle.std.proofs.Common.{◌≡◌, ℕ, zero, suc, ◌+◌, ◌<◌, ◌≤◌, List, [], ◌∷◌, length, get_or, map, codes, Bool, true, false, cond, ◌&&◌, ltb, Option, Some, None, Result, Ok, Err, refl, sym, ap, subst, ◌∙◌, arith}
+use Rattle.std.specs.Prelude.{slice_get, position, find, not, IfSome, IsTrue}
 use Rattle.std.specs.List.{list_all, position_or_len}
-use Rattle.std.specs.Option.{option_map_or}
+use Rattle.std.specs.Option.{option_map_or, ok_or}
 use Rattle.std.specs.Str.{bytes_eq}
 use Rattle.std.proofs.lemmas.Bool.{and_parts}
 use Rattle.std.proofs.lemmas.Bool.Decides.{nat_tests}
@@ -13,14 +13,14 @@ use Rattle.std.proofs.lemmas.Slice.Eq.{bytes_eq-Decides}
 use Rattle.serde_json.specs.Data.{Data}
 use Rattle.vindex.specs.declared.vindexes.Vindex.{Vindex}
 use Rattle.filter_rule.specs.Private.Accepted.{IsAccepted}
-use Rattle.filter_rule.specs.Document.{StreamSaid, TableSaid, DocumentSaid, member_in, text_in, list_in, name_of, column_of, vindex_in, stream_of, table_of, distinct, document_of}
-use Rattle.filter_rule.specs.Faults.{key_type, limit, no_such_column, each}
-use Rattle.filter_rule.specs.Limits.{is_up_to, is_table_within, is_within}
+use Rattle.filter_rule.specs.Document.{RuleSaid, StreamSaid, TableSaid, DocumentSaid, member_in, text_in, list_in, name_of, column_of, vindex_in, stream_of, table_of, distinct, document_of}
+use Rattle.filter_rule.specs.Faults.{Fault, key_type, limit, no_such_column, ◌>>=◌, each}
+use Rattle.filter_rule.specs.Limits.{is_up_to, is_table_within, is_within, within_limits}
 use Rattle.filter_rule.specs.PlanTable.{ColumnValue, TableValue}
 use Rattle.filter_rule.specs.Resolving.{is_key_type, is_vindex_type, place_in, type_in, unfit_key, refuse_type, vindex_place, vindex_type, own_vindex_type, resolved}
 use Rattle.filter_rule.specs.WellFormed.{AreDistinct, AreUpTo, type_at, HasColumn, IsTable, AreTables}
 use Rattle.filter_rule.proofs.DistinctNames.{distinct_apart}
-use Rattle.filter_rule.proofs.StepLaws.{then_ok, read_as, same_ok, same_some, some_from_ok, not_false, each_length, each_at, list_all_get, find_none}
+use Rattle.filter_rule.proofs.StepLaws.{then_ok, read_as, same_ok, same_some, some_from_ok, not_false, each_length, ReadFrom, each_at, list_all_get, find_none}
 
 -- ---- what the shape of a document says of names
 

@@ -1,9 +1,10 @@
 -- What is true of all plans of a text.
-use Rattle.std.proofs.Common.{◌≡◌, ℕ, zero, suc, ◌+◌, List, [], ◌∷◌, length, map, true, Some, Result, Ok, Err, refl, sym, ap, subst, ◌∙◌, arith}
+use Rattle.std.proofs.Common.{◌≡◌, ℕ, zero, suc, ◌+◌, ◌≤◌, List, [], ◌∷◌, length, map, Bool, true, Option, Some, None, Result, Ok, Err, refl, sym, ap, subst, ◌∙◌, arith}
 use Rattle.std.specs.Prelude.{slice_get, IfOk}
 use Rattle.std.proofs.lemmas.List.{length-map}
-use Rattle.filter_rule.specs.Document.{StreamSaid, DocumentSaid, document_of}
-use Rattle.filter_rule.specs.Faults.{◌>>=◌, each, Gives}
+use Rattle.filter_rule.specs.Private.Accepted.{IsAccepted}
+use Rattle.filter_rule.specs.Document.{StreamSaid, TableSaid, DocumentSaid, document_of}
+use Rattle.filter_rule.specs.Faults.{Fault, ◌>>=◌, each, Gives}
 use Rattle.filter_rule.specs.FirstRule.{document_in}
 use Rattle.filter_rule.specs.Limits.{is_within, within_limits}
 use Rattle.filter_rule.specs.PlanTable.{TableValue}
@@ -11,7 +12,7 @@ use Rattle.filter_rule.specs.PlanValue.{PlanValue}
 use Rattle.filter_rule.specs.Reading.{decisions_of, plan_of, plans_from, json_of, plans_of_document, plans_of}
 use Rattle.filter_rule.specs.Resolving.{resolved}
 use Rattle.filter_rule.specs.Streams.{AreOfStreams, FollowStreams}
-use Rattle.filter_rule.specs.WellFormed.{AreDistinct, AreTables, IsPlan, ArePlans}
+use Rattle.filter_rule.specs.WellFormed.{AreDistinct, AreUpTo, AreTables, IsPlan, ArePlans}
 use Rattle.filter_rule.specs.declared.fault.PlanFault.{PlanFault}
 use Rattle.filter_rule.proofs.PlanLaws.{parts_shape}
 use Rattle.filter_rule.proofs.ReadLaws.{Plans, values}

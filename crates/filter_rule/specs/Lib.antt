@@ -1,5 +1,3 @@
-pub mod Tokens
-pub mod FilterText
 pub mod Faults
 pub mod TypeNumbers
 pub mod Document

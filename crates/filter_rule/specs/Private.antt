@@ -2,4 +2,3 @@
 pub mod Accepted
 pub mod PlanParts
 pub mod RuleViews
-pub mod Seen

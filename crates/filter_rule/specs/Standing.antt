@@ -1,14 +1,16 @@
 -- What stands in a workflow file that is refused, by its fault.
 use Rattle.std.specs.Prelude.{◌≡◌, ◌≢◌, ◌⊎◌, ℕ, ◌<◌, List, Bool, false, Some, None, Ok, length, slice_get}
 use Rattle.serde_json.specs.Data.{Data}
+use Rattle.vindex.specs.Bounds.{Bounds}
 use Rattle.vindex.specs.declared.vindexes.Vindex.{Vindex}
+use Rattle.filter_text.specs.FilterText.{in_own_range, in_range_of}
 use Rattle.filter_rule.specs.Document.{RuleSaid, StreamSaid, TableSaid, DocumentSaid, document_of}
 use Rattle.filter_rule.specs.Faults.{Fault, json, shape, limit, no_such_column, key_type, bad_rule}
 use Rattle.filter_rule.specs.FirstRule.{first_match, document_in}
 use Rattle.filter_rule.specs.PlanTable.{ColumnValue}
 use Rattle.filter_rule.specs.Reading.{IsNoJson, json_of}
 use Rattle.filter_rule.specs.Resolving.{is_key_type, is_vindex_type}
-use Rattle.filter_rule.specs.Rules.{own_vindex, named_column, RuleForm, form_of}
+use Rattle.filter_rule.specs.Rules.{RuleForm, form_of}
 
 -- a table of the document
 abbrev pub HasTable : DocumentSaid → TableSaid → Type 0
@@ -42,22 +44,22 @@ pub record IsFirstFor (document : DocumentSaid) (stream rule : ℕ) (table : Lis
 pub data LacksColumn (document : DocumentSaid) (table column : List ℕ) : Type 0 where
   by_key : (said : TableSaid) → HasTable document said → said.name ≡ table → IsInKey said column → HasNoColumn said.columns column → LacksColumn document table column
   by_vindex : (said : TableSaid) (v : List ℕ × Vindex) → HasTable document said → said.name ≡ table → said.vindex ≡ Some v → v.0 ≡ column → HasNoColumn said.columns column → LacksColumn document table column
-  by_rule : (said : TableSaid) (stream rule : ℕ) (form : RuleForm) (vindex : Vindex) (range : List ℕ) → HasTable document said → said.name ≡ table → IsFirstFor document stream rule table form
-      → form.action ≡ named_column column vindex range → HasNoColumn said.columns column → LacksColumn document table column
+  by_rule : (said : TableSaid) (stream rule : ℕ) (form : RuleForm) (vindex : Vindex) (range : Bounds) → HasTable document said → said.name ≡ table → IsFirstFor document stream rule table form
+      → form.rows ≡ in_range_of column vindex range → HasNoColumn said.columns column → LacksColumn document table column
 
 -- a key, a vindex or a first rule names a column of a type that it can't take
 pub data HasUnfitColumn (document : DocumentSaid) (table column : List ℕ) : Type 0 where
   in_key : (said : TableSaid) → HasTable document said → said.name ≡ table → IsInKey said column → HasUnfit is_key_type said.columns column → HasUnfitColumn document table column
   under_vindex : (said : TableSaid) (v : List ℕ × Vindex) → HasTable document said → said.name ≡ table → said.vindex ≡ Some v → v.0 ≡ column → HasUnfit (is_vindex_type v.1) said.columns column → HasUnfitColumn document table column
-  under_rule : (said : TableSaid) (stream rule : ℕ) (form : RuleForm) (vindex : Vindex) (range : List ℕ) → HasTable document said → said.name ≡ table → IsFirstFor document stream rule table form
-      → form.action ≡ named_column column vindex range → HasUnfit (is_vindex_type vindex) said.columns column → HasUnfitColumn document table column
+  under_rule : (said : TableSaid) (stream rule : ℕ) (form : RuleForm) (vindex : Vindex) (range : Bounds) → HasTable document said → said.name ≡ table → IsFirstFor document stream rule table form
+      → form.rows ≡ in_range_of column vindex range → HasUnfit (is_vindex_type vindex) said.columns column → HasUnfitColumn document table column
 
 -- a rule has no form, or is a key range alone and the first to match a table without a vindex
 pub data HasBadRule (document : DocumentSaid) (stream rule : ℕ) : Type 0 where
   no_form : (said : StreamSaid) (text : RuleSaid) → slice_get document.streams stream ≡ Some said → slice_get said.rules rule ≡ Some text
       → ((form : RuleForm) → form_of stream rule text ≢ Ok form) → HasBadRule document stream rule
-  no_vindex : (table : TableSaid) (form : RuleForm) (range : List ℕ) → HasTable document table → IsFirstFor document stream rule table.name form
-      → form.action ≡ own_vindex range → table.vindex ≡ None → HasBadRule document stream rule
+  no_vindex : (table : TableSaid) (form : RuleForm) (range : Bounds) → HasTable document table → IsFirstFor document stream rule table.name form
+      → form.rows ≡ in_own_range range → table.vindex ≡ None → HasBadRule document stream rule
 
 -- none, or more than so many
 abbrev pub IsOutside : ℕ → ℕ → Type 0

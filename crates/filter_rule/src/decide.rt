@@ -3,20 +3,23 @@
 ghost use Rattle.std.specs.Prelude.{◌≡◌, length};
 ghost use Rattle.filter_rule.specs.Faults.{Gives};
 ghost use Rattle.filter_rule.specs.Rules.{own_decision, decide, settle_one, settle};
-ghost use Rattle.filter_rule.specs.Private.RuleViews.{action_seen, form_seen};
+ghost use Rattle.filter_text.specs.Views.{rows_said};
+ghost use Rattle.filter_rule.specs.Private.RuleViews.{form_seen};
 
 use crate::decision::Decision;
 use crate::fault::PlanFault;
 use crate::resolve::{check_vindex_type, place_in};
-use crate::rule::{Action, Place, RuleForm};
+use crate::rule::{Place, RuleForm};
 use crate::table::Table;
+use filter_text::Rows;
 use std::alloc::Global;
+use vindex::KeyRange;
 
 // A key range under the table's own vindex.
 fn own_decision(
     alloc: Global,
     place: Place,
-    range: &[u8],
+    range: &KeyRange,
     table: &Table,
 ) -> Result<Decision, PlanFault>
     ensures { Gives (λ d. d) result (own_decision place.stream place.rule range.now table.now.vindex) }
@@ -24,7 +27,7 @@ fn own_decision(
     match table.vindex() {
         None => Err(place.fault()),
         Some((column, vindex)) => {
-            let range = place.range_in(alloc, range)?;
+            let range = range.try_clone(alloc)?;
             Ok(Decision::InRange {
                 column,
                 vindex,
@@ -38,22 +41,22 @@ fn own_decision(
 fn decide(
     alloc: Global,
     place: Place,
-    action: &Action<'_>,
+    rows: &Rows<'_>,
     table: &Table,
 ) -> Result<Decision, PlanFault>
-    ensures { Gives (λ d. d) result (decide place.stream place.rule (action_seen action.now) table.now) }
+    ensures { Gives (λ d. d) result (decide place.stream place.rule (rows_said rows.now) table.now) }
 {
-    match action {
-        Action::EveryRow => Ok(Decision::EveryRow),
-        Action::OwnVindex { range } => own_decision(alloc, place, range, table),
-        Action::Named {
+    match rows {
+        Rows::EveryRow => Ok(Decision::EveryRow),
+        Rows::OwnVindex { range } => own_decision(alloc, place, range, table),
+        Rows::Named {
             column,
             vindex,
             range,
         } => {
             let at = place_in(alloc, table.name(), table.columns(), column)?;
             check_vindex_type(alloc, table.name(), table.columns(), column, *vindex)?;
-            let range = place.range_in(alloc, range)?;
+            let range = range.try_clone(alloc)?;
             Ok(Decision::InRange {
                 column: at,
                 vindex: *vindex,
@@ -75,7 +78,7 @@ fn settle_one(
 {
     if let Decision::NoRule = decision {
         if form.scope.is_for(table.name()) {
-            *decision = decide(alloc, place, &form.action, table)?;
+            *decision = decide(alloc, place, &form.rows, table)?;
         }
     }
     Ok(())

@@ -8,7 +8,7 @@ ghost use Rattle.vindex.specs.declared.faults.VindexFault.TheVariants.{BadRange,
 
 use crate::faults::VindexFault;
 use hex::FromHexError;
-use std::alloc::Global;
+use std::alloc::{AllocError, Global};
 use std::marker::Model;
 
 /// A range of keyspace ids: from its start on and before its end, as byte strings, in which a proper
@@ -72,6 +72,21 @@ impl KeyRange {
         } else {
             Err(VindexFault::BadRange)
         }
+    }
+
+    /// A copy of the range.
+    pub fn try_clone(&self, alloc: Global) -> Result<KeyRange, AllocError>
+        ensures { IfOk result (λ range. range ≡ self.now) }
+    {
+        let start = Vec::from_slice(alloc, self.start())?;
+        let Some(end) = &self.end else {
+            return Ok(KeyRange { start, end: None });
+        };
+        let end = Vec::from_slice(alloc, end.as_slice())?;
+        Ok(KeyRange {
+            start,
+            end: Some(end),
+        })
     }
 
     /// Whether the range has `id`: its start is at most `id`, and `id` is below its end. Takes no
