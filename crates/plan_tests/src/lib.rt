@@ -2,6 +2,8 @@
 #![tactic(auto)]
 
 #[cfg(test)]
+mod filters;
+#[cfg(test)]
 mod ranges;
 #[cfg(test)]
 mod workflows;
