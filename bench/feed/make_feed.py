@@ -2,9 +2,11 @@
 """Writes a feed of N groups of ROWS inserted rows each, one if not given, to standard output.
 
 usage: bench/feed/make_feed.py N [ROWS] > FEED
+       bench/feed/make_feed.py --repeats INTERVALS REPEATS > FEED
 
 Each group is one VStreamResponse: BEGIN, FIELD (first group alone), ROW with all the group's rows,
-GTID, COMMIT, with the position U:1-k after group k.
+GTID, COMMIT, with the position U:1-k after group k. With --repeats the feed is hostile instead: one
+position of so many intervals, U:1:3:5.., and behind it so many repeats of its first number.
 """
 import sys
 
@@ -48,7 +50,23 @@ def group(k, rows):
     return varint(len(events)) + events
 
 
+def position(text_of_set):
+    return event(1, text(3, b"MySQL56/" + U + text_of_set))
+
+
+def repeats(intervals, count):
+    first = position(b"".join(b":%d" % (2 * i + 1) for i in range(intervals)))
+    again = position(b":1")
+    yield varint(len(first)) + first
+    for _ in range(count):
+        yield varint(len(again)) + again
+
+
 def main():
+    if sys.argv[1] == "--repeats":
+        for message in repeats(int(sys.argv[2]), int(sys.argv[3])):
+            sys.stdout.buffer.write(message)
+        return
     rows = int(sys.argv[2]) if len(sys.argv) > 2 else 1
     for k in range(1, int(sys.argv[1]) + 1):
         sys.stdout.buffer.write(group(k, rows))

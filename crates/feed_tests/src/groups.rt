@@ -3,7 +3,7 @@
 use filter_rule::Plan;
 use gtid_set::GtidSet;
 use row_view::{Column, RowView};
-use source_feed::{Change, Feed, Group, read_groups};
+use source_feed::{Change, Feed, Group, PlannedChange, PlannedGroup, read_groups};
 use std::alloc::Global;
 use std::test::Fail;
 
@@ -80,11 +80,21 @@ fn one_inserted_row_is_a_group(rt: HostRuntime) -> Result<(), Fail> {
 fn changes_and_groups_are_small(rt: HostRuntime) {
     assert!(rt; size_of::<Change<'static>>() <= 32);
     assert!(rt; size_of::<Group<'static>>() <= 96);
+    assert!(rt; size_of::<PlannedChange<'static>>() <= 24);
+    assert!(rt; size_of::<PlannedGroup<'static>>() <= 40);
 }
 
 #[test]
-fn feed_opens_under_its_plan(rt: HostRuntime) {
-    assert_eq!(rt; opened(rt.alloc(), WORKFLOW, ONE_ROW), Ok((1, 1)));
+fn feed_opens_under_its_plan(rt: HostRuntime) -> Result<(), Fail> {
+    let alloc = rt.alloc();
+    assert_eq!(rt; opened(alloc, WORKFLOW, ONE_ROW), Ok((1, 1)));
+    let plans = Plan::read_all(alloc, WORKFLOW)?;
+    let feed = Feed::open(alloc, ONE_ROW, plans.first().ok_or("no plan")?)?;
+    let group = feed.groups().first().ok_or("no group")?;
+    assert_eq!(rt; group.number(), 1);
+    let change = group.changes().first().ok_or("no change")?;
+    assert!(rt; inserts_into_the_first(change));
+    Ok(())
 }
 
 #[test]
@@ -100,17 +110,25 @@ fn changes_of_other_tables_are_dropped(rt: HostRuntime) {
     );
 }
 
+/// The table `t` with its columns in another order, with another name, of another type, and one fewer.
+#[test]
+fn field_differs_from_plan(rt: HostRuntime) {
+    for feed in [
+        b"\x1a\x0a\x18\x08\x0d\x32\x14\x0a\x01\x74\x12\x06\x0a\x01\x76\x10\x95\x30\x12\x07\x0a\x02\x69\x64\x10\x89\x02".as_slice(),
+        b"\x1a\x0a\x18\x08\x0d\x32\x14\x0a\x01\x74\x12\x07\x0a\x02\x69\x64\x10\x89\x02\x12\x06\x0a\x01\x77\x10\x95\x30".as_slice(),
+        b"\x1a\x0a\x18\x08\x0d\x32\x14\x0a\x01\x74\x12\x07\x0a\x02\x69\x64\x10\x89\x02\x12\x06\x0a\x01\x76\x10\x93\x30".as_slice(),
+        b"\x12\x0a\x10\x08\x0d\x32\x0c\x0a\x01\x74\x12\x07\x0a\x02\x69\x64\x10\x89\x02".as_slice(),
+    ] {
+        assert_eq!(rt; opened(rt.alloc(), WORKFLOW, feed), Err(85));
+        assert!(rt; opened(rt.alloc(), WORKFLOW_OF_ANOTHER_TABLE, feed).is_ok());
+    }
+}
+
 #[test]
 fn every_planned_field_checked(rt: HostRuntime) {
     for feed in [
         // rolled back
         b"\x22\x0a\x02\x08\x02\x0a\x18\x08\x0d\x32\x14\x0a\x01\x74\x12\x07\x0a\x02\x69\x64\x10\x89\x02\x12\x06\x0a\x01\x76\x10\x93\x30\x0a\x02\x08\x04".as_slice(),
-        // outside, one column fewer
-        b"\x12\x0a\x10\x08\x0d\x32\x0c\x0a\x01\x74\x12\x07\x0a\x02\x69\x64\x10\x89\x02".as_slice(),
-        // in another order
-        b"\x1a\x0a\x18\x08\x0d\x32\x14\x0a\x01\x74\x12\x06\x0a\x01\x76\x10\x95\x30\x12\x07\x0a\x02\x69\x64\x10\x89\x02".as_slice(),
-        // another name
-        b"\x1a\x0a\x18\x08\x0d\x32\x14\x0a\x01\x74\x12\x07\x0a\x02\x69\x64\x10\x89\x02\x12\x06\x0a\x01\x77\x10\x95\x30".as_slice(),
         // behind a good one
         b"\x34\x0a\x18\x08\x0d\x32\x14\x0a\x01\x74\x12\x07\x0a\x02\x69\x64\x10\x89\x02\x12\x06\x0a\x01\x76\x10\x95\x30\x0a\x18\x08\x0d\x32\x14\x0a\x01\x74\x12\x07\x0a\x02\x69\x64\x10\x89\x02\x12\x06\x0a\x01\x76\x10\x93\x30".as_slice(),
         // in a repeat

@@ -10,10 +10,10 @@ use Rattle.source_feed.specs.declared.fault.FeedFault.{FeedFault}
 use Rattle.source_feed.specs.declared.fault.FeedFault.TheVariants.{Diverged}
 use Rattle.source_feed.specs.GroupValue.{Position, TableChangeValue, GroupValue}
 use Rattle.source_feed.specs.SourceValue.{SourceValue}
-use Rattle.source_feed.specs.History.{History}
-use Rattle.source_feed.specs.Groups.{block_at, block_fault, seen, with_block, groups_of, kept}
-use Rattle.source_feed.specs.BlockEnd.{last_position, block_end}
-use Rattle.source_feed.proofs.Positions.{union-within, union-around}
+use Rattle.source_feed.specs.PastEvents.{PastEvents}
+use Rattle.source_feed.specs.Groups.{block_at, block_fault, seen, with_block, groups_of, group_of_block}
+use Rattle.source_feed.specs.Private.BlockEnd.{last_position, block_end}
+use Rattle.source_feed.specs.Private.SetLaws.{SetLaws}
 
 slice_get-length : (groups : List GroupValue) (group : GroupValue) → slice_get (groups ++ group ∷ []) (length groups) ≡ Some group
 slice_get-length [] group = refl
@@ -28,7 +28,7 @@ pub last_position-append : (groups : List GroupValue) (group : GroupValue) → l
 last_position-append groups group = ap (λ found. option_map_or (λ group. group.position) found []) (slice_get-seam groups group)
 
 -- what is known of the groups behind an event
-pub record Ends (source : SourceValue) (history : History) (all : List GroupValue) : Type 0 where
+pub record Ends (source : SourceValue) (history : PastEvents) (all : List GroupValue) : Type 0 where
   pub groups : all ≡ groups_of source history
   pub last : last_position all ≡ seen source history
   pub canonical : IsCanonical (seen source history)
@@ -37,51 +37,51 @@ pub append-nothing : (groups : List GroupValue) → groups ++ [] ≡ groups
 append-nothing groups = search rules
 
 -- an event that ends no block
-pub ends-none : (source : SourceValue) (earlier : History) (event : EventValue) (groups : List GroupValue)
+pub ends-none : (source : SourceValue) (earlier : PastEvents) (event : EventValue) (groups : List GroupValue)
     → block_at source earlier event ≡ None → Ends source earlier groups → Ends source (event ∷ earlier) groups
 ends-none source earlier event groups b e = record {
-  groups = e.groups ∙ sym (append-nothing (groups_of source earlier)) ∙ ap (λ block. groups_of source earlier ++ kept (seen source earlier) (length (groups_of source earlier) + 1) block) (sym b);
+  groups = e.groups ∙ sym (append-nothing (groups_of source earlier)) ∙ ap (λ block. groups_of source earlier ++ group_of_block (seen source earlier) (length (groups_of source earlier) + 1) block) (sym b);
   last = e.last ∙ ap (λ block. with_block (seen source earlier) block) (sym b);
   canonical = rw b e.canonical;
 }
 
 -- the block is skipped, kept or refused
-abbrev pub BlockEnds : SourceValue → History → EventValue → List GroupValue → Position → List TableChangeValue → Result (List GroupValue) FeedFault → Type 0
+abbrev pub BlockEnds : SourceValue → PastEvents → EventValue → List GroupValue → Position → List TableChangeValue → Result (List GroupValue) FeedFault → Type 0
 BlockEnds source earlier event groups position changes (Ok new) = (block_fault source earlier position ≡ None) × Ends source (event ∷ earlier) new
 BlockEnds source earlier event groups position changes (Err fault) = block_fault source earlier position ≡ Some fault
 
-skipped : (source : SourceValue) (earlier : History) (event : EventValue) (groups : List GroupValue) (position : Position) (changes : List TableChangeValue)
+skipped : SetLaws → (source : SourceValue) (earlier : PastEvents) (event : EventValue) (groups : List GroupValue) (position : Position) (changes : List TableChangeValue)
     → block_at source earlier event ≡ Some (record { position = position; changes = changes }) → IsCanonical position → Ends source earlier groups
     → within_of position (seen source earlier) ≡ true → BlockEnds source earlier event groups position changes (Ok groups)
-skipped source earlier event groups position changes b p e w =
-    let union : union_of (seen source earlier) position ≡ seen source earlier = union-within (seen source earlier) position e.canonical p w in (
+skipped laws source earlier event groups position changes b p e w =
+    let union : union_of (seen source earlier) position ≡ seen source earlier = laws.union_within position (seen source earlier) p e.canonical w in (
       cond-true _ _ _ w,
       record {
         groups = e.groups ∙ sym (append-nothing (groups_of source earlier))
             ∙ ap (λ more. groups_of source earlier ++ more) (sym (cond-true (within_of position (seen source earlier)) [] (record { number = length (groups_of source earlier) + 1; position = position; changes = changes } ∷ []) w))
-            ∙ ap (λ block. groups_of source earlier ++ kept (seen source earlier) (length (groups_of source earlier) + 1) block) (sym b);
+            ∙ ap (λ block. groups_of source earlier ++ group_of_block (seen source earlier) (length (groups_of source earlier) + 1) block) (sym b);
         last = e.last ∙ sym union ∙ ap (λ block. with_block (seen source earlier) block) (sym b);
         canonical = rw (b, union) e.canonical;
       },
     )
 
-added : (source : SourceValue) (earlier : History) (event : EventValue) (groups : List GroupValue) (position : Position) (changes : List TableChangeValue)
+added : SetLaws → (source : SourceValue) (earlier : PastEvents) (event : EventValue) (groups : List GroupValue) (position : Position) (changes : List TableChangeValue)
     → block_at source earlier event ≡ Some (record { position = position; changes = changes }) → IsCanonical position → Ends source earlier groups
     → within_of position (seen source earlier) ≡ false → within_of (seen source earlier) position ≡ true
     → BlockEnds source earlier event groups position changes (Ok (groups ++ record { number = length groups + 1; position = position; changes = changes } ∷ []))
-added source earlier event groups position changes b p e w v =
-    let union : union_of (seen source earlier) position ≡ position = union-around (seen source earlier) position e.canonical p v in (
+added laws source earlier event groups position changes b p e w v =
+    let union : union_of (seen source earlier) position ≡ position = laws.union_around (seen source earlier) position e.canonical p v in (
       cond-false _ _ _ w ∙ cond-true _ _ _ v,
       record {
         groups = ap (λ (all : List GroupValue). all ++ record { number = length all + 1; position = position; changes = changes } ∷ []) e.groups
             ∙ ap (λ more. groups_of source earlier ++ more) (sym (cond-false (within_of position (seen source earlier)) [] (record { number = length (groups_of source earlier) + 1; position = position; changes = changes } ∷ []) w))
-            ∙ ap (λ block. groups_of source earlier ++ kept (seen source earlier) (length (groups_of source earlier) + 1) block) (sym b);
+            ∙ ap (λ block. groups_of source earlier ++ group_of_block (seen source earlier) (length (groups_of source earlier) + 1) block) (sym b);
         last = last_position-append groups _ ∙ sym union ∙ ap (λ block. with_block (seen source earlier) block) (sym b);
         canonical = rw (b, union) p;
       },
     )
 
-diverged : (source : SourceValue) (earlier : History) (event : EventValue) (groups : List GroupValue) (position : Position) (changes : List TableChangeValue)
+diverged : (source : SourceValue) (earlier : PastEvents) (event : EventValue) (groups : List GroupValue) (position : Position) (changes : List TableChangeValue)
     → Ends source earlier groups
     → within_of position (seen source earlier) ≡ false → within_of (seen source earlier) position ≡ false
     → BlockEnds source earlier event groups position changes (Err (Diverged (length groups + 1)))
@@ -89,15 +89,15 @@ diverged source earlier event groups position changes e w v =
     cond-false _ _ _ w ∙ cond-false _ _ _ v ∙ ap (λ (all : List GroupValue). Some (Diverged (length all + 1))) (sym e.groups)
 
 -- what the last group says of a block is what all blocks say of it
-pub block_end-ends : (source : SourceValue) (earlier : History) (event : EventValue) (groups : List GroupValue) (position : Position) (changes : List TableChangeValue)
+pub block_end-ends : SetLaws → (source : SourceValue) (earlier : PastEvents) (event : EventValue) (groups : List GroupValue) (position : Position) (changes : List TableChangeValue)
     → block_at source earlier event ≡ Some (record { position = position; changes = changes }) → IsCanonical position → Ends source earlier groups
     → BlockEnds source earlier event groups position changes (block_end groups position changes)
-block_end-ends source earlier event groups position changes b p e =
+block_end-ends laws source earlier event groups position changes b p e =
     elim (cases_Bool (within_of position (seen source earlier))) [
-      | inl w ↦ rw (cond-true (within_of position (last_position groups)) _ _ (ap (within_of position) e.last ∙ w)) (skipped source earlier event groups position changes b p e w)
+      | inl w ↦ rw (cond-true (within_of position (last_position groups)) _ _ (ap (within_of position) e.last ∙ w)) (skipped laws source earlier event groups position changes b p e w)
       | inr w ↦ rw (cond-false (within_of position (last_position groups)) _ _ (ap (within_of position) e.last ∙ w))
           (elim (cases_Bool (within_of (seen source earlier) position)) [
-            | inl v ↦ rw (cond-true (within_of (last_position groups) position) _ _ (ap (λ s. within_of s position) e.last ∙ v)) (added source earlier event groups position changes b p e w v)
+            | inl v ↦ rw (cond-true (within_of (last_position groups) position) _ _ (ap (λ s. within_of s position) e.last ∙ v)) (added laws source earlier event groups position changes b p e w v)
             | inr v ↦ rw (cond-false (within_of (last_position groups) position) _ _ (ap (λ s. within_of s position) e.last ∙ v)) (diverged source earlier event groups position changes e w v)
           ])
     ]

@@ -1,5 +1,6 @@
 -- What stands in a feed whose groups aren't defined.
-use Rattle.std.proofs.Common.{◌≡◌, ℕ, ◌^◌, nat_lt, length, List, [], ◌∷◌, ◌++◌, ◌⊎◌, reverse, None, Some, Result, Ok, Err, IfErr, refl, sym, ◌∙◌, ap, inl, inr, append_assoc}
+use Rattle.std.specs.Option.{option_or}
+use Rattle.std.proofs.Common.{◌≡◌, ℕ, ◌^◌, nat_lt, length, List, [], ◌∷◌, ◌++◌, ◌⊎◌, reverse, None, Some, Result, Ok, Err, IfErr, IfSome, refl, sym, ◌∙◌, ap, inl, inr, append_assoc}
 use Rattle.std.proofs.lemmas.Bool.{cases_Bool, cond-true, cond-false, ltb-true, ltb-false}
 use Rattle.std.proofs.lemmas.List.{reverse-append, reverse-reverse}
 use mathlib.Core.List.{reverse-cons}
@@ -7,14 +8,15 @@ use Rattle.proto_wire.specs.Reading.{Reading}
 use Rattle.vevent.specs.EventValue.{EventValue}
 use Rattle.source_feed.specs.declared.fault.FeedFault.{FeedFault}
 use Rattle.source_feed.specs.declared.fault.FeedFault.TheVariants.{FeedTooLong, OpenAtEnd, Memory}
-use Rattle.source_feed.specs.FaultNumber.{Gives, Refuses}
+use Rattle.outcome.specs.Outcome.{GivesUnless, Refuses}
+use Rattle.source_feed.specs.FaultNumber.{meant_of}
 use Rattle.source_feed.specs.GroupValue.{GroupValue}
 use Rattle.source_feed.specs.SourceValue.{SourceValue}
 use Rattle.source_feed.specs.EventList.{events_of}
-use Rattle.source_feed.specs.History.{History, is_open}
-use Rattle.source_feed.specs.Groups.{first_fault, fault_at, or_fault, closed, groups_in, groups_of, groups}
-use Rattle.source_feed.specs.FirstFault.{AtEvent, AtEnd, StandsIn, UnlessMemory}
-use Rattle.source_feed.proofs.RunLaws.{option_cases}
+use Rattle.source_feed.specs.PastEvents.{PastEvents, is_open}
+use Rattle.source_feed.specs.Groups.{first_fault, fault_at, closed, groups_in, groups_of, groups}
+use Rattle.source_feed.specs.FirstFault.{AtEvent, AtEnd, StandsIn}
+use Rattle.source_feed.proofs.Options.{option_cases}
 
 same_some : {A : Type 0} (x y : A) → Some x ≡ Some y → x ≡ y
 same_some x y e = cc
@@ -26,15 +28,15 @@ same_err : (x y : FeedFault) → refused x ≡ refused y → x ≡ y
 same_err x y e = cc
 
 -- the place of the first fault in a history
-record Place (source : SourceValue) (history : History) (fault : FeedFault) : Type 0 where
+record Place (source : SourceValue) (history : PastEvents) (fault : FeedFault) : Type 0 where
   later : List EventValue
   event : EventValue
-  earlier : History
+  earlier : PastEvents
   split : history ≡ later ++ event ∷ earlier
   before : first_fault source earlier ≡ None
   here : fault_at source earlier event ≡ Some fault
 
-place_of : (source : SourceValue) (history : History) (fault : FeedFault) → first_fault source history ≡ Some fault → Place source history fault
+place_of : (source : SourceValue) (history : PastEvents) (fault : FeedFault) → first_fault source history ≡ Some fault → Place source history fault
 place_of source [] fault e = cc
 place_of source (event ∷ earlier) fault e =
     elim (option_cases (first_fault source earlier)) [
@@ -44,10 +46,10 @@ place_of source (event ∷ earlier) fault e =
         earlier = earlier;
         split = refl;
         before = none;
-        here = sym (ap (λ first. or_fault first (fault_at source earlier event)) none) ∙ e;
+        here = sym (ap (λ first. option_or first (fault_at source earlier event)) none) ∙ e;
       }
       | inr some ↦
-          let same : some.0 ≡ fault = same_some some.0 fault (sym (ap (λ first. or_fault first (fault_at source earlier event)) some.1) ∙ e) in
+          let same : some.0 ≡ fault = same_some some.0 fault (sym (ap (λ first. option_or first (fault_at source earlier event)) some.1) ∙ e) in
           let p : Place source earlier fault = place_of source earlier fault (some.1 ∙ ap (λ f. Some f) same) in
           record { later = event ∷ p.later; event = p.event; earlier = p.earlier; split = ap (λ h. event ∷ h) p.split; before = p.before; here = p.here }
     ]
@@ -71,11 +73,11 @@ stands_in_events : (source : SourceValue) (events : Reading EventValue FeedFault
 stands_in_events source events fault e =
     elim (option_cases (first_fault source (reverse events.items))) [
       | inr some ↦
-          let at : closed source (reverse events.items) (Some some.0) ≡ Err fault = sym (ap (λ first. closed source (reverse events.items) (or_fault first events.fault)) some.1) ∙ e in
+          let at : closed source (reverse events.items) (Some some.0) ≡ Err fault = sym (ap (λ first. closed source (reverse events.items) (option_or first events.fault)) some.1) ∙ e in
           let same : some.0 ≡ fault = same_err some.0 fault at in
           inl (at_event source events.items fault (some.1 ∙ ap (λ f. Some f) same))
       | inl none ↦
-          let at : closed source (reverse events.items) events.fault ≡ Err fault = sym (ap (λ first. closed source (reverse events.items) (or_fault first events.fault)) none) ∙ e in
+          let at : closed source (reverse events.items) events.fault ≡ Err fault = sym (ap (λ first. closed source (reverse events.items) (option_or first events.fault)) none) ∙ e in
           elim (option_cases events.fault) [
             | inr some ↦
                 let end : closed source (reverse events.items) (Some some.0) ≡ Err fault = sym (ap (closed source (reverse events.items)) some.1) ∙ at in
@@ -104,12 +106,12 @@ stands feed source fault e =
           inl (sym (same_err FeedTooLong fault at), ltb-false (length feed) (2 ^ 31) long)
     ]
 
-unless_memory : (feed : List ℕ) (source : SourceValue) (fault : FeedFault) → Refuses fault (groups feed source) → UnlessMemory fault (StandsIn feed source fault)
+unless_memory : (feed : List ℕ) (source : SourceValue) (fault : FeedFault) → Refuses meant_of fault (groups feed source) → IfSome (meant_of fault) (StandsIn feed source)
 unless_memory feed source Memory r = tt
 unless_memory feed source fault r = stands feed source fault r
 
 -- where the groups are given exactly, a refusal says what stands in the feed
 pub refusal_stands : {X : Type 0} (view : X → List GroupValue) (feed : List ℕ) (source : SourceValue) (result : Result X FeedFault)
-    → Gives view result (groups feed source) → IfErr result (λ fault. UnlessMemory fault (StandsIn feed source fault))
+    → GivesUnless meant_of view result (groups feed source) → IfErr result (λ fault. IfSome (meant_of fault) (StandsIn feed source))
 refusal_stands view feed source (Ok x) g = tt
 refusal_stands view feed source (Err fault) g = unless_memory feed source fault g

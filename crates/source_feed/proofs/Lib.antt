@@ -1,9 +1,12 @@
+pub mod Options
 pub mod Names
-pub mod Positions
 pub mod Blocks
 pub mod Steps
-pub mod RunLaws
+pub mod EventByEventLaws
 pub mod Messages
-pub mod EachGroup
 pub mod GrammarLaws
 pub mod FirstFaultLaws
+pub mod OrderLaws
+pub mod DefinedLaws
+pub mod KeptLaws
+pub mod PlanLaws

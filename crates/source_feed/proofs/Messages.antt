@@ -15,47 +15,48 @@ use Rattle.vevent.specs.Event.{event_at}
 use Rattle.vevent.specs.declared.fault.EventFault.{EventFault}
 use Rattle.source_feed.specs.declared.fault.FeedFault.{FeedFault}
 use Rattle.source_feed.specs.declared.fault.FeedFault.TheVariants.{Memory}
-use Rattle.source_feed.specs.FaultNumber.{Refuses, IsFault}
+use Rattle.outcome.specs.Outcome.{◌>>=◌, unless, Refuses, IsFault}
+use Rattle.source_feed.specs.FaultNumber.{meant_of}
 use Rattle.source_feed.specs.SourceValue.{SourceValue}
 use Rattle.source_feed.specs.EventList.{end_of_message, events_then, events_in}
-use Rattle.source_feed.specs.History.{History}
+use Rattle.source_feed.specs.PastEvents.{PastEvents}
 use Rattle.source_feed.specs.Groups.{fault_at}
-use Rattle.source_feed.specs.Run.{unless, run}
-use Rattle.source_feed.proofs.RunLaws.{then, run-events_then}
+use Rattle.source_feed.specs.Private.EventByEvent.{past_behind}
+use Rattle.source_feed.proofs.EventByEventLaws.{past_behind-events_then}
 
 -- a refusal of one definition is one of another that is refused with it
 pub refuses_along : {Y Z : Type 0} (fault : FeedFault) (one : Result Y FeedFault) (other : Result Z FeedFault)
-    → (one ≡ Err fault → other ≡ Err fault) → Refuses fault one → Refuses fault other
+    → (one ≡ Err fault → other ≡ Err fault) → Refuses meant_of fault one → Refuses meant_of fault other
 refuses_along Memory one other h r = tt
 refuses_along fault one other h r = h r
 
 pub refuses_from : {Z : Type 0} (fault : FeedFault) (named : Option FeedFault) (definition : Result Z FeedFault)
-    → (named ≡ Some fault → definition ≡ Err fault) → IsFault fault named → Refuses fault definition
+    → (named ≡ Some fault → definition ≡ Err fault) → IsFault meant_of fault named → Refuses meant_of fault definition
 refuses_from Memory named definition h r = tt
 refuses_from fault named definition h r = h r
 
 -- ---- events of a message
 
-pub took_event : (source : SourceValue) (whole : Result History FeedFault) (history : History) (event : EventValue) (old new : Reading EventValue EventFault)
-    → whole ≡ run source history old.items (end_of_message old.fault) → old.items ≡ event ∷ new.items → old.fault ≡ new.fault
-    → fault_at source history event ≡ None → whole ≡ run source (event ∷ history) new.items (end_of_message new.fault)
+pub took_event : (source : SourceValue) (whole : Result PastEvents FeedFault) (history : PastEvents) (event : EventValue) (old new : Reading EventValue EventFault)
+    → whole ≡ past_behind source history old.items (end_of_message old.fault) → old.items ≡ event ∷ new.items → old.fault ≡ new.fault
+    → fault_at source history event ≡ None → whole ≡ past_behind source (event ∷ history) new.items (end_of_message new.fault)
 took_event source whole history event old new w i f none =
-    w ∙ ap (λ items. run source history items (end_of_message old.fault)) i
-    ∙ ap (λ fault. run source history (event ∷ new.items) (end_of_message fault)) f
-    ∙ ap (λ fault. unless fault (run source (event ∷ history) new.items (end_of_message new.fault))) none
+    w ∙ ap (λ items. past_behind source history items (end_of_message old.fault)) i
+    ∙ ap (λ fault. past_behind source history (event ∷ new.items) (end_of_message fault)) f
+    ∙ ap (λ fault. unless fault >>= λ _. past_behind source (event ∷ history) new.items (end_of_message new.fault)) none
 
-pub refused_event : (source : SourceValue) (whole : Result History FeedFault) (history : History) (event : EventValue) (old new : Reading EventValue EventFault) (fault : FeedFault)
-    → whole ≡ run source history old.items (end_of_message old.fault) → old.items ≡ event ∷ new.items
+pub refused_event : (source : SourceValue) (whole : Result PastEvents FeedFault) (history : PastEvents) (event : EventValue) (old new : Reading EventValue EventFault) (fault : FeedFault)
+    → whole ≡ past_behind source history old.items (end_of_message old.fault) → old.items ≡ event ∷ new.items
     → fault_at source history event ≡ Some fault → whole ≡ Err fault
 refused_event source whole history event old new fault w i some =
-    w ∙ ap (λ items. run source history items (end_of_message old.fault)) i
-    ∙ ap (λ fault. unless fault (run source (event ∷ history) new.items (end_of_message old.fault))) some
+    w ∙ ap (λ items. past_behind source history items (end_of_message old.fault)) i
+    ∙ ap (λ fault. unless fault >>= λ _. past_behind source (event ∷ history) new.items (end_of_message old.fault)) some
 
-pub ended_events : (source : SourceValue) (whole : Result History FeedFault) (history : History) (old : Reading EventValue EventFault) (end : Option EventFault)
-    → whole ≡ run source history old.items (end_of_message old.fault) → old.items ≡ [] → old.fault ≡ end
-    → whole ≡ unless (end_of_message end) (Ok history)
+pub ended_events : (source : SourceValue) (whole : Result PastEvents FeedFault) (history : PastEvents) (old : Reading EventValue EventFault) (end : Option EventFault)
+    → whole ≡ past_behind source history old.items (end_of_message old.fault) → old.items ≡ [] → old.fault ≡ end
+    → whole ≡ (unless (end_of_message end) >>= λ _. Ok history)
 ended_events source whole history old end w i f =
-    w ∙ ap (λ items. run source history items (end_of_message old.fault)) i ∙ ap (λ fault. unless (end_of_message fault) (Ok history)) f
+    w ∙ ap (λ items. past_behind source history items (end_of_message old.fault)) i ∙ ap (λ fault. unless (end_of_message fault) >>= λ _. Ok history) f
 
 -- ---- messages of a feed
 
@@ -63,23 +64,23 @@ pub split_message : (message : List ℕ) (old new : Reading (List ℕ) FrameFaul
     → events_in old.items old.fault ≡ events_then (response_of message).items (response_of message).fault (events_in new.items new.fault)
 split_message message old new i f = ap (λ items. events_in items old.fault) i ∙ ap (λ fault. events_in (message ∷ new.items) fault) f
 
-pub took_message : (source : SourceValue) (whole : Result History FeedFault) (history next : History) (message : List ℕ) (old new : Reading (List ℕ) FrameFault)
-    → whole ≡ run source history (events_in old.items old.fault).items (events_in old.items old.fault).fault → old.items ≡ message ∷ new.items → old.fault ≡ new.fault
-    → run source history (response_of message).items (end_of_message (response_of message).fault) ≡ Ok next
-    → whole ≡ run source next (events_in new.items new.fault).items (events_in new.items new.fault).fault
+pub took_message : (source : SourceValue) (whole : Result PastEvents FeedFault) (history next : PastEvents) (message : List ℕ) (old new : Reading (List ℕ) FrameFault)
+    → whole ≡ past_behind source history (events_in old.items old.fault).items (events_in old.items old.fault).fault → old.items ≡ message ∷ new.items → old.fault ≡ new.fault
+    → past_behind source history (response_of message).items (end_of_message (response_of message).fault) ≡ Ok next
+    → whole ≡ past_behind source next (events_in new.items new.fault).items (events_in new.items new.fault).fault
 took_message source whole history next message old new w i f ok =
-    w ∙ ap (λ (all : Reading EventValue FeedFault). run source history all.items all.fault) (split_message message old new i f)
-    ∙ run-events_then source history (response_of message).items (response_of message).fault (events_in new.items new.fault)
-    ∙ ap (λ first. then first (λ h. run source h (events_in new.items new.fault).items (events_in new.items new.fault).fault)) ok
+    w ∙ ap (λ (all : Reading EventValue FeedFault). past_behind source history all.items all.fault) (split_message message old new i f)
+    ∙ past_behind-events_then source history (response_of message).items (response_of message).fault (events_in new.items new.fault)
+    ∙ ap (λ first. first >>= λ h. past_behind source h (events_in new.items new.fault).items (events_in new.items new.fault).fault) ok
 
-pub refused_message : (source : SourceValue) (whole : Result History FeedFault) (history : History) (message : List ℕ) (old new : Reading (List ℕ) FrameFault) (fault : FeedFault)
-    → whole ≡ run source history (events_in old.items old.fault).items (events_in old.items old.fault).fault → old.items ≡ message ∷ new.items → old.fault ≡ new.fault
-    → run source history (response_of message).items (end_of_message (response_of message).fault) ≡ Err fault
+pub refused_message : (source : SourceValue) (whole : Result PastEvents FeedFault) (history : PastEvents) (message : List ℕ) (old new : Reading (List ℕ) FrameFault) (fault : FeedFault)
+    → whole ≡ past_behind source history (events_in old.items old.fault).items (events_in old.items old.fault).fault → old.items ≡ message ∷ new.items → old.fault ≡ new.fault
+    → past_behind source history (response_of message).items (end_of_message (response_of message).fault) ≡ Err fault
     → whole ≡ Err fault
 refused_message source whole history message old new fault w i f err =
-    w ∙ ap (λ (all : Reading EventValue FeedFault). run source history all.items all.fault) (split_message message old new i f)
-    ∙ run-events_then source history (response_of message).items (response_of message).fault (events_in new.items new.fault)
-    ∙ ap (λ first. then first (λ h. run source h (events_in new.items new.fault).items (events_in new.items new.fault).fault)) err
+    w ∙ ap (λ (all : Reading EventValue FeedFault). past_behind source history all.items all.fault) (split_message message old new i f)
+    ∙ past_behind-events_then source history (response_of message).items (response_of message).fault (events_in new.items new.fault)
+    ∙ ap (λ first. first >>= λ h. past_behind source h (events_in new.items new.fault).items (events_in new.items new.fault).fault) err
 
 -- ---- how many events there are
 
@@ -162,35 +163,35 @@ events_first message old new i f = rw (split_message message old new i f) (among
     among items (Some fault) others = omega arith
 
 -- a fault that ends some events leaves no history behind them
-ended_badly : (source : SourceValue) (next : History) (items : List EventValue) (fault : FeedFault) (history : History) → run source history items (Some fault) ≡ Ok next → ⊥
+ended_badly : (source : SourceValue) (next : PastEvents) (items : List EventValue) (fault : FeedFault) (history : PastEvents) → past_behind source history items (Some fault) ≡ Ok next → ⊥
 ended_badly source next [] fault history e = cc
-ended_badly source next (event ∷ items) fault history e = never_unless (fault_at source history event) (run source (event ∷ history) items (Some fault)) (ended_badly source next items fault (event ∷ history)) e
+ended_badly source next (event ∷ items) fault history e = never_unless (fault_at source history event) (past_behind source (event ∷ history) items (Some fault)) (ended_badly source next items fault (event ∷ history)) e
   where
-    never_unless : (first : Option FeedFault) (then : Result History FeedFault) → (then ≡ Ok next → ⊥) → unless first then ≡ Ok next → ⊥
-    never_unless None then h e = h e
-    never_unless (Some f) then h e = cc
+    never_unless : (first : Option FeedFault) (rest : Result PastEvents FeedFault) → (rest ≡ Ok next → ⊥) → (unless first >>= λ _. rest) ≡ Ok next → ⊥
+    never_unless None rest h e = h e
+    never_unless (Some f) rest h e = cc
 
 -- and those behind it are as many less, unless the message ends them
-pub events_behind : (source : SourceValue) (history next : History) (message : List ℕ) (old new : Reading (List ℕ) FrameFault) → old.items ≡ message ∷ new.items → old.fault ≡ new.fault
-    → run source history (response_of message).items (end_of_message (response_of message).fault) ≡ Ok next
+pub events_behind : (source : SourceValue) (history next : PastEvents) (message : List ℕ) (old new : Reading (List ℕ) FrameFault) → old.items ≡ message ∷ new.items → old.fault ≡ new.fault
+    → past_behind source history (response_of message).items (end_of_message (response_of message).fault) ≡ Ok next
     → length (response_of message).items + length (events_in new.items new.fault).items ≡ length (events_in old.items old.fault).items
 events_behind source history next message old new i f ok =
     rw (split_message message old new i f) (behind (response_of message).items (response_of message).fault (events_in new.items new.fault) history ok)
   where
-    behind : (items : List EventValue) (fault : Option EventFault) (others : Reading EventValue FeedFault) (history : History)
-        → run source history items (end_of_message fault) ≡ Ok next → length items + length others.items ≡ length (events_then items fault others).items
+    behind : (items : List EventValue) (fault : Option EventFault) (others : Reading EventValue FeedFault) (history : PastEvents)
+        → past_behind source history items (end_of_message fault) ≡ Ok next → length items + length others.items ≡ length (events_then items fault others).items
     behind items None others history e = omega (arith, length-append items others.items)
     behind items (Some fault) others history e = absurd (ended_badly source next items _ history e)
 
 -- what holds of one of the events to come holds of one of the message or of one behind it
-pub any_behind : (P : EventValue → Bool) (source : SourceValue) (history next : History) (message : List ℕ) (old new : Reading (List ℕ) FrameFault) → old.items ≡ message ∷ new.items → old.fault ≡ new.fault
-    → run source history (response_of message).items (end_of_message (response_of message).fault) ≡ Ok next
+pub any_behind : (P : EventValue → Bool) (source : SourceValue) (history next : PastEvents) (message : List ℕ) (old new : Reading (List ℕ) FrameFault) → old.items ≡ message ∷ new.items → old.fault ≡ new.fault
+    → past_behind source history (response_of message).items (end_of_message (response_of message).fault) ≡ Ok next
     → list_any P (events_in old.items old.fault).items ≡ (list_any P (response_of message).items || list_any P (events_in new.items new.fault).items)
 any_behind P source history next message old new i f ok =
     rw (split_message message old new i f) (behind (response_of message).items (response_of message).fault (events_in new.items new.fault) ok)
   where
     behind : (items : List EventValue) (fault : Option EventFault) (others : Reading EventValue FeedFault)
-        → run source history items (end_of_message fault) ≡ Ok next → list_any P (events_then items fault others).items ≡ (list_any P items || list_any P others.items)
+        → past_behind source history items (end_of_message fault) ≡ Ok next → list_any P (events_then items fault others).items ≡ (list_any P items || list_any P others.items)
     behind items None others e = list_any-append P items others.items
     behind items (Some fault) others e = absurd (ended_badly source next items _ history e)
 

@@ -40,9 +40,9 @@ pub short_name-by_prefix : (keyspace name : List ℕ) → keyspace ≢ [] → sh
 short_name-by_prefix [] name some = absurd (some refl)
 short_name-by_prefix (b ∷ keyspace) name some = refl
 
-pub short_name-of : (keyspace name : List ℕ) (kept : Bor (List ℕ)) (found : Option (Bor (List ℕ))) → keyspace ≢ [] → kept.now ≡ name
+pub short_name-of : (keyspace name : List ℕ) (whole : Bor (List ℕ)) (found : Option (Bor (List ℕ))) → keyspace ≢ [] → whole.now ≡ name
     → IfSome found (λ x. name ≡ (keyspace ++ 46 ∷ []) ++ x.now)
     → IfNone found ((rest : List ℕ) → name ≢ (keyspace ++ 46 ∷ []) ++ rest)
-    → (unwrap_or found kept).now ≡ short_name keyspace name
-short_name-of keyspace name kept None some k f m = k ∙ sym (short_name-by_prefix keyspace name some ∙ without_prefix-absent (keyspace ++ 46 ∷ []) name m)
-short_name-of keyspace name kept (Some x) some k f m = sym (short_name-by_prefix keyspace name some ∙ without_prefix-append (keyspace ++ 46 ∷ []) name x.now f)
+    → (unwrap_or found whole).now ≡ short_name keyspace name
+short_name-of keyspace name whole None some k f m = k ∙ sym (short_name-by_prefix keyspace name some ∙ without_prefix-absent (keyspace ++ 46 ∷ []) name m)
+short_name-of keyspace name whole (Some x) some k f m = sym (short_name-by_prefix keyspace name some ∙ without_prefix-append (keyspace ++ 46 ∷ []) name x.now f)

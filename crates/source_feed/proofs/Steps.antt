@@ -1,30 +1,32 @@
 -- One event more, for the events that may end a block.
 use Rattle.std.proofs.Common.{◌≡◌, ℕ, List, [], ◌∷◌, true, false, cond, Option, None, Some, Result, Ok, Err, refl, sym, ◌∙◌, ap, inl, inr}
 use Rattle.std.proofs.lemmas.Bool.{cases_Bool, cond-true, cond-false}
-use Rattle.std.specs.Option.{option_map}
+use Rattle.std.specs.Option.{option_map, option_or}
 use Rattle.gtid_set.specs.Position.{IsCanonical}
 use Rattle.gtid_set.specs.Text.{position_of_text}
 use Rattle.vevent.specs.EventValue.{ShardGtidValue, EventValue, Gtid, Commit, Vgtid}
 use Rattle.source_feed.specs.declared.fault.FeedFault.{FeedFault}
 use Rattle.source_feed.specs.declared.fault.FeedFault.TheVariants.{Memory}
-use Rattle.source_feed.specs.declared.pass.Pass.{Pass}
-use Rattle.source_feed.specs.FaultNumber.{Refuses, IsFault, Gives}
+use Rattle.source_feed.specs.declared.group_reader.GroupReader.{GroupReader}
+use Rattle.outcome.specs.Outcome.{Refuses, IsFault, GivesUnless}
+use Rattle.source_feed.specs.FaultNumber.{meant_of}
 use Rattle.source_feed.specs.GroupValue.{Position, TableChangeValue}
 use Rattle.source_feed.specs.SourceValue.{SourceValue, own_gtid}
-use Rattle.source_feed.specs.History.{History, is_open, width_of, set_of, set_of_text, or_else, body_position, body_changes}
+use Rattle.source_feed.specs.PastEvents.{PastEvents, is_open, width_of, set_of, set_of_text, body_position, body_changes}
 use Rattle.source_feed.specs.Groups.{block_at, block_at_position, block_fault, position_fault, entry_fault, commit_fault, fault_at}
-use Rattle.source_feed.specs.BlockEnd.{block_end}
-use Rattle.source_feed.specs.Widths.{width_in, counted}
-use Rattle.source_feed.specs.Means.{Body, body_of, body_kept, Means, Puts}
+use Rattle.source_feed.specs.Private.BlockEnd.{block_end}
+use Rattle.source_feed.specs.Private.TableWidths.{width_in, counted}
+use Rattle.source_feed.specs.Private.ReaderState.{Body, body_of, body_held, IsBehind, TakesEvent}
+use Rattle.source_feed.specs.Private.SetLaws.{SetLaws}
 use Rattle.source_feed.proofs.Blocks.{Ends, BlockEnds, block_end-ends}
 
 -- what is known of an open transaction
-pub record Opened (source : SourceValue) (history : History) (body : Body) : Type 0 where
+pub record Opened (source : SourceValue) (history : PastEvents) (body : Body) : Type 0 where
   pub opened : is_open history ≡ true
   pub position : body_position source history ≡ body.position
   pub changes : body_changes source history ≡ body.changes
 
-pub opened_from : (source : SourceValue) (history : History) (body : Body) → Some body ≡ body_of source history → Opened source history body
+pub opened_from : (source : SourceValue) (history : PastEvents) (body : Body) → Some body ≡ body_of source history → Opened source history body
 opened_from source history body e =
     elim (cases_Bool (is_open history)) [
       | inl w ↦
@@ -33,7 +35,7 @@ opened_from source history body e =
       | inr w ↦ let none : Some body ≡ None = e ∙ cond-false (is_open history) _ _ w in cc
     ]
 
-pub closed_from : (source : SourceValue) (history : History) → None ≡ body_of source history → is_open history ≡ false
+pub closed_from : (source : SourceValue) (history : PastEvents) → None ≡ body_of source history → is_open history ≡ false
 closed_from source history e =
     elim (cases_Bool (is_open history)) [
       | inl w ↦
@@ -42,16 +44,16 @@ closed_from source history e =
     ]
 
 pub fault_from : {Y : Type 0} (fault : FeedFault) (definition : Result Y FeedFault) (expected : Option FeedFault)
-    → (definition ≡ Err fault → expected ≡ Some fault) → Refuses fault definition → IsFault fault expected
+    → (definition ≡ Err fault → expected ≡ Some fault) → Refuses meant_of fault definition → IsFault meant_of fault expected
 fault_from Memory definition expected h r = tt
 fault_from fault definition expected h r = h r
 
-pub ends_before : (source : SourceValue) (earlier : History) (old : Pass) → Means source earlier old → Ends source earlier old.groups.items
+pub ends_before : (source : SourceValue) (earlier : PastEvents) (old : GroupReader) → IsBehind source earlier old → Ends source earlier old.groups.items
 ends_before source earlier old m = record { groups = m.groups; last = m.last; canonical = m.seen_canonical }
 
 -- ---- COMMIT
 
-commit_block : (source : SourceValue) (earlier : History) (position : Position) (changes : List TableChangeValue)
+commit_block : (source : SourceValue) (earlier : PastEvents) (position : Position) (changes : List TableChangeValue)
     → Opened source earlier (record { position = Some position; changes = changes })
     → block_at source earlier Commit ≡ Some (record { position = position; changes = changes })
 commit_block source earlier position changes o =
@@ -59,21 +61,21 @@ commit_block source earlier position changes o =
     ∙ ap (λ p. block_at_position p (body_changes source earlier)) o.position
     ∙ ap (λ all. block_at_position (Some position) all) o.changes
 
-commit_faults : (source : SourceValue) (earlier : History) (position : Position) (changes : List TableChangeValue)
+commit_faults : (source : SourceValue) (earlier : PastEvents) (position : Position) (changes : List TableChangeValue)
     → Opened source earlier (record { position = Some position; changes = changes })
     → fault_at source earlier Commit ≡ block_fault source earlier position
 commit_faults source earlier position changes o = cond-true (is_open earlier) _ _ o.opened ∙ ap (commit_fault source earlier) o.position
 
-pub commit-puts : {X : Type 0} (source : SourceValue) (earlier : History) (old new : Pass) (result : Result X FeedFault) (position : Position) (changes : List TableChangeValue)
-    → Means source earlier old → body_kept old.transaction ≡ Some (record { position = Some position; changes = changes })
-    → body_kept new.transaction ≡ None → ((table : List ℕ) → width_in new.widths table ≡ width_in old.widths table)
-    → Gives (λ _. new.groups.items) result (block_end old.groups.items position changes)
-    → Puts source earlier Commit result new
-commit-puts source earlier old new (Ok x) position changes m b n w g =
+pub commit-puts : SetLaws → {X : Type 0} (source : SourceValue) (earlier : PastEvents) (old new : GroupReader) (result : Result X FeedFault) (position : Position) (changes : List TableChangeValue)
+    → IsBehind source earlier old → body_held old.transaction ≡ Some (record { position = Some position; changes = changes })
+    → body_held new.transaction ≡ None → ((table : List ℕ) → width_in new.widths table ≡ width_in old.widths table)
+    → GivesUnless meant_of (λ _. new.groups.items) result (block_end old.groups.items position changes)
+    → TakesEvent source earlier Commit result new
+commit-puts laws source earlier old new (Ok x) position changes m b n w g =
     let o : Opened source earlier (record { position = Some position; changes = changes }) = opened_from source earlier _ (sym b ∙ m.body) in
     let p : IsCanonical position = m.body_canonical position o.position in
     let all : BlockEnds source earlier Commit old.groups.items position changes (block_end old.groups.items position changes)
-    = block_end-ends source earlier Commit old.groups.items position changes (commit_block source earlier position changes o) p (ends_before source earlier old m) in
+    = block_end-ends laws source earlier Commit old.groups.items position changes (commit_block source earlier position changes o) p (ends_before source earlier old m) in
     let ends : BlockEnds source earlier Commit old.groups.items position changes (Ok new.groups.items) = rw g at all in (
       commit_faults source earlier position changes o ∙ ends.0,
       record {
@@ -85,11 +87,11 @@ commit-puts source earlier old new (Ok x) position changes m b n w g =
         body_canonical = m.body_canonical;
       },
     )
-commit-puts source earlier old new (Err fault) position changes m b n w g =
+commit-puts laws source earlier old new (Err fault) position changes m b n w g =
     let o : Opened source earlier (record { position = Some position; changes = changes }) = opened_from source earlier _ (sym b ∙ m.body) in
     let p : IsCanonical position = m.body_canonical position o.position in
     let all : BlockEnds source earlier Commit old.groups.items position changes (block_end old.groups.items position changes)
-    = block_end-ends source earlier Commit old.groups.items position changes (commit_block source earlier position changes o) p (ends_before source earlier old m) in
+    = block_end-ends laws source earlier Commit old.groups.items position changes (commit_block source earlier position changes o) p (ends_before source earlier old m) in
     fault_from fault (block_end old.groups.items position changes) (fault_at source earlier Commit)
     (λ e. (let ends : BlockEnds source earlier Commit old.groups.items position changes (Err fault) = rw e at all in commit_faults source earlier position changes o ∙ ends))
     g
@@ -98,11 +100,11 @@ commit-puts source earlier old new (Err fault) position changes m b n w g =
 
 -- what an event with this position text says behind any history
 pub record Carries (source : SourceValue) (event : EventValue) (text : List ℕ) : Type 0 where
-  pub same_open : (earlier : History) → is_open (event ∷ earlier) ≡ is_open earlier
-  pub widths : (earlier : History) (table : List ℕ) → width_of source (event ∷ earlier) table ≡ width_of source earlier table
-  pub position : (earlier : History) → body_position source (event ∷ earlier) ≡ or_else (set_of (position_of_text text)) (body_position source earlier)
-  pub block : (earlier : History) → block_at source earlier event ≡ cond (is_open earlier) None (block_at_position (set_of (position_of_text text)) [])
-  pub fault : (earlier : History) → fault_at source earlier event ≡ position_fault source earlier (position_of_text text)
+  pub same_open : (earlier : PastEvents) → is_open (event ∷ earlier) ≡ is_open earlier
+  pub widths : (earlier : PastEvents) (table : List ℕ) → width_of source (event ∷ earlier) table ≡ width_of source earlier table
+  pub position : (earlier : PastEvents) → body_position source (event ∷ earlier) ≡ option_or (set_of (position_of_text text)) (body_position source earlier)
+  pub block : (earlier : PastEvents) → block_at source earlier event ≡ cond (is_open earlier) None (block_at_position (set_of (position_of_text text)) [])
+  pub fault : (earlier : PastEvents) → fault_at source earlier event ≡ position_fault source earlier (position_of_text text)
 
 pub carries-gtid : (source : SourceValue) (text : List ℕ) → Carries source (Gtid text) text
 carries-gtid source text = record { same_open = λ earlier. refl; widths = λ earlier table. refl; position = λ earlier. refl; block = λ earlier. refl; fault = λ earlier. refl }
@@ -111,36 +113,36 @@ pub carries-vgtid : (source : SourceValue) (entries : List ShardGtidValue) (text
 carries-vgtid source entries text own = record {
   same_open = λ earlier. refl;
   widths = λ earlier table. refl;
-  position = λ earlier. ap (λ o. or_else (set_of_text o) (body_position source earlier)) own;
+  position = λ earlier. ap (λ o. option_or (set_of_text o) (body_position source earlier)) own;
   block = λ earlier. ap (λ o. cond (is_open earlier) None (block_at_position (set_of_text o) [])) own;
   fault = λ earlier. ap (entry_fault source earlier) own;
 }
 
-pub position-puts : {X : Type 0} (source : SourceValue) (earlier : History) (event : EventValue) (text : List ℕ) (old new : Pass) (result : Result X FeedFault) (position : Position)
+pub position-puts : SetLaws → {X : Type 0} (source : SourceValue) (earlier : PastEvents) (event : EventValue) (text : List ℕ) (old new : GroupReader) (result : Result X FeedFault) (position : Position)
     → Carries source event text → position_of_text text ≡ Ok position → IsCanonical position
-    → Means source earlier old → body_kept old.transaction ≡ None
-    → body_kept new.transaction ≡ None → ((table : List ℕ) → width_in new.widths table ≡ width_in old.widths table)
-    → Gives (λ _. new.groups.items) result (block_end old.groups.items position [])
-    → Puts source earlier event result new
-position-puts {X = X} source earlier event text old new result position carries read p m b n w g =
+    → IsBehind source earlier old → body_held old.transaction ≡ None
+    → body_held new.transaction ≡ None → ((table : List ℕ) → width_in new.widths table ≡ width_in old.widths table)
+    → GivesUnless meant_of (λ _. new.groups.items) result (block_end old.groups.items position [])
+    → TakesEvent source earlier event result new
+position-puts laws {X = X} source earlier event text old new result position carries read p m b n w g =
     let closed : is_open earlier ≡ false = closed_from source earlier (sym b ∙ m.body) in
     let block : block_at source earlier event ≡ Some (record { position = position; changes = [] })
     = carries.block earlier ∙ cond-false (is_open earlier) _ _ closed ∙ ap (λ r. block_at_position (set_of r) []) read in
     let fault : fault_at source earlier event ≡ block_fault source earlier position
     = carries.fault earlier ∙ ap (position_fault source earlier) read ∙ cond-false (is_open earlier) _ _ closed in
     let all : BlockEnds source earlier event old.groups.items position [] (block_end old.groups.items position [])
-    = block_end-ends source earlier event old.groups.items position [] block p (ends_before source earlier old m) in
+    = block_end-ends laws source earlier event old.groups.items position [] block p (ends_before source earlier old m) in
     by_result result g all closed fault
   where
     by_result : (result : Result X FeedFault)
-        → Gives (λ _. new.groups.items) result (block_end old.groups.items position [])
+        → GivesUnless meant_of (λ _. new.groups.items) result (block_end old.groups.items position [])
         → BlockEnds source earlier event old.groups.items position [] (block_end old.groups.items position [])
         → is_open earlier ≡ false
         → fault_at source earlier event ≡ block_fault source earlier position
-        → Puts source earlier event result new
+        → TakesEvent source earlier event result new
     by_result (Ok x) g all closed fault =
         let ends : BlockEnds source earlier event old.groups.items position [] (Ok new.groups.items) = rw g at all in
-        let last : body_position source (event ∷ earlier) ≡ Some position = carries.position earlier ∙ ap (λ r. or_else (set_of r) (body_position source earlier)) read in (
+        let last : body_position source (event ∷ earlier) ≡ Some position = carries.position earlier ∙ ap (λ r. option_or (set_of r) (body_position source earlier)) read in (
           fault ∙ ends.0,
           record {
             body = n ∙ sym (cond-false (is_open (event ∷ earlier)) _ _ (carries.same_open earlier ∙ closed));

@@ -1,10 +1,13 @@
 -- The numbers of the refusals (this profile).
-use Rattle.std.specs.Prelude.{◌≡◌, ℕ, Option, Some, Result, Ok, Err}
+use Rattle.std.specs.Prelude.{ℕ, Option, Some, None}
+use Rattle.vevent.specs.FaultNumber as event
+use Rattle.gtid_set.specs.Fault as position
 use Rattle.gtid_set.specs.declared.fault.GtidFault.{GtidFault}
 use Rattle.gtid_set.specs.declared.fault.GtidFault.TheVariants as gtid
 use Rattle.source_feed.specs.declared.fault.FeedFault.{FeedFault}
 use Rattle.source_feed.specs.declared.fault.FeedFault.TheVariants.{FeedTooLong, Frame, Event, BadPosition, NoPosition, Diverged, FieldsDiffer, NoFields, ColumnCount, OpenAtEnd, ShardMissing, Misplaced, Memory}
 
+-- the number of each refusal
 abbrev pub number_of : FeedFault → ℕ
 number_of FeedTooLong = 95
 number_of Frame = 81
@@ -20,20 +23,16 @@ number_of ShardMissing = 89
 number_of Misplaced = 92
 number_of Memory = 72
 
--- the refusal is the one that a definition gives, unless memory ran out
-abbrev pub Refuses : {Y : Type 0} → FeedFault → Result Y FeedFault → Type 0
-Refuses Memory definition = Unit {0}
-Refuses fault definition = definition ≡ Err fault
+-- what a fault says of the feed: want of memory says nothing
+abbrev pub meant_of : FeedFault → Option FeedFault
+meant_of Memory = None
+meant_of fault = Some fault
 
--- the fault is the one that a definition names, unless memory ran out
-abbrev pub IsFault : FeedFault → Option FeedFault → Type 0
-IsFault Memory definition = Unit {0}
-IsFault fault definition = definition ≡ Some fault
-
--- what a call answered, seen by `view`, is what the definition gives, unless memory ran out
-abbrev pub Gives : {X Y : Type 0} → (X → Y) → Result X FeedFault → Result Y FeedFault → Type 0
-Gives view (Ok x) definition = definition ≡ Ok (view x)
-Gives view (Err fault) definition = Refuses fault definition
+-- the number of the innermost fault, where a fault has a cause: an event's, or a position's
+abbrev pub cause_of : FeedFault → Option ℕ
+cause_of (Event fault) = Some (event.cause_of fault)
+cause_of (BadPosition fault) = Some (position.number_of_fault fault)
+cause_of fault = None
 
 -- what a refused position is for the feed
 abbrev pub refusal_of : GtidFault → FeedFault

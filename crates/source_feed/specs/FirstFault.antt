@@ -3,15 +3,15 @@ use Rattle.std.specs.Prelude.{◌≡◌, ℕ, ◌^◌, ◌<◌, ◌≤◌, List,
 use Rattle.proto_wire.specs.Reading.{Reading}
 use Rattle.vevent.specs.EventValue.{EventValue}
 use Rattle.source_feed.specs.declared.fault.FeedFault.{FeedFault}
-use Rattle.source_feed.specs.declared.fault.FeedFault.TheVariants.{FeedTooLong, OpenAtEnd, Memory}
+use Rattle.source_feed.specs.declared.fault.FeedFault.TheVariants.{FeedTooLong, OpenAtEnd}
 use Rattle.source_feed.specs.SourceValue.{SourceValue}
 use Rattle.source_feed.specs.EventList.{events_of}
-use Rattle.source_feed.specs.History.{History, is_open}
+use Rattle.source_feed.specs.PastEvents.{PastEvents, is_open}
 use Rattle.source_feed.specs.Groups.{first_fault, fault_at}
 
 -- an event has the fault, and none of the events before it has one
 pub record AtEvent (source : SourceValue) (events : List EventValue) (fault : FeedFault) : Type 0 where
-  pub earlier : History
+  pub earlier : PastEvents
   pub event : EventValue
   pub behind : List EventValue
   pub split : events ≡ reverse earlier ++ event ∷ behind
@@ -24,11 +24,7 @@ pub record AtEnd (source : SourceValue) (events : Reading EventValue FeedFault) 
   pub before : first_fault source (reverse events.items) ≡ None
   pub here : (events.fault ≡ Some fault) ⊎ ((events.fault ≡ None) × (is_open (reverse events.items) ≡ true) × (fault ≡ OpenAtEnd))
 
+-- what a refusal says stands in the feed
 abbrev pub StandsIn : List ℕ → SourceValue → FeedFault → Type 0
 StandsIn feed source fault = ((fault ≡ FeedTooLong) × (2 ^ 31 ≤ length feed))
     ⊎ ((length feed < 2 ^ 31) × (AtEvent source (events_of feed).items fault ⊎ AtEnd source (events_of feed) fault))
-
--- a fact of a fault that isn't want of memory
-abbrev pub UnlessMemory : FeedFault → Type 0 → Type 0
-UnlessMemory Memory fact = Unit {0}
-UnlessMemory fault fact = fact

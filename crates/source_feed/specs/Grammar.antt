@@ -3,16 +3,16 @@
 -- ROLLBACK is none; a position outside is a block without changes; what is ignored is nothing.
 use Rattle.std.specs.Prelude.{◌≡◌, ℕ, List, [], ◌∷◌, ◌++◌, reverse, IsTrue, Bool, true, false, Option, None}
 use Rattle.std.specs.List.{AllByRecursion, flat_map}
-use Rattle.std.specs.Option.{option_to_list}
+use Rattle.std.specs.Option.{option_to_list, option_or}
 use Rattle.vevent.specs.declared.ignored.IgnoredEvent.{IgnoredEvent}
 use Rattle.vevent.specs.EventValue.{EventValue, Begin, Commit, Rollback, Row, Field, Ignored}
 use Rattle.source_feed.specs.GroupValue.{Position, TableChangeValue}
 use Rattle.source_feed.specs.SourceValue.{SourceValue, table_of}
-use Rattle.source_feed.specs.History.{History, is_open, columns_of, position_of, or_else, changes_in}
+use Rattle.source_feed.specs.PastEvents.{PastEvents, is_open, last_field, position_of, changes_in}
 use Rattle.source_feed.specs.Groups.{Block, block_at, block_at_position}
 
 -- all blocks of a history, in order
-abbrev pub blocks : SourceValue → History → List Block
+abbrev pub blocks : SourceValue → PastEvents → List Block
 blocks source [] = []
 blocks source (event ∷ earlier) = blocks source earlier ++ option_to_list (block_at source earlier event)
 
@@ -26,7 +26,7 @@ is_inner event = true
 -- the last position of a body, its events in order
 abbrev pub last_position_in : SourceValue → List EventValue → Option Position
 last_position_in source [] = None
-last_position_in source (event ∷ body) = or_else (last_position_in source body) (position_of source event)
+last_position_in source (event ∷ body) = option_or (last_position_in source body) (position_of source event)
 
 -- the changes of an event
 abbrev pub changes_at : SourceValue → EventValue → List TableChangeValue
@@ -34,7 +34,7 @@ changes_at source (Row name changes) = changes_in (table_of source name) changes
 changes_at source event = []
 
 -- behind BEGIN and a body, before it `earlier`; a history has its latest event first
-abbrev pub inside : History → List EventValue → History
+abbrev pub inside : PastEvents → List EventValue → PastEvents
 inside earlier body = reverse body ++ Begin ∷ earlier
 
 -- only a FIELD sets columns; the end of a transaction, a rollback too, leaves them
@@ -43,11 +43,11 @@ changes_columns (Field name columns) = true
 changes_columns event = false
 
 pub record BlockGrammar (source : SourceValue) : Type 0 where
-  pub committed : (earlier : History) (body : List EventValue) → AllByRecursion (λ event. IsTrue (is_inner event)) body
+  pub committed : (earlier : PastEvents) (body : List EventValue) → AllByRecursion (λ event. IsTrue (is_inner event)) body
       → blocks source (Commit ∷ inside earlier body) ≡ blocks source earlier ++ option_to_list (block_at_position (last_position_in source body) (flat_map (changes_at source) body))
-  pub rolled_back : (earlier : History) (body : List EventValue) → AllByRecursion (λ event. IsTrue (is_inner event)) body
+  pub rolled_back : (earlier : PastEvents) (body : List EventValue) → AllByRecursion (λ event. IsTrue (is_inner event)) body
       → blocks source (Rollback ∷ inside earlier body) ≡ blocks source earlier
-  pub outside : (earlier : History) (event : EventValue) → is_open earlier ≡ false
+  pub outside : (earlier : PastEvents) (event : EventValue) → is_open earlier ≡ false
       → blocks source (event ∷ earlier) ≡ blocks source earlier ++ option_to_list (block_at_position (position_of source event) [])
-  pub ignored : (earlier : History) (kind : IgnoredEvent) → blocks source (Ignored kind ∷ earlier) ≡ blocks source earlier
-  pub columns_stay : (earlier : History) (table : List ℕ) (event : EventValue) → changes_columns event ≡ false → columns_of source (event ∷ earlier) table ≡ columns_of source earlier table
+  pub ignored : (earlier : PastEvents) (kind : IgnoredEvent) → blocks source (Ignored kind ∷ earlier) ≡ blocks source earlier
+  pub columns_stay : (earlier : PastEvents) (table : List ℕ) (event : EventValue) → changes_columns event ≡ false → last_field source (event ∷ earlier) table ≡ last_field source earlier table

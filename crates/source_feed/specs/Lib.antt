@@ -2,12 +2,11 @@ pub mod FaultNumber
 pub mod GroupValue
 pub mod SourceValue
 pub mod EventList
-pub mod History
+pub mod PastEvents
 pub mod Groups
 pub mod Grammar
-pub mod Run
-pub mod Widths
-pub mod BlockEnd
-pub mod Means
+pub mod GroupOrder
+pub mod KeptBlocks
 pub mod Planned
 pub mod FirstFault
+pub mod Private

@@ -1,7 +1,7 @@
 //! Why a feed is refused.
 
 ghost use Rattle.std.specs.Prelude.{◌≡◌};
-ghost use Rattle.source_feed.specs.FaultNumber.{number_of};
+ghost use Rattle.source_feed.specs.FaultNumber.{number_of, cause_of};
 
 use gtid_set::GtidFault;
 use proto_wire::FrameFault;
@@ -10,7 +10,7 @@ use thiserror::Error;
 use vevent::EventFault;
 
 /// What stands in a feed at the first place where its groups aren't defined.
-#[derive(Debug, Drop, Error)]
+#[derive(Clone, Copy, Debug, PartialEq, Eq, Error)]
 pub enum FeedFault {
     /// The feed has more than 2^31 - 1 bytes. It comes before all other faults.
     #[error("the feed has more than 2^31 - 1 bytes")]
@@ -73,6 +73,18 @@ impl FeedFault {
             FeedFault::ShardMissing => 89,
             FeedFault::Misplaced => 92,
             FeedFault::Memory => 72,
+        }
+    }
+
+    /// The number of the innermost fault, where the fault has a cause: 1 to 5, 12 to 14 or 22 to 25 of
+    /// an event, 31 to 36 of a position.
+    pub fn cause(&self) -> Option<u8>
+        ensures { result ≡ cause_of self.now }
+    {
+        match self {
+            FeedFault::Event(fault) => Some(fault.cause()),
+            FeedFault::BadPosition(fault) => Some(fault.number()),
+            _ => None,
         }
     }
 }

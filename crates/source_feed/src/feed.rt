@@ -1,16 +1,16 @@
 //! A feed under a plan.
 
-ghost use Rattle.std.specs.Prelude.{◌≡◌, ◌↔◌, [], length, map, IsTrue, IfOk};
+ghost use Rattle.std.specs.Prelude.{◌≡◌, ◌↔◌, [], length, IsTrue, IfOk};
 ghost use Rattle.std.specs.Arc.{arc_value};
-ghost use Rattle.filter_rule.specs.PlanValue.{PlanValue};
-ghost use Rattle.source_feed.specs.FaultNumber.{Gives};
-ghost use Rattle.source_feed.specs.Planned.{planned_of, groups_under};
+ghost use Rattle.outcome.specs.Outcome.{GivesUnless};
+ghost use Rattle.source_feed.specs.FaultNumber.{meant_of};
+ghost use Rattle.source_feed.specs.Planned.{groups_under, IsFeed};
 
 use crate::fault::FeedFault;
-use crate::group::Group;
+use crate::field_check::FieldCheck;
 use crate::groups::read;
+use crate::planned::{PlannedGroup, planned_groups};
 use crate::source::Source;
-use crate::watch::Watch;
 use filter_rule::Plan;
 use std::alloc::Global;
 use std::marker::Model;
@@ -20,25 +20,18 @@ use std::sync::Arc;
 #[derive(Drop)]
 pub struct Feed<'h> {
     plan: Arc<Plan>,
-    groups: Vec<Group<'h>>,
+    groups: Vec<PlannedGroup<'h>>,
 }
 
 impl<'h> Model for Feed<'h> {
     ghost use Rattle.std.specs.Arc.{arc_value};
-    ghost use Rattle.source_feed.specs.Planned.{FeedValue};
+    ghost use Rattle.source_feed.specs.Planned.{FeedValue, IsFeed};
 
     ghost Value = { FeedValue };
 
     ghost view = { λ f. record { plan = arc_value f.plan; groups = f.groups.items } };
-}
 
-/// Drops the changes of tables that the plan doesn't have.
-fn keep_planned(plan: &Plan, groups: &mut Vec<Group<'_>>)
-    ensures { groups.new.items ≡ map (planned_of plan.now) groups.old.items }
-{
-    for group in groups.iter_mut() {
-        group.keep_planned(plan);
-    }
+    ghost invariant = { λ f. IsFeed (record { plan = arc_value f.plan; groups = f.groups.items }) };
 }
 
 impl<'h> Feed<'h> {
@@ -49,19 +42,21 @@ impl<'h> Feed<'h> {
     /// Refused as `read_groups` refuses; if nothing else is refused, `FieldsDiffer` where a FIELD event
     /// of a planned table differs from the plan in names, types or order, wherever it stands.
     pub fn open(alloc: Global, feed: &'h [u8], plan: &Arc<Plan>) -> Result<Feed<'h>, FeedFault>
-        ensures groups { Gives (λ opened. opened.groups) result (groups_under feed.now (arc_value plan.now)) }
+        ensures groups { GivesUnless meant_of (λ opened. opened.groups) result (groups_under feed.now (arc_value plan.now)) }
         ensures plan { IfOk result (λ opened. opened.plan ≡ arc_value plan.now) }
+        // Its groups are in order, and each change is of a table of the plan, with rows of its width.
+        ensures whole { IfOk result IsFeed }
     {
         let source = Source {
             keyspace: plan.keyspace(),
             shard: plan.shard(),
         };
-        let mut watch = Watch::new(Some(plan));
-        let mut groups = read(alloc, feed, &source, &mut watch)?;
-        if watch.differs {
+        let mut field_check = FieldCheck::new(Some(plan));
+        let groups = read(alloc, feed, &source, &mut field_check)?;
+        if field_check.differs {
             return Err(FeedFault::FieldsDiffer);
         }
-        keep_planned(plan, &mut groups);
+        let groups = planned_groups(alloc, plan, groups)?;
         Ok(Feed {
             plan: Arc::clone(plan)?,
             groups,
@@ -90,8 +85,9 @@ impl<'h> Feed<'h> {
     }
 
     /// The groups, in order.
-    pub fn groups(&self) -> &[Group<'h>]
-        ensures { result.now ≡ self.now.groups }
+    pub fn groups(&self) -> &[PlannedGroup<'h>]
+        ensures groups { result.now ≡ self.now.groups }
+        ensures whole { IsFeed self.now }
     {
         self.groups.as_slice()
     }

@@ -1,10 +1,7 @@
 //! Groups of changes.
 
-ghost use Rattle.std.specs.Prelude.{◌≡◌, filter};
-ghost use Rattle.source_feed.specs.GroupValue.{TableChangeValue, GroupValue};
-ghost use Rattle.source_feed.specs.Planned.{is_planned, planned_of};
+ghost use Rattle.std.specs.Prelude.{◌≡◌};
 
-use filter_rule::Plan;
 use gtid_set::GtidSet;
 use row_view::RowView;
 use std::marker::Model;
@@ -86,26 +83,4 @@ impl<'h> Group<'h> {
     {
         self.changes.as_slice()
     }
-
-    /// Drops the changes of tables that the plan doesn't have.
-    pub(crate) fn keep_planned(&mut self, plan: &Plan)
-        ensures { self.new ≡ planned_of plan.now self.old }
-    {
-        retain_planned(plan, &mut self.changes);
-        self.changes.shrink_to_fit();
-    }
-}
-
-/// The change is of a table of the plan.
-fn is_planned(plan: &Plan, change: &Change<'_>) -> bool
-    ensures { result ≡ is_planned plan.now change.now }
-{
-    plan.table(change.table()).is_some()
-}
-
-/// Drops the changes of tables that the plan doesn't have.
-fn retain_planned(plan: &Plan, changes: &mut Vec<Change<'_>>)
-    ensures { changes.new.items ≡ filter (is_planned plan.now) changes.old.items }
-{
-    changes.retain(|change| is_planned(plan, change));
 }

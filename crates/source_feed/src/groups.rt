@@ -1,22 +1,27 @@
 //! The groups of a feed.
 
-ghost use Rattle.std.specs.Prelude.{◌≡◌, ◌||◌, ℕ, ◌+◌, ◌^◌, ◌<◌, ◌≤◌, [], length, option_copied, OnOk, IfOk, IfErr};
+ghost use Rattle.std.specs.Prelude.{◌≡◌, ◌||◌, ℕ, ◌+◌, ◌^◌, ◌<◌, ◌≤◌, [], length, option_copied, OnOk, IfOk, IfErr, IfSome};
 ghost use Rattle.std.specs.List.{list_any};
 ghost use Rattle.vevent.specs.Response.{response_of};
-ghost use Rattle.source_feed.specs.FaultNumber.{Gives, Refuses};
+ghost use Rattle.outcome.specs.Outcome.{GivesUnless, Refuses};
+ghost use Rattle.source_feed.specs.FaultNumber.{meant_of};
 ghost use Rattle.source_feed.specs.EventList.{end_of_message, events_of};
-ghost use Rattle.source_feed.specs.History.{History};
+ghost use Rattle.source_feed.specs.PastEvents.{PastEvents};
+ghost use Rattle.source_feed.specs.declared.fault.FeedFault.TheVariants.{FeedTooLong};
+ghost use Rattle.source_feed.specs.GroupValue.{GroupValue};
+ghost use Rattle.source_feed.specs.GroupOrder.{AreInOrder};
 ghost use Rattle.source_feed.specs.Groups.{groups};
-ghost use Rattle.source_feed.specs.FirstFault.{StandsIn, UnlessMemory};
-ghost use Rattle.source_feed.specs.Run.{run};
+ghost use Rattle.source_feed.specs.FirstFault.{StandsIn};
+ghost use Rattle.source_feed.specs.Private.EventByEvent.{past_behind};
 ghost use Rattle.source_feed.specs.Planned.{differs_from};
-ghost use Rattle.source_feed.specs.Means.{Means, Runs};
+ghost use Rattle.source_feed.specs.Private.ReaderState.{IsBehind, TakesEvents};
 
 use crate::fault::FeedFault;
+use crate::field_check::FieldCheck;
 use crate::group::Group;
-use crate::pass::Pass;
+use crate::group_reader::GroupReader;
+use crate::set_laws::set_laws;
 use crate::source::Source;
-use crate::watch::Watch;
 use proto_wire::Frames;
 use std::alloc::Global;
 use vevent::Response;
@@ -27,22 +32,22 @@ pub const FEED_BYTES: usize = 2_147_483_647;
 /// Takes the events of one message.
 fn put_message<'h>(
     alloc: Global,
-    pass: &mut Pass<'h>,
+    reader: &mut GroupReader<'h>,
     source: &Source<'_>,
-    watch: &mut Watch<'_>,
+    field_check: &mut FieldCheck<'_>,
     message: &'h [u8],
 ) -> Result<(), FeedFault>
-    requires { length pass.old.groups.items + length (response_of message.now).items < 2 ^ 32 }
-    ensures meaning { (earlier : History) → Means source.now earlier pass.old →
-        Runs source.now (run source.now earlier (response_of message.now).items (end_of_message (response_of message.now).fault)) result pass.new }
-    ensures grows { length pass.new.groups.items ≤ length pass.old.groups.items + length (response_of message.now).items }
-    ensures plan { option_copied watch.new.plan ≡ option_copied watch.old.plan }
-    ensures seen { OnOk result (watch.new.differs ≡ (watch.old.differs || list_any (differs_from (option_copied watch.old.plan)) (response_of message.now).items)) }
+    requires { length reader.old.groups.items + length (response_of message.now).items < 2 ^ 32 }
+    ensures meaning { (earlier : PastEvents) → IsBehind source.now earlier reader.old →
+        TakesEvents source.now (past_behind source.now earlier (response_of message.now).items (end_of_message (response_of message.now).fault)) result reader.new }
+    ensures grows { length reader.new.groups.items ≤ length reader.old.groups.items + length (response_of message.now).items }
+    ensures plan { option_copied field_check.new.plan ≡ option_copied field_check.old.plan }
+    ensures seen { OnOk result (field_check.new.differs ≡ (field_check.old.differs || list_any (differs_from (option_copied field_check.old.plan)) (response_of message.now).items)) }
 {
     let mut events = Response::new(message);
     while let Some(event) = events.next_event()? {
-        watch.see(&event);
-        pass.put(alloc, source, event)?;
+        field_check.see(&event);
+        reader.put(alloc, source, event)?;
     }
     Ok(())
 }
@@ -51,37 +56,42 @@ fn put_message<'h>(
 fn put_feed<'h>(
     alloc: Global,
     source: &Source<'_>,
-    watch: &mut Watch<'_>,
+    field_check: &mut FieldCheck<'_>,
     feed: &'h [u8],
-) -> Result<Pass<'h>, FeedFault>
+) -> Result<GroupReader<'h>, FeedFault>
     requires { length feed.now < 2 ^ 31 }
-    ensures ok { IfOk result (λ pass. Runs source.now (run source.now [] (events_of feed.now).items (events_of feed.now).fault) result pass) }
-    ensures err { IfErr result (λ fault. Refuses fault (run source.now [] (events_of feed.now).items (events_of feed.now).fault)) }
-    ensures seen { OnOk result (watch.new.differs ≡ (watch.old.differs || list_any (differs_from (option_copied watch.old.plan)) (events_of feed.now).items)) }
+    ensures ok { IfOk result (λ reader. TakesEvents source.now (past_behind source.now [] (events_of feed.now).items (events_of feed.now).fault) result reader) }
+    ensures few { IfOk result (λ reader. length reader.groups.items < 2 ^ 31) }
+    ensures err { IfErr result (λ fault. Refuses meant_of fault (past_behind source.now [] (events_of feed.now).items (events_of feed.now).fault)) }
+    ensures seen { OnOk result (field_check.new.differs ≡ (field_check.old.differs || list_any (differs_from (option_copied field_check.old.plan)) (events_of feed.now).items)) }
 {
-    let mut pass = Pass::new(alloc);
+    let mut reader = GroupReader::new(alloc);
     let mut frames = Frames::new(feed);
     while let Some(message) = frames.next_frame()? {
-        put_message(alloc, &mut pass, source, watch, message)?;
+        put_message(alloc, &mut reader, source, field_check, message)?;
     }
-    Ok(pass)
+    Ok(reader)
 }
 
-/// The groups of a feed, or its fault; each event is seen by the watch.
+/// The groups of a feed, or its fault; each event is checked against the plan, where there is one.
 pub(crate) fn read<'h>(
     alloc: Global,
     feed: &'h [u8],
     source: &Source<'_>,
-    watch: &mut Watch<'_>,
+    field_check: &mut FieldCheck<'_>,
 ) -> Result<Vec<Group<'h>>, FeedFault>
-    ensures groups { Gives (λ all. all.items) result (groups feed.now source.now) }
-    ensures seen { OnOk result (watch.new.differs ≡ (watch.old.differs || list_any (differs_from (option_copied watch.old.plan)) (events_of feed.now).items)) }
+    ensures groups { GivesUnless meant_of (λ all. all.items) result (groups feed.now source.now) }
+    ensures order { IfOk result (λ all. AreInOrder (λ (g : GroupValue). g.number) (λ (g : GroupValue). g.position) all.items) }
+    ensures few { IfOk result (λ all. length all.items < 2 ^ 31) }
+    ensures seen { OnOk result (field_check.new.differs ≡ (field_check.old.differs || list_any (differs_from (option_copied field_check.old.plan)) (events_of feed.now).items)) }
+    ensures too_long { 2 ^ 31 ≤ length feed.now → result ≡ Err FeedTooLong }
 {
     if feed.len() > FEED_BYTES {
         return Err(FeedFault::FeedTooLong);
     }
-    let pass = put_feed(alloc, source, watch, feed)?;
-    pass.end()
+    set_laws();
+    let reader = put_feed(alloc, source, field_check, feed)?;
+    reader.end()
 }
 
 /// The groups of a feed that was recorded from a shard: the changes that are applied together, each
@@ -100,10 +110,15 @@ pub fn read_groups<'h>(
     shard: &str,
 ) -> Result<Vec<Group<'h>>, FeedFault>
     // The groups are given exactly where they are defined, and else the fault.
-    ensures exact { Gives (λ all. all.items) result (groups feed.now (record { keyspace = keyspace.now; shard = shard.now })) }
+    ensures exact { GivesUnless meant_of (λ all. all.items) result (groups feed.now (record { keyspace = keyspace.now; shard = shard.now })) }
+    // They are numbered 1, 2, .., their positions grow from the empty set, and they are fewer than 2^31.
+    ensures order { IfOk result (λ all. AreInOrder (λ (g : GroupValue). g.number) (λ (g : GroupValue). g.position) all.items) }
+    ensures few { IfOk result (λ all. length all.items < 2 ^ 31) }
+    // A feed above the limit is refused for that, before all else.
+    ensures too_long { 2 ^ 31 ≤ length feed.now → result ≡ Err FeedTooLong }
     // What a refusal says stands in the feed, and nothing is at fault before it.
-    ensures first { IfErr result (λ fault. UnlessMemory fault (StandsIn feed.now (record { keyspace = keyspace.now; shard = shard.now }) fault)) }
+    ensures first { IfErr result (λ fault. IfSome (meant_of fault) (StandsIn feed.now (record { keyspace = keyspace.now; shard = shard.now }))) }
 {
     let source = Source { keyspace, shard };
-    read(alloc, feed, &source, &mut Watch::new(None))
+    read(alloc, feed, &source, &mut FieldCheck::new(None))
 }

@@ -3,16 +3,20 @@
 
 mod fault;
 mod feed;
+mod field_check;
 mod group;
+mod group_reader;
 mod groups;
 mod laws;
-mod pass;
+mod planned;
+mod set_laws;
 mod source;
-mod watch;
-mod widths;
+mod table_widths;
+mod transaction;
 
 pub use fault::FeedFault;
 pub use feed::Feed;
 pub use group::{Change, Group};
 pub use groups::{FEED_BYTES, read_groups};
-pub use laws::blocks_are_a_grammar;
+pub use laws::{blocks_are_a_grammar, groups_are_the_kept_blocks};
+pub use planned::{PlannedChange, PlannedGroup};

@@ -1,0 +1,17 @@
+use Rattle.std.proofs.Common.{refl, ap}
+use Rattle.vevent.specs.EventValue.{Gtid, Vgtid}
+use Rattle.source_feed.specs.Private.ReaderState.{body_held}
+use Rattle.source_feed.proofs.Steps.{position-puts, carries-gtid, carries-vgtid}
+use Rattle.source_feed.proofs.group_reader.GroupReader.put_position.Goals as goal
+
+pub returns-in-None-clause-gtid : goal.returns-in-None-clause-gtid
+returns-in-None-clause-gtid c = λ source earlier m.
+    position-puts c.set_laws.ensures source earlier (Gtid c.args.text.now) c.args.text.now c.args.self.now (record { transaction = c.args.self.now.transaction; widths = c.args.self.now.widths; groups = c.end_block.new.groups }) c.end_block.result c.in_ok-position.position
+    (carries-gtid source c.args.text.now) c.in_ok-position.ensures.exact c.in_ok-position.ensures.canonical m
+    (ap body_held c.in-None.is) (ap body_held c.in-None.is) (λ table. refl) (rw c.new.ensures.items at c.end_block.ensures.block)
+
+pub returns-in-None-clause-vgtid : goal.returns-in-None-clause-vgtid
+returns-in-None-clause-vgtid c = λ source earlier entries own m.
+    position-puts c.set_laws.ensures source earlier (Vgtid entries) c.args.text.now c.args.self.now (record { transaction = c.args.self.now.transaction; widths = c.args.self.now.widths; groups = c.end_block.new.groups }) c.end_block.result c.in_ok-position.position
+    (carries-vgtid source entries c.args.text.now own) c.in_ok-position.ensures.exact c.in_ok-position.ensures.canonical m
+    (ap body_held c.in-None.is) (ap body_held c.in-None.is) (λ table. refl) (rw c.new.ensures.items at c.end_block.ensures.block)

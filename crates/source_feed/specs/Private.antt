@@ -1,0 +1,6 @@
+-- What serves the loops over a feed alone, and no public contract.
+pub mod SetLaws
+pub mod EventByEvent
+pub mod TableWidths
+pub mod BlockEnd
+pub mod ReaderState

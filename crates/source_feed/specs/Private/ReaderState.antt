@@ -1,0 +1,48 @@
+-- What the reader over a feed's events keeps, against all events before.
+use Rattle.std.specs.Prelude.{◌≡◌, ℕ, List, ◌∷◌, Option, None, Some, Result, Ok, Err, if◌then◌else◌}
+use Rattle.std.specs.Option.{option_map}
+use Rattle.gtid_set.specs.Position.{IsCanonical}
+use Rattle.vevent.specs.EventValue.{EventValue}
+use Rattle.source_feed.specs.declared.fault.FeedFault.{FeedFault}
+use Rattle.source_feed.specs.declared.transaction.Transaction.{Transaction}
+use Rattle.source_feed.specs.declared.group_reader.GroupReader.{GroupReader}
+use Rattle.source_feed.specs.Private.BlockEnd.{last_position}
+use Rattle.outcome.specs.Outcome.{Refuses, IsFault}
+use Rattle.source_feed.specs.FaultNumber.{meant_of}
+use Rattle.source_feed.specs.GroupValue.{Position, TableChangeValue}
+use Rattle.source_feed.specs.SourceValue.{SourceValue}
+use Rattle.source_feed.specs.PastEvents.{PastEvents, is_open, width_of, body_position, body_changes}
+use Rattle.source_feed.specs.Groups.{seen, groups_of, fault_at}
+use Rattle.source_feed.specs.Private.TableWidths.{width_in, counted}
+
+-- what an open transaction has so far
+pub record Body : Type 0 where
+  pub position : Option Position
+  pub changes : List TableChangeValue
+
+abbrev pub body_of : SourceValue → PastEvents → Option Body
+body_of source history = if is_open history then Some (record { position = body_position source history; changes = body_changes source history }) else None
+
+abbrev pub body_held : Option Transaction → Option Body
+body_held None = None
+body_held (Some transaction) = Some (record { position = transaction.position; changes = transaction.changes.items })
+
+-- The reader keeps what these events say, with the last group's position alone in place of the union of
+-- all earlier positions.
+pub record IsBehind (source : SourceValue) (history : PastEvents) (reader : GroupReader) : Type 0 where
+  pub body : body_held reader.transaction ≡ body_of source history
+  pub widths : (table : List ℕ) → width_in reader.widths table ≡ option_map counted (width_of source history table)
+  pub groups : reader.groups.items ≡ groups_of source history
+  pub last : last_position reader.groups.items ≡ seen source history
+  pub seen_canonical : IsCanonical (seen source history)
+  pub body_canonical : (position : Position) → body_position source history ≡ Some position → IsCanonical position
+
+-- what a call that takes one more event answers and leaves
+abbrev pub TakesEvent : {X : Type 0} → SourceValue → PastEvents → EventValue → Result X FeedFault → GroupReader → Type 0
+TakesEvent source earlier event (Ok x) new = (fault_at source earlier event ≡ None) × IsBehind source (event ∷ earlier) new
+TakesEvent source earlier event (Err fault) new = IsFault meant_of fault (fault_at source earlier event)
+
+-- what a call that takes some more events answers and leaves, where they say this
+abbrev pub TakesEvents : {X : Type 0} → SourceValue → Result PastEvents FeedFault → Result X FeedFault → GroupReader → Type 0
+TakesEvents source expected (Ok x) new = (history : PastEvents) × (expected ≡ Ok history) × IsBehind source history new
+TakesEvents source expected (Err fault) new = Refuses meant_of fault expected

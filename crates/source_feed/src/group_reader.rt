@@ -1,0 +1,222 @@
+//! The groups of the events of a feed, event after event.
+
+ghost use Rattle.std.specs.Prelude.{◌≡◌, ℕ, true, List, Option, ◌+◌, ◌^◌, ◌<◌, ◌≤◌, ◌++◌, [], Some, None, Ok, OnOk, IfOk, IfErr, length};
+ghost use Rattle.std.specs.Option.{option_map};
+ghost use Rattle.vevent.specs.EventValue as value;
+ghost use Rattle.vevent.specs.EventValue.{ShardGtidValue};
+ghost use Rattle.source_feed.specs.SourceValue.{SourceValue, own_gtid};
+ghost use Rattle.source_feed.specs.Private.BlockEnd.{last_position, block_end};
+ghost use Rattle.outcome.specs.Outcome.{GivesUnless};
+ghost use Rattle.source_feed.specs.FaultNumber.{meant_of};
+ghost use Rattle.source_feed.specs.PastEvents.{PastEvents};
+ghost use Rattle.source_feed.specs.Private.EventByEvent.{groups_at_end};
+ghost use Rattle.source_feed.specs.Private.TableWidths.{counted};
+
+use crate::fault::FeedFault;
+use crate::group::{Change, Group};
+use crate::set_laws::set_laws;
+use crate::source::Source;
+use crate::table_widths::TableWidths;
+use crate::transaction::Transaction;
+use gtid_set::GtidSet;
+use std::alloc::Global;
+use vevent::{ColumnFields, Event, FieldEvent, RowEvent};
+
+/// What is known behind some events of a feed.
+#[derive(Drop)]
+pub(crate) struct GroupReader<'h> {
+    /// the open transaction, if one is open
+    transaction: Option<Transaction<'h>>,
+    /// the number of columns of each table's last FIELD
+    widths: TableWidths<'h>,
+    /// the groups so far; the last one's position contains all earlier positions
+    groups: Vec<Group<'h>>,
+}
+
+/// The number of columns of a FIELD event; more than 65,535 count as 65,535.
+fn column_count(fields: ColumnFields<'_>) -> u16
+    ensures { result ≡ counted (length fields.entry) }
+{
+    let mut count: u16 = 0;
+    for _column in fields {
+        count = count.saturating_add(1);
+    }
+    count
+}
+
+/// The position of the last group, or the empty one.
+fn last_position<'g>(groups: &'g [Group<'_>], empty: &'g GtidSet) -> &'g GtidSet
+    requires { empty.now ≡ [] }
+    ensures { result.now ≡ last_position groups.now }
+{
+    match groups.last() {
+        None => empty,
+        Some(group) => group.position(),
+    }
+}
+
+/// Ends a block: it is kept behind the groups, or skipped as a repeat, or refused as diverged.
+fn end_block<'h>(
+    alloc: Global,
+    groups: &mut Vec<Group<'h>>,
+    position: GtidSet,
+    changes: Vec<Change<'h>>,
+) -> Result<(), FeedFault>
+    requires { length groups.old.items + 1 < 2 ^ 32 }
+    ensures block { GivesUnless meant_of (λ _. groups.new.items) result (block_end groups.old.items position changes.entry.items) }
+    ensures grows { length groups.new.items ≤ length groups.old.items + 1 }
+{
+    let empty = GtidSet::new();
+    let last = last_position(groups, &empty);
+    if position.is_within(last) {
+        return Ok(());
+    }
+    let number = groups.len() as u32 + 1;
+    if !last.is_within(&position) {
+        return Err(FeedFault::Diverged(number));
+    }
+    let mut changes = changes;
+    changes.shrink_to_fit();
+    groups.push(Group {
+        number,
+        position,
+        changes,
+    })?;
+    Ok(())
+}
+
+impl<'h> GroupReader<'h> {
+    ghost use Rattle.source_feed.specs.Private.ReaderState.{IsBehind, TakesEvent};
+    ghost use Rattle.vevent.specs.EventView.{event_value};
+
+    /// Nothing is known yet. Takes no memory.
+    pub(crate) fn new(alloc: Global) -> GroupReader<'h>
+        ensures meaning { (source : SourceValue) → IsBehind source [] result }
+        ensures none { result.groups.items ≡ [] }
+    {
+        GroupReader {
+            transaction: None,
+            widths: TableWidths::new(alloc),
+            groups: Vec::new(alloc),
+        }
+    }
+
+    /// Takes one more event.
+    pub(crate) fn put(
+        &mut self,
+        alloc: Global,
+        source: &Source<'_>,
+        event: Event<'h>,
+    ) -> Result<(), FeedFault>
+        requires { length self.old.groups.items + 1 < 2 ^ 32 }
+        ensures meaning { (earlier : PastEvents) → IsBehind source.now earlier self.old → TakesEvent source.now earlier (event_value event.entry) result self.new }
+        ensures grows { length self.new.groups.items ≤ length self.old.groups.items + 1 }
+    {
+        match event {
+            Event::Begin => self.begin(alloc),
+            Event::Commit => self.commit(alloc),
+            Event::Rollback => {
+                self.transaction = None;
+                Ok(())
+            }
+            Event::Row(row) => self.put_row(source, &row),
+            Event::Field(field) => self.put_field(source, &field),
+            Event::Gtid(text) => self.put_position(alloc, text),
+            Event::Vgtid(vgtid) => match source.own_gtid(&vgtid) {
+                Some(text) => self.put_position(alloc, text),
+                None => Err(FeedFault::ShardMissing),
+            },
+            Event::Ignored(_) => Ok(()),
+        }
+    }
+
+    /// The groups, where no transaction is open.
+    pub(crate) fn end(self) -> Result<Vec<Group<'h>>, FeedFault>
+        ensures groups { (source : SourceValue) (history : PastEvents) → IsBehind source history self.entry → GivesUnless meant_of (λ all. all.items) result (groups_at_end source (Ok history)) }
+        ensures held { IfOk result (λ all. all.items ≡ self.entry.groups.items) }
+    {
+        let GroupReader {
+            transaction,
+            widths: _,
+            groups,
+        } = self;
+        if transaction.is_some() {
+            return Err(FeedFault::OpenAtEnd);
+        }
+        Ok(groups)
+    }
+
+    /// BEGIN opens a transaction; inside of one it is refused.
+    fn begin(&mut self, alloc: Global) -> Result<(), FeedFault>
+        ensures meaning { (source : SourceValue) (earlier : PastEvents) → IsBehind source earlier self.old → TakesEvent source earlier value.Begin result self.new }
+        ensures same { self.new.groups.items ≡ self.old.groups.items }
+    {
+        if self.transaction.is_some() {
+            return Err(FeedFault::Misplaced);
+        }
+        self.transaction = Some(Transaction {
+            position: None,
+            changes: Vec::new(alloc),
+        });
+        Ok(())
+    }
+
+    /// COMMIT ends the transaction as a block; outside of one it is ignored.
+    fn commit(&mut self, alloc: Global) -> Result<(), FeedFault>
+        requires { length self.old.groups.items + 1 < 2 ^ 32 }
+        ensures meaning { (source : SourceValue) (earlier : PastEvents) → IsBehind source earlier self.old → TakesEvent source earlier value.Commit result self.new }
+        ensures grows { length self.new.groups.items ≤ length self.old.groups.items + 1 }
+    {
+        let Some(Transaction { position, changes }) = self.transaction.take() else {
+            return Ok(());
+        };
+        let Some(position) = position else {
+            return Err(FeedFault::NoPosition);
+        };
+        set_laws();
+        end_block(alloc, &mut self.groups, position, changes)
+    }
+
+    /// A ROW needs an open transaction, a FIELD of its table, and rows with as many columns.
+    fn put_row(&mut self, source: &Source<'_>, row: &RowEvent<'h>) -> Result<(), FeedFault>
+        ensures meaning { (earlier : PastEvents) → IsBehind source.now earlier self.old → TakesEvent source.now earlier (value.Row row.now.table_name row.now.changes) result self.new }
+        ensures same { self.new.groups.items ≡ self.old.groups.items }
+    {
+        let table = source.table(row.table_name());
+        let width = self.widths.get(table);
+        match &mut self.transaction {
+            Some(transaction) => transaction.put_row(table, width, row),
+            None => Err(FeedFault::Misplaced),
+        }
+    }
+
+    /// FIELD sets the columns of its table from here on.
+    fn put_field(&mut self, source: &Source<'_>, field: &FieldEvent<'h>) -> Result<(), FeedFault>
+        ensures meaning { (earlier : PastEvents) → IsBehind source.now earlier self.old → TakesEvent source.now earlier (value.Field field.now.table_name field.now.fields) result self.new }
+        ensures same { self.new.groups.items ≡ self.old.groups.items }
+    {
+        self.widths.set(
+            source.table(field.table_name()),
+            column_count(field.fields()),
+        )?;
+        Ok(())
+    }
+
+    /// A position counts for the open transaction if no other follows; outside of one it ends a block.
+    fn put_position(&mut self, alloc: Global, text: &str) -> Result<(), FeedFault>
+        requires { length self.old.groups.items + 1 < 2 ^ 32 }
+        ensures gtid { (source : SourceValue) (earlier : PastEvents) → IsBehind source earlier self.old → TakesEvent source earlier (value.Gtid text.now) result self.new }
+        ensures vgtid { (source : SourceValue) (earlier : PastEvents) (entries : List ShardGtidValue) → own_gtid source entries ≡ Some text.now → IsBehind source earlier self.old → TakesEvent source earlier (value.Vgtid entries) result self.new }
+        ensures grows { length self.new.groups.items ≤ length self.old.groups.items + 1 }
+    {
+        set_laws();
+        let position = GtidSet::parse(alloc, text)?;
+        match &mut self.transaction {
+            Some(transaction) => {
+                transaction.position = Some(position);
+                Ok(())
+            }
+            None => end_block(alloc, &mut self.groups, position, Vec::new(alloc)),
+        }
+    }
+}

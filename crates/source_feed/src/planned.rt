@@ -1,0 +1,157 @@
+//! Groups under a plan.
+
+ghost use Rattle.std.specs.Prelude.{◌≡◌, map, IfOk, IfErr};
+ghost use Rattle.std.specs.List.{filter_map};
+ghost use Rattle.source_feed.specs.declared.fault.FeedFault.TheVariants.{Memory};
+ghost use Rattle.source_feed.specs.Planned.{planned_change, planned_group};
+
+use crate::fault::FeedFault;
+use crate::group::{Change, Group};
+use filter_rule::Plan;
+use gtid_set::GtidSet;
+use row_view::RowView;
+use std::alloc::{AllocError, Global};
+use std::marker::Model;
+use std::sync::Arc;
+use vevent::RowChange;
+
+/// A change of one row of a planned table, in 24 bytes: the table's number in the plan, and the slice of
+/// the row change. A view of a row is made when it is asked for.
+#[derive(Drop)]
+pub struct PlannedChange<'h> {
+    table: u8,
+    rows: RowChange<'h>,
+}
+
+impl<'h> Model for PlannedChange<'h> {
+    ghost use Rattle.source_feed.specs.Planned.{PlannedChangeValue};
+
+    ghost Value = { PlannedChangeValue };
+
+    ghost view = { λ c. record { table = c.table; before = c.rows.before; after = c.rows.after } };
+}
+
+impl<'h> PlannedChange<'h> {
+    /// The number of the change's table in the plan.
+    pub fn table(&self) -> u8
+        ensures { result ≡ self.now.table }
+    {
+        self.table
+    }
+
+    /// The row before the change, or `None` for an insert. The view is made anew.
+    pub fn before(&self) -> Option<RowView<'h>>
+        ensures { result ≡ self.now.before }
+    {
+        self.rows.before()
+    }
+
+    /// The row after the change, or `None` for a delete. The view is made anew.
+    pub fn after(&self) -> Option<RowView<'h>>
+        ensures { result ≡ self.now.after }
+    {
+        self.rows.after()
+    }
+}
+
+/// A group of a feed under a plan: the changes of the plan's tables alone. The position is shared.
+#[derive(Drop)]
+pub struct PlannedGroup<'h> {
+    number: u32,
+    position: Arc<GtidSet>,
+    changes: Vec<PlannedChange<'h>>,
+}
+
+impl<'h> Model for PlannedGroup<'h> {
+    ghost use Rattle.std.specs.Arc.{arc_value};
+    ghost use Rattle.source_feed.specs.Planned.{PlannedGroupValue};
+
+    ghost Value = { PlannedGroupValue };
+
+    ghost view = { λ g. record { number = g.number; position = arc_value g.position; changes = g.changes.items } };
+}
+
+impl<'h> PlannedGroup<'h> {
+    /// The group's number in its feed, from 1.
+    pub fn number(&self) -> u32
+        ensures { result ≡ self.now.number }
+    {
+        self.number
+    }
+
+    /// The source's position after the group.
+    pub fn position(&self) -> &GtidSet
+        ensures { result.now ≡ self.now.position }
+    {
+        &self.position
+    }
+
+    /// The group's changes, in the feed's order.
+    pub fn changes(&self) -> &[PlannedChange<'h>]
+        ensures { result.now ≡ self.now.changes }
+    {
+        self.changes.as_slice()
+    }
+}
+
+/// The change under the plan, if its table is one of the plan's.
+fn planned<'h>(plan: &Plan, change: Change<'h>) -> Option<PlannedChange<'h>>
+    ensures { result ≡ planned_change plan.now change.entry }
+{
+    let table = plan.table(change.table())?;
+    let Change { table: _, rows } = change;
+    Some(PlannedChange { table, rows })
+}
+
+/// The changes of the plan's tables.
+fn planned_changes<'h>(
+    alloc: Global,
+    plan: &Plan,
+    changes: Vec<Change<'h>>,
+) -> Result<Vec<PlannedChange<'h>>, AllocError>
+    ensures { IfOk result (λ under. under.items ≡ filter_map (planned_change plan.now) changes.entry.items) }
+{
+    let mut under: Vec<PlannedChange<'h>> = changes
+        .into_iter()
+        .filter_map(|change| planned(plan, change))
+        .collect(alloc)?;
+    under.shrink_to_fit();
+    Ok(under)
+}
+
+/// The group under the plan.
+fn planned_of<'h>(
+    alloc: Global,
+    plan: &Plan,
+    group: Group<'h>,
+) -> Result<PlannedGroup<'h>, FeedFault>
+    ensures ok { IfOk result (λ under. under ≡ planned_group plan.now group.entry) }
+    ensures err { IfErr result (λ fault. fault ≡ Memory) }
+{
+    let Group {
+        number,
+        position,
+        changes,
+    } = group;
+    Ok(PlannedGroup {
+        number,
+        position: Arc::new(alloc, position)?,
+        changes: planned_changes(alloc, plan, changes)?,
+    })
+}
+
+/// The groups under the plan.
+pub(crate) fn planned_groups<'h>(
+    alloc: Global,
+    plan: &Plan,
+    groups: Vec<Group<'h>>,
+) -> Result<Vec<PlannedGroup<'h>>, FeedFault>
+    ensures ok { IfOk result (λ under. under.items ≡ map (planned_group plan.now) groups.entry.items) }
+    ensures err { IfErr result (λ fault. fault ≡ Memory) }
+{
+    let mut under = Vec::with_capacity(alloc, groups.len())?;
+    for group in groups {
+        under.push(planned_of(alloc, plan, group)?)?;
+    }
+    Ok(under)
+}

@@ -1,0 +1,118 @@
+//! The open transaction of a feed.
+
+ghost use Rattle.std.specs.Prelude.{◌≡◌, ℕ, Option, ◌++◌, None, Some, OnOk, IfErr};
+ghost use Rattle.std.specs.Option.{option_map};
+ghost use Rattle.std.specs.List.{list_all};
+ghost use Rattle.outcome.specs.Outcome.{IsFault};
+ghost use Rattle.vevent.specs.Columns.{has_columns, have_columns};
+ghost use Rattle.source_feed.specs.FaultNumber.{meant_of};
+ghost use Rattle.source_feed.specs.declared.fault.FeedFault.TheVariants.{Memory};
+ghost use Rattle.source_feed.specs.PastEvents.{change_in, changes_in};
+ghost use Rattle.source_feed.specs.Private.TableWidths.{counted};
+ghost use Rattle.source_feed.specs.Groups.{row_fault};
+
+use crate::fault::FeedFault;
+use crate::group::Change;
+use gtid_set::GtidSet;
+use row_view::RowView;
+use vevent::{RowChange, RowChanges, RowEvent};
+
+/// What the open transaction has so far.
+#[derive(Drop)]
+pub(crate) struct Transaction<'h> {
+    /// its last position
+    pub(crate) position: Option<GtidSet>,
+    pub(crate) changes: Vec<Change<'h>>,
+}
+
+/// A row has so many columns, if there is one.
+fn has_width(width: u16, row: &Option<RowView<'_>>) -> bool
+    ensures { (columns : ℕ) → width ≡ counted columns → result ≡ has_columns columns row.now }
+{
+    match row {
+        None => true,
+        Some(row) => row.len() == usize::from(width),
+    }
+}
+
+/// All rows have so many columns; each row is read for it.
+fn all_have_width(rows: RowChanges<'_>, width: u16) -> bool
+    ensures { (columns : ℕ) → width ≡ counted columns → result ≡ list_all (have_columns columns) rows.entry }
+{
+    for change in rows {
+        if !(has_width(width, &change.before()) && has_width(width, &change.after())) {
+            return false;
+        }
+    }
+    true
+}
+
+/// All rows of a ROW event have so many columns. Reads no row, but for a table of 65,535 columns or more,
+/// which no row can have.
+fn rows_fit(row: &RowEvent<'_>, width: u16) -> bool
+    ensures { (columns : ℕ) → width ≡ counted columns → result ≡ list_all (have_columns columns) row.now.changes }
+{
+    if width < u16::MAX {
+        row.all_have(usize::from(width))
+    } else {
+        all_have_width(row.changes(), width)
+    }
+}
+
+/// Puts a row change behind others, if it has a row.
+fn push_change<'h>(
+    changes: &mut Vec<Change<'h>>,
+    table: &'h str,
+    rows: RowChange<'h>,
+) -> Result<(), FeedFault>
+    ensures pushed { OnOk result (changes.new.items ≡ changes.old.items ++ change_in table.now rows.entry) }
+    ensures err { IfErr result (λ fault. fault ≡ Memory) }
+{
+    if rows.has_before() || rows.has_after() {
+        if changes.is_empty() {
+            // most transactions change one row
+            changes.reserve_exact(1)?;
+        }
+        changes.push(Change { table, rows })?;
+    }
+    Ok(())
+}
+
+/// Puts row changes behind others.
+fn push_changes<'h>(
+    changes: &mut Vec<Change<'h>>,
+    table: &'h str,
+    rows: RowChanges<'h>,
+) -> Result<(), FeedFault>
+    ensures pushed { OnOk result (changes.new.items ≡ changes.old.items ++ changes_in table.now rows.entry) }
+    ensures err { IfErr result (λ fault. fault ≡ Memory) }
+{
+    for change in rows {
+        push_change(changes, table, change)?;
+    }
+    Ok(())
+}
+
+impl<'h> Transaction<'h> {
+    /// Puts the changes of a ROW event behind the others, under the number of columns that its table
+    /// has, if that is known. All rows are judged before the first is put.
+    pub(crate) fn put_row(
+        &mut self,
+        table: &'h str,
+        width: Option<u16>,
+        row: &RowEvent<'h>,
+    ) -> Result<(), FeedFault>
+        ensures fits { (columns : Option ℕ) → width ≡ option_map counted columns → OnOk result (row_fault columns row.now.changes ≡ None) }
+        ensures position { OnOk result (self.new.position ≡ self.old.position) }
+        ensures changes { OnOk result (self.new.changes.items ≡ self.old.changes.items ++ changes_in table.now row.now.changes) }
+        ensures err { (columns : Option ℕ) → width ≡ option_map counted columns → IfErr result (λ fault. IsFault meant_of fault (row_fault columns row.now.changes)) }
+    {
+        let Some(width) = width else {
+            return Err(FeedFault::NoFields);
+        };
+        if !rows_fit(row, width) {
+            return Err(FeedFault::ColumnCount);
+        }
+        push_changes(&mut self.changes, table, row.changes())
+    }
+}
