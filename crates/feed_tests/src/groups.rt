@@ -47,6 +47,20 @@ fn inserts_the_row(change: &Change<'_>) -> bool {
     }
 }
 
+/// The change inserts the row `1`, `ab` into the plan's first table.
+fn inserts_into_the_first(change: &PlannedChange<'_>) -> bool {
+    match change.after() {
+        None => false,
+        Some(row) => {
+            change.table() == 0
+                && change.before().is_none()
+                && row.len() == 2
+                && has_cell(&row, 0, b"1")
+                && has_cell(&row, 1, b"ab")
+        }
+    }
+}
+
 /// The number of groups and of changes of a feed, or the refusal's number.
 fn opened(alloc: Global, workflow: &[u8], feed: &[u8]) -> Result<(usize, usize), u8> {
     let plans = Plan::read_all(alloc, workflow).map_err(|fault| fault.number())?;
