@@ -95,9 +95,10 @@ impl fmt::Display for NumbersText {
 /// The separators and the uuid before an interval's numbers: a colon, and a comma and the uuid
 /// where the interval before it is of another one.
 #[derive(Drop)]
-struct IntervalText<'s> {
-    interval: &'s Interval,
-    before: Option<u128>,
+pub struct IntervalText<'s> {
+    pub interval: &'s Interval,
+    /// The uuid of the interval before it, if there is one.
+    pub before: Option<u128>,
 }
 
 impl fmt::Display for IntervalText<'_> {

@@ -8,7 +8,7 @@ use Rattle.vrepl.specs.declared.words.Words.TheVariants.{Show}
 -- the words are `show --hex -`: a feed in hexadecimal text on standard input, with no keyspace or shard
 abbrev pub IsShowOfInput : Words → Type 0
 IsShowOfInput (Show words) =
-    (words.hex ≡ true) × (words.keyspace.now ≡ []) × (words.shard.now ≡ []) × (words.feed.now ≡ codes "-")
+    (words.hex ≡ true) × (words.source.keyspace.now ≡ []) × (words.source.shard.now ≡ []) × (words.feed.now ≡ codes "-")
 IsShowOfInput other = ⊥
 
 -- the first text that is given under a name, or else another

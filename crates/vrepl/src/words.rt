@@ -7,6 +7,7 @@ ghost use Rattle.vrepl.specs.Words.{IsShowOfInput, text_given};
 use clap::error::ErrorKind;
 use clap::{Arg, ArgAction, ArgMatches, Command, Error};
 use std::alloc::{AllocError, Global};
+use vrepl_main::source::Source;
 
 /// What the words ask for.
 #[derive(Clone, Copy, Debug, PartialEq, Eq)]
@@ -31,10 +32,8 @@ pub struct Thin<'w> {
 pub struct Show<'w> {
     /// Whether the feed is hexadecimal text.
     pub hex: bool,
-    /// The feed's keyspace; empty unless given.
-    pub keyspace: &'w str,
-    /// The feed's shard; empty unless given.
-    pub shard: &'w str,
+    /// Whose feed it is; keyspace and shard are empty unless given.
+    pub source: Source<'w>,
     /// The feed's file, or `-` for standard input.
     pub feed: &'w str,
 }
@@ -48,8 +47,10 @@ pub fn read<'w>(alloc: Global, words: &'w [String]) -> Result<Words<'w>, Error>
     if words.is_empty() {
         return Ok(Words::Show(Show {
             hex: true,
-            keyspace: "",
-            shard: "",
+            source: Source {
+                keyspace: "",
+                shard: "",
+            },
             feed: "-",
         }));
     }
@@ -142,14 +143,16 @@ fn text<'w>(alloc: Global, name: &'w str, value: &'w str, help: &'w str) -> Arg<
 fn show_words<'w>(given: &ArgMatches<'w>) -> Show<'w>
     ensures hex { one_text (found_of given.now) (codes "hex") ≡ Some (codes "true") → result.hex ≡ true }
     ensures bytes { one_text (found_of given.now) (codes "hex") ≡ None → result.hex ≡ false }
-    ensures keyspace { result.keyspace.now ≡ text_given (found_of given.now) (codes "keyspace") [] }
-    ensures shard { result.shard.now ≡ text_given (found_of given.now) (codes "shard") [] }
+    ensures keyspace { result.source.keyspace.now ≡ text_given (found_of given.now) (codes "keyspace") [] }
+    ensures shard { result.source.shard.now ≡ text_given (found_of given.now) (codes "shard") [] }
     ensures feed { result.feed.now ≡ text_given (found_of given.now) (codes "feed") (codes "-") }
 {
     Show {
         hex: given.get_flag("hex"),
-        keyspace: given.get_str("keyspace").unwrap_or(""),
-        shard: given.get_str("shard").unwrap_or(""),
+        source: Source {
+            keyspace: given.get_str("keyspace").unwrap_or(""),
+            shard: given.get_str("shard").unwrap_or(""),
+        },
         feed: given.get_str("feed").unwrap_or("-"),
     }
 }

@@ -14,10 +14,7 @@ waiting (Some high) = Some high ∷ []
 abbrev pub after : List ℕ → Option (List ℕ) → Option (List ℕ)
 after bytes rest = option_map (λ xs. bytes ++ xs) rest
 
--- the digits of text that begins with a skipped character, and with another one
-digits-skipped : (c : ℕ) (rest : List ℕ) → is_skipped c ≡ true → digits_of (c ∷ rest) ≡ digits_of rest
-digits-skipped c rest s = rw s refl
-
+-- the digits of text that begins with a character that counts
 digits-read : (c : ℕ) (rest : List ℕ) → is_skipped c ≡ false → digits_of (c ∷ rest) ≡ digit_of c ∷ digits_of rest
 digits-read c rest s = rw s refl
 
@@ -38,9 +35,6 @@ unfolding paired
 paired-pair bytes high low rest = joined_after bytes high low (paired rest)
 
 -- what is known of the bytes, over one more character
-pub step-skipped : (text bytes : List ℕ) (high : Option ℕ) (i : ℕ) → i < length text → is_skipped (get_or text i 0) ≡ true → hex_bytes text ≡ after bytes (paired (waiting high ++ digits_of (drop i text))) → hex_bytes text ≡ after bytes (paired (waiting high ++ digits_of (drop (i + 1) text)))
-step-skipped text bytes high i h s known = known ∙ ap (λ xs. after bytes (paired (waiting high ++ xs))) (ap digits_of (drop_more text i 0 h) ∙ digits-skipped (get_or text i 0) (drop (i + 1) text) s)
-
 pub step-no_digit : (text bytes : List ℕ) (high : Option ℕ) (i : ℕ) → i < length text → is_skipped (get_or text i 0) ≡ false → digit_of (get_or text i 0) ≡ None → hex_bytes text ≡ after bytes (paired (waiting high ++ digits_of (drop i text))) → hex_bytes text ≡ None
 step-no_digit text bytes high i h s d known =
     known

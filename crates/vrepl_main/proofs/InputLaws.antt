@@ -1,8 +1,14 @@
 -- What reads in a row take from an input whose bytes are known.
-use Rattle.std.proofs.Common.{◌≡◌, ◌∙◌, ap, sym, ℕ, ◌*◌, ◌<◌, ◌≤◌, true, false, List, ◌++◌, length, take, arith}
-use Rattle.std.proofs.lemmas.List.{append-nil}
+use Rattle.std.proofs.Common.{◌≡◌, ◌∙◌, ap, sym, subst, ℕ, ◌*◌, ◌<◌, ◌≤◌, true, false, List, ◌++◌, length, take, arith}
+use Rattle.std.proofs.lemmas.List.{append-nil, get_or_default}
 use Rattle.std.specs.Prelude.{Option, Some, None, IfSome}
 use Rattle.std.specs.Io.KnownBytes.{Consumes, IsAtEnd}
+use Rattle.std.specs.Prelude.{get_or}
+use Rattle.vrepl_main.specs.Inputs.{name_of, IsUnread, IsUnreadAmong}
+use Rattle.vrepl_main.specs.declared.input.InputName.{InputName}
+use Rattle.vrepl_main.specs.declared.input.InputName.TheVariants.{Standard}
+use Rattle.vrepl_main.specs.declared.refusal.Refusal.{Refusal}
+use Rattle.vrepl_main.specs.declared.refusal.Refusal.TheVariants.{Memory, Feed, BadHex, BadScript, CannotRead, CannotWrite}
 
 -- a read that finds the end shows that the bytes are all that was left
 pub whole : (old mid new : Option (List ℕ)) (bytes piece : List ℕ) (n : ℕ) → n ≡ 0 → Consumes old mid bytes → Consumes mid new (take n piece) → IsAtEnd new → IfSome old (λ left. bytes ≡ left)
@@ -17,3 +23,16 @@ pub limit : (old : Option (List ℕ)) (bytes : List ℕ) (i reads : ℕ) → IfS
 limit None bytes i reads e h lt = tt
 limit (Some xs) bytes i reads e h lt =
     λ many. let same : length bytes ≡ length xs = ap length e in absurd (omega arith)
+
+-- one of some inputs can't be read
+unread_among : (names : List InputName) (i : ℕ) (refusal : Refusal) → i < length names → IsUnread (name_of (get_or names i Standard)) refusal → IsUnreadAmong names refusal
+unread_among names i Memory within unread = tt
+unread_among names i (CannotRead file) within unread = (i, within, unread)
+unread_among names i (Feed fault) within unread = absurd unread
+unread_among names i BadHex within unread = absurd unread
+unread_among names i (BadScript bad) within unread = absurd unread
+unread_among names i (CannotWrite file) within unread = absurd unread
+
+pub IsUnreadAmong-one : (names : List InputName) (i : ℕ) (default : InputName) (refusal : Refusal) → i < length names → IsUnread (name_of (get_or names i default)) refusal → IsUnreadAmong names refusal
+IsUnreadAmong-one names i default refusal within unread =
+    unread_among names i refusal within (subst (λ name. IsUnread (name_of name) refusal) (get_or_default names i default Standard within) unread)

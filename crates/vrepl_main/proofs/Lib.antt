@@ -1,5 +1,6 @@
 pub mod HexLaws
 pub mod InputLaws
 pub mod PrintLaws
+pub mod CommandLaws
 mod ThinLaws
 mod ScriptLaws

@@ -1,5 +1,9 @@
 pub mod HexText
 pub mod Refusals
+pub mod RefusalOf
+pub mod Printing
+pub mod Command
+pub mod Inputs
 pub mod Cells
 pub mod Shown
 pub mod Show

@@ -1,5 +1,5 @@
 -- The lines of refusals, as this profile prints them on standard error.
-use Rattle.std.specs.Prelude.{ℕ, List, [], ◌++◌, codes, decimal}
+use Rattle.std.specs.Prelude.{ℕ, List, [], ◌∷◌, ◌++◌, codes, decimal}
 use Rattle.vevent.specs.FaultNumber as event
 use Rattle.vevent.specs.declared.fault.EventFault.{EventFault}
 use Rattle.vevent.specs.declared.fault.EventFault.TheVariants.{BadType}
@@ -39,6 +39,6 @@ details_of (CannotRead file) = codes " file " ++ file.now
 details_of (CannotWrite file) = codes " file " ++ file.now
 details_of _ = []
 
--- the line, without its LF
-abbrev pub line_of : Refusal → List ℕ
-line_of r = codes "refused " ++ decimal (number_of r) ++ details_of r
+-- the line, with its LF
+abbrev pub refusal_line : Refusal → List ℕ
+refusal_line refusal = codes "refused " ++ decimal (number_of refusal) ++ details_of refusal ++ 10 ∷ []

@@ -1,10 +1,13 @@
 //! Files and standard input, read whole.
 
-ghost use Rattle.std.specs.Prelude.{◌≡◌, ◌≢◌, ◌*◌, ◌^◌, ◌≤◌, length, IfOk, IfSome, OnOk, IsErr};
+ghost use Rattle.std.specs.Prelude.{◌≡◌, ◌≢◌, ◌*◌, ◌^◌, ◌≤◌, length, IfOk, IfErr, IfSome, OnOk, IsErr, codes};
+ghost use Rattle.std.specs.Str.{bytes_eq};
 ghost use Rattle.std.specs.Io.KnownBytes.{IsAtEnd};
 ghost use Rattle.std.specs.IoError.{error_kind};
 ghost use Rattle.std.specs.declared.io.ErrorKind.TheVariants.{OutOfMemory};
+ghost use Rattle.vrepl_main.specs.Inputs.{is_standard, name_of, IsUnread, IsUnreadAmong};
 
+use crate::refusal::Refusal;
 use std::alloc::Global;
 use std::fs::File;
 use std::io;
@@ -26,19 +29,87 @@ pub const READS: u64 = 1 << 32;
 /// The most bytes that one read gives.
 pub const CHUNK: usize = 65536;
 
-/// The bytes of the file, or of standard input for `-`.
-pub fn read_file<R: Files + Input + AllocGlobal>(
-    rt: &R,
-    file: &str,
-) -> Result<Vec<u8>, InputFault> {
-    if file == "-" {
-        return read_whole(rt.alloc(), &mut rt.reader());
+/// Where an input comes from.
+#[derive(Clone, Copy)]
+pub enum InputName<'w> {
+    /// The file of this name, which may be `-`.
+    File(&'w str),
+    /// Standard input.
+    Standard,
+}
+
+impl<'w> InputName<'w> {
+    /// What a word names: standard input for `-`, else the file.
+    pub fn of_word(word: &'w str) -> InputName<'w>
+        ensures name { name_of result ≡ word.now }
+        ensures standard { is_standard result ≡ bytes_eq word.now (codes "-") }
+    {
+        if word == "-" {
+            InputName::Standard
+        } else {
+            InputName::File(word)
+        }
     }
-    read_named(rt, file)
+
+    /// The name in the line of a refusal: `-` for standard input.
+    pub fn text(&self) -> &'w str
+        ensures { result.now ≡ name_of self.now }
+    {
+        match self {
+            InputName::File(name) => name,
+            InputName::Standard => "-",
+        }
+    }
+}
+
+/// The bytes of inputs, read one after another. The first that can't be read is refused, and then no
+/// later one is asked for.
+pub fn read_inputs<'w, R: Files + Input + AllocGlobal>(
+    rt: &R,
+    names: &[InputName<'w>],
+) -> Result<Vec<Vec<u8>>, Refusal<'w>>
+    ensures all { IfOk result (λ inputs. length inputs.items ≡ length names.now) }
+    ensures refused { IfErr result (IsUnreadAmong names.now) }
+{
+    let mut inputs = Vec::with_capacity(rt.alloc(), names.len())?;
+    for name in names {
+        let read = read_input(rt, *name)?;
+        if inputs.push(read).is_err() {
+            return Err(Refusal::Memory);
+        }
+    }
+    Ok(inputs)
+}
+
+/// The bytes of an input.
+fn read_input<'w, R: Files + Input + AllocGlobal>(
+    rt: &R,
+    name: InputName<'w>,
+) -> Result<Vec<u8>, Refusal<'w>>
+    ensures refused { IfErr result (IsUnread (name_of name.entry)) }
+{
+    let read = match name {
+        InputName::Standard => read_whole(rt.alloc(), &mut rt.reader()),
+        InputName::File(file) => read_file(rt, file),
+    };
+    match read {
+        Ok(bytes) => Ok(bytes),
+        Err(fault) => Err(unread(fault, name)),
+    }
+}
+
+/// The refusal of an input that isn't there whole.
+fn unread<'w>(fault: InputFault, name: InputName<'w>) -> Refusal<'w>
+    ensures { IsUnread (name_of name.entry) result }
+{
+    match fault {
+        InputFault::CannotRead => Refusal::CannotRead { file: name.text() },
+        InputFault::Memory => Refusal::Memory,
+    }
 }
 
 /// The bytes of the file of this name, which may be `-`.
-pub fn read_named<R: Files + AllocGlobal>(rt: &R, file: &str) -> Result<Vec<u8>, InputFault> {
+fn read_file<R: Files + AllocGlobal>(rt: &R, file: &str) -> Result<Vec<u8>, InputFault> {
     match File::open(rt, file) {
         Ok(mut opened) => read_whole(rt.alloc(), &mut opened),
         Err(fault) => Err(fault_of(&fault)),

@@ -8,4 +8,5 @@ pub mod output;
 pub mod refusal;
 pub mod show;
 pub mod shown;
+pub mod source;
 pub mod thin;

@@ -1,16 +1,19 @@
 //! What the program refuses, and the line that says so.
 
-ghost use Rattle.std.specs.Prelude.{◌≡◌, Some};
-ghost use Rattle.vrepl_main.specs.Refusals.{line_of, number_of};
+ghost use Rattle.std.specs.Prelude.{◌≡◌, ◌++◌, codes};
+ghost use Rattle.vrepl_main.specs.Refusals.{details_of, feed_details, number_of, refusal_line};
+ghost use Rattle.vrepl_main.specs.Printing.{Prints, PrintsBeginning};
 
+use crate::hex_text::HexFault;
+use crate::output::{OutputFault, put_all, put_str, put_text};
 use source_feed::FeedFault;
-use std::fmt;
+use std::alloc::AllocError;
 use std::io::Write;
 use vevent::EventFault;
 
-/// Why the program ends with status 1. Its text is the line on standard error: `refused`, the
-/// number, and for some numbers details.
-#[derive(Debug, Drop)]
+/// Why the program ends with status 1. Its line on standard error is `refused`, the number, and for
+/// some numbers details.
+#[derive(Drop)]
 pub enum Refusal<'w> {
     /// 72: a growth of memory was refused.
     Memory,
@@ -22,7 +25,7 @@ pub enum Refusal<'w> {
     BadScript { line: usize },
     /// 131: a file, or standard input as `-`, can't be read to its end.
     CannotRead { file: &'w str },
-    /// 132: standard output can't be written.
+    /// 132: standard output, `-`, can't be written.
     CannotWrite { file: &'w str },
 }
 
@@ -42,40 +45,106 @@ impl Refusal<'_> {
     }
 }
 
-impl fmt::Display for Refusal<'_> {
-    ghost output = { λ refusal. Some (line_of refusal) };
+impl<'w> From<AllocError> for Refusal<'w> {
+    ghost use Rattle.std.specs.Prelude.{◌≡◌};
+    ghost use Rattle.vrepl_main.specs.declared.refusal.Refusal.TheVariants.{Memory};
 
-    fn fmt<W: fmt::Write>(&self, f: &mut fmt::Formatter<W>) -> fmt::Result {
-        let number = self.number();
-        match self {
-            Refusal::CannotRead { file } | Refusal::CannotWrite { file } => {
-                write!(f, "refused {number} file {file}")
-            }
-            Refusal::Feed(FeedFault::Event(EventFault::BadType(kind))) => {
-                write!(f, "refused {number} cause 23 type {kind}")
-            }
-            Refusal::Feed(FeedFault::Event(fault)) => {
-                let cause = fault.cause();
-                write!(f, "refused {number} cause {cause}")
-            }
-            Refusal::Feed(FeedFault::BadPosition(fault)) => {
-                let cause = fault.number();
-                write!(f, "refused {number} cause {cause}")
-            }
-            Refusal::Feed(FeedFault::Diverged(group)) => write!(
-                f,
-                "refused {number} group {group}"
-            ),
-            Refusal::BadScript { line } => write!(f, "refused {number} line {line}"),
-            _ => write!(f, "refused {number}"),
+    ghost from_gives = { λ _ refusal. refusal ≡ Memory };
+
+    fn from(_: AllocError) -> Refusal<'w> {
+        Refusal::Memory
+    }
+}
+
+impl<'w> From<FeedFault> for Refusal<'w> {
+    ghost use Rattle.std.specs.Prelude.{◌≡◌};
+    ghost use Rattle.vrepl_main.specs.RefusalOf.{refusal_of_feed};
+
+    ghost from_gives = { λ fault refusal. refusal ≡ refusal_of_feed fault };
+
+    fn from(fault: FeedFault) -> Refusal<'w> {
+        match fault {
+            FeedFault::Memory => Refusal::Memory,
+            fault => Refusal::Feed(fault),
         }
     }
 }
 
-/// Prints the line of a refusal and answers the status 1.
-pub fn refuse<E: Write>(err: &mut E, refusal: &Refusal<'_>) -> u8
-    ensures { result ≡ 1 }
+impl<'w> From<HexFault> for Refusal<'w> {
+    ghost use Rattle.std.specs.Prelude.{◌≡◌};
+    ghost use Rattle.vrepl_main.specs.RefusalOf.{refusal_of_hex};
+
+    ghost from_gives = { λ fault refusal. refusal ≡ refusal_of_hex fault };
+
+    fn from(fault: HexFault) -> Refusal<'w> {
+        match fault {
+            HexFault::BadHex => Refusal::BadHex,
+            HexFault::Memory => Refusal::Memory,
+        }
+    }
+}
+
+/// All that commands print goes to standard output.
+impl<'w> From<OutputFault> for Refusal<'w> {
+    ghost use Rattle.vrepl_main.specs.Command.{IsUnwritten};
+
+    ghost from_gives = { λ _ refusal. IsUnwritten refusal };
+
+    fn from(_: OutputFault) -> Refusal<'w> {
+        Refusal::CannotWrite { file: "-" }
+    }
+}
+
+/// Prints what stands behind the number of a refused feed.
+fn print_feed_details<E: Write>(err: &mut E, fault: &FeedFault) -> Result<(), OutputFault>
+    ensures { Prints result (E.contents err.old) (E.contents err.new) (feed_details fault.now) }
 {
-    let _ = writeln!(err, "{refusal}");
+    match fault {
+        FeedFault::Event(EventFault::BadType(kind)) => {
+            put_text(err, format_args!(" cause 23 type {kind}"))
+        }
+        FeedFault::Event(fault) => put_text(err, format_args!(" cause {}", fault.cause())),
+        FeedFault::BadPosition(fault) => put_text(err, format_args!(" cause {}", fault.number())),
+        FeedFault::Diverged(group) => put_text(err, format_args!(" group {group}")),
+        _ => Ok(()),
+    }
+}
+
+/// Prints the name of a file.
+fn print_file<E: Write>(err: &mut E, file: &str) -> Result<(), OutputFault>
+    ensures { Prints result (E.contents err.old) (E.contents err.new) (codes " file " ++ file.now) }
+{
+    put_all(err, b" file ")?;
+    put_str(err, file)
+}
+
+/// Prints what stands behind the number of a refusal.
+fn print_details<E: Write>(err: &mut E, refusal: &Refusal<'_>) -> Result<(), OutputFault>
+    ensures { Prints result (E.contents err.old) (E.contents err.new) (details_of refusal.now) }
+{
+    match refusal {
+        Refusal::CannotRead { file } | Refusal::CannotWrite { file } => print_file(err, file),
+        Refusal::Feed(fault) => print_feed_details(err, fault),
+        Refusal::BadScript { line } => put_text(err, format_args!(" line {line}")),
+        Refusal::Memory | Refusal::BadHex => Ok(()),
+    }
+}
+
+/// Prints the line of a refusal.
+pub fn print_refusal<E: Write>(err: &mut E, refusal: &Refusal<'_>) -> Result<(), OutputFault>
+    ensures { Prints result (E.contents err.old) (E.contents err.new) (refusal_line refusal.now) }
+{
+    put_all(err, b"refused ")?;
+    put_text(err, refusal.number())?;
+    print_details(err, refusal)?;
+    put_all(err, b"\n")
+}
+
+/// Prints the line of a refusal, whole unless `err` fails, and answers the status 1.
+pub fn refuse<E: Write>(err: &mut E, refusal: &Refusal<'_>) -> u8
+    ensures status { result ≡ 1 }
+    ensures line { PrintsBeginning (E.contents err.old) (E.contents err.new) (refusal_line refusal.now) }
+{
+    let _printed = print_refusal(err, refusal);
     1
 }

@@ -12,7 +12,7 @@ pub mod step;
 mod stream;
 mod text;
 
-use crate::output::write_whole;
+use crate::output::put_all;
 use crate::refusal::{Refusal, refuse};
 use script::{ScriptFault, read_script};
 use source_feed::{FeedFault, read_groups};
@@ -65,10 +65,12 @@ pub fn thin<W: Write, E: Write>(
     ensures refused { (refusal : Refusal) → thin_given feed.now script.now ≡ Err refusal → (result ≡ 1) × (W.contents out.new ≡ W.contents out.old) }
 {
     match text_of(alloc, table, feed, script) {
-        Ok(text) => match write_whole(out, &text) {
-            Ok(()) => 0,
-            Err(_) => refuse(err, &Refusal::CannotWrite { file: "-" }),
-        },
+        Ok(text) => {
+            if put_all(out, &text).is_err() || out.flush().is_err() {
+                return refuse(err, &Refusal::CannotWrite { file: "-" });
+            }
+            0
+        }
         Err(refusal) => refuse(err, &refusal),
     }
 }

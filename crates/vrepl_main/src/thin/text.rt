@@ -6,14 +6,14 @@ ghost use Rattle.vrepl_main.specs.DumpText.{row_text, table_text};
 ghost use Rattle.vrepl_main.specs.RowsHold.{rows_in, IsRising};
 
 use crate::cells::{print_cell, print_cells};
+use crate::output::{OutputFault, put_all};
 use crate::thin::rows::Rows;
 use row_view::RowView;
 use std::alloc::{AllocError, Global};
-use std::io;
 use std::io::Write;
 
 /// Prints a row's line.
-fn print_row<W: Write>(out: &mut W, row: &RowView<'_>) -> io::Result<()>
+fn print_row<W: Write>(out: &mut W, row: &RowView<'_>) -> Result<(), OutputFault>
     ensures { OnOk result (Appends (W.contents out.old) (W.contents out.new) (row_text row.now)) }
 {
     let mut columns = row.columns();
@@ -21,7 +21,8 @@ fn print_row<W: Write>(out: &mut W, row: &RowView<'_>) -> io::Result<()>
         print_cell(out, &first)?;
     }
     print_cells(out, columns)?;
-    out.write_all(b"\n")
+    put_all(out, b"\n")?;
+    Ok(())
 }
 
 /// The line that names the table, and then a line for each of its rows, in key order.

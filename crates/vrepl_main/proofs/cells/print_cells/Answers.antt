@@ -1,9 +1,9 @@
-use Rattle.std.proofs.Common.{◌≡◌, ◌++◌, ◌∷◌, [], List, ℕ, Option, ap, ◌∙◌}
+use Rattle.std.proofs.Common.{◌≡◌, ◌++◌, ◌∷◌, List, ℕ, Option, ap, ◌∙◌}
 use Rattle.std.proofs.lemmas.List.Concat.{flat_map-cons}
-use Rattle.std.proofs.KnownBytes.{Appends-trans}
 use Rattle.row_view.specs.ColumnValue.{column_value}
 use Rattle.vrepl_main.specs.Cells.{cell, cells}
-use Rattle.vrepl_main.proofs.PrintLaws.{moves, ends}
+use Rattle.std.proofs.lemmas.Result.{err_from_is_err_and}
+use Rattle.vrepl_main.proofs.PrintLaws.{moves, stops, ends}
 use Rattle.vrepl_main.proofs.cells.print_cells.Goals as goal
 
 -- the first cell of what is left
@@ -14,7 +14,14 @@ pub loop-column-preserved : goal.loop-column-preserved
 loop-column-preserved g c =
     let value : Option (List ℕ) = column_value c.in-Some.column in
     let parts = first_cell c.loop-column.column-iterator c.next.new.self value c.in-Some.ensures.steps in
-    moves _ _ _ _ _ _ _ parts c.loop-column.invariant (Appends-trans _ _ _ (9 ∷ []) (cell value) c.in_ok-write_all.ensures.bytes c.in_ok-print_cell.ensures)
+    moves _ _ _ _ _ _ _ parts c.loop-column.invariant c.in_ok-print_next_cell.ensures
+
+pub returns-in_err-print_next_cell : goal.returns-in_err-print_next_cell
+returns-in_err-print_next_cell g c =
+    let value : Option (List ℕ) = column_value c.in-Some.column in
+    let parts = first_cell c.loop-column.column-iterator c.next.new.self value c.in-Some.ensures.steps in
+    let p = err_from_is_err_and c.from_residual.result c.from_residual.ensures.1 in
+    rw p.1 (stops _ _ _ _ _ _ _ parts c.loop-column.invariant c.in_err-print_next_cell.ensures)
 
 pub returns : goal.returns
-returns g c = ends _ _ _ _ c.loop-column.invariant (ap cells c.in-None.ensures.steps.0)
+returns g c = ends _ _ _ _ (ap cells c.in-None.ensures.steps.0) c.loop-column.invariant

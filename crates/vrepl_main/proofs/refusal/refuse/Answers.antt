@@ -1,0 +1,5 @@
+use Rattle.vrepl_main.proofs.PrintLaws.{begins}
+use Rattle.vrepl_main.proofs.refusal.refuse.Goals as goal
+
+pub returns-clause-line : goal.returns-clause-line
+returns-clause-line g c = begins c.print_refusal-printed.result _ _ _ c.print_refusal-printed.ensures

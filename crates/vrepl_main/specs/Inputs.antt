@@ -1,0 +1,28 @@
+-- The inputs of a command, and the refusal of one that can't be read (this profile).
+use Rattle.std.specs.Prelude.{◌≡◌, ◌<◌, ℕ, List, length, codes, get_or, Bool, true, false}
+use Rattle.vrepl_main.specs.declared.input.InputName.{InputName}
+use Rattle.vrepl_main.specs.declared.input.InputName.TheVariants.{File, Standard}
+use Rattle.vrepl_main.specs.declared.refusal.Refusal.{Refusal}
+use Rattle.vrepl_main.specs.declared.refusal.Refusal.TheVariants.{Memory, CannotRead}
+
+-- the name of an input in the line of a refusal
+abbrev pub name_of : InputName → List ℕ
+name_of (File name) = name.now
+name_of Standard = codes "-"
+
+-- it is standard input, and no file
+abbrev pub is_standard : InputName → Bool
+is_standard (File name) = false
+is_standard Standard = true
+
+-- the refusal is that the input of this name can't be read, or that memory ran out
+abbrev pub IsUnread : List ℕ → Refusal → Type 0
+IsUnread name Memory = Unit {0}
+IsUnread name (CannotRead file) = file.now ≡ name
+IsUnread name refusal = ⊥
+
+-- the same of one of some inputs
+abbrev pub IsUnreadAmong : List InputName → Refusal → Type 0
+IsUnreadAmong names Memory = Unit {0}
+IsUnreadAmong names (CannotRead file) = (i : ℕ) × (i < length names) × (file.now ≡ name_of (get_or names i Standard))
+IsUnreadAmong names refusal = ⊥

@@ -1,0 +1,16 @@
+-- The refusal that the program gives for the fault of a layer (this profile).
+use Rattle.source_feed.specs.declared.fault.FeedFault.{FeedFault}
+use Rattle.source_feed.specs.declared.fault.FeedFault.TheVariants as feed
+use Rattle.vrepl_main.specs.declared.hex_text.HexFault.{HexFault}
+use Rattle.vrepl_main.specs.declared.hex_text.HexFault.TheVariants as hex
+use Rattle.vrepl_main.specs.declared.refusal.Refusal.{Refusal}
+use Rattle.vrepl_main.specs.declared.refusal.Refusal.TheVariants.{Memory, Feed, BadHex}
+
+-- want of memory is one refusal, wherever it strikes
+abbrev pub refusal_of_feed : FeedFault → Refusal
+refusal_of_feed feed.Memory = Memory
+refusal_of_feed fault = Feed fault
+
+abbrev pub refusal_of_hex : HexFault → Refusal
+refusal_of_hex hex.Memory = Memory
+refusal_of_hex hex.BadHex = BadHex
