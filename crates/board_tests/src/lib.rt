@@ -1,5 +1,7 @@
-//! Tests of the crates that the board stands on: the step table.
+//! Tests of the crates that the board stands on: the step table and the staged map.
 #![tactic(auto)]
 
 #[cfg(test)]
 mod steps;
+#[cfg(test)]
+mod tables;

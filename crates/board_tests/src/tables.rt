@@ -1,0 +1,74 @@
+use std::alloc::Global;
+use std::test::*;
+use target_tables::*;
+
+// Stages touches and commits them; the number of the refusal where they are refused.
+fn touch<K: Ord + Drop, R: Drop>(
+    alloc: Global,
+    tables: &mut Tables<K, R>,
+    stream: u8,
+    touches: Vec<(K, Option<R>)>,
+) -> Option<u8> {
+    match tables.stage(alloc, stream, touches) {
+        Ok(staged) => {
+            tables.commit(staged);
+            None
+        }
+        Err(fault) => Some(fault.number()),
+    }
+}
+
+#[test]
+fn stage_beside_foreign_row(rt: HostRuntime) -> Result<(), Fail> {
+    let alloc = rt.alloc();
+    let mut tables: Tables<u64, u32> = Tables::new(alloc);
+    assert_eq!(rt; touch(alloc, &mut tables, 0, vec![in alloc; (1, Some(10))]?), None);
+
+    match tables.stage(alloc, 1, vec![in alloc; (2, Some(26)), (1, Some(26))]?) {
+        Err(TableFault::OwnedByOther { key, owner }) => assert_eq!(rt; (key, owner), (1, 0)),
+        _ => assert!(rt; false, "another stream's row is in the way"),
+    }
+    assert_eq!(rt; tables.get(&2).is_none(), true);
+
+    assert_eq!(rt; touch(alloc, &mut tables, 1, vec![in alloc; (1, None)]?), None);
+    assert_eq!(rt; tables.get(&1).map(|(stream, row)| (stream, *row)), Some((0, 10)));
+    let put_and_removed = vec![in alloc; (1, Some(26)), (1, None)]?;
+    assert_eq!(rt; touch(alloc, &mut tables, 1, put_and_removed), None);
+    assert_eq!(rt; tables.get(&1).map(|(stream, row)| (stream, *row)), Some((0, 10)));
+
+    let removed_and_put = vec![in alloc; (1, None), (1, Some(11))]?;
+    assert_eq!(rt; touch(alloc, &mut tables, 0, removed_and_put), None);
+    assert_eq!(rt; tables.get(&1).map(|(stream, row)| (stream, *row)), Some((0, 11)));
+    Ok(())
+}
+
+#[test]
+fn stage_beside_foreign_row_with_borrowed_keys(rt: HostRuntime) -> Result<(), Fail> {
+    let alloc = rt.alloc();
+    let keys = format!(in alloc; "ab-b")?;
+    let (a, b) = (&keys.as_bytes()[..1], &keys.as_bytes()[3..]);
+    let mut tables: Tables<&[u8], &[u8]> = Tables::new(alloc);
+    assert_eq!(rt; touch(alloc, &mut tables, 0, vec![in alloc; (b, Some(a)), (a, Some(b))]?), None);
+    let same = &keys.as_bytes()[1..2];
+    assert_eq!(rt; touch(alloc, &mut tables, 1, vec![in alloc; (same, Some(a))]?), Some(71));
+    assert_eq!(rt; touch(alloc, &mut tables, 0, vec![in alloc; (same, None)]?), None);
+    assert_eq!(rt; tables.get(&b).is_none(), true);
+    assert_eq!(rt; tables.get(&a).map(|(stream, row)| (stream, *row)), Some((0, b)));
+    Ok(())
+}
+
+#[test]
+fn scans_from_a_key_on(rt: HostRuntime) -> Result<(), Fail> {
+    let alloc = rt.alloc();
+    let mut tables: Tables<u64, u32> = Tables::new(alloc);
+    let mut touches = Vec::new(alloc);
+    for key in 0..40 {
+        touches.push((80 - 2 * key, Some(0)))?;
+    }
+    assert_eq!(rt; touch(alloc, &mut tables, 3, touches), None);
+    let at: Vec<u64> = tables.scan(&76).map(|(key, _, _)| *key).collect(alloc)?;
+    assert_eq!(rt; at.as_slice(), [76, 78, 80].as_slice());
+    let past: Vec<u64> = tables.scan(&77).map(|(key, _, _)| *key).collect(alloc)?;
+    assert_eq!(rt; past.as_slice(), [78, 80].as_slice());
+    Ok(())
+}
