@@ -22,7 +22,10 @@ fn touch<K: Ord + Drop, R: Drop>(
 fn stage_beside_foreign_row(rt: HostRuntime) -> Result<(), Fail> {
     let alloc = rt.alloc();
     let mut tables: Tables<u64, u32> = Tables::new(alloc);
-    assert_eq!(rt; touch(alloc, &mut tables, 0, vec![in alloc; (1, Some(10))]?), None);
+    assert_eq!(rt;
+        touch(alloc, &mut tables, 0, vec![in alloc; (1, Some(10))]?),
+        None
+    );
 
     match tables.stage(alloc, 1, vec![in alloc; (2, Some(26)), (1, Some(26))]?) {
         Err(TableFault::OwnedByOther { key, owner }) => assert_eq!(rt; (key, owner), (1, 0)),
@@ -30,15 +33,27 @@ fn stage_beside_foreign_row(rt: HostRuntime) -> Result<(), Fail> {
     }
     assert_eq!(rt; tables.get(&2).is_none(), true);
 
-    assert_eq!(rt; touch(alloc, &mut tables, 1, vec![in alloc; (1, None)]?), None);
-    assert_eq!(rt; tables.get(&1).map(|(stream, row)| (stream, *row)), Some((0, 10)));
+    assert_eq!(rt;
+        touch(alloc, &mut tables, 1, vec![in alloc; (1, None)]?),
+        None
+    );
+    assert_eq!(rt;
+        tables.get(&1).map(|(stream, row)| (stream, *row)),
+        Some((0, 10))
+    );
     let put_and_removed = vec![in alloc; (1, Some(26)), (1, None)]?;
     assert_eq!(rt; touch(alloc, &mut tables, 1, put_and_removed), None);
-    assert_eq!(rt; tables.get(&1).map(|(stream, row)| (stream, *row)), Some((0, 10)));
+    assert_eq!(rt;
+        tables.get(&1).map(|(stream, row)| (stream, *row)),
+        Some((0, 10))
+    );
 
     let removed_and_put = vec![in alloc; (1, None), (1, Some(11))]?;
     assert_eq!(rt; touch(alloc, &mut tables, 0, removed_and_put), None);
-    assert_eq!(rt; tables.get(&1).map(|(stream, row)| (stream, *row)), Some((0, 11)));
+    assert_eq!(rt;
+        tables.get(&1).map(|(stream, row)| (stream, *row)),
+        Some((0, 11))
+    );
     Ok(())
 }
 
@@ -48,12 +63,29 @@ fn stage_beside_foreign_row_with_borrowed_keys(rt: HostRuntime) -> Result<(), Fa
     let keys = format!(in alloc; "ab-b")?;
     let (a, b) = (&keys.as_bytes()[..1], &keys.as_bytes()[3..]);
     let mut tables: Tables<&[u8], &[u8]> = Tables::new(alloc);
-    assert_eq!(rt; touch(alloc, &mut tables, 0, vec![in alloc; (b, Some(a)), (a, Some(b))]?), None);
+    assert_eq!(rt;
+        touch(
+            alloc,
+            &mut tables,
+            0,
+            vec![in alloc; (b, Some(a)), (a, Some(b))]?
+        ),
+        None
+    );
     let same = &keys.as_bytes()[1..2];
-    assert_eq!(rt; touch(alloc, &mut tables, 1, vec![in alloc; (same, Some(a))]?), Some(71));
-    assert_eq!(rt; touch(alloc, &mut tables, 0, vec![in alloc; (same, None)]?), None);
+    assert_eq!(rt;
+        touch(alloc, &mut tables, 1, vec![in alloc; (same, Some(a))]?),
+        Some(71)
+    );
+    assert_eq!(rt;
+        touch(alloc, &mut tables, 0, vec![in alloc; (same, None)]?),
+        None
+    );
     assert_eq!(rt; tables.get(&b).is_none(), true);
-    assert_eq!(rt; tables.get(&a).map(|(stream, row)| (stream, *row)), Some((0, b)));
+    assert_eq!(rt;
+        tables.get(&a).map(|(stream, row)| (stream, *row)),
+        Some((0, b))
+    );
     Ok(())
 }
 

@@ -12,12 +12,7 @@ enum Wanted<'w> {
 }
 
 // Whether a text is read as a filter of this table and these rows.
-fn reads(
-    alloc: Global,
-    text: &str,
-    table: Option<&str>,
-    wanted: Wanted<'_>,
-) -> Result<bool, Fail> {
+fn reads(alloc: Global, text: &str, table: Option<&str>, wanted: Wanted<'_>) -> Result<bool, Fail> {
     let filter = Filter::parse(alloc, text)?;
     let same_rows = match (&filter.rows, wanted) {
         (Rows::EveryRow, Wanted::EveryRow) => true,
@@ -98,7 +93,10 @@ fn texts_that_are_no_filters(rt: HostRuntime) -> Result<(), Fail> {
         "insert * from t",
     ];
     for text in texts {
-        assert!(rt; matches!(Filter::parse(rt.alloc(), text), Err(FilterFault::BadForm)), "{text}");
+        assert!(rt;
+            matches!(Filter::parse(rt.alloc(), text), Err(FilterFault::BadForm)),
+            "{text}"
+        );
     }
     Ok(())
 }

@@ -3,10 +3,9 @@
 ghost use Rattle.std.specs.Prelude.{◌≡◌, IfSome};
 ghost use Rattle.vrepl_main.specs.Printing.{Prints};
 
-use std::fmt;
 use std::fmt::{InlineText, Write as _};
-use std::io;
 use std::io::Write;
+use std::{fmt, io};
 
 /// A write failed, or took no byte.
 #[derive(Clone, Copy, Debug, PartialEq, Eq)]

@@ -30,6 +30,6 @@ returns-in-Err g c = nothing_of _ _
 pub returns-in-Ok : goal.returns-in-Ok
 returns-in-Ok g c = if_some_weaken (g.D.Display.output c.args.value) _ _
     (λ bs wrote.
-        let text = (text_of _ bs _ wrote c.new-text.ensures.intact).1 ∙ ap (λ l. l ++ bs) c.new-text.ensures.text in
-        subst (Prints c.put_str.result _ _) (c.as_str.ensures.value ∙ text) c.put_str.ensures)
+    let text = (text_of _ bs _ wrote c.new-text.ensures.intact).1 ∙ ap (λ l. l ++ bs) c.new-text.ensures.text in
+    subst (Prints c.put_str.result _ _) (c.as_str.ensures.value ∙ text) c.put_str.ensures)
     c.in-Ok.ensures.writes
