@@ -57,34 +57,25 @@ fn stage_beside_foreign_row(rt: HostRuntime) -> Result<(), Fail> {
     Ok(())
 }
 
+/// The keys and the rows are slices, equal where their bytes are.
 #[test]
 fn stage_beside_foreign_row_with_borrowed_keys(rt: HostRuntime) -> Result<(), Fail> {
     let alloc = rt.alloc();
-    let keys = format!(in alloc; "ab-b")?;
-    let (a, b) = (&keys.as_bytes()[..1], &keys.as_bytes()[3..]);
     let mut tables: Tables<&[u8], &[u8]> = Tables::new(alloc);
+    let put_two = vec![in alloc;
+        (b"b".as_slice(), Some(b"1".as_slice())),
+        (b"a".as_slice(), Some(b"2".as_slice())),
+    ]?;
+    assert_eq!(rt; touch(alloc, &mut tables, 0, put_two), None);
+    let put_over = vec![in alloc; (b"a".as_slice(), Some(b"3".as_slice()))]?;
+    assert_eq!(rt; touch(alloc, &mut tables, 1, put_over), Some(71));
+    let remove_one = vec![in alloc; (b"b".as_slice(), None)]?;
+    assert_eq!(rt; touch(alloc, &mut tables, 0, remove_one), None);
+    assert_eq!(rt; tables.get(&b"b".as_slice()).is_none(), true);
+    let left = tables.get(&b"a".as_slice());
     assert_eq!(rt;
-        touch(
-            alloc,
-            &mut tables,
-            0,
-            vec![in alloc; (b, Some(a)), (a, Some(b))]?
-        ),
-        None
-    );
-    let same = &keys.as_bytes()[1..2];
-    assert_eq!(rt;
-        touch(alloc, &mut tables, 1, vec![in alloc; (same, Some(a))]?),
-        Some(71)
-    );
-    assert_eq!(rt;
-        touch(alloc, &mut tables, 0, vec![in alloc; (same, None)]?),
-        None
-    );
-    assert_eq!(rt; tables.get(&b).is_none(), true);
-    assert_eq!(rt;
-        tables.get(&a).map(|(stream, row)| (stream, *row)),
-        Some((0, b))
+        left.map(|(stream, row)| (stream, *row)),
+        Some((0, b"2".as_slice()))
     );
     Ok(())
 }
