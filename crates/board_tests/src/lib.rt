@@ -2,6 +2,8 @@
 #![tactic(auto)]
 
 #[cfg(test)]
+mod groups_of_touches;
+#[cfg(test)]
 mod steps;
 #[cfg(test)]
 mod tables;

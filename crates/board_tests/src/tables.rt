@@ -2,18 +2,15 @@ use std::alloc::Global;
 use std::test::*;
 use target_tables::*;
 
-// Stages touches and commits them; the number of the refusal where they are refused.
+// The number of the refusal where a stream's touches are refused.
 fn touch<K: Ord + Drop, R: Drop>(
     alloc: Global,
     tables: &mut Tables<K, R>,
     stream: u8,
     touches: Vec<(K, Option<R>)>,
 ) -> Option<u8> {
-    match tables.stage(alloc, stream, touches) {
-        Ok(staged) => {
-            tables.commit(staged);
-            None
-        }
+    match tables.apply(alloc, stream, touches) {
+        Ok(()) => None,
         Err(fault) => Some(fault.number()),
     }
 }
@@ -93,5 +90,25 @@ fn scans_from_a_key_on(rt: HostRuntime) -> Result<(), Fail> {
     assert_eq!(rt; at.as_slice(), [76, 78, 80].as_slice());
     let past: Vec<u64> = tables.scan(&77).map(|(key, _, _)| *key).collect(alloc)?;
     assert_eq!(rt; past.as_slice(), [78, 80].as_slice());
+    Ok(())
+}
+
+/// What is staged isn't there before it is committed.
+#[test]
+fn staged_touches_wait_for_their_commit(rt: HostRuntime) -> Result<(), Fail> {
+    let alloc = rt.alloc();
+    let mut tables: Tables<u64, u32> = Tables::new(alloc);
+    match tables.stage(alloc, 2, vec![in alloc; (7, Some(70)), (5, Some(50))]?) {
+        Ok(staged) => {
+            assert_eq!(rt; tables.is_empty(), true);
+            tables.commit(staged);
+        }
+        Err(_) => assert!(rt; false, "no row is in the way"),
+    }
+    assert_eq!(rt; tables.len(), 2);
+    assert_eq!(rt;
+        tables.get(&5).map(|(stream, row)| (stream, *row)),
+        Some((2, 50))
+    );
     Ok(())
 }

@@ -7,18 +7,17 @@ use Rattle.std.proofs.lemmas.List.{get_or_default}
 use Rattle.std.proofs.lemmas.Map.{lookup-none}
 use Rattle.std.proofs.lemmas.Cmp.{tied_itself}
 use Rattle.std.specs.declared.cmp.Ordering.TheVariants.{Less, Equal, Greater}
-use Rattle.std.specs.Cmp.{IsTotalOrder, Equal-is}
+use Rattle.std.specs.Cmp.{IsTotalOrder}
 use Rattle.std.specs.List.{AllByRecursion}
-use Rattle.std.specs.Map.{lookup}
 use Rattle.std.specs.Option.{option_or}
 use Rattle.std.specs.Prelude.{is_some}
-use Rattle.std.specs.Ordering.{is_eq, eq_by_cmp, flip_args, ordering_reverse}
+use Rattle.std.specs.Ordering.{is_eq, eq_by_cmp, flip_args}
 use Rattle.target_tables.specs.declared.survey.Verdict.TheVariants.{NewKey, Foreign, Free}
 use Rattle.target_tables.specs.Rising.{IsRising, AreAbove}
 use Rattle.target_tables.specs.Contents.{value_at}
-use Rattle.target_tables.specs.Touches.{change_at, owner_in_the_way, other_owner, is_new, IsLeastClash, NoneInTheWay}
+use Rattle.target_tables.specs.Touches.{change_at, owner_in_the_way, is_new, IsLeastClash, NoneInTheWay}
 use Rattle.target_tables.specs.Places.{IsAt}
-use Rattle.target_tables.specs.Kept.{verdict_of, verdict_on, IsFree, IsLastClash}
+use Rattle.target_tables.specs.Kept.{verdict_of, IsFree, IsLastClash}
 use Rattle.target_tables.proofs.Order.{split_at, before_middle, each}
 use Rattle.target_tables.proofs.Placed.{found_there}
 use Rattle.target_tables.proofs.Values.{lookup-append, none_above, same_found}

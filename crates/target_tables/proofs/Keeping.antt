@@ -1,5 +1,5 @@
 -- Keeping the last touch of each key, from the end of touches whose keys don't fall.
-use Rattle.std.proofs.Common.{◌≡◌, ◌==◌, ◌-◌, ℕ, suc, length, get_or, arith, Bool, true, false, cond, List, [], ◌∷◌, ◌++◌, Option, Some, None, Ordering, refl, sym, ap, ◌∙◌}
+use Rattle.std.proofs.Common.{◌≡◌, ◌==◌, ◌-◌, ℕ, suc, length, get_or, arith, true, false, cond, List, [], ◌∷◌, ◌++◌, Option, Some, None, Ordering, refl, sym, ap, ◌∙◌}
 use mathlib.Core.Bool.{true≢false}
 use borrow.Author.Tests.{eqb-false}
 use Rattle.std.proofs.lemmas.List.{append-nil, get_or_default}
@@ -7,9 +7,8 @@ use Rattle.std.proofs.lemmas.Cmp.{tied_back}
 use Rattle.std.specs.declared.cmp.Ordering.TheVariants.{Less, Equal, Greater}
 use Rattle.std.specs.Cmp.{IsTotalOrder, Equal-is}
 use Rattle.std.specs.List.{AllByRecursion}
-use Rattle.std.specs.Map.{lookup}
-use Rattle.std.specs.Option.{option_or, IsSome}
-use Rattle.std.specs.Ordering.{ordering_reverse, is_eq, is_gt, eq_by_cmp, flip_args}
+use Rattle.std.specs.Option.{option_or}
+use Rattle.std.specs.Ordering.{is_eq, is_gt, eq_by_cmp, flip_args}
 use Rattle.target_tables.specs.Rising.{IsRising, NeverFalls, AreAbove}
 use Rattle.target_tables.specs.Touches.{last_at, change_at}
 use Rattle.target_tables.specs.Kept.{ends_at}

@@ -8,3 +8,4 @@ pub mod Keeping
 pub mod Judging
 pub mod Committing
 pub mod Scanning
+pub mod Applying

@@ -1,13 +1,12 @@
 -- What the key at one place says of the places before and behind it.
-use Rattle.std.proofs.Common.{◌≡◌, ℕ, ◌+◌, ◌<◌, List, [], ◌∷◌, ◌++◌, length, take, drop, get_or, Ordering, refl, sym, ap, subst, ◌∙◌}
+use Rattle.std.proofs.Common.{◌≡◌, ℕ, ◌+◌, ◌<◌, List, [], ◌∷◌, ◌++◌, length, take, drop, get_or, Ordering, sym, ap, subst, ◌∙◌}
 use Rattle.std.proofs.lemmas.List.{take_more, get_or_default}
 use Rattle.std.proofs.lemmas.Cmp.{alike_right}
 use Rattle.std.specs.declared.cmp.Ordering.TheVariants.{Less, Equal, Greater}
 use Rattle.std.specs.Cmp.{IsTotalOrder}
-use Rattle.std.specs.List.{AllByRecursion}
 use Rattle.std.specs.Ordering.{ordering_reverse}
 use Rattle.target_tables.specs.Rising.{IsRising, AreBelow, AreAbove}
-use Rattle.target_tables.specs.Places.{IsAt, IsGap}
+use Rattle.target_tables.specs.Places.{IsAt}
 use Rattle.target_tables.proofs.Order.{all_join, each, drop_at, split_at, before_middle, behind_middle}
 
 module _ {K V : Type 0} {cmp : K → K → Ordering} (o : IsTotalOrder cmp) (es : List (K × V)) (i : ℕ) (x : K × V) (inside : i < length es) (is : x ≡ get_or es i x) (rising : IsRising cmp es) where

@@ -3,7 +3,7 @@ use Rattle.std.specs.Prelude.{ℕ, List, Option, not, refl}
 use Rattle.std.specs.declared.cmp.Ordering.{Ordering}
 use Rattle.std.specs.List.{filter}
 use Rattle.std.specs.Map.{lookup}
-use Rattle.std.specs.Ordering.{eq_by_cmp, is_lt}
+use Rattle.std.specs.Ordering.{eq_by_cmp, is_lt, is_gt}
 use Rattle.std.specs.Coded.{Coded, code_by, coded×, coded_list, coded_ℕ}
 use denote.Ref.{Bor}
 
@@ -23,6 +23,10 @@ value_at cmp entries k = lookup (eq_by_cmp cmp k) entries
 -- the entries at a key and past it
 abbrev pub from_key : {K R : Type 0} → (K → K → Ordering) → List (K × (ℕ × R)) → K → List (K × (ℕ × R))
 from_key cmp entries k = filter (λ e. not (is_lt (cmp e.0 k))) entries
+
+-- the entries past a key
+abbrev pub past_key : {K R : Type 0} → (K → K → Ordering) → List (K × (ℕ × R)) → K → List (K × (ℕ × R))
+past_key cmp entries k = filter (λ e. is_gt (cmp e.0 k)) entries
 
 -- a stream and a borrowed row, as values
 abbrev pub standing : {R : Type 0} → ℕ × Bor R → ℕ × R

@@ -2,7 +2,7 @@
 use Rattle.std.specs.Prelude.{◌≡◌, ℕ, ◌+◌, ◌<◌, ◌≤◌, List, length, take, drop}
 use Rattle.std.specs.declared.cmp.Ordering.{Ordering}
 use Rattle.std.specs.declared.cmp.Ordering.TheVariants.{Equal}
-use Rattle.std.specs.List.{slice_get, HoldsAt}
+use Rattle.std.specs.List.{HoldsAt}
 use Rattle.target_tables.specs.Rising.{AreBelow, AreAbove}
 
 module _ {K V : Type 0} (cmp : K → K → Ordering) where

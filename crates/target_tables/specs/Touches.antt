@@ -1,7 +1,8 @@
 -- Touches of keys by one stream: a row is put at a key, or the key is touched with nothing.
-use Rattle.std.specs.Prelude.{◌≡◌, ℕ, ◌≤◌, Bool, true, false, List, [], ◌∷◌, Option, Some, None, ◌==◌, ◌+◌, if◌then◌else◌, refl}
+use Rattle.std.specs.Prelude.{◌≡◌, ℕ, ◌≤◌, Bool, true, false, List, [], ◌∷◌, ◌++◌, Option, Some, None, ◌==◌, ◌+◌, if◌then◌else◌, refl}
 use Rattle.std.specs.declared.cmp.Ordering.{Ordering}
-use Rattle.std.specs.declared.cmp.Ordering.TheVariants.{Less}
+use Rattle.std.specs.declared.cmp.Ordering.TheVariants.{Less, Equal}
+use Rattle.std.specs.List.{AllByRecursion}
 use Rattle.std.specs.Map.{lookup}
 use Rattle.std.specs.Option.{option_or}
 use Rattle.std.specs.Ordering.{eq_by_cmp}
@@ -12,6 +13,20 @@ use Rattle.target_tables.specs.Contents.{Contents, value_at}
 abbrev pub last_at : {K R : Type 0} → (K → K → Ordering) → List (K × Option R) → K → Option (Option R)
 last_at cmp [] k = None
 last_at cmp (touch ∷ later) k = option_or (last_at cmp later k) (if eq_by_cmp cmp k touch.0 then Some touch.1 else None)
+
+module _ {K R : Type 0} (cmp : K → K → Ordering) where
+  -- no touch has the key
+  abbrev pub IsUntouched : List (K × Option R) → K → Type 0
+  IsUntouched touches k = AllByRecursion (λ touch. eq_by_cmp cmp k touch.0 ≡ false) touches
+
+  -- a touch of the key, with this row or with nothing, behind which no touch has the key
+  pub record ComesLast (touches : List (K × Option R)) (k : K) (row : Option R) : Type 0 where
+    pub before : List (K × Option R)
+    pub key : K
+    pub later : List (K × Option R)
+    pub parts : touches ≡ before ++ (key, row) ∷ later
+    pub same : cmp k key ≡ Equal
+    pub untouched : IsUntouched later k
 
 -- what a stream has staged: each touched key once, with its last touch
 pub record Staging (K R : Type 0) : Type 0 where

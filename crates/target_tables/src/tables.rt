@@ -1,10 +1,10 @@
 //! A map from keys to rows, each with the stream that owns it.
 
-ghost use Rattle.std.specs.Prelude.{◌≡◌, ◌≤◌, ℕ, [], IfOk, IfErr};
+ghost use Rattle.std.specs.Prelude.{◌≡◌, ◌≤◌, ◌↔◌, ℕ, [], Some, None, length, IfOk, IfErr, OnOk, OnErr, IsTrue};
 ghost use Rattle.std.specs.Option.{option_map};
-ghost use Rattle.target_tables.specs.Contents.{value_at, from_key, standing};
+ghost use Rattle.target_tables.specs.Contents.{value_at, from_key, past_key, standing};
 ghost use Rattle.target_tables.specs.Rising.{IsRising};
-ghost use Rattle.target_tables.specs.Touches.{last_at, change_at, IsTouched, IsReady};
+ghost use Rattle.target_tables.specs.Touches.{last_at, change_at, removed, IsTouched, IsReady, IsUntouched, ComesLast, NoneInTheWay};
 ghost use Rattle.target_tables.specs.Clashes.{IsRefusal};
 
 use crate::changes::{change_all, last_touches};
@@ -13,7 +13,7 @@ use crate::places::place_of;
 use crate::scan::Scan;
 use crate::staged::Staged;
 use crate::survey::survey;
-use std::alloc::Global;
+use std::alloc::{AllocError, Global};
 use std::marker::Model;
 
 /// A map from keys to rows, each with the number of the stream that owns it. Keys are told apart by
@@ -49,6 +49,20 @@ impl<K: Ord, R> Tables<K, R> {
         }
     }
 
+    /// How many keys have a row. Takes no memory.
+    pub fn len(&self) -> usize
+        ensures { result ≡ length self.now.entries }
+    {
+        self.entries.len()
+    }
+
+    /// No key has a row. Takes no memory.
+    pub fn is_empty(&self) -> bool
+        ensures { IsTrue result ↔ (self.now.entries ≡ []) }
+    {
+        self.entries.is_empty()
+    }
+
     /// The stream and row at a key, found by halves. Takes no memory.
     pub fn get(&self, key: &K) -> Option<(u8, &R)>
         ensures { option_map standing result ≡ value_at K.cmp self.now.entries key.now }
@@ -62,6 +76,14 @@ impl<K: Ord, R> Tables<K, R> {
         }
     }
 
+    /// All entries, by rising key. Takes no memory.
+    pub fn iter(&self) -> Scan<'_, K, R>
+        ensures entries { result ≡ self.now.entries }
+        ensures rising { IsRising K.cmp self.now.entries }
+    {
+        Scan::new(&self.entries)
+    }
+
     /// The entries at a key and past it, by rising key. The first is found by halves. Takes no
     /// memory.
     pub fn scan(&self, from: &K) -> Scan<'_, K, R>
@@ -70,6 +92,18 @@ impl<K: Ord, R> Tables<K, R> {
     {
         match place_of(&self.entries, from) {
             Ok(place) => Scan::new(&self.entries[place..]),
+            Err(place) => Scan::new(&self.entries[place..]),
+        }
+    }
+
+    /// The entries past a key and not at it, by rising key. The first is found by halves. Takes no
+    /// memory.
+    pub fn scan_past(&self, key: &K) -> Scan<'_, K, R>
+        ensures entries { result ≡ past_key K.cmp self.now.entries key.now }
+        ensures rising { IsRising K.cmp self.now.entries }
+    {
+        match place_of(&self.entries, key) {
+            Ok(place) => Scan::new(&self.entries[place + 1..]),
             Err(place) => Scan::new(&self.entries[place..]),
         }
     }
@@ -117,5 +151,55 @@ impl<K: Ord + Drop, R: Drop> Tables<K, R> {
     {
         let Staged { stream, changes } = staged;
         change_all(&mut self.entries, stream, changes);
+    }
+
+    /// Makes a stream's touches: stages them and commits them. Of each key the touch that comes last
+    /// counts: a row is then at the key as this stream's, nothing takes this stream's row away and
+    /// leaves another stream's. A key without touch keeps what it has.
+    ///
+    /// Refused 71 where a touched key's last touch is a row and a row of another stream stands
+    /// there, with the least such key and that stream; 72 for want of memory. A refusal leaves the
+    /// entries as they are.
+    pub fn apply(
+        &mut self,
+        alloc: Global,
+        stream: u8,
+        touches: Vec<(K, Option<R>)>,
+    ) -> Result<(), TableFault<K>>
+        ensures put { OnOk result ((k : K) (row : R) → ComesLast K.cmp touches.items k (Some row)
+            → value_at K.cmp self.new.entries k ≡ Some (stream, row)) }
+        ensures taken { OnOk result ((k : K) → ComesLast K.cmp touches.items k None
+            → value_at K.cmp self.new.entries k ≡ removed stream (value_at K.cmp self.old.entries k)) }
+        ensures kept { OnOk result ((k : K) → IsUntouched K.cmp touches.items k
+            → value_at K.cmp self.new.entries k ≡ value_at K.cmp self.old.entries k) }
+        ensures values { OnOk result (IsTouched K.cmp self.old.entries stream (last_at K.cmp touches.items) self.new.entries) }
+        ensures rising { OnOk result (IsRising K.cmp self.new.entries) }
+        ensures clear { OnOk result (NoneInTheWay K.cmp self.old.entries stream (last_at K.cmp touches.items)) }
+        ensures refused { IfErr result (IsRefusal K.cmp self.old.entries stream (last_at K.cmp touches.items)) }
+        ensures unchanged { OnErr result (self.new.entries ≡ self.old.entries) }
+    {
+        let staged = self.stage(alloc, stream, touches)?;
+        self.commit(staged);
+        Ok(())
+    }
+
+    /// Takes every entry away. Takes no memory.
+    pub fn clear(&mut self)
+        ensures { self.new.entries ≡ [] }
+    {
+        self.entries.clear();
+    }
+}
+
+impl<K: Ord + Clone, R: Clone> Tables<K, R> {
+    /// A copy of the map, which holds equal keys and rows. Takes memory for the copy alone. That a
+    /// clone of a key or of a row equals it is the caller's; it is a fact of their types.
+    pub fn try_clone(&self, alloc: Global) -> Result<Tables<K, R>, AllocError>
+        requires keys { (key copy : K) → K.is_clone key copy → copy ≡ key }
+        requires rows { (row copy : R) → R.is_clone row copy → copy ≡ row }
+        ensures { IfOk result (λ copy. copy.entries ≡ self.now.entries) }
+    {
+        let entries = Vec::from_clones(alloc, &self.entries)?;
+        Ok(Tables { entries })
     }
 }

@@ -1,5 +1,4 @@
 use Rattle.std.proofs.Common.{◌≡◌, ℕ, ◌+◌, ◌≤◌, cond, List, Option, ◌++◌, ◌∷◌, [], ap, subst, ◌∙◌, vec_len, arith}
-use Rattle.std.specs.Ordering.{flip_args}
 use Rattle.std.specs.Vec.{vec_capacity}
 use Rattle.target_tables.specs.Contents.{value_at}
 use Rattle.target_tables.specs.Touches.{is_new, new_keys}

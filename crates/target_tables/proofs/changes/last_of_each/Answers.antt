@@ -1,4 +1,4 @@
-use Rattle.std.proofs.Common.{◌≡◌, ◌∙◌, Bool, true, false, List, Option, sym, ap, subst, rules}
+use Rattle.std.proofs.Common.{◌≡◌, ◌∙◌, true, false, List, Option, sym, ap, subst, rules}
 use Rattle.target_tables.specs.Kept.{ends_at}
 use Rattle.target_tables.proofs.Keeping.{Keeps, keeps_push, keeps_skip}
 use Rattle.target_tables.proofs.changes.last_of_each.Goals as goal

@@ -1,4 +1,4 @@
-use Rattle.std.proofs.Common.{◌≡◌, ◌∙◌, List, Option, Ordering, Bool, rules}
+use Rattle.std.proofs.Common.{◌≡◌, ◌∙◌, Option, rules}
 use Rattle.std.proofs.lemmas.List.Sorted.{ranks_by, answers_always}
 use Rattle.std.specs.Ordering.{is_lt}
 use Rattle.target_tables.specs.Touches.{change_at, last_at}

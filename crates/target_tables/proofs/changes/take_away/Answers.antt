@@ -1,4 +1,4 @@
-use Rattle.std.proofs.Common.{◌≡◌, ℕ, List, sym, ap, subst, ◌∙◌, rules}
+use Rattle.std.proofs.Common.{ℕ, List, sym, ap, subst, ◌∙◌}
 use Rattle.target_tables.specs.Places.{IsAt, IsGap}
 use Rattle.target_tables.specs.Rising.{IsRising}
 use Rattle.target_tables.specs.Contents.{value_at}

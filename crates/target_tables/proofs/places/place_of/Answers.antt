@@ -1,4 +1,4 @@
-use Rattle.std.proofs.Common.{◌≡◌, ℕ, ◌+◌, ◌-◌, ◌/◌, ◌<◌, ◌∙◌, sym, length, arith}
+use Rattle.std.proofs.Common.{ℕ, ◌+◌, ◌-◌, ◌/◌, ◌<◌, ◌∙◌, sym, length, arith}
 use Rattle.target_tables.proofs.Seeking.{below_read, above_read, at_read}
 use Rattle.target_tables.proofs.places.place_of.Goals as goal
 

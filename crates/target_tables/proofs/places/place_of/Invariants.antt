@@ -1,4 +1,4 @@
-use Rattle.std.proofs.Common.{◌+◌, ◌-◌, ◌≤◌, length, take, drop}
+use Rattle.std.proofs.Common.{◌-◌, ◌≤◌, length, take, drop}
 use Rattle.target_tables.specs.Rising.{AreBelow, AreAbove}
 use Rattle.target_tables.proofs.places.place_of.Given as goal
 

@@ -1,4 +1,4 @@
-use Rattle.std.proofs.Common.{◌≡◌, ℕ, ◌-◌, List, length, take, drop, sym, ap, subst, ◌∙◌}
+use Rattle.std.proofs.Common.{ℕ, List, drop, sym, ap, subst, ◌∙◌}
 use Rattle.target_tables.specs.Contents.{Contents, from_key}
 use Rattle.target_tables.specs.Places.{IsAt, IsGap}
 use Rattle.target_tables.specs.Rising.{IsRising}
