@@ -1,6 +1,6 @@
 -- What a command leaves on its writers, by what there is to print.
 use Rattle.std.proofs.Common.{◌≡◌, ℕ, List, refl, sym, ap, subst, Option, Result, Ok, Err}
-use Rattle.std.specs.Prelude.{IsOk, codes}
+use Rattle.std.specs.Prelude.{IsOk}
 use Rattle.std.specs.Io.KnownBytes.{Appends}
 use Rattle.outcome.specs.Outcome as outcome
 use Rattle.source_feed.specs.FaultNumber as feed

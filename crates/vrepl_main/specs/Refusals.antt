@@ -1,12 +1,9 @@
 -- The lines of refusals, as this profile prints them on standard error.
-use Rattle.std.specs.Prelude.{ℕ, List, [], ◌∷◌, ◌++◌, codes, decimal}
-use Rattle.vevent.specs.FaultNumber as event
-use Rattle.vevent.specs.declared.fault.EventFault.{EventFault}
+use Rattle.std.specs.Prelude.{ℕ, List, [], ◌∷◌, ◌++◌, Option, Some, None, codes, decimal}
 use Rattle.vevent.specs.declared.fault.EventFault.TheVariants.{BadType}
-use Rattle.gtid_set.specs.Fault as position
 use Rattle.source_feed.specs.FaultNumber as feed
 use Rattle.source_feed.specs.declared.fault.FeedFault.{FeedFault}
-use Rattle.source_feed.specs.declared.fault.FeedFault.TheVariants.{Event, BadPosition, Diverged}
+use Rattle.source_feed.specs.declared.fault.FeedFault.TheVariants.{Event, Diverged}
 use Rattle.vrepl_main.specs.declared.refusal.Refusal.{Refusal}
 use Rattle.vrepl_main.specs.declared.refusal.Refusal.TheVariants.{Memory, Feed, BadHex, BadScript, CannotRead, CannotWrite}
 
@@ -19,17 +16,20 @@ number_of (BadScript bad) = 120
 number_of (CannotRead file) = 131
 number_of (CannotWrite file) = 132
 
--- What stands behind the number of a refused feed: the innermost fault's number, for a type that isn't
--- read also that type; the number that a group would have had.
-abbrev pub event_details : EventFault → List ℕ
-event_details (BadType kind) = codes " cause 23 type " ++ decimal kind
-event_details fault = codes " cause " ++ decimal (event.cause_of fault)
+-- the number of the innermost fault, where there is one
+abbrev pub cause_text : Option ℕ → List ℕ
+cause_text None = []
+cause_text (Some cause) = codes " cause " ++ decimal cause
 
+-- behind it: the type of an event that isn't read; the number that a group would have had
+abbrev pub feed_place : FeedFault → List ℕ
+feed_place (Event (BadType kind)) = codes " type " ++ decimal kind
+feed_place (Diverged group) = codes " group " ++ decimal group
+feed_place _ = []
+
+-- what stands behind the number of a refused feed
 abbrev pub feed_details : FeedFault → List ℕ
-feed_details (Event fault) = event_details fault
-feed_details (BadPosition fault) = codes " cause " ++ decimal (position.number_of_fault fault)
-feed_details (Diverged group) = codes " group " ++ decimal group
-feed_details _ = []
+feed_details fault = cause_text (feed.cause_of fault) ++ feed_place fault
 
 -- what stands behind the number
 abbrev pub details_of : Refusal → List ℕ

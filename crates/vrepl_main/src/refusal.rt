@@ -1,7 +1,7 @@
 //! What the program refuses, and the line that says so.
 
 ghost use Rattle.std.specs.Prelude.{◌≡◌, ◌++◌, codes};
-ghost use Rattle.vrepl_main.specs.Refusals.{details_of, feed_details, number_of, refusal_line};
+ghost use Rattle.vrepl_main.specs.Refusals.{cause_text, details_of, feed_details, feed_place, number_of, refusal_line};
 ghost use Rattle.vrepl_main.specs.Printing.{Prints, PrintsBeginning};
 
 use crate::hex_text::HexFault;
@@ -95,19 +95,35 @@ impl<'w> From<OutputFault> for Refusal<'w> {
     }
 }
 
+/// Prints the number of a fault's cause, where it has one.
+fn print_cause<E: Write>(err: &mut E, cause: Option<u8>) -> Result<(), OutputFault>
+    ensures { Prints result (E.contents err.old) (E.contents err.new) (cause_text cause) }
+{
+    match cause {
+        None => Ok(()),
+        Some(cause) => put_text(err, format_args!(" cause {cause}")),
+    }
+}
+
+/// Prints what a refused feed's line says behind the cause.
+fn print_feed_place<E: Write>(err: &mut E, fault: &FeedFault) -> Result<(), OutputFault>
+    ensures { Prints result (E.contents err.old) (E.contents err.new) (feed_place fault.now) }
+{
+    match fault {
+        FeedFault::Event(EventFault::BadType(kind)) => {
+            put_text(err, format_args!(" type {kind}"))
+        }
+        FeedFault::Diverged(group) => put_text(err, format_args!(" group {group}")),
+        _ => Ok(()),
+    }
+}
+
 /// Prints what stands behind the number of a refused feed.
 fn print_feed_details<E: Write>(err: &mut E, fault: &FeedFault) -> Result<(), OutputFault>
     ensures { Prints result (E.contents err.old) (E.contents err.new) (feed_details fault.now) }
 {
-    match fault {
-        FeedFault::Event(EventFault::BadType(kind)) => {
-            put_text(err, format_args!(" cause 23 type {kind}"))
-        }
-        FeedFault::Event(fault) => put_text(err, format_args!(" cause {}", fault.cause())),
-        FeedFault::BadPosition(fault) => put_text(err, format_args!(" cause {}", fault.number())),
-        FeedFault::Diverged(group) => put_text(err, format_args!(" group {group}")),
-        _ => Ok(()),
-    }
+    print_cause(err, fault.cause())?;
+    print_feed_place(err, fault)
 }
 
 /// Prints the name of a file.

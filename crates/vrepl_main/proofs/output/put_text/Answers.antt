@@ -1,4 +1,4 @@
-use Rattle.std.proofs.Common.{◌≡◌, ◌∙◌, ◌++◌, [], ◌∷◌, sym, ap, subst, append_assoc, append-nil, List, ℕ, Option, Some, None}
+use Rattle.std.proofs.Common.{◌∙◌, ◌++◌, [], ◌∷◌, sym, ap, subst, append_assoc, append-nil, List, ℕ, Option, Some, None}
 use Rattle.std.specs.Prelude.{IfSome}
 use Rattle.std.specs.List.{concat, FoldsTo}
 use Rattle.std.specs.Fmt.{WritesInCalls}

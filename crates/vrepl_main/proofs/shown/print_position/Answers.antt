@@ -1,4 +1,4 @@
-use Rattle.std.proofs.Common.{◌≡◌, ◌++◌, ◌∷◌, ap, List, Option, ℕ, get_or, drop, length, ◌<◌, ◌+◌, Some}
+use Rattle.std.proofs.Common.{◌≡◌, ◌++◌, ap, List, Option, ℕ, get_or, drop, length, ◌<◌, ◌+◌, Some}
 use Rattle.std.proofs.lemmas.List.{drop_more, drop_all}
 use Rattle.gtid_set.specs.declared.interval.Interval.{Interval}
 use Rattle.gtid_set.specs.Printed.{interval_text, printed_behind}
