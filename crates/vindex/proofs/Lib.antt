@@ -1,3 +1,4 @@
+mod BoundLemmas
 mod NumberLemmas
 mod NumberTextLaws
 mod RangeLemmas

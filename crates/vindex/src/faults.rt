@@ -2,7 +2,9 @@
 
 ghost use Rattle.std.specs.Prelude.{◌≡◌};
 ghost use Rattle.vindex.specs.FaultNumber.{number_of_fault};
+ghost use Rattle.vindex.specs.declared.faults.VindexFault.TheVariants.{Memory};
 
+use std::alloc::AllocError;
 use thiserror::Error;
 
 /// What is wrong with a key range, a vindex's name or a column's value.
@@ -38,5 +40,13 @@ impl VindexFault {
             VindexFault::NotANumber => 44,
             VindexFault::Memory => 72,
         }
+    }
+}
+
+impl From<AllocError> for VindexFault {
+    ghost from_gives = { λ _ fault. fault ≡ Memory };
+
+    fn from(_error: AllocError) -> VindexFault {
+        VindexFault::Memory
     }
 }

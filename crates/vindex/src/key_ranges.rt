@@ -1,13 +1,13 @@
 //! Key ranges, which say which keyspace ids a shard has.
 
-ghost use Rattle.std.specs.Prelude.{◌≡◌, ◌⊎◌, ◌↔◌, Some, None, IfOk, IfErr, IsErrOf, IsTrue};
-ghost use Rattle.std.specs.Option.{option_copied, option_map};
-ghost use Rattle.vindex.specs.Bounds.{Bounds, in_range, is_ordered, trimmed};
-ghost use Rattle.vindex.specs.RangeText.{bytes_of_hex, key_range_of_text, IsRangeText};
+ghost use Rattle.std.specs.Prelude.{◌≡◌, ◌⊎◌, ◌↔◌, Some, None, IfOk, IfErr, IsErrOf, IsSome, IsTrue};
+ghost use Rattle.std.specs.Option.{option_copied};
+ghost use Rattle.vindex.specs.Bounds.{Bounds, in_range, is_ordered};
+ghost use Rattle.vindex.specs.RangeText.{key_range_of_text, IsRangeText};
 ghost use Rattle.vindex.specs.declared.faults.VindexFault.TheVariants.{BadRange, Memory};
 
+use crate::bound_text::BoundText;
 use crate::faults::VindexFault;
-use hex::FromHexError;
 use std::alloc::{AllocError, Global};
 use std::marker::Model;
 
@@ -39,12 +39,15 @@ impl KeyRange {
     /// Reads `start-end`, each side an even number of hexadecimal digits of either case, or empty for
     /// open; `0` and `-` are the whole range. 00 bytes at the end of a bound are dropped first, so
     /// `80-00` is `80-`. `BadRange` is for every other text, also for one whose start isn't below the
-    /// end that it gives; `Memory` where the allocator gave none.
+    /// end that it gives, whatever memory there is: the text is judged before any is taken. `Memory`
+    /// where the allocator gave none for the bounds of a key range.
     #[tactic(auto, unfolding(crate::specs::RangeText::key_range_of_text))]
     pub fn parse(alloc: Global, text: &str) -> Result<KeyRange, VindexFault>
         ensures read { IfOk result (λ range. key_range_of_text text.now ≡ Some range) }
-        ensures bad_range { IsErrOf result BadRange → key_range_of_text text.now ≡ None }
+        ensures bad_range { IsErrOf result BadRange ↔ (key_range_of_text text.now ≡ None) }
         ensures refused { IfErr result (λ fault. (fault ≡ BadRange) ⊎ (fault ≡ Memory)) }
+        // Memory is wanted for a key range alone.
+        ensures memory { IsErrOf result Memory → IsSome (key_range_of_text text.now) }
 
         // The texts that are read as a range are those that write it.
         ensures grammar { (bounds : Bounds)
@@ -59,19 +62,22 @@ impl KeyRange {
         let Some((start, end)) = text.split_once('-') else {
             return Err(VindexFault::BadRange);
         };
-        let start = bound_of(alloc, start)?;
-        let end = bound_of(alloc, end)?;
+        let (Some(start), Some(end)) = (BoundText::read(start), BoundText::read(end)) else {
+            return Err(VindexFault::BadRange);
+        };
         if end.is_empty() {
+            let start = start.bytes(alloc)?;
             return Ok(KeyRange { start, end: None });
         }
-        if start.as_slice().cmp(end.as_slice()).is_lt() {
-            Ok(KeyRange {
-                start,
-                end: Some(end),
-            })
-        } else {
-            Err(VindexFault::BadRange)
+        if !start.is_before(&end) {
+            return Err(VindexFault::BadRange);
         }
+        let start = start.bytes(alloc)?;
+        let end = end.bytes(alloc)?;
+        Ok(KeyRange {
+            start,
+            end: Some(end),
+        })
     }
 
     /// A copy of the range.
@@ -131,31 +137,4 @@ impl KeyRange {
         };
         self.start() == other.start() && same_end
     }
-}
-
-// The bytes that a bound's hexadecimal digits write, without the 00 bytes at their end.
-fn bound_of(alloc: Global, digits: &str) -> Result<Vec<u8>, VindexFault>
-    ensures read { IfOk result (λ bytes. option_map trimmed (bytes_of_hex digits.now) ≡ Some bytes.items) }
-    ensures bad_range { IsErrOf result BadRange → bytes_of_hex digits.now ≡ None }
-    ensures refused { IfErr result (λ fault. (fault ≡ BadRange) ⊎ (fault ≡ Memory)) }
-{
-    match hex::decode(alloc, digits.as_bytes()) {
-        Ok(mut bytes) => {
-            drop_zeros(&mut bytes);
-            Ok(bytes)
-        }
-        Err(FromHexError::OutOfMemory) => Err(VindexFault::Memory),
-        Err(_) => Err(VindexFault::BadRange),
-    }
-}
-
-// Drops the 00 bytes at the end.
-fn drop_zeros(bytes: &mut Vec<u8>)
-    ensures { bytes.new.items ≡ trimmed bytes.old.items }
-{
-    let mut len = bytes.len();
-    while len > 0 && bytes[len - 1] == 0 {
-        len -= 1;
-    }
-    bytes.truncate(len);
 }

@@ -1,6 +1,7 @@
 //! Key ranges and vindexes: which keyspace id a column's value has, and which range has an id.
 #![tactic(auto)]
 
+mod bound_text;
 mod faults;
 mod ids;
 mod key_ranges;

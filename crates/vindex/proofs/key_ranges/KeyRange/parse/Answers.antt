@@ -14,17 +14,23 @@ returns-then-eq-clause-grammar c = reads_what_is_written c.args.text.now
 pub returns-in_default-clause-grammar : goal.returns-in_default-clause-grammar
 returns-in_default-clause-grammar c = reads_what_is_written c.args.text.now
 
+pub returns-in_default-2-clause-grammar : goal.returns-in_default-2-clause-grammar
+returns-in_default-2-clause-grammar c = reads_what_is_written c.args.text.now
+
 pub returns-in_err-start-clause-grammar : goal.returns-in_err-start-clause-grammar
 returns-in_err-start-clause-grammar c = reads_what_is_written c.args.text.now
-
-pub returns-in_err-end-clause-grammar : goal.returns-in_err-end-clause-grammar
-returns-in_err-end-clause-grammar c = reads_what_is_written c.args.text.now
 
 pub returns-then-is_empty-clause-grammar : goal.returns-then-is_empty-clause-grammar
 returns-then-is_empty-clause-grammar c = reads_what_is_written c.args.text.now
 
-pub returns-then-is_lt-clause-grammar : goal.returns-then-is_lt-clause-grammar
-returns-then-is_lt-clause-grammar c = reads_what_is_written c.args.text.now
+pub returns-then-not-is_before-clause-grammar : goal.returns-then-not-is_before-clause-grammar
+returns-then-not-is_before-clause-grammar c = reads_what_is_written c.args.text.now
 
-pub returns-else-is_lt-clause-grammar : goal.returns-else-is_lt-clause-grammar
-returns-else-is_lt-clause-grammar c = reads_what_is_written c.args.text.now
+pub returns-in_err-start-2-clause-grammar : goal.returns-in_err-start-2-clause-grammar
+returns-in_err-start-2-clause-grammar c = reads_what_is_written c.args.text.now
+
+pub returns-in_err-end-clause-grammar : goal.returns-in_err-end-clause-grammar
+returns-in_err-end-clause-grammar c = reads_what_is_written c.args.text.now
+
+pub returns-clause-grammar : goal.returns-clause-grammar
+returns-clause-grammar c = reads_what_is_written c.args.text.now
