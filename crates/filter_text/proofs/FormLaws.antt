@@ -1,6 +1,6 @@
 -- What is read of a filter's text is what the text says.
-use Rattle.std.proofs.Common.{◌≡◌, ℕ, List, [], ◌∷◌, length, Bool, true, false, cond, Option, Some, None, Result, Ok, Err, option_map, option_and_then, refl, sym, ap, subst, ◌∙◌, codes, arith, true≢false}
-use Rattle.std.specs.Prelude.{◌==◌, ◌&&◌, IfOk, IsTrue}
+use Rattle.std.proofs.Common.{◌≡◌, ℕ, List, [], ◌∷◌, length, Bool, true, false, cond, Option, Some, None, Result, Ok, Err, option_map, option_and_then, refl, sym, ap, subst, ◌∙◌, codes, true≢false}
+use Rattle.std.specs.Prelude.{◌==◌, ◌&&◌, IfOk}
 use Rattle.std.specs.Str.{bytes_eq, str_eq_ignore_ascii_case}
 use Rattle.std.proofs.lemmas.Slice.Eq.{bytes_eq-Decides}
 use Rattle.vindex.specs.Bounds.{Bounds}
@@ -9,8 +9,8 @@ use Rattle.vindex.specs.KeyspaceId.{vindex_of_name, vindex_name}
 use Rattle.vindex.specs.declared.vindexes.Vindex.{Vindex}
 use Rattle.vindex.specs.declared.vindexes.Vindex.TheVariants.{Numeric, ReverseBits, Binary, BinaryMd5}
 use Rattle.filter_text.specs.Lexemes.{Lexeme, word, name, quoted, mark, is_key, is_this_mark, named, text_in_quotes}
-use Rattle.filter_text.specs.Tokens.{Spells, tokens_of, first_word}
-use Rattle.filter_text.specs.FilterText.{RowsSaid, every_row, in_own_range, in_range_of, Meaning, without_table, selected, begins_with_select, Place, key, a_name, in_quotes, a_mark, Fills, Fill, condition_places, selection_places, WritesRange, Says, says_nothing, gives_range, selects, range_in, vindex_in, own_rows, named_rows, are_between, arguments_of, opens_condition, rows_of, opens_selection, table_rows, selection_of, filter_of}
+use Rattle.filter_text.specs.Tokens.{Spells, tokens_of}
+use Rattle.filter_text.specs.FilterText.{RowsSaid, every_row, in_own_range, in_range_of, Meaning, without_table, selected, begins_with_select, Place, key, a_name, in_quotes, a_mark, Fill, condition_places, selection_places, WritesRange, Says, says_nothing, gives_range, selects, range_in, vindex_in, own_rows, named_rows, are_between, arguments_of, opens_condition, rows_of, opens_selection, table_rows, selection_of, filter_of}
 use Rattle.filter_text.specs.Views.{Reads, meaning}
 use Rattle.filter_text.specs.declared.filter.Filter.{Filter}
 use Rattle.filter_text.specs.declared.fault.FilterFault.{FilterFault}

@@ -1,15 +1,14 @@
 -- The tokens that spell a text are the tokens that are read from it.
-use Rattle.std.proofs.Common.{◌≡◌, ℕ, suc, zero, ◌<◌, ◌≤◌, ◌+◌, ◌-◌, List, [], ◌∷◌, ◌++◌, length, take, drop, Bool, true, false, cond, Option, Some, None, option_map, option_and_then, refl, sym, ap, subst, ◌∙◌, arith, append_assoc}
-use Rattle.std.specs.Prelude.{◌==◌, not, IsTrue, ◌≢◌}
+use Rattle.std.proofs.Common.{◌≡◌, ℕ, suc, zero, ◌≤◌, ◌+◌, ◌-◌, List, [], ◌∷◌, ◌++◌, length, take, drop, Bool, true, false, cond, Option, Some, None, option_map, option_and_then, refl, sym, ap, subst, ◌∙◌, arith, append_assoc}
+use Rattle.std.specs.Prelude.{◌==◌, not}
 use Rattle.std.specs.List.{list_all}
 use Rattle.std.proofs.lemmas.List.{append-nil, length-drop, length-append}
 use Rattle.std.proofs.lemmas.Bool.Decides.{nat_tests}
 use Rattle.filter_text.specs.Lexemes.{Lexeme, word, name, quoted, mark, is_blank, is_word_byte, is_mark}
-use Rattle.filter_text.specs.Tokens.{tokens_of, until, with_token, with_first, nothing_first, as_name, as_quoted, begins_in_word, after_blanks, word_in_front, first_word, IsWritten, EndsAt, AreBlanks, Begins, Spells}
-use Rattle.filter_text.specs.Private.Cutting.{behind}
-use Rattle.filter_text.proofs.ByteLaws.{same_byte, word_apart, mark_apart}
-use Rattle.filter_text.proofs.SpanLaws.{all_parts, span_len, span_all, span_stops, span_within}
-use Rattle.filter_text.proofs.TokenLaws.{blank_first, mark_first, name_first, quoted_first, other_first, word_read, blanks_read, until_cut, until_end, until_other, named_at, unnamed_at, quoted_at}
+use Rattle.filter_text.specs.Tokens.{tokens_of, until, with_token, with_first, nothing_first, as_name, as_quoted, begins_in_word, after_blanks, word_in_front, first_word, IsWritten, EndsAt, Begins, Spells}
+use Rattle.filter_text.proofs.ByteLaws.{same_byte, word_apart}
+use Rattle.filter_text.proofs.SpanLaws.{all_parts, span_len, span_all, span_stops}
+use Rattle.filter_text.proofs.TokenLaws.{blank_first, mark_first, name_first, quoted_first, other_first, word_read, blanks_read, until_cut, named_at, quoted_at}
 use Rattle.filter_text.proofs.CutLaws.{take_drop, not_in_word, cut_word}
 
 -- ---- what is spelled is read

@@ -1,14 +1,13 @@
 -- A selection that is spelled is read.
-use Rattle.std.proofs.Common.{◌≡◌, ℕ, List, [], ◌∷◌, ◌++◌, Bool, true, false, Option, Some, None, Result, map, refl, sym, ap, ◌∙◌, codes, append_assoc}
+use Rattle.std.proofs.Common.{◌≡◌, ℕ, List, [], ◌∷◌, ◌++◌, true, Some, Result, map, refl, ap, ◌∙◌, codes, append_assoc}
 use Rattle.std.specs.Prelude.{◌==◌, ◌≢◌, not, IsTrue}
 use Rattle.std.specs.List.{list_all}
-use Rattle.vindex.specs.Bounds.{Bounds}
 use Rattle.vindex.specs.KeyspaceId.{vindex_name}
 use Rattle.vindex.specs.declared.vindexes.Vindex.{Vindex}
 use Rattle.vindex.specs.declared.vindexes.Vindex.TheVariants.{Numeric, ReverseBits, Binary, BinaryMd5}
 use Rattle.filter_text.specs.Lexemes.{Lexeme, word, name, quoted, mark, is_word_byte, is_mark}
-use Rattle.filter_text.specs.Tokens.{tokens_of, with_token, IsWritten, EndsAt, Spells}
-use Rattle.filter_text.specs.FilterText.{RowsSaid, every_row, in_own_range, in_range_of, Meaning, selected, Place, key, a_name, in_quotes, a_mark, Fill, condition_places, selection_places, Says, selects}
+use Rattle.filter_text.specs.Tokens.{tokens_of, with_token, IsWritten, EndsAt}
+use Rattle.filter_text.specs.FilterText.{RowsSaid, every_row, in_own_range, in_range_of, selected, Place, key, a_name, in_quotes, a_mark, Fill, condition_places, selection_places, Says, selects}
 use Rattle.filter_text.specs.Spelling.{spelled_place, spelled, IsName, NamesColumn, IsSpelling}
 use Rattle.filter_text.specs.Views.{Reads, meaning}
 use Rattle.filter_text.specs.FilterText.{filter_of}

@@ -1,6 +1,6 @@
 -- The tokens of a text by the token that it begins with.
-use Rattle.std.proofs.Common.{ne_eqb, ◌≡◌, ℕ, ◌<◌, ◌≤◌, ◌+◌, suc, zero, List, [], ◌∷◌, ◌++◌, length, take, drop, get_or, Bool, true, false, cond, Option, Some, None, option_map, option_and_then, refl, sym, ap, ◌∙◌, arith}
-use Rattle.std.specs.Prelude.{not, ◌≢◌, ◌==◌, IsTrue, MatchOption}
+use Rattle.std.proofs.Common.{ne_eqb, ◌≡◌, ℕ, ◌<◌, suc, List, [], ◌∷◌, ◌++◌, length, get_or, Bool, true, false, Option, Some, None, option_map, option_and_then, refl, ap, ◌∙◌, arith}
+use Rattle.std.specs.Prelude.{not, ◌≢◌, ◌==◌}
 use Rattle.std.specs.Borrow.{Bor}
 use Rattle.std.specs.List.{list_all}
 use Rattle.filter_text.specs.Lexemes.{Lexeme, word, name, quoted, mark, is_blank, is_word_byte, is_mark}

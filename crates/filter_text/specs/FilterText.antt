@@ -1,12 +1,12 @@
 -- The forms of a filter's text (this profile, after the Vitess filter rules): nothing, a key range, or a
 -- `select * from` its table with or without an `in_keyrange`. Key words are in any case.
-use Rattle.std.specs.Prelude.{◌≡◌, ◌≢◌, ℕ, ◌==◌, ◌&&◌, List, [], ◌∷◌, length, Bool, true, false, Option, Some, None, codes, IsTrue, option_map, option_and_then, if◌then◌else◌}
+use Rattle.std.specs.Prelude.{◌≡◌, ◌≢◌, ℕ, ◌==◌, ◌&&◌, List, [], ◌∷◌, length, Bool, false, Option, Some, None, codes, IsTrue, option_map, option_and_then, if◌then◌else◌}
 use Rattle.std.specs.Str.{str_eq_ignore_ascii_case}
 use Rattle.vindex.specs.Bounds.{Bounds}
 use Rattle.vindex.specs.RangeText.{key_range_of_text}
 use Rattle.vindex.specs.KeyspaceId.{vindex_of_name, vindex_name}
 use Rattle.vindex.specs.declared.vindexes.Vindex.{Vindex}
-use Rattle.filter_text.specs.Lexemes.{Lexeme, is_key, is_this_mark, named, text_in_quotes, is_blank, is_word_byte}
+use Rattle.filter_text.specs.Lexemes.{Lexeme, is_key, is_this_mark, named, text_in_quotes}
 use Rattle.filter_text.specs.Tokens.{Spells, tokens_of, first_word}
 
 infixl 10 ◌>>=◌

@@ -1,8 +1,7 @@
 -- The tokens that a filter's text is made of (this profile). A word is a key word or a plain name; any
 -- name may stand between backquotes, and is no key word then.
-use Rattle.std.specs.Prelude.{◌≡◌, ◌≢◌, ℕ, ◌==◌, ◌||◌, ◌++◌, List, [], ◌∷◌, Bool, false, not, Option, Some, None, IsTrue}
+use Rattle.std.specs.Prelude.{ℕ, ◌==◌, ◌||◌, List, Bool, false, Option, Some, None}
 use Rattle.std.specs.Char.{is_ascii_alphanumeric}
-use Rattle.std.specs.List.{list_all}
 use Rattle.std.specs.Str.{str_eq_ignore_ascii_case}
 
 pub data Lexeme : Type 0 where

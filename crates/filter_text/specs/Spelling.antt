@@ -2,8 +2,6 @@
 -- and a blank behind each.
 use Rattle.std.specs.Prelude.{◌≡◌, ◌≢◌, ℕ, ◌==◌, ◌++◌, List, [], ◌∷◌, not, IsTrue}
 use Rattle.std.specs.List.{list_all}
-use Rattle.vindex.specs.Bounds.{Bounds}
-use Rattle.vindex.specs.declared.vindexes.Vindex.{Vindex}
 use Rattle.filter_text.specs.FilterText.{RowsSaid, every_row, in_own_range, in_range_of, Place, key, a_name, in_quotes, a_mark, selection_places, WritesRange}
 
 abbrev pub spelled_place : Place → List ℕ

@@ -1,5 +1,5 @@
 -- What the types of this crate are, apart from where their texts lie, and what a call's answer means.
-use Rattle.std.specs.Prelude.{◌≡◌, ℕ, List, Option, Some, None, Result, Ok, Err, option_map}
+use Rattle.std.specs.Prelude.{◌≡◌, Option, Some, None, Result, Ok, Err, option_map, IsSome}
 use Rattle.filter_text.specs.Lexemes.{Lexeme, word, name, quoted, mark}
 use Rattle.filter_text.specs.FilterText.{RowsSaid, every_row, in_own_range, in_range_of, Meaning}
 use Rattle.filter_text.specs.RuleScope.{TablesSaid, every_table, one_table}
@@ -33,8 +33,8 @@ scope_said EveryTable = every_table
 scope_said (OneTable table) = one_table table.now
 
 -- What a call answered, seen by `view`, is what the definition reads; a bad form is one that it doesn't
--- read, and want of memory says nothing of it.
+-- read, and memory is wanting for one that it reads.
 abbrev pub Reads : {X Y : Type 0} → (X → Y) → Result X FilterFault → Option Y → Type 0
 Reads view (Ok x) read = read ≡ Some (view x)
 Reads view (Err BadForm) read = read ≡ None
-Reads view (Err Memory) read = Unit {0}
+Reads view (Err Memory) read = IsSome read

@@ -52,13 +52,14 @@ impl<'t> Filter<'t> {
     /// where its first word is `select`, `select * from` a table, for every row of it or `where
     /// in_keyrange` says. Key words are in any case, blanks, tabs, CR and LF may part tokens, and a name
     /// between backquotes is never a key word. `BadForm` is for every other text, also for one whose
-    /// vindex or key range is none; which tables and columns there are isn't asked. `Memory` where the
-    /// allocator gave none.
+    /// vindex or key range is none, whatever memory there is; which tables and columns there are isn't
+    /// asked. Memory is taken for the bounds of a key range alone, behind all judgement: `Memory` where
+    /// the allocator gave none for a text that is a filter.
     pub fn parse(alloc: Global, text: &'t str) -> Result<Filter<'t>, FilterFault>
         ensures exact { Reads meaning result (filter_of text.now) }
         // What is read is what the text says.
         ensures says { IfOk result (λ filter. Says text.now (meaning filter)) }
-        // What a text says is read, unless memory ran out.
+        // What a text says is read, unless memory ran out; what says nothing is refused as such.
         ensures only { (said : Meaning) → Says text.now said → Reads meaning result (Some said) }
         // Each selection has a text, and that text is read as it.
         ensures spelled { (table range : List ℕ) (rows : RowsSaid)
@@ -80,7 +81,9 @@ fn filter_of(alloc: Global, text: &str) -> Result<Filter<'_>, FilterFault>
         });
     }
     if begins_with_select(text) {
-        let tokens = tokens_of(alloc, text)?;
+        let Some(tokens) = tokens_of(text) else {
+            return Err(FilterFault::BadForm);
+        };
         return selection(alloc, tokens.as_slice());
     }
     let range = key_range(alloc, text)?;

@@ -2,7 +2,6 @@
 
 ghost use Rattle.std.specs.Prelude.{◌≡◌, map, option_map};
 ghost use Rattle.vindex.specs.RangeText.{key_range_of_text};
-ghost use Rattle.vindex.specs.KeyspaceId.{vindex_of_name};
 ghost use Rattle.filter_text.specs.FilterText.{range_in, vindex_in, own_rows, named_rows, are_between, arguments_of, table_rows, opens_condition, rows_of, opens_selection, selection_of};
 ghost use Rattle.filter_text.specs.Lexemes.{named, text_in_quotes};
 ghost use Rattle.filter_text.specs.Views.{Reads, lexeme, rows_said, meaning};
@@ -24,45 +23,21 @@ pub fn key_range(alloc: Global, text: &str) -> Result<KeyRange, FilterFault>
     }
 }
 
-fn vindex_named(name: &str) -> Result<Vindex, FilterFault>
-    ensures { Reads (λ vindex. vindex) result (vindex_of_name name.now) }
-{
-    match Vindex::parse(name) {
-        Ok(vindex) => Ok(vindex),
-        Err(_) => Err(FilterFault::BadForm),
-    }
-}
-
-fn name_in<'t>(token: &Token<'t>) -> Result<&'t str, FilterFault>
-    ensures { Reads (λ name. name.now) result (named (lexeme token.now)) }
-{
-    match token.name() {
-        Some(name) => Ok(name),
-        None => Err(FilterFault::BadForm),
-    }
-}
-
-fn quoted_in<'t>(token: &Token<'t>) -> Result<&'t str, FilterFault>
-    ensures { Reads (λ text. text.now) result (text_in_quotes (lexeme token.now)) }
-{
-    match token.quoted() {
-        Some(text) => Ok(text),
-        None => Err(FilterFault::BadForm),
-    }
-}
-
 /// The key range between quotes.
 fn range_in(alloc: Global, token: &Token<'_>) -> Result<KeyRange, FilterFault>
     ensures { Reads (λ range. range) result (range_in (lexeme token.now)) }
 {
-    key_range(alloc, quoted_in(token)?)
+    let Some(text) = token.quoted() else {
+        return Err(FilterFault::BadForm);
+    };
+    key_range(alloc, text)
 }
 
 /// The vindex between quotes.
-fn vindex_in(token: &Token<'_>) -> Result<Vindex, FilterFault>
-    ensures { Reads (λ vindex. vindex) result (vindex_in (lexeme token.now)) }
+fn vindex_in(token: &Token<'_>) -> Option<Vindex>
+    ensures { result ≡ vindex_in (lexeme token.now) }
 {
-    vindex_named(quoted_in(token)?)
+    Vindex::parse(token.quoted()?).ok()
 }
 
 /// `'range')`.
@@ -89,8 +64,9 @@ fn named_rows<'t>(
 ) -> Result<Rows<'t>, FilterFault>
     ensures { Reads rows_said result (named_rows (lexeme column.now) (lexeme vindex.now) (lexeme range.now)) }
 {
-    let column = name_in(column)?;
-    let vindex = vindex_in(vindex)?;
+    let (Some(column), Some(vindex)) = (column.name(), vindex_in(vindex)) else {
+        return Err(FilterFault::BadForm);
+    };
     let range = range_in(alloc, range)?;
     Ok(Rows::Named {
         column,
@@ -162,7 +138,9 @@ fn table_rows<'t>(
 ) -> Result<Filter<'t>, FilterFault>
     ensures { Reads meaning result (table_rows (lexeme table.now) (map lexeme tokens.now)) }
 {
-    let table = name_in(table)?;
+    let Some(table) = table.name() else {
+        return Err(FilterFault::BadForm);
+    };
     let rows = condition(alloc, tokens)?;
     Ok(Filter {
         table: Some(table),

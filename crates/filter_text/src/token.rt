@@ -17,6 +17,12 @@ pub enum Token<'t> {
     Mark(u8),
 }
 
+impl<'t> Default for Token<'t> {
+    fn default() -> Token<'t> {
+        Token::Mark(0)
+    }
+}
+
 impl<'t> Token<'t> {
     /// Whether it is this key word, in any case.
     pub fn is_key(&self, key: &str) -> bool

@@ -1,15 +1,17 @@
 //! Cutting a filter's text into its tokens.
 
-ghost use Rattle.std.specs.Prelude.{◌≡◌, false, ◌==◌, ◌<◌, ◌≤◌, IfSome, IsTrue, not, List, ◌∷◌, slice_index, length, take, drop, map, position, option_map, option_and_then};
+ghost use Rattle.std.specs.Prelude.{◌≡◌, false, ◌==◌, ◌<◌, ◌≤◌, Some, IfSome, IfNone, IsTrue, not, List, ◌∷◌, slice_index, length, take, drop, map, position, option_map, option_and_then};
 ghost use Rattle.std.specs.List.{list_all};
 ghost use Rattle.filter_text.specs.Lexemes.{is_blank, is_word_byte, is_mark};
 ghost use Rattle.filter_text.specs.Tokens.{tokens_of, until, as_name, as_quoted, begins_in_word, after_blanks, word_in_front, first_word};
-ghost use Rattle.filter_text.specs.Views.{Reads, lexeme};
+ghost use Rattle.filter_text.specs.Views.{lexeme};
 ghost use Rattle.filter_text.specs.Private.Cutting.{IsCut, IsUntil, begins_in_blank, front_len};
 
-use crate::fault::FilterFault;
 use crate::token::Token;
-use std::alloc::Global;
+use arrayvec::ArrayVec;
+
+// The longest selection: `select * from t where in_keyrange(c, 'v', 'r')`.
+const MOST_TOKENS: usize = 13;
 
 fn is_blank(b: u8) -> bool
     ensures { result ≡ is_blank b }
@@ -154,18 +156,20 @@ fn first_token(text: &str) -> Option<(Token<'_>, &str)>
     }
 }
 
-/// The tokens of a text.
-pub fn tokens_of<'t>(alloc: Global, text: &'t str) -> Result<Vec<Token<'t>>, FilterFault>
-    ensures { Reads (λ tokens. map lexeme tokens.items) result (tokens_of text.now) }
+/// The tokens of a text. `None` is for a text that has none, or more than any selection has. Takes no
+/// memory.
+pub fn tokens_of<'t>(text: &'t str) -> Option<ArrayVec<Token<'t>, MOST_TOKENS>>
+    ensures some { IfSome result (λ tokens. tokens_of text.now ≡ Some (map lexeme tokens.items)) }
+    ensures none { IfNone result (IfSome (tokens_of text.now) (λ tokens. 13 < length tokens)) }
 {
-    let mut tokens = Vec::new(alloc);
+    let mut tokens = ArrayVec::new();
     let mut rest = skip_blanks(text);
     while !rest.is_empty() {
-        let Some((token, behind)) = first_token(rest) else {
-            return Err(FilterFault::BadForm);
-        };
-        tokens.push(token)?;
+        let (token, behind) = first_token(rest)?;
+        if tokens.try_push(token).is_err() {
+            return None;
+        }
         rest = skip_blanks(behind);
     }
-    Ok(tokens)
+    Some(tokens)
 }

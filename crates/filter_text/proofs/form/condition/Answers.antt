@@ -1,4 +1,4 @@
-use Rattle.std.proofs.Common.{◌≡◌, sym, ◌∙◌, length, arith}
+use Rattle.std.proofs.Common.{sym, ◌∙◌, arith}
 use Rattle.std.proofs.lemmas.Grind.{common_steps}
 use Rattle.filter_text.proofs.SliceLaws.{none_left, short_condition, three, condition_read, condition_not}
 use Rattle.filter_text.proofs.form.condition.Goals as goal

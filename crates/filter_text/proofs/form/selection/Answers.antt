@@ -1,4 +1,4 @@
-use Rattle.std.proofs.Common.{◌≡◌, sym, ◌∙◌, length, arith}
+use Rattle.std.proofs.Common.{sym, ◌∙◌, arith}
 use Rattle.std.proofs.lemmas.Grind.{common_steps}
 use Rattle.filter_text.proofs.SliceLaws.{short_selection, four, selection_read, selection_not}
 use Rattle.filter_text.proofs.form.selection.Goals as goal
