@@ -5,3 +5,5 @@
 mod groups;
 #[cfg(test)]
 mod positions;
+#[cfg(test)]
+mod refusals;

@@ -91,6 +91,9 @@ fn texts_that_are_no_filters(rt: HostRuntime) -> Result<(), Fail> {
         "select * from t where in_keyrange(v, numeric, '-80')",
         "select * from t where in_keyrange('v', 'numeric', '-80')",
         "insert * from t",
+        // more tokens than any selection has
+        "select * from t where in_keyrange(v, 'numeric', '-80') x",
+        "select * from t where in_keyrange(v, 'numeric', '-80') x y z ''",
     ];
     for text in texts {
         assert!(rt;

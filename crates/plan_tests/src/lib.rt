@@ -2,7 +2,11 @@
 #![tactic(auto)]
 
 #[cfg(test)]
+mod faults;
+#[cfg(test)]
 mod filters;
+#[cfg(test)]
+mod limits;
 #[cfg(test)]
 mod ranges;
 #[cfg(test)]

@@ -5,7 +5,7 @@ use std::process::Abort;
 use std::test::Fail;
 
 // The number of the refusal, or 0 where the file is read.
-fn number_of(alloc: Global, text: &str) -> u8 {
+pub(crate) fn number_of(alloc: Global, text: &str) -> u8 {
     match Plan::read_all(alloc, text.as_bytes()) {
         Ok(_) => 0,
         Err(fault) => fault.number(),
@@ -13,7 +13,7 @@ fn number_of(alloc: Global, text: &str) -> u8 {
 }
 
 // A file of one stream, with these columns, key, vindex and rules.
-fn workflow(
+pub(crate) fn workflow(
     alloc: Global,
     columns: &str,
     key: &str,
@@ -27,11 +27,11 @@ fn workflow(
 
 const COLUMNS: &str = "[[\"id\",\"INT64\"],[\"v\",\"VARCHAR\"]]";
 
-const KEY: &str = "[\"id\"]";
+pub(crate) const KEY: &str = "[\"id\"]";
 
 const VINDEX: &str = ",\"vindex\":[\"id\",\"numeric\"]";
 
-const EVERY_ROW: &str = "[{\"match\":\"/.*\",\"filter\":\"\"}]";
+pub(crate) const EVERY_ROW: &str = "[{\"match\":\"/.*\",\"filter\":\"\"}]";
 
 // Whether the file is refused by this number, with these names of a table and of a column.
 fn is_column_fault(alloc: Global, text: &str, number: u8, table: &str, column: &str) -> bool {
@@ -205,26 +205,6 @@ fn json_oddities(rt: HostRuntime) -> Result<(), Fail> {
     Ok(())
 }
 
-#[test]
-fn type_number_limit(rt: HostRuntime) -> Result<(), Fail> {
-    let alloc = rt.alloc();
-    for (number, fault) in [
-        ("265", 0),
-        ("4294967295", 54),
-        ("0", 54),
-        ("4294967296", 52),
-        ("-1", 52),
-        ("-0", 52),
-        ("265.0", 52),
-        ("2.65e2", 52),
-    ] {
-        let columns = format!(in alloc; "[[\"id\",{number}]]")?;
-        let text = workflow(alloc, columns.as_str(), KEY, "", EVERY_ROW)?;
-        assert_eq!(rt; number_of(alloc, text.as_str()), fault, "{number}");
-    }
-    Ok(())
-}
-
 // What a plan answers of a row of its first table: 1 for yes, 0 for no, or the refusal's number.
 fn answer_of(rt: &impl Abort, plan: &Plan, row: &RowView<'_>) -> u8 {
     assert!(rt; !plan.tables().is_empty());
@@ -262,114 +242,6 @@ fn in_keyrange_any_case(rt: HostRuntime) -> Result<(), Fail> {
         let row = RowView::read(bytes).ok().ok_or("the row is good")?;
         assert_eq!(rt; answer_of(&rt, &plans[0], &row), answer, "{kind}");
         assert!(rt; plans[0].same(&plans[0]));
-    }
-    Ok(())
-}
-
-// Numbered names, each between `open` and `close`, parted by commas.
-fn listed(alloc: Global, count: usize, open: &str, close: &str) -> Result<String, Fail> {
-    let mut text = String::new(alloc);
-    for number in 0..count {
-        let comma = if number == 0 { "" } else { "," };
-        let item = format!(in alloc; "{comma}{open}c{number}{close}")?;
-        text.push_str(item.as_str())?;
-    }
-    Ok(text)
-}
-
-// The refusal's number of a file with so many streams, tables, columns and key columns.
-fn number_of_counts(alloc: Global, counts: [usize; 4]) -> Result<u8, Fail> {
-    let [streams, tables, columns, keys] = counts;
-    let columns = listed(alloc, columns, "[\"", "\",265]")?;
-    let keys = listed(alloc, keys, "\"", "\"")?;
-    let close = format!(in alloc; "\",\"columns\":[{columns}],\"key\":[{keys}]}}")?;
-    let tables = listed(alloc, tables, "{\"name\":\"", close.as_str())?;
-    let streams = listed(
-        alloc,
-        streams,
-        "{\"shard\":\"",
-        "\",\"filter\":{\"rules\":[]}}",
-    )?;
-    let text = format!(in alloc;
-        "{{\"keyspace\":\"\",\"tables\":[{tables}],\"streams\":[{streams}]}}"
-    )?;
-    Ok(number_of(alloc, text.as_str()))
-}
-
-/// Each count is accepted, or refused with 56, as wanted.
-fn check_counts(rt: &(impl Abort + AllocGlobal), counts: &[([usize; 4], u8)]) -> Result<(), Fail> {
-    for (counts, number) in counts {
-        assert_eq!(rt;
-            number_of_counts(rt.alloc(), *counts)?,
-            *number,
-            "{counts:?}"
-        );
-    }
-    Ok(())
-}
-
-#[test]
-fn streams_limit(rt: HostRuntime) -> Result<(), Fail> {
-    check_counts(
-        &rt,
-        &[
-            ([1, 1, 1, 1], 0),
-            ([64, 1, 1, 1], 0),
-            ([0, 1, 1, 1], 56),
-            ([65, 1, 1, 1], 56),
-        ],
-    )
-}
-
-#[test]
-fn tables_limit(rt: HostRuntime) -> Result<(), Fail> {
-    check_counts(
-        &rt,
-        &[([1, 64, 1, 1], 0), ([1, 0, 1, 1], 56), ([1, 65, 1, 1], 56)],
-    )
-}
-
-#[test]
-fn columns_limit(rt: HostRuntime) -> Result<(), Fail> {
-    check_counts(
-        &rt,
-        &[
-            ([1, 1, 256, 1], 0),
-            ([1, 1, 0, 1], 56),
-            ([1, 1, 257, 1], 56),
-        ],
-    )
-}
-
-#[test]
-fn key_columns_limit(rt: HostRuntime) -> Result<(), Fail> {
-    check_counts(
-        &rt,
-        &[([1, 1, 9, 8], 0), ([1, 1, 9, 0], 56), ([1, 1, 9, 9], 56)],
-    )
-}
-
-#[test]
-fn name_limit(rt: HostRuntime) -> Result<(), Fail> {
-    let alloc = rt.alloc();
-    let mut longest = String::new(alloc);
-    for _ in 0..256 {
-        longest.push_str("n")?;
-    }
-    let longer = format!(in alloc; "{longest}n")?;
-    for (name, number) in [
-        ("n", 0),
-        (" ", 0),
-        (longest.as_str(), 0),
-        ("", 52),
-        (longer.as_str(), 52),
-        ("\\u001f", 52),
-        ("\\u007f", 52),
-    ] {
-        let columns = format!(in alloc; "[[\"{name}\",265]]")?;
-        let key = format!(in alloc; "[\"{name}\"]")?;
-        let text = workflow(alloc, columns.as_str(), key.as_str(), "", EVERY_ROW)?;
-        assert_eq!(rt; number_of(alloc, text.as_str()), number, "{name}");
     }
     Ok(())
 }
