@@ -95,7 +95,7 @@ fn changes_and_groups_are_small(rt: HostRuntime) {
     assert!(rt; size_of::<Change<'static>>() <= 32);
     assert!(rt; size_of::<Group<'static>>() <= 96);
     assert!(rt; size_of::<PlannedChange<'static>>() <= 24);
-    assert!(rt; size_of::<PlannedGroup<'static>>() <= 40);
+    assert!(rt; size_of::<PlannedGroup<'static>>() <= 48);
 }
 
 #[test]

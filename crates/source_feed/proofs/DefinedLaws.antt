@@ -1,5 +1,5 @@
 -- What is known of a feed whose groups are defined.
-use Rattle.std.proofs.Common.{◌≡◌, ℕ, ◌^◌, List, length, reverse, Option, None, Some, Result, Ok, Err, IfOk, nat_lt, refl, sym, ◌∙◌, inl, inr, true, false}
+use Rattle.std.proofs.Common.{◌≡◌, ℕ, ◌^◌, List, length, reverse, Option, None, Some, Result, Ok, Err, IfOk, nat_lt, refl, sym, ◌∙◌, inl, inr}
 use Rattle.std.proofs.lemmas.Bool.{cases_Bool, cond-true, cond-false}
 use Rattle.std.specs.Option.{option_or}
 use Rattle.outcome.specs.Outcome.{GivesUnless}

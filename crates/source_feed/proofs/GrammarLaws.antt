@@ -1,11 +1,10 @@
 -- The blocks of a history are those of the grammar.
-use Rattle.std.proofs.Common.{◌≡◌, ℕ, List, [], ◌∷◌, ◌++◌, IsTrue, Bool, true, false, cond, Option, None, Some, refl, sym, ◌∙◌, ap, subst, rules, append_assoc}
+use Rattle.std.proofs.Common.{◌≡◌, ℕ, List, [], ◌∷◌, ◌++◌, IsTrue, Bool, true, false, cond, Option, None, refl, sym, ◌∙◌, ap, subst, rules, append_assoc}
 use Rattle.std.proofs.lemmas.Bool.{cond-true, cond-false}
 use mathlib.Core.List.{reverse_aux, reverse_aux-eq}
 use Rattle.std.specs.List.{AllByRecursion, flat_map}
 use Rattle.std.specs.Option.{option_to_list, option_or}
 use Rattle.vevent.specs.EventValue.{EventValue, Gtid, Begin, Commit, Rollback, Row, Field, Vgtid, Ignored}
-use Rattle.source_feed.specs.GroupValue.{Position}
 use Rattle.source_feed.specs.SourceValue.{SourceValue}
 use Rattle.source_feed.specs.PastEvents.{PastEvents, is_open, last_field, position_of, body_position, body_changes}
 use Rattle.source_feed.specs.Groups.{Block, block_at, block_at_position}

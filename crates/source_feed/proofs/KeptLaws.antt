@@ -1,18 +1,16 @@
 -- The groups of a history are its kept blocks, block by block.
-use Rattle.std.proofs.Common.{◌≡◌, ℕ, zero, suc, ◌+◌, ◌<◌, ◌≤◌, ◌⊎◌, List, [], ◌∷◌, ◌++◌, length, take, Option, None, Some, true, false, slice_get, refl, sym, ◌∙◌, ap, subst, arith, inl, inr, rules}
+use Rattle.std.proofs.Common.{◌≡◌, ℕ, zero, suc, ◌+◌, ◌<◌, ◌≤◌, ◌⊎◌, List, [], ◌∷◌, ◌++◌, length, Option, None, Some, true, false, slice_get, refl, sym, ◌∙◌, ap, arith, inl, inr, rules}
 use Rattle.std.proofs.lemmas.Bool.{cases_Bool, cond-true, cond-false, false≢true}
 use Rattle.std.proofs.lemmas.List.{length-append, take-append-le, take_all}
-use Rattle.std.proofs.lemmas.Option.{same_Some, slice_get_within}
+use Rattle.std.proofs.lemmas.Option.{slice_get_within}
 use Rattle.std.specs.Option.{option_to_list}
 use Rattle.gtid_set.specs.Position.{union_of, within_of}
-use Rattle.vevent.specs.EventValue.{EventValue}
 use Rattle.source_feed.specs.GroupValue.{Position, GroupValue}
 use Rattle.source_feed.specs.SourceValue.{SourceValue}
 use Rattle.source_feed.specs.PastEvents.{PastEvents}
 use Rattle.source_feed.specs.Groups.{Block, block_at, with_block, seen, group_of_block, groups_of}
 use Rattle.source_feed.specs.Grammar.{blocks}
 use Rattle.source_feed.specs.KeptBlocks.{union_with, kept_count, union_before, kept_before, group_as, IsKept, AreKeptBlocks}
-use Rattle.source_feed.proofs.Options.{option_cases}
 use Rattle.source_feed.proofs.OrderLaws.{slice_get-push}
 
 -- ---- one block more

@@ -1,20 +1,17 @@
 -- The groups of a feed without a fault are numbered 1, 2, .., and their positions grow.
 use Rattle.std.proofs.Common.{◌≡◌, ℕ, zero, suc, ◌+◌, ◌<◌, ◌⊎◌, List, [], ◌∷◌, ◌++◌, length, Option, None, Some, Result, Ok, Err, true, false, cond, slice_get, refl, sym, ◌∙◌, ap, subst, arith, inl, inr, rules}
 use Rattle.std.proofs.lemmas.Bool.{cases_Bool, cond-true, cond-false, false≢true}
-use Rattle.std.proofs.lemmas.List.{length-append}
 use Rattle.std.proofs.lemmas.Option.{same_Some}
-use Rattle.std.specs.Option.{option_or}
 use Rattle.gtid_set.specs.Position.{IsCanonical, IsWithin, union_of, within_of}
 use Rattle.gtid_set.specs.Text.{position_of_text}
 use Rattle.gtid_set.specs.declared.fault.GtidFault.{GtidFault}
-use Rattle.vevent.specs.EventValue.{EventValue, ShardGtidValue, Gtid, Begin, Commit, Rollback, Row, Field, Vgtid, Ignored}
-use Rattle.source_feed.specs.declared.fault.FeedFault.{FeedFault}
+use Rattle.vevent.specs.EventValue.{EventValue, Gtid, Begin, Commit, Rollback, Row, Field, Vgtid, Ignored}
 use Rattle.source_feed.specs.declared.fault.FeedFault.TheVariants.{Diverged}
 use Rattle.source_feed.specs.GroupValue.{Position, TableChangeValue, GroupValue}
 use Rattle.source_feed.specs.SourceValue.{SourceValue, own_gtid}
 use Rattle.source_feed.specs.PastEvents.{PastEvents, is_open, set_of, set_of_text, position_of, body_position, body_changes}
 use Rattle.source_feed.specs.Groups.{Block, block_at, block_at_position, with_block, seen, group_of_block, groups_of, block_fault, position_fault, entry_fault, commit_fault, fault_at, first_fault}
-use Rattle.source_feed.specs.GroupOrder.{IsProperPart, AreInOrder}
+use Rattle.source_feed.specs.GroupOrder.{AreInOrder}
 use Rattle.source_feed.specs.Private.SetLaws.{SetLaws}
 use Rattle.source_feed.proofs.Options.{option_cases, option_or-some, option_or-nothing}
 

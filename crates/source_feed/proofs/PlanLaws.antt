@@ -1,30 +1,27 @@
 -- What is true of a feed under a plan: where no FIELD differs, each change is one under the plan.
-use Rattle.std.proofs.Common.{◌≡◌, ℕ, zero, suc, ◌+◌, ◌<◌, ◌==◌, ◌||◌, ◌⊎◌, List, [], ◌∷◌, ◌++◌, length, reverse, map, Option, None, Some, Result, Ok, Err, Bool, true, false, not, cond, nat_lt, ◌^◌, slice_get, refl, sym, ◌∙◌, ap, subst, arith, inl, inr, rules}
-use Rattle.std.proofs.lemmas.Bool.{cases_Bool, cond-true, cond-false, false≢true, and_parts}
+use Rattle.std.proofs.Common.{◌≡◌, ℕ, zero, suc, ◌+◌, ◌<◌, ◌||◌, List, [], ◌∷◌, ◌++◌, length, reverse, map, Option, None, Some, Ok, Bool, true, false, not, cond, ◌^◌, slice_get, refl, sym, ◌∙◌, ap, subst, arith, inl, inr}
+use Rattle.std.proofs.lemmas.Bool.{cases_Bool, cond-true, cond-false, and_parts}
 use Rattle.std.proofs.lemmas.List.Quantifiers.{position-Some}
 use Rattle.std.proofs.lemmas.List.Folds.{list_any-append}
 use Rattle.std.proofs.lemmas.Option.{same_Some}
 use Rattle.std.specs.List.{AllByRecursion, list_all, list_any, filter_map, cons_option}
-use Rattle.std.specs.Option.{option_map, option_or}
+use Rattle.std.specs.Option.{option_map}
 use Rattle.std.specs.Str.{bytes_eq}
 use Rattle.std.specs.Cmp.Lexicographic.{as_long, same_text}
 use mathlib.Core.List.{reverse-cons}
-use Rattle.proto_wire.specs.Reading.{Reading}
-use Rattle.filter_rule.specs.PlanTable.{TableValue}
 use Rattle.filter_rule.specs.PlanValue.{PlanValue, table_of_name, columns_of}
 use Rattle.vevent.specs.Columns.{has_columns, have_columns}
-use Rattle.vevent.specs.EventValue.{ChangeValue, FieldValue, EventValue, Gtid, Begin, Commit, Rollback, Row, Field, Vgtid, Ignored}
-use Rattle.source_feed.specs.declared.fault.FeedFault.{FeedFault}
-use Rattle.source_feed.specs.declared.fault.FeedFault.TheVariants.{Misplaced, NoFields, ColumnCount, FeedTooLong, OpenAtEnd}
+use Rattle.vevent.specs.EventValue.{ChangeValue, FieldValue, EventValue, Begin, Commit, Row, Field}
+use Rattle.source_feed.specs.declared.fault.FeedFault.TheVariants.{Misplaced, ColumnCount}
 use Rattle.source_feed.specs.GroupValue.{Position, TableChangeValue, GroupValue}
-use Rattle.source_feed.specs.SourceValue.{SourceValue, table_of}
+use Rattle.source_feed.specs.SourceValue.{table_of}
 use Rattle.source_feed.specs.EventList.{events_of}
-use Rattle.source_feed.specs.PastEvents.{PastEvents, is_open, last_field, width_of, body_position, body_changes, change_in, changes_in, position_of}
-use Rattle.source_feed.specs.Groups.{Block, block_at, block_at_position, seen, group_of_block, groups_of, row_fault, fault_at, first_fault, closed, groups_in, groups}
+use Rattle.source_feed.specs.PastEvents.{PastEvents, is_open, last_field, body_position, body_changes, change_in, changes_in, position_of}
+use Rattle.source_feed.specs.Groups.{Block, block_at, block_at_position, seen, group_of_block, groups_of, row_fault, fault_at, first_fault, groups}
 use Rattle.source_feed.specs.GroupOrder.{AreInOrder}
-use Rattle.source_feed.specs.Planned.{source_of, same_column, differs_at, differs, differs_from, PlannedChangeValue, PlannedGroupValue, planned_change, planned_group, FeedValue, IsChangeUnder, IsFeed}
+use Rattle.source_feed.specs.Planned.{source_of, same_column, differs_at, differs, differs_from, PlannedChangeValue, PlannedGroupValue, planned_change, planned_group, IsChangeUnder, IsFeed}
 use Rattle.gtid_set.specs.Position.{within_of}
-use Rattle.source_feed.proofs.Options.{option_cases, option_or-nothing}
+use Rattle.source_feed.proofs.Options.{option_or-nothing}
 use Rattle.source_feed.proofs.OrderLaws.{InOrder}
 use Rattle.source_feed.proofs.DefinedLaws.{Defined, defined}
 

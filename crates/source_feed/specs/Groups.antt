@@ -1,6 +1,6 @@
 -- The groups of a feed. Everything is said of an event by what stands before it (this profile, after
 -- the Vitess document 'VReplication').
-use Rattle.std.specs.Prelude.{ℕ, ◌+◌, ◌^◌, List, [], ◌∷◌, ◌++◌, length, reverse, Bool, true, false, ◌==◌, nat_lt, Option, None, Some, Result, Ok, Err, if◌then◌else◌}
+use Rattle.std.specs.Prelude.{ℕ, ◌+◌, ◌^◌, List, [], ◌∷◌, ◌++◌, length, reverse, nat_lt, Option, None, Some, Result, Ok, Err, if◌then◌else◌}
 use Rattle.std.specs.List.{list_all}
 use Rattle.std.specs.Option.{option_or}
 use Rattle.proto_wire.specs.Reading.{Reading}

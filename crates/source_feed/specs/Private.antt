@@ -2,5 +2,6 @@
 pub mod SetLaws
 pub mod EventByEvent
 pub mod TableWidths
+pub mod KeptChanges
 pub mod BlockEnd
 pub mod ReaderState

@@ -96,7 +96,9 @@ pub(crate) fn read<'h>(
 
 /// The groups of a feed that was recorded from a shard: the changes that are applied together, each
 /// with the source's position after it, numbered from 1. A group whose position was seen is a repeat
-/// and is skipped. Takes time linear in the feed, and copies nothing of it.
+/// and is skipped. Copies nothing of the feed. Takes time linear in the feed's bytes, also in those of a
+/// hostile feed: each event is read once, and each position is laid once along the last kept one, where
+/// an interval takes at most the logarithm of the kept intervals.
 ///
 /// Refused: `FeedTooLong` for more than 2^31 - 1 bytes, before all else; then what stands first from
 /// the left: `Frame` at a broken message's first byte; at an event first `Event`, then by its type

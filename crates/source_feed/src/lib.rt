@@ -1,6 +1,7 @@
 //! The groups of a recorded feed: the changes that are applied together, with the position after them.
 #![tactic(auto)]
 
+mod changes;
 mod fault;
 mod feed;
 mod field_check;

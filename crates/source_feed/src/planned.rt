@@ -5,6 +5,7 @@ ghost use Rattle.std.specs.List.{filter_map};
 ghost use Rattle.source_feed.specs.declared.fault.FeedFault.TheVariants.{Memory};
 ghost use Rattle.source_feed.specs.Planned.{planned_change, planned_group};
 
+use crate::changes::Changes;
 use crate::fault::FeedFault;
 use crate::group::{Change, Group};
 use filter_rule::Plan;
@@ -54,21 +55,23 @@ impl<'h> PlannedChange<'h> {
     }
 }
 
-/// A group of a feed under a plan: the changes of the plan's tables alone. The position is shared.
+/// A group of a feed under a plan, in 48 bytes: the changes of the plan's tables alone, of which a single
+/// one stands in its place. The position is shared.
 #[derive(Drop)]
 pub struct PlannedGroup<'h> {
     number: u32,
     position: Arc<GtidSet>,
-    changes: Vec<PlannedChange<'h>>,
+    changes: Changes<'h>,
 }
 
 impl<'h> Model for PlannedGroup<'h> {
     ghost use Rattle.std.specs.Arc.{arc_value};
     ghost use Rattle.source_feed.specs.Planned.{PlannedGroupValue};
+    ghost use Rattle.source_feed.specs.Private.KeptChanges.{listed};
 
     ghost Value = { PlannedGroupValue };
 
-    ghost view = { λ g. record { number = g.number; position = arc_value g.position; changes = g.changes.items } };
+    ghost view = { λ g. record { number = g.number; position = arc_value g.position; changes = listed g.changes } };
 }
 
 impl<'h> PlannedGroup<'h> {
@@ -111,12 +114,10 @@ fn planned_changes<'h>(
 ) -> Result<Vec<PlannedChange<'h>>, AllocError>
     ensures { IfOk result (λ under. under.items ≡ filter_map (planned_change plan.now) changes.entry.items) }
 {
-    let mut under: Vec<PlannedChange<'h>> = changes
+    changes
         .into_iter()
         .filter_map(|change| planned(plan, change))
-        .collect(alloc)?;
-    under.shrink_to_fit();
-    Ok(under)
+        .collect(alloc)
 }
 
 /// The group under the plan.
@@ -136,7 +137,7 @@ fn planned_of<'h>(
     Ok(PlannedGroup {
         number,
         position: Arc::new(alloc, position)?,
-        changes: planned_changes(alloc, plan, changes)?,
+        changes: Changes::from_vec(planned_changes(alloc, plan, changes)?),
     })
 }
 
