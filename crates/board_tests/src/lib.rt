@@ -1,8 +1,12 @@
-//! Tests of the crates that the board stands on: the step table and the staged map.
+//! Tests of the crates that the board stands on: keys and copy marks, the step table and the staged map.
 #![tactic(auto)]
 
 #[cfg(test)]
 mod groups_of_touches;
+#[cfg(test)]
+mod keys;
+#[cfg(test)]
+mod marks;
 #[cfg(test)]
 mod steps;
 #[cfg(test)]

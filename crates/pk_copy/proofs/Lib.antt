@@ -1,0 +1,5 @@
+mod OrderLaws
+mod TieLaws
+mod MarkLaws
+mod ReadingLaws
+mod RelationLaws

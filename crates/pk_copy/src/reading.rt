@@ -1,0 +1,96 @@
+//! The key of a row.
+
+ghost use Rattle.std.specs.Prelude.{◌≡◌, ◌↔◌, ◌≤◌, ◌<◌, false, length, map, Some, None, Ok, Err, IfSome, IfOk};
+ghost use Rattle.std.specs.Option.{option_map};
+ghost use Rattle.filter_rule.specs.PlanValue.{columns_of};
+ghost use Rattle.filter_rule.specs.WellFormed.{ArePlaces};
+ghost use Rattle.pk_copy.specs.KeyValue.{KeyValue, IsPart};
+ghost use Rattle.pk_copy.specs.KeyOf.{part_of_text, part_of, is_null, cell_at, key_cells, key_in, key_of, HoldsNull, LacksPart, IsKeyOf};
+ghost use Rattle.pk_copy.specs.PartValue.{part_value};
+
+use crate::fault::KeyFault;
+use crate::part::KeyPart;
+use crate::view::KeyView;
+use arrayvec::ArrayVec;
+use filter_rule::{ColumnDef, Plan, is_whole_number};
+use row_view::{Column, RowView};
+use vindex::number_of;
+
+/// The key of a row of table `t`: the table's number and the values of its key columns in key order,
+/// numbers of whole-number columns by value, other columns' bytes lent from the row. `NullKey` where any
+/// key column is NULL; else `BadKey` where any key column of whole numbers holds no number text from -2^63
+/// to 2^64 - 1. Takes no memory. That `t` is a table of the plan and that the row has as many columns as
+/// that table is the caller's.
+pub fn key_of<'b>(plan: &Plan, t: u8, row: &RowView<'b>) -> Result<KeyView<'b>, KeyFault>
+    requires table { t < length plan.now.tables }
+    requires columns { length row.now ≡ length (columns_of plan.now t) }
+    ensures value { result ≡ key_of plan.now t row.now }
+    // It is answered exactly where each key column gives a part, and it has these parts.
+    ensures key { (key : KeyValue) → (result ≡ Ok key) ↔ IsKeyOf t (key_cells plan.now t row.now) key }
+
+    // Each refusal comes exactly where this stands in the row.
+    ensures null { (result ≡ Err KeyFault.NullKey) ↔ HoldsNull (key_cells plan.now t row.now) }
+    ensures bad { let cells = key_cells plan.now t row.now in
+        (result ≡ Err KeyFault.BadKey) ↔ ((¬ HoldsNull cells) × LacksPart cells) }
+{
+    let table = &plan.tables()[usize::from(t)];
+    key_at(t, table.columns(), table.key(), row)
+}
+
+// The key of a row of table `t`, of what stands at these places.
+fn key_at<'b>(
+    t: u8,
+    columns: &[ColumnDef],
+    places: &[u8],
+    row: &RowView<'b>,
+) -> Result<KeyView<'b>, KeyFault>
+    requires few { length places.now ≤ 8 }
+    requires places { ArePlaces columns.now places.now }
+    requires width { length row.now ≡ length columns.now }
+    ensures { result ≡ key_in t (map (cell_at columns.now row.now) places.now) }
+{
+    let mut parts = ArrayVec::new();
+    let mut is_bad = false;
+    for place in places {
+        match part_at(columns, row, *place) {
+            Ok(part) => parts.push(part),
+            Err(KeyFault::BadKey) => is_bad = true,
+            Err(KeyFault::NullKey) => return Err(KeyFault::NullKey),
+        }
+    }
+    if is_bad {
+        return Err(KeyFault::BadKey);
+    }
+    Ok(KeyView::new(t, parts))
+}
+
+// The part that the column at a place gives the key.
+fn part_at<'b>(columns: &[ColumnDef], row: &RowView<'b>, place: u8) -> Result<KeyPart<'b>, KeyFault>
+    requires place { place < length columns.now }
+    requires width { length row.now ≡ length columns.now }
+    ensures part { let cell = cell_at columns.now row.now place in
+        IfOk result (λ part. (part_of cell ≡ Some (part_value part)) × IsPart (part_value part)) }
+    ensures null { let cell = cell_at columns.now row.now place in
+        result ≡ Err KeyFault.NullKey → cell.value ≡ None }
+    ensures bad { let cell = cell_at columns.now row.now place in
+        result ≡ Err KeyFault.BadKey → (is_null cell ≡ false) × (part_of cell ≡ None) }
+{
+    let place = usize::from(place);
+    match row.column(place) {
+        Column::Null => Err(KeyFault::NullKey),
+        Column::Bytes(text) => part_of(columns[place].type_number(), text).ok_or(KeyFault::BadKey),
+    }
+}
+
+// The part that a column's text gives the key.
+fn part_of(type_number: u32, text: &[u8]) -> Option<KeyPart<'_>>
+    ensures part { option_map part_value result ≡ part_of_text type_number text.now }
+    ensures within { IfSome result (λ part. IsPart (part_value part)) }
+{
+    if is_whole_number(type_number) {
+        let number = number_of(text)?;
+        Some(KeyPart::Number(number.value()))
+    } else {
+        Some(KeyPart::Bytes(text))
+    }
+}
