@@ -3,6 +3,7 @@ pub mod KeyValue
 pub mod KeyOrder
 pub mod KeyOrderLaws
 pub mod PartValue
+pub mod SmallPartValue
 pub mod KeyOf
 pub mod Marks
 pub mod MarkView

@@ -1,0 +1,144 @@
+//! A lent key as it is kept.
+
+ghost use Rattle.std.specs.Prelude.{◌≡◌, IfOk, map};
+ghost use Rattle.std.specs.Ordering.{eq_by_cmp, as_partial_cmp};
+ghost use Rattle.std.specs.Cmp.{partial_equiv_from_equiv, eq_by_cmp_equiv, partial_order_from_total};
+ghost use Rattle.pk_copy.specs.KeyValue.{AreParts};
+ghost use Rattle.pk_copy.specs.KeyOrder.{key_cmp};
+ghost use Rattle.pk_copy.specs.KeyOrderLaws.{key_cmp_total};
+
+use crate::small_part::SmallPart;
+use crate::view::KeyView;
+use arrayvec::ArrayVec;
+use std::alloc::{AllocError, Global};
+use std::cmp::Ordering;
+use std::marker::Model;
+use std::slice;
+
+/// The parts of a key: one in place, several or none in memory of their own.
+#[derive(Drop)]
+pub(crate) enum Parts<'b> {
+    One(SmallPart<'b>),
+    Several(Vec<SmallPart<'b>>),
+}
+
+/// A row's key as it is kept beside the row's buffer, in 40 bytes: the number of its table in the plan and
+/// up to eight parts in key order, byte strings lent from the row. Several parts lie in memory of their
+/// own. Keys are equal and ordered as their views.
+#[derive(Drop)]
+pub struct LentKey<'b> {
+    table: u8,
+    parts: Parts<'b>,
+}
+
+impl<'b> Model for LentKey<'b> {
+    ghost use Rattle.pk_copy.specs.KeyValue.{KeyValue, AreParts};
+    ghost use Rattle.pk_copy.specs.SmallPartValue.{kept_parts};
+
+    ghost Value = { KeyValue };
+
+    ghost view = { λ k. record { table = k.table; parts = kept_parts k.parts } };
+
+    ghost invariant = { λ k. AreParts (kept_parts k.parts) };
+}
+
+impl<'b> LentKey<'b> {
+    ghost use Rattle.pk_copy.specs.SmallPartValue.{small_value};
+
+    /// The same key, kept. Takes memory for several parts alone; an error is want of it.
+    pub fn from_view(alloc: Global, view: &KeyView<'b>) -> Result<LentKey<'b>, AllocError>
+        ensures { IfOk result (λ key. key ≡ view.now) }
+    {
+        let table = view.table();
+        if let [part] = view.parts() {
+            let parts = Parts::One(SmallPart::from_part(*part));
+            return Ok(LentKey { table, parts });
+        }
+        let mut parts = Vec::with_capacity(alloc, view.parts().len())?;
+        for part in view.parts() {
+            parts.push(SmallPart::from_part(*part))?;
+        }
+        Ok(LentKey {
+            table,
+            parts: Parts::Several(parts),
+        })
+    }
+
+    /// The key, lent. Takes no memory.
+    pub fn view(&self) -> KeyView<'b>
+        ensures { result ≡ self.now }
+    {
+        let mut parts = ArrayVec::new();
+        for part in self.parts() {
+            parts.push(part.lent());
+        }
+        KeyView::new(self.table, parts)
+    }
+
+    /// The same key again. Takes memory for several parts alone; an error is want of it.
+    pub fn try_clone(&self, alloc: Global) -> Result<LentKey<'b>, AllocError>
+        ensures { IfOk result (λ key. key ≡ self.now) }
+    {
+        LentKey::from_view(alloc, &self.view())
+    }
+
+    /// The number of the key's table in the plan.
+    pub fn table(&self) -> u8
+        ensures { result ≡ self.now.table }
+    {
+        self.table
+    }
+
+    // The key's parts, in key order.
+    fn parts(&self) -> &[SmallPart<'b>]
+        ensures parts { map small_value result.now ≡ self.now.parts }
+        ensures within { AreParts self.now.parts }
+    {
+        match &self.parts {
+            Parts::One(part) => slice::from_ref(part),
+            Parts::Several(parts) => parts.as_slice(),
+        }
+    }
+}
+
+impl PartialEq for LentKey<'_> {
+    ghost eq = { eq_by_cmp key_cmp };
+
+    ghost laws = { partial_equiv_from_equiv (eq_by_cmp_equiv key_cmp_total) };
+
+    fn eq(&self, other: &Self) -> bool {
+        self.cmp(other).is_eq()
+    }
+}
+
+impl Eq for LentKey<'_> {
+    ghost laws = { eq_by_cmp_equiv key_cmp_total };
+}
+
+impl PartialOrd for LentKey<'_> {
+    ghost partial_cmp = { as_partial_cmp key_cmp };
+
+    ghost laws = { partial_order_from_total key_cmp_total };
+
+    fn partial_cmp(&self, other: &Self) -> Option<Ordering> {
+        Some(self.cmp(other))
+    }
+}
+
+impl Ord for LentKey<'_> {
+    ghost use Rattle.std.specs.Prelude.{refl};
+
+    ghost cmp = { key_cmp };
+
+    ghost total = { key_cmp_total };
+
+    ghost matches_partial_cmp = { λ _ _. refl };
+
+    ghost matches_eq = { λ _ _. refl };
+
+    fn cmp(&self, other: &Self) -> Ordering {
+        self.table()
+            .cmp(&other.table())
+            .then(self.parts().cmp(other.parts()))
+    }
+}
