@@ -6,4 +6,6 @@ mod groups;
 #[cfg(test)]
 mod positions;
 #[cfg(test)]
+mod prepared;
+#[cfg(test)]
 mod refusals;

@@ -10,3 +10,4 @@ pub mod OrderLaws
 pub mod DefinedLaws
 pub mod KeptLaws
 pub mod PlanLaws
+pub mod PreparedLaws

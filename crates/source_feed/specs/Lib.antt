@@ -9,4 +9,6 @@ pub mod GroupOrder
 pub mod KeptBlocks
 pub mod Planned
 pub mod FirstFault
+pub mod Touches
+pub mod History
 pub mod Private

@@ -5,3 +5,4 @@ pub mod TableWidths
 pub mod KeptChanges
 pub mod BlockEnd
 pub mod ReaderState
+pub mod TouchesBehind

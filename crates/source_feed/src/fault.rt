@@ -49,13 +49,21 @@ pub enum FeedFault {
     /// A BEGIN inside a transaction, or a ROW outside of one.
     #[error("an event stands where it can't stand")]
     Misplaced,
+    /// A row of a group has no key or no answer of the filter; with the group's number, the number of the
+    /// row's table in the plan, and the cause: 61 or 62 of the key, 43 or 44 of the filter.
+    #[error("a row of table {table} in group {group} is refused: {cause}")]
+    BadRow { group: u32, table: u8, cause: u8 },
+    /// The feed has no group of this number; with how many it has.
+    #[error("the feed has {groups} groups and none of this number")]
+    NoGroup { groups: u32 },
     /// A growth was refused.
     #[error("out of memory")]
     Memory,
 }
 
 impl FeedFault {
-    /// The refusal's number: 95, 81, 82, 94, 83, 84, 85, 86, 87, 88, 89, 92, and 72 for want of memory.
+    /// The refusal's number: 95, 81, 82, 94, 83, 84, 85, 86, 87, 88, 89, 92, 90, 91, and 72 for want of
+    /// memory.
     pub fn number(&self) -> u8
         ensures { result ≡ number_of self.now }
     {
@@ -72,18 +80,21 @@ impl FeedFault {
             FeedFault::OpenAtEnd => 88,
             FeedFault::ShardMissing => 89,
             FeedFault::Misplaced => 92,
+            FeedFault::BadRow { .. } => 90,
+            FeedFault::NoGroup { .. } => 91,
             FeedFault::Memory => 72,
         }
     }
 
     /// The number of the innermost fault, where the fault has a cause: 1 to 5, 12 to 14 or 22 to 25 of
-    /// an event, 31 to 36 of a position.
+    /// an event, 31 to 36 of a position, 61, 62, 43 or 44 of a row.
     pub fn cause(&self) -> Option<u8>
         ensures { result ≡ cause_of self.now }
     {
         match self {
             FeedFault::Event(fault) => Some(fault.cause()),
             FeedFault::BadPosition(fault) => Some(fault.number()),
+            FeedFault::BadRow { cause, .. } => Some(*cause),
             _ => None,
         }
     }

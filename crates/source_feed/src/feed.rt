@@ -1,15 +1,19 @@
 //! A feed under a plan.
 
-ghost use Rattle.std.specs.Prelude.{◌≡◌, ◌↔◌, [], length, IsTrue, IfOk};
+ghost use Rattle.std.specs.Prelude.{◌≡◌, ◌↔◌, [], length, IsTrue, IfOk, slice_get};
+ghost use Rattle.std.specs.Option.{option_copied};
 ghost use Rattle.std.specs.Arc.{arc_value};
 ghost use Rattle.outcome.specs.Outcome.{GivesUnless};
 ghost use Rattle.source_feed.specs.FaultNumber.{meant_of};
 ghost use Rattle.source_feed.specs.Planned.{groups_under, IsFeed};
+ghost use Rattle.source_feed.specs.Touches.{group_at, prepared_at};
 
 use crate::fault::FeedFault;
 use crate::field_check::FieldCheck;
 use crate::groups::read;
 use crate::planned::{PlannedGroup, planned_groups};
+use crate::prepared::Prepared;
+use crate::preparing::touches_of;
 use crate::source::Source;
 use filter_rule::Plan;
 use std::alloc::Global;
@@ -91,4 +95,55 @@ impl<'h> Feed<'h> {
     {
         self.groups.as_slice()
     }
+
+    // How many groups the feed has: fewer than 2^31.
+    fn count(&self) -> u32
+        ensures { result ≡ length self.now.groups }
+    {
+        self.groups().len() as u32
+    }
+
+    // The group of a number, from 1.
+    fn group(&self, number: u32) -> Option<&PlannedGroup<'h>>
+        ensures { option_copied result ≡ group_at self.now number }
+    {
+        if number == 0 {
+            return None;
+        }
+        group_in(self.groups(), (number - 1) as usize)
+    }
+
+    /// The group of a number, from 1, with its touches in order: in each change first the row before, whose
+    /// key is touched with nothing, then the row after, which is put at its key with the filter's answer. A
+    /// row before gives its key alone. Reads each row once for its key and its filter.
+    ///
+    /// Refused as `NoGroup` where the feed has no group of this number, and as `BadRow` where the group
+    /// isn't sound, by the first row that has no key or no answer of the filter. Any other error is want of
+    /// memory.
+    pub fn prepare(&self, alloc: Global, number: u32) -> Result<Arc<Prepared<'h>>, FeedFault>
+        ensures { GivesUnless meant_of (λ prepared. arc_value prepared) result (prepared_at self.now number) }
+    {
+        let group = match self.group(number) {
+            None => {
+                return Err(FeedFault::NoGroup {
+                    groups: self.count(),
+                });
+            }
+            Some(group) => group,
+        };
+        let prepared = Prepared {
+            plan: Arc::clone(&self.plan)?,
+            number: group.number(),
+            position: Arc::clone(group.shared_position())?,
+            touches: touches_of(alloc, &self.plan, group)?,
+        };
+        Ok(Arc::new(alloc, prepared)?)
+    }
+}
+
+// The group at a place, from 0.
+fn group_in<'a, 'h>(groups: &'a [PlannedGroup<'h>], place: usize) -> Option<&'a PlannedGroup<'h>>
+    ensures { option_copied result ≡ slice_get groups.now place }
+{
+    groups.get(place)
 }

@@ -10,9 +10,12 @@ mod group_reader;
 mod groups;
 mod laws;
 mod planned;
+mod prepared;
+mod preparing;
 mod set_laws;
 mod source;
 mod table_widths;
+mod touch;
 mod transaction;
 
 pub use fault::FeedFault;
@@ -21,3 +24,5 @@ pub use group::{Change, Group};
 pub use groups::{FEED_BYTES, read_groups};
 pub use laws::{blocks_are_a_grammar, groups_are_the_kept_blocks};
 pub use planned::{PlannedChange, PlannedGroup};
+pub use prepared::Prepared;
+pub use touch::{Put, Touch};

@@ -1,6 +1,7 @@
 //! Groups under a plan.
 
 ghost use Rattle.std.specs.Prelude.{◌≡◌, map, IfOk, IfErr};
+ghost use Rattle.std.specs.Arc.{arc_value};
 ghost use Rattle.std.specs.List.{filter_map};
 ghost use Rattle.source_feed.specs.declared.fault.FeedFault.TheVariants.{Memory};
 ghost use Rattle.source_feed.specs.Planned.{planned_change, planned_group};
@@ -10,7 +11,7 @@ use crate::fault::FeedFault;
 use crate::group::{Change, Group};
 use filter_rule::Plan;
 use gtid_set::GtidSet;
-use row_view::RowView;
+use row_view::{RowBytes, RowView};
 use std::alloc::{AllocError, Global};
 use std::marker::Model;
 use std::sync::Arc;
@@ -38,6 +39,20 @@ impl<'h> PlannedChange<'h> {
         ensures { result ≡ self.now.table }
     {
         self.table
+    }
+
+    // The bytes of the row before the change, or `None` for an insert. Reads no row.
+    pub(crate) fn before_bytes(&self) -> Option<RowBytes<'h>>
+        ensures { result ≡ self.now.before }
+    {
+        self.rows.before_bytes()
+    }
+
+    // The bytes of the row after the change, or `None` for a delete. Reads no row.
+    pub(crate) fn after_bytes(&self) -> Option<RowBytes<'h>>
+        ensures { result ≡ self.now.after }
+    {
+        self.rows.after_bytes()
     }
 
     /// The row before the change, or `None` for an insert. The view is made anew.
@@ -85,6 +100,13 @@ impl<'h> PlannedGroup<'h> {
     /// The source's position after the group.
     pub fn position(&self) -> &GtidSet
         ensures { result.now ≡ self.now.position }
+    {
+        &self.position
+    }
+
+    // The same, shared.
+    pub(crate) fn shared_position(&self) -> &Arc<GtidSet>
+        ensures { arc_value result.now ≡ self.now.position }
     {
         &self.position
     }

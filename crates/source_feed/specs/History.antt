@@ -1,0 +1,37 @@
+-- What a history of groups leaves of a source's rows: for each key what touched it last, found by looking
+-- back at the whole of it (this profile).
+use Rattle.std.specs.Prelude.{◌≡◌, ℕ, List, take, Option, Some, None, if◌then◌else◌}
+use Rattle.std.specs.List.{flat_map}
+use Rattle.std.specs.Map.{lookup}
+use Rattle.std.specs.Option.{option_and_then}
+use Rattle.std.specs.Ordering.{eq_by_cmp}
+use Rattle.pk_copy.specs.KeyOrder.{key_cmp}
+use Rattle.pk_copy.specs.KeyValue.{KeyValue}
+use Rattle.target_tables.specs.Rising.{IsRising}
+use Rattle.target_tables.specs.Touches.{last_at}
+use Rattle.source_feed.specs.Touches.{PutValue, TouchValue, PreparedValue}
+
+-- a source's row, by its columns
+abbrev pub RowValue : Type 0
+RowValue = List (Option (List ℕ))
+
+-- the touches of a list of groups, in order
+abbrev pub touches_in : List PreparedValue → List TouchValue
+touches_in history = flat_map (λ group. group.touches) history
+
+-- what the last touch of a key among the first n groups left there; none if none touched it or it left nothing
+abbrev pub row_at : List PreparedValue → ℕ → KeyValue → Option PutValue
+row_at history n key = option_and_then (λ put. put) (last_at key_cmp (touches_in (take n history)) key)
+
+-- a row that passes the filter
+abbrev pub passing : PutValue → Option RowValue
+passing put = if put.passes then Some put.row else None
+
+-- the row that the first n groups left at a key, if it passes the filter
+abbrev pub kept_at : List PreparedValue → ℕ → KeyValue → Option RowValue
+kept_at history n key = option_and_then passing (row_at history n key)
+
+-- rows by rising key that are just those which the first n groups left and which pass the filter
+pub record IsKept (history : List PreparedValue) (n : ℕ) (rows : List (KeyValue × RowValue)) : Type 0 where
+  pub rising : IsRising key_cmp rows
+  pub each_key : (key : KeyValue) → lookup (eq_by_cmp key_cmp key) rows ≡ kept_at history n key

@@ -1,0 +1,155 @@
+//! The touches of a group.
+
+ghost use Rattle.std.specs.Prelude.{◌≡◌, ◌<◌, ℕ, IsTrue, length, Some, slice_get};
+ghost use Rattle.outcome.specs.Outcome.{Gives, GivesUnless};
+ghost use Rattle.vevent.specs.Columns.{has_columns};
+ghost use Rattle.filter_rule.specs.PlanValue.{columns_of};
+ghost use Rattle.source_feed.specs.FaultNumber.{meant_of};
+ghost use Rattle.source_feed.specs.Planned.{PlannedChangeValue, IsChangeUnder};
+ghost use Rattle.source_feed.specs.Touches.{key_in, passes_in, removal_of, put_of, touches_before, touches_after, touches_of_change, touches_of};
+ghost use Rattle.source_feed.specs.Private.TouchesBehind.{behind};
+
+use crate::fault::FeedFault;
+use crate::planned::{PlannedChange, PlannedGroup};
+use crate::touch::Touch;
+use filter_rule::Plan;
+use pk_copy::{LentKey, key_of};
+use row_view::{RowBytes, RowView};
+use std::alloc::Global;
+
+/// Where the rows of a change stand: what a refusal of one of them names.
+#[derive(Clone, Copy)]
+struct Place<'p> {
+    plan: &'p Plan,
+    group: u32,
+    table: u8,
+}
+
+impl Place<'_> {
+    // A row is refused, by the number of its cause.
+    fn refused(&self, cause: u8) -> FeedFault
+        ensures { result ≡ FeedFault.BadRow self.now.group self.now.table cause }
+    {
+        FeedFault::BadRow {
+            group: self.group,
+            table: self.table,
+            cause,
+        }
+    }
+
+    // The key of a row, to be kept.
+    fn key<'h>(&self, alloc: Global, row: &RowView<'h>) -> Result<LentKey<'h>, FeedFault>
+        requires table { self.now.table < length self.now.plan.now.tables }
+        requires columns { length row.now ≡ length (columns_of self.now.plan.now self.now.table) }
+        ensures { GivesUnless meant_of (λ key. key) result (key_in self.now.plan.now self.now.group self.now.table row.now) }
+    {
+        match key_of(self.plan, self.table, row) {
+            Ok(key) => Ok(LentKey::from_view(alloc, &key)?),
+            Err(fault) => Err(self.refused(fault.number())),
+        }
+    }
+
+    // What the filter answers of a row.
+    fn passes(&self, row: &RowView<'_>) -> Result<bool, FeedFault>
+        requires table { self.now.table < length self.now.plan.now.tables }
+        requires columns { length row.now ≡ length (columns_of self.now.plan.now self.now.table) }
+        ensures { Gives (λ passes. passes) result (passes_in self.now.plan.now self.now.group self.now.table row.now) }
+    {
+        match self.plan.passes(self.table, row) {
+            Ok(passes) => Ok(passes),
+            Err(fault) => Err(self.refused(fault.number())),
+        }
+    }
+
+    // The touch of a row before the change: its key alone.
+    fn removal<'h>(&self, alloc: Global, row: &RowBytes<'h>) -> Result<Touch<'h>, FeedFault>
+        requires table { self.now.table < length self.now.plan.now.tables }
+        requires columns { length row.now ≡ length (columns_of self.now.plan.now self.now.table) }
+        ensures { GivesUnless meant_of (λ touch. touch) result (removal_of self.now.plan.now self.now.group self.now.table row.now) }
+    {
+        let key = self.key(alloc, &row.view())?;
+        Ok(Touch::removal(key))
+    }
+
+    // The touch of a row after the change: its key, and then the filter.
+    fn replacement<'h>(&self, alloc: Global, row: RowBytes<'h>) -> Result<Touch<'h>, FeedFault>
+        requires table { self.now.table < length self.now.plan.now.tables }
+        requires columns { length row ≡ length (columns_of self.now.plan.now self.now.table) }
+        ensures { GivesUnless meant_of (λ touch. touch) result (put_of self.now.plan.now self.now.group self.now.table row.entry) }
+    {
+        let view = row.view();
+        let key = self.key(alloc, &view)?;
+        let passes = self.passes(&view)?;
+        Ok(Touch::replacement(key, row, passes))
+    }
+
+    // Puts the touch of the row before a change, if there is one, behind the earlier ones.
+    fn put_before<'h>(
+        &self,
+        alloc: Global,
+        row: Option<RowBytes<'h>>,
+        touches: &mut Vec<Touch<'h>>,
+    ) -> Result<(), FeedFault>
+        requires table { self.now.table < length self.now.plan.now.tables }
+        requires columns { IsTrue (has_columns (length (columns_of self.now.plan.now self.now.table)) row) }
+        ensures { GivesUnless meant_of (λ _. touches.new.items) result (behind touches.old.items (touches_before self.now.plan.now self.now.group self.now.table row.entry)) }
+    {
+        if let Some(row) = row {
+            touches.push(self.removal(alloc, &row)?)?;
+        }
+        Ok(())
+    }
+
+    // Puts the touch of the row after a change, if there is one, behind the earlier ones.
+    fn put_after<'h>(
+        &self,
+        alloc: Global,
+        row: Option<RowBytes<'h>>,
+        touches: &mut Vec<Touch<'h>>,
+    ) -> Result<(), FeedFault>
+        requires table { self.now.table < length self.now.plan.now.tables }
+        requires columns { IsTrue (has_columns (length (columns_of self.now.plan.now self.now.table)) row) }
+        ensures { GivesUnless meant_of (λ _. touches.new.items) result (behind touches.old.items (touches_after self.now.plan.now self.now.group self.now.table row.entry)) }
+    {
+        if let Some(row) = row {
+            touches.push(self.replacement(alloc, row)?)?;
+        }
+        Ok(())
+    }
+}
+
+/// Puts the touches of a change behind the earlier ones.
+fn put_change<'h>(
+    alloc: Global,
+    plan: &Plan,
+    group: u32,
+    change: &PlannedChange<'h>,
+    touches: &mut Vec<Touch<'h>>,
+) -> Result<(), FeedFault>
+    requires { IsChangeUnder plan.now change.now }
+    ensures { GivesUnless meant_of (λ _. touches.new.items) result (behind touches.old.items (touches_of_change plan.now group change.now)) }
+{
+    let table = change.table();
+    let place = Place { plan, group, table };
+    place.put_before(alloc, change.before_bytes(), touches)?;
+    place.put_after(alloc, change.after_bytes(), touches)?;
+    Ok(())
+}
+
+/// The touches of a group, in order.
+pub(crate) fn touches_of<'h>(
+    alloc: Global,
+    plan: &Plan,
+    group: &PlannedGroup<'h>,
+) -> Result<Vec<Touch<'h>>, FeedFault>
+    requires { (j : ℕ) (change : PlannedChangeValue) → slice_get group.now.changes j ≡ Some change → IsChangeUnder plan.now change }
+    ensures { GivesUnless meant_of (λ touches. touches.items) result (touches_of plan.now group.now.number group.now.changes) }
+{
+    let changes = group.changes();
+    let mut touches = Vec::with_capacity(alloc, changes.len().saturating_mul(2))?;
+    for change in changes {
+        put_change(alloc, plan, group.number(), change, &mut touches)?;
+    }
+    touches.shrink_to_fit();
+    Ok(touches)
+}
