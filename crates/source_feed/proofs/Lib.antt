@@ -11,3 +11,5 @@ pub mod DefinedLaws
 pub mod KeptLaws
 pub mod PlanLaws
 pub mod PreparedLaws
+pub mod ImageLaws
+pub mod ChunkLaws

@@ -11,4 +11,5 @@ pub mod Planned
 pub mod FirstFault
 pub mod Touches
 pub mod History
+pub mod Image
 pub mod Private

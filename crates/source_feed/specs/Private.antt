@@ -6,3 +6,4 @@ pub mod KeptChanges
 pub mod BlockEnd
 pub mod ReaderState
 pub mod TouchesBehind
+pub mod ImageEntries

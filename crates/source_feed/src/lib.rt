@@ -2,12 +2,14 @@
 #![tactic(auto)]
 
 mod changes;
+mod chunk;
 mod fault;
 mod feed;
 mod field_check;
 mod group;
 mod group_reader;
 mod groups;
+mod image;
 mod laws;
 mod planned;
 mod prepared;
@@ -22,6 +24,7 @@ pub use fault::FeedFault;
 pub use feed::Feed;
 pub use group::{Change, Group};
 pub use groups::{FEED_BYTES, read_groups};
+pub use image::Image;
 pub use laws::{blocks_are_a_grammar, groups_are_the_kept_blocks};
 pub use planned::{PlannedChange, PlannedGroup};
 pub use prepared::Prepared;

@@ -1,0 +1,61 @@
+//! The first rows of a table past a key.
+
+ghost use Rattle.std.specs.Prelude.{◌≡◌, IfOk, map};
+ghost use Rattle.std.specs.Option.{option_copied};
+ghost use Rattle.pk_copy.specs.KeyOrder.{key_cmp};
+ghost use Rattle.target_tables.specs.Rising.{IsRising};
+ghost use Rattle.source_feed.specs.Image.{chunk_of, lent_row};
+ghost use Rattle.source_feed.specs.Private.ImageEntries.{first_of};
+
+use crate::image::Image;
+use pk_copy::{KeyView, LentKey};
+use row_view::RowBytes;
+use std::alloc::{AllocError, Global};
+use target_tables::Scan;
+
+/// The first rows of a table among entries. Stops at the first key of a later table.
+fn first_rows<'i, 'h>(
+    alloc: Global,
+    mut entries: Scan<'i, LentKey<'h>, RowBytes<'h>>,
+    t: u8,
+    rows: usize,
+) -> Result<Vec<(&'i LentKey<'h>, &'i RowBytes<'h>)>, AllocError>
+    requires { IsRising key_cmp entries }
+    ensures { IfOk result (λ found. map lent_row found.items ≡ first_of entries.entry t rows) }
+{
+    let mut found = Vec::new(alloc);
+    while found.len() < rows {
+        let Some((key, _, row)) = entries.next() else {
+            return Ok(found);
+        };
+        if key.table() > t {
+            return Ok(found);
+        }
+        if key.table() == t {
+            found.push((key, row))?;
+        }
+    }
+    Ok(found)
+}
+
+impl<'h> Image<'h> {
+    /// The first so many rows of table `t` past a key, or from the table's first key on where none is
+    /// given, by rising key. A table's rows past a key are found by halves, and no row of a later table is
+    /// looked at; without a key the rows of earlier tables are passed over. Takes memory for the answer and
+    /// for a key of several parts; an error is want of it.
+    pub fn chunk<'i>(
+        &'i self,
+        alloc: Global,
+        t: u8,
+        after: Option<&KeyView<'h>>,
+        rows: usize,
+    ) -> Result<Vec<(&'i LentKey<'h>, &'i RowBytes<'h>)>, AllocError>
+        ensures { IfOk result (λ found. map lent_row found.items ≡ chunk_of self.now t (option_copied after.entry) rows) }
+    {
+        let Some(key) = after else {
+            return first_rows(alloc, self.rows.iter(), t, rows);
+        };
+        let key = LentKey::from_view(alloc, key)?;
+        first_rows(alloc, self.rows.scan_past(&key), t, rows)
+    }
+}
