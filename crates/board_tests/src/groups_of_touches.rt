@@ -2,7 +2,7 @@ use std::alloc::Global;
 use std::test::*;
 use target_tables::*;
 
-// The keys with their streams and rows, in order.
+/// The keys with their streams and rows, in order.
 fn all(alloc: Global, tables: &Tables<u64, u32>) -> Result<Vec<(u64, u8, u32)>, Fail> {
     let entries = tables
         .iter()

@@ -12,12 +12,12 @@ use std::test::Fail;
 const WORKFLOW: &str =
     "{\"keyspace\":\"ks\",\"tables\":[{\"name\":\"t\",\"columns\":[[\"v\",\"VARCHAR\"],[\"id\",\"INT64\"]],\"key\":[\"id\",\"v\"]}],\"streams\":[{\"shard\":\"-80\",\"filter\":{\"rules\":[{\"match\":\"/.*\",\"filter\":\"\"}]}}]}";
 
-// The workflow's one plan.
+/// The workflow's one plan.
 fn plan(alloc: Global) -> Result<Vec<Arc<Plan>>, Fail> {
     Ok(Plan::read_all(alloc, WORKFLOW.as_bytes())?)
 }
 
-// The key of a row of the first table, or the number of its fault; 0 where this is no row of it.
+/// The key of a row of the first table, or the number of its fault; 0 where this is no row of it.
 fn key<'b>(plans: &[Arc<Plan>], bytes: &'b [u8]) -> Result<KeyView<'b>, u8> {
     let Some(plan) = plans.first() else {
         return Err(0);
@@ -31,12 +31,12 @@ fn key<'b>(plans: &[Arc<Plan>], bytes: &'b [u8]) -> Result<KeyView<'b>, u8> {
     key_of(plan, 0, &row).map_err(|fault| fault.number())
 }
 
-// Whether each key is less than the next.
+/// Whether each key is less than the next.
 fn rise<K: Ord>(keys: &[K]) -> bool {
     keys.windows(2).all(|pair| pair[0] < pair[1])
 }
 
-// Whether the key is the one that is lent.
+/// Whether the key is the one that is lent.
 fn shows(key: &Key, view: &KeyView<'_>) -> bool {
     view.cmp(&key.view()).is_eq()
 }

@@ -9,7 +9,7 @@ use std::test::Fail;
 const WORKFLOW: &str =
     "{\"keyspace\":\"ks\",\"tables\":[{\"name\":\"a\",\"columns\":[[\"id\",\"INT64\"]],\"key\":[\"id\"]},{\"name\":\"b\",\"columns\":[[\"id\",\"INT64\"]],\"key\":[\"id\"]},{\"name\":\"c\",\"columns\":[[\"id\",\"INT64\"]],\"key\":[\"id\"]}],\"streams\":[{\"shard\":\"-80\",\"filter\":{\"rules\":[{\"match\":\"/.*\",\"filter\":\"\"}]}}]}";
 
-// The key of a row of table `t`, if these are the bytes of one.
+/// The key of a row of table `t`, if these are the bytes of one.
 fn key<'b>(plans: &[Arc<Plan>], t: u8, bytes: &'b [u8]) -> Option<KeyView<'b>> {
     let plan = plans.first()?;
     let row = RowView::read(bytes).ok()?;
@@ -19,7 +19,7 @@ fn key<'b>(plans: &[Arc<Plan>], t: u8, bytes: &'b [u8]) -> Option<KeyView<'b>> {
     key_of(plan, t, &row).ok()
 }
 
-// The number of a mark's kind.
+/// The number of a mark's kind.
 fn kind(mark: Mark<'_>) -> u8 {
     match mark {
         Mark::Waiting => 0,

@@ -1,7 +1,7 @@
 use std::test::*;
 use stream_core::*;
 
-// A stream of one table, of which nothing is copied.
+/// A stream of one table, of which nothing is copied.
 fn copying(read: u32, applied: u32, snapshot: Option<u32>) -> Option<Cursor> {
     match snapshot {
         Some(group) if group < applied || group > read => None,
@@ -10,7 +10,7 @@ fn copying(read: u32, applied: u32, snapshot: Option<u32>) -> Option<Cursor> {
     }
 }
 
-// What a step of such a stream is refused with.
+/// What a step of such a stream is refused with.
 fn refusal(cursor: Option<Cursor>, step: Step) -> Option<u8> {
     match decide(&cursor?, step) {
         Ok(_) => None,
@@ -18,8 +18,8 @@ fn refusal(cursor: Option<Cursor>, step: Step) -> Option<u8> {
     }
 }
 
-// What a step of such a stream answers, and the groups that are then read and applied, and the
-// open snapshot.
+/// What a step of such a stream answers, and the groups that are then read and applied, and the
+/// open snapshot.
 fn answer(cursor: Option<Cursor>, step: Step) -> Option<(Answer, u32, u32, Option<u32>)> {
     match decide(&cursor?, step) {
         Ok(made) => Some((

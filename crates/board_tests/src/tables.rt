@@ -2,7 +2,7 @@ use std::alloc::Global;
 use std::test::*;
 use target_tables::*;
 
-// The number of the refusal where a stream's touches are refused.
+/// The number of the refusal where a stream's touches are refused.
 fn touch<K: Ord + Drop, R: Drop>(
     alloc: Global,
     tables: &mut Tables<K, R>,

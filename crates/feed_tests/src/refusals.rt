@@ -5,7 +5,7 @@ use source_feed::{FeedFault, read_groups};
 use std::test::Fail;
 use vevent::EventFault;
 
-// With ample memory each feed is refused by its own number and cause.
+/// With ample memory each feed is refused by its own number and cause.
 #[test]
 fn each_feed_by_its_fault(rt: HostRuntime) {
     for (feed, number, cause) in [

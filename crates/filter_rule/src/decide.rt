@@ -15,7 +15,7 @@ use filter_text::Rows;
 use std::alloc::Global;
 use vindex::KeyRange;
 
-// A key range under the table's own vindex.
+/// A key range under the table's own vindex.
 fn own_decision(
     alloc: Global,
     place: Place,
@@ -37,7 +37,7 @@ fn own_decision(
     }
 }
 
-// What a rule decides of a table that it is first to match.
+/// What a rule decides of a table that it is first to match.
 fn decide(
     alloc: Global,
     place: Place,
@@ -66,7 +66,7 @@ fn decide(
     }
 }
 
-// What a rule leaves of one table's decision: it stays where an earlier rule matched the table.
+/// What a rule leaves of one table's decision: it stays where an earlier rule matched the table.
 fn settle_one(
     alloc: Global,
     place: Place,
@@ -84,7 +84,7 @@ fn settle_one(
     Ok(())
 }
 
-// Takes one rule over all tables, in order.
+/// Takes one rule over all tables, in order.
 pub(crate) fn settle(
     alloc: Global,
     place: Place,

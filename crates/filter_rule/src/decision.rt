@@ -28,7 +28,7 @@ pub enum Decision {
 }
 
 impl Decision {
-    // Whether a row is kept.
+    /// Whether a row is kept.
     pub(crate) fn keeps(&self, row: &RowView<'_>) -> Result<bool, VindexFault>
         requires { IsWithin (length row.now) self.now }
         ensures { result ≡ kept_under self.now row.now }

@@ -8,7 +8,7 @@ use crate::fault::PlanFault;
 use indexmap::IndexSet;
 use std::alloc::Global;
 
-// What goes by a text that no other may have.
+/// What goes by a text that no other may have.
 pub(crate) trait Titled {
     ghost use Rattle.std.specs.Prelude.{List, ℕ};
 
@@ -19,7 +19,7 @@ pub(crate) trait Titled {
         ensures { result.now ≡ title self.now };
 }
 
-// Refuses two of the same title.
+/// Refuses two of the same title.
 pub(crate) fn check_distinct<T: Titled>(alloc: Global, items: &[T]) -> Result<(), PlanFault>
     ensures { Gives (λ _. map T.title items.now) result (distinct (map T.title items.now)) }
 {

@@ -15,7 +15,7 @@ use std::alloc::Global;
 use std::marker::Model;
 use vindex::Vindex;
 
-// A value that a JSON value says.
+/// A value that a JSON value says.
 pub(crate) trait FromJson<'v>: Sized {
     ghost use Rattle.std.specs.Prelude.{Result};
     ghost use Rattle.serde_json.specs.Data.{Data};
@@ -28,7 +28,7 @@ pub(crate) trait FromJson<'v>: Sized {
         ensures { Gives (λ x. x) result (reads (view value.now)) };
 }
 
-// Each value in order, up to the first fault.
+/// Each value in order, up to the first fault.
 pub(crate) fn each<'v, T: FromJson<'v> + Drop>(
     alloc: Global,
     values: &'v [Value],
@@ -52,7 +52,7 @@ impl<'v> FromJson<'v> for Name<'v> {
     }
 }
 
-// A type by its name or its number.
+/// A type by its name or its number.
 #[tactic(auto, unfolding(crate::specs::Document::type_of))]
 fn type_of(value: &Value) -> Result<u32, PlanFault>
     ensures { Gives (λ n. n) result (type_of (view value.now)) }
@@ -69,7 +69,7 @@ fn type_of(value: &Value) -> Result<u32, PlanFault>
     }
 }
 
-// A column's name and type number.
+/// A column's name and type number.
 #[derive(Drop)]
 pub(crate) struct ColumnText<'v> {
     pub(crate) name: Name<'v>,
@@ -98,7 +98,7 @@ impl<'v> FromJson<'v> for ColumnText<'v> {
     }
 }
 
-// A table with the names of its key and vindex columns.
+/// A table with the names of its key and vindex columns.
 #[derive(Drop)]
 pub(crate) struct TableText<'v> {
     pub(crate) name: Name<'v>,
@@ -115,7 +115,7 @@ impl<'v> Model for TableText<'v> {
     ghost view = { λ t. record { name = t.name; columns = t.columns.items; key = t.key.items; vindex = t.vindex } };
 }
 
-// A vindex: its column's name, and its own.
+/// A vindex: its column's name, and its own.
 #[tactic(auto, unfolding(crate::specs::Document::vindex_of))]
 fn vindex_of(value: &Value) -> Result<(Name<'_>, Vindex), PlanFault>
     ensures { Gives (λ p. p) result (vindex_of (view value.now)) }
@@ -128,7 +128,7 @@ fn vindex_of(value: &Value) -> Result<(Name<'_>, Vindex), PlanFault>
     }
 }
 
-// The vindex of a table, if it has one.
+/// The vindex of a table, if it has one.
 #[tactic(auto, unfolding(crate::specs::Document::vindex_in))]
 fn vindex_in(value: &Value) -> Result<Option<(Name<'_>, Vindex)>, PlanFault>
     ensures { Gives (λ o. o) result (vindex_in (view value.now)) }
@@ -139,7 +139,7 @@ fn vindex_in(value: &Value) -> Result<Option<(Name<'_>, Vindex)>, PlanFault>
     }
 }
 
-// A rule's `match` and `filter`.
+/// A rule's `match` and `filter`.
 #[derive(Drop)]
 pub(crate) struct RuleText<'v> {
     pub(crate) matches: &'v str,
@@ -154,7 +154,7 @@ impl<'v> Model for RuleText<'v> {
     ghost view = { λ r. record { matches = r.matches.now; filter = r.filter.now } };
 }
 
-// The filter of a rule, nothing where it is absent.
+/// The filter of a rule, nothing where it is absent.
 #[tactic(auto, unfolding(crate::specs::Document::filter_in))]
 fn filter_in(value: &Value) -> Result<&str, PlanFault>
     ensures { Gives (λ s. s.now) result (filter_in (view value.now)) }
@@ -178,7 +178,7 @@ impl<'v> FromJson<'v> for RuleText<'v> {
     }
 }
 
-// A stream's shard and rules.
+/// A stream's shard and rules.
 #[derive(Drop)]
 pub(crate) struct StreamText<'v> {
     pub(crate) shard: &'v str,
@@ -261,7 +261,7 @@ impl<'v> FromJson<'v> for TableText<'v> {
     }
 }
 
-// The whole file: its keyspace, tables and streams.
+/// The whole file: its keyspace, tables and streams.
 #[derive(Drop)]
 pub(crate) struct Document<'v> {
     pub(crate) keyspace: &'v str,
@@ -277,7 +277,7 @@ impl<'v> Model for Document<'v> {
     ghost view = { λ d. record { keyspace = d.keyspace.now; tables = d.tables.items; streams = d.streams.items } };
 }
 
-// What the file's JSON value says, or that it has another shape.
+/// What the file's JSON value says, or that it has another shape.
 #[tactic(auto, unfolding(crate::specs::Document::document_of))]
 pub(crate) fn document_of(alloc: Global, value: &Value) -> Result<Document<'_>, PlanFault>
     ensures { Gives (λ d. d) result (document_of (view value.now)) }

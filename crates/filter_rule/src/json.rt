@@ -8,7 +8,7 @@ ghost use Rattle.filter_rule.specs.Document.{member_in, text_of, list_of, text_i
 use crate::fault::PlanFault;
 use serde_json::Value;
 
-// The member of an object, which is to be there.
+/// The member of an object, which is to be there.
 pub(crate) fn member<'v>(value: &'v Value, key: &str) -> Result<&'v Value, PlanFault>
     ensures { Gives (λ v. view v.now) result (member_in key.now (view value.now)) }
 {
@@ -18,7 +18,7 @@ pub(crate) fn member<'v>(value: &'v Value, key: &str) -> Result<&'v Value, PlanF
     }
 }
 
-// A value that is to be a text.
+/// A value that is to be a text.
 pub(crate) fn text(value: &Value) -> Result<&str, PlanFault>
     ensures { Gives (λ s. s.now) result (text_of (view value.now)) }
 {
@@ -28,7 +28,7 @@ pub(crate) fn text(value: &Value) -> Result<&str, PlanFault>
     }
 }
 
-// A value that is to be a list.
+/// A value that is to be a list.
 pub(crate) fn list(value: &Value) -> Result<&[Value], PlanFault>
     ensures { Gives (λ vs. map view vs.now) result (list_of (view value.now)) }
 {
@@ -38,7 +38,7 @@ pub(crate) fn list(value: &Value) -> Result<&[Value], PlanFault>
     }
 }
 
-// A member that is to be a text.
+/// A member that is to be a text.
 #[tactic(auto, unfolding(crate::specs::Document::text_in))]
 pub(crate) fn text_in<'v>(value: &'v Value, key: &str) -> Result<&'v str, PlanFault>
     ensures { Gives (λ s. s.now) result (text_in key.now (view value.now)) }
@@ -46,7 +46,7 @@ pub(crate) fn text_in<'v>(value: &'v Value, key: &str) -> Result<&'v str, PlanFa
     text(member(value, key)?)
 }
 
-// A member that is to be a list.
+/// A member that is to be a list.
 #[tactic(auto, unfolding(crate::specs::Document::list_in))]
 pub(crate) fn list_in<'v>(value: &'v Value, key: &str) -> Result<&'v [Value], PlanFault>
     ensures { Gives (λ vs. map view vs.now) result (list_in key.now (view value.now)) }
@@ -54,7 +54,7 @@ pub(crate) fn list_in<'v>(value: &'v Value, key: &str) -> Result<&'v [Value], Pl
     list(member(value, key)?)
 }
 
-// A value that is to be a list of two.
+/// A value that is to be a list of two.
 #[tactic(auto, unfolding(crate::specs::Document::pair_of))]
 pub(crate) fn pair(value: &Value) -> Result<(&Value, &Value), PlanFault>
     ensures { Gives (λ p. (view p.0.now, view p.1.now)) result (pair_of (view value.now)) }

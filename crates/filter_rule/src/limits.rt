@@ -46,7 +46,7 @@ fn is_within(document: &Document<'_>) -> bool
         && are_tables_within(&document.tables)
 }
 
-// Refuses a document with too few or too many of something.
+/// Refuses a document with too few or too many of something.
 pub(crate) fn within_limits(document: Document<'_>) -> Result<Document<'_>, PlanFault>
     ensures { Gives (λ d. d) result (within_limits document.entry) }
 {

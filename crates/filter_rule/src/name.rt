@@ -11,7 +11,7 @@ use crate::json::text;
 use serde_json::Value;
 use std::marker::Model;
 
-// A name of 1 to 256 bytes without control characters of ASCII, lent from the workflow file.
+/// A name of 1 to 256 bytes without control characters of ASCII, lent from the workflow file.
 #[derive(Drop)]
 pub(crate) struct Name<'v> {
     text: &'v str,
@@ -26,7 +26,7 @@ impl<'v> Model for Name<'v> {
 }
 
 impl<'v> Name<'v> {
-    // The name's text.
+    /// The name's text.
     pub(crate) fn as_str(&self) -> &'v str
         ensures { result.now ≡ self.now }
     {
@@ -53,7 +53,7 @@ fn is_name(text: &str) -> bool
     !bytes.is_empty() && bytes.len() <= 256 && are_fit(bytes)
 }
 
-// A value that is to be a name.
+/// A value that is to be a name.
 #[tactic(auto, unfolding(crate::specs::Document::name_of))]
 pub(crate) fn name_of(value: &Value) -> Result<Name<'_>, PlanFault>
     ensures { Gives (λ n. n) result (name_of (view value.now)) }

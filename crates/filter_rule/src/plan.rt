@@ -47,7 +47,7 @@ impl Model for Plan {
 }
 
 impl Plan {
-    // A plan over shared tables.
+    /// A plan over shared tables.
     pub(crate) fn new(schema: Arc<Schema>, shard: String, decisions: Vec<Decision>) -> Plan
         requires { IsPlan (plan_value schema shard decisions) }
         ensures { result ≡ plan_value schema shard decisions }

@@ -24,7 +24,7 @@ use serde_json::Value;
 use std::alloc::Global;
 use std::sync::Arc;
 
-// The JSON value of a text.
+/// The JSON value of a text.
 #[tactic(auto, unfolding(crate::specs::Reading::json_of))]
 fn json_of(alloc: Global, text: &[u8]) -> Result<Value, PlanFault>
     ensures { Gives view result (json_of text.now) }
@@ -36,7 +36,7 @@ fn json_of(alloc: Global, text: &[u8]) -> Result<Value, PlanFault>
     }
 }
 
-// The tables of the plans.
+/// The tables of the plans.
 fn tables_of(alloc: Global, tables: &[TableText<'_>]) -> Result<Vec<Table>, PlanFault>
     requires { AreNarrow tables.now }
     ensures { Gives (λ v. v.items) result (each resolved tables.now) }
@@ -48,7 +48,7 @@ fn tables_of(alloc: Global, tables: &[TableText<'_>]) -> Result<Vec<Table>, Plan
     Ok(found)
 }
 
-// The plan of one stream.
+/// The plan of one stream.
 #[tactic(auto, unfolding(crate::specs::Reading::plan_of))]
 fn plan_of(
     alloc: Global,
@@ -66,7 +66,7 @@ fn plan_of(
     Ok(Arc::new(alloc, Plan::new(schema, shard, decisions))?)
 }
 
-// A plan for each stream.
+/// A plan for each stream.
 fn plans_from(
     alloc: Global,
     schema: &Arc<Schema>,
@@ -83,7 +83,7 @@ fn plans_from(
     Ok(plans)
 }
 
-// The plans of a document within the limits.
+/// The plans of a document within the limits.
 #[tactic(auto, unfolding(crate::specs::Reading::plans_of_document))]
 fn plans_of_document(alloc: Global, document: &Document<'_>) -> Result<Vec<Arc<Plan>>, PlanFault>
     requires { IsAccepted document.now }

@@ -31,7 +31,7 @@ fn is_vindex_type(vindex: Vindex, type_number: u32) -> bool
     }
 }
 
-// The refusal of a column that isn't there.
+/// The refusal of a column that isn't there.
 fn absent(alloc: Global, table: &str, column: &str) -> PlanFault
     ensures { Gives {X = ℕ} {Y = ℕ} (λ n. n) (Err result) (Err (no_such_column table.now column.now)) }
 {
@@ -44,7 +44,7 @@ fn absent(alloc: Global, table: &str, column: &str) -> PlanFault
     PlanFault::NoSuchColumn { table, column }
 }
 
-// The refusal of a column's type.
+/// The refusal of a column's type.
 fn unfit(alloc: Global, table: &str, column: &str) -> PlanFault
     ensures { Gives {X = ℕ} {Y = ℕ} (λ n. n) (Err result) (Err (key_type table.now column.now)) }
 {
@@ -64,7 +64,7 @@ fn place_of(columns: &[ColumnDef], name: &str) -> Option<usize>
     columns.iter().position(|column| column.name() == name)
 }
 
-// The place of a table's column of a name.
+/// The place of a table's column of a name.
 pub(crate) fn place_in(
     alloc: Global,
     table: &str,
@@ -95,7 +95,7 @@ fn type_in(columns: &[ColumnDef], name: &str) -> u32
     }
 }
 
-// A column that a vindex can take.
+/// A column that a vindex can take.
 pub(crate) fn check_vindex_type(
     alloc: Global,
     table: &str,
@@ -120,7 +120,7 @@ fn unfit_key<'k, 'v>(columns: &[ColumnDef], names: &'k [Name<'v>]) -> Option<&'k
         .find(|name| !is_key_type(type_in(columns, name.as_str())))
 }
 
-// The places of columns of these names.
+/// The places of columns of these names.
 fn places_of(
     alloc: Global,
     table: &str,
@@ -138,7 +138,7 @@ fn places_of(
     Ok(places)
 }
 
-// Copies of columns.
+/// Copies of columns.
 fn copied(alloc: Global, columns: &[ColumnText<'_>]) -> Result<Vec<ColumnDef>, PlanFault>
     ensures { Gives {Y = List ColumnValue} (λ v. v.items) result (Ok columns.now) }
 {
@@ -194,7 +194,7 @@ fn check_own_vindex(
     }
 }
 
-// The table of a plan that a table of the workflow file names.
+/// The table of a plan that a table of the workflow file names.
 #[tactic(auto, unfolding(crate::specs::Resolving::resolved))]
 pub(crate) fn resolved(alloc: Global, table: &TableText<'_>) -> Result<Table, PlanFault>
     requires { length table.now.columns ≤ 256 }

@@ -12,14 +12,14 @@ use crate::fault::PlanFault;
 use filter_text::{Filter, FilterFault, Rows, Scope};
 use std::alloc::Global;
 
-// Where a rule stands: its stream and its number there, from 0.
+/// Where a rule stands: its stream and its number there, from 0.
 #[derive(Clone, Copy, Debug, PartialEq, Eq)]
 pub(crate) struct Place {
     pub(crate) stream: usize,
     pub(crate) rule: usize,
 }
 
-// A rule that has a lawful form: the tables that it is for, and the rows that its filter names.
+/// A rule that has a lawful form: the tables that it is for, and the rows that its filter names.
 #[derive(Drop)]
 pub(crate) struct RuleForm<'v> {
     pub(crate) scope: Scope<'v>,
@@ -27,7 +27,7 @@ pub(crate) struct RuleForm<'v> {
 }
 
 impl Place {
-    // The refusal of the rule.
+    /// The refusal of the rule.
     pub(crate) fn fault(self) -> PlanFault
         ensures { result ≡ PlanFault.BadRule self.stream self.rule }
     {
@@ -46,7 +46,7 @@ impl Place {
         }
     }
 
-    // What the rule's filter says.
+    /// What the rule's filter says.
     fn filter(self, alloc: Global, text: &str) -> Result<Filter<'_>, PlanFault>
         ensures { Gives meaning result (or_bad self.stream self.rule (filter_of text.now)) }
     {
@@ -58,7 +58,7 @@ impl Place {
     }
 }
 
-// The form of a rule.
+/// The form of a rule.
 #[tactic(auto, unfolding(crate::specs::Rules::form_of))]
 pub(crate) fn form_of<'v>(
     alloc: Global,

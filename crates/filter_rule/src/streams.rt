@@ -13,7 +13,7 @@ use crate::rule::{Place, form_of};
 use crate::table::Table;
 use std::alloc::Global;
 
-// No table is decided yet.
+/// No table is decided yet.
 fn undecided(alloc: Global, tables: &[Table]) -> Result<Vec<Decision>, PlanFault>
     ensures { Gives {Y = List Decision} (λ v. v.items) result (Ok (undecided tables.now)) }
 {
@@ -24,7 +24,7 @@ fn undecided(alloc: Global, tables: &[Table]) -> Result<Vec<Decision>, PlanFault
     Ok(decisions)
 }
 
-// One rule of a stream.
+/// One rule of a stream.
 fn take_rule(
     alloc: Global,
     place: Place,
@@ -40,7 +40,7 @@ fn take_rule(
     settle(alloc, place, &form, tables, decisions)
 }
 
-// The decisions of a stream's rules, the first rule that matches a table counting.
+/// The decisions of a stream's rules, the first rule that matches a table counting.
 pub(crate) fn decisions_of(
     alloc: Global,
     stream: usize,

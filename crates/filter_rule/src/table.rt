@@ -25,7 +25,7 @@ impl Model for ColumnDef {
 }
 
 impl ColumnDef {
-    // A column of a copy of the name.
+    /// A column of a copy of the name.
     pub(crate) fn new(alloc: Global, name: &str, type_number: u32) -> Result<ColumnDef, AllocError>
         ensures { IfOk result (λ c. c ≡ record { name = name.now; type_number = type_number }) }
     {
@@ -67,7 +67,7 @@ impl Model for Table {
 }
 
 impl Table {
-    // A table of a copy of the name.
+    /// A table of a copy of the name.
     pub(crate) fn new(
         alloc: Global,
         name: &str,

@@ -10,7 +10,7 @@ ghost use Rattle.filter_text.specs.Private.Cutting.{IsCut, IsUntil, begins_in_bl
 use crate::token::Token;
 use arrayvec::ArrayVec;
 
-// The longest selection: `select * from t where in_keyrange(c, 'v', 'r')`.
+/// The longest selection: `select * from t where in_keyrange(c, 'v', 'r')`.
 const MOST_TOKENS: usize = 13;
 
 fn is_blank(b: u8) -> bool

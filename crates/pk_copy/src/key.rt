@@ -75,7 +75,7 @@ impl Key {
         self.table
     }
 
-    // The key's parts, in key order.
+    /// The key's parts, in key order.
     fn parts(&self) -> &[OwnedPart]
         ensures { map owned_value result.now ≡ self.now.parts }
     {

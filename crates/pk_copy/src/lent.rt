@@ -89,7 +89,7 @@ impl<'b> LentKey<'b> {
         self.table
     }
 
-    // The key's parts, in key order.
+    /// The key's parts, in key order.
     fn parts(&self) -> &[SmallPart<'b>]
         ensures parts { map small_value result.now ≡ self.now.parts }
         ensures within { AreParts self.now.parts }

@@ -19,7 +19,7 @@ pub(crate) enum OwnedPart {
 impl OwnedPart {
     ghost use Rattle.pk_copy.specs.PartValue.{owned_value, part_value};
 
-    // A copy of a part.
+    /// A copy of a part.
     pub(crate) fn from_part(alloc: Global, part: KeyPart<'_>) -> Result<OwnedPart, AllocError>
         ensures { IfOk result (λ owned. owned_value owned ≡ part_value part.entry) }
     {
@@ -29,7 +29,7 @@ impl OwnedPart {
         }
     }
 
-    // The part, lent.
+    /// The part, lent.
     pub(crate) fn lent(&self) -> KeyPart<'_>
         ensures { part_value result ≡ owned_value self.now }
     {

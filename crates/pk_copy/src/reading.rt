@@ -37,7 +37,7 @@ pub fn key_of<'b>(plan: &Plan, t: u8, row: &RowView<'b>) -> Result<KeyView<'b>, 
     key_at(t, table.columns(), table.key(), row)
 }
 
-// The key of a row of table `t`, of what stands at these places.
+/// The key of a row of table `t`, of what stands at these places.
 fn key_at<'b>(
     t: u8,
     columns: &[ColumnDef],
@@ -64,7 +64,7 @@ fn key_at<'b>(
     Ok(KeyView::new(t, parts))
 }
 
-// The part that the column at a place gives the key.
+/// The part that the column at a place gives the key.
 fn part_at<'b>(columns: &[ColumnDef], row: &RowView<'b>, place: u8) -> Result<KeyPart<'b>, KeyFault>
     requires place { place < length columns.now }
     requires width { length row.now ≡ length columns.now }
@@ -82,7 +82,7 @@ fn part_at<'b>(columns: &[ColumnDef], row: &RowView<'b>, place: u8) -> Result<Ke
     }
 }
 
-// The part that a column's text gives the key.
+/// The part that a column's text gives the key.
 fn part_of(type_number: u32, text: &[u8]) -> Option<KeyPart<'_>>
     ensures part { option_map part_value result ≡ part_of_text type_number text.now }
     ensures within { IfSome result (λ part. IsPart (part_value part)) }

@@ -24,7 +24,7 @@ impl<'b> SmallPart<'b> {
     ghost use Rattle.pk_copy.specs.PartValue.{part_value};
     ghost use Rattle.pk_copy.specs.SmallPartValue.{small_value};
 
-    // The part, kept.
+    /// The part, kept.
     pub(crate) fn from_part(part: KeyPart<'b>) -> SmallPart<'b>
         requires { IsPart (part_value part) }
         ensures { small_value result ≡ part_value part.entry }
@@ -36,7 +36,7 @@ impl<'b> SmallPart<'b> {
         }
     }
 
-    // The part, lent.
+    /// The part, lent.
     pub(crate) fn lent(&self) -> KeyPart<'b>
         ensures { part_value result ≡ small_value self.now }
     {

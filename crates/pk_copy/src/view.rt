@@ -34,7 +34,7 @@ impl<'b> Model for KeyView<'b> {
 }
 
 impl<'b> KeyView<'b> {
-    // The key of a table with these parts.
+    /// The key of a table with these parts.
     pub(crate) fn new(table: u8, parts: ArrayVec<KeyPart<'b>, 8>) -> KeyView<'b>
         requires { AreParts (map part_value parts.items) }
         ensures { result ≡ record { table = table; parts = map part_value parts.entry.items } }

@@ -3,7 +3,7 @@ use std::alloc::Global;
 use std::test::Fail;
 use vindex::{KeyRange, Vindex};
 
-// The rows that a filter is wanted to name, ranges as texts.
+/// The rows that a filter is wanted to name, ranges as texts.
 #[derive(Clone, Copy)]
 enum Wanted<'w> {
     EveryRow,
@@ -11,7 +11,7 @@ enum Wanted<'w> {
     Named(&'w str, Vindex, &'w str),
 }
 
-// Whether a text is read as a filter of this table and these rows.
+/// Whether a text is read as a filter of this table and these rows.
 fn reads(alloc: Global, text: &str, table: Option<&str>, wanted: Wanted<'_>) -> Result<bool, Fail> {
     let filter = Filter::parse(alloc, text)?;
     let same_rows = match (&filter.rows, wanted) {

@@ -3,7 +3,7 @@ use std::alloc::Global;
 use std::process::Abort;
 use std::test::Fail;
 
-// Numbered names, each between `open` and `close`, parted by commas.
+/// Numbered names, each between `open` and `close`, parted by commas.
 fn listed(alloc: Global, count: usize, open: &str, close: &str) -> Result<String, Fail> {
     let mut text = String::new(alloc);
     for number in 0..count {
@@ -14,7 +14,7 @@ fn listed(alloc: Global, count: usize, open: &str, close: &str) -> Result<String
     Ok(text)
 }
 
-// The refusal's number of a file with so many streams, tables, columns and key columns.
+/// The refusal's number of a file with so many streams, tables, columns and key columns.
 fn number_of_counts(alloc: Global, counts: [usize; 4]) -> Result<u8, Fail> {
     let [streams, tables, columns, keys] = counts;
     let columns = listed(alloc, columns, "[\"", "\",265]")?;
@@ -45,7 +45,7 @@ fn check_counts(rt: &(impl Abort + AllocGlobal), counts: &[([usize; 4], u8)]) ->
     Ok(())
 }
 
-// Each count above its limit, and none of them, is refused with 56, whatever the others are.
+/// Each count above its limit, and none of them, is refused with 56, whatever the others are.
 #[test]
 fn count_out_of_limits(rt: HostRuntime) -> Result<(), Fail> {
     check_counts(

@@ -2,7 +2,7 @@ use row_view::Column;
 use std::test::Fail;
 use vindex::*;
 
-// The digests and bytes stand in RFC 1321 and the Vitess documents on vindexes.
+/// The digests and bytes stand in RFC 1321 and the Vitess documents on vindexes.
 #[test]
 fn digests_and_ids(rt: HostRuntime) -> Result<(), Fail> {
     let low = KeyRange::parse(rt.alloc(), "-80")?;
@@ -189,7 +189,7 @@ fn minus_zero_and_zeros(rt: HostRuntime) -> Result<(), Fail> {
     Ok(())
 }
 
-// The value of the number that a text writes.
+/// The value of the number that a text writes.
 fn value_of(text: &[u8]) -> Option<i128> {
     Some(number_of(text)?.value())
 }
@@ -210,7 +210,7 @@ fn number_limits(rt: HostRuntime) {
     assert_eq!(rt; natural_of(b"-1"), None);
 }
 
-// Numbers are ordered and equal by value, whatever their texts.
+/// Numbers are ordered and equal by value, whatever their texts.
 #[test]
 fn numbers_by_value(rt: HostRuntime) {
     let rising: [&[u8]; 5] = [b"-10", b"-2", b"-0", b"02", b"10"];

@@ -4,7 +4,7 @@ use std::alloc::Global;
 use std::process::Abort;
 use std::test::Fail;
 
-// The number of the refusal, or 0 where the file is read.
+/// The number of the refusal, or 0 where the file is read.
 pub(crate) fn number_of(alloc: Global, text: &str) -> u8 {
     match Plan::read_all(alloc, text.as_bytes()) {
         Ok(_) => 0,
@@ -12,7 +12,7 @@ pub(crate) fn number_of(alloc: Global, text: &str) -> u8 {
     }
 }
 
-// A file of one stream, with these columns, key, vindex and rules.
+/// A file of one stream, with these columns, key, vindex and rules.
 pub(crate) fn workflow(
     alloc: Global,
     columns: &str,
@@ -33,7 +33,7 @@ const VINDEX: &str = ",\"vindex\":[\"id\",\"numeric\"]";
 
 pub(crate) const EVERY_ROW: &str = "[{\"match\":\"/.*\",\"filter\":\"\"}]";
 
-// Whether the file is refused by this number, with these names of a table and of a column.
+/// Whether the file is refused by this number, with these names of a table and of a column.
 fn is_column_fault(alloc: Global, text: &str, number: u8, table: &str, column: &str) -> bool {
     match Plan::read_all(alloc, text.as_bytes()) {
         Err(
@@ -52,7 +52,7 @@ fn is_column_fault(alloc: Global, text: &str, number: u8, table: &str, column: &
     }
 }
 
-// Whether the file is refused for its first stream's first rule.
+/// Whether the file is refused for its first stream's first rule.
 fn is_first_rule_bad(alloc: Global, text: &str) -> bool {
     match Plan::read_all(alloc, text.as_bytes()) {
         Err(PlanFault::BadRule { stream, rule }) => stream == 0 && rule == 0,
@@ -205,7 +205,7 @@ fn json_oddities(rt: HostRuntime) -> Result<(), Fail> {
     Ok(())
 }
 
-// What a plan answers of a row of its first table: 1 for yes, 0 for no, or the refusal's number.
+/// What a plan answers of a row of its first table: 1 for yes, 0 for no, or the refusal's number.
 fn answer_of(rt: &impl Abort, plan: &Plan, row: &RowView<'_>) -> u8 {
     assert!(rt; !plan.tables().is_empty());
     assert_eq!(rt; row.len(), plan.columns(0).len());
@@ -290,7 +290,7 @@ fn not_json(rt: HostRuntime) {
     }
 }
 
-// A key, a vindex or a rule names a column that its table hasn't: 53 with both names.
+/// A key, a vindex or a rule names a column that its table hasn't: 53 with both names.
 #[test]
 fn no_such_column(rt: HostRuntime) -> Result<(), Fail> {
     let alloc = rt.alloc();
@@ -311,7 +311,7 @@ fn no_such_column(rt: HostRuntime) -> Result<(), Fail> {
     Ok(())
 }
 
-// A key, a vindex or a rule names a column of a type that it can't take: 54 with both names.
+/// A key, a vindex or a rule names a column of a type that it can't take: 54 with both names.
 #[test]
 fn unfit_key_type(rt: HostRuntime) -> Result<(), Fail> {
     let alloc = rt.alloc();
@@ -333,7 +333,7 @@ fn unfit_key_type(rt: HostRuntime) -> Result<(), Fail> {
     Ok(())
 }
 
-// The refusal of a rule names its stream and its place there, from 0.
+/// The refusal of a rule names its stream and its place there, from 0.
 #[test]
 fn bad_rule(rt: HostRuntime) {
     let text =
@@ -346,7 +346,7 @@ fn bad_rule(rt: HostRuntime) {
     assert_eq!(rt; number_of(rt.alloc(), text), 55);
 }
 
-// Keyspace, shard and match may be empty texts, and rules as many as one likes.
+/// Keyspace, shard and match may be empty texts, and rules as many as one likes.
 #[test]
 fn empty_words_allowed(rt: HostRuntime) -> Result<(), Fail> {
     let alloc = rt.alloc();
@@ -361,7 +361,7 @@ fn empty_words_allowed(rt: HostRuntime) -> Result<(), Fail> {
     Ok(())
 }
 
-// What a plan of the first worked workflow answers of itself.
+/// What a plan of the first worked workflow answers of itself.
 #[test]
 fn parts_of_a_plan(rt: HostRuntime) -> Result<(), Fail> {
     let alloc = rt.alloc();

@@ -96,14 +96,14 @@ impl<'h> Feed<'h> {
         self.groups.as_slice()
     }
 
-    // How many groups the feed has: fewer than 2^31.
+    /// How many groups the feed has: fewer than 2^31.
     fn count(&self) -> u32
         ensures { result ≡ length self.now.groups }
     {
         self.groups().len() as u32
     }
 
-    // The group of a number, from 1.
+    /// The group of a number, from 1.
     fn group(&self, number: u32) -> Option<&PlannedGroup<'h>>
         ensures { option_copied result ≡ group_at self.now number }
     {
@@ -141,7 +141,7 @@ impl<'h> Feed<'h> {
     }
 }
 
-// The group at a place, from 0.
+/// The group at a place, from 0.
 fn group_in<'a, 'h>(groups: &'a [PlannedGroup<'h>], place: usize) -> Option<&'a PlannedGroup<'h>>
     ensures { option_copied result ≡ slice_get groups.now place }
 {

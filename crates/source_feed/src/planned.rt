@@ -41,14 +41,14 @@ impl<'h> PlannedChange<'h> {
         self.table
     }
 
-    // The bytes of the row before the change, or `None` for an insert. Reads no row.
+    /// The bytes of the row before the change, or `None` for an insert. Reads no row.
     pub(crate) fn before_bytes(&self) -> Option<RowBytes<'h>>
         ensures { result ≡ self.now.before }
     {
         self.rows.before_bytes()
     }
 
-    // The bytes of the row after the change, or `None` for a delete. Reads no row.
+    /// The bytes of the row after the change, or `None` for a delete. Reads no row.
     pub(crate) fn after_bytes(&self) -> Option<RowBytes<'h>>
         ensures { result ≡ self.now.after }
     {
@@ -104,7 +104,7 @@ impl<'h> PlannedGroup<'h> {
         &self.position
     }
 
-    // The same, shared.
+    /// The same, shared.
     pub(crate) fn shared_position(&self) -> &Arc<GtidSet>
         ensures { arc_value result.now ≡ self.now.position }
     {

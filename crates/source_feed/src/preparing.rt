@@ -26,7 +26,7 @@ struct Place<'p> {
 }
 
 impl Place<'_> {
-    // A row is refused, by the number of its cause.
+    /// A row is refused, by the number of its cause.
     fn refused(&self, cause: u8) -> FeedFault
         ensures { result ≡ FeedFault.BadRow self.now.group self.now.table cause }
     {
@@ -37,7 +37,7 @@ impl Place<'_> {
         }
     }
 
-    // The key of a row, to be kept.
+    /// The key of a row, to be kept.
     fn key<'h>(&self, alloc: Global, row: &RowView<'h>) -> Result<LentKey<'h>, FeedFault>
         requires table { self.now.table < length self.now.plan.now.tables }
         requires columns { length row.now ≡ length (columns_of self.now.plan.now self.now.table) }
@@ -49,7 +49,7 @@ impl Place<'_> {
         }
     }
 
-    // What the filter answers of a row.
+    /// What the filter answers of a row.
     fn passes(&self, row: &RowView<'_>) -> Result<bool, FeedFault>
         requires table { self.now.table < length self.now.plan.now.tables }
         requires columns { length row.now ≡ length (columns_of self.now.plan.now self.now.table) }
@@ -61,7 +61,7 @@ impl Place<'_> {
         }
     }
 
-    // The touch of a row before the change: its key alone.
+    /// The touch of a row before the change: its key alone.
     fn removal<'h>(&self, alloc: Global, row: &RowBytes<'h>) -> Result<Touch<'h>, FeedFault>
         requires table { self.now.table < length self.now.plan.now.tables }
         requires columns { length row.now ≡ length (columns_of self.now.plan.now self.now.table) }
@@ -71,7 +71,7 @@ impl Place<'_> {
         Ok(Touch::removal(key))
     }
 
-    // The touch of a row after the change: its key, and then the filter.
+    /// The touch of a row after the change: its key, and then the filter.
     fn replacement<'h>(&self, alloc: Global, row: RowBytes<'h>) -> Result<Touch<'h>, FeedFault>
         requires table { self.now.table < length self.now.plan.now.tables }
         requires columns { length row ≡ length (columns_of self.now.plan.now self.now.table) }
@@ -83,7 +83,7 @@ impl Place<'_> {
         Ok(Touch::replacement(key, row, passes))
     }
 
-    // Puts the touch of the row before a change, if there is one, behind the earlier ones.
+    /// Puts the touch of the row before a change, if there is one, behind the earlier ones.
     fn put_before<'h>(
         &self,
         alloc: Global,
@@ -100,7 +100,7 @@ impl Place<'_> {
         Ok(())
     }
 
-    // Puts the touch of the row after a change, if there is one, behind the earlier ones.
+    /// Puts the touch of the row after a change, if there is one, behind the earlier ones.
     fn put_after<'h>(
         &self,
         alloc: Global,

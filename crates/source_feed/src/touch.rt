@@ -63,14 +63,14 @@ impl<'h> Model for Touch<'h> {
 }
 
 impl<'h> Touch<'h> {
-    // The key is touched with nothing.
+    /// The key is touched with nothing.
     pub(crate) fn removal(key: LentKey<'h>) -> Touch<'h>
         ensures { result ≡ (key.entry, None) }
     {
         Touch { key, put: None }
     }
 
-    // A row is put at the key.
+    /// A row is put at the key.
     pub(crate) fn replacement(key: LentKey<'h>, row: RowBytes<'h>, passes: bool) -> Touch<'h>
         ensures { result ≡ (key.entry, Some (record { row = row.entry; passes = passes })) }
     {

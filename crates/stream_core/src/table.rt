@@ -28,7 +28,7 @@ pub fn decide(cursor: &Cursor, step: Step) -> Result<Move, CoreRefusal>
     }
 }
 
-// The group of this number is read.
+/// The group of this number is read.
 fn offer(cursor: &Cursor, number: u32) -> Result<Move, CoreRefusal>
     ensures { result ≡ decided cursor.now (Offer number) }
 {
@@ -51,7 +51,7 @@ fn offer(cursor: &Cursor, number: u32) -> Result<Move, CoreRefusal>
     })
 }
 
-// The next group is applied.
+/// The next group is applied.
 fn advance(cursor: &Cursor) -> Result<Move, CoreRefusal>
     ensures { result ≡ decided cursor.now Advance }
 {
@@ -71,7 +71,7 @@ fn advance(cursor: &Cursor) -> Result<Move, CoreRefusal>
     })
 }
 
-// A snapshot is opened at this group.
+/// A snapshot is opened at this group.
 fn open_at(cursor: &Cursor, group: u32) -> Result<Move, CoreRefusal>
     ensures { result ≡ decided cursor.now (OpenAt group) }
 {
@@ -96,7 +96,7 @@ fn open_at(cursor: &Cursor, group: u32) -> Result<Move, CoreRefusal>
     })
 }
 
-// Rows are copied out of the open snapshot.
+/// Rows are copied out of the open snapshot.
 fn copy_rows(cursor: &Cursor, count: u32) -> Result<Move, CoreRefusal>
     ensures { result ≡ decided cursor.now (CopyRows count) }
 {
@@ -112,7 +112,7 @@ fn copy_rows(cursor: &Cursor, count: u32) -> Result<Move, CoreRefusal>
     })
 }
 
-// The open snapshot is closed.
+/// The open snapshot is closed.
 fn close(cursor: &Cursor) -> Result<Move, CoreRefusal>
     ensures { result ≡ decided cursor.now Close }
 {
@@ -125,7 +125,7 @@ fn close(cursor: &Cursor) -> Result<Move, CoreRefusal>
     })
 }
 
-// What is read ahead is forgotten, and the open snapshot is closed.
+/// What is read ahead is forgotten, and the open snapshot is closed.
 fn restart(cursor: &Cursor) -> Move
     ensures { Ok result ≡ decided cursor.now Restart }
 {

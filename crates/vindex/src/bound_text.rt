@@ -83,7 +83,7 @@ fn are_digits(bytes: &[u8]) -> bool
     bytes.iter().all(|byte| is_digit(*byte))
 }
 
-// The value of a hexadecimal digit, or 0.
+/// The value of a hexadecimal digit, or 0.
 fn value_of(digit: u8) -> u8
     ensures value { result ≡ digit_of digit }
     ensures small { result < 16 }
@@ -96,7 +96,7 @@ fn value_of(digit: u8) -> u8
     }
 }
 
-// The byte at a place.
+/// The byte at a place.
 fn byte_at(digits: &[u8], place: usize) -> u8
     requires { 2 * place + 1 < length digits.now }
     ensures { result ≡ slice_index (bytes_of_pairs digits.now) place }
@@ -104,7 +104,7 @@ fn byte_at(digits: &[u8], place: usize) -> u8
     value_of(digits[2 * place]) * 16 + value_of(digits[2 * place + 1])
 }
 
-// How many bytes pairs of digits write, without the 00 bytes at their end.
+/// How many bytes pairs of digits write, without the 00 bytes at their end.
 fn len_without_zeros(digits: &[u8]) -> usize
     ensures len { let bytes = bytes_of_pairs digits.now in
         result ≡ length bytes - suffix_len (λ byte. byte == 0) bytes }
@@ -117,7 +117,7 @@ fn len_without_zeros(digits: &[u8]) -> usize
     len
 }
 
-// Whether the bytes that pairs of digits write come before those of others.
+/// Whether the bytes that pairs of digits write come before those of others.
 fn comes_before(digits: &[u8], other: &[u8]) -> bool
     ensures { result ≡ is_lt (slice_cmp nat_cmp (bytes_of_pairs digits.now) (bytes_of_pairs other.now)) }
 {

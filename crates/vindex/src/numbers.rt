@@ -99,7 +99,7 @@ pub fn natural_of(digits: &[u8]) -> Option<u64>
     Some(magnitude)
 }
 
-// The number that is written by the digits of `magnitude` and one more, if it is below 2^64.
+/// The number that is written by the digits of `magnitude` and one more, if it is below 2^64.
 fn with_digit(magnitude: u64, digit: u8) -> Option<u64>
     ensures { let number = magnitude * 10 + (digit - 48) in
         SomeIff result (IsTrue (is_ascii_digit digit) × (number < 2 ^ 64)) number }

@@ -23,7 +23,7 @@ pub fn tiles(ranges: &[KeyRange]) -> bool
     covered.is_none()
 }
 
-// Whether a range starts where the earlier ones end.
+/// Whether a range starts where the earlier ones end.
 fn meets(covered: Option<&[u8]>, range: &KeyRange) -> bool
     ensures { IsTrue result ↔ (option_copied covered.entry ≡ Some range.now.start) }
 {

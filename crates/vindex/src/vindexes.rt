@@ -68,7 +68,7 @@ impl Vindex {
     }
 }
 
-// The number from 0 to 2^64 - 1 that a text writes.
+/// The number from 0 to 2^64 - 1 that a text writes.
 fn unsigned_of(text: &[u8]) -> Result<u64, VindexFault>
     ensures { result ≡ ok_or (unsigned (number_of_text text.now)) NotANumber }
 {
