@@ -8,6 +8,7 @@ mod fault;
 mod found;
 mod lengths;
 mod row;
+mod row_buf;
 mod row_bytes;
 mod same;
 
@@ -15,4 +16,5 @@ pub use column::Column;
 pub use columns::Columns;
 pub use fault::RowFault;
 pub use row::{ROW_BYTES, ROW_COLUMNS, RowView};
+pub use row_buf::RowBuf;
 pub use row_bytes::RowBytes;

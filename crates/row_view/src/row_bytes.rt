@@ -1,7 +1,8 @@
 //! The bytes of a row.
 
 ghost use Rattle.std.specs.Prelude.{◌≡◌, ◌↔◌, IsTrue, IsOk, Ok};
-ghost use Rattle.row_view.specs.Row.{row_of_message};
+ghost use Rattle.row_view.specs.Row.{columns_in, row_of_message};
+ghost use Rattle.row_view.specs.Private.Kept.{IsGood};
 
 use crate::columns::Columns;
 use crate::fault::RowFault;
@@ -47,6 +48,14 @@ impl<'b> RowBytes<'b> {
         ensures { row_of_message bytes.now ≡ Ok result }
     {
         RowBytes { message: bytes }
+    }
+
+    /// The bytes themselves.
+    pub(crate) fn message(&self) -> &'b [u8]
+        ensures good { IsGood result.now }
+        ensures columns { columns_in result.now ≡ self.now }
+    {
+        self.message
     }
 
     /// The row itself. Reads its lengths once more, and takes no memory.

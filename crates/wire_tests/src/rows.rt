@@ -75,6 +75,7 @@ fn column_outlives_its_view(rt: HostRuntime) {
 fn a_view_is_small(rt: HostRuntime) {
     assert!(rt; size_of::<RowView<'static>>() <= 40);
     assert!(rt; size_of::<RowBytes<'static>>() <= 16);
+    assert!(rt; size_of::<RowBuf>() <= 24);
 }
 
 #[test]
@@ -173,5 +174,19 @@ fn texts_of_row_faults(rt: HostRuntime) -> Result<(), Fail> {
     ] {
         assert_eq!(rt; text_of(rt.alloc(), fault)?.as_str(), text);
     }
+    Ok(())
+}
+
+/// A row in memory of its own is its view, NULL and empty bytes told apart; and so is its copy.
+#[test]
+fn a_row_in_memory_of_its_own(rt: HostRuntime) -> Result<(), Fail> {
+    let row = RowView::read(b"\x0a\x03\x02\x01\x04\x12\x031ab").expect(&rt, "a row");
+    let kept = RowBuf::from_view(rt.alloc(), &row)?;
+    assert!(rt; kept.view().same(&row));
+    assert_eq!(rt; kept.view().len(), 3);
+    assert_eq!(rt; kept.view().column(2), Column::Bytes(b"ab"));
+    assert!(rt; kept.try_clone(rt.alloc())?.same(&kept));
+    let other = RowView::read(b"\x0a\x03\x02\x00\x04\x12\x031ab").expect(&rt, "a row");
+    assert!(rt; !RowBuf::from_bytes(rt.alloc(), &other.bytes())?.same(&kept));
     Ok(())
 }

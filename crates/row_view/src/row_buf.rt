@@ -1,0 +1,80 @@
+//! A row in memory of its own.
+
+ghost use Rattle.std.specs.Prelude.{◌≡◌, ◌↔◌, IsTrue, IfOk};
+
+use crate::columns::Columns;
+use crate::row::RowView;
+use crate::row_bytes::RowBytes;
+use std::alloc::{AllocError, Global};
+use std::marker::Model;
+
+/// A row in memory of its own: a copy of its message, in 24 bytes and one block. Seen in contracts as
+/// the list of its columns' values, `None` for NULL, as a view of it is.
+#[derive(Drop)]
+pub struct RowBuf {
+    message: Vec<u8>,
+}
+
+impl Model for RowBuf {
+    ghost use Rattle.std.specs.Prelude.{ℕ, List, Option};
+    ghost use Rattle.row_view.specs.Row.{columns_in};
+    ghost use Rattle.row_view.specs.Private.Kept.{IsGood};
+
+    ghost Value = { List (Option (List ℕ)) };
+
+    ghost view = { λ a. columns_in a.message.items };
+
+    ghost invariant = { λ a. IsGood a.message.items };
+}
+
+impl RowBuf {
+    /// A copy of a lent row. An error is want of memory.
+    pub fn from_view(alloc: Global, row: &RowView<'_>) -> Result<RowBuf, AllocError>
+        ensures { IfOk result (λ copy. copy ≡ row.now) }
+    {
+        RowBuf::from_bytes(alloc, &row.bytes())
+    }
+
+    /// A copy of a row that is kept as its bytes. Reads nothing of it. An error is want of memory.
+    pub fn from_bytes(alloc: Global, row: &RowBytes<'_>) -> Result<RowBuf, AllocError>
+        ensures { IfOk result (λ copy. copy ≡ row.now) }
+    {
+        let message = Vec::from_slice(alloc, row.message())?;
+        Ok(RowBuf { message })
+    }
+
+    /// The row, lent. Reads its lengths once more, and takes no memory.
+    pub fn view(&self) -> RowView<'_>
+        ensures { result ≡ self.now }
+    {
+        RowView::of_row(&self.message)
+    }
+
+    /// The bytes of the row, which can be kept in place of a view. Reads nothing and takes no memory.
+    pub fn bytes(&self) -> RowBytes<'_>
+        ensures { result ≡ self.now }
+    {
+        RowBytes::of_row(&self.message)
+    }
+
+    /// The columns of the row in order. Looks for the values once more, and takes no memory.
+    pub fn columns(&self) -> Columns<'_>
+        ensures { result ≡ self.now }
+    {
+        self.bytes().columns()
+    }
+
+    /// A copy of the row. An error is want of memory.
+    pub fn try_clone(&self, alloc: Global) -> Result<RowBuf, AllocError>
+        ensures { IfOk result (λ copy. copy ≡ self.now) }
+    {
+        RowBuf::from_bytes(alloc, &self.bytes())
+    }
+
+    /// Whether the other row has the same columns, NULL and empty bytes told apart. Takes no memory.
+    pub fn same(&self, other: &RowBuf) -> bool
+        ensures { IsTrue result ↔ (self.now ≡ other.now) }
+    {
+        self.bytes().same(&other.bytes())
+    }
+}
