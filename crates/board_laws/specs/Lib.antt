@@ -1,0 +1,11 @@
+pub mod Meaning
+pub mod KeptRows
+pub mod Cut
+pub mod Lawful
+pub mod Event
+pub mod Chunk
+pub mod StateAfter
+pub mod Allowed
+pub mod Refusals
+pub mod Step
+pub mod Runs
