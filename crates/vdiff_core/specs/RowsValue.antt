@@ -1,0 +1,18 @@
+-- Rows by key as a plain value (this profile).
+use Rattle.std.specs.Prelude.{ℕ, List, Option}
+use Rattle.std.specs.Map.{lookup}
+use Rattle.std.specs.Ordering.{eq_by_cmp}
+use Rattle.pk_copy.specs.KeyOrder.{key_cmp}
+use Rattle.pk_copy.specs.KeyValue.{KeyValue}
+
+-- a row, by its columns: `None` for NULL
+abbrev pub RowValue : Type 0
+RowValue = List (Option (List ℕ))
+
+-- keys, each with its row
+abbrev pub RowsValue : Type 0
+RowsValue = List (KeyValue × RowValue)
+
+-- the row at a key
+abbrev pub row_at : RowsValue → KeyValue → Option RowValue
+row_at rows key = lookup (eq_by_cmp key_cmp key) rows

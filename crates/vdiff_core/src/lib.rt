@@ -1,0 +1,7 @@
+//! Rows by key, their dump and its printing.
+#![tactic(auto)]
+
+mod places;
+mod rows;
+
+pub use rows::Rows;
