@@ -3,3 +3,5 @@ pub mod ReadingLaws
 pub mod VarintLaws
 pub mod ShortestLaws
 pub mod FieldLaws
+pub mod SpellingLoop
+pub mod WritingLaws

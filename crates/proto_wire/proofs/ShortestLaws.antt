@@ -6,20 +6,20 @@ use Rattle.std.proofs.Math.Nat.{pow-suc}
 use Rattle.proto_wire.specs.Varint.{IsContinued, value_of, IsVarint, AreBytes, shortest_within, shortest}
 use Rattle.proto_wire.proofs.VarintLaws.{IsWithin, value-low, value-high}
 
-within-low : (more n : ℕ) → n < 128 → shortest_within (suc more) n ≡ n ∷ []
+pub within-low : (more n : ℕ) → n < 128 → shortest_within (suc more) n ≡ n ∷ []
 unfolding shortest_within
 within-low more n lt = let test : ltb n 128 ≡ true = lt-ltb n 128 lt in rw test refl
 
-within-high : (more n : ℕ) → 128 ≤ n → shortest_within (suc more) n ≡ (n % 128 + 128) ∷ shortest_within more (n / 128)
+pub within-high : (more n : ℕ) → 128 ≤ n → shortest_within (suc more) n ≡ (n % 128 + 128) ∷ shortest_within more (n / 128)
 unfolding shortest_within
 within-high more n le = let test : ltb n 128 ≡ false = le-ltb n 128 le in rw test refl
 
-within-zero : (n : ℕ) → shortest_within zero n ≡ n ∷ []
+pub within-zero : (n : ℕ) → shortest_within zero n ≡ n ∷ []
 unfolding shortest_within
 within-zero n = refl
 
 -- the groups above the lowest fit in one byte less
-fits_less : (more n : ℕ) → n < 2 * 128 ^ suc more → n / 128 < 2 * 128 ^ more
+pub fits_less : (more n : ℕ) → n < 2 * 128 ^ suc more → n / 128 < 2 * 128 ^ more
 fits_less more n lt = omega (arith, pow-suc 128 more)
 
 one_byte : (more n : ℕ) → n < 128 → (0 ≡ more → n ≤ 1) → IsWithin more (n ∷ []) n

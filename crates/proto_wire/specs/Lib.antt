@@ -5,3 +5,4 @@ pub mod Field
 pub mod Parts
 pub mod Frame
 pub mod Zigzag
+pub mod Writing

@@ -9,8 +9,11 @@ mod frames;
 mod laws;
 mod parts;
 mod sint64;
+mod spelling;
 mod varint;
 mod varints;
+mod writing;
+mod written_laws;
 
 pub use fault::{FrameFault, WireFault};
 pub use field::{Field, Payload};
@@ -19,4 +22,10 @@ pub use frames::Frames;
 pub use laws::{longer_spelling, shortest_spelling};
 pub use parts::{Parts, last_text, last_varint, single_of};
 pub use sint64::{unzigzag, zigzag};
+pub use spelling::{put_varint, varint_size};
 pub use varints::Varints;
+pub use writing::{
+    bytes_field_size, cut_after_error, field_size, number_field_size, put_bytes_head, put_field,
+    put_number, put_text, put_text_head, size_of_both, text_field_size,
+};
+pub use written_laws::{fields_are_read_again, numbers_are_read_again};
