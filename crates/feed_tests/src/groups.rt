@@ -3,7 +3,7 @@
 use filter_rule::Plan;
 use gtid_set::GtidSet;
 use row_view::{Column, RowView};
-use source_feed::{Change, Feed, Group, PlannedChange, PlannedGroup, read_groups};
+use source_feed::{Change, Feed, Group, Touch, read_groups};
 use std::alloc::Global;
 use std::test::Fail;
 
@@ -47,13 +47,13 @@ fn inserts_the_row(change: &Change<'_>) -> bool {
     }
 }
 
-/// The change inserts the row `1`, `ab` into the plan's first table.
-fn inserts_into_the_first(change: &PlannedChange<'_>) -> bool {
-    match change.after() {
+/// The touch puts the row `1`, `ab` into the plan's first table.
+fn puts_into_the_first(touch: &Touch<'_>) -> bool {
+    match touch.put() {
         None => false,
-        Some(row) => {
-            change.table() == 0
-                && change.before().is_none()
+        Some(put) => {
+            let row = put.row();
+            touch.key().table() == 0
                 && row.len() == 2
                 && has_cell(&row, 0, b"1")
                 && has_cell(&row, 1, b"ab")
@@ -61,16 +61,16 @@ fn inserts_into_the_first(change: &PlannedChange<'_>) -> bool {
     }
 }
 
-/// The number of groups and of changes of a feed, or the refusal's number.
+/// The number of groups and of touches of the first one, or the refusal's number.
 fn opened(alloc: Global, workflow: &[u8], feed: &[u8]) -> Result<(usize, usize), u8> {
     let plans = Plan::read_all(alloc, workflow).map_err(|fault| fault.number())?;
     let plan = plans.first().ok_or(0u8)?;
     let feed = Feed::open(alloc, feed, plan).map_err(|fault| fault.number())?;
-    let changes = match feed.groups().first() {
-        None => 0,
-        Some(group) => group.changes().len(),
+    let touches = match feed.prepare(alloc, 1) {
+        Err(_) => 0,
+        Ok(group) => group.touches().len(),
     };
-    Ok((feed.len(), changes))
+    Ok((feed.len(), touches))
 }
 
 #[test]
@@ -94,8 +94,6 @@ fn one_inserted_row_is_a_group(rt: HostRuntime) -> Result<(), Fail> {
 fn changes_and_groups_are_small(rt: HostRuntime) {
     assert!(rt; size_of::<Change<'static>>() <= 32);
     assert!(rt; size_of::<Group<'static>>() <= 96);
-    assert!(rt; size_of::<PlannedChange<'static>>() <= 24);
-    assert!(rt; size_of::<PlannedGroup<'static>>() <= 48);
 }
 
 #[test]
@@ -104,10 +102,9 @@ fn feed_opens_under_its_plan(rt: HostRuntime) -> Result<(), Fail> {
     assert_eq!(rt; opened(alloc, WORKFLOW, ONE_ROW), Ok((1, 1)));
     let plans = Plan::read_all(alloc, WORKFLOW)?;
     let feed = Feed::open(alloc, ONE_ROW, plans.first().ok_or("no plan")?)?;
-    let group = feed.groups().first().ok_or("no group")?;
+    let group = feed.prepare(alloc, 1)?;
     assert_eq!(rt; group.number(), 1);
-    let change = group.changes().first().ok_or("no change")?;
-    assert!(rt; inserts_into_the_first(change));
+    assert!(rt; puts_into_the_first(group.touches().first().ok_or("no touch")?));
     Ok(())
 }
 

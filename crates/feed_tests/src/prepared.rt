@@ -234,6 +234,6 @@ fn before_row_filter_unasked(rt: HostRuntime) -> Result<(), Fail> {
 fn touches_are_small(rt: HostRuntime) {
     assert!(rt; size_of::<LentKey<'static>>() <= 40);
     assert!(rt; size_of::<Put<'static>>() <= 24);
-    assert!(rt; size_of::<Touch<'static>>() <= 72);
+    assert!(rt; size_of::<Touch<'static>>() <= 64);
     assert!(rt; size_of::<Prepared<'static>>() <= 48);
 }

@@ -3,3 +3,4 @@ mod TieLaws
 mod MarkLaws
 mod ReadingLaws
 mod RelationLaws
+mod LeastKey

@@ -1,9 +1,9 @@
 //! A lent key as it is kept.
 
-ghost use Rattle.std.specs.Prelude.{◌≡◌, IfOk, map};
-ghost use Rattle.std.specs.Ordering.{eq_by_cmp, as_partial_cmp};
+ghost use Rattle.std.specs.Prelude.{◌≡◌, [], false, IfOk, map};
+ghost use Rattle.std.specs.Ordering.{eq_by_cmp, as_partial_cmp, is_lt};
 ghost use Rattle.std.specs.Cmp.{partial_equiv_from_equiv, eq_by_cmp_equiv, partial_order_from_total};
-ghost use Rattle.pk_copy.specs.KeyValue.{AreParts};
+ghost use Rattle.pk_copy.specs.KeyValue.{KeyValue, AreParts};
 ghost use Rattle.pk_copy.specs.KeyOrder.{key_cmp};
 ghost use Rattle.pk_copy.specs.KeyOrderLaws.{key_cmp_total};
 
@@ -20,6 +20,20 @@ use std::slice;
 pub(crate) enum Parts<'b> {
     One(SmallPart<'b>),
     Several(Vec<SmallPart<'b>>),
+}
+
+impl<'b> Parts<'b> {
+    ghost use Rattle.pk_copy.specs.SmallPartValue.{kept_parts};
+
+    /// The same parts again. Takes memory for several parts alone.
+    fn try_clone(&self, alloc: Global) -> Result<Parts<'b>, AllocError>
+        ensures { IfOk result (λ copy. kept_parts copy ≡ kept_parts self.now) }
+    {
+        match self {
+            Parts::One(part) => Ok(Parts::One(*part)),
+            Parts::Several(parts) => Ok(Parts::Several(Vec::from_slice(alloc, parts)?)),
+        }
+    }
 }
 
 /// A row's key as it is kept beside the row's buffer, in 40 bytes: the number of its table in the plan and
@@ -64,6 +78,17 @@ impl<'b> LentKey<'b> {
         })
     }
 
+    /// The least key of a table: it has no parts, and no key of the table comes before it. Takes no memory.
+    pub fn first_of(alloc: Global, table: u8) -> LentKey<'b>
+        ensures value { result ≡ record { table = table; parts = [] } }
+        ensures least { (key : KeyValue) → key.table ≡ table → is_lt (key_cmp key result) ≡ false }
+    {
+        LentKey {
+            table,
+            parts: Parts::Several(Vec::new(alloc)),
+        }
+    }
+
     /// The key, lent. Takes no memory.
     pub fn view(&self) -> KeyView<'b>
         ensures { result ≡ self.now }
@@ -79,7 +104,10 @@ impl<'b> LentKey<'b> {
     pub fn try_clone(&self, alloc: Global) -> Result<LentKey<'b>, AllocError>
         ensures { IfOk result (λ key. key ≡ self.now) }
     {
-        LentKey::from_view(alloc, &self.view())
+        Ok(LentKey {
+            table: self.table,
+            parts: self.parts.try_clone(alloc)?,
+        })
     }
 
     /// The number of the key's table in the plan.

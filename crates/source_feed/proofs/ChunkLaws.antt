@@ -1,17 +1,17 @@
 -- The first rows of a table past a key, among rising entries.
-use Rattle.std.proofs.Common.{◌≡◌, ◌==◌, ℕ, suc, ◌+◌, ◌-◌, ◌<◌, ◌≤◌, arith, Bool, true, false, ◌&&◌, cond, List, [], ◌∷◌, ◌++◌, length, map, take, append_assoc, length-append, subst, Bor, Option, Some, None, refl, sym, ap, ◌∙◌}
+use Rattle.std.proofs.Common.{◌≡◌, ◌==◌, ℕ, suc, ◌+◌, ◌-◌, ◌<◌, ◌≤◌, arith, Bool, true, false, ◌&&◌, cond, not, List, [], ◌∷◌, ◌++◌, length, map, take, append_assoc, length-append, subst, Bor, Option, Some, None, refl, sym, ap, ◌∙◌}
 use Rattle.std.proofs.Math.Seq.{take-nil}
 use Rattle.std.proofs.lemmas.List.{map-append}
-use Rattle.std.proofs.lemmas.Bool.{ne_eqb}
+use Rattle.std.proofs.lemmas.Bool.{ne_eqb, eqb-true, true≢false}
 use Rattle.std.proofs.lemmas.Cmp.{ranked}
-use Rattle.std.specs.Ordering.{ordering_then, nat_cmp}
+use Rattle.std.specs.Ordering.{ordering_then, nat_cmp, is_lt}
 use Rattle.std.specs.declared.cmp.Ordering.{Ordering}
 use Rattle.std.specs.declared.cmp.Ordering.TheVariants.{Less, Equal, Greater}
 use Rattle.std.specs.List.{AllByRecursion, filter}
 use Rattle.pk_copy.specs.KeyOrder.{parts_cmp, key_cmp}
 use Rattle.pk_copy.specs.KeyValue.{KeyValue}
 use Rattle.pk_copy.specs.Marks.{is_beyond}
-use Rattle.target_tables.specs.Contents.{past_key}
+use Rattle.target_tables.specs.Contents.{from_key, past_key}
 use Rattle.target_tables.specs.Rising.{IsRising}
 use Rattle.source_feed.specs.History.{RowValue}
 use Rattle.source_feed.specs.Image.{ImageRows, chunk_of, lent_row}
@@ -41,13 +41,29 @@ first-past t after (e ∷ es) =
       | false ↦ and-dropped (e.0.table == t) (e.0, e.1.1) _ rest (first-past t after es)
     ]
 
-filter-every : (entries : Entries) → filter (λ e. is_beyond None e.0) entries ≡ entries
-filter-every [] = refl
-filter-every (e ∷ es) = ap (λ (rest : Entries). e ∷ rest) (filter-every es)
+-- ---- rows from the least key of a table on
 
-pub chunk-from_first : (entries : Entries) (t n : ℕ) → first_of entries t n ≡ chunk_of (rows_of entries) t None n
-chunk-from_first entries t n =
-    ap (λ (es : Entries). first_of es t n) (sym (filter-every entries)) ∙ ap (λ (rows : ImageRows). take n rows) (first-past t None entries)
+spread : (t : ℕ) (before : Bool) (e : Entry) (rest : Entries)
+    → filter (λ row. row.0.table == t) (rows_of (cond (not before) (e ∷ rest) rest))
+    ≡ cond (not before) (cond (e.0.table == t) ((e.0, e.1.1) ∷ filter (λ row. row.0.table == t) (rows_of rest)) (filter (λ row. row.0.table == t) (rows_of rest)))
+    (filter (λ row. row.0.table == t) (rows_of rest))
+spread t true e rest = refl
+spread t false e rest = refl
+
+of-table : (before of_table : Bool) (row : KeyValue × RowValue) (found rest : ImageRows) → (of_table ≡ true → before ≡ false) → found ≡ rest
+    → cond (not before) (cond of_table (row ∷ found) found) found ≡ cond (of_table && true) (row ∷ rest) rest
+of-table true true row found rest h e = absurd (true≢false (h refl))
+of-table true false row found rest h e = e
+of-table false true row found rest h e = ap (λ (rows : ImageRows). row ∷ rows) e
+of-table false false row found rest h e = e
+
+from-least : (t : ℕ) (least : KeyValue) → ((key : KeyValue) → key.table ≡ t → is_lt (key_cmp key least) ≡ false) → (entries : Entries)
+    → filter (λ row. row.0.table == t) (rows_of (from_key key_cmp entries least)) ≡ filter (λ row. row.0.table == t && is_beyond None row.0) (rows_of entries)
+from-least t least h [] = refl
+from-least t least h (e ∷ es) =
+    let rest : Entries = from_key key_cmp es least in
+    spread t (is_lt (key_cmp e.0 least)) e rest
+    ∙ of-table (is_lt (key_cmp e.0 least)) (e.0.table == t) (e.0, e.1.1) (filter (λ row. row.0.table == t) (rows_of rest)) _ (λ same. h e.0 (eqb-true e.0.table t same)) (from-least t least h es)
 
 pub chunk-past : (entries : Entries) (t n : ℕ) (key : KeyValue) → first_of (past_key key_cmp entries key) t n ≡ chunk_of (rows_of entries) t (Some key) n
 chunk-past entries t n key = ap (λ (rows : ImageRows). take n rows) (first-past t (Some key) entries)
@@ -151,4 +167,15 @@ chunk-answer entries scanned key given after rows t n past same some seen =
     ∙ chunk-past entries t n key
     ∙ ap (λ (k : KeyValue). chunk_of (rows_of entries) t (Some k) n) same
     ∙ ap (λ (a : Option KeyValue). chunk_of (rows_of entries) t a n) (sym some)
+    ∙ ap (λ (rs : ImageRows). chunk_of rs t after n) seen
+
+pub rising-least : (entries scanned : Entries) (least : KeyValue) → scanned ≡ from_key key_cmp entries least → IsRising key_cmp entries → IsRising key_cmp scanned
+rising-least entries scanned least from rising = subst (λ (es : Entries). IsRising key_cmp es) (sym from) (rising-filter (λ e. not (is_lt (key_cmp e.0 least))) entries rising)
+
+pub chunk-whole : (entries scanned : Entries) (least : KeyValue) (after : Option KeyValue) (rows : ImageRows) (t n : ℕ) → scanned ≡ from_key key_cmp entries least
+    → ((key : KeyValue) → key.table ≡ t → is_lt (key_cmp key least) ≡ false) → after ≡ None → rows_of entries ≡ rows → first_of scanned t n ≡ chunk_of rows t after n
+chunk-whole entries scanned least after rows t n from h none seen =
+    ap (λ (es : Entries). first_of es t n) from
+    ∙ ap (λ (rs : ImageRows). take n rs) (from-least t least h entries)
+    ∙ ap (λ (a : Option KeyValue). chunk_of (rows_of entries) t a n) (sym none)
     ∙ ap (λ (rs : ImageRows). chunk_of rs t after n) seen

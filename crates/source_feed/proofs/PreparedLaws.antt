@@ -1,8 +1,23 @@
--- The group of a number, and what is true of its changes.
-use Rattle.std.proofs.Common.{◌≡◌, ℕ, zero, suc, ◌-◌, ◌<◌, Some, refl, sym, arith}
-use Rattle.std.specs.Prelude.{slice_get}
+-- The group of a number, and what is true of its changes and of its touches.
+use Rattle.std.proofs.Common.{◌≡◌, ℕ, zero, suc, ◌+◌, ◌-◌, ◌^◌, ◌<◌, Bool, true, false, cond, List, [], ◌∷◌, ◌++◌, length, Option, Some, None, Result, Ok, Err, refl, sym, ap, subst, arith}
+use Rattle.std.proofs.lemmas.Bool.{eqb-true}
+use Rattle.std.proofs.lemmas.Option.{slice_get_within}
+use Rattle.std.specs.Prelude.{slice_get, IsTrue}
+use Rattle.std.specs.List.{AllByRecursion, list_any, filter_map}
+use Rattle.outcome.specs.Outcome.{◌>>=◌}
+use Rattle.filter_rule.specs.PlanValue.{PlanValue, columns_of}
+use Rattle.pk_copy.specs.declared.fault.KeyFault.{KeyFault}
+use Rattle.pk_copy.specs.declared.fault.KeyFault.TheVariants.{NullKey, BadKey}
+use Rattle.pk_copy.specs.FaultNumber.{number_of}
+use Rattle.pk_copy.specs.KeyValue.{KeyValue}
+use Rattle.pk_copy.specs.KeyOf.{key_cells, is_null, has_no_part, part_of, key_of}
+use Rattle.vevent.specs.Columns.{has_columns}
+use Rattle.source_feed.specs.declared.fault.FeedFault.{FeedFault}
+use Rattle.source_feed.specs.GroupValue.{Position}
 use Rattle.source_feed.specs.Planned.{FeedValue, PlannedGroupValue, PlannedChangeValue, IsFeed, IsChangeUnder}
-use Rattle.source_feed.specs.Touches.{group_at}
+use Rattle.source_feed.specs.Prepared.{IsTouchUnder, IsPrepared}
+use Rattle.source_feed.specs.Touches.{PutValue, TouchValue, group_at, in_group, key_in, passes_in, touches_before, touches_after, touches_of_change, touches_of}
+use Rattle.source_feed.proofs.PlanLaws.{All-append}
 
 pub group_at-place : (feed : FeedValue) (number : ℕ) → 0 < number → group_at feed number ≡ slice_get feed.groups (number - 1)
 group_at-place feed zero h = absurd (omega arith)
@@ -13,3 +28,104 @@ pub changes_under : (feed : FeedValue) (number : ℕ) (group : PlannedGroupValue
     → (j : ℕ) (change : PlannedChangeValue) → slice_get group.changes j ≡ Some change → IsChangeUnder feed.plan change
 changes_under feed zero group whole e j change at = cc
 changes_under feed (suc i) group whole e j change at = whole.changes i j group change (sym e) at
+
+-- ---- the touches under the plan
+
+-- the key of a row is of the row's table
+made-table : (null bad : Bool) (made key : KeyValue) → cond null (Err NullKey) (cond bad (Err BadKey) (Ok made)) ≡ Ok key → made ≡ key
+made-table true bad made key e = cc
+made-table false true made key e = cc
+made-table false false made key e = cc
+
+key_of-table : (plan : PlanValue) (t : ℕ) (row : List (Option (List ℕ))) (key : KeyValue) → key_of plan t row ≡ Ok key → t ≡ key.table
+key_of-table plan t row key e =
+    ap (λ (k : KeyValue). k.table)
+    (made-table (list_any is_null (key_cells plan t row)) (list_any has_no_part (key_cells plan t row)) (record { table = t; parts = filter_map part_of (key_cells plan t row) }) key e)
+
+key_in-table : (plan : PlanValue) (n t : ℕ) (row : List (Option (List ℕ))) (key : KeyValue) → key_in plan n t row ≡ Ok key → t ≡ key.table
+key_in-table plan n t row key e = key_of-table plan t row key (by (key_of plan t row) e)
+  where
+    by : (r : Result KeyValue KeyFault) → in_group number_of n t r ≡ Ok key → r ≡ Ok key
+    by (Ok made) e = cc
+    by (Err fault) e = cc
+
+module _ (plan : PlanValue) (n t : ℕ) (within : t < length plan.tables) where
+  before_under : (row : Option (List (Option (List ℕ)))) (touches : List TouchValue) → touches_before plan n t row ≡ Ok touches → AllByRecursion (IsTouchUnder plan) touches
+  before_under None touches e = let none : [] ≡ touches = cc in subst (AllByRecursion (IsTouchUnder plan)) none tt
+  before_under (Some row) touches e = by (key_in plan n t row) refl e
+    where
+      by : (r : Result KeyValue FeedFault) → key_in plan n t row ≡ r → ((r >>= λ key. Ok (key, None)) >>= λ touch. Ok (touch ∷ [])) ≡ Ok touches → AllByRecursion (IsTouchUnder plan) touches
+      by (Ok key) k e =
+          let one : (key, None) ∷ [] ≡ touches = cc in
+          subst (AllByRecursion (IsTouchUnder plan)) one (record { table = subst (λ m. m < length plan.tables) (key_in-table plan n t row key k) within; row = tt }, tt)
+      by (Err fault) k e = cc
+
+  after_under : (row : Option (List (Option (List ℕ)))) (touches : List TouchValue) → IsTrue (has_columns (length (columns_of plan t)) row) → touches_after plan n t row ≡ Ok touches
+      → AllByRecursion (IsTouchUnder plan) touches
+  after_under None touches wide e = let none : [] ≡ touches = cc in subst (AllByRecursion (IsTouchUnder plan)) none tt
+  after_under (Some row) touches wide e = by (key_in plan n t row) (passes_in plan n t row) refl e
+    where
+      by : (r : Result KeyValue FeedFault) (p : Result Bool FeedFault) → key_in plan n t row ≡ r
+          → ((r >>= λ key. p >>= λ passes. Ok (key, Some (record { row = row; passes = passes }))) >>= λ touch. Ok (touch ∷ [])) ≡ Ok touches → AllByRecursion (IsTouchUnder plan) touches
+      by (Ok key) (Ok passes) k e =
+          let same : t ≡ key.table = key_in-table plan n t row key k in
+          let width : length row ≡ length (columns_of plan t) = eqb-true (length row) (length (columns_of plan t)) wide in
+          let one : (key, Some (record { row = row; passes = passes })) ∷ [] ≡ touches = cc in
+          subst (AllByRecursion (IsTouchUnder plan)) one
+          (record { table = subst (λ m. m < length plan.tables) same within; row = subst (λ m. length row ≡ length (columns_of plan m)) same width }, tt)
+      by (Ok key) (Err fault) k e = cc
+      by (Err fault) p k e = cc
+
+-- all of two lists of touches, one behind the other
+both_under : (P : TouchValue → Type 0) (r s : Result (List TouchValue) FeedFault) (touches : List TouchValue)
+    → ((some : List TouchValue) → r ≡ Ok some → AllByRecursion P some) → ((others : List TouchValue) → s ≡ Ok others → AllByRecursion P others)
+    → (r >>= λ some. s >>= λ others. Ok (some ++ others)) ≡ Ok touches → AllByRecursion P touches
+both_under P (Ok some) (Ok others) touches first then e =
+    let all : some ++ others ≡ touches = cc in
+    subst (AllByRecursion P) all (All-append P some others (first some refl) (then others refl))
+both_under P (Ok some) (Err fault) touches first then e = cc
+both_under P (Err fault) s touches first then e = cc
+
+change_under : (plan : PlanValue) (n : ℕ) (change : PlannedChangeValue) (touches : List TouchValue) → IsChangeUnder plan change → touches_of_change plan n change ≡ Ok touches
+    → AllByRecursion (IsTouchUnder plan) touches
+change_under plan n change touches under e =
+    both_under (IsTouchUnder plan) (touches_before plan n change.table change.before) (touches_after plan n change.table change.after) touches
+    (λ removed. before_under plan n change.table under.table change.before removed) (λ put. after_under plan n change.table under.table change.after put under.after) e
+
+touches_under : (plan : PlanValue) (n : ℕ) (changes : List PlannedChangeValue) (touches : List TouchValue)
+    → ((j : ℕ) (change : PlannedChangeValue) → slice_get changes j ≡ Some change → IsChangeUnder plan change) → touches_of plan n changes ≡ Ok touches
+    → AllByRecursion (IsTouchUnder plan) touches
+touches_under plan n [] touches under e = let none : [] ≡ touches = cc in subst (AllByRecursion (IsTouchUnder plan)) none tt
+touches_under plan n (change ∷ later) touches under e =
+    both_under (IsTouchUnder plan) (touches_of_change plan n change) (touches_of plan n later) touches (λ some. change_under plan n change some (under 0 change refl))
+    (λ others. touches_under plan n later others (λ j. under (suc j))) e
+
+-- a group of a feed with its touches has what every such group has
+pub group_whole : (feed : FeedValue) (number : ℕ) (group : PlannedGroupValue) (touches : List TouchValue) → IsFeed feed → Some group ≡ group_at feed number
+    → touches_of feed.plan group.number group.changes ≡ Ok touches
+    → IsPrepared (record { plan = feed.plan; number = group.number; position = group.position; touches = touches })
+group_whole feed zero group touches whole at e = cc
+group_whole feed (suc i) group touches whole at e =
+    let numbered : group.number ≡ i + 1 = whole.order.numbered i group (sym at) in
+    let within : i < length feed.groups = slice_get_within feed.groups i group (sym at) in
+    let few : length feed.groups < 2 ^ 31 = whole.few in
+    record {
+      from_one = omega arith;
+      few = omega arith;
+      canonical = whole.order.canonical i group (sym at);
+      from_empty = whole.order.from_empty i group (sym at);
+      touches = touches_under feed.plan group.number group.changes touches (changes_under feed (suc i) group whole at) e;
+    }
+
+pub group_number : (feed : FeedValue) (number : ℕ) (group : PlannedGroupValue) → IsFeed feed → Some group ≡ group_at feed number → group.number ≡ number
+group_number feed zero group whole at = cc
+group_number feed (suc i) group whole at = let numbered : group.number ≡ i + 1 = whole.order.numbered i group (sym at) in omega arith
+
+-- the same of what a group was made of
+pub made_whole : (feed : FeedValue) (number : ℕ) (group : PlannedGroupValue) (plan asked : PlanValue) (n : ℕ) (position : Position) (touches : List TouchValue) → IsFeed feed
+    → Some group ≡ group_at feed number → plan ≡ feed.plan → asked ≡ feed.plan → n ≡ group.number → position ≡ group.position
+    → touches_of asked group.number group.changes ≡ Ok touches → IsPrepared (record { plan = plan; number = n; position = position; touches = touches })
+made_whole feed number group plan asked n position touches whole at same_plan same_asked same_number same_position e =
+    let made : IsPrepared (record { plan = feed.plan; number = group.number; position = group.position; touches = touches }) =
+    group_whole feed number group touches whole at (subst (λ p. touches_of p group.number group.changes ≡ Ok touches) same_asked e) in
+    subst IsPrepared (λ i. record { plan = sym same_plan i; number = sym same_number i; position = sym same_position i; touches = touches }) made

@@ -8,6 +8,7 @@ pub mod Grammar
 pub mod GroupOrder
 pub mod KeptBlocks
 pub mod Planned
+pub mod Prepared
 pub mod FirstFault
 pub mod Touches
 pub mod History

@@ -6,4 +6,5 @@ pub mod KeptChanges
 pub mod BlockEnd
 pub mod ReaderState
 pub mod TouchesBehind
+pub mod LeftRows
 pub mod ImageEntries

@@ -40,9 +40,8 @@ fn first_rows<'i, 'h>(
 
 impl<'h> Image<'h> {
     /// The first so many rows of table `t` past a key, or from the table's first key on where none is
-    /// given, by rising key. A table's rows past a key are found by halves, and no row of a later table is
-    /// looked at; without a key the rows of earlier tables are passed over. Takes memory for the answer and
-    /// for a key of several parts; an error is want of it.
+    /// given, by rising key. The first of them is found by halves, and no row of another table is passed
+    /// over. Takes memory for the answer and for a key of several parts; an error is want of it.
     pub fn chunk<'i>(
         &'i self,
         alloc: Global,
@@ -53,7 +52,8 @@ impl<'h> Image<'h> {
         ensures { IfOk result (λ found. map lent_row found.items ≡ chunk_of self.now t (option_copied after.entry) rows) }
     {
         let Some(key) = after else {
-            return first_rows(alloc, self.rows.iter(), t, rows);
+            let first = LentKey::first_of(alloc, t);
+            return first_rows(alloc, self.rows.scan(&first), t, rows);
         };
         let key = LentKey::from_view(alloc, key)?;
         first_rows(alloc, self.rows.scan_past(&key), t, rows)

@@ -6,6 +6,7 @@ ghost use Rattle.std.specs.Arc.{arc_value};
 ghost use Rattle.outcome.specs.Outcome.{GivesUnless};
 ghost use Rattle.source_feed.specs.FaultNumber.{meant_of};
 ghost use Rattle.source_feed.specs.Planned.{groups_under, IsFeed};
+ghost use Rattle.source_feed.specs.Prepared.{IsPrepared};
 ghost use Rattle.source_feed.specs.Touches.{group_at, prepared_at};
 
 use crate::fault::FeedFault;
@@ -88,19 +89,11 @@ impl<'h> Feed<'h> {
         &self.plan
     }
 
-    /// The groups, in order.
-    pub fn groups(&self) -> &[PlannedGroup<'h>]
-        ensures groups { result.now ≡ self.now.groups }
-        ensures whole { IsFeed self.now }
-    {
-        self.groups.as_slice()
-    }
-
     /// How many groups the feed has: fewer than 2^31.
     fn count(&self) -> u32
         ensures { result ≡ length self.now.groups }
     {
-        self.groups().len() as u32
+        self.groups.as_slice().len() as u32
     }
 
     /// The group of a number, from 1.
@@ -110,7 +103,7 @@ impl<'h> Feed<'h> {
         if number == 0 {
             return None;
         }
-        group_in(self.groups(), (number - 1) as usize)
+        group_in(&self.groups, (number - 1) as usize)
     }
 
     /// The group of a number, from 1, with its touches in order: in each change first the row before, whose
@@ -121,7 +114,10 @@ impl<'h> Feed<'h> {
     /// isn't sound, by the first row that has no key or no answer of the filter. Any other error is want of
     /// memory.
     pub fn prepare(&self, alloc: Global, number: u32) -> Result<Arc<Prepared<'h>>, FeedFault>
-        ensures { GivesUnless meant_of (λ prepared. arc_value prepared) result (prepared_at self.now number) }
+        ensures exact { GivesUnless meant_of (λ prepared. arc_value prepared) result (prepared_at self.now number) }
+        ensures number { IfOk result (λ prepared. (arc_value prepared).number ≡ number) }
+        // Each key is of a table of the plan, and each row that is put has that table's width.
+        ensures whole { IfOk result (λ prepared. IsPrepared (arc_value prepared)) }
     {
         let group = match self.group(number) {
             None => {

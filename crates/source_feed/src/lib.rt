@@ -26,6 +26,5 @@ pub use group::{Change, Group};
 pub use groups::{FEED_BYTES, read_groups};
 pub use image::Image;
 pub use laws::{blocks_are_a_grammar, groups_are_the_kept_blocks};
-pub use planned::{PlannedChange, PlannedGroup};
 pub use prepared::Prepared;
 pub use touch::{Put, Touch};

@@ -11,7 +11,7 @@ use crate::fault::FeedFault;
 use crate::group::{Change, Group};
 use filter_rule::Plan;
 use gtid_set::GtidSet;
-use row_view::{RowBytes, RowView};
+use row_view::RowBytes;
 use std::alloc::{AllocError, Global};
 use std::marker::Model;
 use std::sync::Arc;
@@ -20,7 +20,7 @@ use vevent::RowChange;
 /// A change of one row of a planned table, in 24 bytes: the table's number in the plan, and the slice of
 /// the row change. A view of a row is made when it is asked for.
 #[derive(Drop)]
-pub struct PlannedChange<'h> {
+pub(crate) struct PlannedChange<'h> {
     table: u8,
     rows: RowChange<'h>,
 }
@@ -35,7 +35,7 @@ impl<'h> Model for PlannedChange<'h> {
 
 impl<'h> PlannedChange<'h> {
     /// The number of the change's table in the plan.
-    pub fn table(&self) -> u8
+    pub(crate) fn table(&self) -> u8
         ensures { result ≡ self.now.table }
     {
         self.table
@@ -54,26 +54,12 @@ impl<'h> PlannedChange<'h> {
     {
         self.rows.after_bytes()
     }
-
-    /// The row before the change, or `None` for an insert. The view is made anew.
-    pub fn before(&self) -> Option<RowView<'h>>
-        ensures { result ≡ self.now.before }
-    {
-        self.rows.before()
-    }
-
-    /// The row after the change, or `None` for a delete. The view is made anew.
-    pub fn after(&self) -> Option<RowView<'h>>
-        ensures { result ≡ self.now.after }
-    {
-        self.rows.after()
-    }
 }
 
 /// A group of a feed under a plan, in 48 bytes: the changes of the plan's tables alone, of which a single
 /// one stands in its place. The position is shared.
 #[derive(Drop)]
-pub struct PlannedGroup<'h> {
+pub(crate) struct PlannedGroup<'h> {
     number: u32,
     position: Arc<GtidSet>,
     changes: Changes<'h>,
@@ -91,20 +77,13 @@ impl<'h> Model for PlannedGroup<'h> {
 
 impl<'h> PlannedGroup<'h> {
     /// The group's number in its feed, from 1.
-    pub fn number(&self) -> u32
+    pub(crate) fn number(&self) -> u32
         ensures { result ≡ self.now.number }
     {
         self.number
     }
 
-    /// The source's position after the group.
-    pub fn position(&self) -> &GtidSet
-        ensures { result.now ≡ self.now.position }
-    {
-        &self.position
-    }
-
-    /// The same, shared.
+    /// The source's position after the group, shared.
     pub(crate) fn shared_position(&self) -> &Arc<GtidSet>
         ensures { arc_value result.now ≡ self.now.position }
     {
@@ -112,7 +91,7 @@ impl<'h> PlannedGroup<'h> {
     }
 
     /// The group's changes, in the feed's order.
-    pub fn changes(&self) -> &[PlannedChange<'h>]
+    pub(crate) fn changes(&self) -> &[PlannedChange<'h>]
         ensures { result.now ≡ self.now.changes }
     {
         self.changes.as_slice()

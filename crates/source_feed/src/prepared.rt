@@ -1,11 +1,12 @@
 //! Groups as the steps of a target see them.
 
-ghost use Rattle.std.specs.Prelude.{◌≡◌};
+ghost use Rattle.std.specs.Prelude.{◌≡◌, ◌↔◌, IsTrue};
 ghost use Rattle.std.specs.Arc.{arc_value};
+ghost use Rattle.source_feed.specs.Prepared.{IsPrepared, IsSameGroup};
 
 use crate::touch::Touch;
 use filter_rule::Plan;
-use gtid_set::GtidSet;
+use gtid_set::{GtidSet, same_set_is_equality};
 use std::marker::Model;
 use std::sync::Arc;
 
@@ -21,11 +22,29 @@ pub struct Prepared<'h> {
 
 impl<'h> Model for Prepared<'h> {
     ghost use Rattle.std.specs.Arc.{arc_value};
+    ghost use Rattle.source_feed.specs.Prepared.{IsPrepared};
     ghost use Rattle.source_feed.specs.Touches.{PreparedValue};
 
     ghost Value = { PreparedValue };
 
     ghost view = { λ p. record { plan = arc_value p.plan; number = p.number; position = arc_value p.position; touches = p.touches.items } };
+
+    ghost invariant = { λ p. IsPrepared (record { plan = arc_value p.plan; number = p.number; position = arc_value p.position; touches = p.touches.items }) };
+}
+
+/// Whether two lists of touches are the same, touch by touch.
+fn are_same(one: &[Touch<'_>], other: &[Touch<'_>]) -> bool
+    ensures { IsTrue result ↔ (one.now ≡ other.now) }
+{
+    let mut touches = one.iter();
+    let mut others = other.iter();
+    loop {
+        match (touches.next(), others.next()) {
+            (None, None) => return true,
+            (Some(touch), Some(other)) if touch.same(other) => {}
+            _ => return false,
+        }
+    }
 }
 
 impl<'h> Prepared<'h> {
@@ -53,8 +72,21 @@ impl<'h> Prepared<'h> {
     /// The group's touches, in the order in which they are made. A later touch of a key goes over an
     /// earlier one.
     pub fn touches(&self) -> &[Touch<'h>]
-        ensures { result.now ≡ self.now.touches }
+        ensures touches { result.now ≡ self.now.touches }
+        // What is true of every group with its touches.
+        ensures whole { IsPrepared self.now }
     {
         self.touches.as_slice()
+    }
+
+    /// Whether the other is the same group: by number, position and touches, rows by their columns. The
+    /// plans aren't compared. Takes no memory, and time in the bytes of both.
+    pub fn same(&self, other: &Prepared<'_>) -> bool
+        ensures { IsTrue result ↔ IsSameGroup self.now other.now }
+    {
+        same_set_is_equality();
+        self.number == other.number
+            && self.position() == other.position()
+            && are_same(self.touches(), other.touches())
     }
 }

@@ -1,9 +1,9 @@
 //! What a group does to one key.
 
-ghost use Rattle.std.specs.Prelude.{◌≡◌, Some, None};
-ghost use Rattle.std.specs.Option.{option_copied};
+ghost use Rattle.std.specs.Prelude.{◌≡◌, ◌↔◌, IsTrue, Some, None};
+ghost use Rattle.source_feed.specs.Private.LeftRows.{left_value};
 
-use pk_copy::{KeyView, LentKey};
+use pk_copy::{KeyView, LentKey, keys_tie_where_they_are_equal};
 use row_view::{RowBytes, RowView};
 use std::marker::Model;
 
@@ -44,22 +44,69 @@ impl<'h> Put<'h> {
     {
         self.passes
     }
+
+    /// Whether the other puts the same row, by its columns, with the same answer of the filter. Takes no
+    /// memory.
+    fn same(&self, other: &Put<'_>) -> bool
+        ensures { IsTrue result ↔ (self.now ≡ other.now) }
+    {
+        self.passes == other.passes && self.row.same(&other.row)
+    }
 }
 
-/// A touch of a key by a group: a row is put there, or nothing is left there. The key and the row are lent
-/// from the feed's buffer.
+/// What a touch leaves at its key: nothing, a row that passes the plan's filter, or one that doesn't.
+#[derive(Drop)]
+pub(crate) enum Left<'h> {
+    Nothing,
+    Passing(RowBytes<'h>),
+    Failing(RowBytes<'h>),
+}
+
+impl<'h> Left<'h> {
+    /// The row, and whether it passes.
+    fn put(&self) -> Option<Put<'h>>
+        ensures { result ≡ left_value self.now }
+    {
+        match self {
+            Left::Nothing => None,
+            Left::Passing(row) => Some(Put {
+                row: row.copy(),
+                passes: true,
+            }),
+            Left::Failing(row) => Some(Put {
+                row: row.copy(),
+                passes: false,
+            }),
+        }
+    }
+}
+
+/// Whether two touches leave the same.
+fn are_same(one: Option<Put<'_>>, other: Option<Put<'_>>) -> bool
+    ensures { IsTrue result ↔ (one.entry ≡ other.entry) }
+{
+    match (one, other) {
+        (None, None) => true,
+        (Some(one), Some(other)) => one.same(&other),
+        _ => false,
+    }
+}
+
+/// A touch of a key by a group, in 64 bytes: a row is put there, or nothing is left there. The key and the
+/// row are lent from the feed's buffer.
 #[derive(Drop)]
 pub struct Touch<'h> {
     key: LentKey<'h>,
-    put: Option<Put<'h>>,
+    left: Left<'h>,
 }
 
 impl<'h> Model for Touch<'h> {
     ghost use Rattle.source_feed.specs.Touches.{TouchValue};
+    ghost use Rattle.source_feed.specs.Private.LeftRows.{left_value};
 
     ghost Value = { TouchValue };
 
-    ghost view = { λ t. (t.key, t.put) };
+    ghost view = { λ t. (t.key, left_value t.left) };
 }
 
 impl<'h> Touch<'h> {
@@ -67,17 +114,22 @@ impl<'h> Touch<'h> {
     pub(crate) fn removal(key: LentKey<'h>) -> Touch<'h>
         ensures { result ≡ (key.entry, None) }
     {
-        Touch { key, put: None }
+        Touch {
+            key,
+            left: Left::Nothing,
+        }
     }
 
     /// A row is put at the key.
     pub(crate) fn replacement(key: LentKey<'h>, row: RowBytes<'h>, passes: bool) -> Touch<'h>
         ensures { result ≡ (key.entry, Some (record { row = row.entry; passes = passes })) }
     {
-        Touch {
-            key,
-            put: Some(Put { row, passes }),
-        }
+        let left = if passes {
+            Left::Passing(row)
+        } else {
+            Left::Failing(row)
+        };
+        Touch { key, left }
     }
 
     /// The key.
@@ -94,10 +146,19 @@ impl<'h> Touch<'h> {
         self.key.view()
     }
 
-    /// The row that is put at the key, or `None` where nothing is left there.
-    pub fn put(&self) -> Option<&Put<'h>>
-        ensures { option_copied result ≡ self.now.1 }
+    /// The row that is put at the key, or `None` where nothing is left there. Reads nothing.
+    pub fn put(&self) -> Option<Put<'h>>
+        ensures { result ≡ self.now.1 }
     {
-        self.put.as_ref()
+        self.left.put()
+    }
+
+    /// Whether the other touches the same key and leaves the same there, rows by their columns. Takes no
+    /// memory.
+    pub(crate) fn same(&self, other: &Touch<'_>) -> bool
+        ensures { IsTrue result ↔ (self.now ≡ other.now) }
+    {
+        keys_tie_where_they_are_equal();
+        self.key == other.key && are_same(self.put(), other.put())
     }
 }

@@ -10,7 +10,7 @@ returns-clause-touched c =
       | in-Ok w ↦
           on-ok c.match-apply.result
           (image_after c.self.inside.rows.entries c.apply.new.self.entries c.in_ok-changes.changes.items c.args.group.now.touches c.touches.result.now c.args.self.now c.self.view_is
-          c.in_ok-changes.ensures c.touches.ensures c.self.invariant w.in-Ok.ensures.values)
+          c.in_ok-changes.ensures c.touches.ensures.touches c.self.invariant w.in-Ok.ensures.values)
       | in-Err-Memory w ↦ on-err _ c.match-apply.result _ w.result-is
     ]
 
@@ -23,7 +23,7 @@ returns-clause-kept c =
           kept-more history history n (n + 1) c.args.group.now c.args.self.now (rows_of c.apply.new.self.entries) (take-next history n c.args.group.now at)
           (rising-rows_of c.apply.new.self.entries w.in-Ok.ensures.rising)
           (image_after c.self.inside.rows.entries c.apply.new.self.entries c.in_ok-changes.changes.items c.args.group.now.touches c.touches.result.now c.args.self.now c.self.view_is
-          c.in_ok-changes.ensures c.touches.ensures c.self.invariant w.in-Ok.ensures.values)
+          c.in_ok-changes.ensures c.touches.ensures.touches c.self.invariant w.in-Ok.ensures.values)
           kept)
       | in-Err-Memory w ↦ on-err _ c.match-apply.result _ w.result-is
     ]
@@ -37,7 +37,7 @@ returns-clause-kept_on c =
           kept-more history (history ++ c.args.group.now ∷ []) (length history) (length history + 1) c.args.group.now c.args.self.now (rows_of c.apply.new.self.entries) (take-pushed history c.args.group.now)
           (rising-rows_of c.apply.new.self.entries w.in-Ok.ensures.rising)
           (image_after c.self.inside.rows.entries c.apply.new.self.entries c.in_ok-changes.changes.items c.args.group.now.touches c.touches.result.now c.args.self.now c.self.view_is
-          c.in_ok-changes.ensures c.touches.ensures c.self.invariant w.in-Ok.ensures.values)
+          c.in_ok-changes.ensures c.touches.ensures.touches c.self.invariant w.in-Ok.ensures.values)
           kept)
       | in-Err-Memory w ↦ on-err _ c.match-apply.result _ w.result-is
     ]
