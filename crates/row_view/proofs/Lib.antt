@@ -3,3 +3,4 @@ pub mod FoundLaws
 pub mod ColumnLaws
 pub mod RowLaws
 pub mod KeptLaws
+pub mod WrittenLaws

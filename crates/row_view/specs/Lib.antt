@@ -3,3 +3,4 @@ pub mod FaultNumber
 pub mod RowFields
 pub mod Row
 pub mod Private
+pub mod WrittenRow
