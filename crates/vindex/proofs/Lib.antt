@@ -1,5 +1,6 @@
 mod BoundLemmas
 mod NumberLemmas
 mod NumberTextLaws
+mod RangeAnswerLaws
 mod RangeLemmas
 mod TilingLemmas

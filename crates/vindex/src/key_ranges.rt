@@ -3,6 +3,7 @@
 ghost use Rattle.std.specs.Prelude.{◌≡◌, ◌⊎◌, ◌↔◌, Some, None, IfOk, IfErr, IsErrOf, IsSome, IsTrue};
 ghost use Rattle.std.specs.Option.{option_copied};
 ghost use Rattle.vindex.specs.Bounds.{Bounds, in_range, is_ordered};
+ghost use Rattle.vindex.specs.Private.RangeAnswers.{AnswersRange};
 ghost use Rattle.vindex.specs.RangeText.{key_range_of_text, IsRangeText};
 ghost use Rattle.vindex.specs.declared.faults.VindexFault.TheVariants.{BadRange, Memory};
 
@@ -35,13 +36,44 @@ impl Model for KeyRange {
     ghost invariant = { λ range. IsTrue (is_below (option_map (λ bytes. bytes.items) range.end) range.start.items) };
 }
 
+/// The range that a text writes. The text is judged before any memory is taken.
+#[tactic(auto, unfolding(crate::specs::RangeText::key_range_of_text))]
+fn range_of_text(alloc: Global, text: &str) -> Result<KeyRange, VindexFault>
+    ensures { AnswersRange result (key_range_of_text text.now) }
+{
+    if text == "0" {
+        return Ok(KeyRange {
+            start: Vec::new(alloc),
+            end: None,
+        });
+    }
+    let Some((start, end)) = text.split_once('-') else {
+        return Err(VindexFault::BadRange);
+    };
+    let (Some(start), Some(end)) = (BoundText::read(start), BoundText::read(end)) else {
+        return Err(VindexFault::BadRange);
+    };
+    if end.is_empty() {
+        let start = start.bytes(alloc)?;
+        return Ok(KeyRange { start, end: None });
+    }
+    if !start.is_before(&end) {
+        return Err(VindexFault::BadRange);
+    }
+    let start = start.bytes(alloc)?;
+    let end = end.bytes(alloc)?;
+    Ok(KeyRange {
+        start,
+        end: Some(end),
+    })
+}
+
 impl KeyRange {
     /// Reads `start-end`, each side an even number of hexadecimal digits of either case, or empty for
     /// open; `0` and `-` are the whole range. 00 bytes at the end of a bound are dropped first, so
     /// `80-00` is `80-`. `BadRange` is for every other text, also for one whose start isn't below the
     /// end that it gives, whatever memory there is: the text is judged before any is taken. `Memory`
     /// where the allocator gave none for the bounds of a key range.
-    #[tactic(auto, unfolding(crate::specs::RangeText::key_range_of_text))]
     pub fn parse(alloc: Global, text: &str) -> Result<KeyRange, VindexFault>
         ensures read { IfOk result (λ range. key_range_of_text text.now ≡ Some range) }
         ensures bad_range { IsErrOf result BadRange ↔ (key_range_of_text text.now ≡ None) }
@@ -53,31 +85,7 @@ impl KeyRange {
         ensures grammar { (bounds : Bounds)
             → (key_range_of_text text.now ≡ Some bounds) ↔ IsRangeText text.now bounds }
     {
-        if text == "0" {
-            return Ok(KeyRange {
-                start: Vec::new(alloc),
-                end: None,
-            });
-        }
-        let Some((start, end)) = text.split_once('-') else {
-            return Err(VindexFault::BadRange);
-        };
-        let (Some(start), Some(end)) = (BoundText::read(start), BoundText::read(end)) else {
-            return Err(VindexFault::BadRange);
-        };
-        if end.is_empty() {
-            let start = start.bytes(alloc)?;
-            return Ok(KeyRange { start, end: None });
-        }
-        if !start.is_before(&end) {
-            return Err(VindexFault::BadRange);
-        }
-        let start = start.bytes(alloc)?;
-        let end = end.bytes(alloc)?;
-        Ok(KeyRange {
-            start,
-            end: Some(end),
-        })
+        range_of_text(alloc, text)
     }
 
     /// A copy of the range.
