@@ -3,7 +3,7 @@ use Rattle.std.proofs.Common.{◌≡◌, ℕ, List, [], ◌∷◌, Bool, true, f
 use Rattle.serde_json.specs.Data.{Data}
 use Rattle.serde_json.specs.Find.{get, as_str}
 use Rattle.vindex.specs.KeyspaceId.{vindex_of_name}
-use Rattle.filter_rule.specs.Document.{found, member_in, text_of, list_of, text_in, list_in, two_of, pair_of, is_name, name_of, type_by, type_of, column_of, vindex_of, vindex_if, vindex_in, filter_if, filter_in, rule_of, stream_of, has_twice, distinct, table_of, document_of}
+use Rattle.filter_rule.specs.Document.{found, member_in, text_of, list_of, text_in, list_in, two_of, pair_of, is_name, name_of, type_by, type_of, column_of, vindex_of, vindex_if, vindex_in, filter_if, filter_in, rule_of, stream_of, has_twice, distinct, list_apart, table_of, document_of}
 use Rattle.filter_rule.specs.Faults.{Fault, shape, ◌>>=◌, each}
 use Rattle.filter_rule.proofs.RefusedSteps.{failed, same_fault}
 
@@ -99,14 +99,21 @@ stream_of_only d = then_only _ (text_in (codes "shard") d) (text_in_only (codes 
 distinct_only : (ss : List (List ℕ)) → ShapeOnly (distinct ss)
 distinct_only ss = if_only (has_twice ss) (Err shape) (Ok ss) (shape_only _ refl) (ok_only ss)
 
+list_apart_only : {A : Type 0} (title : A → List ℕ) (reads : Data → Result A Fault) (key : List ℕ) (d : Data) → ((x : Data) → ShapeOnly (reads x)) → ShapeOnly (list_apart title reads key d)
+unfolding list_apart
+list_apart_only title reads key d k =
+    then_only _ (list_in key d) (list_in_only key d) (λ values. then_only _ (each reads values) (each_only reads values k) (λ items. then_only _ (distinct (map title items)) (distinct_only (map title items)) (λ titles. ok_only items)))
+
 table_of_only : (d : Data) → ShapeOnly (table_of d)
 unfolding table_of
-table_of_only d = then_only _ (member_in (codes "name") d) (found_only _) (λ a. then_only _ (name_of a) (name_only a) (λ name. then_only _ (list_in (codes "columns") d) (list_in_only (codes "columns") d) (λ b. then_only _ (each column_of b) (each_only column_of b column_of_only) (λ columns.
-    then_only _ (list_in (codes "key") d) (list_in_only (codes "key") d) (λ c. then_only _ (each name_of c) (each_only name_of c name_only) (λ key. then_only _ (vindex_in d) (vindex_in_only d) (λ vindex. then_only _ (distinct (map (λ c. c.name) columns)) (distinct_only (map (λ c. c.name) columns)) (λ e. then_only _ (distinct key) (distinct_only key) (λ f.
-    ok_only (record { name = name; columns = columns; key = key; vindex = vindex }))))))))))
+table_of_only d = then_only _ (member_in (codes "name") d) (found_only _) (λ a. then_only _ (name_of a) (name_only a) (λ name. then_only _ (vindex_in d) (vindex_in_only d) (λ vindex.
+    then_only _ (list_apart (λ c. c.name) column_of (codes "columns") d) (list_apart_only (λ c. c.name) column_of (codes "columns") d column_of_only) (λ columns.
+    then_only _ (list_apart (λ n. n) name_of (codes "key") d) (list_apart_only (λ n. n) name_of (codes "key") d name_only) (λ key.
+    ok_only (record { name = name; columns = columns; key = key; vindex = vindex }))))))
 
 pub document_of_only : (d : Data) → ShapeOnly (document_of d)
 unfolding document_of
-document_of_only d = then_only _ (text_in (codes "keyspace") d) (text_in_only (codes "keyspace") d) (λ keyspace. then_only _ (list_in (codes "tables") d) (list_in_only (codes "tables") d) (λ a. then_only _ (each table_of a) (each_only table_of a table_of_only) (λ tables.
-    then_only _ (list_in (codes "streams") d) (list_in_only (codes "streams") d) (λ b. then_only _ (each stream_of b) (each_only stream_of b stream_of_only) (λ streams. then_only _ (distinct (map (λ t. t.name) tables)) (distinct_only (map (λ t. t.name) tables)) (λ c. then_only _ (distinct (map (λ s. s.shard) streams)) (distinct_only (map (λ s. s.shard) streams)) (λ e.
-    ok_only (record { keyspace = keyspace; tables = tables; streams = streams }))))))))
+document_of_only d = then_only _ (text_in (codes "keyspace") d) (text_in_only (codes "keyspace") d) (λ keyspace.
+    then_only _ (list_apart (λ t. t.name) table_of (codes "tables") d) (list_apart_only (λ t. t.name) table_of (codes "tables") d table_of_only) (λ tables.
+    then_only _ (list_apart (λ s. s.shard) stream_of (codes "streams") d) (list_apart_only (λ s. s.shard) stream_of (codes "streams") d stream_of_only) (λ streams.
+    ok_only (record { keyspace = keyspace; tables = tables; streams = streams }))))

@@ -13,7 +13,7 @@ use Rattle.std.proofs.lemmas.Slice.Eq.{bytes_eq-Decides}
 use Rattle.serde_json.specs.Data.{Data}
 use Rattle.vindex.specs.declared.vindexes.Vindex.{Vindex}
 use Rattle.filter_rule.specs.Private.Accepted.{IsAccepted}
-use Rattle.filter_rule.specs.Document.{RuleSaid, StreamSaid, TableSaid, DocumentSaid, member_in, text_in, list_in, name_of, column_of, vindex_in, stream_of, table_of, distinct, document_of}
+use Rattle.filter_rule.specs.Document.{RuleSaid, StreamSaid, TableSaid, DocumentSaid, member_in, text_in, list_in, name_of, column_of, vindex_in, stream_of, list_apart, table_of, distinct, document_of}
 use Rattle.filter_rule.specs.Faults.{Fault, key_type, limit, no_such_column, ◌>>=◌, each}
 use Rattle.filter_rule.specs.Limits.{is_up_to, is_table_within, is_within, within_limits}
 use Rattle.filter_rule.specs.PlanTable.{ColumnValue, TableValue}
@@ -27,20 +27,37 @@ use Rattle.filter_rule.proofs.StepLaws.{then_ok, read_as, same_ok, same_some, so
 abbrev pub HasDistinctNames : TableSaid → Type 0
 HasDistinctNames table = AreDistinct (map (λ (c : ColumnValue). c.name) table.columns) × AreDistinct table.key
 
+-- what some value says
+record IsSaid {A : Type 0} (reads : Data → Result A Fault) (said : A) : Type 0 where
+  item : Data
+  gives : reads item ≡ Ok said
+
+-- a list under texts of which none stands twice
+list_apart-Ok : {A : Type 0} (title : A → List ℕ) (reads : Data → Result A Fault) (key : List ℕ) (d : Data) (items : List A) → list_apart title reads key d ≡ Ok items → AreDistinct (map title items) × ((i : ℕ) (x : A) → slice_get items i ≡ Some x → IsSaid reads x)
+unfolding list_apart
+list_apart-Ok title reads key d items h =
+    then_ok _ (list_in key d) items h (λ values values_is h1.
+    then_ok _ (each reads values) items h1 (λ found found_is h2.
+    then_ok _ (distinct (map title found)) items h2 (λ titles titles_is h3.
+    subst (λ l. AreDistinct (map title l) × ((i : ℕ) (x : _) → slice_get l i ≡ Some x → IsSaid reads x)) (same_ok found items h3)
+    (distinct_apart (map title found) titles titles_is, λ i x x_is. let from = each_at reads values found found_is i x x_is in record { item = from.item; gives = from.gives }))))
+
+same_names : (names : List (List ℕ)) → map (λ n. n) names ≡ names
+same_names [] = refl
+same_names (n ∷ names) = ap (λ ns. n ∷ ns) (same_names names)
+
 table_names : (d : Data) (t : TableSaid) → table_of d ≡ Ok t → HasDistinctNames t
 unfolding table_of
 table_names d t h =
     then_ok _ (member_in (codes "name") d) t h (λ a a_is h1.
     then_ok _ (name_of a) t h1 (λ name name_is h2.
-    then_ok _ (list_in (codes "columns") d) t h2 (λ b b_is h3.
-    then_ok _ (each column_of b) t h3 (λ columns columns_is h4.
-    then_ok _ (list_in (codes "key") d) t h4 (λ c c_is h5.
-    then_ok _ (each name_of c) t h5 (λ key key_is h6.
-    then_ok _ (vindex_in d) t h6 (λ vindex vindex_is h7.
-    then_ok _ (distinct (map (λ (c : ColumnValue). c.name) columns)) t h7 (λ names names_is h8.
-    then_ok _ (distinct key) t h8 (λ keys keys_is h9.
-    subst HasDistinctNames (same_ok (record { name = name; columns = columns; key = key; vindex = vindex }) t h9)
-    (distinct_apart (map (λ (c : ColumnValue). c.name) columns) names names_is, distinct_apart key keys keys_is))))))))))
+    then_ok _ (vindex_in d) t h2 (λ vindex vindex_is h3.
+    then_ok _ (list_apart (λ (c : ColumnValue). c.name) column_of (codes "columns") d) t h3 (λ columns columns_is h4.
+    then_ok _ (list_apart (λ (n : List ℕ). n) name_of (codes "key") d) t h4 (λ key key_is h5.
+    subst HasDistinctNames (same_ok (record { name = name; columns = columns; key = key; vindex = vindex }) t h5) (
+      (list_apart-Ok (λ (c : ColumnValue). c.name) column_of (codes "columns") d columns columns_is).0,
+      subst AreDistinct (same_names key) (list_apart-Ok (λ (n : List ℕ). n) name_of (codes "key") d key key_is).0,
+    ))))))
 
 -- no name stands twice in a document where it mustn't
 pub record HasNames (document : DocumentSaid) : Type 0 where
@@ -52,18 +69,15 @@ pub document_names : (d : Data) (document : DocumentSaid) → document_of d ≡ 
 unfolding document_of
 document_names d document h =
     then_ok _ (text_in (codes "keyspace") d) document h (λ keyspace keyspace_is h1.
-    then_ok _ (list_in (codes "tables") d) document h1 (λ a a_is h2.
-    then_ok _ (each table_of a) document h2 (λ tables tables_is h3.
-    then_ok _ (list_in (codes "streams") d) document h3 (λ b b_is h4.
-    then_ok _ (each stream_of b) document h4 (λ streams streams_is h5.
-    then_ok _ (distinct (map (λ (t : TableSaid). t.name) tables)) document h5 (λ names names_is h6.
-    then_ok _ (distinct (map (λ (s : StreamSaid). s.shard) streams)) document h6 (λ shards shards_is h7.
-    subst HasNames (same_ok (record { keyspace = keyspace; tables = tables; streams = streams }) document h7)
+    then_ok _ (list_apart (λ (t : TableSaid). t.name) table_of (codes "tables") d) document h1 (λ tables tables_is h2.
+    then_ok _ (list_apart (λ (s : StreamSaid). s.shard) stream_of (codes "streams") d) document h2 (λ streams streams_is h3.
+    let apart = list_apart-Ok (λ (t : TableSaid). t.name) table_of (codes "tables") d tables tables_is in
+    subst HasNames (same_ok (record { keyspace = keyspace; tables = tables; streams = streams }) document h3)
     (record {
-      columns = λ i t t_is. let from = each_at table_of a tables tables_is i t t_is in table_names from.item t from.gives;
-      tables = distinct_apart (map (λ (t : TableSaid). t.name) tables) names names_is;
-      shards = distinct_apart (map (λ (s : StreamSaid). s.shard) streams) shards shards_is;
-    }))))))))
+      columns = λ i t t_is. let from = apart.1 i t t_is in table_names from.item t from.gives;
+      tables = apart.0;
+      shards = (list_apart-Ok (λ (s : StreamSaid). s.shard) stream_of (codes "streams") d streams streams_is).0;
+    }))))
 
 -- ---- what its counts say
 

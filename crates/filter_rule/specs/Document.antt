@@ -148,26 +148,29 @@ has_twice ss = repeats [] ss
 abbrev pub distinct : List (List ℕ) → Result (List (List ℕ)) Fault
 distinct ss = if has_twice ss then Err shape else Ok ss
 
+-- a member that is a list of values, each of which says something, under texts of which none stands
+-- twice
+unfoldable pub list_apart : {A : Type 0} → (A → List ℕ) → (Data → Result A Fault) → List ℕ → Data → Result (List A) Fault
+list_apart title reads key d = do
+  values ← list_in key d
+  items ← each reads values
+  titles ← distinct (map title items)
+  Ok items
+
+-- a table: its name, its columns as pairs, the names of its key columns and its vindex, if it has one
 unfoldable pub table_of : Data → Result TableSaid Fault
 table_of d = do
   name_d ← member_in (codes "name") d
   name ← name_of name_d
-  columns_d ← list_in (codes "columns") d
-  columns ← each column_of columns_d
-  key_d ← list_in (codes "key") d
-  key ← each name_of key_d
   vindex ← vindex_in d
-  names ← distinct (map (λ c. c.name) columns)
-  keys ← distinct key
+  columns ← list_apart (λ c. c.name) column_of (codes "columns") d
+  key ← list_apart (λ n. n) name_of (codes "key") d
   Ok (record { name = name; columns = columns; key = key; vindex = vindex })
 
+-- the whole file: its keyspace, tables and streams
 unfoldable pub document_of : Data → Result DocumentSaid Fault
 document_of d = do
   keyspace ← text_in (codes "keyspace") d
-  tables_d ← list_in (codes "tables") d
-  tables ← each table_of tables_d
-  streams_d ← list_in (codes "streams") d
-  streams ← each stream_of streams_d
-  names ← distinct (map (λ t. t.name) tables)
-  shards ← distinct (map (λ s. s.shard) streams)
+  tables ← list_apart (λ t. t.name) table_of (codes "tables") d
+  streams ← list_apart (λ s. s.shard) stream_of (codes "streams") d
   Ok (record { keyspace = keyspace; tables = tables; streams = streams })

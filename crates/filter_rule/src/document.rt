@@ -3,7 +3,7 @@
 ghost use Rattle.std.specs.Prelude.{◌≡◌, List, ℕ, Result, map};
 ghost use Rattle.serde_json.specs.View.{view};
 ghost use Rattle.filter_rule.specs.Faults.{Gives, each};
-ghost use Rattle.filter_rule.specs.Document.{type_of, column_of, vindex_of, vindex_in, filter_in, rule_of, stream_of, table_of, document_of};
+ghost use Rattle.filter_rule.specs.Document.{type_of, column_of, vindex_of, vindex_in, filter_in, rule_of, stream_of, list_apart, table_of, document_of};
 
 use crate::distinct::{Titled, check_distinct};
 use crate::fault::PlanFault;
@@ -40,6 +40,21 @@ pub(crate) fn each<'v, T: FromJson<'v> + Drop>(
         found.push(T::from_json(alloc, value)?)?;
     }
     Ok(found)
+}
+
+/// The values of a member that is a list, no two of them under the same text.
+#[tactic(auto, unfolding(crate::specs::Document::list_apart))]
+fn list_apart<'v, T: FromJson<'v> + Titled + Drop>(
+    alloc: Global,
+    value: &'v Value,
+    key: &str,
+) -> Result<Vec<T>, PlanFault>
+    ensures { Gives (λ v. v.items) result (list_apart T.title T.reads key.now (view value.now)) }
+{
+    let values = list_in(value, key)?;
+    let items = each(alloc, values)?;
+    check_distinct(alloc, &items)?;
+    Ok(items)
 }
 
 impl<'v> FromJson<'v> for Name<'v> {
@@ -247,11 +262,9 @@ impl<'v> FromJson<'v> for TableText<'v> {
     #[tactic(auto, unfolding(crate::specs::Document::table_of))]
     fn from_json(alloc: Global, value: &'v Value) -> Result<TableText<'v>, PlanFault> {
         let name = name_of(member(value, "name")?)?;
-        let columns: Vec<ColumnText<'v>> = each(alloc, list_in(value, "columns")?)?;
-        let key: Vec<Name<'v>> = each(alloc, list_in(value, "key")?)?;
         let vindex = vindex_in(value)?;
-        check_distinct(alloc, &columns)?;
-        check_distinct(alloc, &key)?;
+        let columns = list_apart(alloc, value, "columns")?;
+        let key = list_apart(alloc, value, "key")?;
         Ok(TableText {
             name,
             columns,
@@ -283,10 +296,8 @@ pub(crate) fn document_of(alloc: Global, value: &Value) -> Result<Document<'_>, 
     ensures { Gives (λ d. d) result (document_of (view value.now)) }
 {
     let keyspace = text_in(value, "keyspace")?;
-    let tables: Vec<TableText<'_>> = each(alloc, list_in(value, "tables")?)?;
-    let streams: Vec<StreamText<'_>> = each(alloc, list_in(value, "streams")?)?;
-    check_distinct(alloc, &tables)?;
-    check_distinct(alloc, &streams)?;
+    let tables = list_apart(alloc, value, "tables")?;
+    let streams = list_apart(alloc, value, "streams")?;
     Ok(Document {
         keyspace,
         tables,
