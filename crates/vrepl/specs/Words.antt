@@ -1,16 +1,97 @@
--- What the words of the command line ask for.
-use Rattle.std.specs.Prelude.{◌≡◌, ℕ, List, true, [], codes, unwrap_or}
-use Rattle.clap.specs.declared.parser.matches.Found.{Found}
-use Rattle.clap.specs.Words.{first_value}
-use Rattle.vrepl.specs.declared.words.Words.{Words}
-use Rattle.vrepl.specs.declared.words.Words.TheVariants.{Show}
+-- What the words of the command line ask for. `clap` reads words by its own rules; here are the program's
+-- command and what words mean under it (this profile).
+use Rattle.std.specs.Prelude.{Bool, true, false, List, [], ◌∷◌, map, find, Option, codes, option_map, option_and_then}
+use Rattle.std.specs.Str.{bytes_eq}
+use Rattle.clap.specs.Words.{App, Row, Rule, Shape, Text, fault_of, subcommand_of}
+use Rattle.clap.specs.Simple.{new_shape}
+use Rattle.clap.specs.Kinds.{Kinds}
+use Rattle.vrepl.specs.Arguments.{flag_rule, is_given, operand_rule, option_rule, text_given}
 
--- the words are `show --hex -`: a feed in hexadecimal text on standard input, with no keyspace or shard
-abbrev pub IsShowOfInput : Words → Type 0
-IsShowOfInput (Show words) =
-    (words.hex ≡ true) × (words.source.keyspace.now ≡ []) × (words.source.shard.now ≡ []) × (words.feed.now ≡ codes "-")
-IsShowOfInput other = ⊥
+-- `show`: a feed, whose it is, and whether it is hexadecimal text
+pub record ShowValue : Type 0 where
+  pub hex : Bool
+  pub keyspace : Text
+  pub shard : Text
+  pub feed : Text
 
--- the first text that is given under a name, or else another
-abbrev pub text_given : Found → List ℕ → List ℕ → List ℕ
-text_given given name missing = unwrap_or (first_value given name) missing
+-- `thin`: a table and a feed
+pub record ThinValue : Type 0 where
+  pub table : Text
+  pub feed : Text
+
+-- what words ask for
+pub data WordsValue : Type 0 where
+  asks_show : ShowValue → WordsValue
+  asks_thin : ThinValue → WordsValue
+
+-- a subcommand: its name, its arguments in their order, and what it asks for, by what is given to them
+pub record Subcommand : Type 0 where
+  pub name : Text
+  pub rules : List Rule
+  pub meaning : List Row → WordsValue
+
+-- what is given to the arguments of `show`
+abbrev pub show_given : List Row → ShowValue
+show_given given = record {
+  hex = is_given (codes "hex") given;
+  keyspace = text_given (codes "keyspace") given;
+  shard = text_given (codes "shard") given;
+  feed = text_given (codes "feed") given;
+}
+
+-- `show [--hex] [--keyspace TEXT] [--shard TEXT] FEED`
+abbrev pub show_subcommand : Subcommand
+show_subcommand = record {
+  name = codes "show";
+  rules = flag_rule (codes "hex") ∷ option_rule (codes "keyspace") ∷ option_rule (codes "shard") ∷ operand_rule (codes "feed") ∷ [];
+  meaning = λ given. asks_show (show_given given);
+}
+
+-- what is given to the arguments of `thin`
+abbrev pub thin_given : List Row → ThinValue
+thin_given given = record { table = text_given (codes "table") given; feed = text_given (codes "feed") given }
+
+-- `thin TABLE FEED`
+abbrev pub thin_subcommand : Subcommand
+thin_subcommand = record {
+  name = codes "thin";
+  rules = operand_rule (codes "table") ∷ operand_rule (codes "feed") ∷ [];
+  meaning = λ given. asks_thin (thin_given given);
+}
+
+-- the subcommands, in the order of the help
+abbrev pub subcommands : List Subcommand
+subcommands = show_subcommand ∷ thin_subcommand ∷ []
+
+-- a subcommand as `clap` sees it
+abbrev pub shape_of_subcommand : Subcommand → Shape
+shape_of_subcommand sub = record (new_shape sub.name) { rules = sub.rules }
+
+-- the program's command: the words behind its name are a subcommand's, and there is none called `help`
+unfoldable pub program_app : App
+program_app = record {
+  top = record (new_shape (codes "vrepl")) {
+    is_leaf = false;
+    no_binary_name = true;
+    subcommand_required = true;
+    disable_help_subcommand = true;
+  };
+  subs = map shape_of_subcommand subcommands;
+}
+
+-- what is asked for by the name of a subcommand and what is given to its arguments
+unfoldable pub asked_by : Option (Text × List Row) → Option WordsValue
+asked_by met = option_and_then (λ m. option_map (λ sub. sub.meaning m.1) (find (λ sub. bytes_eq m.0 sub.name) subcommands)) met
+
+-- no words are `show --hex -`: hexadecimal text on standard input
+abbrev pub spelled : List Text → List Text
+spelled [] = codes "show" ∷ codes "--hex" ∷ codes "-" ∷ []
+spelled (word ∷ words) = word ∷ words
+
+-- what the words ask for, where they are taken
+abbrev pub words_of : List Text → Option WordsValue
+words_of words = asked_by (subcommand_of program_app (spelled words))
+
+-- the faults that `clap` finds in the words, one of which its error has; none where they are taken
+abbrev pub faults_of : List Text → Kinds
+faults_of words = fault_of program_app (spelled words)

@@ -1,8 +1,11 @@
 //! The words of the command line, as `clap` reads them.
 
-ghost use Rattle.std.specs.Prelude.{◌≡◌, [], None, Some, true, false, IsOkAnd, codes};
-ghost use Rattle.clap.specs.Words.{found_of, one_text};
-ghost use Rattle.vrepl.specs.Words.{IsShowOfInput, text_given};
+ghost use Rattle.std.specs.Prelude.{◌≡◌, IfOk, Some, map, option_map, string_bytes};
+ghost use Rattle.clap.specs.Words.{FailsBy, found_of, rows_of, subcommand_rows_of};
+ghost use Rattle.vrepl.specs.Arguments.{flag_rule, is_given, operand_rule, option_rule, text_given};
+ghost use Rattle.vrepl.specs.Built.{HasApp, HasRule, IsSubcommand};
+ghost use Rattle.vrepl.specs.Meant.{show_value, thin_value, value_of};
+ghost use Rattle.vrepl.specs.Words.{asked_by, faults_of, program_app, show_given, show_subcommand, thin_given, thin_subcommand, words_of};
 
 use clap::error::ErrorKind;
 use clap::{Arg, ArgAction, ArgMatches, Command, Error};
@@ -40,9 +43,11 @@ pub struct Show<'w> {
 
 /// Reads the words that follow the program's name. Without any they are `show --hex -`.
 ///
-/// An error is a fault of usage (its status is 2), a request for help (0), or `OutOfMemory`.
+/// An error is a fault of usage (its status is 2), a request for help (0), or `OutOfMemory`. Words
+/// without a fault are read, unless memory runs out.
 pub fn read<'w>(alloc: Global, words: &'w [String]) -> Result<Words<'w>, Error>
-    ensures no_words { words.now ≡ [] → IsOkAnd result IsShowOfInput }
+    ensures read { IfOk result (λ read. words_of (map string_bytes words.now) ≡ Some (value_of read)) }
+    ensures refused { FailsBy (faults_of (map string_bytes words.now)) result }
 {
     if words.is_empty() {
         return Ok(Words::Show(Show {
@@ -56,10 +61,21 @@ pub fn read<'w>(alloc: Global, words: &'w [String]) -> Result<Words<'w>, Error>
     }
     let mut command = program(alloc)?;
     let matches = command.try_get_matches_from_mut(words)?;
-    match matches.subcommand() {
-        Some(("show", given)) => Ok(Words::Show(show_words(given))),
-        Some(("thin", given)) => Ok(Words::Thin(thin_words(given))),
-        _ => Err(command.error(ErrorKind::MissingSubcommand, "no subcommand was given")?),
+    match asked(&matches) {
+        Some(words) => Ok(words),
+        None => Err(command.error(ErrorKind::MissingSubcommand, "no subcommand was given")?),
+    }
+}
+
+/// What the subcommand that was met asks for.
+fn asked<'w>(matches: &ArgMatches<'w>) -> Option<Words<'w>>
+    ensures { option_map value_of result ≡ asked_by (subcommand_rows_of matches.now) }
+{
+    let (name, given) = matches.subcommand()?;
+    match name {
+        "show" => Some(Words::Show(show_words(given))),
+        "thin" => Some(Words::Thin(thin_words(given))),
+        _ => None,
     }
 }
 
@@ -80,7 +96,10 @@ Example:
   table t
   x31\tx6162";
 
-fn program<'w>(alloc: Global) -> Result<Command<'w>, AllocError> {
+/// The program: its words are those of a subcommand.
+fn program<'w>(alloc: Global) -> Result<Command<'w>, AllocError>
+    ensures { IfOk result (HasApp program_app) }
+{
     Command::new(alloc, "vrepl")
         .bin_name("vrepl")?
         .about("The target side of VReplication over recorded VStream feeds")
@@ -91,78 +110,91 @@ fn program<'w>(alloc: Global) -> Result<Command<'w>, AllocError> {
         .subcommand(thin_command(alloc)?)
 }
 
-fn show_command<'w>(alloc: Global) -> Result<Command<'w>, AllocError> {
+fn show_command<'w>(alloc: Global) -> Result<Command<'w>, AllocError>
+    ensures { IfOk result (IsSubcommand show_subcommand) }
+{
+    let feed_help = "The feed's file, or - for standard input";
     Command::new(alloc, "show")
         .about("Prints the transactions of a feed with their positions")
         .after_help(SHOW_EXAMPLE)
-        .arg(hex(alloc))?
-        .arg(text(alloc, "keyspace", "K", "The feed's keyspace"))?
-        .arg(text(alloc, "shard", "S", "The feed's shard, as --shard=-80"))?
-        .arg(
-            Arg::new(alloc, "feed")
-                .value_name("FEED")
-                .required(true)
-                .help("The feed's file, or - for standard input"),
-        )
+        .arg(flag(alloc, "hex", "Reads feeds as hexadecimal text"))?
+        .arg(option(alloc, "keyspace", "K", "The feed's keyspace"))?
+        .arg(option(alloc, "shard", "S", "The feed's shard, as --shard=-80"))?
+        .arg(operand(alloc, "feed", "FEED", feed_help))
 }
 
-fn thin_command<'w>(alloc: Global) -> Result<Command<'w>, AllocError> {
+fn thin_command<'w>(alloc: Global) -> Result<Command<'w>, AllocError>
+    ensures { IfOk result (IsSubcommand thin_subcommand) }
+{
     Command::new(alloc, "thin")
         .about("Takes the steps of a script on standard input over a feed and a table")
         .after_help(THIN_EXAMPLE)
-        .arg(
-            Arg::new(alloc, "table")
-                .value_name("TABLE")
-                .required(true)
-                .help("The table's name"),
-        )?
-        .arg(
-            Arg::new(alloc, "feed")
-                .value_name("FEED")
-                .required(true)
-                .help("The feed's file"),
-        )
+        .arg(operand(alloc, "table", "TABLE", "The table's name"))?
+        .arg(operand(alloc, "feed", "FEED", "The feed's file"))
 }
 
-/// `--hex`: feeds are hexadecimal text.
-fn hex<'w>(alloc: Global) -> Arg<'w> {
-    Arg::new(alloc, "hex")
-        .long("hex")
+/// `--name`.
+fn flag<'w>(alloc: Global, name: &'w str, help: &'w str) -> Arg<'w>
+    ensures { HasRule (flag_rule name.entry.now) result }
+{
+    Arg::new(alloc, name)
+        .long(name)
         .action(ArgAction::SetTrue)
-        .help("Reads feeds as hexadecimal text")
+        .help(help)
 }
 
-/// An option of one text.
-fn text<'w>(alloc: Global, name: &'w str, value: &'w str, help: &'w str) -> Arg<'w> {
+/// `--name TEXT`, which may be left out.
+fn option<'w>(alloc: Global, name: &'w str, value: &'w str, help: &'w str) -> Arg<'w>
+    ensures { HasRule (option_rule name.entry.now) result }
+{
     Arg::new(alloc, name)
         .long(name)
         .value_name(value)
         .help(help)
 }
 
+/// `TEXT` in its place, which has to be there.
+fn operand<'w>(alloc: Global, name: &'w str, value: &'w str, help: &'w str) -> Arg<'w>
+    ensures { HasRule (operand_rule name.entry.now) result }
+{
+    Arg::new(alloc, name)
+        .value_name(value)
+        .required(true)
+        .help(help)
+}
+
 fn show_words<'w>(given: &ArgMatches<'w>) -> Show<'w>
-    ensures hex { one_text (found_of given.now) (codes "hex") ≡ Some (codes "true") → result.hex ≡ true }
-    ensures bytes { one_text (found_of given.now) (codes "hex") ≡ None → result.hex ≡ false }
-    ensures keyspace { result.source.keyspace.now ≡ text_given (found_of given.now) (codes "keyspace") [] }
-    ensures shard { result.source.shard.now ≡ text_given (found_of given.now) (codes "shard") [] }
-    ensures feed { result.feed.now ≡ text_given (found_of given.now) (codes "feed") (codes "-") }
+    ensures { show_value result ≡ show_given (rows_of (found_of given.now)) }
 {
     Show {
-        hex: given.get_flag("hex"),
+        hex: has_flag(given, "hex"),
         source: Source {
-            keyspace: given.get_str("keyspace").unwrap_or(""),
-            shard: given.get_str("shard").unwrap_or(""),
+            keyspace: text(given, "keyspace"),
+            shard: text(given, "shard"),
         },
-        feed: given.get_str("feed").unwrap_or("-"),
+        feed: text(given, "feed"),
     }
 }
 
 fn thin_words<'w>(given: &ArgMatches<'w>) -> Thin<'w>
-    ensures table { result.table.now ≡ text_given (found_of given.now) (codes "table") [] }
-    ensures feed { result.feed.now ≡ text_given (found_of given.now) (codes "feed") [] }
+    ensures { thin_value result ≡ thin_given (rows_of (found_of given.now)) }
 {
     Thin {
-        table: given.get_str("table").unwrap_or(""),
-        feed: given.get_str("feed").unwrap_or(""),
+        table: text(given, "table"),
+        feed: text(given, "feed"),
     }
+}
+
+/// A flag was given.
+fn has_flag(given: &ArgMatches<'_>, name: &str) -> bool
+    ensures { result ≡ is_given name.now (rows_of (found_of given.now)) }
+{
+    given.get_one::<bool>(name).unwrap_or(false)
+}
+
+/// The text that was given, or the empty one.
+fn text<'w>(given: &ArgMatches<'w>, name: &str) -> &'w str
+    ensures { result.now ≡ text_given name.now (rows_of (found_of given.now)) }
+{
+    given.get_str(name).unwrap_or("")
 }
