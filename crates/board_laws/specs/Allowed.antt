@@ -1,5 +1,5 @@
 -- What a stream's own state says of a step: that it may be made, or why not.
-use Rattle.std.specs.Prelude.{◌≡◌, ◌≢◌, ◌⊎◌, ℕ, ◌+◌, ◌-◌, ◌≤◌, List, [], length, Option, Some, Err, IsOk, slice_get}
+use Rattle.std.specs.Prelude.{◌≡◌, ◌≢◌, ◌⊎◌, ◌+◌, ◌-◌, ◌≤◌, List, [], length, Some, Err, IsOk, slice_get}
 use Rattle.std.specs.Option.{option_map_or}
 use Rattle.stream_core.specs.declared.refusal.CoreRefusal.{CoreRefusal}
 use Rattle.stream_core.specs.StepTable.{decided}
@@ -8,7 +8,7 @@ use Rattle.source_feed.specs.GroupValue.{Position}
 use Rattle.source_feed.specs.Touches.{PreparedValue}
 use Rattle.board_laws.specs.Meaning.{State}
 use Rattle.board_laws.specs.Lawful.{standing_of}
-use Rattle.board_laws.specs.Event.{Event, offer, advance, open_at, copy_rows, close, restart, step_of}
+use Rattle.board_laws.specs.Event.{Event, offer, step_of}
 
 -- ---- an offered group and the groups that are read
 

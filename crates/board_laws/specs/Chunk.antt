@@ -1,6 +1,6 @@
 -- A chunk of rows: what a copy of up to c rows takes out of the first table that isn't done (Vitess
 -- 'VReplication', the copy phase).
-use Rattle.std.specs.Prelude.{ℕ, ◌-◌, Bool, List, length, take, nat_le, Option, None, slice_get, if◌then◌else◌}
+use Rattle.std.specs.Prelude.{ℕ, ◌-◌, Bool, length, take, nat_le, None, slice_get, if◌then◌else◌}
 use Rattle.std.specs.List.{filter}
 use Rattle.std.specs.Option.{option_map_or}
 use Rattle.pk_copy.specs.Marks.{Marks, is_past, moved_to, next_table}

@@ -22,3 +22,8 @@ step_of (open_at m) = OpenAt m
 step_of (copy_rows c) = CopyRows c
 step_of close = Close
 step_of restart = Restart
+
+-- a fact of the group that is offered, where one is
+abbrev pub OnOffer : (PreparedValue → Type 0) → Event → Type 0
+OnOffer P (offer group) = P group
+OnOffer P event = Unit {0}

@@ -1,5 +1,5 @@
 -- What is true of every board: the headline of a target (this profile).
-use Rattle.std.specs.Prelude.{◌≡◌, ℕ, ◌≤◌, List, [], length, Option, Some, None, slice_get}
+use Rattle.std.specs.Prelude.{◌≡◌, ℕ, ◌≤◌, List, [], length, Some, None, slice_get}
 use Rattle.filter_rule.specs.PlanValue.{PlanValue}
 use Rattle.pk_copy.specs.KeyOrder.{key_cmp}
 use Rattle.pk_copy.specs.KeyValue.{KeyValue}
@@ -8,6 +8,7 @@ use Rattle.stream_core.specs.Standing.{Standing, IsSound}
 use Rattle.target_tables.specs.Contents.{value_at}
 use Rattle.target_tables.specs.Rising.{IsRising}
 use Rattle.source_feed.specs.GroupOrder.{AreInOrder}
+use Rattle.source_feed.specs.Prepared.{IsPrepared}
 use Rattle.source_feed.specs.Touches.{PreparedValue}
 use Rattle.board_laws.specs.Meaning.{State, Meaning}
 use Rattle.board_laws.specs.Cut.{cut_in, own_row}
@@ -34,9 +35,10 @@ standing_of state = record {
   snapshot = state.snapshot;
 }
 
--- groups that are read one after another from the first: they are of one plan and numbered 1, 2, .., and
--- their positions grow from the empty set
+-- groups that are read one after another from the first: each is one that a feed prepares, of this plan, and
+-- they are numbered 1, 2, .., and their positions grow from the empty set
 pub record IsReadList (plan : PlanValue) (list : List PreparedValue) : Type 0 where
+  pub prepared : (i : ℕ) (group : PreparedValue) → slice_get list i ≡ Some group → IsPrepared group
   pub planned : (i : ℕ) (group : PreparedValue) → slice_get list i ≡ Some group → group.plan ≡ plan
   pub order : AreInOrder (λ (group : PreparedValue). group.number) (λ (group : PreparedValue). group.position) list
 

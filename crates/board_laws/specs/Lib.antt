@@ -5,7 +5,9 @@ pub mod Lawful
 pub mod Event
 pub mod Chunk
 pub mod StateAfter
+pub mod Touching
 pub mod Allowed
 pub mod Refusals
 pub mod Step
 pub mod Runs
+pub mod Laws

@@ -1,5 +1,5 @@
 -- What a step answers, and the state that it leaves, where it isn't refused.
-use Rattle.std.specs.Prelude.{ℕ, ◌+◌, List, [], ◌∷◌, ◌++◌, length, take, nat_le, Option, Some, None, if◌then◌else◌}
+use Rattle.std.specs.Prelude.{◌+◌, [], ◌∷◌, ◌++◌, length, take, nat_le, Some, None, if◌then◌else◌}
 use Rattle.board_laws.specs.declared.answer.Answer.{Answer}
 use Rattle.board_laws.specs.declared.answer.Answer.TheVariants.{Offered, Applied, Opened, Copied, Closed, Restarted}
 use Rattle.board_laws.specs.declared.answer.Offered.TheVariants.{Read, Repeat}

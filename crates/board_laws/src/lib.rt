@@ -3,7 +3,12 @@
 #![tactic(auto)]
 
 mod answer;
+mod laws;
 mod refusal;
 
 pub use answer::{Answer, Copied, Offered};
+pub use laws::{
+    chunks_are_of_the_rows_left, fresh_boards_are_lawful, kept_rows_are_one_list,
+    steps_keep_boards_lawful,
+};
 pub use refusal::Refusal;

@@ -1,0 +1,10 @@
+pub mod Lists
+pub mod Lookups
+pub mod Owning
+pub mod KeptList
+pub mod Chunks
+pub mod History
+pub mod Sound
+pub mod CutAfter
+pub mod Making
+pub mod Fresh

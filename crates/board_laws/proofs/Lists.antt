@@ -1,0 +1,86 @@
+-- Places of a list behind a push, a write and a cut.
+use Rattle.std.proofs.Common.{◌≡◌, ◌≢◌, ℕ, zero, suc, ◌-◌, ◌<◌, ◌≤◌, ◌⊎◌, inl, inr, List, [], ◌∷◌, ◌++◌, length, take, Some, None, slice_get, set, refl, sym, ap, ◌∙◌, arith}
+use Rattle.std.proofs.lemmas.Option.{same_Some}
+
+-- ---- a push
+
+-- an element is one of the others or the last
+pub slice_get-push : {A : Type 0} (xs : List A) (x y : A) (i : ℕ) → slice_get (xs ++ x ∷ []) i ≡ Some y
+    → ((i < length xs) × (slice_get xs i ≡ Some y)) ⊎ ((i ≡ length xs) × (x ≡ y))
+slice_get-push [] x y zero e = inr (refl, same_Some x y e)
+slice_get-push [] x y (suc i) e = cc
+slice_get-push (z ∷ xs) x y zero e = inl (omega arith, e)
+slice_get-push (z ∷ xs) x y (suc i) e =
+    elim (slice_get-push xs x y i e) [
+      | inl old ↦ inl (omega (arith, old.0), old.1)
+      | inr last ↦ inr (ap suc last.0, last.1)
+    ]
+
+-- ---- a write
+
+-- what stands at the place of a write, or at another
+pub slice_get-set : {A : Type 0} (xs : List A) (s : ℕ) (x y : A) (i : ℕ) → slice_get (set xs s x) i ≡ Some y → ((i ≡ s) × (x ≡ y)) ⊎ ((i ≢ s) × (slice_get xs i ≡ Some y))
+slice_get-set [] s x y i e = cc
+slice_get-set (z ∷ xs) zero x y zero e = inl (refl, same_Some x y e)
+slice_get-set (z ∷ xs) zero x y (suc i) e = inr (omega arith, e)
+slice_get-set (z ∷ xs) (suc s) x y zero e = inr (omega arith, e)
+slice_get-set (z ∷ xs) (suc s) x y (suc i) e =
+    elim (slice_get-set xs s x y i e) [
+      | inl here ↦ inl (ap suc here.0, here.1)
+      | inr other ↦ inr (let ne : i ≢ s = other.0 in omega arith, other.1)
+    ]
+
+pub slice_get-set_same : {A : Type 0} (xs : List A) (s : ℕ) (x y : A) → slice_get xs s ≡ Some y → slice_get (set xs s x) s ≡ Some x
+slice_get-set_same [] s x y e = cc
+slice_get-set_same (z ∷ xs) zero x y e = refl
+slice_get-set_same (z ∷ xs) (suc s) x y e = slice_get-set_same xs s x y e
+
+pub slice_get-set_other : {A : Type 0} (xs : List A) (s : ℕ) (x : A) (i : ℕ) → i ≢ s → slice_get (set xs s x) i ≡ slice_get xs i
+slice_get-set_other [] s x i ne = refl
+slice_get-set_other (z ∷ xs) zero x zero ne = absurd (ne refl)
+slice_get-set_other (z ∷ xs) zero x (suc i) ne = refl
+slice_get-set_other (z ∷ xs) (suc s) x zero ne = refl
+slice_get-set_other (z ∷ xs) (suc s) x (suc i) ne = slice_get-set_other xs s x i (λ e. ne (ap suc e))
+
+-- ---- a cut
+
+-- an element of a front is one of the list
+pub slice_get-take : {A : Type 0} (n : ℕ) (xs : List A) (i : ℕ) (x : A) → slice_get (take n xs) i ≡ Some x → slice_get xs i ≡ Some x
+slice_get-take zero xs i x e = cc
+slice_get-take (suc n) [] i x e = cc
+slice_get-take (suc n) (y ∷ xs) zero x e = e
+slice_get-take (suc n) (y ∷ xs) (suc i) x e = slice_get-take n xs i x e
+
+-- a front of a front
+pub take-take : {A : Type 0} (n : ℕ) (xs : List A) → take n (take n xs) ≡ take n xs
+take-take zero xs = refl
+take-take (suc n) [] = refl
+take-take {A} (suc n) (x ∷ xs) = ap (λ (ys : List A). x ∷ ys) (take-take n xs)
+
+-- fewer of a front
+pub take-fewer : {A : Type 0} (m n : ℕ) (xs : List A) → m ≤ n → take m (take n xs) ≡ take m xs
+take-fewer zero n xs h = refl
+take-fewer (suc m) zero xs h = absurd (omega arith)
+take-fewer (suc m) (suc n) [] h = refl
+take-fewer {A} (suc m) (suc n) (x ∷ xs) h = ap (λ (ys : List A). x ∷ ys) (take-fewer m n xs (omega arith))
+
+-- ---- the last element
+
+-- a list with a last element is the rest and that one
+pub parts_of_last : {A : Type 0} (xs : List A) (x : A) → slice_get xs (length xs - 1) ≡ Some x → (front : List A) × (xs ≡ front ++ x ∷ [])
+parts_of_last [] x e = cc
+parts_of_last {A} (y ∷ []) x e = ([], ap (λ (z : A). z ∷ []) (same_Some y x e))
+parts_of_last {A} (y ∷ z ∷ xs) x e =
+    let place : length (y ∷ z ∷ xs) - 1 ≡ suc (length (z ∷ xs) - 1) = omega arith in
+    let there : slice_get (z ∷ xs) (length (z ∷ xs) - 1) ≡ Some x = sym (ap (λ (i : ℕ). slice_get (y ∷ z ∷ xs) i) place) ∙ e in
+    let rest : (front : List A) × (z ∷ xs ≡ front ++ x ∷ []) = parts_of_last (z ∷ xs) x there in
+    (y ∷ rest.0, ap (λ (ys : List A). y ∷ ys) rest.1)
+
+-- a list without a last element is empty
+pub empty_without_last : {A : Type 0} (xs : List A) → slice_get xs (length xs - 1) ≡ None → xs ≡ []
+empty_without_last [] e = refl
+empty_without_last (y ∷ []) e = cc
+empty_without_last (y ∷ z ∷ xs) e =
+    let place : length (y ∷ z ∷ xs) - 1 ≡ suc (length (z ∷ xs) - 1) = omega arith in
+    let rest : z ∷ xs ≡ [] = empty_without_last (z ∷ xs) (sym (ap (slice_get (y ∷ z ∷ xs)) place) ∙ e) in
+    cc
