@@ -1,1 +1,3 @@
 mod RowsLaws
+mod PrintLaws
+mod TableLaws

@@ -1,1 +1,5 @@
 pub mod RowsValue
+pub mod Printing
+pub mod Cells
+pub mod Dump
+pub mod Private

@@ -1,7 +1,17 @@
 //! Rows by key, their dump and its printing.
 #![tactic(auto)]
 
+mod cells;
+mod dump;
+mod gathered;
+mod out;
 mod places;
+mod put;
 mod rows;
 
+pub use cells::{add_cell, add_cells};
+pub use dump::write_dump;
+pub use gathered::Gathered;
+pub use out::{Out, OutFailed, Writer};
+pub use put::put_all;
 pub use rows::Rows;

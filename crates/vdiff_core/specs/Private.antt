@@ -1,0 +1,3 @@
+-- What private code alone needs.
+pub mod Progress
+pub mod Tables

@@ -1,0 +1,95 @@
+//! The dump of rows: all tables of a plan as text.
+
+ghost use Rattle.std.specs.Prelude.{◌≡◌, ◌∷◌, ◌==◌, not, position};
+ghost use Rattle.pk_copy.specs.KeyOrder.{key_cmp};
+ghost use Rattle.target_tables.specs.Rising.{IsRising};
+ghost use Rattle.vdiff_core.specs.Dump.{row_line, row_lines, table_line, table_lines, dump_of};
+ghost use Rattle.vdiff_core.specs.Printing.{Prints, Adds};
+
+use crate::cells::{add_cell, add_cells};
+use crate::gathered::Gathered;
+use crate::out::{Out, OutFailed};
+use crate::rows::Rows;
+use filter_rule::{Plan, Table};
+use pk_copy::Key;
+use row_view::{Columns, RowBuf};
+
+/// Writes the dump of the rows: for each table in the plan's order the line `table NAME`, then its rows
+/// by key, one a line, the cells parted by one tab; a cell is `x` and the value in lower case
+/// hexadecimal, or `N` for NULL. It is written in pieces of up to 4 KiB. After a fault, which comes only
+/// of a write that failed in this call, what was written is a beginning of the dump. Takes no memory.
+pub fn write_dump<O: Out>(out: &mut O, plan: &Plan, rows: &Rows) -> Result<(), OutFailed>
+    ensures { Prints result (O.written out.old) (O.written out.new) (dump_of plan.now rows.now) }
+{
+    let mut text = Gathered::new();
+    add_tables(out, &mut text, plan.tables(), rows.as_slice())?;
+    text.finish(out)
+}
+
+/// Adds the tables, each with its rows.
+fn add_tables<O: Out>(
+    out: &mut O,
+    text: &mut Gathered,
+    tables: &[Table],
+    rows: &[(Key, RowBuf)],
+) -> Result<(), OutFailed>
+    requires { IsRising key_cmp rows.now }
+    ensures { Adds result (O.written out.old) text.old (O.written out.new) text.new (table_lines 0 tables.now rows.now) }
+{
+    let mut rest = rows;
+    for t in 0..tables.len() {
+        add_table_line(out, text, tables[t].name())?;
+        let (here, behind) = rest.split_at(place_of_other(rest, t).unwrap_or(rest.len()));
+        add_rows(out, text, here)?;
+        rest = behind;
+    }
+    Ok(())
+}
+
+/// The place of the first row that isn't of table `t`.
+fn place_of_other(rows: &[(Key, RowBuf)], t: usize) -> Option<usize>
+    ensures { result ≡ position (λ row. not (row.0.table == t)) rows.now }
+{
+    rows.iter().position(|row| usize::from(row.0.table()) != t)
+}
+
+/// Adds the line of a table's name.
+fn add_table_line<O: Out>(out: &mut O, text: &mut Gathered, name: &str) -> Result<(), OutFailed>
+    ensures { Adds result (O.written out.old) text.old (O.written out.new) text.new (table_line name.now) }
+{
+    text.put(out, b"table ")?;
+    text.put(out, name.as_bytes())?;
+    text.put(out, b"\n")
+}
+
+/// Adds the lines of rows.
+fn add_rows<O: Out>(
+    out: &mut O,
+    text: &mut Gathered,
+    rows: &[(Key, RowBuf)],
+) -> Result<(), OutFailed>
+    ensures { Adds result (O.written out.old) text.old (O.written out.new) text.new (row_lines rows.now) }
+{
+    for pair in rows {
+        add_row(out, text, pair.1.columns())?;
+    }
+    Ok(())
+}
+
+/// Adds the line of a row.
+fn add_row<O: Out>(
+    out: &mut O,
+    text: &mut Gathered,
+    mut columns: Columns<'_>,
+) -> Result<(), OutFailed>
+    ensures { Adds result (O.written out.old) text.old (O.written out.new) text.new (row_line columns.entry) }
+{
+    match columns.next() {
+        None => text.put(out, b"\n"),
+        Some(first) => {
+            add_cell(out, text, &first)?;
+            add_cells(out, text, columns)?;
+            text.put(out, b"\n")
+        }
+    }
+}
