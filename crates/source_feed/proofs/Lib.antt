@@ -11,5 +11,6 @@ pub mod DefinedLaws
 pub mod KeptLaws
 pub mod PlanLaws
 pub mod PreparedLaws
+pub mod SoundLaws
 pub mod ImageLaws
 pub mod ChunkLaws

@@ -11,6 +11,7 @@ pub mod Planned
 pub mod Prepared
 pub mod FirstFault
 pub mod Touches
+pub mod Sound
 pub mod History
 pub mod Image
 pub mod Private

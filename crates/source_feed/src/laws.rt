@@ -1,6 +1,10 @@
 //! Laws of groups, each the contract of a function without a body: they hold of the words that the
-//! contract of `read_groups` is written in.
+//! contracts of `read_groups` and `Feed::prepare` are written in.
 
+ghost use Rattle.std.specs.Prelude.{ℕ, List};
+ghost use Rattle.filter_rule.specs.PlanValue.{PlanValue};
+ghost use Rattle.source_feed.specs.Planned.{PlannedChangeValue};
+ghost use Rattle.source_feed.specs.Sound.{TouchesByChange};
 ghost use Rattle.source_feed.specs.SourceValue.{SourceValue};
 ghost use Rattle.source_feed.specs.PastEvents.{PastEvents};
 ghost use Rattle.source_feed.specs.Grammar.{BlockGrammar};
@@ -11,6 +15,14 @@ ghost use Rattle.source_feed.specs.KeptBlocks.{AreKeptBlocks};
 /// without changes, and what is ignored is nothing. Columns stay as they were but for a FIELD.
 pub fn blocks_are_a_grammar()
     ensures { (source : SourceValue) → BlockGrammar source }
+{}
+
+/// The touches of a group are those of its changes, one change after another: what the row before leaves,
+/// and behind it what the row after puts. A group that isn't sound is refused by the first change whose
+/// row has no key or no answer of the filter, every change before it being sound, and in this change by
+/// the first cause: the row before has no key, the row after has none, the filter has no answer.
+pub fn touches_are_those_of_the_changes()
+    ensures { (plan : PlanValue) (group : ℕ) (changes : List PlannedChangeValue) → TouchesByChange plan group changes }
 {}
 
 /// The groups are the blocks that are kept, block by block: a block is a group exactly where its

@@ -25,6 +25,8 @@ pub use feed::Feed;
 pub use group::{Change, Group};
 pub use groups::{FEED_BYTES, read_groups};
 pub use image::Image;
-pub use laws::{blocks_are_a_grammar, groups_are_the_kept_blocks};
+pub use laws::{
+    blocks_are_a_grammar, groups_are_the_kept_blocks, touches_are_those_of_the_changes,
+};
 pub use prepared::Prepared;
 pub use touch::{Put, Touch};
