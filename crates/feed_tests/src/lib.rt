@@ -2,10 +2,16 @@
 #![tactic(auto)]
 
 #[cfg(test)]
+mod feeds;
+#[cfg(test)]
 mod groups;
+#[cfg(test)]
+mod image;
 #[cfg(test)]
 mod positions;
 #[cfg(test)]
 mod prepared;
+#[cfg(test)]
+mod random;
 #[cfg(test)]
 mod refusals;
