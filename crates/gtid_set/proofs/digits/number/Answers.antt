@@ -1,3 +1,4 @@
+use Rattle.std.proofs.lemmas.Grind.{common_steps}
 use Rattle.std.proofs.Common.{◌<◌, ◌≤◌, ◌+◌, ◌-◌, ◌*◌, ℕ, arith, get_or}
 use Rattle.gtid_set.specs.Position.{last_number}
 use Rattle.gtid_set.proofs.DigitLaws.{over}
@@ -12,3 +13,6 @@ returns-then-number-digit c =
     let range : (48 ≤ b) × (b ≤ 57) = digit.cases in
     let beyond : last_number < c.loop-byte.number * 10 + (b - 48) = omega (arith, c.from-digit.ensures, c.if-number-digit.true, range.0, range.1) in
     over c.args.low c.loop-byte.number text k c.loop-byte-test.true c.loop-byte.invariant.number range.0 range.1 beyond
+
+pub loop-byte-preserved : goal.loop-byte-preserved
+loop-byte-preserved c = grind (arith, common_steps)
