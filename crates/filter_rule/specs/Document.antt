@@ -16,6 +16,7 @@ pub record RuleSaid : Type 0 where
   pub matches : List ℕ
   pub filter : List ℕ
 
+-- a stream: its shard and its rules in order
 pub record StreamSaid : Type 0 where
   pub shard : List ℕ
   pub rules : List RuleSaid
@@ -27,6 +28,7 @@ pub record TableSaid : Type 0 where
   pub key : List (List ℕ)
   pub vindex : Option (List ℕ × Vindex)
 
+-- the whole file
 pub record DocumentSaid : Type 0 where
   pub keyspace : List ℕ
   pub tables : List TableSaid
@@ -34,25 +36,32 @@ pub record DocumentSaid : Type 0 where
 
 -- ---- values and members
 
+-- the values of a list
 abbrev pub listed : Items → List Data
 listed no_items = []
 listed (item d ds) = d ∷ listed ds
 
+-- what is there, or the fault of the shape
 abbrev pub found : {A : Type 0} → Option A → Result A Fault
 found o = ok_or o shape
 
+-- the member of an object under a key
 abbrev pub member_in : List ℕ → Data → Result Data Fault
 member_in key d = found (get key d)
 
+-- the text that a value is
 abbrev pub text_of : Data → Result (List ℕ) Fault
 text_of d = found (as_str d)
 
+-- the values of the list that a value is
 abbrev pub list_of : Data → Result (List Data) Fault
 list_of d = found (option_map listed (as_array d))
 
+-- a member that is a text
 unfoldable pub text_in : List ℕ → Data → Result (List ℕ) Fault
 text_in key d = member_in key d >>= text_of
 
+-- a member that is a list
 unfoldable pub list_in : List ℕ → Data → Result (List Data) Fault
 list_in key d = member_in key d >>= list_of
 
@@ -63,6 +72,7 @@ two_of (a ∷ []) = Err shape
 two_of (a ∷ b ∷ []) = Ok (a, b)
 two_of (a ∷ b ∷ c ∷ ds) = Err shape
 
+-- a value that is a list of just two
 unfoldable pub pair_of : Data → Result (Data × Data) Fault
 pair_of d = list_of d >>= two_of
 
@@ -76,9 +86,11 @@ is_fit b = nat_le 32 b && not (b == 127)
 abbrev pub is_name : List ℕ → Bool
 is_name s = nat_lt 0 (length s) && nat_le (length s) 256 && list_all is_fit s
 
+-- a value that is a name
 unfoldable pub name_of : Data → Result (List ℕ) Fault
 name_of d = text_of d >>= λ s. if is_name s then Ok s else Err shape
 
+-- a number below 2^32
 abbrev pub small : ℕ → Option ℕ
 small n = if nat_lt n (2 ^ 32) then Some n else None
 
@@ -87,6 +99,7 @@ abbrev pub type_by : Option (List ℕ) → Data → Result ℕ Fault
 type_by (Some name) d = found (type_of_name name)
 type_by None d = found (option_and_then small (option_and_then as_u64 (as_number d)))
 
+-- a type by its name or its number
 unfoldable pub type_of : Data → Result ℕ Fault
 type_of d = type_by (as_str d) d
 
@@ -107,26 +120,32 @@ vindex_of d = do
   vindex ← found (vindex_of_name name)
   Ok (column, vindex)
 
+-- no vindex where no member is
 abbrev pub vindex_if : Option Data → Result (Option (List ℕ × Vindex)) Fault
 vindex_if None = Ok None
 vindex_if (Some d) = vindex_of d >>= λ v. Ok (Some v)
 
+-- the vindex of a table, if it has one
 unfoldable pub vindex_in : Data → Result (Option (List ℕ × Vindex)) Fault
 vindex_in d = vindex_if (get (codes "vindex") d)
 
+-- an absent filter is the empty text
 abbrev pub filter_if : Option Data → Result (List ℕ) Fault
 filter_if None = Ok []
 filter_if (Some d) = text_of d
 
+-- the filter of a rule
 unfoldable pub filter_in : Data → Result (List ℕ) Fault
 filter_in d = filter_if (get (codes "filter") d)
 
+-- a rule: its `match`, and its `filter` if there is one
 unfoldable pub rule_of : Data → Result RuleSaid Fault
 rule_of d = do
   matches ← text_in (codes "match") d
   filter ← filter_in d
   Ok (record { matches = matches; filter = filter })
 
+-- a stream: its shard, and the rules of its filter
 unfoldable pub stream_of : Data → Result StreamSaid Fault
 stream_of d = do
   shard ← text_in (codes "shard") d

@@ -55,10 +55,13 @@ plans_of_document d = do
   tables ← each resolved d.tables
   plans_from d.keyspace tables 0 d.streams
 
--- the plans that a text says, one a stream, or its first fault
-unfoldable pub plans_of : List ℕ → Result (List PlanValue) Fault
-plans_of text = do
-  value ← json_of text
+-- the plans that a JSON value says
+abbrev pub plans_of_value : Data → Result (List PlanValue) Fault
+plans_of_value value = do
   document ← document_of value
   within ← within_limits document
   plans_of_document within
+
+-- the plans that a text says, one a stream, or its first fault
+unfoldable pub plans_of : List ℕ → Result (List PlanValue) Fault
+plans_of text = json_of text >>= plans_of_value

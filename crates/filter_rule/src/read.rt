@@ -10,7 +10,7 @@ ghost use Rattle.filter_rule.specs.Streams.{FollowStreams};
 ghost use Rattle.filter_rule.specs.WellFormed.{AreTables, ArePlans};
 ghost use Rattle.filter_rule.specs.PlanValue.{PlanValue};
 ghost use Rattle.filter_rule.specs.Resolving.{resolved};
-ghost use Rattle.filter_rule.specs.Reading.{json_of, plan_of, plans_from, plans_of_document, plans_of, IsNoJson};
+ghost use Rattle.filter_rule.specs.Reading.{json_of, plan_of, plans_from, plans_of_document, plans_of_value, plans_of, IsNoJson};
 ghost use Rattle.serde_json.specs.View.{view};
 
 use crate::document::{Document, StreamText, TableText, document_of};
@@ -95,14 +95,22 @@ fn plans_of_document(alloc: Global, document: &Document<'_>) -> Result<Vec<Arc<P
     plans_from(alloc, &schema, &document.streams)
 }
 
+/// The plans of the file's JSON value.
+fn plans_of_value(alloc: Global, value: &Value) -> Result<Vec<Arc<Plan>>, PlanFault>
+    ensures { Gives (λ v. map arc_value v.items) result (plans_of_value (view value.now)) }
+{
+    let said = document_of(alloc, value)?;
+    let document = within_limits(said)?;
+    plans_of_document(alloc, &document)
+}
+
+/// The plans of the file's text.
 #[tactic(auto, unfolding(crate::specs::Reading::plans_of))]
 fn plans_of(alloc: Global, text: &[u8]) -> Result<Vec<Arc<Plan>>, PlanFault>
     ensures { Gives (λ v. map arc_value v.items) result (plans_of text.now) }
 {
     let value = json_of(alloc, text)?;
-    let said = document_of(alloc, &value)?;
-    let document = within_limits(said)?;
-    plans_of_document(alloc, &document)
+    plans_of_value(alloc, &value)
 }
 
 impl Plan {
