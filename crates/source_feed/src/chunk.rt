@@ -3,6 +3,7 @@
 ghost use Rattle.std.specs.Prelude.{◌≡◌, IfOk, map};
 ghost use Rattle.std.specs.Option.{option_copied};
 ghost use Rattle.pk_copy.specs.KeyOrder.{key_cmp};
+ghost use Rattle.target_tables.specs.Contents.{past_key};
 ghost use Rattle.target_tables.specs.Rising.{IsRising};
 ghost use Rattle.source_feed.specs.Image.{chunk_of, lent_row};
 ghost use Rattle.source_feed.specs.Private.ImageEntries.{first_of};
@@ -11,7 +12,7 @@ use crate::image::Image;
 use pk_copy::{KeyView, LentKey};
 use row_view::RowBytes;
 use std::alloc::{AllocError, Global};
-use target_tables::Scan;
+use target_tables::{Scan, Tables};
 
 /// The first rows of a table among entries. Stops at the first key of a later table.
 fn first_rows<'i, 'h>(
@@ -38,6 +39,17 @@ fn first_rows<'i, 'h>(
     Ok(found)
 }
 
+/// The entries past a key, by rising key. The key's own isn't among them.
+fn entries_past<'i, 'h>(
+    rows: &'i Tables<LentKey<'h>, RowBytes<'h>>,
+    key: &LentKey<'h>,
+) -> Scan<'i, LentKey<'h>, RowBytes<'h>>
+    ensures entries { result ≡ past_key key_cmp rows.now.entries key.now }
+    ensures rising { IsRising key_cmp rows.now.entries }
+{
+    rows.scan_past(key)
+}
+
 impl<'h> Image<'h> {
     /// The first so many rows of table `t` past a key, or from the table's first key on where none is
     /// given, by rising key. The first of them is found by halves, and no row of another table is passed
@@ -56,6 +68,6 @@ impl<'h> Image<'h> {
             return first_rows(alloc, self.rows.scan(&first), t, rows);
         };
         let key = LentKey::from_view(alloc, key)?;
-        first_rows(alloc, self.rows.scan_past(&key), t, rows)
+        first_rows(alloc, entries_past(&self.rows, &key), t, rows)
     }
 }

@@ -5,13 +5,13 @@ use Rattle.source_feed.proofs.ChunkLaws.{rising-past, chunk-answer, rising-least
 use Rattle.source_feed.proofs.image.Image.chunk.Goals as goal
 
 pub first_rows-requires-2 : goal.first_rows-requires-2
-first_rows-requires-2 c = rising-past c.self.inside.rows.entries c.scan_past.result c.in_ok-key.key c.scan_past.ensures.entries c.scan_past.ensures.rising
+first_rows-requires-2 c = rising-past c.self.inside.rows.entries c.entries_past.result c.in_ok-key.key c.entries_past.ensures.entries c.entries_past.ensures.rising
 
 pub returns : goal.returns
 returns c =
     subst (λ (rows : ImageRows). IfOk c.first_rows-2.result (λ found. map lent_row found.items ≡ rows))
-    (chunk-answer c.self.inside.rows.entries c.scan_past.result c.in_ok-key.key c.in-Some.key.now (option_copied c.args.after) c.args.self.now c.args.t c.args.rows
-    c.scan_past.ensures.entries c.in_ok-key.ensures (ap option_copied c.in-Some.is) c.self.view_is)
+    (chunk-answer c.self.inside.rows.entries c.entries_past.result c.in_ok-key.key c.in-Some.key.now (option_copied c.args.after) c.args.self.now c.args.t c.args.rows
+    c.entries_past.ensures.entries c.in_ok-key.ensures (ap option_copied c.in-Some.is) c.self.view_is)
     c.first_rows-2.ensures
 
 pub first_rows-requires : goal.first_rows-requires
