@@ -1,4 +1,5 @@
-use Rattle.std.proofs.Common.{◌/◌, eqb, length, ap, arith}
+use Rattle.std.proofs.lemmas.Grind.{common_steps}
+use Rattle.std.proofs.Common.{◌/◌, eqb, length, ap, arith, rules}
 use Rattle.std.proofs.lemmas.List.{take_all}
 use Rattle.std.specs.List.{suffix_len}
 use Rattle.vindex.specs.BoundDigits.{bytes_of_pairs}
@@ -21,3 +22,9 @@ returns-else-byte_at-eq0-clause-within c = omega (arith, length-bytes_of_pairs c
 
 pub returns-after-loop-len-clause-within : goal.returns-after-loop-len-clause-within
 returns-after-loop-len-clause-within c = omega (arith, length-bytes_of_pairs c.args.digits.now, c.loop-len.invariant.0)
+
+pub returns-after-loop-len-clause-len : goal.returns-after-loop-len-clause-len
+returns-after-loop-len-clause-len c = search rules
+
+pub returns-else-byte_at-eq0-clause-len : goal.returns-else-byte_at-eq0-clause-len
+returns-else-byte_at-eq0-clause-len c = grind (arith, common_steps)
