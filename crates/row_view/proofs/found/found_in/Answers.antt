@@ -1,4 +1,4 @@
-use Rattle.std.proofs.Common.{◌∙◌}
+use Rattle.std.proofs.Common.{◌∙◌, rules}
 use Rattle.row_view.proofs.CountLaws.{Counts-append}
 use Rattle.row_view.proofs.FoundLaws.{fault_of-next, last_of-past}
 use Rattle.row_view.proofs.found.found_in.Goals as goal
@@ -12,3 +12,6 @@ loop-field-preserved c =
       values = last_of-past _ _ _ _ _ next.0 c.in_default-part.ensures ∙ c.loop-field.invariant.values;
       counted = λ new rest. c.loop-field.invariant.counted new (rw next.0 (Counts-append _ _ put.1 rest));
     }
+
+pub returns : goal.returns
+returns c = search rules
