@@ -75,8 +75,3 @@ module _ {K R : Type 0} {cmp : K → K → Ordering} (o : IsTotalOrder cmp) wher
     -- how many new keys are left
     pub new_left : new_keys cmp now (left ++ x ∷ []) ≡ new_keys cmp next left + cond (is_new x.1 (value_at cmp now x.0)) 1 0
     new_left = new_keys-push cmp now left x ∙ ap (λ n. n + cond (is_new x.1 (value_at cmp now x.0)) 1 0) (sym (new_elsewhere left greater))
-
--- touches that leave the same at each key
-pub touched_alike : {K R : Type 0} (cmp : K → K → Ordering) (old : List (K × (ℕ × R))) (stream : ℕ) (t u : K → Option (Option R)) (new : List (K × (ℕ × R)))
-    → ((k : K) → t k ≡ u k) → IsTouched cmp old stream t new → IsTouched cmp old stream u new
-touched_alike {K} {R} cmp old stream t u new same h = λ k. h k ∙ ap (λ (v : Option (Option R)). touched stream v (value_at cmp old k)) (same k)

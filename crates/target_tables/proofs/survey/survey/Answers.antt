@@ -1,5 +1,6 @@
-use Rattle.std.proofs.Common.{◌≡◌, ℕ, ◌+◌, ◌-◌, ◌<◌, length, drop, sym, subst, ◌∙◌, arith}
+use Rattle.std.proofs.Common.{◌≡◌, ℕ, ◌+◌, ◌-◌, ◌<◌, length, drop, sym, subst, ◌∙◌, arith, refl}
 use Rattle.std.specs.List.{AllByRecursion}
+use Rattle.std.proofs.Math.Seq.{drop-length}
 use Rattle.target_tables.specs.Touches.{new_keys}
 use Rattle.target_tables.specs.Kept.{IsFree}
 use Rattle.target_tables.proofs.Judging.{clash_here}
@@ -21,3 +22,6 @@ returns-clause-ok g c =
     let P : ℕ → Type 0 = λ p. (c.loop-place.count ≡ new_keys g.K.Ord.cmp c.args.entries.now (drop p c.args.changes.now)) × AllByRecursion (IsFree g.K.Ord.cmp c.args.entries.now c.args.stream) (drop p c.args.changes.now) in
     let none : c.loop-place.place ≡ 0 = omega arith in
     subst P none (c.loop-place.invariant.1, c.loop-place.invariant.2)
+
+pub loop-place-init : goal.loop-place-init
+loop-place-init g c = rw (drop-length c.args.changes.now) (omega arith, refl, tt)

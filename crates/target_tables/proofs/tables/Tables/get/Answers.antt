@@ -19,3 +19,6 @@ returns-in-Err g c =
     let gap : IsGap g.K.Ord.cmp c.self.inside.entries.items c.args.key.now c.in-Err.field-0 = subst P c.deref.ensures.value c.in-Err.ensures in
     sym (none_here g.met.K.Ord.total c.self.inside.entries.items c.args.key.now c.in-Err.field-0 c.self.invariant gap)
     ∙ ap (λ (v : Contents g.row.K.Denot g.row.R.Denot). value_at g.K.Ord.cmp v.entries c.args.key.now) c.self.view_is
+
+pub place_of-requires : goal.place_of-requires
+place_of-requires g c = rw c.deref.ensures.value c.self.invariant

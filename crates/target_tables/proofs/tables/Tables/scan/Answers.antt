@@ -25,3 +25,6 @@ returns-in-Err-clause-entries g c =
     c.new-in-Err.ensures ∙ take_rest c.in-Err.place c.deref-in-Err.result.now ∙ ap (λ (es : List (g.row.K.Denot × (ℕ × g.row.R.Denot))). drop c.in-Err.place es) c.deref-in-Err.ensures.value
     ∙ sym (from_gap g.met.K.Ord.total c.self.inside.entries.items c.args.from.now c.in-Err.place gap)
     ∙ ap (λ (v : Contents g.row.K.Denot g.row.R.Denot). from_key g.K.Ord.cmp v.entries c.args.from.now) c.self.view_is
+
+pub place_of-requires : goal.place_of-requires
+place_of-requires g c = rw c.deref.ensures.value c.self.invariant

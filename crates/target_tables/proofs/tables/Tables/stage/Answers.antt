@@ -32,3 +32,6 @@ returns-in_ok-reserve-in-Ok-clause-ready g c =
       clear = free_everywhere g.met.K.Ord.total now c.args.stream changes h.1;
       room = omega arith;
     }
+
+pub survey-requires : goal.survey-requires
+survey-requires g c = rw c.deref.ensures.value c.self.invariant
