@@ -1,4 +1,4 @@
-use Rattle.std.proofs.Common.{◌≡◌, ◌∙◌, ℕ, ap, sym, ◌<◌, [], ◌∷◌, ◌++◌, length, get_or, drop, false}
+use Rattle.std.proofs.Common.{◌≡◌, ◌∙◌, ℕ, ap, sym, ◌<◌, [], ◌∷◌, ◌++◌, length, get_or, drop, false, rules}
 use Rattle.std.proofs.lemmas.List.{drop_all}
 use Rattle.std.specs.Prelude.{Option, Some, None}
 use Rattle.vrepl_main.specs.HexText.{digit_of, digits_of, is_skipped, paired}
@@ -50,3 +50,18 @@ returns-in-Some-high-2-clause-bad c =
     ∙ ap (λ h. after bytes (paired (waiting h ++ digits_of (drop c.loop-character.character-index c.args.text.now)))) c.in-Some-high-2.is
     ∙ ap (λ xs. after bytes (paired (Some high ∷ digits_of xs))) rest
     ∙ end-left_over bytes high
+
+pub returns-in-None-high-clause-bad : goal.returns-in-None-high-clause-bad
+returns-in-None-high-clause-bad c = search rules
+
+pub returns-in-Some-high-2-clause-value : goal.returns-in-Some-high-2-clause-value
+returns-in-Some-high-2-clause-value c = search rules
+
+pub returns-in_default-clause-value : goal.returns-in_default-clause-value
+returns-in_default-clause-value c = search rules
+
+pub returns-in_err-push-in-Some-high-clause-bad : goal.returns-in_err-push-in-Some-high-clause-bad
+returns-in_err-push-in-Some-high-clause-bad c = search rules
+
+pub returns-in_err-push-in-Some-high-clause-value : goal.returns-in_err-push-in-Some-high-clause-value
+returns-in_err-push-in-Some-high-clause-value c = search rules

@@ -19,3 +19,12 @@ loop-write-preserved g c = elim c.match-write.branch [
 
 pub returns-then-is_empty : goal.returns-then-is_empty
 returns-then-is_empty g c = ends _ _ _ _ (drop_of_length-le c.loop-write.rest.now {i = 0} (search rules)) c.loop-write.invariant
+
+pub returns : goal.returns
+returns g c = search rules
+
+pub returns-in-Ok-eq0 : goal.returns-in-Ok-eq0
+returns-in-Ok-eq0 g c = search rules
+
+pub returns-then-ne : goal.returns-then-ne
+returns-then-ne g c = search rules

@@ -1,0 +1,20 @@
+use Rattle.std.proofs.Common.{rules}
+use Rattle.vrepl_main.proofs.refusal.Refusal.number.Goals as goal
+
+pub returns-in-BadHex : goal.returns-in-BadHex
+returns-in-BadHex c = search rules
+
+pub returns-in-BadScript : goal.returns-in-BadScript
+returns-in-BadScript c = search rules
+
+pub returns-in-CannotRead : goal.returns-in-CannotRead
+returns-in-CannotRead c = search rules
+
+pub returns-in-CannotWrite : goal.returns-in-CannotWrite
+returns-in-CannotWrite c = search rules
+
+pub returns-in-Feed : goal.returns-in-Feed
+returns-in-Feed c = search rules
+
+pub returns-in-Memory : goal.returns-in-Memory
+returns-in-Memory c = search rules
