@@ -11,10 +11,6 @@ with_front front r = r >>= λ ys. Ok (front ++ ys)
 abbrev pub rest_of_each : {A B : Type 0} → (A → Result B Fault) → List B → List A → Result (List B) Fault
 rest_of_each f front xs = with_front front (each f xs)
 
-pub front_none : {A : Type 0} (r : Result (List A) Fault) → with_front [] r ≡ r
-front_none (Ok ys) = refl
-front_none (Err e) = refl
-
 pub front_more : {A : Type 0} (front : List A) (y : A) (r : Result (List A) Fault) → with_front front (r >>= λ ys. Ok (y ∷ ys)) ≡ with_front (front ++ y ∷ []) r
 front_more front y (Ok ys) = ap Ok (sym (append_assoc front (y ∷ []) ys))
 front_more front y (Err e) = refl
@@ -30,10 +26,6 @@ rest_fault f front x xs e h = rw h refl
 pub append_none : {A : Type 0} (s : List A) → s ++ [] ≡ s
 append_none [] = refl
 append_none (x ∷ s) = ap (λ r. x ∷ r) (append_none s)
-
--- no item is left
-pub rest_end : {A B : Type 0} (f : A → Result B Fault) (front : List B) → rest_of_each f front [] ≡ Ok front
-rest_end f front = ap Ok (append_none front)
 
 pub map_drop_at : {A B : Type 0} (v : A → B) (xs : List A) (i : ℕ) (d : A) → i < length xs → drop i (map v xs) ≡ v (get_or xs i d) ∷ drop (i + 1) (map v xs)
 map_drop_at v [] i d h = absurd (omega arith)
@@ -65,20 +57,6 @@ pub drop_at : {A : Type 0} (xs : List A) (i : ℕ) (d : A) → i < length xs →
 drop_at [] i d h = absurd (omega arith)
 drop_at (x ∷ xs) zero d h = refl
 drop_at (x ∷ xs) (suc i) d h = let e : suc i + 1 ≡ suc (i + 1) = omega arith in rw e (drop_at xs i d (omega arith))
-
--- the same over a list as it is
-pub plain_turn : {A B : Type 0} (f : A → Result B Fault) (xs : List A) (i : ℕ) (d : A) (front grown : List B) (y : B) (whole : Result (List B) Fault)
-    → i < length xs → d ≡ get_or xs i d → f d ≡ Ok y → grown ≡ front ++ y ∷ [] → rest_of_each f front (drop i xs) ≡ whole → rest_of_each f grown (drop (i + 1) xs) ≡ whole
-plain_turn f xs i d front grown y whole within item ok more so_far =
-    rw more (sym (rest_step f front d (drop (i + 1) xs) y ok)
-    ∙ ap (λ x. rest_of_each f front (x ∷ drop (i + 1) xs)) item
-    ∙ ap (rest_of_each f front) (sym (drop_at xs i d within)) ∙ so_far)
-
-pub plain_fault : {A B : Type 0} (f : A → Result B Fault) (xs : List A) (i : ℕ) (d : A) (front : List B) (whole : Result (List B) Fault)
-    → i < length xs → d ≡ get_or xs i d → rest_of_each f front (drop i xs) ≡ whole → (e : Fault) → f d ≡ Err e → whole ≡ Err e
-plain_fault f xs i d front whole within item so_far e is =
-    sym so_far ∙ ap (rest_of_each f front) (drop_at xs i d within)
-    ∙ ap (λ x. rest_of_each f front (x ∷ drop (i + 1) xs)) (sym item) ∙ rest_fault f front d (drop (i + 1) xs) e is
 
 -- what is wrong with a part is wrong with the whole
 pub fails_along : {Y Z : Type 0} (e : PlanFault) (r : Result Y Fault) (s : Result Z Fault) → ((f : Fault) → r ≡ Err f → s ≡ Err f) → Fails e r → Fails e s

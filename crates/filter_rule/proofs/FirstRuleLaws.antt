@@ -12,9 +12,9 @@ use Rattle.filter_rule.specs.FirstRule.{is_match, Decides, IsByFirst, AreByFirst
 use Rattle.filter_rule.specs.Limits.{is_within, within_limits}
 use Rattle.filter_rule.specs.PlanValue.{PlanValue}
 use Rattle.filter_rule.specs.PlanTable.{TableValue}
-use Rattle.filter_rule.specs.Reading.{rule_over, settle_all, undecided, decisions_of, plan_of, plans_from, json_of, plans_of_document, plans_of}
+use Rattle.filter_rule.specs.Reading.{rule_over, decide_in_turn, undecided, decisions_of, plan_of, plans_from, json_of, plans_of_document, plans_of}
 use Rattle.filter_rule.specs.Resolving.{place_in, vindex_type, resolved}
-use Rattle.filter_rule.specs.Rules.{RuleForm, form_of, or_bad, agreeing, own_decision, decide, settle_one, settle}
+use Rattle.filter_rule.specs.Rules.{RuleForm, form_of, or_bad, agreeing, own_decision, decide, decide_once, decide_each}
 use Rattle.filter_rule.specs.declared.decision.Decision.{Decision}
 use Rattle.filter_rule.specs.declared.decision.Decision.TheVariants.{NoRule, EveryRow, InRange}
 use Rattle.filter_rule.proofs.StepLaws.{then_ok, same_ok, read_as}
@@ -85,7 +85,7 @@ by_rule false s n rs r form t m e match formed is after =
     let none : m ≡ NoRule = sym (same_ok NoRule m is) in
     rw match (subst (λ x. After s (n + 1) rs t x e) none after)
 
-one_step : (s n : ℕ) (rs : List RuleSaid) (r : RuleSaid) (form : RuleForm) (t : TableValue) (d m e : Decision) → form_of s n r ≡ Ok form → settle_one s n form t d ≡ Ok m → After s (n + 1) rs t m e → After s n (r ∷ rs) t d e
+one_step : (s n : ℕ) (rs : List RuleSaid) (r : RuleSaid) (form : RuleForm) (t : TableValue) (d m e : Decision) → form_of s n r ≡ Ok form → decide_once s n form t d ≡ Ok m → After s (n + 1) rs t m e → After s n (r ∷ rs) t d e
 one_step s n rs r form t NoRule m e formed is after =
     by_rule (is_match r t.name) s n rs r form t m e refl formed (ap (λ b. cond b (decide s n form.rows t) (Ok NoRule)) (sym (form_match s n r form t.name formed)) ∙ is) after
 one_step s n rs r form t EveryRow m e formed is after = subst (λ x. After s (n + 1) rs t x e) (sym (same_ok EveryRow m is)) after
@@ -108,27 +108,27 @@ all_end s n (t ∷ ts) [] = tt
 all_end s n (t ∷ ts) (d ∷ ds) = (at_end s n t d, all_end s n ts ds)
 
 step_parts : (s n : ℕ) (rs : List RuleSaid) (r : RuleSaid) (form : RuleForm) (t : TableValue) (ts : List TableValue) (d : Decision) (ds : List Decision) (m : Decision) (ms es : List Decision)
-    → form_of s n r ≡ Ok form → settle_one s n form t d ≡ Ok m → settle s n form ts ds ≡ Ok ms → AllAfter s (n + 1) rs (t ∷ ts) (m ∷ ms) es
-    → ((rest : List Decision) → form_of s n r ≡ Ok form → settle s n form ts ds ≡ Ok ms → AllAfter s (n + 1) rs ts ms rest → AllAfter s n (r ∷ rs) ts ds rest)
+    → form_of s n r ≡ Ok form → decide_once s n form t d ≡ Ok m → decide_each s n form ts ds ≡ Ok ms → AllAfter s (n + 1) rs (t ∷ ts) (m ∷ ms) es
+    → ((rest : List Decision) → form_of s n r ≡ Ok form → decide_each s n form ts ds ≡ Ok ms → AllAfter s (n + 1) rs ts ms rest → AllAfter s n (r ∷ rs) ts ds rest)
     → AllAfter s n (r ∷ rs) (t ∷ ts) (d ∷ ds) es
 step_parts s n rs r form t ts d ds m ms [] formed one rest after more = absurd after
 step_parts s n rs r form t ts d ds m ms (e ∷ es) formed one rest after more = (one_step s n rs r form t d m e formed one after.0, more es formed rest after.1)
 
-all_step : (s n : ℕ) (rs : List RuleSaid) (r : RuleSaid) (form : RuleForm) (ts : List TableValue) (ds ms es : List Decision) → form_of s n r ≡ Ok form → settle s n form ts ds ≡ Ok ms
+all_step : (s n : ℕ) (rs : List RuleSaid) (r : RuleSaid) (form : RuleForm) (ts : List TableValue) (ds ms es : List Decision) → form_of s n r ≡ Ok form → decide_each s n form ts ds ≡ Ok ms
     → AllAfter s (n + 1) rs ts ms es → AllAfter s n (r ∷ rs) ts ds es
-unfolding settle
+unfolding decide_each
 all_step s n rs r form [] ds ms es formed is after = tt
 all_step s n rs r form (t ∷ ts) [] ms es formed is after = tt
 all_step s n rs r form (t ∷ ts) (d ∷ ds) ms es formed is after =
-    then_ok _ (settle_one s n form t d) ms is (λ m m_is h2. then_ok _ (settle s n form ts ds) ms h2 (λ rest rest_is h3.
+    then_ok _ (decide_once s n form t d) ms is (λ m m_is h2. then_ok _ (decide_each s n form ts ds) ms h2 (λ rest rest_is h3.
     step_parts s n rs r form t ts d ds m rest es formed m_is rest_is (subst (λ x. AllAfter s (n + 1) rs (t ∷ ts) x es) (sym (same_ok (m ∷ rest) ms h3)) after) (all_step s n rs r form ts ds rest)))
 
-all_after : (s : ℕ) (ts : List TableValue) (n : ℕ) (rs : List RuleSaid) (ds es : List Decision) → settle_all s ts n rs ds ≡ Ok es → AllAfter s n rs ts ds es
-unfolding settle_all
+all_after : (s : ℕ) (ts : List TableValue) (n : ℕ) (rs : List RuleSaid) (ds es : List Decision) → decide_in_turn s ts n rs ds ≡ Ok es → AllAfter s n rs ts ds es
+unfolding decide_in_turn
 all_after s ts n [] ds es is = subst (AllAfter s n [] ts ds) (same_ok ds es is) (all_end s n ts ds)
 all_after s ts n (r ∷ rs) ds es is =
-    then_ok _ (rule_over s n ts r ds) es is (λ settled settled_is h2. then_ok _ (form_of s n r) settled settled_is (λ form form_is h3.
-    all_step s n rs r form ts ds settled es form_is h3 (all_after s ts (n + 1) rs settled es h2)))
+    then_ok _ (rule_over s n ts r ds) es is (λ decided decided_is h2. then_ok _ (form_of s n r) decided decided_is (λ form form_is h3.
+    all_step s n rs r form ts ds decided es form_is h3 (all_after s ts (n + 1) rs decided es h2)))
 
 each_first : (s : ℕ) (rs : List RuleSaid) (ts : List TableValue) (ds : List Decision) → AllAfter s 0 rs ts (undecided ts) ds → AreByFirst s ts rs ds
 each_first s rs [] ds h i t d t_is d_is = cc

@@ -7,7 +7,7 @@ pub mod JsonLaws
 pub mod EachLaws
 pub mod DistinctLaws
 pub mod Utf8Laws
-pub mod SettleLaws
+pub mod DecideLaws
 pub mod StreamLaws
 pub mod ShapeLaws
 pub mod JsonText

@@ -14,7 +14,7 @@ use Rattle.filter_rule.specs.Reading.{decisions_of, plan_of, plans_from}
 use Rattle.filter_rule.specs.declared.decision.Decision.{Decision}
 use Rattle.filter_rule.specs.declared.plan.Schema.{Schema}
 use Rattle.filter_rule.proofs.EachLaws.{with_front, front_more, append_none, drop_at}
-use Rattle.filter_rule.proofs.SettleLaws.{drop_all}
+use Rattle.filter_rule.proofs.DecideLaws.{drop_all}
 use Rattle.filter_rule.specs.Resolving.{resolved}
 use Rattle.filter_rule.proofs.ShapeLaws.{decisions_decided, decided_length, decided_fit}
 use Rattle.filter_rule.proofs.TableLaws.{accepted_names, accepted_within, table_counts, tables_fit}

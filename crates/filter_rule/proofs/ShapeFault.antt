@@ -99,10 +99,10 @@ stream_of_only d = then_only _ (text_in (codes "shard") d) (text_in_only (codes 
 distinct_only : (ss : List (List ℕ)) → ShapeOnly (distinct ss)
 distinct_only ss = if_only (has_twice ss) (Err shape) (Ok ss) (shape_only _ refl) (ok_only ss)
 
-list_apart_only : {A : Type 0} (title : A → List ℕ) (reads : Data → Result A Fault) (key : List ℕ) (d : Data) → ((x : Data) → ShapeOnly (reads x)) → ShapeOnly (list_apart title reads key d)
+list_apart_only : {A : Type 0} (name : A → List ℕ) (reads : Data → Result A Fault) (key : List ℕ) (d : Data) → ((x : Data) → ShapeOnly (reads x)) → ShapeOnly (list_apart name reads key d)
 unfolding list_apart
-list_apart_only title reads key d k =
-    then_only _ (list_in key d) (list_in_only key d) (λ values. then_only _ (each reads values) (each_only reads values k) (λ items. then_only _ (distinct (map title items)) (distinct_only (map title items)) (λ titles. ok_only items)))
+list_apart_only name reads key d k =
+    then_only _ (list_in key d) (list_in_only key d) (λ values. then_only _ (each reads values) (each_only reads values k) (λ items. then_only _ (distinct (map name items)) (distinct_only (map name items)) (λ names. ok_only items)))
 
 table_of_only : (d : Data) → ShapeOnly (table_of d)
 unfolding table_of

@@ -8,9 +8,9 @@ use Rattle.filter_text.specs.RuleScope.{is_for}
 use Rattle.filter_rule.specs.Document.{RuleSaid}
 use Rattle.filter_rule.specs.Faults.{◌>>=◌}
 use Rattle.filter_rule.specs.PlanTable.{TableValue}
-use Rattle.filter_rule.specs.Reading.{rule_over, settle_all, undecided, decisions_of}
+use Rattle.filter_rule.specs.Reading.{rule_over, decide_in_turn, undecided, decisions_of}
 use Rattle.filter_rule.specs.Resolving.{place_in, vindex_type}
-use Rattle.filter_rule.specs.Rules.{RuleForm, form_of, own_decision, decide, settle_one, settle}
+use Rattle.filter_rule.specs.Rules.{RuleForm, form_of, own_decision, decide, decide_once, decide_each}
 use Rattle.filter_rule.specs.WellFormed.{IsTable, AreTables, FitsTable}
 use Rattle.filter_rule.specs.declared.decision.Decision.{Decision}
 use Rattle.filter_rule.specs.declared.decision.Decision.TheVariants.{NoRule, EveryRow, InRange}
@@ -32,7 +32,7 @@ chosen_fits : (b : Bool) (s n : ℕ) (rows : RowsSaid) (t : TableValue) (d : Dec
 chosen_fits true s n rows t d fit h = decide_fits s n rows t d fit h
 chosen_fits false s n rows t d fit h = subst (FitsTable t) (same_ok NoRule d h) tt
 
-one_fits : (s n : ℕ) (form : RuleForm) (t : TableValue) (d e : Decision) → IsTable t → FitsTable t d → settle_one s n form t d ≡ Ok e → FitsTable t e
+one_fits : (s n : ℕ) (form : RuleForm) (t : TableValue) (d e : Decision) → IsTable t → FitsTable t d → decide_once s n form t d ≡ Ok e → FitsTable t e
 one_fits s n form t NoRule e fit h is = chosen_fits (is_for form.scope t.name) s n form.rows t e fit is
 one_fits s n form t EveryRow e fit h is = subst (FitsTable t) (same_ok EveryRow e is) tt
 one_fits s n form t (InRange place vindex range) e fit h is = subst (FitsTable t) (same_ok (InRange place vindex range) e is) h
@@ -47,21 +47,21 @@ Decided [] (d ∷ ds) = ⊥
 Decided (t ∷ ts) [] = ⊥
 Decided (t ∷ ts) (d ∷ ds) = FitsTable t d × Decided ts ds
 
-settle_keeps : (s n : ℕ) (form : RuleForm) (ts : List TableValue) (ds es : List Decision) → AreAll ts → Decided ts ds → settle s n form ts ds ≡ Ok es → Decided ts es
-unfolding settle
-settle_keeps s n form [] [] es fit h is = subst (Decided []) (same_ok [] es is) tt
-settle_keeps s n form [] (d ∷ ds) es fit h is = absurd h
-settle_keeps s n form (t ∷ ts) [] es fit h is = absurd h
-settle_keeps s n form (t ∷ ts) (d ∷ ds) es fit h is =
-    then_ok _ (settle_one s n form t d) es is (λ e e_is h2. then_ok _ (settle s n form ts ds) es h2 (λ rest rest_is h3.
-    subst (Decided (t ∷ ts)) (same_ok (e ∷ rest) es h3) (one_fits s n form t d e (fit 0 t refl) h.0 e_is, settle_keeps s n form ts ds rest (λ i u u_is. fit (suc i) u u_is) h.1 rest_is)))
+each_keeps : (s n : ℕ) (form : RuleForm) (ts : List TableValue) (ds es : List Decision) → AreAll ts → Decided ts ds → decide_each s n form ts ds ≡ Ok es → Decided ts es
+unfolding decide_each
+each_keeps s n form [] [] es fit h is = subst (Decided []) (same_ok [] es is) tt
+each_keeps s n form [] (d ∷ ds) es fit h is = absurd h
+each_keeps s n form (t ∷ ts) [] es fit h is = absurd h
+each_keeps s n form (t ∷ ts) (d ∷ ds) es fit h is =
+    then_ok _ (decide_once s n form t d) es is (λ e e_is h2. then_ok _ (decide_each s n form ts ds) es h2 (λ rest rest_is h3.
+    subst (Decided (t ∷ ts)) (same_ok (e ∷ rest) es h3) (one_fits s n form t d e (fit 0 t refl) h.0 e_is, each_keeps s n form ts ds rest (λ i u u_is. fit (suc i) u u_is) h.1 rest_is)))
 
-all_keep : (s : ℕ) (ts : List TableValue) (n : ℕ) (rs : List RuleSaid) (ds es : List Decision) → AreAll ts → Decided ts ds → settle_all s ts n rs ds ≡ Ok es → Decided ts es
-unfolding settle_all
+all_keep : (s : ℕ) (ts : List TableValue) (n : ℕ) (rs : List RuleSaid) (ds es : List Decision) → AreAll ts → Decided ts ds → decide_in_turn s ts n rs ds ≡ Ok es → Decided ts es
+unfolding decide_in_turn
 all_keep s ts n [] ds es fit h is = subst (Decided ts) (same_ok ds es is) h
 all_keep s ts n (r ∷ rs) ds es fit h is =
-    then_ok _ (rule_over s n ts r ds) es is (λ settled settled_is h2. then_ok _ (form_of s n r) settled settled_is (λ form form_is h3.
-    all_keep s ts (n + 1) rs settled es fit (settle_keeps s n form ts ds settled fit h h3) h2))
+    then_ok _ (rule_over s n ts r ds) es is (λ decided decided_is h2. then_ok _ (form_of s n r) decided decided_is (λ form form_is h3.
+    all_keep s ts (n + 1) rs decided es fit (each_keeps s n form ts ds decided fit h h3) h2))
 
 undecided_decided : (ts : List TableValue) → Decided ts (undecided ts)
 undecided_decided [] = tt

@@ -11,9 +11,9 @@ use Rattle.filter_text.specs.RuleScope.{scope_of, is_for, agrees}
 use Rattle.filter_rule.specs.FirstRule.{is_match, first_match}
 use Rattle.filter_rule.specs.PlanTable.{TableValue}
 use Rattle.filter_rule.specs.PlanValue.{PlanValue}
-use Rattle.filter_rule.specs.Reading.{rule_over, settle_all, undecided, decisions_of, plan_of, plans_from}
+use Rattle.filter_rule.specs.Reading.{rule_over, decide_in_turn, undecided, decisions_of, plan_of, plans_from}
 use Rattle.filter_rule.specs.Resolving.{is_vindex_type, place_in, type_in, vindex_place, vindex_type, unfit_key, refuse_type, own_vindex_type, resolved}
-use Rattle.filter_rule.specs.Rules.{RuleForm, form_of, or_bad, agreeing, own_decision, decide, settle_one, settle}
+use Rattle.filter_rule.specs.Rules.{RuleForm, form_of, or_bad, agreeing, own_decision, decide, decide_once, decide_each}
 use Rattle.filter_rule.specs.Standing.{HasTable, IsFirstFor, HasNoColumn, by_rule, under_rule, no_form, no_vindex}
 use Rattle.filter_rule.specs.declared.decision.Decision.{Decision}
 use Rattle.filter_rule.specs.declared.decision.Decision.TheVariants.{NoRule, EveryRow, InRange}
@@ -58,7 +58,7 @@ one_refused : (s n : ℕ) (form : RuleForm) (t : TableValue) (ts : List TableVal
 one_refused s n form t ts ds true e is h = record { place = 0; table = t; stands = refl; open_still = refl; matches = is; gives = h }
 one_refused s n form t ts ds false e is h = cc
 
-first_refused : (s n : ℕ) (form : RuleForm) (t : TableValue) (ts : List TableValue) (d : Decision) (ds : List Decision) (e : Fault) → settle_one s n form t d ≡ Err e → Undecides s n form (t ∷ ts) (d ∷ ds) e
+first_refused : (s n : ℕ) (form : RuleForm) (t : TableValue) (ts : List TableValue) (d : Decision) (ds : List Decision) (e : Fault) → decide_once s n form t d ≡ Err e → Undecides s n form (t ∷ ts) (d ∷ ds) e
 first_refused s n form t ts NoRule ds e h = one_refused s n form t ts ds (is_for form.scope t.name) e refl h
 first_refused s n form t ts EveryRow ds e h = cc
 first_refused s n form t ts (InRange place vindex range) ds e h = cc
@@ -66,13 +66,13 @@ first_refused s n form t ts (InRange place vindex range) ds e h = cc
 later_refused : (s n : ℕ) (form : RuleForm) (t : TableValue) (ts : List TableValue) (d : Decision) (ds : List Decision) (e : Fault) → Undecides s n form ts ds e → Undecides s n form (t ∷ ts) (d ∷ ds) e
 later_refused s n form t ts d ds e u = record { place = suc u.place; table = u.table; stands = u.stands; open_still = u.open_still; matches = u.matches; gives = u.gives }
 
-settle_refused : (s n : ℕ) (form : RuleForm) (ts : List TableValue) (ds : List Decision) (e : Fault) → settle s n form ts ds ≡ Err e → Undecides s n form ts ds e
-unfolding settle
-settle_refused s n form [] ds e h = cc
-settle_refused s n form (t ∷ ts) [] e h = cc
-settle_refused s n form (t ∷ ts) (d ∷ ds) e h =
-    then_err _ (settle_one s n form t d) e h (λ one. first_refused s n form t ts d ds e one)
-    (λ x x_is h2. then_err _ (settle s n form ts ds) e h2 (λ rest. later_refused s n form t ts d ds e (settle_refused s n form ts ds e rest)) (λ xs xs_is h3. cc))
+tables_refused : (s n : ℕ) (form : RuleForm) (ts : List TableValue) (ds : List Decision) (e : Fault) → decide_each s n form ts ds ≡ Err e → Undecides s n form ts ds e
+unfolding decide_each
+tables_refused s n form [] ds e h = cc
+tables_refused s n form (t ∷ ts) [] e h = cc
+tables_refused s n form (t ∷ ts) (d ∷ ds) e h =
+    then_err _ (decide_once s n form t d) e h (λ one. first_refused s n form t ts d ds e one)
+    (λ x x_is h2. then_err _ (decide_each s n form ts ds) e h2 (λ rest. later_refused s n form t ts d ds e (tables_refused s n form ts ds e rest)) (λ xs xs_is h3. cc))
 
 -- a table that a rule leaves undecided was so before, and the rule doesn't match it
 
@@ -89,7 +89,7 @@ no_every e = cc
 no_range : (place : ℕ) (vindex : Vindex) (range : Bounds) → InRange place vindex range ≡ NoRule → ⊥
 no_range place vindex range e = cc
 
-one_open : (s n : ℕ) (form : RuleForm) (t : TableValue) (d : Decision) → settle_one s n form t d ≡ Ok NoRule → WasOpen form t d
+one_open : (s n : ℕ) (form : RuleForm) (t : TableValue) (d : Decision) → decide_once s n form t d ≡ Ok NoRule → WasOpen form t d
 one_open s n form t NoRule h = open_at s n form t (is_for form.scope t.name) refl h
 one_open s n form t EveryRow h = absurd (no_every (same_ok EveryRow NoRule h))
 one_open s n form t (InRange place vindex range) h = absurd (no_range place vindex range (same_ok (InRange place vindex range) NoRule h))
@@ -97,19 +97,19 @@ one_open s n form t (InRange place vindex range) h = absurd (no_range place vind
 abbrev AllOpen : RuleForm → List TableValue → List Decision → List Decision → Type 0
 AllOpen form ts ds es = (i : ℕ) (t : TableValue) → slice_get ts i ≡ Some t → slice_get es i ≡ Some NoRule → (slice_get ds i ≡ Some NoRule) × (is_for form.scope t.name ≡ false)
 
-open_step : (s n : ℕ) (form : RuleForm) (t : TableValue) (ts : List TableValue) (d : Decision) (ds : List Decision) (e : Decision) (es : List Decision) → settle_one s n form t d ≡ Ok e → AllOpen form ts ds es → AllOpen form (t ∷ ts) (d ∷ ds) (e ∷ es)
+open_step : (s n : ℕ) (form : RuleForm) (t : TableValue) (ts : List TableValue) (d : Decision) (ds : List Decision) (e : Decision) (es : List Decision) → decide_once s n form t d ≡ Ok e → AllOpen form ts ds es → AllOpen form (t ∷ ts) (d ∷ ds) (e ∷ es)
 open_step s n form t ts d ds e es one rest zero u u_is e_is =
     let was = one_open s n form t d (one ∙ ap read_as (same_some e NoRule e_is)) in
     (ap Some was.0, ap (λ (x : TableValue). is_for form.scope x.name) (sym (same_some t u u_is)) ∙ was.1)
 open_step s n form t ts d ds e es one rest (suc i) u u_is e_is = rest i u u_is e_is
 
-settle_open : (s n : ℕ) (form : RuleForm) (ts : List TableValue) (ds es : List Decision) → settle s n form ts ds ≡ Ok es → AllOpen form ts ds es
-unfolding settle
-settle_open s n form [] ds es h = λ i t t_is e_is. cc
-settle_open s n form (t ∷ ts) [] es h = λ i u u_is e_is. let none : slice_get [] i ≡ Some NoRule = ap (λ xs. slice_get xs i) (same_ok [] es h) ∙ e_is in cc
-settle_open s n form (t ∷ ts) (d ∷ ds) es h =
-    then_ok _ (settle_one s n form t d) es h (λ x x_is h2. then_ok _ (settle s n form ts ds) es h2 (λ xs xs_is h3.
-    subst (AllOpen form (t ∷ ts) (d ∷ ds)) (same_ok (x ∷ xs) es h3) (open_step s n form t ts d ds x xs x_is (settle_open s n form ts ds xs xs_is))))
+decide_open : (s n : ℕ) (form : RuleForm) (ts : List TableValue) (ds es : List Decision) → decide_each s n form ts ds ≡ Ok es → AllOpen form ts ds es
+unfolding decide_each
+decide_open s n form [] ds es h = λ i t t_is e_is. cc
+decide_open s n form (t ∷ ts) [] es h = λ i u u_is e_is. let none : slice_get [] i ≡ Some NoRule = ap (λ xs. slice_get xs i) (same_ok [] es h) ∙ e_is in cc
+decide_open s n form (t ∷ ts) (d ∷ ds) es h =
+    then_ok _ (decide_once s n form t d) es h (λ x x_is h2. then_ok _ (decide_each s n form ts ds) es h2 (λ xs xs_is h3.
+    subst (AllOpen form (t ∷ ts) (d ∷ ds)) (same_ok (x ∷ xs) es h3) (open_step s n form t ts d ds x xs x_is (decide_open s n form ts ds xs xs_is))))
 
 -- ---- the first match behind rules that don't
 
@@ -151,24 +151,24 @@ rule_refused : (s : ℕ) (ts : List TableValue) (before rs : List RuleSaid) (r :
 rule_refused s ts before rs r n ds e count untouched h =
     then_err _ (form_of s n r) e h (λ bad. formless n r (get_behind before rs r n count) bad)
     (λ form form_is h2.
-    let u = settle_refused s n form ts ds e h2 in
+    let u = tables_refused s n form ts ds e h2 in
     let match : is_match r u.table.name ≡ true = sym (form_match s n r form u.table.name form_is) ∙ u.matches in
     undecided_by n r form u.place u.table u.stands (matching before rs r n u.table.name count (untouched u.place u.table u.stands u.open_still) match) form_is u.gives)
 
-still_untouched : (s n : ℕ) (before : List RuleSaid) (r : RuleSaid) (form : RuleForm) (ts : List TableValue) (ds es : List Decision) → Untouched before ts ds → form_of s n r ≡ Ok form → settle s n form ts ds ≡ Ok es → Untouched (before ++ r ∷ []) ts es
+still_untouched : (s n : ℕ) (before : List RuleSaid) (r : RuleSaid) (form : RuleForm) (ts : List TableValue) (ds es : List Decision) → Untouched before ts ds → form_of s n r ≡ Ok form → decide_each s n form ts ds ≡ Ok es → Untouched (before ++ r ∷ []) ts es
 still_untouched s n before r form ts ds es untouched form_is is i t t_is e_is =
-    let was = settle_open s n form ts ds es is i t t_is e_is in
+    let was = decide_open s n form ts ds es is i t t_is e_is in
     unmatched before r t.name (untouched i t t_is was.0) (sym (form_match s n r form t.name form_is) ∙ was.1)
 
-rules_refused : (s : ℕ) (ts : List TableValue) (before rs : List RuleSaid) (n : ℕ) (ds : List Decision) (e : Fault) → n ≡ length before → Untouched before ts ds → settle_all s ts n rs ds ≡ Err e → IsRefusedRule s ts (before ++ rs) e
-unfolding settle_all
+rules_refused : (s : ℕ) (ts : List TableValue) (before rs : List RuleSaid) (n : ℕ) (ds : List Decision) (e : Fault) → n ≡ length before → Untouched before ts ds → decide_in_turn s ts n rs ds ≡ Err e → IsRefusedRule s ts (before ++ rs) e
+unfolding decide_in_turn
 rules_refused s ts before [] n ds e count untouched h = cc
 rules_refused s ts before (r ∷ rs) n ds e count untouched h =
     then_err _ (rule_over s n ts r ds) e h (λ bad. rule_refused s ts before rs r n ds e count untouched bad)
-    (λ settled settled_is h2. then_ok _ (form_of s n r) settled settled_is (λ form form_is h3.
+    (λ decided decided_is h2. then_ok _ (form_of s n r) decided decided_is (λ form form_is h3.
     let more : n + 1 ≡ length (before ++ r ∷ []) = omega (arith, length-append before (r ∷ [])) in
     subst (λ all. IsRefusedRule s ts all e) (append_assoc before (r ∷ []) rs)
-    (rules_refused s ts (before ++ r ∷ []) rs (n + 1) settled e more (still_untouched s n before r form ts ds settled untouched form_is h3) h2)))
+    (rules_refused s ts (before ++ r ∷ []) rs (n + 1) decided e more (still_untouched s n before r form ts ds decided untouched form_is h3) h2)))
 
 pub decisions_refused : (s : ℕ) (ts : List TableValue) (rules : List RuleSaid) (e : Fault) → decisions_of s ts rules ≡ Err e → IsRefusedRule s ts rules e
 decisions_refused s ts rules e h = rules_refused s ts [] rules 0 (undecided ts) e refl (λ i t t_is d_is. refl) h

@@ -3,11 +3,11 @@ use Rattle.std.proofs.Common.{◌≡◌, ℕ, zero, suc, ◌+◌, ◌<◌, ◌�
 use Rattle.filter_rule.specs.Document.{RuleSaid}
 use Rattle.filter_rule.specs.Faults.{Fault, ◌>>=◌}
 use Rattle.filter_rule.specs.PlanTable.{TableValue}
-use Rattle.filter_rule.specs.Reading.{rule_over, settle_all, undecided}
+use Rattle.filter_rule.specs.Reading.{rule_over, decide_in_turn, undecided}
 use Rattle.filter_rule.specs.declared.decision.Decision.{Decision}
 use Rattle.filter_rule.specs.declared.decision.Decision.TheVariants.{NoRule}
 use Rattle.filter_rule.proofs.EachLaws.{drop_at}
-use Rattle.filter_rule.proofs.SettleLaws.{drop_all}
+use Rattle.filter_rule.proofs.DecideLaws.{drop_all}
 
 take_front : {A : Type 0} (front rest : List A) → take (length front) (front ++ rest) ≡ front
 take_front [] rest = refl
@@ -17,31 +17,31 @@ take_front (x ∷ front) rest = ap (λ r. x ∷ r) (take_front front rest)
 pub written_back : {A : Type 0} (n : ℕ) (front rest : List A) → n ≡ length front → take n (front ++ rest) ≡ front
 written_back n front rest e = ap (λ m. take m (front ++ rest)) e ∙ take_front front rest
 
-next_rule : (s n : ℕ) (tables : List TableValue) (r : RuleSaid) (rs : List RuleSaid) (ds es : List Decision) → rule_over s n tables r ds ≡ Ok es → settle_all s tables n (r ∷ rs) ds ≡ settle_all s tables (n + 1) rs es
-unfolding settle_all
-next_rule s n tables r rs ds es is = ap (λ x. x >>= λ settled. settle_all s tables (n + 1) rs settled) is
+next_rule : (s n : ℕ) (tables : List TableValue) (r : RuleSaid) (rs : List RuleSaid) (ds es : List Decision) → rule_over s n tables r ds ≡ Ok es → decide_in_turn s tables n (r ∷ rs) ds ≡ decide_in_turn s tables (n + 1) rs es
+unfolding decide_in_turn
+next_rule s n tables r rs ds es is = ap (λ x. x >>= λ decided. decide_in_turn s tables (n + 1) rs decided) is
 
-bad_next : (s n : ℕ) (tables : List TableValue) (r : RuleSaid) (rs : List RuleSaid) (ds : List Decision) (f : Fault) → rule_over s n tables r ds ≡ Err f → settle_all s tables n (r ∷ rs) ds ≡ Err f
-unfolding settle_all
-bad_next s n tables r rs ds f is = ap (λ x. x >>= λ settled. settle_all s tables (n + 1) rs settled) is
+bad_next : (s n : ℕ) (tables : List TableValue) (r : RuleSaid) (rs : List RuleSaid) (ds : List Decision) (f : Fault) → rule_over s n tables r ds ≡ Err f → decide_in_turn s tables n (r ∷ rs) ds ≡ Err f
+unfolding decide_in_turn
+bad_next s n tables r rs ds f is = ap (λ x. x >>= λ decided. decide_in_turn s tables (n + 1) rs decided) is
 
-no_rules : (s n : ℕ) (tables : List TableValue) (ds : List Decision) → settle_all s tables n [] ds ≡ Ok ds
-unfolding settle_all
+no_rules : (s n : ℕ) (tables : List TableValue) (ds : List Decision) → decide_in_turn s tables n [] ds ≡ Ok ds
+unfolding decide_in_turn
 no_rules s n tables ds = refl
 
-opened : (s n : ℕ) (tables : List TableValue) (rs : List RuleSaid) (r : RuleSaid) (ds : List Decision) → n < length rs → r ≡ get_or rs n r → settle_all s tables n (drop n rs) ds ≡ settle_all s tables n (r ∷ drop (n + 1) rs) ds
-opened s n tables rs r ds within is = ap (λ x. settle_all s tables n x ds) (drop_at rs n r within ∙ ap (λ x. x ∷ drop (n + 1) rs) (sym is))
+opened : (s n : ℕ) (tables : List TableValue) (rs : List RuleSaid) (r : RuleSaid) (ds : List Decision) → n < length rs → r ≡ get_or rs n r → decide_in_turn s tables n (drop n rs) ds ≡ decide_in_turn s tables n (r ∷ drop (n + 1) rs) ds
+opened s n tables rs r ds within is = ap (λ x. decide_in_turn s tables n x ds) (drop_at rs n r within ∙ ap (λ x. x ∷ drop (n + 1) rs) (sym is))
 
 pub rules_turn : (s n : ℕ) (tables : List TableValue) (rs : List RuleSaid) (r : RuleSaid) (ds es : List Decision) (whole : Result (List Decision) Fault) → n < length rs → r ≡ get_or rs n r → rule_over s n tables r ds ≡ Ok es
-    → settle_all s tables n (drop n rs) ds ≡ whole → settle_all s tables (n + 1) (drop (n + 1) rs) es ≡ whole
+    → decide_in_turn s tables n (drop n rs) ds ≡ whole → decide_in_turn s tables (n + 1) (drop (n + 1) rs) es ≡ whole
 rules_turn s n tables rs r ds es whole within item is so_far = sym (next_rule s n tables r (drop (n + 1) rs) ds es is) ∙ sym (opened s n tables rs r ds within item) ∙ so_far
 
 pub rules_fault : (s n : ℕ) (tables : List TableValue) (rs : List RuleSaid) (r : RuleSaid) (ds : List Decision) (whole : Result (List Decision) Fault) → n < length rs → r ≡ get_or rs n r
-    → settle_all s tables n (drop n rs) ds ≡ whole → (f : Fault) → rule_over s n tables r ds ≡ Err f → whole ≡ Err f
+    → decide_in_turn s tables n (drop n rs) ds ≡ whole → (f : Fault) → rule_over s n tables r ds ≡ Err f → whole ≡ Err f
 rules_fault s n tables rs r ds whole within item so_far f is = sym so_far ∙ opened s n tables rs r ds within item ∙ bad_next s n tables r (drop (n + 1) rs) ds f is
 
-pub rules_end : (s n : ℕ) (tables : List TableValue) (rs : List RuleSaid) (ds : List Decision) (whole : Result (List Decision) Fault) → length rs ≤ n → settle_all s tables n (drop n rs) ds ≡ whole → whole ≡ Ok ds
-rules_end s n tables rs ds whole past so_far = sym so_far ∙ ap (λ x. settle_all s tables n x ds) (drop_all rs n past) ∙ no_rules s n tables ds
+pub rules_end : (s n : ℕ) (tables : List TableValue) (rs : List RuleSaid) (ds : List Decision) (whole : Result (List Decision) Fault) → length rs ≤ n → decide_in_turn s tables n (drop n rs) ds ≡ whole → whole ≡ Ok ds
+rules_end s n tables rs ds whole past so_far = sym so_far ∙ ap (λ x. decide_in_turn s tables n x ds) (drop_all rs n past) ∙ no_rules s n tables ds
 
 undecided_append : (xs ys : List TableValue) → undecided (xs ++ ys) ≡ undecided xs ++ undecided ys
 undecided_append [] ys = refl
@@ -51,10 +51,6 @@ take_more : {A : Type 0} (xs : List A) (i : ℕ) (d : A) → i < length xs → t
 take_more [] i d h = absurd (omega arith)
 take_more (x ∷ xs) zero d h = refl
 take_more (x ∷ xs) (suc i) d h = let n : suc i + 1 ≡ suc (i + 1) = omega arith in rw n (ap (λ r. x ∷ r) (take_more xs i d (omega arith)))
-
-pub undecided_more : (xs : List TableValue) (i : ℕ) (d : TableValue) (grown ds : List Decision) → i < length xs → ds ≡ undecided (take i xs) → grown ≡ ds ++ NoRule ∷ [] → grown ≡ undecided (take (i + 1) xs)
-undecided_more xs i d grown ds within so_far more =
-    more ∙ ap (λ r. r ++ NoRule ∷ []) so_far ∙ sym (undecided_append (take i xs) (get_or xs i d ∷ [])) ∙ ap undecided (sym (take_more xs i d within))
 
 pub length_undecided : (xs : List TableValue) → length (undecided xs) ≡ length xs
 length_undecided [] = refl

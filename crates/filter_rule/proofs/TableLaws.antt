@@ -33,14 +33,14 @@ record IsSaid {A : Type 0} (reads : Data → Result A Fault) (said : A) : Type 0
   gives : reads item ≡ Ok said
 
 -- a list under texts of which none stands twice
-list_apart-Ok : {A : Type 0} (title : A → List ℕ) (reads : Data → Result A Fault) (key : List ℕ) (d : Data) (items : List A) → list_apart title reads key d ≡ Ok items → AreDistinct (map title items) × ((i : ℕ) (x : A) → slice_get items i ≡ Some x → IsSaid reads x)
+list_apart-Ok : {A : Type 0} (name : A → List ℕ) (reads : Data → Result A Fault) (key : List ℕ) (d : Data) (items : List A) → list_apart name reads key d ≡ Ok items → AreDistinct (map name items) × ((i : ℕ) (x : A) → slice_get items i ≡ Some x → IsSaid reads x)
 unfolding list_apart
-list_apart-Ok title reads key d items h =
+list_apart-Ok name reads key d items h =
     then_ok _ (list_in key d) items h (λ values values_is h1.
     then_ok _ (each reads values) items h1 (λ found found_is h2.
-    then_ok _ (distinct (map title found)) items h2 (λ titles titles_is h3.
-    subst (λ l. AreDistinct (map title l) × ((i : ℕ) (x : _) → slice_get l i ≡ Some x → IsSaid reads x)) (same_ok found items h3)
-    (distinct_apart (map title found) titles titles_is, λ i x x_is. let from = each_at reads values found found_is i x x_is in record { item = from.item; gives = from.gives }))))
+    then_ok _ (distinct (map name found)) items h2 (λ names names_is h3.
+    subst (λ l. AreDistinct (map name l) × ((i : ℕ) (x : _) → slice_get l i ≡ Some x → IsSaid reads x)) (same_ok found items h3)
+    (distinct_apart (map name found) names names_is, λ i x x_is. let from = each_at reads values found found_is i x x_is in record { item = from.item; gives = from.gives }))))
 
 same_names : (names : List (List ℕ)) → map (λ n. n) names ≡ names
 same_names [] = refl

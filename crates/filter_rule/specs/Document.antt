@@ -90,14 +90,14 @@ is_name s = nat_lt 0 (length s) && nat_le (length s) 256 && list_all is_fit s
 unfoldable pub name_of : Data → Result (List ℕ) Fault
 name_of d = text_of d >>= λ s. if is_name s then Ok s else Err shape
 
--- a number below 2^32
-abbrev pub small : ℕ → Option ℕ
-small n = if nat_lt n (2 ^ 32) then Some n else None
+-- a number below 2^32, as the number of a type is
+abbrev pub in_32_bits : ℕ → Option ℕ
+in_32_bits n = if nat_lt n (2 ^ 32) then Some n else None
 
 -- a type by its name, or else by a whole number below 2^32
 abbrev pub type_by : Option (List ℕ) → Data → Result ℕ Fault
 type_by (Some name) d = found (type_of_name name)
-type_by None d = found (option_and_then small (option_and_then as_u64 (as_number d)))
+type_by None d = found (option_and_then in_32_bits (option_and_then as_u64 (as_number d)))
 
 -- a type by its name or its number
 unfoldable pub type_of : Data → Result ℕ Fault
@@ -170,10 +170,10 @@ distinct ss = if has_twice ss then Err shape else Ok ss
 -- a member that is a list of values, each of which says something, under texts of which none stands
 -- twice
 unfoldable pub list_apart : {A : Type 0} → (A → List ℕ) → (Data → Result A Fault) → List ℕ → Data → Result (List A) Fault
-list_apart title reads key d = do
+list_apart name reads key d = do
   values ← list_in key d
   items ← each reads values
-  titles ← distinct (map title items)
+  names ← distinct (map name items)
   Ok items
 
 -- a table: its name, its columns as pairs, the names of its key columns and its vindex, if it has one

@@ -12,25 +12,25 @@ use Rattle.filter_rule.specs.Limits.{within_limits}
 use Rattle.filter_rule.specs.PlanTable.{TableValue}
 use Rattle.filter_rule.specs.PlanValue.{PlanValue}
 use Rattle.filter_rule.specs.Resolving.{resolved}
-use Rattle.filter_rule.specs.Rules.{form_of, settle}
+use Rattle.filter_rule.specs.Rules.{form_of, decide_each}
 use Rattle.filter_rule.specs.declared.decision.Decision.{Decision}
 use Rattle.filter_rule.specs.declared.decision.Decision.TheVariants.{NoRule}
 
 -- one rule over all tables
 abbrev pub rule_over : ℕ → ℕ → List TableValue → RuleSaid → List Decision → Result (List Decision) Fault
-rule_over stream n tables r decisions = form_of stream n r >>= λ form. settle stream n form tables decisions
+rule_over stream n tables r decisions = form_of stream n r >>= λ form. decide_each stream n form tables decisions
 
 -- one rule after another, the first of these numbered n
-unfoldable pub settle_all : ℕ → List TableValue → ℕ → List RuleSaid → List Decision → Result (List Decision) Fault
-settle_all stream tables n [] decisions = Ok decisions
-settle_all stream tables n (r ∷ rs) decisions = rule_over stream n tables r decisions >>= λ settled. settle_all stream tables (n + 1) rs settled
+unfoldable pub decide_in_turn : ℕ → List TableValue → ℕ → List RuleSaid → List Decision → Result (List Decision) Fault
+decide_in_turn stream tables n [] decisions = Ok decisions
+decide_in_turn stream tables n (r ∷ rs) decisions = rule_over stream n tables r decisions >>= λ decided. decide_in_turn stream tables (n + 1) rs decided
 
 -- no table is decided yet
 abbrev pub undecided : List TableValue → List Decision
 undecided tables = map (λ _. NoRule) tables
 
 abbrev pub decisions_of : ℕ → List TableValue → List RuleSaid → Result (List Decision) Fault
-decisions_of stream tables rules = settle_all stream tables 0 rules (undecided tables)
+decisions_of stream tables rules = decide_in_turn stream tables 0 rules (undecided tables)
 
 unfoldable pub plan_of : List ℕ → List TableValue → ℕ → StreamSaid → Result PlanValue Fault
 plan_of keyspace tables n stream = do

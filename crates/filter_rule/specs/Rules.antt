@@ -47,13 +47,13 @@ module _ (stream rule : ℕ) where
       place_in t.name t.columns column >>= λ place. vindex_type t.name t.columns column vindex >>= λ _. Ok (InRange place vindex range)
 
   -- a table that an earlier rule matches stays decided
-  abbrev pub settle_one : RuleForm → TableValue → Decision → Result Decision Fault
-  settle_one form t NoRule = if is_for form.scope t.name then decide form.rows t else Ok NoRule
-  settle_one form t EveryRow = Ok EveryRow
-  settle_one form t (InRange column vindex range) = Ok (InRange column vindex range)
+  abbrev pub decide_once : RuleForm → TableValue → Decision → Result Decision Fault
+  decide_once form t NoRule = if is_for form.scope t.name then decide form.rows t else Ok NoRule
+  decide_once form t EveryRow = Ok EveryRow
+  decide_once form t (InRange column vindex range) = Ok (InRange column vindex range)
 
   -- one rule over all tables, in order
-  unfoldable pub settle : RuleForm → List TableValue → List Decision → Result (List Decision) Fault
-  settle form [] ds = Ok []
-  settle form (t ∷ ts) [] = Ok []
-  settle form (t ∷ ts) (d ∷ ds) = settle_one form t d >>= λ e. settle form ts ds >>= λ es. Ok (e ∷ es)
+  unfoldable pub decide_each : RuleForm → List TableValue → List Decision → Result (List Decision) Fault
+  decide_each form [] ds = Ok []
+  decide_each form (t ∷ ts) [] = Ok []
+  decide_each form (t ∷ ts) (d ∷ ds) = decide_once form t d >>= λ e. decide_each form ts ds >>= λ es. Ok (e ∷ es)

@@ -2,7 +2,7 @@
 
 ghost use Rattle.std.specs.Prelude.{◌≡◌, length};
 ghost use Rattle.filter_rule.specs.Faults.{Gives};
-ghost use Rattle.filter_rule.specs.Rules.{own_decision, decide, settle_one, settle};
+ghost use Rattle.filter_rule.specs.Rules.{own_decision, decide, decide_once, decide_each};
 ghost use Rattle.filter_text.specs.Views.{rows_said};
 ghost use Rattle.filter_rule.specs.Private.RuleViews.{form_seen};
 
@@ -67,14 +67,14 @@ fn decide(
 }
 
 /// What a rule leaves of one table's decision: it stays where an earlier rule matched the table.
-fn settle_one(
+fn decide_once(
     alloc: Global,
     place: Place,
     form: &RuleForm<'_>,
     table: &Table,
     decision: &mut Decision,
 ) -> Result<(), PlanFault>
-    ensures { Gives (λ _. decision.new) result (settle_one place.stream place.rule (form_seen form.now) table.now decision.old) }
+    ensures { Gives (λ _. decision.new) result (decide_once place.stream place.rule (form_seen form.now) table.now decision.old) }
 {
     if let Decision::NoRule = decision {
         if form.scope.is_for(table.name()) {
@@ -85,7 +85,7 @@ fn settle_one(
 }
 
 /// Takes one rule over all tables, in order.
-pub(crate) fn settle(
+pub(crate) fn decide_each(
     alloc: Global,
     place: Place,
     form: &RuleForm<'_>,
@@ -93,11 +93,11 @@ pub(crate) fn settle(
     decisions: &mut [Decision],
 ) -> Result<(), PlanFault>
     requires { length decisions.old ≡ length tables.now }
-    ensures settled { Gives (λ _. decisions.new) result (settle place.stream place.rule (form_seen form.now) tables.now decisions.old) }
+    ensures decided { Gives (λ _. decisions.new) result (decide_each place.stream place.rule (form_seen form.now) tables.now decisions.old) }
     ensures count { length decisions.new ≡ length decisions.old }
 {
     for i in 0..tables.len() {
-        settle_one(alloc, place, form, &tables[i], &mut decisions[i])?;
+        decide_once(alloc, place, form, &tables[i], &mut decisions[i])?;
     }
     Ok(())
 }

@@ -9,23 +9,23 @@ use indexmap::IndexSet;
 use std::alloc::Global;
 
 /// What goes by a text that no other may have.
-pub(crate) trait Titled {
+pub(crate) trait HasName {
     ghost use Rattle.std.specs.Prelude.{List, ℕ};
 
     // the text
-    ghost title: { Self → List ℕ };
+    ghost name: { Self → List ℕ };
 
-    fn title(&self) -> &str
-        ensures { result.now ≡ title self.now };
+    fn name(&self) -> &str
+        ensures { result.now ≡ name self.now };
 }
 
-/// Refuses two of the same title.
-pub(crate) fn check_distinct<T: Titled>(alloc: Global, items: &[T]) -> Result<(), PlanFault>
-    ensures { Gives (λ _. map T.title items.now) result (distinct (map T.title items.now)) }
+/// Refuses two of the same name.
+pub(crate) fn check_distinct<T: HasName>(alloc: Global, items: &[T]) -> Result<(), PlanFault>
+    ensures { Gives (λ _. map T.name items.now) result (distinct (map T.name items.now)) }
 {
     let mut seen: IndexSet<&str> = IndexSet::new(alloc);
     for item in items {
-        let (_, is_new) = seen.insert_full(item.title())?;
+        let (_, is_new) = seen.insert_full(item.name())?;
         if !is_new {
             return Err(PlanFault::Shape);
         }

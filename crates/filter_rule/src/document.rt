@@ -5,7 +5,7 @@ ghost use Rattle.serde_json.specs.View.{view};
 ghost use Rattle.filter_rule.specs.Faults.{Gives, each};
 ghost use Rattle.filter_rule.specs.Document.{type_of, column_of, vindex_of, vindex_in, filter_in, rule_of, stream_of, list_apart, table_of, document_of};
 
-use crate::distinct::{Titled, check_distinct};
+use crate::distinct::{HasName, check_distinct};
 use crate::fault::PlanFault;
 use crate::json::{list_in, member, pair, text, text_in};
 use crate::name::{Name, name_of};
@@ -44,12 +44,12 @@ pub(crate) fn each<'v, T: FromJson<'v> + Drop>(
 
 /// The values of a member that is a list, no two of them under the same text.
 #[tactic(auto, unfolding(crate::specs::Document::list_apart))]
-fn list_apart<'v, T: FromJson<'v> + Titled + Drop>(
+fn list_apart<'v, T: FromJson<'v> + HasName + Drop>(
     alloc: Global,
     value: &'v Value,
     key: &str,
 ) -> Result<Vec<T>, PlanFault>
-    ensures { Gives (λ v. v.items) result (list_apart T.title T.reads key.now (view value.now)) }
+    ensures { Gives (λ v. v.items) result (list_apart T.name T.reads key.now (view value.now)) }
 {
     let values = list_in(value, key)?;
     let items = each(alloc, values)?;
@@ -222,34 +222,34 @@ impl<'v> FromJson<'v> for StreamText<'v> {
     }
 }
 
-impl<'v> Titled for Name<'v> {
-    ghost title = { λ n. n };
+impl<'v> HasName for Name<'v> {
+    ghost name = { λ n. n };
 
-    fn title(&self) -> &str {
+    fn name(&self) -> &str {
         self.as_str()
     }
 }
 
-impl<'v> Titled for ColumnText<'v> {
-    ghost title = { λ c. c.name };
+impl<'v> HasName for ColumnText<'v> {
+    ghost name = { λ c. c.name };
 
-    fn title(&self) -> &str {
+    fn name(&self) -> &str {
         self.name.as_str()
     }
 }
 
-impl<'v> Titled for TableText<'v> {
-    ghost title = { λ t. t.name };
+impl<'v> HasName for TableText<'v> {
+    ghost name = { λ t. t.name };
 
-    fn title(&self) -> &str {
+    fn name(&self) -> &str {
         self.name.as_str()
     }
 }
 
-impl<'v> Titled for StreamText<'v> {
-    ghost title = { λ s. s.shard };
+impl<'v> HasName for StreamText<'v> {
+    ghost name = { λ s. s.shard };
 
-    fn title(&self) -> &str {
+    fn name(&self) -> &str {
         self.shard
     }
 }

@@ -5,7 +5,7 @@ ghost use Rattle.filter_rule.specs.Faults.{Gives};
 ghost use Rattle.filter_rule.specs.Reading.{rule_over, undecided, decisions_of};
 ghost use Rattle.filter_rule.specs.declared.decision.Decision.{Decision};
 
-use crate::decide::settle;
+use crate::decide::decide_each;
 use crate::decision::Decision;
 use crate::document::RuleText;
 use crate::fault::PlanFault;
@@ -33,11 +33,11 @@ fn take_rule(
     decisions: &mut [Decision],
 ) -> Result<(), PlanFault>
     requires { length decisions.old ≡ length tables.now }
-    ensures settled { Gives (λ _. decisions.new) result (rule_over place.stream place.rule tables.now rule.now decisions.old) }
+    ensures decided { Gives (λ _. decisions.new) result (rule_over place.stream place.rule tables.now rule.now decisions.old) }
     ensures count { length decisions.new ≡ length decisions.old }
 {
     let form = form_of(alloc, place, rule)?;
-    settle(alloc, place, &form, tables, decisions)
+    decide_each(alloc, place, &form, tables, decisions)
 }
 
 /// The decisions of a stream's rules, the first rule that matches a table counting.

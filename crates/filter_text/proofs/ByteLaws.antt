@@ -95,12 +95,6 @@ blank_ascii b h =
     (λ a. either_ascii (b == 32) (b == 9) b a (one_ascii b 32 (omega arith)) (one_ascii b 9 (omega arith)))
     (λ a. either_ascii (b == 13) (b == 10) b a (one_ascii b 13 (omega arith)) (one_ascii b 10 (omega arith)))
 
-pub mark_ascii : (b : ℕ) → is_mark b ≡ true → b < 128
-mark_ascii b h =
-    either_ascii (b == 42 || b == 40) (b == 41 || b == 44) b h
-    (λ a. either_ascii (b == 42) (b == 40) b a (one_ascii b 42 (omega arith)) (one_ascii b 40 (omega arith)))
-    (λ a. either_ascii (b == 41) (b == 44) b a (one_ascii b 41 (omega arith)) (one_ascii b 44 (omega arith)))
-
 below_high : (low high b : ℕ) → high < 128 → is_in_range low high b ≡ true → b < 128
 below_high low high b small h = let parts = between low high b h in let top : b ≤ high = parts.1 in omega arith
 

@@ -140,10 +140,6 @@ at_mark s bytes rest first same is marks whole =
     let byte : get_or s 0 0 ≡ first = ap (λ (x : List ℕ). get_or x 0 0) (sym same) ∙ sym is in
     ap tokens_of (whole ∙ ap (λ b. b ∷ rest) byte) ∙ mark_first first rest marks
 
-pub word_begins : (s bytes : List ℕ) (first : ℕ) → bytes ≡ s → 0 < length s → first ≡ get_or bytes 0 0 → is_word_byte first ≡ true → begins_in_word s ≡ true
-word_begins [] bytes first same some is h = absurd (omega arith)
-word_begins (b ∷ s) bytes first same some is h = ap is_word_byte (ap (λ (x : List ℕ). get_or x 0 0) (sym same) ∙ sym is) ∙ h
-
 pub no_token : (s bytes : List ℕ) (first : ℕ) → bytes ≡ s → 0 < length s → begins_in_blank s ≡ false → first ≡ get_or bytes 0 0 → (first ≡ 96 → ⊥) → (first ≡ 39 → ⊥) → is_mark first ≡ false → is_word_byte first ≡ false → tokens_of s ≡ None
 no_token [] bytes first same some blank is back quote m w = absurd (omega arith)
 no_token (b ∷ s) bytes first same some blank is back quote m w =
@@ -161,22 +157,6 @@ none_before : {A : Type 0} (o : Option (List A)) → option_map (λ more. [] ++ 
 none_before None = refl
 none_before (Some ts) = refl
 
-pub begins_read : (text rest : List ℕ) → tokens_of rest ≡ tokens_of text → option_map (λ more. map lexeme [] ++ more) (tokens_of rest) ≡ tokens_of text
-begins_read text rest same = none_before (tokens_of rest) ∙ same
-
-one_further : (front : List Lexeme) (t : Lexeme) (o : Option (List Lexeme)) → option_map (λ more. (front ++ t ∷ []) ++ more) o ≡ option_map (λ more. front ++ more) (with_token t o)
-one_further front t None = refl
-one_further front t (Some ts) = ap Some (append_assoc front (t ∷ []) ts)
-
-pub read_on : (text rest behind shown : List ℕ) (tokens : List Token) (t : Token) → option_map (λ more. map lexeme tokens ++ more) (tokens_of rest) ≡ tokens_of text → tokens_of rest ≡ with_token (lexeme t) (tokens_of behind) → tokens_of shown ≡ tokens_of behind
-    → option_map (λ more. map lexeme (tokens ++ t ∷ []) ++ more) (tokens_of shown) ≡ tokens_of text
-read_on text rest behind shown tokens t so_far cut same =
-    ap (λ front. option_map (λ more. front ++ more) (tokens_of shown)) (map-append lexeme tokens (t ∷ []))
-    ∙ one_further (map lexeme tokens) (lexeme t) (tokens_of shown)
-    ∙ ap (λ o. option_map (λ more. map lexeme tokens ++ more) (with_token (lexeme t) o)) same
-    ∙ ap (option_map (λ more. map lexeme tokens ++ more)) (sym cut)
-    ∙ so_far
-
 all_read : (text : List ℕ) (front : List Lexeme) (o : Option (List Lexeme)) → o ≡ Some [] → option_map (λ more. front ++ more) o ≡ tokens_of text → tokens_of text ≡ Some front
 all_read text front o e h =
     sym h ∙ ap (option_map (λ more. front ++ more)) e ∙ ap Some (append-nil front)
@@ -191,7 +171,3 @@ no_bytes (b ∷ s) h = absurd (true≢false (sym h ∙ some_length b s))
 
 pub read_all : (text rest : List ℕ) (front : List Lexeme) → (length rest == 0) ≡ true → option_map (λ more. front ++ more) (tokens_of rest) ≡ tokens_of text → tokens_of text ≡ Some front
 read_all text rest front ended so_far = all_read text front (tokens_of rest) (no_bytes rest ended) so_far
-
-pub no_tokens : (text rest : List ℕ) (front : List Lexeme) → tokens_of rest ≡ None → option_map (λ more. front ++ more) (tokens_of rest) ≡ tokens_of text → tokens_of text ≡ None
-no_tokens text rest front none so_far =
-    sym so_far ∙ ap (option_map (λ more. front ++ more)) none

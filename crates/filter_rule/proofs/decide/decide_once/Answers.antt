@@ -1,5 +1,5 @@
 use Rattle.std.proofs.Common.{rules}
-use Rattle.filter_rule.proofs.decide.settle_one.Goals as goal
+use Rattle.filter_rule.proofs.decide.decide_once.Goals as goal
 
 pub returns : goal.returns
 returns c = search rules
