@@ -30,10 +30,6 @@ and_second true true a b = refl
 and_second true false true b = refl
 and_second true false false b = refl
 
-pub and_many : (o r more : Bool) → ((o && r) && more) ≡ (o && (r && more))
-and_many false r more = refl
-and_many true r more = refl
-
 -- ---- rows that stand alone are those of the change
 
 and_true : (b : Bool) → (b && true) ≡ b
