@@ -8,3 +8,7 @@ pub mod Sound
 pub mod CutAfter
 pub mod Making
 pub mod Fresh
+pub mod Following
+pub mod OwnPart
+pub mod Isolated
+pub mod Determined

@@ -40,7 +40,7 @@ plan-after state close = refl
 plan-after state restart = refl
 
 -- the same number, or another
-same-or-other : (t s : ℕ) → (t ≡ s) ⊎ (t ≢ s)
+pub same-or-other : (t s : ℕ) → (t ≡ s) ⊎ (t ≢ s)
 same-or-other t s = by (t == s) refl
   where
     by : (b : Bool) → (t == s) ≡ b → (t ≡ s) ⊎ (t ≢ s)

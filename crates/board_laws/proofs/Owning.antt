@@ -20,7 +20,7 @@ own-touched s (Some None) (Some there) = by (there.0 == s) refl
     by false e = ap (λ b. own_row s (cond b None (Some there))) e ∙ ap (λ b. cond b (Some there.1) None) e
 
 -- a row of one stream isn't another's
-not-own : (s t : ℕ) (there : ℕ × RowValue) → t ≢ s → (there.0 == s) ≡ true → own_row t (Some there) ≡ None
+pub not-own : (s t : ℕ) (there : ℕ × RowValue) → t ≢ s → (there.0 == s) ≡ true → own_row t (Some there) ≡ None
 not-own s t there other e = ap (λ b. cond b (Some there.1) None) (ne_eqb there.0 t (λ same. other (sym same ∙ eqb-true there.0 s e)))
 
 -- where no row of another stream is in the way, a touch leaves other streams their rows

@@ -11,3 +11,6 @@ pub mod Refusals
 pub mod Step
 pub mod Runs
 pub mod Laws
+pub mod Schedule
+pub mod Lone
+pub mod RunLaws

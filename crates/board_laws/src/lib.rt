@@ -5,6 +5,8 @@
 mod answer;
 mod laws;
 mod refusal;
+mod run_laws;
+mod step_refusal;
 
 pub use answer::{Answer, Copied, Offered};
 pub use laws::{
@@ -12,3 +14,5 @@ pub use laws::{
     steps_keep_boards_lawful,
 };
 pub use refusal::Refusal;
+pub use run_laws::{runs_are_determined, streams_are_isolated, streams_follow_their_own_steps};
+pub use step_refusal::StepRefusal;

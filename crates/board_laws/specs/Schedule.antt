@@ -1,0 +1,68 @@
+-- A list of steps on the streams of a board, one after another, each stream reading its own feed (this profile).
+use Rattle.std.specs.Prelude.{◌≡◌, ℕ, Bool, true, false, IsTrue, List, [], ◌∷◌, Option, Some, MatchOption, Result, Ok, Err, slice_get}
+use Rattle.stream_core.specs.declared.step.Step.{Step}
+use Rattle.stream_core.specs.declared.step.Step.TheVariants.{Offer, Advance, OpenAt, CopyRows, Close, Restart}
+use Rattle.source_feed.specs.declared.fault.FeedFault.{FeedFault}
+use Rattle.source_feed.specs.Planned.{FeedValue}
+use Rattle.source_feed.specs.Touches.{prepared_at}
+use Rattle.board_laws.specs.declared.answer.Answer.{Answer}
+use Rattle.board_laws.specs.declared.refusal.Refusal.{Refusal}
+use Rattle.board_laws.specs.declared.refusal.Refusal.TheVariants.{NoStream, WrongPlan, Diverged, Core, OwnedByOther, FeedCount, Memory}
+use Rattle.board_laws.specs.declared.step_refusal.StepRefusal.{StepRefusal}
+use Rattle.board_laws.specs.declared.step_refusal.StepRefusal.TheVariants.{Unprepared, Refused}
+use Rattle.board_laws.specs.Meaning.{Meaning}
+use Rattle.board_laws.specs.Event.{Event}
+use Rattle.board_laws.specs.Runs.{event_of}
+use Rattle.board_laws.specs.Step.{IsStep}
+
+-- what a step of a schedule answers
+abbrev pub Reply : Type 0
+Reply = Result Answer StepRefusal
+
+-- ---- one step
+
+-- the steps that take memory
+abbrev pub may_want_memory : Step → Bool
+may_want_memory (Offer n) = true
+may_want_memory Advance = true
+may_want_memory (OpenAt m) = true
+may_want_memory (CopyRows c) = true
+may_want_memory Close = false
+may_want_memory Restart = false
+
+-- the group of an offer can't be prepared
+abbrev pub IsUnprepared : FeedValue → Step → FeedFault → Type 0
+IsUnprepared feed (Offer n) fault = prepared_at feed n ≡ Err fault
+IsUnprepared feed step fault = ⊥
+
+-- a step as an event on stream s of the board, where an offer is of the feed's group of that number
+pub record IsEventStep (feed : FeedValue) (old : Meaning) (s : ℕ) (step : Step) (result : Result Answer Refusal) (new : Meaning) : Type 0 where
+  pub event : Event
+  pub of_step : event_of feed step ≡ Some event
+  pub stepped : IsStep old s event result new
+
+-- a step that the board refuses, or that wants memory, which changes nothing
+abbrev pub IsRefusedStep : FeedValue → Meaning → ℕ → Step → Refusal → Meaning → Type 0
+IsRefusedStep feed old s step Memory new = IsTrue (may_want_memory step) × (new ≡ old)
+IsRefusedStep feed old s step refusal new = IsEventStep feed old s step (Err refusal) new
+
+-- what a step on stream s replies and leaves, by the stream's feed
+abbrev pub IsReplyBy : FeedValue → Meaning → ℕ → Step → Reply → Meaning → Type 0
+IsReplyBy feed old s step (Ok answer) new = IsEventStep feed old s step (Ok answer) new
+IsReplyBy feed old s step (Err (Unprepared fault)) new = IsUnprepared feed step fault × (new ≡ old)
+IsReplyBy feed old s step (Err (Refused refusal)) new = IsRefusedStep feed old s step refusal new
+
+-- the same of a step with its stream; where there is no such stream it is refused 115
+abbrev pub IsReply : List FeedValue → Meaning → ℕ × Step → Reply → Meaning → Type 0
+IsReply feeds old step reply new =
+    MatchOption (slice_get feeds step.0) ((reply ≡ Err (Refused NoStream)) × (new ≡ old)) (λ feed. IsReplyBy feed old step.0 step.1 reply new)
+
+-- ---- steps one after another
+
+-- the steps have these replies, one each, and a board between each two; a refusal doesn't end them
+abbrev pub IsRun : List FeedValue → Meaning → List (ℕ × Step) → List Reply → Meaning → Type 0
+IsRun feeds old [] [] new = new ≡ old
+IsRun feeds old [] (reply ∷ replies) new = ⊥
+IsRun feeds old (step ∷ steps) [] new = ⊥
+IsRun feeds old (step ∷ steps) (reply ∷ replies) new =
+    (between : Meaning) × IsReply feeds old step reply between × IsRun feeds between steps replies new

@@ -1,0 +1,32 @@
+//! Laws of schedules, each the contract of a function without a body.
+
+ghost use Rattle.board_laws.specs.RunLaws.{StreamsFollowTheirOwnSteps, RunsStayLawful, StatesSayTheRows, RunsAreDetermined, StreamsAreIsolated, AloneWithTheSameRows};
+
+use pk_copy::keys_tie_where_they_are_equal;
+
+/// After any list of steps each stream's state is the one behind its own steps that weren't refused, by its
+/// feed alone, and the target's rows are those of the states. So two lists in which each stream took the
+/// same steps end in the same board.
+pub fn streams_follow_their_own_steps()
+    ensures follow { StreamsFollowTheirOwnSteps }
+    ensures lawful { RunsStayLawful }
+    ensures rows { StatesSayTheRows }
+{
+    keys_tie_where_they_are_equal();
+}
+
+/// A list of steps has one list of answers and refusals on a lawful board and leaves one board, where
+/// memory isn't wanted.
+pub fn runs_are_determined()
+    ensures { RunsAreDetermined }
+{
+    keys_tie_where_they_are_equal();
+}
+
+/// A stream doesn't notice the others: those of its own steps that no row of another stream and no want of
+/// memory hindered have the same answers and refusals on a board where no other stream has a row, and leave
+/// the stream the same state and the same rows.
+pub fn streams_are_isolated()
+    ensures isolated { StreamsAreIsolated }
+    ensures rows { AloneWithTheSameRows }
+{}
