@@ -6,3 +6,9 @@ pub mod Verdicts
 pub mod CountLaws
 pub mod Walks
 pub mod ResponseLaws
+pub mod WrittenParts
+pub mod WrittenEventLaws
+pub mod JudgingLaws
+pub mod AnswerLaws
+pub mod WrittenPartLaws
+pub mod WritingSteps

@@ -11,3 +11,9 @@ pub mod EventView
 pub mod Response
 pub mod Private
 pub mod Columns
+pub mod WrittenEvent
+pub mod Judging
+pub mod Answer
+pub mod CheckpointPart
+pub mod WrittenPart
+pub mod ContentView

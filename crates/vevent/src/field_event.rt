@@ -1,11 +1,11 @@
 //! Field events: the columns of one table.
 
-ghost use Rattle.std.specs.Prelude.{◌≡◌, true};
+ghost use Rattle.std.specs.Prelude.{◌≡◌, true, map};
 ghost use Rattle.std.specs.Iterator.{YieldsFirstBy, item_count};
 ghost use Rattle.std.specs.List.{list_all};
 ghost use Rattle.std.specs.Str.{is_utf8};
 ghost use Rattle.proto_wire.specs.Parts.{text, parts};
-ghost use Rattle.vevent.specs.Message.{column_fields_of};
+ghost use Rattle.vevent.specs.Message.{column_field_of, column_fields_of};
 ghost use Rattle.vevent.specs.ColumnView.{field_value};
 
 use crate::text::text_of;
@@ -84,6 +84,18 @@ impl<'b> Model for ColumnFields<'b> {
     ghost view = { λ a. map column_field_of a.parts };
 
     ghost invariant = { λ a. list_all (λ field. is_utf8 (text 1 field)) a.parts ≡ true };
+}
+
+impl<'b> ColumnFields<'b> {
+    /// The columns under a number of a message, whose names are texts.
+    pub(crate) fn under(message: &'b [u8], number: u32) -> ColumnFields<'b>
+        requires { list_all (λ field. is_utf8 (text 1 field)) (parts number message.now) ≡ true }
+        ensures { result ≡ map column_field_of (parts number message.now) }
+    {
+        ColumnFields {
+            parts: Parts::new(message, number),
+        }
+    }
 }
 
 impl<'b> Iterator for ColumnFields<'b> {

@@ -9,7 +9,7 @@ ghost use Rattle.vevent.specs.Fault.{in_plain, wire_fault_by};
 use proto_wire::{Field, Fields, Payload, WireFault};
 
 /// The fault of a message that holds no others.
-fn check_plain(message: &[u8]) -> Result<(), WireFault>
+pub(crate) fn check_plain(message: &[u8]) -> Result<(), WireFault>
     ensures { result_err result ≡ (fields_of message.now).fault }
 {
     let mut fields = Fields::new(message);

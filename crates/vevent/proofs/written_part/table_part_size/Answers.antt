@@ -1,0 +1,15 @@
+use Rattle.std.proofs.Common.{◌≡◌, length, sym, arith}
+use Rattle.proto_wire.specs.Writing.{written_field, written_fields, number_field, message_field}
+use Rattle.vevent.specs.ContentView.{answer_content}
+use Rattle.vevent.specs.CheckpointPart.{mark_number}
+use Rattle.vevent.specs.WrittenPart.{written_answer}
+use Rattle.vevent.proofs.WritingSteps.{length-with_message}
+use Rattle.vevent.proofs.written_part.table_part_size.Goals as goal
+
+pub returns : goal.returns
+returns c =
+    let part = c.args.part.now in
+    let answer = written_answer (answer_content part.answer) in
+    let number : c.number_field_size.result ≡ length (written_fields (number_field 1 (mark_number part.mark))) = rw c.number.ensures at c.number_field_size.ensures.size in
+    let message : c.in_ok-answer.answer ≡ length (written_field (message_field 2 answer)) = c.in_ok-answer.ensures answer (sym c.in_ok-answer_size.ensures) in
+    omega (arith, number, message, c.in_ok-size.ensures, length-with_message (number_field 1 (mark_number part.mark)) answer 2)
