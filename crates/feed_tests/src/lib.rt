@@ -15,3 +15,5 @@ mod prepared;
 mod random;
 #[cfg(test)]
 mod refusals;
+#[cfg(test)]
+mod slow;

@@ -1,11 +1,14 @@
-//! Feeds of random changes: an image against a plain program that looks back at the changes for each key.
+//! Feeds of random changes: an image against a plain program that looks back at the changes for each key,
+//! and against one whose contract is the definition.
 
 use crate::feeds::{Step, push_group};
 use crate::image::by_value;
-use pk_copy::KeyPart;
-use row_view::{Column, RowView};
-use source_feed::{Change, Feed, FeedFault, Group, Image, read_groups};
+use crate::slow::slow_row;
+use pk_copy::{KeyPart, LentKey};
+use row_view::{Column, RowBytes, RowView};
+use source_feed::{Change, Feed, FeedFault, Group, Image, Prepared, read_groups};
 use std::alloc::{AllocError, Global};
+use std::sync::Arc;
 use std::test::Fail;
 
 /// The next of some numbers that look random.
@@ -119,18 +122,74 @@ fn agree(alloc: Global, image: &Image<'_>, groups: &[Group<'_>]) -> Result<bool,
     Ok(true)
 }
 
-/// After how many groups of a random feed the image and the changes still say the same.
+/// The image's row at a key.
+fn image_row<'h>(
+    alloc: Global,
+    image: &Image<'h>,
+    key: &LentKey<'h>,
+) -> Result<Option<RowBytes<'h>>, AllocError> {
+    for (found, row) in image.chunk(alloc, key.table(), None, 9)? {
+        if found == key {
+            return Ok(Some(row.copy()));
+        }
+    }
+    Ok(None)
+}
+
+fn are_same(one: Option<RowBytes<'_>>, other: Option<RowBytes<'_>>) -> bool {
+    match (one, other) {
+        (None, None) => true,
+        (Some(one), Some(other)) => one.same(&other),
+        _ => false,
+    }
+}
+
+/// The image has the rows of the definition at the keys of a group's touches.
+fn has_rows_at<'h>(
+    alloc: Global,
+    image: &Image<'h>,
+    earlier: &[Arc<Prepared<'h>>],
+    group: &Prepared<'h>,
+) -> Result<bool, AllocError> {
+    for touch in group.touches() {
+        let row = image_row(alloc, image, touch.key())?;
+        if !are_same(row, slow_row(earlier, touch.key())) {
+            return Ok(false);
+        }
+    }
+    Ok(true)
+}
+
+/// The image has the rows of the definition at every key that the groups touch.
+fn is_kept<'h>(
+    alloc: Global,
+    image: &Image<'h>,
+    groups: &[Arc<Prepared<'h>>],
+) -> Result<bool, AllocError> {
+    for group in groups {
+        if !has_rows_at(alloc, image, groups, group)? {
+            return Ok(false);
+        }
+    }
+    Ok(true)
+}
+
+/// After how many groups of a random feed the image no longer says what the changes and the definition
+/// say; 10 if it always does.
 fn agreed(alloc: Global, seed: u32) -> Result<u32, FeedFault> {
     let bytes = random_feed(alloc, seed)?;
     let feed = Feed::open(alloc, &bytes, &by_value(alloc)?)?;
     let groups = read_groups(alloc, &bytes, "ks", "-80")?;
+    let mut prepared = Vec::new(alloc);
     let mut image = Image::new(alloc);
     for number in 1..=9u32 {
-        image.advance(alloc, &*feed.prepare(alloc, number)?)?;
+        let group = feed.prepare(alloc, number)?;
+        image.advance(alloc, &group)?;
+        prepared.push(group)?;
         let Some(earlier) = groups.get(..number as usize) else {
             return Ok(number);
         };
-        if !agree(alloc, &image, earlier)? {
+        if !agree(alloc, &image, earlier)? || !is_kept(alloc, &image, &prepared)? {
             return Ok(number);
         }
     }
