@@ -1,5 +1,5 @@
 -- A row that is written is read again.
-use Rattle.std.proofs.Common.{◌≡◌, ℕ, ℤ, pos, negsuc, ◌+◌, ◌*◌, ◌/◌, ◌%◌, ◌^◌, ◌<◌, ◌≤◌, true, false, eqb, ltb, List, [], ◌∷◌, ◌++◌, map, length, take, drop, Option, Some, None, Ok, refl, sym, ap, ◌∙◌, append_assoc, arith}
+use Rattle.std.proofs.Common.{◌≡◌, ℕ, ℤ, pos, negsuc, ◌+◌, ◌*◌, ◌/◌, ◌%◌, ◌^◌, ◌<◌, ◌≤◌, true, false, eqb, ltb, List, [], ◌∷◌, ◌++◌, map, length, take, drop, Option, Some, None, Result, Ok, refl, sym, ap, subst, ◌∙◌, append_assoc, arith}
 use Rattle.std.specs.List.{filter_map, AllByRecursion}
 use Rattle.std.proofs.lemmas.Bool.{eq-eqb, ne_eqb, le-ltb}
 use Rattle.std.proofs.lemmas.List.Concat.{flat_map-append}
@@ -12,7 +12,11 @@ use Rattle.proto_wire.specs.Parts.{part_in, last_of}
 use Rattle.proto_wire.specs.Zigzag.{zigzag_of, unzigzag_of}
 use Rattle.proto_wire.specs.Writing.{written_field, written_fields, text_field, IsWritable, FieldsAreReadAgain, NumbersAreReadAgain}
 use Rattle.row_view.specs.RowFields.{lengths_of, fault_of, row_lengths, row_values, row_wire_fault}
-use Rattle.row_view.specs.Row.{size_of_all, columns_over, row_with, row_of_message}
+use Rattle.std.specs.Prelude.{IsOk}
+use Rattle.row_view.specs.declared.fault.RowFault.{RowFault}
+use Rattle.row_view.specs.Private.Kept.{IsGood}
+use Rattle.row_view.proofs.KeptLaws.{good-from_IsOk}
+use Rattle.row_view.specs.Row.{size_of_all, columns_in, columns_over, row_with, row_of_message}
 use Rattle.row_view.specs.WrittenRow.{length_of, length_number, written_lengths, written_values, written_row, RowsAreReadAgain}
 
 -- ---- lengths
@@ -152,3 +156,19 @@ row_written old one two three four columns a b c d =
     let values = written_fields (text_field 2 (written_values columns)) in
     let parts : written_row columns ≡ lengths ++ values = flat_map-append written_field (text_field 1 (written_lengths columns)) (text_field 2 (written_values columns)) in
     d ∙ c ∙ ap (λ (w : List ℕ). w ++ values) (b ∙ a) ∙ append_assoc old lengths values ∙ ap (λ (w : List ℕ). old ++ w) (sym parts)
+
+-- ---- a row in memory of its own
+
+abbrev done : List (Option (List ℕ)) → Result (List (Option (List ℕ))) RowFault
+done columns = Ok columns
+
+done_is : (x y : List (Option (List ℕ))) → done x ≡ done y → x ≡ y
+done_is x y e = cc
+
+-- the message of columns within the limits is a row, and has them
+pub written_is_row : RowsAreReadAgain → (bytes : List ℕ) (columns : List (Option (List ℕ))) → bytes ≡ written_row columns → length columns ≤ 256 → length bytes ≤ 2 ^ 24 → IsGood bytes × (columns_in bytes ≡ columns)
+written_is_row law bytes columns e few short =
+    let read : row_of_message bytes ≡ Ok columns = ap row_of_message e ∙ law columns (record { few = few; short = subst (λ (b : List ℕ). length b ≤ 2 ^ 24) e short }) in
+    let ok : IsOk (row_of_message bytes) = subst (λ (r : Result (List (Option (List ℕ))) RowFault). IsOk r) (sym read) refl in
+    let good : IsGood bytes = good-from_IsOk bytes ok in
+    (good, done_is (columns_in bytes) columns (sym good ∙ read))

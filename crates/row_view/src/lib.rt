@@ -11,6 +11,7 @@ mod row;
 mod row_buf;
 mod row_bytes;
 mod same;
+mod written_columns;
 mod written_laws;
 mod written_row;
 
@@ -20,5 +21,6 @@ pub use fault::RowFault;
 pub use row::{ROW_BYTES, ROW_COLUMNS, RowView};
 pub use row_buf::RowBuf;
 pub use row_bytes::RowBytes;
+pub use written_columns::write_columns;
 pub use written_laws::rows_are_read_again;
 pub use written_row::{row_size, write_row};

@@ -1,10 +1,14 @@
 //! A row in memory of its own.
 
-ghost use Rattle.std.specs.Prelude.{◌≡◌, ◌↔◌, IsTrue, IfOk};
+ghost use Rattle.std.specs.Prelude.{◌≡◌, ◌↔◌, IsTrue, IfOk, map};
+ghost use Rattle.row_view.specs.ColumnValue.{column_value};
 
+use crate::column::Column;
 use crate::columns::Columns;
-use crate::row::RowView;
+use crate::row::{ROW_BYTES, ROW_COLUMNS, RowView};
 use crate::row_bytes::RowBytes;
+use crate::written_columns::write_columns;
+use crate::written_laws::rows_are_read_again;
 use std::alloc::{AllocError, Global};
 use std::marker::Model;
 
@@ -33,6 +37,20 @@ impl RowBuf {
         ensures { IfOk result (λ copy. copy ≡ row.now) }
     {
         RowBuf::from_bytes(alloc, &row.bytes())
+    }
+
+    /// A row of these columns. An error is want of memory, or a row beyond the limits, which has more than
+    /// 256 columns or 2^24 bytes.
+    pub fn of_columns(alloc: Global, columns: &[Column<'_>]) -> Result<RowBuf, AllocError>
+        ensures { IfOk result (λ row. row ≡ map column_value columns.now) }
+    {
+        rows_are_read_again();
+        let mut message = Vec::new(alloc);
+        write_columns(&mut message, columns)?;
+        if columns.len() > usize::from(ROW_COLUMNS) || message.as_slice().len() > ROW_BYTES {
+            return Err(AllocError);
+        }
+        Ok(RowBuf { message })
     }
 
     /// A copy of a row that is kept as its bytes. Reads nothing of it. An error is want of memory.

@@ -25,7 +25,7 @@ pub(crate) struct RowSize {
 }
 
 /// The bytes of a column's value; NULL has none.
-fn value_of<'b>(column: &Column<'b>) -> &'b [u8]
+pub(crate) fn value_of<'b>(column: &Column<'b>) -> &'b [u8]
     ensures { result.now ≡ value_bytes (column_value column.now) }
 {
     match column {
@@ -50,7 +50,7 @@ fn length_of(column: &Column<'_>) -> Result<i64, AllocError>
 }
 
 /// The number that a column's length travels as.
-fn length_number(column: &Column<'_>) -> Result<u64, AllocError>
+pub(crate) fn length_number(column: &Column<'_>) -> Result<u64, AllocError>
     ensures { IfOk result (λ n. n ≡ length_number (column_value column.now)) }
 {
     Ok(zigzag(length_of(column)?))
@@ -58,7 +58,7 @@ fn length_number(column: &Column<'_>) -> Result<u64, AllocError>
 
 impl RowSize {
     /// The sizes with one column more.
-    fn and(self, column: &Column<'_>) -> Result<RowSize, AllocError>
+    pub(crate) fn and(self, column: &Column<'_>) -> Result<RowSize, AllocError>
         ensures lengths { IfOk result (λ sum. sum.lengths ≡ self.lengths + length (shortest (length_number (column_value column.now)))) }
         ensures values { IfOk result (λ sum. sum.values ≡ self.values + length (value_bytes (column_value column.now))) }
     {
