@@ -4,3 +4,4 @@ mod MarkLaws
 mod ReadingLaws
 mod RelationLaws
 mod LeastKey
+pub mod LastpkLaws

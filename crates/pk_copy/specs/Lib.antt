@@ -7,3 +7,5 @@ pub mod SmallPartValue
 pub mod KeyOf
 pub mod Marks
 pub mod MarkView
+pub mod Lastpk
+pub mod PartTextValue

@@ -5,6 +5,8 @@
 mod copy_state;
 mod fault;
 mod key;
+mod lastpk;
+mod lastpk_laws;
 mod laws;
 mod lent;
 mod mark;
@@ -13,13 +15,17 @@ mod part;
 mod reading;
 mod small_part;
 mod view;
+mod written_key;
 
 pub use copy_state::CopyState;
 pub use fault::KeyFault;
 pub use key::Key;
+pub use lastpk::key_of_lastpk;
+pub use lastpk_laws::lastpks_are_read_again;
 pub use laws::keys_tie_where_they_are_equal;
 pub use lent::LentKey;
 pub use mark::Mark;
 pub use part::KeyPart;
 pub use reading::key_of;
 pub use view::KeyView;
+pub use written_key::lastpk_of;

@@ -83,7 +83,7 @@ fn part_at<'b>(columns: &[ColumnDef], row: &RowView<'b>, place: u8) -> Result<Ke
 }
 
 /// The part that a column's text gives the key.
-fn part_of(type_number: u32, text: &[u8]) -> Option<KeyPart<'_>>
+pub(crate) fn part_of(type_number: u32, text: &[u8]) -> Option<KeyPart<'_>>
     ensures part { option_map part_value result ≡ part_of_text type_number text.now }
     ensures within { IfSome result (λ part. IsPart (part_value part)) }
 {

@@ -6,3 +6,4 @@ pub mod BoundDigits
 pub mod Tiling
 pub mod NumberText
 pub mod KeyspaceId
+pub mod NumberLaws

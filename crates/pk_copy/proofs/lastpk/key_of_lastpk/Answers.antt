@@ -1,0 +1,45 @@
+use Rattle.std.proofs.Common.{◌≡◌, ◌∙◌, sym, ap, subst, length}
+use Rattle.std.specs.Prelude.{◌↔◌, Ok, Err, Some, slice_get}
+use Rattle.filter_rule.specs.WellFormed.{ArePlaces}
+use Rattle.pk_copy.specs.KeyOf.{key_in, HoldsNull, LacksPart, IsKeyOf}
+use Rattle.pk_copy.specs.Lastpk.{lastpk_cells, last_cells}
+use Rattle.pk_copy.specs.declared.fault.KeyFault.TheVariants.{NullKey, BadKey}
+use Rattle.pk_copy.proofs.RelationLaws.{key-stands, null_key-stands, bad_key-stands}
+use Rattle.pk_copy.proofs.ReadingLaws.{table_at, columns_of-at, key_columns_of-at, key_places}
+use Rattle.pk_copy.proofs.lastpk.key_of_lastpk.Goals as goal
+
+pub key_under-requires-clause-places : goal.key_under-requires-clause-places
+key_under-requires-clause-places c =
+    let table = c.index-tables-from.result in
+    let stands : slice_get c.args.plan.now.tables c.args.t ≡ Some table = table_at _ _ c.args.t _ table c.tables.ensures.tables c.from.ensures c.requires.table c.index-tables-from.is in
+    let places : ArePlaces table.columns table.key = key_places c.args.plan.now c.args.t table c.tables.ensures.well_formed stands in
+    rw (c.columns.ensures, c.key.ensures) places
+
+pub key_under-requires-clause-width : goal.key_under-requires-clause-width
+key_under-requires-clause-width c =
+    let table = c.index-tables-from.result in
+    let stands : slice_get c.args.plan.now.tables c.args.t ≡ Some table = table_at _ _ c.args.t _ table c.tables.ensures.tables c.from.ensures c.requires.table c.index-tables-from.is in
+    c.requires.columns ∙ ap length (key_columns_of-at c.args.plan.now c.args.t table stands ∙ sym c.key.ensures)
+
+pub returns-clause-value : goal.returns-clause-value
+returns-clause-value c =
+    let table = c.index-tables-from.result in
+    let stands : slice_get c.args.plan.now.tables c.args.t ≡ Some table = table_at _ _ c.args.t _ table c.tables.ensures.tables c.from.ensures c.requires.table c.index-tables-from.is in
+    let columns : c.columns.result.now ≡ _ = c.columns.ensures ∙ sym (columns_of-at c.args.plan.now c.args.t table stands) in
+    let places : c.key.result.now ≡ _ = c.key.ensures ∙ sym (key_columns_of-at c.args.plan.now c.args.t table stands) in
+    c.key_under.ensures ∙ (λ i. key_in c.args.t (lastpk_cells (columns i) (places i) c.args.row.now))
+
+pub returns-clause-key : goal.returns-clause-key
+returns-clause-key c key =
+    let cells = last_cells c.args.plan.now c.args.t c.args.row.now in
+    subst (λ r. (r ≡ Ok key) ↔ IsKeyOf c.args.t cells key) (sym (returns-clause-value c)) (key-stands c.args.t cells key)
+
+pub returns-clause-null : goal.returns-clause-null
+returns-clause-null c =
+    let cells = last_cells c.args.plan.now c.args.t c.args.row.now in
+    subst (λ r. (r ≡ Err NullKey) ↔ HoldsNull cells) (sym (returns-clause-value c)) (null_key-stands c.args.t cells)
+
+pub returns-clause-bad : goal.returns-clause-bad
+returns-clause-bad c =
+    let cells = last_cells c.args.plan.now c.args.t c.args.row.now in
+    subst (λ r. (r ≡ Err BadKey) ↔ ((¬ HoldsNull cells) × LacksPart cells)) (sym (returns-clause-value c)) (bad_key-stands c.args.t cells)

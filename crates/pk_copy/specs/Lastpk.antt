@@ -1,0 +1,48 @@
+-- The key of the last row that was copied, as a row of just the key columns in key order
+-- (`binlogdata.proto`, VStreamRowsResponse, lastpk).
+use Rattle.std.specs.Prelude.{◌≡◌, ℕ, List, [], ◌∷◌, map, Option, Some, Result, Ok}
+use Rattle.vindex.specs.NumberText.{shortest_text}
+use Rattle.filter_rule.specs.PlanTable.{ColumnValue}
+use Rattle.filter_rule.specs.PlanValue.{PlanValue, columns_of, key_columns_of}
+use Rattle.filter_rule.specs.WellFormed.{type_at}
+use Rattle.pk_copy.specs.declared.fault.KeyFault.{KeyFault}
+use Rattle.pk_copy.specs.KeyValue.{Part, number, bytes, KeyValue, AreParts}
+use Rattle.pk_copy.specs.KeyOf.{KeyCell, key_in, key_of}
+
+-- ---- a key as a row
+
+-- the text of a part: a number's shortest decimal text
+abbrev pub part_text : Part → List ℕ
+part_text (number value) = shortest_text value
+part_text (bytes text) = text
+
+-- the parts of a key as the columns of a row, in key order
+abbrev pub lastpk_of : KeyValue → List (Option (List ℕ))
+lastpk_of key = map (λ part. Some (part_text part)) key.parts
+
+-- ---- a row as a key
+
+-- what a column at a place of the table holds
+abbrev pub key_cell : List ColumnValue → ℕ → Option (List ℕ) → KeyCell
+key_cell columns place value = record { type_number = type_at columns place; value = value }
+
+-- what a row of just the columns at these places holds in them
+abbrev pub lastpk_cells : List ColumnValue → List ℕ → List (Option (List ℕ)) → List KeyCell
+lastpk_cells columns places [] = []
+lastpk_cells columns [] (value ∷ row) = []
+lastpk_cells columns (place ∷ places) (value ∷ row) = key_cell columns place value ∷ lastpk_cells columns places row
+
+-- the cells of a row of just the key columns of a table
+abbrev pub last_cells : PlanValue → ℕ → List (Option (List ℕ)) → List KeyCell
+last_cells plan t row = lastpk_cells (columns_of plan t) (key_columns_of plan t) row
+
+-- the key of table t that such a row is, or why it is none
+abbrev pub key_of_lastpk : PlanValue → ℕ → List (Option (List ℕ)) → Result KeyValue KeyFault
+key_of_lastpk plan t row = key_in t (last_cells plan t row)
+
+-- ---- the one undoes the other
+
+-- the key of some row of a table, as a row, is read as this key
+abbrev pub LastpksAreReadAgain : Type 0
+LastpksAreReadAgain = (plan : PlanValue) (t : ℕ) (row : List (Option (List ℕ))) (key : KeyValue)
+    → AreParts key.parts → key_of plan t row ≡ Ok key → key_of_lastpk plan t (lastpk_of key) ≡ Ok key
