@@ -6,6 +6,8 @@ mod groups_of_touches;
 #[cfg(test)]
 mod keys;
 #[cfg(test)]
+mod lastpk;
+#[cfg(test)]
 mod marks;
 #[cfg(test)]
 mod steps;

@@ -1,4 +1,4 @@
-//! Tests of the crates that read bytes: fields, rows and events.
+//! Tests of the crates that read and write bytes: fields, rows and events.
 #![tactic(auto)]
 
 #[cfg(test)]
@@ -9,3 +9,7 @@ mod fields;
 mod rows;
 #[cfg(test)]
 mod samples;
+#[cfg(test)]
+mod writing;
+#[cfg(test)]
+mod written_events;
