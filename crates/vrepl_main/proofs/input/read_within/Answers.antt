@@ -1,4 +1,4 @@
-use Rattle.std.proofs.Common.{◌≡◌, ◌++◌, take, true, arith, refl, ap, ◌∙◌, length-append}
+use Rattle.std.proofs.Common.{◌≡◌, ◌++◌, take, true, arith, refl, ap, ◌∙◌, length-append, rules}
 use Rattle.std.specs.Prelude.{is_ok, not}
 use Rattle.std.proofs.KnownBytes.{Consumes-nil, Consumes-trans, Consumes-kept}
 use Rattle.vrepl_main.proofs.InputLaws.{whole, limit}
@@ -27,3 +27,12 @@ loop-read-preserved g c = elim c.match-read.branch [
       )
   | in-Err+else-ne w ↦ rw w.bytes-is (Consumes-kept _ _ _ _ c.loop-read.invariant.0 w.in-Err.ensures.bytes, omega (arith, c.loop-read.invariant.1))
 ]
+
+pub returns-clause-whole : goal.returns-clause-whole
+returns-clause-whole g c = search rules
+
+pub returns-clause-end : goal.returns-clause-end
+returns-clause-end g c = search rules
+
+pub returns-clause-limit : goal.returns-clause-limit
+returns-clause-limit g c = search rules
