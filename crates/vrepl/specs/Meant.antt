@@ -1,5 +1,8 @@
 -- What the words that were read ask for.
 use Rattle.vrepl.specs.Words.{ShowValue, ThinValue, WordsValue, asks_show, asks_thin}
+use Rattle.std.specs.Prelude.{ℕ, List, Result}
+use Rattle.vrepl_main.specs.Show.{shown_feed, source_of}
+use Rattle.vrepl_main.specs.declared.refusal.Refusal.{Refusal}
 use Rattle.vrepl.specs.declared.words.Show.{Show}
 use Rattle.vrepl.specs.declared.words.Thin.{Thin}
 use Rattle.vrepl.specs.declared.words.Words.{Words}
@@ -21,3 +24,7 @@ thin_value thin = record { table = thin.table.now; feed = thin.feed.now }
 abbrev pub value_of : Words → WordsValue
 value_of (words.Show show) = asks_show (show_value show)
 value_of (words.Thin thin) = asks_thin (thin_value thin)
+
+-- the text that the words of `show` ask for of a feed, or why it is refused
+abbrev pub text_asked : Show → List ℕ → Result (List ℕ) Refusal
+text_asked show feed = shown_feed show.hex feed (source_of show.source)
