@@ -1,0 +1,5 @@
+use Rattle.std.proofs.Common.{rules}
+use Rattle.row_view.proofs.row_buf.RowBuf.same.Goals as goal
+
+pub returns : goal.returns
+returns c = search rules
