@@ -1,3 +1,3 @@
 mod RowsLaws
-mod PrintLaws
+pub mod PrintLaws
 mod TableLaws
