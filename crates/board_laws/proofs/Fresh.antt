@@ -43,7 +43,7 @@ start-sound plan = record {
 }
 
 -- nothing is kept of no group
-start-cut : (plan : PlanValue) (key : KeyValue) → cut_of (start_of plan) key ≡ None
+pub start-cut : (plan : PlanValue) (key : KeyValue) → cut_of (start_of plan) key ≡ None
 start-cut plan key = elim (is_inside (start_of plan).marks key) as (λ b. ◌≡◌ {A = Option RowValue} (cond b None None) None) [ true ↦ refl | false ↦ refl ]
 
 -- a stream of a fresh board is the start of a plan

@@ -12,3 +12,5 @@ pub mod Following
 pub mod OwnPart
 pub mod Isolated
 pub mod Determined
+pub mod FeedLaws
+pub mod Replays

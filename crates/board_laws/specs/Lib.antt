@@ -13,4 +13,5 @@ pub mod Runs
 pub mod Laws
 pub mod Schedule
 pub mod Lone
+pub mod Reading
 pub mod RunLaws

@@ -1,18 +1,20 @@
 -- Laws of schedules, as statements: each is the contract of a function without a body.
-use Rattle.std.specs.Prelude.{◌≡◌, ◌≢◌, ℕ, List, Some, Err, slice_get}
+use Rattle.std.specs.Prelude.{◌≡◌, ◌≢◌, ◌↔◌, ℕ, List, Some, Err, slice_get}
 use Rattle.std.specs.List.{AllByRecursion}
 use Rattle.stream_core.specs.declared.step.Step.{Step}
 use Rattle.pk_copy.specs.KeyOrder.{key_cmp}
 use Rattle.pk_copy.specs.KeyValue.{KeyValue}
 use Rattle.target_tables.specs.Contents.{value_at}
+use Rattle.source_feed.specs.History.{RowValue}
 use Rattle.source_feed.specs.Planned.{FeedValue}
-use Rattle.board_laws.specs.declared.refusal.Refusal.TheVariants.{Memory}
+use Rattle.board_laws.specs.declared.refusal.Refusal.TheVariants.{OwnedByOther, Memory}
 use Rattle.board_laws.specs.declared.step_refusal.StepRefusal.TheVariants.{Refused}
 use Rattle.board_laws.specs.Meaning.{State, Meaning}
 use Rattle.board_laws.specs.Lawful.{IsLawful}
 use Rattle.board_laws.specs.Cut.{own_row}
 use Rattle.board_laws.specs.Lone.{lone_steps, lone_replies, IsAloneAs}
-use Rattle.board_laws.specs.Runs.{own, taken}
+use Rattle.board_laws.specs.Runs.{own, taken, AreDisjoint}
+use Rattle.board_laws.specs.Reading.{AllReadTheirFeeds, IsReplayed}
 use Rattle.board_laws.specs.Schedule.{Reply, IsRun}
 
 -- each stream's state is the one behind its own steps that weren't refused, by its feed alone
@@ -57,3 +59,36 @@ abbrev pub AloneWithTheSameRows : Type 0
 AloneWithTheSameRows =
     (s : ℕ) (board alone : Meaning) → IsLawful board → IsAloneAs s board alone
     → (key : KeyValue) → own_row s (value_at key_cmp alone.rows key) ≡ own_row s (value_at key_cmp board.rows key)
+
+-- and there is such a board for each stream of a lawful one
+abbrev pub AloneBoardsExist : Type 0
+AloneBoardsExist = (board : Meaning) → IsLawful board → (s : ℕ) (state : State) → slice_get board.streams s ≡ Some state → (alone : Meaning) × IsAloneAs s board alone
+
+-- ---- feeds
+
+-- streams that read their feeds in order still do behind any steps
+abbrev pub StreamsReadTheirFeeds : Type 0
+StreamsReadTheirFeeds =
+    (feeds : List FeedValue) (old new : Meaning) (steps : List (ℕ × Step)) (replies : List Reply) → IsRun feeds old steps replies new → AllReadTheirFeeds feeds old → AllReadTheirFeeds feeds new
+
+-- the step was refused since another stream's row stood at a key
+abbrev pub IsClashReply : Reply → Type 0
+IsClashReply (Err (Refused (OwnedByOther key owner))) = Unit {0}
+IsClashReply reply = ⊥
+
+abbrev pub NoneClashes : List Reply → Type 0
+NoneClashes replies = AllByRecursion (λ (reply : Reply). ¬ IsClashReply reply) replies
+
+-- where no key is touched in two feeds no step is refused 71
+abbrev pub DisjointFeedsNeverClash : Type 0
+DisjointFeedsNeverClash =
+    (feeds : List FeedValue) (old new : Meaning) (steps : List (ℕ × Step)) (replies : List Reply) → IsRun feeds old steps replies new → IsLawful old → AllReadTheirFeeds feeds old → AreDisjoint feeds
+    → NoneClashes replies
+
+-- ---- rows
+
+-- a row of the target is a stream's exactly where replaying the stream's applied groups from empty tables leaves it
+-- there, it passes the stream's filter and its key is copied
+abbrev pub RowsAreReplayed : Type 0
+RowsAreReplayed =
+    (board : Meaning) → IsLawful board → (s : ℕ) (key : KeyValue) (row : RowValue) → (value_at key_cmp board.rows key ≡ Some (s, row)) ↔ IsReplayed board s key row

@@ -14,5 +14,8 @@ pub use laws::{
     steps_keep_boards_lawful,
 };
 pub use refusal::Refusal;
-pub use run_laws::{runs_are_determined, streams_are_isolated, streams_follow_their_own_steps};
+pub use run_laws::{
+    rows_are_replayed, runs_are_determined, streams_are_isolated, streams_follow_their_own_steps,
+    streams_read_their_feeds,
+};
 pub use step_refusal::StepRefusal;

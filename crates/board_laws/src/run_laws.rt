@@ -1,6 +1,6 @@
 //! Laws of schedules, each the contract of a function without a body.
 
-ghost use Rattle.board_laws.specs.RunLaws.{StreamsFollowTheirOwnSteps, RunsStayLawful, StatesSayTheRows, RunsAreDetermined, StreamsAreIsolated, AloneWithTheSameRows};
+ghost use Rattle.board_laws.specs.RunLaws.{StreamsFollowTheirOwnSteps, RunsStayLawful, StatesSayTheRows, RunsAreDetermined, StreamsAreIsolated, AloneWithTheSameRows, AloneBoardsExist, StreamsReadTheirFeeds, DisjointFeedsNeverClash, RowsAreReplayed};
 
 use pk_copy::keys_tie_where_they_are_equal;
 
@@ -29,4 +29,18 @@ pub fn runs_are_determined()
 pub fn streams_are_isolated()
     ensures isolated { StreamsAreIsolated }
     ensures rows { AloneWithTheSameRows }
+    ensures alone { AloneBoardsExist }
+{}
+
+/// Each stream's read list stays a beginning of its feed's groups. Where no key is touched in two feeds
+/// before their first unsound group, no step is refused since another stream's row stands at a key.
+pub fn streams_read_their_feeds()
+    ensures reads { StreamsReadTheirFeeds }
+    ensures disjoint { DisjointFeedsNeverClash }
+{}
+
+/// Each stream's rows in the target are exactly the rows that replaying its applied groups from empty tables
+/// leaves, that pass its filter and lie within its copied keys.
+pub fn rows_are_replayed()
+    ensures { RowsAreReplayed }
 {}
