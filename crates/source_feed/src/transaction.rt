@@ -69,8 +69,8 @@ fn push_change<'h>(
     ensures err { IfErr result (λ fault. fault ≡ Memory) }
 {
     if rows.has_before() || rows.has_after() {
-        if changes.is_empty() {
-            // most transactions change one row
+        if changes.len() < 2 {
+            // most transactions change one row or two; behind them the room doubles
             changes.reserve_exact(1)?;
         }
         changes.push(Change { table, rows })?;
