@@ -10,6 +10,7 @@ mod staged;
 mod survey;
 mod tables;
 
+pub use changes::last_touches;
 pub use fault::TableFault;
 pub use laws::what_comes_last_counts;
 pub use scan::Scan;

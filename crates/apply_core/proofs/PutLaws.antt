@@ -1,0 +1,201 @@
+-- What the puts of a group and of a chunk say at a key, and that their keys rise.
+use Rattle.std.proofs.Common.{◌≡◌, Bool, true, false, cond, List, [], ◌∷◌, ◌++◌, map, reverse, append-nil, Option, Some, None, Ordering, refl, sym, ap, subst, ◌∙◌}
+use Rattle.std.proofs.lemmas.Bool.{true≢false}
+use Rattle.std.proofs.lemmas.Cmp.{tied_back}
+use Rattle.std.proofs.lemmas.Grind.{reverse_onto}
+use Rattle.std.proofs.lemmas.List.{map-append}
+use Rattle.std.specs.Cmp.{Equal-is}
+use Rattle.std.specs.declared.cmp.Ordering.TheVariants.{Less, Equal}
+use Rattle.std.specs.List.{AllByRecursion, filter}
+use Rattle.std.specs.Map.{lookup}
+use Rattle.std.specs.Option.{option_or, option_map, option_and_then}
+use Rattle.std.specs.Ordering.{eq_by_cmp, flip_args}
+use Rattle.pk_copy.specs.KeyOrder.{key_cmp}
+use Rattle.pk_copy.specs.KeyOrderLaws.{key_cmp_total}
+use Rattle.pk_copy.specs.KeyValue.{KeyValue}
+use Rattle.pk_copy.specs.Marks.{Marks, is_inside}
+use Rattle.target_tables.specs.Rising.{Ordered, IsRising}
+use Rattle.target_tables.specs.Touches.{last_at, change_at}
+use Rattle.target_tables.proofs.Order.{ordered_with}
+use Rattle.target_tables.proofs.Values.{none_above}
+use Rattle.source_feed.specs.History.{RowValue, passing}
+use Rattle.source_feed.specs.Image.{ImageRows, row_in, lent_row}
+use Rattle.source_feed.specs.Touches.{PutValue, TouchValue}
+use Rattle.board_laws.specs.Touching.{put_by}
+use Rattle.apply_core.specs.Private.Changes.{Change, change_of, lent_change, put_row}
+use denote.Ref.{Bor}
+
+abbrev Lent : Type 0
+Lent = Bor KeyValue × Option RowValue
+
+abbrev Rows : Type 0
+Rows = List (KeyValue × Option RowValue)
+
+-- keys behind references are ordered as the keys
+abbrev lent_cmp : Bor KeyValue → Bor KeyValue → Ordering
+lent_cmp a b = key_cmp a.now b.now
+
+-- some reference to a key
+abbrev lend : KeyValue → Bor KeyValue
+lend key = record { ref_ptr = (0, 0); now = key }
+
+-- ---- lent changes
+
+last_at-lent : (changes : List Lent) (k : Bor KeyValue) → last_at lent_cmp changes k ≡ last_at key_cmp (map lent_change changes) k.now
+last_at-lent [] k = refl
+last_at-lent (change ∷ later) k =
+    ap (λ (v : Option (Option RowValue)). option_or v (cond (eq_by_cmp key_cmp k.now change.0.now) (Some change.1) None)) (last_at-lent later k)
+
+change_at-lent : (changes : List Lent) (k : Bor KeyValue) → change_at lent_cmp changes k ≡ lookup (eq_by_cmp key_cmp k.now) (map lent_change changes)
+change_at-lent [] k = refl
+change_at-lent (change ∷ later) k =
+    ap (λ (v : Option (Option RowValue)). cond (eq_by_cmp key_cmp k.now change.0.now) (Some change.1) v) (change_at-lent later k)
+
+-- ---- the other way round
+
+last_at-behind : (xs : Rows) (x : Change) (k : KeyValue) → last_at key_cmp (xs ++ x ∷ []) k ≡ option_or (cond (eq_by_cmp key_cmp k x.0) (Some x.1) None) (last_at key_cmp xs k)
+last_at-behind [] x k = elim (eq_by_cmp key_cmp k x.0) as (λ b. cond b (Some x.1) None ≡ option_or (cond b (Some x.1) None) None) [ true ↦ refl | false ↦ refl ]
+last_at-behind (y ∷ xs) x k =
+    ap (λ (v : Option (Option RowValue)). option_or v (cond (eq_by_cmp key_cmp k y.0) (Some y.1) None)) (last_at-behind xs x k)
+    ∙ (elim (eq_by_cmp key_cmp k x.0) as (λ b.
+    option_or (option_or (cond b (Some x.1) None) (last_at key_cmp xs k)) (cond (eq_by_cmp key_cmp k y.0) (Some y.1) None)
+    ≡ option_or (cond b (Some x.1) None) (option_or (last_at key_cmp xs k) (cond (eq_by_cmp key_cmp k y.0) (Some y.1) None))) [ true ↦ refl | false ↦ refl ])
+
+-- what comes last of a list is what comes first of its reverse
+last_at-reverse : (xs : Rows) (k : KeyValue) → last_at key_cmp (reverse xs) k ≡ lookup (eq_by_cmp key_cmp k) xs
+last_at-reverse [] k = refl
+last_at-reverse (x ∷ xs) k =
+    ap (λ (ys : Rows). last_at key_cmp ys k) (reverse_onto xs x [])
+    ∙ last_at-behind (reverse xs) x k
+    ∙ ap (λ (v : Option (Option RowValue)). option_or (cond (eq_by_cmp key_cmp k x.0) (Some x.1) None) v) (last_at-reverse xs k)
+    ∙ (elim (eq_by_cmp key_cmp k x.0) as (λ b. option_or (cond b (Some x.1) None) (lookup (eq_by_cmp key_cmp k) xs) ≡ cond b (Some x.1) (lookup (eq_by_cmp key_cmp k) xs)) [ true ↦ refl | false ↦ refl ])
+
+-- what is done with each, and the other way round
+map-reverse : {A B : Type 0} (f : A → B) (xs : List A) → map f (reverse xs) ≡ reverse (map f xs)
+map-reverse f [] = refl
+map-reverse {A} {B} f (x ∷ xs) =
+    ap (λ (ys : List A). map f ys) (reverse_onto xs x [])
+    ∙ map-append f (reverse xs) (x ∷ [])
+    ∙ ap (λ (ys : List B). ys ++ f x ∷ []) (map-reverse f xs)
+    ∙ sym (reverse_onto (map f xs) (f x) [])
+
+all_behind : (P : Change → Type 0) (xs : Rows) (x : Change) → AllByRecursion P xs → P x → AllByRecursion P (xs ++ x ∷ [])
+all_behind P [] x h here = (here, tt)
+all_behind P (y ∷ xs) x h here = (h.0, all_behind P xs x h.1 here)
+
+all_reversed : (P : Change → Type 0) (xs : Rows) → AllByRecursion P xs → AllByRecursion P (reverse xs)
+all_reversed P [] h = tt
+all_reversed P (x ∷ xs) h = rw (reverse_onto xs x []) (all_behind P (reverse xs) x (all_reversed P xs h.1) h.0)
+
+rising-reverse : (xs : Rows) → Ordered (λ a b. key_cmp b a ≡ Less) xs → IsRising key_cmp (reverse xs)
+rising-reverse [] h = tt
+rising-reverse (x ∷ xs) h =
+    rw (reverse_onto xs x [])
+    (ordered_with (λ a b. key_cmp a b ≡ Less) (reverse xs) x [] (subst (IsRising key_cmp) (sym (append-nil (reverse xs))) (rising-reverse xs h.1)) (all_reversed (λ e. key_cmp e.0 x.0 ≡ Less) xs h.0) tt)
+
+each_lent : (k : KeyValue) (later : List Lent) → AllByRecursion (λ change. key_cmp change.0.now k ≡ Less) later → AllByRecursion (λ change. key_cmp change.0 k ≡ Less) (map lent_change later)
+each_lent k [] h = tt
+each_lent k (change ∷ later) h = (h.0, each_lent k later h.1)
+
+falling-lent : (kept : List Lent) → IsRising (flip_args lent_cmp) kept → Ordered (λ a b. key_cmp b a ≡ Less) (map lent_change kept)
+falling-lent [] h = tt
+falling-lent (change ∷ later) h = (each_lent change.0.now later h.0, falling-lent later h.1)
+
+-- ---- the touches of copied keys
+
+module _ (ties : (a b : KeyValue) → key_cmp a b ≡ Equal → a ≡ b) (marks : Marks) where
+  abbrev left : Option PutValue → Option RowValue
+  left = option_and_then passing
+
+  abbrev inside : TouchValue → Bool
+  inside touch = is_inside marks touch.0
+
+  -- one touch more in front
+  one_more : (is copied same : Bool) (later : Option (Option PutValue)) (put : Option PutValue) → (same ≡ true → copied ≡ is)
+      → cond is (option_or (cond copied (option_map left later) None) (cond same (Some (left put)) None)) (cond copied (option_map left later) None)
+      ≡ cond copied (option_map left (option_or later (cond same (Some put) None))) None
+  one_more true true true None put h = refl
+  one_more true true true (Some x) put h = refl
+  one_more true true false None put h = refl
+  one_more true true false (Some x) put h = refl
+  one_more true false true later put h = absurd (true≢false (sym (h refl)))
+  one_more true false false later put h = refl
+  one_more false true true later put h = absurd (true≢false (h refl))
+  one_more false true false None put h = refl
+  one_more false true false (Some x) put h = refl
+  one_more false false same later put h = refl
+
+  in_front : (is : Bool) (touch : TouchValue) (later : List TouchValue) (k : KeyValue)
+      → last_at key_cmp (map change_of (cond is (touch ∷ later) later)) k
+      ≡ cond is (option_or (last_at key_cmp (map change_of later) k) (cond (eq_by_cmp key_cmp k touch.0) (Some (left touch.1)) None)) (last_at key_cmp (map change_of later) k)
+  in_front true touch later k = refl
+  in_front false touch later k = refl
+
+  either : {A : Type 0} (b : Bool) (x : A) → x ≡ cond b x x
+  either true x = refl
+  either false x = refl
+
+  last_at-copied : (touches : List TouchValue) (k : KeyValue) → last_at key_cmp (map change_of (filter inside touches)) k ≡ cond (is_inside marks k) (option_map left (last_at key_cmp touches k)) None
+  last_at-copied [] k = either (is_inside marks k) None
+  last_at-copied (touch ∷ later) k =
+      let same : Bool = eq_by_cmp key_cmp k touch.0 in
+      in_front (inside touch) touch (filter inside later) k
+      ∙ ap (λ (v : Option (Option RowValue)). cond (inside touch) (option_or v (cond same (Some (left touch.1)) None)) v) (last_at-copied later k)
+      ∙ one_more (inside touch) (is_inside marks k) same (last_at key_cmp later k) touch.1 (λ e. ap (is_inside marks) (ties k touch.0 ((Equal-is (key_cmp k touch.0)).0 e)))
+
+  -- the last of the lent changes of each key, the other way round, is what the touches leave at copied keys
+  pub left-by_last : (touches : List TouchValue) (changes kept : List Lent) (puts : Rows)
+      → map lent_change changes ≡ map change_of (filter inside touches)
+      → ((k : Bor KeyValue) → change_at lent_cmp kept k ≡ last_at lent_cmp changes k)
+      → puts ≡ map lent_change (reverse kept)
+      → (key : KeyValue) → last_at key_cmp puts key ≡ cond (is_inside marks key) (option_map left (last_at key_cmp touches key)) None
+  left-by_last touches changes kept puts lent last made key =
+      ap (λ (ps : Rows). last_at key_cmp ps key) (made ∙ map-reverse lent_change kept)
+      ∙ last_at-reverse (map lent_change kept) key
+      ∙ sym (change_at-lent kept (lend key))
+      ∙ last (lend key)
+      ∙ last_at-lent changes (lend key)
+      ∙ ap (λ (cs : Rows). last_at key_cmp cs key) lent
+      ∙ last_at-copied touches key
+
+pub rising-by_last : (kept : List Lent) (puts : Rows) → IsRising (flip_args lent_cmp) kept → puts ≡ map lent_change (reverse kept) → IsRising key_cmp puts
+rising-by_last kept puts falling made = subst (IsRising key_cmp) (sym (made ∙ map-reverse lent_change kept)) (rising-reverse (map lent_change kept) (falling-lent kept falling))
+
+-- ---- the rows of a chunk
+
+abbrev put_lent : Bor KeyValue × Bor RowValue → Change
+put_lent row = put_row (lent_row row)
+
+each_of : (rows : List (Bor KeyValue × Bor RowValue)) → map put_lent rows ≡ map put_row (map lent_row rows)
+each_of [] = refl
+each_of (x ∷ rows) = ap (λ (later : Rows). put_lent x ∷ later) (each_of rows)
+
+last_at-rows : (rows : ImageRows) (k : KeyValue) → IsRising key_cmp rows → last_at key_cmp (map put_row rows) k ≡ put_by rows k
+last_at-rows [] k h = refl
+last_at-rows (x ∷ rows) k h =
+    ap (λ (v : Option (Option RowValue)). option_or v (cond (eq_by_cmp key_cmp k x.0) (Some (Some x.1)) None)) (last_at-rows rows k h.1)
+    ∙ by (eq_by_cmp key_cmp k x.0) refl
+  where
+    none : (v : Option RowValue) → option_or (option_map Some v) None ≡ option_map Some v
+    none None = refl
+    none (Some row) = refl
+
+    by : (b : Bool) → eq_by_cmp key_cmp k x.0 ≡ b → option_or (option_map Some (row_in rows k)) (cond b (Some (Some x.1)) None) ≡ option_map Some (cond b (Some x.1) (row_in rows k))
+    by true e =
+        let tied : key_cmp x.0 k ≡ Equal = tied_back key_cmp_total k x.0 ((Equal-is (key_cmp k x.0)).0 e) in
+        ap (λ (v : Option RowValue). option_or (option_map Some v) (Some (Some x.1))) (none_above key_cmp_total x.0 k rows tied h.0)
+    by false e = none (row_in rows k)
+
+each_put : (k : KeyValue) (rows : ImageRows) → AllByRecursion (λ row. key_cmp k row.0 ≡ Less) rows → AllByRecursion (λ row. key_cmp k row.0 ≡ Less) (map put_row rows)
+each_put k [] h = tt
+each_put k (x ∷ rows) h = (h.0, each_put k rows h.1)
+
+rising-rows : (rows : ImageRows) → IsRising key_cmp rows → IsRising key_cmp (map put_row rows)
+rising-rows [] h = tt
+rising-rows (x ∷ rows) h = (each_put x.0 rows h.0, rising-rows rows h.1)
+
+pub put-by_rows : (rows : List (Bor KeyValue × Bor RowValue)) (puts : Rows) → puts ≡ map put_lent rows → IsRising key_cmp (map lent_row rows) → (key : KeyValue) → last_at key_cmp puts key ≡ put_by (map lent_row rows) key
+put-by_rows rows puts made rising key = ap (λ (ps : Rows). last_at key_cmp ps key) (made ∙ each_of rows) ∙ last_at-rows (map lent_row rows) key rising
+
+pub rising-by_rows : (rows : List (Bor KeyValue × Bor RowValue)) (puts : Rows) → puts ≡ map put_lent rows → IsRising key_cmp (map lent_row rows) → IsRising key_cmp puts
+rising-by_rows rows puts made rising = subst (IsRising key_cmp) (sym (made ∙ each_of rows)) (rising-rows (map lent_row rows) rising)

@@ -1,0 +1,11 @@
+use Rattle.std.proofs.Common.{◌≡◌, ◌<◌, ◌≤◌, length, map, take, ap, ◌∙◌, arith, List, rules}
+use Rattle.std.proofs.lemmas.Grind.{common_steps}
+use Rattle.source_feed.specs.Image.{lent_row}
+use Rattle.apply_core.proofs.PutLaws.{put-by_rows, rising-by_rows}
+use Rattle.apply_core.proofs.puts.puts_of_rows.Goals as goal
+
+pub returns-clause-put : goal.returns-clause-put
+returns-clause-put c = put-by_rows c.args.rows.now c.loop-key.puts.items (grind (arith, common_steps)) c.requires
+
+pub returns-clause-rising : goal.returns-clause-rising
+returns-clause-rising c = rising-by_rows c.args.rows.now c.loop-key.puts.items (grind (arith, common_steps)) c.requires

@@ -1,0 +1,114 @@
+//! Keys and rows in memory of their own, as a step puts them into the target. They are made before the
+//! target is touched, and where it is shared before it is taken.
+
+ghost use Rattle.std.specs.Prelude.{◌≡◌, ◌++◌, List, map, reverse, Some, IfOk};
+ghost use Rattle.std.specs.List.{filter};
+ghost use Rattle.std.specs.Option.{option_map, option_and_then, option_copied};
+ghost use Rattle.pk_copy.specs.KeyOrder.{key_cmp};
+ghost use Rattle.pk_copy.specs.KeyValue.{KeyValue};
+ghost use Rattle.pk_copy.specs.Marks.{is_inside};
+ghost use Rattle.target_tables.specs.Rising.{IsRising};
+ghost use Rattle.target_tables.specs.Touches.{last_at};
+ghost use Rattle.source_feed.specs.History.{passing};
+ghost use Rattle.source_feed.specs.Image.{lent_row};
+ghost use Rattle.board_laws.specs.Touching.{left_by, put_by};
+ghost use Rattle.apply_core.specs.Private.Changes.{change_of, lent_change, put_row};
+
+use pk_copy::{CopyState, Key, LentKey, keys_tie_where_they_are_equal};
+use row_view::{RowBuf, RowBytes};
+use source_feed::{Prepared, Touch};
+use std::alloc::{AllocError, Global};
+use target_tables::last_touches;
+
+/// A key and the row that is put there, in memory of their own; without a row the key is taken away.
+fn owned(
+    alloc: Global,
+    key: &LentKey<'_>,
+    row: Option<&RowBytes<'_>>,
+) -> Result<(Key, Option<RowBuf>), AllocError>
+    ensures { IfOk result (λ put. put ≡ (key.now, option_copied row.entry)) }
+{
+    let key = Key::from_view(alloc, &key.view())?;
+    let row = match row {
+        Some(row) => Some(RowBuf::from_bytes(alloc, row)?),
+        None => None,
+    };
+    Ok((key, row))
+}
+
+/// The row that a touch puts into the target: none where it leaves nothing or the row doesn't pass.
+fn passing_row<'h>(touch: &Touch<'h>) -> Option<RowBytes<'h>>
+    ensures { result ≡ option_and_then passing touch.now.1 }
+{
+    match touch.put() {
+        Some(put) if put.passes() => Some(put.bytes()),
+        _ => None,
+    }
+}
+
+/// The touches of copied keys as changes of the target, in order, lent.
+fn lent_changes<'g, 'h>(
+    alloc: Global,
+    marks: &CopyState,
+    touches: &'g [Touch<'h>],
+) -> Result<Vec<(&'g LentKey<'h>, Option<RowBytes<'h>>)>, AllocError>
+    ensures { IfOk result (λ changes. map lent_change changes.items ≡ map change_of (filter (λ touch. is_inside marks.now touch.0) touches.now)) }
+{
+    let mut changes = Vec::new(alloc);
+    for touch in touches {
+        if marks.inside(&touch.key_view()) {
+            changes.push((touch.key(), passing_row(touch)))?;
+        }
+    }
+    Ok(changes)
+}
+
+/// Changes in memory of their own, the last one first.
+fn owned_changes(
+    alloc: Global,
+    mut changes: Vec<(&LentKey<'_>, Option<RowBytes<'_>>)>,
+) -> Result<Vec<(Key, Option<RowBuf>)>, AllocError>
+    ensures { IfOk result (λ puts. puts.items ≡ map lent_change (reverse changes.entry.items)) }
+{
+    changes.reverse();
+    let mut puts = Vec::with_capacity(alloc, changes.len())?;
+    for (key, row) in &changes {
+        puts.push(owned(alloc, key, row.as_ref())?)?;
+    }
+    Ok(puts)
+}
+
+/// What a group leaves at the copied keys, in memory of its own and by rising key: the last touch of each
+/// key puts a row that passes the plan's filter, and else takes the key away. Only these touches are
+/// copied. Takes a search among the touches' keys; an error is want of memory.
+pub(crate) fn puts_of_group(
+    alloc: Global,
+    marks: &CopyState,
+    group: &Prepared<'_>,
+) -> Result<Vec<(Key, Option<RowBuf>)>, AllocError>
+    ensures left { IfOk result (λ puts. (key : KeyValue) → last_at key_cmp puts.items key ≡ left_by marks.now group.now key) }
+    ensures rising { IfOk result (λ puts. IsRising key_cmp puts.items) }
+{
+    keys_tie_where_they_are_equal();
+    let changes = lent_changes(alloc, marks, group.touches())?;
+    let last = last_touches(alloc, changes)?;
+    let puts = owned_changes(alloc, last)?;
+    Ok(puts)
+}
+
+/// The rows of a chunk at their keys, in memory of their own. That the keys rise is the caller's. An error
+/// is want of memory.
+pub(crate) fn puts_of_rows(
+    alloc: Global,
+    rows: &[(&LentKey<'_>, &RowBytes<'_>)],
+) -> Result<Vec<(Key, Option<RowBuf>)>, AllocError>
+    requires { IsRising key_cmp (map lent_row rows.now) }
+    ensures put { IfOk result (λ puts. (key : KeyValue) → last_at key_cmp puts.items key ≡ put_by (map lent_row rows.now) key) }
+    ensures rising { IfOk result (λ puts. IsRising key_cmp puts.items) }
+{
+    let mut puts = Vec::with_capacity(alloc, rows.len())?;
+    for (key, row) in rows {
+        puts.push(owned(alloc, key, Some(row))?)?;
+    }
+    Ok(puts)
+}
