@@ -1,1 +1,4 @@
 pub mod PutLaws
+pub mod StreamLaws
+pub mod StepLaws
+pub mod BoardLaws

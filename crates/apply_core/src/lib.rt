@@ -1,4 +1,12 @@
 //! The board: streams over one target, and the steps on it.
 #![tactic(auto)]
 
+mod board;
+mod bringing;
+mod place;
 mod puts;
+mod steps;
+mod stream;
+
+pub use board::Board;
+pub use board_laws::{Answer, Copied, Offered, Refusal};

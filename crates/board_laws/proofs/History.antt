@@ -1,5 +1,5 @@
 -- A history with one group more or cut at one, and what it keeps.
-use Rattle.std.proofs.Common.{◌≡◌, ℕ, ◌+◌, ◌-◌, ◌<◌, ◌≤◌, ◌⊎◌, inl, inr, Bool, true, false, cond, List, [], ◌∷◌, ◌++◌, length, take, Option, Some, None, slice_get, refl, sym, ap, subst, ◌∙◌, arith}
+use Rattle.std.proofs.Common.{◌≡◌, ℕ, ◌+◌, ◌-◌, ◌^◌, ◌<◌, ◌≤◌, ◌⊎◌, inl, inr, Bool, true, false, cond, List, [], ◌∷◌, ◌++◌, length, take, Option, Some, None, slice_get, refl, sym, ap, subst, ◌∙◌, arith}
 use Rattle.std.proofs.lemmas.Bool.{false≢true}
 use Rattle.std.proofs.lemmas.Grind.{flat_map-append}
 use Rattle.std.proofs.lemmas.List.{append-nil, take_more, take-append-le}
@@ -163,3 +163,15 @@ read-cut plan list n read = record {
     growing = λ i j earlier later less e f. read.order.growing i j earlier later less (slice_get-take n list i earlier e) (slice_get-take n list j later f);
   };
 }
+
+-- a list has fewer than 2^31 groups, since its last one has the number of them all
+pub short : (plan : PlanValue) (list : List PreparedValue) → IsReadList plan list → length list < 2 ^ 31
+short plan list read = by (slice_get list (length list - 1)) refl
+  where
+    by : (o : Option PreparedValue) → slice_get list (length list - 1) ≡ o → length list < 2 ^ 31
+    by None e = subst (λ (gs : List PreparedValue). length gs < 2 ^ 31) (sym (empty_without_last list e)) (omega arith)
+    by (Some last) e =
+        let inside : length list - 1 < length list = slice_get_within list (length list - 1) last e in
+        let number : last.number ≡ length list - 1 + 1 = read.order.numbered (length list - 1) last e in
+        let few : last.number < 2 ^ 31 = (read.prepared (length list - 1) last e).few in
+        omega arith

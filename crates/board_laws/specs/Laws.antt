@@ -1,5 +1,5 @@
 -- Laws of steps, as statements: each is the contract of a function without a body.
-use Rattle.std.specs.Prelude.{◌≡◌, ℕ, ◌+◌, ◌<◌, ◌≤◌, List, [], length, map, take, nat_le, Some, None, slice_get, slice_set}
+use Rattle.std.specs.Prelude.{◌≡◌, ℕ, ◌+◌, ◌^◌, ◌<◌, ◌≤◌, List, [], length, map, take, nat_le, Some, None, slice_get, slice_set}
 use Rattle.filter_rule.specs.PlanValue.{PlanValue}
 use Rattle.pk_copy.specs.KeyOrder.{key_cmp}
 use Rattle.pk_copy.specs.KeyValue.{KeyValue}
@@ -11,7 +11,7 @@ use Rattle.source_feed.specs.History.{IsKept}
 use Rattle.source_feed.specs.Image.{ImageRows, chunk_of}
 use Rattle.board_laws.specs.Meaning.{State, TargetRows, Meaning}
 use Rattle.board_laws.specs.KeptRows.{kept_rows}
-use Rattle.board_laws.specs.Lawful.{start_of, IsSoundState, IsLawful}
+use Rattle.board_laws.specs.Lawful.{start_of, IsReadList, IsSoundState, IsLawful}
 use Rattle.board_laws.specs.Event.{Event, OnOffer}
 use Rattle.board_laws.specs.Chunk.{rows_left, takes_all}
 use Rattle.board_laws.specs.StateAfter.{answer_to, state_after}
@@ -54,6 +54,10 @@ ClashesAreOfTheCut =
 -- the state behind a step is sound
 abbrev pub StatesStaySound : Type 0
 StatesStaySound = (state : State) (event : Event) → IsSoundState state → IsAllowed state event → OnOffer IsPrepared event → IsSoundState (state_after state event)
+
+-- a read list has fewer than 2^31 groups
+abbrev pub ReadListsAreShort : Type 0
+ReadListsAreShort = (plan : PlanValue) (list : List PreparedValue) → IsReadList plan list → length list < 2 ^ 31
 
 -- ---- kept rows
 

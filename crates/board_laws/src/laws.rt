@@ -1,7 +1,7 @@
 //! Laws of boards, each the contract of a function without a body: they hold of the values that contracts
 //! see a board as.
 
-ghost use Rattle.board_laws.specs.Laws.{TouchesAreSteps, StillSteps, ClashesAreOfTheCut, StatesStaySound, KeptRowsAreOneList, FirstGroupsKeep, ChunksAreLeft, OneMoreTells, FreshBoardsAreLawful};
+ghost use Rattle.board_laws.specs.Laws.{TouchesAreSteps, StillSteps, ClashesAreOfTheCut, StatesStaySound, ReadListsAreShort, KeptRowsAreOneList, FirstGroupsKeep, ChunksAreLeft, OneMoreTells, FreshBoardsAreLawful};
 
 use pk_copy::keys_tie_where_they_are_equal;
 
@@ -12,6 +12,7 @@ pub fn steps_keep_boards_lawful()
     ensures still { StillSteps }
     ensures clashes { ClashesAreOfTheCut }
     ensures sound { StatesStaySound }
+    ensures short { ReadListsAreShort }
 {
     keys_tie_where_they_are_equal();
 }

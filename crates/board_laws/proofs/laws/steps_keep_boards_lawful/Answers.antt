@@ -5,6 +5,7 @@ use Rattle.target_tables.specs.Touches.{touched, owner_in_the_way}
 use Rattle.source_feed.specs.History.{RowValue}
 use Rattle.board_laws.proofs.Sound.{sound-after}
 use Rattle.board_laws.proofs.Making.{step-made, clash-of_cut}
+use Rattle.board_laws.proofs.History.{short}
 use Rattle.board_laws.proofs.laws.steps_keep_boards_lawful.Goals as goal
 
 pub returns-clause-touches : goal.returns-clause-touches
@@ -24,3 +25,6 @@ returns-clause-clashes c old s state event key owner may clash =
 
 pub returns-clause-sound : goal.returns-clause-sound
 returns-clause-sound c state event sound allowed prepared = sound-after (λ a b. (c.keys_tie_where_they_are_equal.ensures a b).0) state event sound allowed prepared
+
+pub returns-clause-short : goal.returns-clause-short
+returns-clause-short c = short

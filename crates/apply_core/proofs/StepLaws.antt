@@ -1,0 +1,58 @@
+-- Steps on streams, put together from the stream's own.
+use Rattle.std.proofs.Common.{◌≡◌, ℕ, ◌<◌, ◌≤◌, Bool, true, false, cond, List, [], ◌∷◌, ◌++◌, length, get_or, set, Option, Some, None, Result, Ok, Err, slice_get, refl, sym, ap, subst, ◌∙◌}
+use Rattle.std.proofs.lemmas.List.{set-get_or}
+use Rattle.std.proofs.lemmas.Option.{slice_get-get_or}
+use Rattle.std.specs.Prelude.{nat_le, MatchOption}
+use Rattle.board_laws.specs.declared.answer.Answer.{Answer}
+use Rattle.board_laws.specs.declared.answer.Answer.TheVariants.{Offered}
+use Rattle.board_laws.specs.declared.answer.Offered.{Offered as OfferAnswer}
+use Rattle.board_laws.specs.declared.answer.Offered.TheVariants.{Read, Repeat}
+use Rattle.board_laws.specs.declared.refusal.Refusal.{Refusal}
+use Rattle.board_laws.specs.declared.refusal.Refusal.TheVariants.{NoStream}
+use Rattle.source_feed.specs.Touches.{PreparedValue}
+use Rattle.board_laws.specs.Meaning.{State, TargetRows}
+use Rattle.board_laws.specs.Event.{Event, offer}
+use Rattle.board_laws.specs.StateAfter.{answer_to, state_after}
+use Rattle.board_laws.specs.Allowed.{IsAllowed}
+use Rattle.board_laws.specs.Step.{IsRefusedFor, IsRefused}
+use Rattle.apply_core.specs.Private.StreamStep.{MayMake, MakesStep, IsRefusedAlone, IsStreamStep, RefusesByItself}
+
+module _ (streams : List State) (s : ℕ) (d : State) (inside : s < length streams) where
+  abbrev x : State
+  x = get_or streams s d
+
+  pub here : slice_get streams s ≡ Some x
+  here = slice_get-get_or streams s d inside
+
+  -- the stream is changed as the step says
+  pub makes : (event : Event) (answer : Answer) (new : State) → IsAllowed x event → answer ≡ answer_to x event → new ≡ state_after x event → MakesStep streams s event answer (set streams s new)
+  makes event answer new allowed answered left = record {
+    may = record { state = x; stream = here; allowed = allowed };
+    answered = answered;
+    streams = ap (set streams s) left;
+  }
+
+  -- the stream is refused by itself, and stays as it was
+  pub refuses : (event : Event) (refusal : Refusal) (new : State) → RefusesByItself x event refusal → new ≡ x → IsRefusedAlone streams s event refusal × (set streams s new ≡ streams)
+  refuses event refusal new by_itself same = (
+    λ rows. subst (λ (o : Option State). MatchOption o (refusal ≡ NoStream) (λ state. IsRefusedFor (record { streams = streams; rows = rows }) s state event refusal)) (sym here) (by_itself (record { streams = streams; rows = rows }) s),
+    ap (set streams s) same ∙ set-get_or streams s d,
+  )
+
+-- an offer that answers a repeat leaves the state
+pub repeat-leaves : (state : State) (group : PreparedValue) (number : ℕ) → ◌≡◌ {A = Answer} (Offered (Repeat number)) (answer_to state (offer group)) → state ≡ state_after state (offer group)
+repeat-leaves state group number e = by (nat_le group.number (length state.list)) refl
+  where
+    by : (b : Bool) → nat_le group.number (length state.list) ≡ b → state ≡ state_after state (offer group)
+    by true h = sym (ap (λ b. cond b state (record { plan = state.plan; list = state.list ++ group ∷ []; applied = state.applied; marks = state.marks; snapshot = state.snapshot })) h)
+    by false h =
+        let clash : ◌≡◌ {A = Answer} (Offered (Repeat number)) (Offered (Read group.number)) = e ∙ ap (λ b. Offered (cond b (Repeat group.number) (Read group.number))) h in
+        cc
+
+-- what a judged offer answers, said of the same group and of the same answer
+pub offer-answered : (state : State) (judged group : PreparedValue) (same : judged ≡ group) (answered answer : OfferAnswer) (is : answered ≡ answer)
+    → IsAllowed state (offer judged) × ◌≡◌ {A = Answer} (Offered answered) (answer_to state (offer judged))
+    → IsAllowed state (offer group) × ◌≡◌ {A = Answer} (Offered answer) (answer_to state (offer group))
+offer-answered state judged group same answered answer is h =
+    subst (λ (a : OfferAnswer). IsAllowed state (offer group) × ◌≡◌ {A = Answer} (Offered a) (answer_to state (offer group))) is
+    (subst (λ (g : PreparedValue). IsAllowed state (offer g) × ◌≡◌ {A = Answer} (Offered answered) (answer_to state (offer g))) same h)
