@@ -1,10 +1,10 @@
 //! Feeds in hexadecimal text, and what `show` prints of them.
 
 use std::alloc::AllocError;
-use std::io;
-use std::io::{Cursor, Write};
+use std::io::Cursor;
 use std::process::Abort;
 use std::test::Fail;
+use vdiff_core::Writer;
 use vrepl_main::show::show;
 use vrepl_main::source::Source;
 
@@ -51,8 +51,8 @@ fn check(
         true,
         feed.as_bytes(),
         NOBODY,
-        &mut printed,
-        &mut refused,
+        &mut Writer::new(&mut printed),
+        &mut Writer::new(&mut refused),
     );
     if refused.as_slice() == b"refused 72\n".as_slice() {
         return Err(AllocError.into());
@@ -91,8 +91,8 @@ fn output_without_room(rt: HostRuntime) -> Result<(), Fail> {
             true,
             FIRST_GROUP.as_bytes(),
             NOBODY,
-            &mut Cursor::new(&mut bytes[..room]),
-            &mut refused,
+            &mut Writer::new(Cursor::new(&mut bytes[..room])),
+            &mut Writer::new(&mut refused),
         );
         if refused.as_slice() == b"refused 72\n".as_slice() {
             return Err(AllocError.into());
@@ -104,44 +104,6 @@ fn output_without_room(rt: HostRuntime) -> Result<(), Fail> {
         );
         assert_eq!(rt; ended, 1, "{room}");
     }
-    Ok(())
-}
-
-/// A writer that counts what it took since it was flushed.
-#[derive(Drop)]
-struct Counting {
-    taken: usize,
-    kept_back: usize,
-}
-
-impl Write for Counting {
-    fn write(&mut self, buf: &[u8]) -> io::Result<usize> {
-        self.taken = self.taken.saturating_add(buf.len());
-        self.kept_back = self.kept_back.saturating_add(buf.len());
-        Ok(buf.len())
-    }
-
-    fn flush(&mut self) -> io::Result<()> {
-        self.kept_back = 0;
-        Ok(())
-    }
-}
-
-#[test]
-fn flushes_what_it_printed(rt: HostRuntime) -> Result<(), Fail> {
-    let mut out = Counting {
-        taken: 0,
-        kept_back: 0,
-    };
-    let mut refused = Vec::with_capacity(rt.alloc(), 256)?;
-    let feed = FIRST_GROUP.as_bytes();
-    let ended = show(rt.alloc(), true, feed, NOBODY, &mut out, &mut refused);
-    if refused.as_slice() == b"refused 72\n".as_slice() {
-        return Err(AllocError.into());
-    }
-    assert_eq!(rt; ended, 0);
-    assert_eq!(rt; out.taken, 61);
-    assert_eq!(rt; out.kept_back, 0);
     Ok(())
 }
 

@@ -1,6 +1,7 @@
 pub mod HexLaws
 pub mod InputLaws
 pub mod PrintLaws
+pub mod AddLaws
 pub mod CommandLaws
 mod ThinLaws
 mod ScriptLaws

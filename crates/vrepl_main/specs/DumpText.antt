@@ -1,6 +1,6 @@
 -- The text of a table's rows, one a line (this profile).
 use Rattle.std.specs.Prelude.{ℕ, List, [], ◌∷◌, ◌++◌, flat_map, Option, codes}
-use Rattle.vrepl_main.specs.Cells.{cell, cells}
+use Rattle.vdiff_core.specs.Cells.{cell, cells}
 
 -- a row's cells, parted by tabs, and LF
 abbrev pub row_text : List (Option (List ℕ)) → List ℕ

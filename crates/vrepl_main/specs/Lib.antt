@@ -4,7 +4,7 @@ pub mod RefusalOf
 pub mod Printing
 pub mod Command
 pub mod Inputs
-pub mod Cells
+pub mod Adding
 pub mod Shown
 pub mod Show
 pub mod RowAt

@@ -1,7 +1,6 @@
 //! The commands of the program `vrepl`: words, bytes and writers in; bytes and a status out.
 #![tactic(auto)]
 
-pub mod cells;
 pub mod hex_text;
 pub mod input;
 pub mod output;

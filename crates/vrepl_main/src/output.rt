@@ -1,57 +1,54 @@
-//! Text to a writer: the whole of it, or after a fault a beginning.
+//! Text behind text that waits for a writer: the whole of it, or after a fault a beginning.
 
 ghost use Rattle.std.specs.Prelude.{◌≡◌, IfSome};
-ghost use Rattle.vrepl_main.specs.Printing.{Prints};
+ghost use Rattle.vdiff_core.specs.Cells.{cells};
+ghost use Rattle.vrepl_main.specs.Adding.{Adds, at};
 
+use row_view::Columns;
+use std::fmt;
 use std::fmt::{InlineText, Write as _};
-use std::io::Write;
-use std::{fmt, io};
-
-/// A write failed, or took no byte.
-#[derive(Clone, Copy, Debug, PartialEq, Eq)]
-pub struct OutputFault;
+use vdiff_core::{Gathered, Out, OutFailed, add_cells};
 
 /// The most bytes of a text that `put_text` prints.
 const SHORT: usize = 128;
 
-/// Writes all the bytes. A write that was interrupted is made again, at most 2^64 writes in all.
-/// All that the program prints goes through this call.
-pub fn put_all<W: Write>(out: &mut W, bytes: &[u8]) -> Result<(), OutputFault>
-    ensures { Prints result (W.contents out.old) (W.contents out.new) bytes.now }
+/// Adds all the bytes.
+pub fn put_all<W: Out>(out: &mut W, text: &mut Gathered, bytes: &[u8]) -> Result<(), OutFailed>
+    ensures { Adds result (at (W.written out.old) text.old) (at (W.written out.new) text.new) bytes.now }
 {
-    let mut rest = bytes;
-    for _write in 0..u64::MAX {
-        if rest.is_empty() {
-            return Ok(());
-        }
-        match out.write(rest) {
-            Ok(0) => return Err(OutputFault),
-            Ok(count) => rest = &rest[count..],
-            Err(fault) => {
-                if fault.kind() != io::ErrorKind::Interrupted {
-                    return Err(OutputFault);
-                }
-            }
-        }
-    }
-    Err(OutputFault)
+    text.put(out, bytes)
 }
 
-/// Prints a text.
-pub fn put_str<W: Write>(out: &mut W, text: &str) -> Result<(), OutputFault>
-    ensures { Prints result (W.contents out.old) (W.contents out.new) text.now }
+/// Adds a text.
+pub fn put_str<W: Out>(out: &mut W, text: &mut Gathered, piece: &str) -> Result<(), OutFailed>
+    ensures { Adds result (at (W.written out.old) text.old) (at (W.written out.new) text.new) piece.now }
 {
-    put_all(out, text.as_bytes())
+    put_all(out, text, piece.as_bytes())
 }
 
-/// Prints a value whose text has at most 128 bytes. Takes no memory. Fails where `out` does, and,
-/// with nothing printed, where the text is longer.
-pub fn put_text<W: Write, D: fmt::Display + Drop>(out: &mut W, value: D) -> Result<(), OutputFault>
-    ensures { IfSome (D.output value) (Prints result (W.contents out.old) (W.contents out.new)) }
+/// Adds each column as a cell behind a tab.
+pub fn print_cells<W: Out>(
+    out: &mut W,
+    text: &mut Gathered,
+    columns: Columns<'_>,
+) -> Result<(), OutFailed>
+    ensures { Adds result (at (W.written out.old) text.old) (at (W.written out.new) text.new) (cells columns.entry) }
 {
-    let mut text = InlineText::<SHORT>::new();
-    match text.write(value) {
-        Ok(()) => put_str(out, text.as_str()),
-        Err(_) => Err(OutputFault),
+    add_cells(out, text, columns)
+}
+
+/// Adds a value whose text has at most 128 bytes. Takes no memory. Fails where `out` does, and, with
+/// nothing written, where the text is longer.
+pub fn put_text<W: Out, D: fmt::Display + Drop>(
+    out: &mut W,
+    text: &mut Gathered,
+    value: D,
+) -> Result<(), OutFailed>
+    ensures { IfSome (D.output value) (Adds result (at (W.written out.old) text.old) (at (W.written out.new) text.new)) }
+{
+    let mut piece = InlineText::<SHORT>::new();
+    match piece.write(value) {
+        Ok(()) => put_str(out, text, piece.as_str()),
+        Err(_) => Err(OutFailed),
     }
 }

@@ -2,13 +2,14 @@
 
 ghost use Rattle.std.specs.Prelude.{◌≡◌, ◌++◌, codes};
 ghost use Rattle.vrepl_main.specs.Refusals.{cause_text, details_of, feed_details, feed_place, number_of, refusal_line};
-ghost use Rattle.vrepl_main.specs.Printing.{Prints, PrintsBeginning};
+ghost use Rattle.vrepl_main.specs.Adding.{Adds, at};
+ghost use Rattle.vrepl_main.specs.Printing.{PrintsBeginning};
 
 use crate::hex_text::HexFault;
-use crate::output::{OutputFault, put_all, put_str, put_text};
+use crate::output::{put_all, put_str, put_text};
 use source_feed::FeedFault;
 use std::alloc::AllocError;
-use std::io::Write;
+use vdiff_core::{Gathered, Out, OutFailed};
 use vevent::EventFault;
 
 /// Why the program ends with status 1. Its line on standard error is `refused`, the number, and for
@@ -85,82 +86,107 @@ impl<'w> From<HexFault> for Refusal<'w> {
 }
 
 /// All that commands print goes to standard output.
-impl<'w> From<OutputFault> for Refusal<'w> {
+impl<'w> From<OutFailed> for Refusal<'w> {
     ghost use Rattle.vrepl_main.specs.Command.{IsUnwritten};
 
     ghost from_gives = { λ _ refusal. IsUnwritten refusal };
 
-    fn from(_: OutputFault) -> Refusal<'w> {
+    fn from(_: OutFailed) -> Refusal<'w> {
         Refusal::CannotWrite { file: "-" }
     }
 }
 
 /// Prints the number of a fault's cause, where it has one.
-fn print_cause<E: Write>(err: &mut E, cause: Option<u8>) -> Result<(), OutputFault>
-    ensures { Prints result (E.contents err.old) (E.contents err.new) (cause_text cause) }
+fn print_cause<E: Out>(err: &mut E, text: &mut Gathered, cause: Option<u8>) -> Result<(), OutFailed>
+    ensures { Adds result (at (E.written err.old) text.old) (at (E.written err.new) text.new) (cause_text cause) }
 {
     match cause {
         None => Ok(()),
-        Some(cause) => put_text(err, format_args!(" cause {cause}")),
+        Some(cause) => put_text(err, text, format_args!(" cause {cause}")),
     }
 }
 
 /// Prints what a refused feed's line says behind the cause.
-fn print_feed_place<E: Write>(err: &mut E, fault: &FeedFault) -> Result<(), OutputFault>
-    ensures { Prints result (E.contents err.old) (E.contents err.new) (feed_place fault.now) }
+fn print_feed_place<E: Out>(
+    err: &mut E,
+    text: &mut Gathered,
+    fault: &FeedFault,
+) -> Result<(), OutFailed>
+    ensures { Adds result (at (E.written err.old) text.old) (at (E.written err.new) text.new) (feed_place fault.now) }
 {
     match fault {
         FeedFault::Event(EventFault::BadType(kind)) => {
-            put_text(err, format_args!(" type {kind}"))
+            put_text(err, text, format_args!(" type {kind}"))
         }
-        FeedFault::Diverged(group) => put_text(err, format_args!(" group {group}")),
+        FeedFault::Diverged(group) => put_text(err, text, format_args!(" group {group}")),
         _ => Ok(()),
     }
 }
 
 /// Prints what stands behind the number of a refused feed.
-fn print_feed_details<E: Write>(err: &mut E, fault: &FeedFault) -> Result<(), OutputFault>
-    ensures { Prints result (E.contents err.old) (E.contents err.new) (feed_details fault.now) }
+fn print_feed_details<E: Out>(
+    err: &mut E,
+    text: &mut Gathered,
+    fault: &FeedFault,
+) -> Result<(), OutFailed>
+    ensures { Adds result (at (E.written err.old) text.old) (at (E.written err.new) text.new) (feed_details fault.now) }
 {
-    print_cause(err, fault.cause())?;
-    print_feed_place(err, fault)
+    print_cause(err, text, fault.cause())?;
+    print_feed_place(err, text, fault)
 }
 
 /// Prints the name of a file.
-fn print_file<E: Write>(err: &mut E, file: &str) -> Result<(), OutputFault>
-    ensures { Prints result (E.contents err.old) (E.contents err.new) (codes " file " ++ file.now) }
+fn print_file<E: Out>(err: &mut E, text: &mut Gathered, file: &str) -> Result<(), OutFailed>
+    ensures { Adds result (at (E.written err.old) text.old) (at (E.written err.new) text.new) (codes " file " ++ file.now) }
 {
-    put_all(err, b" file ")?;
-    put_str(err, file)
+    put_all(err, text, b" file ")?;
+    put_str(err, text, file)
 }
 
 /// Prints what stands behind the number of a refusal.
-fn print_details<E: Write>(err: &mut E, refusal: &Refusal<'_>) -> Result<(), OutputFault>
-    ensures { Prints result (E.contents err.old) (E.contents err.new) (details_of refusal.now) }
+fn print_details<E: Out>(
+    err: &mut E,
+    text: &mut Gathered,
+    refusal: &Refusal<'_>,
+) -> Result<(), OutFailed>
+    ensures { Adds result (at (E.written err.old) text.old) (at (E.written err.new) text.new) (details_of refusal.now) }
 {
     match refusal {
-        Refusal::CannotRead { file } | Refusal::CannotWrite { file } => print_file(err, file),
-        Refusal::Feed(fault) => print_feed_details(err, fault),
-        Refusal::BadScript { line } => put_text(err, format_args!(" line {line}")),
+        Refusal::CannotRead { file } | Refusal::CannotWrite { file } => print_file(err, text, file),
+        Refusal::Feed(fault) => print_feed_details(err, text, fault),
+        Refusal::BadScript { line } => put_text(err, text, format_args!(" line {line}")),
         Refusal::Memory | Refusal::BadHex => Ok(()),
     }
 }
 
-/// Prints the line of a refusal.
-pub fn print_refusal<E: Write>(err: &mut E, refusal: &Refusal<'_>) -> Result<(), OutputFault>
-    ensures { Prints result (E.contents err.old) (E.contents err.new) (refusal_line refusal.now) }
+/// Adds the line of a refusal.
+fn print_refusal<E: Out>(
+    err: &mut E,
+    text: &mut Gathered,
+    refusal: &Refusal<'_>,
+) -> Result<(), OutFailed>
+    ensures { Adds result (at (E.written err.old) text.old) (at (E.written err.new) text.new) (refusal_line refusal.now) }
 {
-    put_all(err, b"refused ")?;
-    put_text(err, refusal.number())?;
-    print_details(err, refusal)?;
-    put_all(err, b"\n")
+    put_all(err, text, b"refused ")?;
+    put_text(err, text, refusal.number())?;
+    print_details(err, text, refusal)?;
+    put_all(err, text, b"\n")
 }
 
-/// Prints the line of a refusal, whole unless `err` fails, and answers the status 1.
-pub fn refuse<E: Write>(err: &mut E, refusal: &Refusal<'_>) -> u8
+/// Prints the line of a refusal in one piece, whole unless `err` fails, and answers the status 1.
+pub fn refuse<E: Out>(err: &mut E, refusal: &Refusal<'_>) -> u8
     ensures status { result ≡ 1 }
-    ensures line { PrintsBeginning (E.contents err.old) (E.contents err.new) (refusal_line refusal.now) }
+    ensures line { PrintsBeginning (E.written err.old).bytes (E.written err.new).bytes (refusal_line refusal.now) }
 {
-    let _printed = print_refusal(err, refusal);
+    let _printed = print_line(err, refusal);
     1
+}
+
+/// Prints the line of a refusal.
+fn print_line<E: Out>(err: &mut E, refusal: &Refusal<'_>) -> Result<(), OutFailed>
+    ensures { PrintsBeginning (E.written err.old).bytes (E.written err.new).bytes (refusal_line refusal.now) }
+{
+    let mut text = Gathered::new();
+    print_refusal(err, &mut text, refusal)?;
+    text.finish(err)
 }

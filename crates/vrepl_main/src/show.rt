@@ -7,34 +7,31 @@ ghost use Rattle.vrepl_main.specs.Printing.{Prints};
 ghost use Rattle.vrepl_main.specs.Command.{PrintsWhole, PrintsSome, PrintsRefusal, Refuses};
 
 use crate::hex_text::bytes_of_hex;
-use crate::output::OutputFault;
 use crate::refusal::{Refusal, refuse};
 use crate::shown::print_groups;
 use crate::source::Source;
 use source_feed::{Group, read_groups};
 use std::alloc::Global;
-use std::io::Write;
+use vdiff_core::{Gathered, Out, OutFailed};
 
-/// Prints all the groups and flushes `out`.
-fn print_whole<W: Write>(out: &mut W, groups: &[Group<'_>]) -> Result<(), OutputFault>
-    ensures { Prints result (W.contents out.old) (W.contents out.new) (shown groups.now) }
+/// Prints all the groups.
+fn print_whole<W: Out>(out: &mut W, groups: &[Group<'_>]) -> Result<(), OutFailed>
+    ensures { Prints result (W.written out.old).bytes (W.written out.new).bytes (shown groups.now) }
 {
-    print_groups(out, groups)?;
-    if out.flush().is_err() {
-        return Err(OutputFault);
-    }
-    Ok(())
+    let mut text = Gathered::new();
+    print_groups(out, &mut text, groups)?;
+    text.finish(out)
 }
 
 /// Prints the groups of a feed of bytes, or nothing where it is refused.
-fn print_bytes<W: Write>(
+fn print_bytes<W: Out>(
     alloc: Global,
     feed: &[u8],
     source: Source<'_>,
     out: &mut W,
 ) -> Result<(), Refusal<'static>>
-    ensures printed { OnOk result (PrintsWhole (shown_bytes (source_of source.entry) (Some feed.now)) (W.contents out.old) (W.contents out.new)) }
-    ensures begun { PrintsSome (shown_bytes (source_of source.entry) (Some feed.now)) (W.contents out.old) (W.contents out.new) }
+    ensures printed { OnOk result (PrintsWhole (shown_bytes (source_of source.entry) (Some feed.now)) (W.written out.old).bytes (W.written out.new).bytes) }
+    ensures begun { PrintsSome (shown_bytes (source_of source.entry) (Some feed.now)) (W.written out.old).bytes (W.written out.new).bytes }
     ensures refused { IfErr result (λ refusal. Refuses refusal (shown_bytes (source_of source.entry) (Some feed.now))) }
 {
     let groups = read_groups(alloc, feed, source.keyspace, source.shard)?;
@@ -44,15 +41,15 @@ fn print_bytes<W: Write>(
 
 /// Prints the groups of a feed, which may be given as hexadecimal text, or nothing where it is
 /// refused.
-fn print_feed<W: Write>(
+fn print_feed<W: Out>(
     alloc: Global,
     hex: bool,
     feed: &[u8],
     source: Source<'_>,
     out: &mut W,
 ) -> Result<(), Refusal<'static>>
-    ensures printed { OnOk result (PrintsWhole (shown_feed hex feed.now (source_of source.entry)) (W.contents out.old) (W.contents out.new)) }
-    ensures begun { PrintsSome (shown_feed hex feed.now (source_of source.entry)) (W.contents out.old) (W.contents out.new) }
+    ensures printed { OnOk result (PrintsWhole (shown_feed hex feed.now (source_of source.entry)) (W.written out.old).bytes (W.written out.new).bytes) }
+    ensures begun { PrintsSome (shown_feed hex feed.now (source_of source.entry)) (W.written out.old).bytes (W.written out.new).bytes }
     ensures refused { IfErr result (λ refusal. Refuses refusal (shown_feed hex feed.now (source_of source.entry))) }
 {
     if !hex {
@@ -62,10 +59,10 @@ fn print_feed<W: Write>(
     print_bytes(alloc, &bytes, source, out)
 }
 
-/// Prints the groups of a feed on `out` in small pieces and flushes it, or prints the line of its
+/// Prints the groups of a feed on `out` in pieces of up to 4 KiB, or prints the line of its
 /// refusal on `err` and nothing on `out`. Answers the status: 0, or 1 after a refusal, also of memory
 /// or where `out` can't be written.
-pub fn show<W: Write, E: Write>(
+pub fn show<W: Out, E: Out>(
     alloc: Global,
     hex: bool,
     feed: &[u8],
@@ -74,10 +71,10 @@ pub fn show<W: Write, E: Write>(
     err: &mut E,
 ) -> u8
     ensures status { (result ≡ 0) ⊎ (result ≡ 1) }
-    ensures printed { result ≡ 0 → PrintsWhole (shown_feed hex feed.now (source_of source.entry)) (W.contents out.old) (W.contents out.new) }
-    ensures begun { PrintsSome (shown_feed hex feed.now (source_of source.entry)) (W.contents out.old) (W.contents out.new) }
+    ensures printed { result ≡ 0 → PrintsWhole (shown_feed hex feed.now (source_of source.entry)) (W.written out.old).bytes (W.written out.new).bytes }
+    ensures begun { PrintsSome (shown_feed hex feed.now (source_of source.entry)) (W.written out.old).bytes (W.written out.new).bytes }
     ensures quiet { result ≡ 0 → err.new ≡ err.old }
-    ensures refused { result ≡ 1 → PrintsRefusal (shown_feed hex feed.now (source_of source.entry)) (E.contents err.old) (E.contents err.new) }
+    ensures refused { result ≡ 1 → PrintsRefusal (shown_feed hex feed.now (source_of source.entry)) (E.written err.old).bytes (E.written err.new).bytes }
 {
     match print_feed(alloc, hex, feed, source, out) {
         Ok(()) => 0,

@@ -5,6 +5,8 @@ ghost use Rattle.std.specs.Io.KnownBytes.{Appends};
 ghost use Rattle.vrepl_main.specs.ThinRun.{thin_given, IsReplied, RefusesGiven};
 ghost use Rattle.vrepl_main.specs.declared.refusal.Refusal.{Refusal};
 
+mod cells;
+mod output;
 mod reply;
 mod rows;
 pub mod script;
@@ -12,13 +14,12 @@ pub mod step;
 mod stream;
 mod text;
 
-use crate::output::put_all;
 use crate::refusal::{Refusal, refuse};
 use script::{ScriptFault, read_script};
 use source_feed::{FeedFault, read_groups};
 use std::alloc::Global;
-use std::io::Write;
 pub use stream::thin_steps;
+use vdiff_core::{Out, put_all};
 
 /// The replies to the steps of a script over the groups of a feed.
 fn text_of(
@@ -52,7 +53,7 @@ fn text_of(
 /// Takes the steps of a script over the groups of a feed, whose keyspace and shard are empty, and
 /// prints the replies on `out`; or the line of a refusal on `err` and then nothing on `out`. Answers
 /// the status: 0, or 1 after a refusal, also of memory or where `out` can't be written.
-pub fn thin<W: Write, E: Write>(
+pub fn thin<W: Out, E: Out>(
     alloc: Global,
     table: &str,
     feed: &[u8],
@@ -61,12 +62,12 @@ pub fn thin<W: Write, E: Write>(
     err: &mut E,
 ) -> u8
     ensures status { (result ≡ 0) ⊎ (result ≡ 1) }
-    ensures printed { result ≡ 0 → (text : List ℕ) × IsReplied table.now feed.now script.now text × Appends (W.contents out.old) (W.contents out.new) text }
-    ensures refused { (refusal : Refusal) → thin_given feed.now script.now ≡ Err refusal → (result ≡ 1) × (W.contents out.new ≡ W.contents out.old) }
+    ensures printed { result ≡ 0 → (text : List ℕ) × IsReplied table.now feed.now script.now text × Appends (W.written out.old).bytes (W.written out.new).bytes text }
+    ensures refused { (refusal : Refusal) → thin_given feed.now script.now ≡ Err refusal → (result ≡ 1) × ((W.written out.new).bytes ≡ (W.written out.old).bytes) }
 {
     match text_of(alloc, table, feed, script) {
         Ok(text) => {
-            if put_all(out, &text).is_err() || out.flush().is_err() {
+            if put_all(out, &text).is_err() {
                 return refuse(err, &Refusal::CannotWrite { file: "-" });
             }
             0

@@ -5,8 +5,8 @@ ghost use Rattle.std.specs.Io.KnownBytes.{Appends};
 ghost use Rattle.vrepl_main.specs.DumpText.{row_text, table_text};
 ghost use Rattle.vrepl_main.specs.RowsHold.{rows_in, IsRising};
 
-use crate::cells::{print_cell, print_cells};
-use crate::output::{OutputFault, put_all};
+use crate::thin::cells::{print_cell, print_cells};
+use crate::thin::output::{OutputFault, put_all};
 use crate::thin::rows::Rows;
 use row_view::RowView;
 use std::alloc::{AllocError, Global};

@@ -5,11 +5,11 @@ use Rattle.std.specs.Fmt.{WritesInCalls}
 use Rattle.std.specs.Fmt.InlineText.{inline_text, IsIntact, AppendsIfIntact}
 use Rattle.std.specs.declared.fmt.InlineText.{InlineText}
 use Rattle.std.proofs.Output.{if_some_weaken}
-use Rattle.vrepl_main.specs.Printing.{Prints, PrintsBeginning}
-use Rattle.vrepl_main.proofs.PrintLaws.{prints_nothing}
+use Rattle.vrepl_main.specs.Adding.{Place, IsBegun, Adds}
+use Rattle.vrepl_main.proofs.AddLaws.{prints_nothing}
 use Rattle.vrepl_main.proofs.output.put_text.Goals as goal
 
-nothing_of : (text : Option (List ℕ)) (now : Option (List ℕ)) → IfSome text (PrintsBeginning now now)
+nothing_of : (text : Option (List ℕ)) (now : Place) → IfSome text (IsBegun now now)
 nothing_of None now = tt
 nothing_of (Some text) now = prints_nothing now text
 
@@ -30,6 +30,6 @@ returns-in-Err g c = nothing_of _ _
 pub returns-in-Ok : goal.returns-in-Ok
 returns-in-Ok g c = if_some_weaken (g.D.Display.output c.args.value) _ _
     (λ bs wrote.
-    let text = (text_of _ bs _ wrote c.new-text.ensures.intact).1 ∙ ap (λ l. l ++ bs) c.new-text.ensures.text in
-    subst (Prints c.put_str.result _ _) (c.as_str.ensures.value ∙ text) c.put_str.ensures)
+    let text = (text_of _ bs _ wrote c.new-piece.ensures.intact).1 ∙ ap (λ l. l ++ bs) c.new-piece.ensures.text in
+    subst (Adds c.put_str.result _ _) (c.as_str.ensures.value ∙ text) c.put_str.ensures)
     c.in-Ok.ensures.writes

@@ -1,7 +1,7 @@
 use Rattle.std.proofs.lemmas.Result.{err_from_is_err_and}
 use Rattle.source_feed.specs.FaultNumber.{cause_of}
 use Rattle.vrepl_main.specs.Refusals.{cause_text, feed_place}
-use Rattle.vrepl_main.proofs.PrintLaws.{first_stops, then_prints}
+use Rattle.vrepl_main.proofs.AddLaws.{first_stops, then_prints}
 use Rattle.vrepl_main.proofs.refusal.print_feed_details.Goals as goal
 
 pub returns-in_err-print_cause : goal.returns-in_err-print_cause

@@ -1,6 +1,6 @@
 use Rattle.std.specs.Prelude.{codes}
 use Rattle.std.proofs.lemmas.Result.{err_from_is_err_and}
-use Rattle.vrepl_main.proofs.PrintLaws.{first_stops, then_prints}
+use Rattle.vrepl_main.proofs.AddLaws.{first_stops, then_prints}
 use Rattle.vrepl_main.proofs.refusal.print_file.Goals as goal
 
 pub returns-in_err-put_all : goal.returns-in_err-put_all

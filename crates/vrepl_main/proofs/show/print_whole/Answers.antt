@@ -1,9 +1,10 @@
-use Rattle.std.proofs.KnownBytes.{Appends-kept}
-use Rattle.vrepl_main.proofs.PrintLaws.{whole_begins}
+use Rattle.std.proofs.Common.{[]}
+use Rattle.vrepl_main.specs.Adding.{at}
+use Rattle.vrepl_main.specs.Shown.{shown}
+use Rattle.vrepl_main.proofs.AddLaws.{then_finishes}
 use Rattle.vrepl_main.proofs.show.print_whole.Goals as goal
 
-pub returns-then-is_err : goal.returns-then-is_err
-returns-then-is_err g c = whole_begins _ _ _ (Appends-kept _ _ _ _ c.in_ok-print_groups.ensures c.flush.ensures.bytes)
-
 pub returns : goal.returns
-returns g c = Appends-kept _ _ _ _ c.in_ok-print_groups.ensures c.flush.ensures.bytes
+returns g c =
+    let put = rw c.new-text.ensures at c.in_ok-print_groups.ensures in
+    then_finishes c.finish.result (at _ []) (at _ c.print_groups.new.text) _ (shown c.args.groups.now) put c.finish.ensures.printed

@@ -1,7 +1,7 @@
 use Rattle.std.specs.Prelude.{codes}
 use Rattle.vrepl_main.specs.Shown.{row_lines}
 use Rattle.std.proofs.lemmas.Result.{err_from_is_err_and}
-use Rattle.vrepl_main.proofs.PrintLaws.{first_stops, then_prints}
+use Rattle.vrepl_main.proofs.AddLaws.{first_stops, then_prints}
 use Rattle.vrepl_main.proofs.shown.print_change.Goals as goal
 
 pub returns-in_err-print_row_if : goal.returns-in_err-print_row_if

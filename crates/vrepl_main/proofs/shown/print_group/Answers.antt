@@ -1,6 +1,6 @@
 use Rattle.vrepl_main.specs.Shown.{group_line, changes_text}
 use Rattle.std.proofs.lemmas.Result.{err_from_is_err_and}
-use Rattle.vrepl_main.proofs.PrintLaws.{first_stops, then_prints}
+use Rattle.vrepl_main.proofs.AddLaws.{first_stops, then_prints}
 use Rattle.vrepl_main.proofs.shown.print_group.Goals as goal
 
 pub returns-in_err-print_group_line : goal.returns-in_err-print_group_line

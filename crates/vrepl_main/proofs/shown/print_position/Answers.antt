@@ -3,7 +3,7 @@ use Rattle.std.proofs.lemmas.List.{drop_more, drop_all}
 use Rattle.gtid_set.specs.declared.interval.Interval.{Interval}
 use Rattle.gtid_set.specs.Printed.{interval_text, printed_behind}
 use Rattle.std.proofs.lemmas.Result.{err_from_is_err_and}
-use Rattle.vrepl_main.proofs.PrintLaws.{moves, stops, ends}
+use Rattle.vrepl_main.proofs.AddLaws.{moves, stops, ends}
 use Rattle.vrepl_main.proofs.shown.print_position.Goals as goal
 
 -- the first interval of what is left

@@ -1,8 +1,7 @@
 use Rattle.std.proofs.Common.{[], ◌∷◌, ◌++◌}
-use Rattle.vrepl_main.specs.Cells.{cells}
-use Rattle.std.proofs.KnownBytes.{Appends-trans}
+use Rattle.vdiff_core.specs.Cells.{cells}
 use Rattle.std.proofs.lemmas.Result.{err_from_is_err_and}
-use Rattle.vrepl_main.proofs.PrintLaws.{first_stops, then_stops, then_prints}
+use Rattle.vrepl_main.proofs.AddLaws.{first_stops, then_stops, then_prints, then_put}
 use Rattle.vrepl_main.proofs.shown.print_row.Goals as goal
 
 pub returns-in_err-put_str : goal.returns-in_err-put_str
@@ -21,9 +20,9 @@ pub returns-in_err-print_cells : goal.returns-in_err-print_cells
 returns-in_err-print_cells g c =
     let a = c.args in
     let p = err_from_is_err_and c.from_residual-in_err-print_cells.result c.from_residual-in_err-print_cells.ensures.1 in
-    rw p.1 (first_stops _ _ (((a.mark.now) ++ a.table.now) ++ cells a.columns) (10 ∷ []) (then_stops _ _ _ ((a.mark.now) ++ a.table.now) (cells a.columns) (Appends-trans _ _ _ (a.mark.now) (a.table.now) c.in_ok-put_str.ensures c.in_ok-put_str-2.ensures) c.in_err-print_cells.ensures))
+    rw p.1 (first_stops _ _ (((a.mark.now) ++ a.table.now) ++ cells a.columns) (10 ∷ []) (then_stops _ _ _ ((a.mark.now) ++ a.table.now) (cells a.columns) (then_put _ _ _ (a.mark.now) (a.table.now) c.in_ok-put_str.ensures c.in_ok-put_str-2.ensures) c.in_err-print_cells.ensures))
 
 pub returns : goal.returns
 returns g c =
     let a = c.args in
-    then_prints c.put_all.result _ _ _ (((a.mark.now) ++ a.table.now) ++ cells a.columns) (10 ∷ []) (Appends-trans _ _ _ ((a.mark.now) ++ a.table.now) (cells a.columns) (Appends-trans _ _ _ (a.mark.now) (a.table.now) c.in_ok-put_str.ensures c.in_ok-put_str-2.ensures) c.in_ok-print_cells.ensures) c.put_all.ensures
+    then_prints c.put_all.result _ _ _ (((a.mark.now) ++ a.table.now) ++ cells a.columns) (10 ∷ []) (then_put _ _ _ ((a.mark.now) ++ a.table.now) (cells a.columns) (then_put _ _ _ (a.mark.now) (a.table.now) c.in_ok-put_str.ensures c.in_ok-put_str-2.ensures) c.in_ok-print_cells.ensures) c.put_all.ensures

@@ -1,9 +1,9 @@
 use Rattle.std.proofs.Common.{[], ◌∷◌}
 use Rattle.row_view.specs.ColumnValue.{column_value}
-use Rattle.vrepl_main.specs.Cells.{cell}
+use Rattle.vdiff_core.specs.Cells.{cell}
 use Rattle.std.proofs.lemmas.Result.{err_from_is_err_and}
 use Rattle.vrepl_main.proofs.PrintLaws.{first_stops, then_prints}
-use Rattle.vrepl_main.proofs.cells.print_next_cell.Goals as goal
+use Rattle.vrepl_main.proofs.thin.cells.print_next_cell.Goals as goal
 
 pub returns-in_err-put_all : goal.returns-in_err-put_all
 returns-in_err-put_all g c =

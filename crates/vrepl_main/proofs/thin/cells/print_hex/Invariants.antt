@@ -1,7 +1,7 @@
 use Rattle.std.proofs.Common.{length}
 use Rattle.hex.specs.Hex.{encode_lower}
 use Rattle.vrepl_main.specs.Printing.{IsPrintedTo}
-use Rattle.vrepl_main.proofs.cells.print_hex.Given as goal
+use Rattle.vrepl_main.proofs.thin.cells.print_hex.Given as goal
 
 -- what is printed and what is left are the whole
 abbrev pub invariant-loop-rest : goal.invariant-loop-rest

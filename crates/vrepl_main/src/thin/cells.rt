@@ -1,12 +1,12 @@
-//! The columns of a row as text: cells parted by tabs.
+//! The columns of a row as text, for the dumps of `thin`.
 
 ghost use Rattle.std.specs.Prelude.{◌≡◌, ◌≤◌, ◌∷◌, ◌++◌, codes, length};
 ghost use Rattle.hex.specs.Hex.{encode_lower};
 ghost use Rattle.row_view.specs.ColumnValue.{column_value};
-ghost use Rattle.vrepl_main.specs.Cells.{cell, cells};
+ghost use Rattle.vdiff_core.specs.Cells.{cell, cells};
 ghost use Rattle.vrepl_main.specs.Printing.{Prints};
 
-use crate::output::{OutputFault, put_all};
+use crate::thin::output::{OutputFault, put_all};
 use row_view::{Column, Columns};
 use std::io::Write;
 

@@ -1,6 +1,6 @@
-use Rattle.vrepl_main.specs.Cells.{cells}
+use Rattle.vdiff_core.specs.Cells.{cells}
 use Rattle.vrepl_main.specs.Printing.{IsPrintedTo}
-use Rattle.vrepl_main.proofs.cells.print_cells.Given as goal
+use Rattle.vrepl_main.proofs.thin.cells.print_cells.Given as goal
 
 -- what is printed and what is left are the whole
 abbrev pub invariant-loop-column : goal.invariant-loop-column

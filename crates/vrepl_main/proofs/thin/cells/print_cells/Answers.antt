@@ -1,10 +1,10 @@
 use Rattle.std.proofs.Common.{◌≡◌, ◌++◌, ◌∷◌, List, ℕ, Option, ap, ◌∙◌}
 use Rattle.std.proofs.lemmas.List.Concat.{flat_map-cons}
 use Rattle.row_view.specs.ColumnValue.{column_value}
-use Rattle.vrepl_main.specs.Cells.{cell, cells}
+use Rattle.vdiff_core.specs.Cells.{cell, cells}
 use Rattle.std.proofs.lemmas.Result.{err_from_is_err_and}
 use Rattle.vrepl_main.proofs.PrintLaws.{moves, stops, ends}
-use Rattle.vrepl_main.proofs.cells.print_cells.Goals as goal
+use Rattle.vrepl_main.proofs.thin.cells.print_cells.Goals as goal
 
 -- the first cell of what is left
 first_cell : (left rest : List (Option (List ℕ))) (value : Option (List ℕ)) → left ≡ value ∷ rest → cells left ≡ (9 ∷ cell value) ++ cells rest

@@ -1,5 +1,5 @@
 use Rattle.std.proofs.Common.{rules}
-use Rattle.vrepl_main.proofs.cells.print_cell.Goals as goal
+use Rattle.vrepl_main.proofs.thin.cells.print_cell.Goals as goal
 
 pub returns-in-Bytes : goal.returns-in-Bytes
 returns-in-Bytes g c = search rules

@@ -2,7 +2,7 @@ use Rattle.std.specs.Prelude.{codes}
 use Rattle.std.proofs.lemmas.Result.{err_from_is_err_and}
 use Rattle.hex.specs.Hex.{encode_lower}
 use Rattle.vrepl_main.proofs.PrintLaws.{first_stops, then_prints}
-use Rattle.vrepl_main.proofs.cells.print_value.Goals as goal
+use Rattle.vrepl_main.proofs.thin.cells.print_value.Goals as goal
 
 pub returns-in_err-put_all : goal.returns-in_err-put_all
 returns-in_err-put_all g c =

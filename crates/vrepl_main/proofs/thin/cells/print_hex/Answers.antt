@@ -2,7 +2,7 @@ use Rattle.std.proofs.Common.{◌++◌, rules, ap, ◌∙◌, drop_of_length-le}
 use Rattle.hex.specs.Hex.{encode_lower}
 use Rattle.std.proofs.lemmas.Result.{err_from_is_err_and}
 use Rattle.vrepl_main.proofs.PrintLaws.{moves, stops, ends, hex-append, no_hex}
-use Rattle.vrepl_main.proofs.cells.print_hex.Goals as goal
+use Rattle.vrepl_main.proofs.thin.cells.print_hex.Goals as goal
 
 pub loop-rest-preserved : goal.loop-rest-preserved
 loop-rest-preserved g c =

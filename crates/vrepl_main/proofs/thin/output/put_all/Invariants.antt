@@ -1,5 +1,5 @@
 use Rattle.vrepl_main.specs.Printing.{IsPrintedTo}
-use Rattle.vrepl_main.proofs.output.put_all.Given as goal
+use Rattle.vrepl_main.proofs.thin.output.put_all.Given as goal
 
 -- what is printed and what is left are the whole
 abbrev pub invariant-loop-write : goal.invariant-loop-write

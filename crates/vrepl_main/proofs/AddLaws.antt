@@ -1,0 +1,75 @@
+-- Text that is added piece by piece behind text that waits: what is added and what is left are the whole.
+use Rattle.std.proofs.Common.{◌≡◌, ℕ, List, [], ◌++◌, sym, ap, ◌∙◌, subst, refl, append_assoc, append-nil, Result, Ok, Err}
+use Rattle.vdiff_core.specs.Printing as strong
+use Rattle.vdiff_core.specs.Printing.{Written, IsAdded}
+use Rattle.vdiff_core.proofs.PrintLaws.{adds_none, added_more, adds_all}
+use Rattle.vrepl_main.specs.Printing.{PrintsBeginning, Prints}
+use Rattle.vrepl_main.specs.Adding.{Place, at, IsPut, IsBegun, Adds, IsPutUpTo}
+use Rattle.vrepl_main.proofs.PrintLaws as bytes
+
+-- a beginning that broke off is a beginning
+broken : (old new : Written) (text : List ℕ) → strong.BreaksOff old new text → PrintsBeginning old.bytes new.bytes text
+broken old new text (rest, off) = (rest, record { printed = off.printed; parts = off.parts; appended = off.appended })
+
+-- what a call of the library adds
+pub added : {X E : Type 0} (result : Result X E) (old : Written) (waited : List ℕ) (new : Written) (waits text : List ℕ) → strong.Adds result old waited new waits text → Adds result (at old waited) (at new waits) text
+added (Ok x) old waited new waits text is = is
+added (Err fault) old waited new waits text is = record { begun = broken old new (waited ++ text) is }
+
+-- the same where a text is printed to its end
+pub printed : {X E : Type 0} (result : Result X E) (old new : Written) (text : List ℕ) → strong.Prints result old new text → Prints result old.bytes new.bytes text
+printed (Ok x) old new text is = is.appended
+printed (Err fault) old new text is = broken old new text is
+
+-- ---- two parts one behind the other
+
+pub then_put : (old now new : Place) (text more : List ℕ) → IsPut old now text → IsPut now new more → IsPut old new (text ++ more)
+then_put old now new text more first second = added_more old.written old.waiting now.written now.waiting new.written new.waiting text more first second
+
+pub first_stops : (old new : Place) (text more : List ℕ) → IsBegun old new text → IsBegun old new (text ++ more)
+first_stops old new text more is = record {
+  begun = subst (PrintsBeginning old.written.bytes new.written.bytes) (append_assoc old.waiting text more)
+      (bytes.first_stops old.written.bytes new.written.bytes (old.waiting ++ text) more is.begun);
+}
+
+pub then_stops : (old now new : Place) (text more : List ℕ) → IsPut old now text → IsBegun now new more → IsBegun old new (text ++ more)
+then_stops old now new text more first second = record {
+  begun = subst (PrintsBeginning old.written.bytes new.written.bytes)
+      (sym (append_assoc first.gone now.waiting more) ∙ ap (λ l. l ++ more) (sym first.parts) ∙ append_assoc old.waiting text more)
+      (bytes.then_stops old.written.bytes now.written.bytes new.written.bytes first.gone (now.waiting ++ more) first.written.appended second.begun);
+}
+
+pub then_prints : {X E : Type 0} (result : Result X E) (old now new : Place) (text more : List ℕ) → IsPut old now text → Adds result now new more → Adds result old new (text ++ more)
+then_prints (Ok x) old now new text more first second = then_put old now new text more first second
+then_prints (Err fault) old now new text more first second = then_stops old now new text more first second
+
+-- what waited and what was added is written, or a beginning of it
+pub then_finishes : {X E : Type 0} (result : Result X E) (old now : Place) (new : Written) (text : List ℕ) → IsPut old now text → strong.Prints result now.written new now.waiting → Prints result old.written.bytes new.bytes (old.waiting ++ text)
+then_finishes (Ok x) old now new text first second = (adds_all old.written old.waiting now.written now.waiting new text first second).appended
+then_finishes (Err fault) old now new text first second =
+    subst (PrintsBeginning old.written.bytes new.bytes) (sym first.parts)
+    (bytes.then_stops old.written.bytes now.written.bytes new.bytes first.gone now.waiting first.written.appended (broken now.written new now.waiting second))
+
+-- ---- a text that is walked from its front
+
+pub starts : (now : Place) (text : List ℕ) → IsPutUpTo now now text text
+starts now text = record { done = []; parts = refl; put = adds_none now.written now.waiting }
+
+pub moves : (old now new : Place) (text left piece rest : List ℕ) → left ≡ piece ++ rest → IsPutUpTo old now text left → IsPut now new piece → IsPutUpTo old new text rest
+moves old now new text left piece rest parts before more = record {
+  done = before.done ++ piece;
+  parts = before.parts ∙ ap (λ l. before.done ++ l) parts ∙ sym (append_assoc before.done piece rest);
+  put = then_put old now new before.done piece before.put more;
+}
+
+pub stops : (old now new : Place) (text left piece rest : List ℕ) → left ≡ piece ++ rest → IsPutUpTo old now text left → IsBegun now new piece → IsBegun old new text
+stops old now new text left piece rest parts before begun =
+    subst (IsBegun old new) (sym (before.parts ∙ ap (λ l. before.done ++ l) parts))
+    (then_stops old now new before.done (piece ++ rest) before.put (first_stops now new piece rest begun))
+
+pub ends : (old now : Place) (text left : List ℕ) → left ≡ [] → IsPutUpTo old now text left → IsPut old now text
+ends old now text left nothing before = subst (IsPut old now) (sym (before.parts ∙ ap (λ l. before.done ++ l) nothing ∙ append-nil before.done)) before.put
+
+-- nothing was written
+pub prints_nothing : (now : Place) (text : List ℕ) → IsBegun now now text
+prints_nothing now text = record { begun = bytes.prints_nothing now.written.bytes (now.waiting ++ text) }
