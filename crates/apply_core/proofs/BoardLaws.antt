@@ -1,15 +1,14 @@
 -- Steps of a board that touch no row, from the steps of its streams.
-use Rattle.std.proofs.Common.{◌≡◌, ℕ, List, Option, None, Result, Ok, Err, ◌++◌, length, take, drop, set, refl, sym, ap, subst, ◌∙◌, arith}
+use Rattle.std.proofs.Common.{◌≡◌, ℕ, List, None, Result, Ok, Err, ◌++◌, length, take, drop, set, refl, sym, ap, subst, ◌∙◌, arith}
 use Rattle.std.proofs.lemmas.List.{take-append-le, take_all}
 use Rattle.pk_copy.specs.KeyValue.{KeyValue}
 use Rattle.board_laws.specs.declared.answer.Answer.{Answer}
 use Rattle.board_laws.specs.declared.refusal.Refusal.{Refusal}
 use Rattle.source_feed.specs.Prepared.{IsPrepared}
-use Rattle.source_feed.specs.History.{RowValue}
 use Rattle.board_laws.specs.Meaning.{State, TargetRows, Meaning}
 use Rattle.board_laws.specs.Lawful.{IsLawful}
 use Rattle.board_laws.specs.Event.{Event, OnOffer}
-use Rattle.board_laws.specs.StateAfter.{answer_to, state_after}
+use Rattle.board_laws.specs.StateAfter.{state_after}
 use Rattle.board_laws.specs.Touching.{touch_of}
 use Rattle.board_laws.specs.Step.{IsMade, IsStep}
 use Rattle.board_laws.specs.Laws.{StillSteps}
@@ -35,7 +34,7 @@ still-step still streams new rows board seen s event r lawful prepared untouched
     by (Err refusal) h = (h.0 rows, ap (λ (xs : List State). record { streams = xs; rows = rows }) h.1)
 
 -- what a loan of the streams writes back
-refilled : (n : ℕ) (items new : List State) → length new ≡ n → take n (new ++ drop (length new) items) ≡ new
+pub refilled : (n : ℕ) (items new : List State) → length new ≡ n → take n (new ++ drop (length new) items) ≡ new
 refilled n items new same = take-append-le n new (drop (length new) items) (omega (arith, same)) ∙ take_all n new (omega (arith, same))
 
 module _ (still : StillSteps) (items : List State) (rows : TargetRows) (s : ℕ) (event : Event) (r : Result Answer Refusal) (lent new : List State) (is : lent ≡ items)

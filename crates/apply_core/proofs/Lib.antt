@@ -2,3 +2,4 @@ pub mod PutLaws
 pub mod StreamLaws
 pub mod StepLaws
 pub mod BoardLaws
+pub mod ApplyLaws

@@ -1,7 +1,7 @@
 -- Steps on streams, put together from the stream's own.
-use Rattle.std.proofs.Common.{◌≡◌, ℕ, ◌<◌, ◌≤◌, Bool, true, false, cond, List, [], ◌∷◌, ◌++◌, length, get_or, set, Option, Some, None, Result, Ok, Err, slice_get, refl, sym, ap, subst, ◌∙◌}
+use Rattle.std.proofs.Common.{◌≡◌, ℕ, ◌<◌, Bool, true, false, cond, List, [], ◌∷◌, ◌++◌, length, get_or, set, Option, Some, slice_get, refl, sym, ap, subst, ◌∙◌}
 use Rattle.std.proofs.lemmas.List.{set-get_or}
-use Rattle.std.proofs.lemmas.Option.{slice_get-get_or}
+use Rattle.std.proofs.lemmas.Option.{slice_get-get_or, get_or_from_slice_get}
 use Rattle.std.specs.Prelude.{nat_le, MatchOption}
 use Rattle.board_laws.specs.declared.answer.Answer.{Answer}
 use Rattle.board_laws.specs.declared.answer.Answer.TheVariants.{Offered}
@@ -10,12 +10,12 @@ use Rattle.board_laws.specs.declared.answer.Offered.TheVariants.{Read, Repeat}
 use Rattle.board_laws.specs.declared.refusal.Refusal.{Refusal}
 use Rattle.board_laws.specs.declared.refusal.Refusal.TheVariants.{NoStream}
 use Rattle.source_feed.specs.Touches.{PreparedValue}
-use Rattle.board_laws.specs.Meaning.{State, TargetRows}
+use Rattle.board_laws.specs.Meaning.{State}
 use Rattle.board_laws.specs.Event.{Event, offer}
 use Rattle.board_laws.specs.StateAfter.{answer_to, state_after}
 use Rattle.board_laws.specs.Allowed.{IsAllowed}
-use Rattle.board_laws.specs.Step.{IsRefusedFor, IsRefused}
-use Rattle.apply_core.specs.Private.StreamStep.{MayMake, MakesStep, IsRefusedAlone, IsStreamStep, RefusesByItself}
+use Rattle.board_laws.specs.Step.{IsRefusedFor}
+use Rattle.apply_core.specs.Private.StreamStep.{MayMake, MakesStep, IsRefusedAlone, RefusesByItself}
 
 module _ (streams : List State) (s : ℕ) (d : State) (inside : s < length streams) where
   abbrev x : State
@@ -56,3 +56,14 @@ pub offer-answered : (state : State) (judged group : PreparedValue) (same : judg
 offer-answered state judged group same answered answer is h =
     subst (λ (a : OfferAnswer). IsAllowed state (offer group) × ◌≡◌ {A = Answer} (Offered a) (answer_to state (offer group))) is
     (subst (λ (g : PreparedValue). IsAllowed state (offer g) × ◌≡◌ {A = Answer} (Offered answered) (answer_to state (offer g))) same h)
+
+-- the stream that may make a step is changed as the step says
+pub makes-where : (streams : List State) (s : ℕ) (event : Event) (may : MayMake streams s event) (d : State) (answer : Answer) (new : State)
+    → answer ≡ answer_to (get_or streams s d) event → new ≡ state_after (get_or streams s d) event → MakesStep streams s event answer (set streams s new)
+makes-where streams s event may d answer new answered left =
+    let e : get_or streams s d ≡ may.state = get_or_from_slice_get streams s may.state d may.stream in
+    record {
+      may = may;
+      answered = answered ∙ ap (λ (x : State). answer_to x event) e;
+      streams = ap (set streams s) (left ∙ ap (λ (x : State). state_after x event) e);
+    }

@@ -1,19 +1,18 @@
 -- What a stream keeps behind its steps.
-use Rattle.std.proofs.Common.{◌≡◌, ℕ, ◌+◌, ◌<◌, ◌≤◌, Bool, true, false, cond, List, [], ◌∷◌, ◌++◌, length, map, take, get_or, Option, Some, None, Result, Ok, Err, is_some, ◌==◌, slice_get, refl, sym, ap, subst, ◌∙◌, arith}
+use Rattle.std.proofs.Common.{◌≡◌, ℕ, ◌+◌, ◌<◌, ◌≤◌, Bool, true, false, cond, List, [], ◌∷◌, ◌++◌, length, map, take, get_or, Option, Some, None, Result, Err, is_some, ◌==◌, slice_get, refl, sym, ap, subst, ◌∙◌, arith}
 use Rattle.std.proofs.lemmas.Bool.{false≢true}
 use Rattle.std.proofs.lemmas.List.{length-append, take-append-le}
 use Rattle.std.proofs.lemmas.Option.{slice_get-map, slice_get_read}
 use Rattle.std.proofs.lemmas.Bool.{lt-leb}
 use Rattle.std.specs.Prelude.{nat_le, IfSome, IsOk}
 use Rattle.std.specs.Option.{option_map}
-use Rattle.stream_core.specs.StepTable.{decided}
 use Rattle.source_feed.specs.Prepared.{IsPrepared}
 use Rattle.source_feed.specs.Touches.{PreparedValue}
 use Rattle.source_feed.specs.History.{IsKept}
 use Rattle.source_feed.specs.Image.{ImageRows}
 use Rattle.board_laws.specs.Meaning.{State}
-use Rattle.board_laws.specs.Lawful.{standing_of, IsSoundState}
-use Rattle.board_laws.specs.Event.{offer, open_at, close, restart, step_of}
+use Rattle.board_laws.specs.Lawful.{IsSoundState}
+use Rattle.board_laws.specs.Event.{offer, open_at, restart, advance}
 use Rattle.board_laws.specs.StateAfter.{state_after}
 use Rattle.board_laws.specs.Allowed.{IsAllowed}
 use Rattle.board_laws.specs.Laws.{StatesStaySound, FirstGroupsKeep}
@@ -98,3 +97,9 @@ module _ (sound : StatesStaySound) (old now : State) (is : old ≡ now) (imaged 
     -- where the image couldn't be brought there
     pub unopened-stream : (there : ℕ) (brought : ImageRows) → IsKept old.list there brought → there ≤ m → IsStream old there brought
     unopened-stream there brought kept least = record { sound = inv.sound; kept = kept; within = omega (arith, opened-within, least); opened = none_open (λ k. k ≡ there) }
+
+  -- ---- an applied group
+
+  -- the next group is read
+  pub next-within : IsAllowed now advance → old.applied + 1 ≤ length old.list
+  next-within allowed = (sound old advance inv.sound (allowed_here (λ s. IsAllowed s advance) allowed) tt).standing.applied

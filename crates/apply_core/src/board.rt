@@ -29,8 +29,8 @@ use target_tables::Tables;
 /// its applied groups left, that pass its filter and lie at its copied keys.
 #[derive(Drop)]
 pub struct Board<'h> {
-    streams: Vec<Stream<'h>>,
-    rows: Tables<Key, RowBuf>,
+    pub(crate) streams: Vec<Stream<'h>>,
+    pub(crate) rows: Tables<Key, RowBuf>,
 }
 
 impl<'h> Model for Board<'h> {

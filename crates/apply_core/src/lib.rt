@@ -1,8 +1,10 @@
 //! The board: streams over one target, and the steps on it.
 #![tactic(auto)]
 
+mod applying;
 mod board;
 mod bringing;
+mod clashing;
 mod place;
 mod puts;
 mod steps;

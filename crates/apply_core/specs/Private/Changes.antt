@@ -2,8 +2,12 @@
 use Rattle.std.specs.Prelude.{Option, Some}
 use Rattle.std.specs.Option.{option_and_then}
 use Rattle.pk_copy.specs.KeyValue.{KeyValue}
+use Rattle.target_tables.specs.declared.fault.TableFault.{TableFault}
+use Rattle.target_tables.specs.declared.fault.TableFault.TheVariants as table
 use Rattle.source_feed.specs.History.{RowValue, passing}
 use Rattle.source_feed.specs.Touches.{TouchValue}
+use Rattle.board_laws.specs.declared.refusal.Refusal.{Refusal}
+use Rattle.board_laws.specs.declared.refusal.Refusal.TheVariants.{OwnedByOther, Memory}
 use denote.Ref.{Bor}
 
 -- what is left at a key: a row, or nothing
@@ -21,3 +25,8 @@ lent_change change = (change.0.now, change.1)
 -- a row that is put
 abbrev pub put_row : KeyValue × RowValue → Change
 put_row row = (row.0, Some row.1)
+
+-- why a step's changes are refused: 71 with the same key and stream, or 72
+abbrev pub refused_by : TableFault KeyValue → Refusal
+refused_by (table.OwnedByOther key owner) = OwnedByOther key owner
+refused_by table.Memory = Memory

@@ -1,5 +1,5 @@
 -- Where an offered group stands beside the groups that are read.
-use Rattle.std.specs.Prelude.{ℕ, ◌+◌, ◌<◌, List, length}
+use Rattle.std.specs.Prelude.{◌+◌, ◌<◌, List, length}
 use Rattle.source_feed.specs.Touches.{PreparedValue}
 use Rattle.board_laws.specs.Allowed.{IsRead, IsNext, Diverges}
 use Rattle.apply_core.specs.declared.place.Place.{Place}

@@ -1,6 +1,5 @@
-use Rattle.std.proofs.Common.{◌≡◌, ◌<◌, ◌≤◌, length, map, take, ap, ◌∙◌, arith, List, rules}
+use Rattle.std.proofs.Common.{arith}
 use Rattle.std.proofs.lemmas.Grind.{common_steps}
-use Rattle.source_feed.specs.Image.{lent_row}
 use Rattle.apply_core.proofs.PutLaws.{put-by_rows, rising-by_rows}
 use Rattle.apply_core.proofs.puts.puts_of_rows.Goals as goal
 

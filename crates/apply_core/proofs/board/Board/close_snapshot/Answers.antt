@@ -1,8 +1,6 @@
-use Rattle.std.proofs.Common.{◌≡◌, length, refl, subst, arith}
-use Rattle.std.specs.Arc.{arc_value}
-use Rattle.source_feed.specs.Prepared.{IsPrepared}
-use Rattle.board_laws.specs.declared.answer.Answer.TheVariants.{Offered, Opened, Closed, Restarted}
-use Rattle.board_laws.specs.Event.{offer, open_at, close, restart}
+use Rattle.std.proofs.Common.{◌≡◌, length, refl, arith}
+use Rattle.board_laws.specs.declared.answer.Answer.TheVariants.{Closed}
+use Rattle.board_laws.specs.Event.{close}
 use Rattle.board_laws.specs.Step.{answered}
 use Rattle.apply_core.proofs.BoardLaws.{lent-step, lent-lawful}
 use Rattle.apply_core.proofs.board.Board.close_snapshot.Goals as goal

@@ -1,0 +1,98 @@
+//! Applying the next group.
+
+ghost use Rattle.std.specs.Prelude.{◌≡◌, ◌+◌, IfOk, IfErr};
+ghost use Rattle.pk_copy.specs.KeyOrder.{key_cmp};
+ghost use Rattle.pk_copy.specs.KeyValue.{KeyValue};
+ghost use Rattle.target_tables.specs.Touches.{last_at};
+ghost use Rattle.board_laws.specs.declared.answer.Answer as answers;
+ghost use Rattle.board_laws.specs.Event.{advance};
+ghost use Rattle.board_laws.specs.StateAfter.{state_after};
+ghost use Rattle.board_laws.specs.Touching.{touch_of};
+ghost use Rattle.board_laws.specs.Allowed.{IsAllowed};
+ghost use Rattle.board_laws.specs.Step.{answered, IsStep};
+ghost use Rattle.apply_core.specs.Private.StreamStep.{MayMake, MakesStep, IsRefusedAlone, ArePutsOf};
+
+use crate::board::Board;
+use crate::clashing::refusal_by;
+use crate::puts::puts_of_group;
+use crate::stream::Stream;
+use board_laws::{Refusal, steps_keep_boards_lawful};
+use pk_copy::Key;
+use row_view::RowBuf;
+use std::alloc::{AllocError, Global};
+use stream_core::Step;
+
+impl<'h> Stream<'h> {
+    /// What the next group leaves at the copied keys, in memory of its own. An error is want of memory.
+    fn puts_of_next(&self, alloc: Global) -> Result<Vec<(Key, Option<RowBuf>)>, AllocError>
+        requires { IsAllowed self.now advance }
+        ensures { IfOk result (λ puts. (key : KeyValue) → last_at key_cmp puts.items key ≡ touch_of self.now advance key) }
+    {
+        steps_keep_boards_lawful();
+        let group = &self.list[self.applied as usize];
+        let puts = puts_of_group(alloc, &self.marks, group)?;
+        Ok(puts)
+    }
+
+    /// The next group counts as applied.
+    fn advance(&mut self) -> u32
+        requires { IsAllowed self.old advance }
+        ensures number { result ≡ self.old.applied + 1 }
+        ensures state { self.new ≡ state_after self.old advance }
+    {
+        steps_keep_boards_lawful();
+        self.applied += 1;
+        self.applied
+    }
+}
+
+/// What stream `s` puts into the target when its next group is applied.
+fn puts_of_next_on(
+    alloc: Global,
+    streams: &[Stream<'_>],
+    s: u8,
+) -> Result<Vec<(Key, Option<RowBuf>)>, Refusal>
+    ensures puts { IfOk result (λ puts. ArePutsOf streams.now s advance puts.items) }
+    ensures refused { IfErr result (IsRefusedAlone streams.now s advance) }
+{
+    if s as usize >= streams.len() {
+        return Err(Refusal::NoStream);
+    }
+    let stream = &streams[s as usize];
+    match stream.judge(Step::Advance) {
+        Err(refusal) => Err(Refusal::Core(refusal)),
+        Ok(()) => match stream.puts_of_next(alloc) {
+            Err(_) => Err(Refusal::Memory),
+            Ok(puts) => Ok(puts),
+        },
+    }
+}
+
+/// The next group of stream `s` counts as applied. That it may is the caller's. Takes no memory.
+fn advance_on(streams: &mut [Stream<'_>], s: u8) -> u32
+    requires { MayMake streams.old s advance }
+    ensures { MakesStep streams.old s advance (answers.Answer.Applied result) streams.new }
+{
+    let stream = &mut streams[s as usize];
+    stream.advance()
+}
+
+impl<'h> Board<'h> {
+    /// The next group of stream `s` is applied: its touches of copied keys are made, the last one of each
+    /// key, and its number is the answer.
+    ///
+    /// Refused 115, 103 where the open snapshot is reached, 102 where no more groups are read, and 71 where
+    /// a row is due where a row of another stream stands. Takes memory for the touches of copied keys.
+    pub fn advance(&mut self, alloc: Global, s: u8) -> Result<u32, Refusal>
+        ensures { IsStep self.old s advance (answered answers.Answer.Applied result) self.new }
+    {
+        steps_keep_boards_lawful();
+        match puts_of_next_on(alloc, &self.streams, s) {
+            Err(refusal) => Err(refusal),
+            Ok(puts) => match self.rows.apply(alloc, s, puts) {
+                Err(fault) => Err(refusal_by(fault)),
+                Ok(()) => Ok(advance_on(&mut self.streams, s)),
+            },
+        }
+    }
+}
