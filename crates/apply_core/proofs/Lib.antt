@@ -1,3 +1,4 @@
+pub mod FreshLaws
 pub mod PutLaws
 pub mod StreamLaws
 pub mod StepLaws

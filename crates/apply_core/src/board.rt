@@ -1,6 +1,6 @@
 //! Many streams over one target.
 
-ghost use Rattle.std.specs.Prelude.{◌≡◌, None, IfOk, IfErr, IsSomeAnd, length, map, slice_get};
+ghost use Rattle.std.specs.Prelude.{◌≡◌, ◌≤◌, None, IfOk, IfErr, IsSomeAnd, length, map, slice_get};
 ghost use Rattle.std.specs.Arc.{arc_value};
 ghost use Rattle.std.specs.Option.{option_copied, option_map};
 ghost use Rattle.target_tables.specs.Contents.{value_at, standing};
@@ -10,10 +10,13 @@ ghost use Rattle.board_laws.specs.declared.refusal.Refusal.TheVariants.{NoStream
 ghost use Rattle.board_laws.specs.Lawful.{standing_of};
 ghost use Rattle.board_laws.specs.Event.{offer, open_at, close, restart};
 ghost use Rattle.board_laws.specs.Step.{answered, IsStep};
+ghost use Rattle.apply_core.specs.Fresh.{fresh_board, HaveSameTables, IsRefusedBoard};
 
+use crate::fresh::{fresh_streams, have_same_tables};
 use crate::steps::{close_on, offer_to, open_on, restart_on};
 use crate::stream::Stream;
-use board_laws::{Offered, Refusal, steps_keep_boards_lawful};
+use board_laws::{Offered, Refusal, fresh_boards_are_lawful, steps_keep_boards_lawful};
+use filter_rule::Plan;
 use pk_copy::Key;
 use row_view::RowBuf;
 use source_feed::Prepared;
@@ -45,6 +48,28 @@ impl<'h> Model for Board<'h> {
 }
 
 impl<'h> Board<'h> {
+    /// A board over the tables of 1 to 64 plans, with a stream for each: nothing is read or copied, and the
+    /// target is empty. Refused 111 where two plans differ in their tables.
+    pub fn new(alloc: Global, plans: Vec<Arc<Plan>>) -> Result<Board<'h>, Refusal>
+        requires some { 1 ≤ length plans.items }
+        requires few { length plans.items ≤ 64 }
+        ensures fresh { IfOk result (λ board. board ≡ fresh_board (map arc_value plans.items)) }
+        ensures same_tables { IfOk result (λ board. HaveSameTables (map arc_value plans.items)) }
+        ensures refused { IfErr result (IsRefusedBoard (map arc_value plans.items)) }
+    {
+        fresh_boards_are_lawful();
+        if !have_same_tables(&plans) {
+            return Err(Refusal::WrongPlan);
+        }
+        match fresh_streams(alloc, plans) {
+            Err(_) => Err(Refusal::Memory),
+            Ok(streams) => Ok(Board {
+                streams,
+                rows: Tables::new(alloc),
+            }),
+        }
+    }
+
     /// A group is offered to stream `s`: it is read, or was read before.
     ///
     /// Refused 115, 111 where its plan isn't the stream's, 112 where the list has another group of its

@@ -5,6 +5,7 @@ mod applying;
 mod board;
 mod bringing;
 mod clashing;
+mod fresh;
 mod place;
 mod puts;
 mod steps;
