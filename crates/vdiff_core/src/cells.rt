@@ -6,7 +6,7 @@ ghost use Rattle.vdiff_core.specs.Cells.{cell, cells};
 ghost use Rattle.vdiff_core.specs.Printing.{Adds};
 
 use crate::gathered::Gathered;
-use crate::out::{Out, OutFailed};
+use crate::writer::{Out, OutFailed};
 use row_view::{Column, Columns};
 
 /// Adds each column as a cell behind a tab.

@@ -8,7 +8,7 @@ ghost use Rattle.vdiff_core.specs.Printing.{Prints, Adds};
 
 use crate::cells::{add_cell, add_cells};
 use crate::gathered::Gathered;
-use crate::out::{Out, OutFailed};
+use crate::writer::{Out, OutFailed};
 use crate::rows::Rows;
 use filter_rule::{Plan, Table};
 use pk_copy::Key;

@@ -4,7 +4,7 @@ ghost use Rattle.std.specs.Prelude.{◌≡◌, ◌+◌, ◌*◌, ◌≤◌, List
 ghost use Rattle.hex.specs.Hex.{encode_lower};
 ghost use Rattle.vdiff_core.specs.Printing.{Prints, Adds};
 
-use crate::out::{Out, OutFailed};
+use crate::writer::{Out, OutFailed};
 use crate::put::put_all;
 use std::marker::Model;
 

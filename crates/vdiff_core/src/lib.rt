@@ -4,14 +4,14 @@
 mod cells;
 mod dump;
 mod gathered;
-mod out;
 mod places;
 mod put;
 mod rows;
+mod writer;
 
 pub use cells::{add_cell, add_cells};
 pub use dump::write_dump;
 pub use gathered::Gathered;
-pub use out::{Out, OutFailed, Writer};
 pub use put::put_all;
 pub use rows::Rows;
+pub use writer::{Out, OutFailed, Writer};

@@ -3,7 +3,7 @@
 ghost use Rattle.std.specs.Prelude.{◌≡◌};
 ghost use Rattle.vdiff_core.specs.Printing.{Prints};
 
-use crate::out::{Out, OutFailed};
+use crate::writer::{Out, OutFailed};
 
 /// Writes all the bytes: the one loop over `write`. After a fault, which comes only of a write that
 /// failed in this call, what was written is a beginning of the bytes. Takes no memory.

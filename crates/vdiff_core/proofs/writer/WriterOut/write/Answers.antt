@@ -1,5 +1,5 @@
 use Rattle.std.proofs.Common.{rules}
-use Rattle.vdiff_core.proofs.out.WriterOut.write.Goals as goal
+use Rattle.vdiff_core.proofs.writer.WriterOut.write.Goals as goal
 
 pub returns-in-Ok : goal.returns-in-Ok
 returns-in-Ok c o = record {

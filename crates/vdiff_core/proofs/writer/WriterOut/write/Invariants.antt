@@ -1,6 +1,6 @@
 use Rattle.std.proofs.Common.{◌≡◌}
 use Rattle.std.specs.Io.KnownBytes.{Keeps}
-use Rattle.vdiff_core.proofs.out.WriterOut.write.Given as goal
+use Rattle.vdiff_core.proofs.writer.WriterOut.write.Given as goal
 
 -- nothing was taken yet
 abbrev pub invariant-loop-try : goal.invariant-loop-try
