@@ -1,0 +1,44 @@
+//! Why two boards aren't joined.
+
+ghost use Rattle.std.specs.Prelude.{◌≡◌};
+
+use pk_copy::Key;
+use thiserror::Error;
+
+/// Why two boards aren't joined.
+#[derive(Debug, Drop, Error)]
+pub enum JoinFault {
+    /// The boards' plans differ.
+    #[error("another plan")]
+    WrongPlan,
+    /// The least stream that has a table in one of the boards which isn't copied.
+    #[error("stream {0} isn't running")]
+    NotRunning(u8),
+    /// The least stream of which neither read list is a beginning of the other.
+    #[error("other histories of stream {0}")]
+    HistoriesDiffer(u8),
+    /// Two streams have a row at one key: the first stream that meets a lower one, its least such key, and
+    /// the lower stream.
+    #[error("a row of stream {owner} stands at a key")]
+    OwnedByOther { key: Key, owner: u8 },
+    /// A growth was refused.
+    #[error("out of memory")]
+    Memory,
+}
+
+impl JoinFault {
+    ghost use Rattle.join_laws.specs.Faults.{number_of};
+
+    /// The fault's number.
+    pub fn number(&self) -> u8
+        ensures { result ≡ number_of self.now }
+    {
+        match self {
+            JoinFault::WrongPlan => 111,
+            JoinFault::NotRunning(_) => 114,
+            JoinFault::HistoriesDiffer(_) => 113,
+            JoinFault::OwnedByOther { .. } => 71,
+            JoinFault::Memory => 72,
+        }
+    }
+}
