@@ -4,3 +4,4 @@ pub mod StreamLaws
 pub mod StepLaws
 pub mod BoardLaws
 pub mod ApplyLaws
+pub mod CopyLaws

@@ -5,11 +5,13 @@ mod applying;
 mod board;
 mod bringing;
 mod clashing;
+mod copying;
 mod fresh;
 mod place;
 mod puts;
 mod steps;
 mod stream;
+mod taking;
 
 pub use board::Board;
 pub use board_laws::{Answer, Copied, Offered, Refusal};

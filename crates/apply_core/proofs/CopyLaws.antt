@@ -1,0 +1,136 @@
+-- A chunk of rows: what is made of the rows that the image lends, and what a stream keeps behind it.
+use Rattle.std.proofs.Common.{◌≡◌, ℕ, ◌+◌, ◌-◌, Bool, true, false, cond, List, length, map, take, drop, Option, Some, None, Vec, Global, slice_get, get_or, refl, sym, ap, subst, ◌∙◌, arith}
+use Rattle.std.proofs.lemmas.List.{length-map, take-append-drop, take-take}
+use Rattle.std.proofs.lemmas.Option.{slice_get-map, same_Some, get_or_from_slice_get}
+use Rattle.std.specs.List.{take-map}
+use Rattle.std.specs.Prelude.{IsTrue, IfSome, nat_le}
+use Rattle.std.specs.Option.{option_map, option_map_or}
+use Rattle.pk_copy.specs.KeyOrder.{key_cmp}
+use Rattle.pk_copy.specs.KeyValue.{KeyValue}
+use Rattle.pk_copy.specs.Marks.{Marks, is_past, moved_to, next_table}
+use Rattle.target_tables.specs.Rising.{IsRising}
+use Rattle.target_tables.specs.Touches.{last_at}
+use Rattle.source_feed.specs.History.{RowValue}
+use Rattle.source_feed.specs.Image.{ImageRows, lent_row}
+use Rattle.board_laws.specs.declared.answer.Copied.{Copied}
+use Rattle.board_laws.specs.Meaning.{State}
+use Rattle.board_laws.specs.Lawful.{IsSoundState}
+use Rattle.board_laws.specs.Event.{copy_rows}
+use Rattle.board_laws.specs.Chunk.{rows_left, rows_taken, takes_all, marks_behind}
+use Rattle.board_laws.specs.StateAfter.{state_after}
+use Rattle.board_laws.specs.Touching.{put_by}
+use Rattle.board_laws.specs.Allowed.{IsAllowed}
+use Rattle.board_laws.specs.Laws.{StatesStaySound, OneMoreTells}
+use Rattle.board_laws.proofs.Lookups.{Ties, rising-left}
+use Rattle.board_laws.proofs.Chunks.{left-rising, last-past}
+use Rattle.apply_core.specs.Private.Chunks.{last_key_of, IsMoveOf, IsTaken}
+use Rattle.apply_core.specs.Private.StreamState.{IsStream}
+use Rattle.apply_core.specs.Private.StreamStep.{MayMake}
+use Rattle.apply_core.specs.declared.taking.Move.{Move}
+use denote.Ref.{Bor}
+
+abbrev pub LentRows : Type 0
+LentRows = List (Bor KeyValue × Bor RowValue)
+
+-- ---- the chunk
+
+-- the key of the last one of rows that are lent
+pub last-lent : (rows : LentRows) (row : Bor KeyValue × Bor RowValue) (key : KeyValue) → Some row ≡ slice_get rows (length rows - 1) → key ≡ row.0.now → Some key ≡ last_key_of (map lent_row rows)
+last-lent rows row key last is =
+    ap Some is
+    ∙ ap (λ (o : Option (Bor KeyValue × Bor RowValue)). option_map (λ (row : KeyValue × RowValue). row.0) (option_map lent_row o)) last
+    ∙ sym (ap (option_map (λ row. row.0)) (slice_get-map lent_row rows (length rows - 1)))
+    ∙ sym (ap (λ n. option_map (λ row. row.0) (slice_get (map lent_row rows) (n - 1))) (length-map rows lent_row))
+
+-- without the row more these are the rows of the chunk
+pub taken-lent : (state : State) (c : ℕ) (found : LentRows) → map lent_row found ≡ take (c + 1) (rows_left state) → map lent_row (take c found) ≡ rows_taken state c
+taken-lent state c found e =
+    sym (take-map lent_row c found)
+    ∙ ap (take c) e
+    ∙ take-take c (c + 1) (rows_left state) (omega arith)
+
+pub taken-rising : Ties → (state : State) (c : ℕ) → IsRising key_cmp (rows_taken state c)
+taken-rising ties state c =
+    rising-left (rows_taken state c) (drop c (rows_left state))
+    (subst (λ (rows : ImageRows). IsRising key_cmp rows) (sym (take-append-drop c (rows_left state))) (left-rising ties state))
+
+-- whether the chunk is all that is left
+pub all-told : OneMoreTells → (state : State) (c : ℕ) (found : LentRows) → map lent_row found ≡ take (c + 1) (rows_left state) → nat_le (length found) c ≡ takes_all state c
+all-told tells state c found e =
+    ap (λ n. nat_le n c) (sym (length-map found lent_row) ∙ ap length e) ∙ tells state c
+
+-- what a chunk answers
+abbrev copied_of : ℕ → Bool → Copied
+copied_of rows done = record { rows = rows; done = done }
+
+-- what is made of the rows of the image is the chunk: of the first c, lent once for their puts and once for the last key
+pub is-taken : OneMoreTells → (state : State) (c : ℕ) (found : LentRows) → map lent_row found ≡ take (c + 1) (rows_left state)
+    → (rows first second : LentRows) → rows ≡ take c found → first ≡ rows → second ≡ rows
+    → (puts : Vec (KeyValue × Option RowValue) Global) → ((key : KeyValue) → last_at key_cmp puts.items key ≡ put_by (map lent_row first) key)
+    → (all : ℕ) → all ≡ length found → (count : ℕ) → count ≡ length rows → (last : Option KeyValue) → last ≡ last_key_of (map lent_row second)
+    → IsTaken state c (record { puts = puts; step = record { copied = record { rows = count; done = nat_le all c }; last = last } })
+is-taken tells state c found e rows first second cut one two puts put all of_found count of_rows last by_last =
+    let taken : map lent_row rows ≡ rows_taken state c = ap (λ (xs : LentRows). map lent_row xs) cut ∙ taken-lent state c found e in
+    let done : nat_le all c ≡ takes_all state c = ap (λ n. nat_le n c) of_found ∙ all-told tells state c found e in
+    let rows_are : count ≡ length (rows_taken state c) = of_rows ∙ sym (length-map rows lent_row) ∙ ap length taken in
+    record {
+      puts = λ key. put key ∙ ap (λ (xs : ImageRows). put_by xs key) (ap (λ (xs : LentRows). map lent_row xs) one ∙ taken);
+      step = record {
+        copied = ap (λ (n : ℕ). copied_of n (nat_le all c)) rows_are ∙ ap (λ (b : Bool). copied_of (length (rows_taken state c)) b) done;
+        last = by_last ∙ ap last_key_of (ap (λ (xs : LentRows). map lent_row xs) two ∙ taken);
+      };
+    }
+
+-- ---- behind a chunk
+
+-- what is said of the stream, if there is one, is said of the one that may make the step
+pub move_here : (streams : List State) (s : ℕ) (c : ℕ) (step : Move) (d : State) → MayMake streams s (copy_rows c) → IfSome (slice_get streams s) (λ state. IsMoveOf state c step)
+    → IsMoveOf (get_or streams s d) c step
+move_here streams s c step d may moves =
+    subst (λ (state : State). IsMoveOf state c step) (sym (get_or_from_slice_get streams s may.state d may.stream))
+    (subst (λ (o : Option State). IfSome o (λ state. IsMoveOf state c step)) may.stream moves)
+
+module _ (old now : State) (is : old ≡ now) (c : ℕ) (step : Move) (moves : IsMoveOf now c step) (key : KeyValue) (last : step.last ≡ Some key) where
+  -- the row that the mark moves to
+  last_row : (row : KeyValue × RowValue) × (slice_get (rows_taken now c) (length (rows_taken now c) - 1) ≡ Some row) × (key ≡ row.0)
+  last_row = by (slice_get (rows_taken now c) (length (rows_taken now c) - 1)) refl (sym last ∙ moves.last)
+    where
+      by : (o : Option (KeyValue × RowValue)) → slice_get (rows_taken now c) (length (rows_taken now c) - 1) ≡ o → Some key ≡ option_map (λ row. row.0) o
+          → (row : KeyValue × RowValue) × (slice_get (rows_taken now c) (length (rows_taken now c) - 1) ≡ Some row) × (key ≡ row.0)
+      by None e g = cc
+      by (Some row) e g = (row, e, same_Some key row.0 g)
+
+  -- the chunk's last key is past the mark
+  pub key-past : Ties → IsTrue (is_past old.marks key)
+  key-past ties =
+      subst (λ (s : State). is_past s.marks key ≡ true) (sym is)
+      (subst (λ (k : KeyValue). is_past now.marks k ≡ true) (sym last_row.2) (last-past ties now c last_row.0 last_row.1))
+
+  module _ (marks : Marks) (moved : marks ≡ moved_to key old.marks) (more : step.copied.done ≡ false) where
+    abbrev pub after : State
+    after = record { plan = old.plan; list = old.list; applied = old.applied; marks = marks; snapshot = old.snapshot }
+
+    is_behind : marks ≡ marks_behind (rows_taken now c) now.marks
+    is_behind =
+        moved
+        ∙ ap (λ (s : State). moved_to key s.marks) is
+        ∙ ap (λ (k : KeyValue). moved_to k now.marks) last_row.2
+        ∙ sym (ap (λ (o : Option (KeyValue × RowValue)). option_map_or (λ row. moved_to row.0 now.marks) o now.marks) last_row.1)
+
+    more_left : takes_all now c ≡ false
+    more_left = sym (ap (λ copied. copied.done) moves.copied) ∙ more
+
+    moved-value : after ≡ state_after now (copy_rows c)
+    moved-value =
+        ap (λ (m : Marks). record { plan = old.plan; list = old.list; applied = old.applied; marks = m; snapshot = old.snapshot }) is_behind
+        ∙ ap (λ (s : State). record { plan = s.plan; list = s.list; applied = s.applied; marks = marks_behind (rows_taken now c) now.marks; snapshot = s.snapshot }) is
+        ∙ sym (ap (λ b. cond b (record { plan = now.plan; list = now.list; applied = now.applied; marks = next_table now.marks; snapshot = None })
+        (record { plan = now.plan; list = now.list; applied = now.applied; marks = marks_behind (rows_taken now c) now.marks; snapshot = now.snapshot })) more_left)
+
+    pub moved-stream : StatesStaySound → IsAllowed now (copy_rows c) → (imaged : ℕ) (image : ImageRows) → IsStream old imaged image → IsStream after imaged image
+    moved-stream sound allowed imaged image inv = record {
+      sound = subst (λ (s : State). IsSoundState s) (sym moved-value) (sound now (copy_rows c) (subst (λ (s : State). IsSoundState s) is inv.sound) allowed tt);
+      kept = inv.kept;
+      within = inv.within;
+      opened = inv.opened;
+    }
