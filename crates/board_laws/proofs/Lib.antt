@@ -14,3 +14,4 @@ pub mod Isolated
 pub mod Determined
 pub mod FeedLaws
 pub mod Replays
+pub mod Agreeing

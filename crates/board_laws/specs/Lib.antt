@@ -15,3 +15,4 @@ pub mod Schedule
 pub mod Lone
 pub mod Reading
 pub mod RunLaws
+pub mod Agreement

@@ -2,12 +2,14 @@
 //! laws: beside the words of answers and refusals it has no code.
 #![tactic(auto)]
 
+mod agreement_laws;
 mod answer;
 mod laws;
 mod refusal;
 mod run_laws;
 mod step_refusal;
 
+pub use agreement_laws::agreeing_runs_show_alike;
 pub use answer::{Answer, Copied, Offered};
 pub use laws::{
     chunks_are_of_the_rows_left, fresh_boards_are_lawful, kept_rows_are_one_list,

@@ -84,7 +84,9 @@ impl<'h> Feed<'h> {
 
     /// The plan under which the feed was opened.
     pub fn plan(&self) -> &Arc<Plan>
-        ensures { arc_value result.now ≡ self.now.plan }
+        ensures value { arc_value result.now ≡ self.now.plan }
+        // Every feed's groups are in order, and each change is of a table of its plan.
+        ensures whole { IsFeed self.now }
     {
         &self.plan
     }
