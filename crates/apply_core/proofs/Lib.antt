@@ -5,3 +5,4 @@ pub mod StepLaws
 pub mod BoardLaws
 pub mod ApplyLaws
 pub mod CopyLaws
+pub mod ScheduleLaws

@@ -1,2 +1,4 @@
 pub mod Fresh
+pub mod Feeds
+pub mod Schedules
 pub mod Private

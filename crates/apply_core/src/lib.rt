@@ -7,11 +7,14 @@ mod bringing;
 mod clashing;
 mod copying;
 mod fresh;
+mod one_step;
 mod place;
 mod puts;
+mod schedule;
 mod steps;
 mod stream;
 mod taking;
 
 pub use board::Board;
-pub use board_laws::{Answer, Copied, Offered, Refusal};
+pub use board_laws::{Answer, Copied, Offered, Refusal, StepRefusal};
+pub use schedule::run_schedule;

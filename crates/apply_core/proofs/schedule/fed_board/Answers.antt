@@ -1,0 +1,7 @@
+use Rattle.std.proofs.Common.{refl, sym, subst}
+use Rattle.std.specs.Prelude.{IsTrue}
+use Rattle.apply_core.proofs.ScheduleLaws.{if-answered}
+use Rattle.apply_core.proofs.schedule.fed_board.Goals as goal
+
+pub returns-clause-whole : goal.returns-clause-whole
+returns-clause-whole c = if-answered c.new.result (c.are_opened_under.ensures.whole (subst IsTrue (sym c.if-not-are_opened_under.false) refl))

@@ -1,0 +1,87 @@
+//! One step of a schedule: an offer prepares the group of its stream's feed first.
+
+ghost use Rattle.stream_core.specs.declared.step.Step as steps;
+ghost use Rattle.board_laws.specs.Schedule.{IsReplyBy, IsReply};
+
+use crate::board::Board;
+use board_laws::{Answer, Refusal, StepRefusal};
+use source_feed::{Feed, FeedFault};
+use std::alloc::Global;
+use stream_core::Step;
+
+impl<'h> Board<'h> {
+    /// Group `number` of the feed is prepared and offered to stream `s`.
+    fn offer_of(
+        &mut self,
+        alloc: Global,
+        feed: &Feed<'h>,
+        s: u8,
+        number: u32,
+    ) -> Result<Answer, StepRefusal>
+        ensures { IsReplyBy feed.now self.old s (steps.Step.Offer number) result self.new }
+    {
+        match feed.prepare(alloc, number) {
+            Err(FeedFault::Memory) => Err(StepRefusal::Refused(Refusal::Memory)),
+            Err(fault) => Err(StepRefusal::Unprepared(fault)),
+            Ok(group) => match self.offer(alloc, s, group) {
+                Ok(offered) => Ok(Answer::Offered(offered)),
+                Err(refusal) => Err(StepRefusal::Refused(refusal)),
+            },
+        }
+    }
+
+    /// The step on stream `s`, whose feed this is.
+    fn step_by(
+        &mut self,
+        alloc: Global,
+        feed: &Feed<'h>,
+        s: u8,
+        step: Step,
+    ) -> Result<Answer, StepRefusal>
+        ensures { IsReplyBy feed.now self.old s step result self.new }
+    {
+        match step {
+            Step::Offer(number) => self.offer_of(alloc, feed, s, number),
+            Step::Advance => match self.advance(alloc, s) {
+                Ok(number) => Ok(Answer::Applied(number)),
+                Err(refusal) => Err(StepRefusal::Refused(refusal)),
+            },
+            Step::OpenAt(group) => match self.open_snapshot(alloc, s, group) {
+                Ok(()) => Ok(Answer::Opened(group)),
+                Err(refusal) => Err(StepRefusal::Refused(refusal)),
+            },
+            Step::CopyRows(rows) => match self.copy_chunk(alloc, s, rows) {
+                Ok(copied) => Ok(Answer::Copied(copied)),
+                Err(refusal) => Err(StepRefusal::Refused(refusal)),
+            },
+            Step::Close => match self.close_snapshot(s) {
+                Ok(()) => Ok(Answer::Closed),
+                Err(refusal) => Err(StepRefusal::Refused(refusal)),
+            },
+            Step::Restart => match self.restart(s) {
+                Ok(applied) => Ok(Answer::Restarted(applied)),
+                Err(refusal) => Err(StepRefusal::Refused(refusal)),
+            },
+        }
+    }
+
+    /// One step on stream `s`, where the feeds stand in the order of the streams: an offer prepares the
+    /// group of its number of the stream's feed and offers it; any other step is the call of its name.
+    ///
+    /// Refused 115 first, where there is no such stream. An offer is refused 91 and 90 where its group can't
+    /// be prepared, and then as `offer`; every other step as its call. A refused step changes nothing.
+    pub fn take_step(
+        &mut self,
+        alloc: Global,
+        feeds: &[Feed<'h>],
+        s: u8,
+        step: Step,
+    ) -> Result<Answer, StepRefusal>
+        ensures { IsReply feeds.now self.old (s, step) result self.new }
+    {
+        match feeds.get(s as usize) {
+            None => Err(StepRefusal::Refused(Refusal::NoStream)),
+            Some(feed) => self.step_by(alloc, feed, s, step),
+        }
+    }
+}

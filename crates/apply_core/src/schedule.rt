@@ -1,0 +1,117 @@
+//! A list of steps on the streams of a fresh board.
+
+ghost use Rattle.std.specs.Prelude.{◌≡◌, ◌↔◌, ◌≤◌, IsTrue, IfOk, IfErr, length, map};
+ghost use Rattle.std.specs.Arc.{arc_value};
+ghost use Rattle.source_feed.specs.Planned.{FeedValue};
+ghost use Rattle.board_laws.specs.Lawful.{IsLawful};
+ghost use Rattle.board_laws.specs.Reading.{AllReadTheirFeeds};
+ghost use Rattle.board_laws.specs.Schedule.{IsRun};
+ghost use Rattle.apply_core.specs.Fresh.{fresh_board};
+ghost use Rattle.apply_core.specs.Feeds.{AreWhole, AreFed, IsRefusedInput};
+ghost use Rattle.apply_core.specs.Schedules.{AllAreTaken, RowsAreReplays};
+
+use crate::board::Board;
+use board_laws::{
+    Answer, Refusal, StepRefusal, fresh_boards_are_lawful, rows_are_replayed,
+    streams_follow_their_own_steps, streams_read_their_feeds,
+};
+use filter_rule::Plan;
+use source_feed::Feed;
+use std::alloc::{AllocError, Global};
+use std::sync::Arc;
+use stream_core::Step;
+
+/// Whether each feed was opened under the plan of its number. Takes no memory.
+fn are_opened_under(feeds: &[Feed<'_>], plans: &[Arc<Plan>]) -> bool
+    requires { length feeds.now ≡ length plans.now }
+    ensures opened { IsTrue result ↔ (map (λ (feed : FeedValue). feed.plan) feeds.now ≡ map arc_value plans.now) }
+    ensures whole { IsTrue result → AreWhole feeds.now }
+{
+    for i in 0..feeds.len() {
+        if !feeds[i].plan().same(&plans[i]) {
+            return false;
+        }
+    }
+    true
+}
+
+/// A board of plans with their feeds, of which nothing is read.
+///
+/// Refused 119 where there aren't as many feeds as plans, else 111 where two plans differ in their tables
+/// or a feed wasn't opened under its plan. Any other error is want of memory.
+pub(crate) fn fed_board<'h>(
+    alloc: Global,
+    plans: Vec<Arc<Plan>>,
+    feeds: &[Feed<'h>],
+) -> Result<Board<'h>, Refusal>
+    requires some { 1 ≤ length plans.items }
+    requires few { length plans.items ≤ 64 }
+    ensures fresh { IfOk result (λ board. board ≡ fresh_board (map arc_value plans.items)) }
+    ensures fed { IfOk result (λ _. AreFed (map arc_value plans.items) feeds.now) }
+    ensures whole { IfOk result (λ _. AreWhole feeds.now) }
+    ensures refused { IfErr result (IsRefusedInput (map arc_value plans.items) feeds.now) }
+{
+    if feeds.len() != plans.len() {
+        return Err(Refusal::FeedCount);
+    }
+    if !are_opened_under(feeds, &plans) {
+        return Err(Refusal::WrongPlan);
+    }
+    Board::new(alloc, plans)
+}
+
+/// The steps are taken one after another; a refusal doesn't end them. Room for all replies is taken before
+/// the first step. An error is want of memory.
+fn take_steps<'h>(
+    alloc: Global,
+    board: &mut Board<'h>,
+    feeds: &[Feed<'h>],
+    steps: &[(u8, Step)],
+) -> Result<Vec<Result<Answer, StepRefusal>>, AllocError>
+    ensures { IfOk result (λ replies. IsRun feeds.now board.old steps.now replies.items board.new) }
+{
+    let mut replies = Vec::with_capacity(alloc, steps.len())?;
+    for (s, step) in steps {
+        replies.push(board.take_step(alloc, feeds, *s, *step))?;
+    }
+    Ok(replies)
+}
+
+/// Takes a list of steps, each on a stream of the board, in order, from a board of 1 to 64 plans of which
+/// nothing is read. The feeds stand in the order of the plans. The answer is the board behind the steps and
+/// for each step what it answered or why it was refused; after a refusal the list goes on.
+///
+/// Refused 119 where there aren't as many feeds as plans, else 111 where two plans differ in their tables
+/// or a feed wasn't opened under its plan. Any other error is want of memory.
+pub fn run_schedule<'h>(
+    alloc: Global,
+    plans: Vec<Arc<Plan>>,
+    feeds: &[Feed<'h>],
+    steps: &[(u8, Step)],
+) -> Result<(Board<'h>, Vec<Result<Answer, StepRefusal>>), Refusal>
+    requires some { 1 ≤ length plans.items }
+    requires few { length plans.items ≤ 64 }
+    // Each reply and what it leaves is the step's, one after another.
+    ensures run { IfOk result (λ ran. IsRun feeds.now (fresh_board (map arc_value plans.items)) steps.now ran.1.items ran.0) }
+    ensures lawful { IfOk result (λ ran. IsLawful ran.0) }
+    // Each row of the target is a replay's.
+    ensures rows { IfOk result (λ ran. RowsAreReplays ran.0) }
+    // Each read list is a beginning of its feed's groups.
+    ensures reads { IfOk result (λ ran. AllReadTheirFeeds feeds.now ran.0) }
+    // Each stream's state is that of its own steps alone.
+    ensures own { IfOk result (λ ran. AllAreTaken feeds.now steps.now ran.1.items ran.0) }
+    ensures fed { IfOk result (λ _. AreFed (map arc_value plans.items) feeds.now) }
+    ensures refused { IfErr result (IsRefusedInput (map arc_value plans.items) feeds.now) }
+{
+    fresh_boards_are_lawful();
+    streams_follow_their_own_steps();
+    streams_read_their_feeds();
+    rows_are_replayed();
+    match fed_board(alloc, plans, feeds) {
+        Err(refusal) => Err(refusal),
+        Ok(mut board) => match take_steps(alloc, &mut board, feeds, steps) {
+            Err(_) => Err(Refusal::Memory),
+            Ok(replies) => Ok((board, replies)),
+        },
+    }
+}
