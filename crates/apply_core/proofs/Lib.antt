@@ -6,3 +6,4 @@ pub mod BoardLaws
 pub mod ApplyLaws
 pub mod CopyLaws
 pub mod ScheduleLaws
+pub mod ShowLaws

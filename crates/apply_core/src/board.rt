@@ -132,7 +132,7 @@ impl<'h> Board<'h> {
     }
 
     /// The stream of a number.
-    fn stream(&self, s: u8) -> Option<&Stream<'h>>
+    pub(crate) fn stream(&self, s: u8) -> Option<&Stream<'h>>
         ensures { option_copied result ≡ slice_get self.now.streams s }
     {
         self.streams.get(s as usize)

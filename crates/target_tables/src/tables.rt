@@ -1,9 +1,9 @@
 //! A map from keys to rows, each with the stream that owns it.
 
-ghost use Rattle.std.specs.Prelude.{◌≡◌, ◌≤◌, ◌↔◌, ℕ, [], Some, None, length, IfOk, IfErr, OnOk, OnErr, IsTrue};
+ghost use Rattle.std.specs.Prelude.{◌≡◌, ◌≤◌, ◌↔◌, ◌∷◌, ◌++◌, ℕ, [], Some, None, length, IfOk, IfErr, OnOk, OnErr, IsTrue};
 ghost use Rattle.std.specs.Option.{option_map};
 ghost use Rattle.target_tables.specs.Contents.{value_at, from_key, past_key, standing};
-ghost use Rattle.target_tables.specs.Rising.{IsRising};
+ghost use Rattle.target_tables.specs.Rising.{IsRising, AreBelow};
 ghost use Rattle.target_tables.specs.Touches.{last_at, change_at, removed, IsTouched, IsReady, IsUntouched, ComesLast, NoneInTheWay};
 ghost use Rattle.target_tables.specs.Clashes.{IsRefusal};
 
@@ -180,6 +180,17 @@ impl<K: Ord + Drop, R: Drop> Tables<K, R> {
     {
         let staged = self.stage(alloc, stream, touches)?;
         self.commit(staged);
+        Ok(())
+    }
+
+    /// Puts a row of a stream behind all others, so that a map can be built by rising key. That the key is
+    /// greater than theirs is the caller's. An error is want of memory, and leaves the entries as they are.
+    pub fn push(&mut self, key: K, stream: u8, row: R) -> Result<(), AllocError>
+        requires { AreBelow K.cmp key self.old.entries }
+        ensures pushed { OnOk result (self.new.entries ≡ self.old.entries ++ (key, (stream, row)) ∷ []) }
+        ensures unchanged { OnErr result (self.new.entries ≡ self.old.entries) }
+    {
+        self.entries.push((key, (stream, row)))?;
         Ok(())
     }
 

@@ -1,0 +1,25 @@
+-- What a board shows of its streams and of the rows of its target (this profile).
+use Rattle.std.specs.Prelude.{ℕ, List, take, map, ◌==◌}
+use Rattle.std.specs.List.{filter}
+use Rattle.pk_copy.specs.KeyValue.{KeyValue}
+use Rattle.source_feed.specs.GroupValue.{Position}
+use Rattle.source_feed.specs.History.{RowValue}
+use Rattle.vdiff_core.specs.RowsValue.{RowsValue}
+use Rattle.board_laws.specs.Meaning.{State, TargetRows}
+use Rattle.board_laws.specs.Allowed.{last_position}
+
+-- the position at which a stream's rows stand: that of the last applied group; at first the empty set
+abbrev pub position_of : State → Position
+position_of state = last_position (take state.applied state.list)
+
+-- a row of the target and its key, whoever owns it
+abbrev pub unowned : KeyValue × (ℕ × RowValue) → KeyValue × RowValue
+unowned entry = (entry.0, entry.1.1)
+
+-- all rows of a target, by rising key
+abbrev pub all_rows : TargetRows → RowsValue
+all_rows rows = map unowned rows
+
+-- the rows of stream s, by rising key
+abbrev pub rows_of : ℕ → TargetRows → RowsValue
+rows_of s rows = all_rows (filter (λ entry. entry.1.0 == s) rows)
