@@ -1,3 +1,4 @@
 mod RowsLaws
 pub mod PrintLaws
 mod TableLaws
+mod ReportLaws

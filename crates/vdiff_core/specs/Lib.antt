@@ -3,3 +3,4 @@ pub mod Printing
 pub mod Cells
 pub mod Dump
 pub mod Private
+pub mod Report

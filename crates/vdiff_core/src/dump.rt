@@ -8,8 +8,8 @@ ghost use Rattle.vdiff_core.specs.Printing.{Prints, Adds};
 
 use crate::cells::{add_cell, add_cells};
 use crate::gathered::Gathered;
-use crate::writer::{Out, OutFailed};
 use crate::rows::Rows;
+use crate::writer::{Out, OutFailed};
 use filter_rule::{Plan, Table};
 use pk_copy::Key;
 use row_view::{Columns, RowBuf};

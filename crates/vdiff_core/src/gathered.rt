@@ -4,8 +4,8 @@ ghost use Rattle.std.specs.Prelude.{◌≡◌, ◌+◌, ◌*◌, ◌≤◌, List
 ghost use Rattle.hex.specs.Hex.{encode_lower};
 ghost use Rattle.vdiff_core.specs.Printing.{Prints, Adds};
 
-use crate::writer::{Out, OutFailed};
 use crate::put::put_all;
+use crate::writer::{Out, OutFailed};
 use std::marker::Model;
 
 /// The most bytes that wait.
