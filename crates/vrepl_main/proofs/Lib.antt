@@ -5,3 +5,6 @@ pub mod AddLaws
 pub mod CommandLaws
 mod ThinLaws
 mod ScriptLaws
+mod LineLaws
+mod KeyTextLaws
+mod OpenLaws

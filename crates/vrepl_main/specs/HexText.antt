@@ -31,3 +31,7 @@ paired (high ∷ low ∷ rest) = joined high low (paired rest)
 -- the bytes that hexadecimal text spells, or nothing
 abbrev pub hex_bytes : List ℕ → Option (List ℕ)
 hex_bytes text = paired (digits_of text)
+
+-- the bytes of a feed, which may be given as hexadecimal text
+abbrev pub feed_bytes : Bool → List ℕ → Option (List ℕ)
+feed_bytes hex feed = if hex then hex_bytes feed else Some feed

@@ -1,4 +1,5 @@
 pub mod HexText
+pub mod Reasons
 pub mod Refusals
 pub mod RefusalOf
 pub mod Printing
@@ -18,3 +19,10 @@ pub mod Script
 pub mod ScriptFaults
 pub mod ReplyText
 pub mod ThinRun
+pub mod ScriptLines
+pub mod ScriptRefusal
+pub mod AnswerText
+pub mod RefusedText
+pub mod Opening
+pub mod Given
+pub mod OpenedFeeds

@@ -1,10 +1,12 @@
 -- The refusal that the program gives for the fault of a layer (this profile).
+use Rattle.filter_rule.specs.declared.fault.PlanFault.{PlanFault}
+use Rattle.filter_rule.specs.declared.fault.PlanFault.TheVariants as plans
 use Rattle.source_feed.specs.declared.fault.FeedFault.{FeedFault}
 use Rattle.source_feed.specs.declared.fault.FeedFault.TheVariants as feed
 use Rattle.vrepl_main.specs.declared.hex_text.HexFault.{HexFault}
 use Rattle.vrepl_main.specs.declared.hex_text.HexFault.TheVariants as hex
 use Rattle.vrepl_main.specs.declared.refusal.Refusal.{Refusal}
-use Rattle.vrepl_main.specs.declared.refusal.Refusal.TheVariants.{Memory, Feed, BadHex}
+use Rattle.vrepl_main.specs.declared.refusal.Refusal.TheVariants.{Memory, Workflow, Feed, BadHex}
 
 -- want of memory is one refusal, wherever it strikes
 abbrev pub refusal_of_feed : FeedFault → Refusal
@@ -14,3 +16,7 @@ refusal_of_feed fault = Feed fault
 abbrev pub refusal_of_hex : HexFault → Refusal
 refusal_of_hex hex.Memory = Memory
 refusal_of_hex hex.BadHex = BadHex
+
+abbrev pub refusal_of_workflow : PlanFault → Refusal
+refusal_of_workflow plans.Memory = Memory
+refusal_of_workflow fault = Workflow fault

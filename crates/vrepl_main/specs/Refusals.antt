@@ -1,15 +1,20 @@
 -- The lines of refusals, as this profile prints them on standard error.
-use Rattle.std.specs.Prelude.{ℕ, List, [], ◌∷◌, ◌++◌, Option, Some, None, codes, decimal}
+use Rattle.std.specs.Prelude.{ℕ, List, [], ◌∷◌, ◌++◌, Option, Some, None, codes, decimal, string_bytes}
 use Rattle.vevent.specs.declared.fault.EventFault.TheVariants.{BadType}
+use Rattle.filter_rule.specs.Faults as plans
+use Rattle.filter_rule.specs.declared.fault.PlanFault.{PlanFault}
+use Rattle.filter_rule.specs.declared.fault.PlanFault.TheVariants.{NoSuchColumn, KeyType, BadRule}
 use Rattle.source_feed.specs.FaultNumber as feed
 use Rattle.source_feed.specs.declared.fault.FeedFault.{FeedFault}
 use Rattle.source_feed.specs.declared.fault.FeedFault.TheVariants.{Event, Diverged}
 use Rattle.vrepl_main.specs.declared.refusal.Refusal.{Refusal}
-use Rattle.vrepl_main.specs.declared.refusal.Refusal.TheVariants.{Memory, Feed, BadHex, BadScript, CannotRead, CannotWrite}
+use Rattle.vrepl_main.specs.declared.refusal.Refusal.TheVariants.{Memory, Workflow, FeedCount, Feed, BadHex, BadScript, CannotRead, CannotWrite}
 
 -- the number of each refusal
 abbrev pub number_of : Refusal → ℕ
 number_of Memory = 72
+number_of (Workflow fault) = plans.number_of fault
+number_of FeedCount = 119
 number_of (Feed fault) = feed.number_of fault
 number_of BadHex = 93
 number_of (BadScript bad) = 120
@@ -31,8 +36,20 @@ feed_place _ = []
 abbrev pub feed_details : FeedFault → List ℕ
 feed_details fault = cause_text (feed.cause_of fault) ++ feed_place fault
 
+-- the column of a table that a workflow's fault names
+abbrev pub column_text : List ℕ → List ℕ → List ℕ
+column_text table column = codes " table " ++ table ++ codes " column " ++ column
+
+-- what stands behind the number of a refused workflow: a column, or a rule of a stream, both counted from 0
+abbrev pub workflow_details : PlanFault → List ℕ
+workflow_details (NoSuchColumn table column) = column_text (string_bytes table) (string_bytes column)
+workflow_details (KeyType table column) = column_text (string_bytes table) (string_bytes column)
+workflow_details (BadRule stream rule) = codes " stream " ++ decimal stream ++ codes " rule " ++ decimal rule
+workflow_details _ = []
+
 -- what stands behind the number
 abbrev pub details_of : Refusal → List ℕ
+details_of (Workflow fault) = workflow_details fault
 details_of (Feed fault) = feed_details fault
 details_of (BadScript bad) = codes " line " ++ decimal bad
 details_of (CannotRead file) = codes " file " ++ file.now

@@ -1,11 +1,18 @@
 //! The commands of the program `vrepl`: words, bytes and writers in; bytes and a status out.
 #![tactic(auto)]
 
+pub mod answer_text;
+pub mod given;
 pub mod hex_text;
 pub mod input;
+pub mod key_text;
+pub mod opened;
 pub mod output;
 pub mod refusal;
+pub mod refused_text;
+pub mod script;
 pub mod show;
 pub mod shown;
 pub mod source;
+pub mod state_text;
 pub mod thin;

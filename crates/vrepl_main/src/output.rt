@@ -1,13 +1,14 @@
 //! Text behind text that waits for a writer: the whole of it, or after a fault a beginning.
 
 ghost use Rattle.std.specs.Prelude.{◌≡◌, IfSome};
-ghost use Rattle.vdiff_core.specs.Cells.{cells};
+ghost use Rattle.row_view.specs.ColumnValue.{column_value};
+ghost use Rattle.vdiff_core.specs.Cells.{cell, cells};
 ghost use Rattle.vrepl_main.specs.Adding.{Adds, at};
 
-use row_view::Columns;
+use row_view::{Column, Columns};
 use std::fmt;
 use std::fmt::{InlineText, Write as _};
-use vdiff_core::{Gathered, Out, OutFailed, add_cells};
+use vdiff_core::{Gathered, Out, OutFailed, add_cell, add_cells};
 
 /// The most bytes of a text that `put_text` prints.
 const SHORT: usize = 128;
@@ -35,6 +36,17 @@ pub fn print_cells<W: Out>(
     ensures { Adds result (at (W.written out.old) text.old) (at (W.written out.new) text.new) (cells columns.entry) }
 {
     add_cells(out, text, columns)
+}
+
+/// Adds a column as a cell.
+pub fn print_cell<W: Out>(
+    out: &mut W,
+    text: &mut Gathered,
+    column: &Column<'_>,
+) -> Result<(), OutFailed>
+    ensures { Adds result (at (W.written out.old) text.old) (at (W.written out.new) text.new) (cell (column_value column.now)) }
+{
+    add_cell(out, text, column)
 }
 
 /// Adds a value whose text has at most 128 bytes. Takes no memory. Fails where `out` does, and, with

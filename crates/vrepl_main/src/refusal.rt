@@ -1,12 +1,13 @@
 //! What the program refuses, and the line that says so.
 
 ghost use Rattle.std.specs.Prelude.{◌≡◌, ◌++◌, codes};
-ghost use Rattle.vrepl_main.specs.Refusals.{cause_text, details_of, feed_details, feed_place, number_of, refusal_line};
+ghost use Rattle.vrepl_main.specs.Refusals.{cause_text, column_text, details_of, feed_details, feed_place, number_of, refusal_line, workflow_details};
 ghost use Rattle.vrepl_main.specs.Adding.{Adds, at};
 ghost use Rattle.vrepl_main.specs.Printing.{PrintsBeginning};
 
 use crate::hex_text::HexFault;
 use crate::output::{put_all, put_str, put_text};
+use filter_rule::PlanFault;
 use source_feed::FeedFault;
 use std::alloc::AllocError;
 use vdiff_core::{Gathered, Out, OutFailed};
@@ -18,6 +19,10 @@ use vevent::EventFault;
 pub enum Refusal<'w> {
     /// 72: a growth of memory was refused.
     Memory,
+    /// 51 to 56: the workflow file is refused.
+    Workflow(PlanFault),
+    /// 119: there aren't as many feeds as streams.
+    FeedCount,
     /// The feed is refused, by its own number.
     Feed(FeedFault),
     /// 93: a feed that is to be hexadecimal text is not.
@@ -37,6 +42,8 @@ impl Refusal<'_> {
     {
         match self {
             Refusal::Memory => 72,
+            Refusal::Workflow(fault) => fault.number(),
+            Refusal::FeedCount => 119,
             Refusal::Feed(fault) => fault.number(),
             Refusal::BadHex => 93,
             Refusal::BadScript { .. } => 120,
@@ -71,6 +78,20 @@ impl<'w> From<FeedFault> for Refusal<'w> {
     }
 }
 
+impl<'w> From<PlanFault> for Refusal<'w> {
+    ghost use Rattle.std.specs.Prelude.{◌≡◌};
+    ghost use Rattle.vrepl_main.specs.RefusalOf.{refusal_of_workflow};
+
+    ghost from_gives = { λ fault refusal. refusal ≡ refusal_of_workflow fault };
+
+    fn from(fault: PlanFault) -> Refusal<'w> {
+        match fault {
+            PlanFault::Memory => Refusal::Memory,
+            fault => Refusal::Workflow(fault),
+        }
+    }
+}
+
 impl<'w> From<HexFault> for Refusal<'w> {
     ghost use Rattle.std.specs.Prelude.{◌≡◌};
     ghost use Rattle.vrepl_main.specs.RefusalOf.{refusal_of_hex};
@@ -96,8 +117,12 @@ impl<'w> From<OutFailed> for Refusal<'w> {
     }
 }
 
-/// Prints the number of a fault's cause, where it has one.
-fn print_cause<E: Out>(err: &mut E, text: &mut Gathered, cause: Option<u8>) -> Result<(), OutFailed>
+/// Prints the number of a fault's cause, where it has one. Takes no memory.
+pub(crate) fn print_cause<E: Out>(
+    err: &mut E,
+    text: &mut Gathered,
+    cause: Option<u8>,
+) -> Result<(), OutFailed>
     ensures { Adds result (at (E.written err.old) text.old) (at (E.written err.new) text.new) (cause_text cause) }
 {
     match cause {
@@ -123,8 +148,8 @@ fn print_feed_place<E: Out>(
     }
 }
 
-/// Prints what stands behind the number of a refused feed.
-fn print_feed_details<E: Out>(
+/// Prints what stands behind the number of a refused feed. Takes no memory.
+pub(crate) fn print_feed_details<E: Out>(
     err: &mut E,
     text: &mut Gathered,
     fault: &FeedFault,
@@ -133,6 +158,40 @@ fn print_feed_details<E: Out>(
 {
     print_cause(err, text, fault.cause())?;
     print_feed_place(err, text, fault)
+}
+
+/// Prints which column of which table is at fault.
+fn print_column<E: Out>(
+    err: &mut E,
+    text: &mut Gathered,
+    table: &str,
+    column: &str,
+) -> Result<(), OutFailed>
+    ensures { Adds result (at (E.written err.old) text.old) (at (E.written err.new) text.new) (column_text table.now column.now) }
+{
+    put_all(err, text, b" table ")?;
+    put_str(err, text, table)?;
+    put_all(err, text, b" column ")?;
+    put_str(err, text, column)
+}
+
+/// Prints what stands behind the number of a refused workflow.
+fn print_workflow_details<E: Out>(
+    err: &mut E,
+    text: &mut Gathered,
+    fault: &PlanFault,
+) -> Result<(), OutFailed>
+    ensures { Adds result (at (E.written err.old) text.old) (at (E.written err.new) text.new) (workflow_details fault.now) }
+{
+    match fault {
+        PlanFault::NoSuchColumn { table, column } | PlanFault::KeyType { table, column } => {
+            print_column(err, text, table.as_str(), column.as_str())
+        }
+        PlanFault::BadRule { stream, rule } => {
+            put_text(err, text, format_args!(" stream {stream} rule {rule}"))
+        }
+        _ => Ok(()),
+    }
 }
 
 /// Prints the name of a file.
@@ -153,9 +212,10 @@ fn print_details<E: Out>(
 {
     match refusal {
         Refusal::CannotRead { file } | Refusal::CannotWrite { file } => print_file(err, text, file),
+        Refusal::Workflow(fault) => print_workflow_details(err, text, fault),
         Refusal::Feed(fault) => print_feed_details(err, text, fault),
         Refusal::BadScript { line } => put_text(err, text, format_args!(" line {line}")),
-        Refusal::Memory | Refusal::BadHex => Ok(()),
+        Refusal::Memory | Refusal::FeedCount | Refusal::BadHex => Ok(()),
     }
 }
 

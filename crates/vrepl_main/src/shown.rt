@@ -49,8 +49,8 @@ fn print_group_line<W: Out>(
     put_all(out, text, b"\n")
 }
 
-/// Prints a position, an interval at a time.
-fn print_position<W: Out>(
+/// Prints a position, an interval at a time. Takes no memory.
+pub fn print_position<W: Out>(
     out: &mut W,
     text: &mut Gathered,
     position: &GtidSet,

@@ -18,3 +18,9 @@ returns-in-Feed c = search rules
 
 pub returns-in-Memory : goal.returns-in-Memory
 returns-in-Memory c = search rules
+
+pub returns-in-Workflow : goal.returns-in-Workflow
+returns-in-Workflow c = search rules
+
+pub returns-in-FeedCount : goal.returns-in-FeedCount
+returns-in-FeedCount c = search rules

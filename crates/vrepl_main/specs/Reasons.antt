@@ -1,0 +1,37 @@
+-- Why a command is refused, by what stands in its inputs (this profile).
+use Rattle.std.specs.Prelude.{◌≡◌, ℕ, Option, None, Some, MatchOption, Result, Ok, Err, option_map}
+use Rattle.filter_rule.specs.Faults as plans
+use Rattle.source_feed.specs.FaultNumber as feed
+use Rattle.source_feed.specs.declared.fault.FeedFault.{FeedFault}
+use Rattle.vrepl_main.specs.declared.refusal.Refusal.{Refusal}
+use Rattle.vrepl_main.specs.declared.refusal.Refusal.TheVariants.{Memory, Workflow, FeedCount, Feed, BadHex, BadScript, CannotRead, CannotWrite}
+
+-- the workflow file has a fault; there aren't as many feeds as streams; a feed that is to be hexadecimal text is
+-- none; a feed is refused; a line of the script is no step
+pub data Reason : Type 0 where
+  bad_workflow : plans.Fault → Reason
+  feed_count : Reason
+  bad_hex : Reason
+  bad_feed : FeedFault → Reason
+  bad_script : ℕ → Reason
+
+-- what a refusal says of the inputs; nothing for want of memory, and where a file can't be read or written
+abbrev pub meant_of : Refusal → Option Reason
+meant_of Memory = None
+meant_of (Workflow fault) = option_map bad_workflow (plans.meant fault)
+meant_of FeedCount = Some feed_count
+meant_of (Feed fault) = option_map bad_feed (feed.meant_of fault)
+meant_of BadHex = Some bad_hex
+meant_of (BadScript bad) = Some (bad_script bad)
+meant_of (CannotRead file) = None
+meant_of (CannotWrite file) = None
+
+-- a refusal says just why there is nothing to be had of the inputs, unless memory ran out
+abbrev pub RefusesInputs : {X : Type 0} → Refusal → Result X Reason → Type 0
+RefusesInputs Memory reading = Unit {0}
+RefusesInputs refusal reading = MatchOption (meant_of refusal) ⊥ (λ reason. reading ≡ Err reason)
+
+-- what a call gives of the inputs, seen by `view`
+abbrev pub GivesOfInputs : {X Y : Type 0} → (X → Y) → Result X Refusal → Result Y Reason → Type 0
+GivesOfInputs view (Ok x) reading = reading ≡ Ok (view x)
+GivesOfInputs view (Err refusal) reading = RefusesInputs refusal reading

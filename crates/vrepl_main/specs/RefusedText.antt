@@ -1,0 +1,67 @@
+-- The replies to steps on a board that are refused, as text (this profile).
+use Rattle.std.specs.Prelude.{ℕ, List, [], ◌∷◌, ◌++◌, Some, codes, decimal, slice_get}
+use Rattle.std.specs.List.{flat_map}
+use Rattle.std.specs.Option.{option_map_or}
+use Rattle.filter_rule.specs.PlanTable.{TableValue}
+use Rattle.pk_copy.specs.KeyValue.{Part, KeyValue}
+use Rattle.pk_copy.specs.Lastpk.{part_text}
+use Rattle.vdiff_core.specs.Cells.{cell}
+use Rattle.stream_core.specs.declared.refusal.CoreRefusal.TheVariants.{Gap}
+use Rattle.source_feed.specs.declared.fault.FeedFault.{FeedFault}
+use Rattle.source_feed.specs.declared.fault.FeedFault.TheVariants.{BadRow, NoGroup}
+use Rattle.board_laws.specs.Refusals.{number_of_step}
+use Rattle.board_laws.specs.declared.refusal.Refusal.TheVariants.{Core, OwnedByOther}
+use Rattle.board_laws.specs.declared.step_refusal.StepRefusal.{StepRefusal}
+use Rattle.board_laws.specs.declared.step_refusal.StepRefusal.TheVariants.{Unprepared, Refused}
+use Rattle.vrepl_main.specs.Refusals.{cause_text, feed_details}
+
+-- ---- keys
+
+-- a part of a key as a cell; a number as its shortest decimal text
+abbrev pub part_cell : Part → List ℕ
+part_cell part = cell (Some (part_text part))
+
+-- further parts, each behind a comma
+abbrev pub more_parts : List Part → List ℕ
+more_parts parts = flat_map (λ part. 44 ∷ part_cell part) parts
+
+-- the parts of a key as cells, parted by commas
+abbrev pub parts_text : List Part → List ℕ
+parts_text [] = []
+parts_text (part ∷ others) = part_cell part ++ more_parts others
+
+abbrev pub key_text : KeyValue → List ℕ
+key_text key = parts_text key.parts
+
+-- the name of a table by its number
+abbrev pub name_of_table : List TableValue → ℕ → List ℕ
+name_of_table tables t = option_map_or (λ table. table.name) (slice_get tables t) []
+
+-- ---- what stands behind the number
+
+abbrev pub owner_text : ℕ → List ℕ
+owner_text owner = codes " owner " ++ decimal owner
+
+-- another stream's row stands at a key
+abbrev pub clash_text : List TableValue → KeyValue → ℕ → List ℕ
+clash_text tables key owner = codes " table " ++ name_of_table tables key.table ++ codes " key " ++ key_text key ++ owner_text owner
+
+-- a row of a group has no key or no answer of the filter
+abbrev pub bad_row_text : List TableValue → ℕ → ℕ → ℕ → List ℕ
+bad_row_text tables group table cause = codes " group " ++ decimal group ++ codes " table " ++ name_of_table tables table ++ cause_text (Some cause)
+
+-- a group isn't there, or isn't sound
+abbrev pub unprepared_text : List TableValue → FeedFault → List ℕ
+unprepared_text tables (BadRow group table cause) = bad_row_text tables group table cause
+unprepared_text tables (NoGroup groups) = codes " groups " ++ decimal groups
+unprepared_text tables fault = feed_details fault
+
+abbrev pub step_details : List TableValue → StepRefusal → List ℕ
+step_details tables (Unprepared fault) = unprepared_text tables fault
+step_details tables (Refused (OwnedByOther key owner)) = clash_text tables key owner
+step_details tables (Refused (Core (Gap expected))) = codes " expected " ++ decimal expected
+step_details tables (Refused refusal) = []
+
+-- the line of a refused step
+abbrev pub refused_text : List TableValue → StepRefusal → List ℕ
+refused_text tables refusal = codes "refused " ++ decimal (number_of_step refusal) ++ step_details tables refusal ++ 10 ∷ []

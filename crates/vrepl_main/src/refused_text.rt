@@ -1,0 +1,122 @@
+//! The replies to steps on a board that are refused, as text.
+
+ghost use Rattle.std.specs.Prelude.{◌≡◌};
+ghost use Rattle.vrepl_main.specs.RefusedText.{bad_row_text, clash_text, name_of_table, owner_text, refused_text, step_details, unprepared_text};
+ghost use Rattle.vrepl_main.specs.Adding.{Adds, at};
+
+use crate::key_text::print_key;
+use crate::output::{put_all, put_str, put_text};
+use crate::refusal::{print_cause, print_feed_details};
+use board_laws::{Refusal, StepRefusal};
+use filter_rule::Table;
+use pk_copy::Key;
+use source_feed::FeedFault;
+use stream_core::CoreRefusal;
+use vdiff_core::{Gathered, Out, OutFailed};
+
+/// Adds the line of a refused step: `refused`, the number, and for some numbers details. Tables are
+/// named by their numbers in the plan. Takes no memory.
+pub fn print_refused<W: Out>(
+    out: &mut W,
+    text: &mut Gathered,
+    tables: &[Table],
+    refusal: &StepRefusal,
+) -> Result<(), OutFailed>
+    ensures { Adds result (at (W.written out.old) text.old) (at (W.written out.new) text.new) (refused_text tables.now refusal.now) }
+{
+    put_all(out, text, b"refused ")?;
+    put_text(out, text, refusal.number())?;
+    print_step_details(out, text, tables, refusal)?;
+    put_all(out, text, b"\n")
+}
+
+/// Adds what stands behind the number of a refused step.
+fn print_step_details<W: Out>(
+    out: &mut W,
+    text: &mut Gathered,
+    tables: &[Table],
+    refusal: &StepRefusal,
+) -> Result<(), OutFailed>
+    ensures { Adds result (at (W.written out.old) text.old) (at (W.written out.new) text.new) (step_details tables.now refusal.now) }
+{
+    match refusal {
+        StepRefusal::Unprepared(fault) => print_unprepared(out, text, tables, fault),
+        StepRefusal::Refused(Refusal::OwnedByOther { key, owner }) => {
+            print_clash(out, text, tables, key, *owner)
+        }
+        StepRefusal::Refused(Refusal::Core(CoreRefusal::Gap { expected })) => {
+            put_text(out, text, format_args!(" expected {expected}"))
+        }
+        StepRefusal::Refused(_) => Ok(()),
+    }
+}
+
+/// Adds why a group can't be prepared.
+fn print_unprepared<W: Out>(
+    out: &mut W,
+    text: &mut Gathered,
+    tables: &[Table],
+    fault: &FeedFault,
+) -> Result<(), OutFailed>
+    ensures { Adds result (at (W.written out.old) text.old) (at (W.written out.new) text.new) (unprepared_text tables.now fault.now) }
+{
+    match fault {
+        FeedFault::BadRow {
+            group,
+            table,
+            cause,
+        } => print_bad_row(out, text, tables, *group, *table, *cause),
+        FeedFault::NoGroup { groups } => put_text(out, text, format_args!(" groups {groups}")),
+        _ => print_feed_details(out, text, fault),
+    }
+}
+
+/// Adds which row has no key or no answer of the filter.
+fn print_bad_row<W: Out>(
+    out: &mut W,
+    text: &mut Gathered,
+    tables: &[Table],
+    group: u32,
+    table: u8,
+    cause: u8,
+) -> Result<(), OutFailed>
+    ensures { Adds result (at (W.written out.old) text.old) (at (W.written out.new) text.new) (bad_row_text tables.now group table cause) }
+{
+    put_text(out, text, format_args!(" group {group} table "))?;
+    put_str(out, text, name_of_table(tables, table))?;
+    print_cause(out, text, Some(cause))
+}
+
+/// Adds at which key a row of another stream stands.
+fn print_clash<W: Out>(
+    out: &mut W,
+    text: &mut Gathered,
+    tables: &[Table],
+    key: &Key,
+    owner: u8,
+) -> Result<(), OutFailed>
+    ensures { Adds result (at (W.written out.old) text.old) (at (W.written out.new) text.new) (clash_text tables.now key.now owner) }
+{
+    put_all(out, text, b" table ")?;
+    put_str(out, text, name_of_table(tables, key.table()))?;
+    put_all(out, text, b" key ")?;
+    print_key(out, text, key)?;
+    print_owner(out, text, owner)
+}
+
+/// Adds whose row it is.
+fn print_owner<W: Out>(out: &mut W, text: &mut Gathered, owner: u8) -> Result<(), OutFailed>
+    ensures { Adds result (at (W.written out.old) text.old) (at (W.written out.new) text.new) (owner_text owner) }
+{
+    put_text(out, text, format_args!(" owner {owner}"))
+}
+
+/// The name of a table by its number.
+fn name_of_table(tables: &[Table], t: u8) -> &str
+    ensures { result.now ≡ name_of_table tables.now t }
+{
+    match tables.get(usize::from(t)) {
+        None => "",
+        Some(table) => table.name(),
+    }
+}
