@@ -1,5 +1,5 @@
 -- Steps of a board that touch rows, from what the step puts and what the target then has.
-use Rattle.std.proofs.Common.{◌≡◌, ℕ, ◌<◌, true, List, Option, Some, None, ◌++◌, length, get_or, take, drop, set, slice_get, refl, sym, ap, subst, ◌∙◌}
+use Rattle.std.proofs.Common.{◌≡◌, ℕ, true, List, Option, Some, None, ◌++◌, length, take, drop, set, slice_get, refl, sym, ap, subst, ◌∙◌}
 use Rattle.std.specs.Prelude.{IfSome, MatchOption}
 use Rattle.pk_copy.specs.KeyOrder.{key_cmp}
 use Rattle.pk_copy.specs.KeyValue.{KeyValue}
@@ -19,21 +19,11 @@ use Rattle.board_laws.specs.Lawful.{IsLawful}
 use Rattle.board_laws.specs.Event.{Event, OnOffer}
 use Rattle.board_laws.specs.StateAfter.{state_after}
 use Rattle.board_laws.specs.Touching.{touch_of}
-use Rattle.board_laws.specs.Allowed.{IsAllowed}
 use Rattle.board_laws.specs.Step.{takes_memory, IsMade, IsRefusedFor, IsRefused}
 use Rattle.board_laws.specs.Laws.{MayStep, TouchesAreSteps, ClashesAreOfTheCut}
 use Rattle.apply_core.specs.Private.Changes.{refused_by}
 use Rattle.apply_core.specs.Private.StreamStep.{MayMake, MakesStep, ArePutsOf}
-use Rattle.apply_core.proofs.StepLaws.{here}
 use Rattle.apply_core.proofs.BoardLaws.{refilled}
-
--- what a stream's step puts
-pub puts-of : (streams : List State) (s : ℕ) (d : State) (inside : s < length streams) (event : Event) (puts : List (KeyValue × Option RowValue))
-    → IsAllowed (get_or streams s d) event → ((key : KeyValue) → last_at key_cmp puts key ≡ touch_of (get_or streams s d) event key) → ArePutsOf streams s event puts
-puts-of streams s d inside event puts allowed are = record {
-  may = record { state = get_or streams s d; stream = here streams s d inside; allowed = allowed };
-  left = subst (λ (o : Option State). IfSome o (λ state. (key : KeyValue) → last_at key_cmp puts key ≡ touch_of state event key)) (sym (here streams s d inside)) are;
-}
 
 module _ (streams : List State) (rows : TargetRows) (s : ℕ) (event : Event) (puts : List (KeyValue × Option RowValue))
     (lawful : IsLawful (record { streams = streams; rows = rows })) (prepared : OnOffer IsPrepared event) (are : ArePutsOf streams s event puts) where

@@ -1,10 +1,9 @@
 -- What a stream keeps behind its steps.
-use Rattle.std.proofs.Common.{◌≡◌, ℕ, ◌+◌, ◌<◌, ◌≤◌, Bool, true, false, cond, List, [], ◌∷◌, ◌++◌, length, map, take, get_or, Option, Some, None, Result, Err, is_some, ◌==◌, slice_get, refl, sym, ap, subst, ◌∙◌, arith}
-use Rattle.std.proofs.lemmas.Bool.{false≢true}
+use Rattle.std.proofs.Common.{◌≡◌, ℕ, ◌+◌, ◌<◌, ◌≤◌, false, cond, List, [], ◌∷◌, ◌++◌, length, map, take, get_or, Some, None, slice_get, refl, sym, ap, subst, ◌∙◌, arith}
 use Rattle.std.proofs.lemmas.List.{length-append, take-append-le}
 use Rattle.std.proofs.lemmas.Option.{slice_get-map, slice_get_read}
 use Rattle.std.proofs.lemmas.Bool.{lt-leb}
-use Rattle.std.specs.Prelude.{nat_le, IfSome, IsOk}
+use Rattle.std.specs.Prelude.{nat_le}
 use Rattle.std.specs.Option.{option_map}
 use Rattle.source_feed.specs.Prepared.{IsPrepared}
 use Rattle.source_feed.specs.Touches.{PreparedValue}
@@ -12,7 +11,7 @@ use Rattle.source_feed.specs.History.{IsKept}
 use Rattle.source_feed.specs.Image.{ImageRows}
 use Rattle.board_laws.specs.Meaning.{State}
 use Rattle.board_laws.specs.Lawful.{IsSoundState}
-use Rattle.board_laws.specs.Event.{offer, open_at, restart, advance}
+use Rattle.board_laws.specs.Event.{offer, restart, advance}
 use Rattle.board_laws.specs.StateAfter.{state_after}
 use Rattle.board_laws.specs.Allowed.{IsAllowed}
 use Rattle.board_laws.specs.Laws.{StatesStaySound, FirstGroupsKeep}
@@ -25,12 +24,6 @@ item_at f xs i x y inside is seen = slice_get-map f xs i ∙ ap (option_map f) (
 -- a restart is always allowed
 pub may-restart : (state : State) → IsAllowed state restart
 may-restart state = record { plan = tt; place = tt; table = refl }
-
--- a step table's row that answers although it refuses an open snapshot
-unopened : {A E : Type 0} (first second : E) (later : Result A E) (o : Option ℕ) (done : Bool) (P : ℕ → Type 0) → IsOk (cond done (Err first) (cond (is_some o) (Err second) later)) → IfSome o P
-unopened first second later None done P h = tt
-unopened first second later (Some k) true P h = absurd (false≢true h)
-unopened first second later (Some k) false P h = absurd (false≢true h)
 
 module _ (sound : StatesStaySound) (old now : State) (is : old ≡ now) (imaged : ℕ) (image : ImageRows) (inv : IsStream old imaged image) where
   allowed_here : (P : State → Type 0) → P now → P old
@@ -72,31 +65,6 @@ module _ (sound : StatesStaySound) (old now : State) (is : old ≡ now) (imaged 
       within = omega arith;
       opened = tt;
     }
-
-  -- ---- an opened snapshot
-
-  module _ (m : ℕ) (allowed : IsAllowed now (open_at m)) where
-    behind : IsSoundState (state_after old (open_at m))
-    behind = sound old (open_at m) inv.sound (allowed_here (λ s. IsAllowed s (open_at m)) allowed) tt
-
-    -- the snapshot's group is read
-    pub opened-within : m ≤ length old.list
-    opened-within = behind.standing.snapshot.is_read
-
-    pub opened-value : ◌≡◌ {A = State} (record { plan = old.plan; list = old.list; applied = old.applied; marks = old.marks; snapshot = Some m }) (state_after now (open_at m))
-    opened-value = ap (λ (s : State). state_after s (open_at m)) is
-
-    pub opened-stream : (there : ℕ) (brought : ImageRows) → IsKept old.list there brought → there ≡ m
-        → IsStream (record { plan = old.plan; list = old.list; applied = old.applied; marks = old.marks; snapshot = Some m }) there brought
-    opened-stream there brought kept at = record { sound = behind; kept = kept; within = omega (arith, opened-within, at); opened = sym at }
-
-    -- no snapshot is open before
-    none_open : (P : ℕ → Type 0) → IfSome old.snapshot P
-    none_open P = unopened _ _ _ old.snapshot (old.marks.done == old.marks.tables) P (allowed_here (λ s. IsAllowed s (open_at m)) allowed).table
-
-    -- where the image couldn't be brought there
-    pub unopened-stream : (there : ℕ) (brought : ImageRows) → IsKept old.list there brought → there ≤ m → IsStream old there brought
-    unopened-stream there brought kept least = record { sound = inv.sound; kept = kept; within = omega (arith, opened-within, least); opened = none_open (λ k. k ≡ there) }
 
   -- ---- an applied group
 
