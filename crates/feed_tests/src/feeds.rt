@@ -36,14 +36,9 @@ fn push_event(feed: &mut Vec<u8>, event: &[u8]) -> Result<(), AllocError> {
     feed.extend_from_slice(event)
 }
 
-/// A FIELD event: the column `id` is INT64 and `v` VARCHAR.
-fn push_field(feed: &mut Vec<u8>, table: u8) -> Result<(), AllocError> {
-    let event = [
-        8, 13, 50, 20, 10, 1, table, 18, 7, 10, 2, 105, 100, 16, 137, 2, 18, 6, 10, 1, 118, 16,
-        149, 48,
-    ];
-    push_event(feed, &event)
-}
+/// BEGIN and the FIELD events of both tables: the column `id` is INT64 and `v` VARCHAR.
+const BEGIN: &[u8] =
+    b"\x04\x0a\x02\x08\x02\x1a\x0a\x18\x08\x0d\x32\x14\x0a\x01s\x12\x07\x0a\x02id\x10\x89\x02\x12\x06\x0a\x01v\x10\x95\x30\x1a\x0a\x18\x08\x0d\x32\x14\x0a\x01t\x12\x07\x0a\x02id\x10\x89\x02\x12\x06\x0a\x01v\x10\x95\x30";
 
 /// A row under a field number: its lengths, and then its values.
 fn push_row(event: &mut Vec<u8>, tag: u8, row: Option<Cells>) -> Result<(), AllocError> {
@@ -86,12 +81,10 @@ pub(crate) fn push_group(
     digit: u8,
     steps: &[Step],
 ) -> Result<(), AllocError> {
-    push_event(feed, &[8, 2])?;
-    push_field(feed, b's')?;
-    push_field(feed, b't')?;
+    feed.extend_from_slice(BEGIN)?;
     for step in steps {
         push_step(alloc, feed, *step)?;
     }
     push_position(alloc, feed, digit)?;
-    push_event(feed, &[8, 3])
+    feed.extend_from_slice(b"\x04\x0a\x02\x08\x03")
 }

@@ -1,10 +1,12 @@
 //! Feeds of a source, read whole.
 
+use crate::prepared::prepared;
 use filter_rule::Plan;
 use gtid_set::GtidSet;
 use row_view::{Column, RowView};
-use source_feed::{Change, Feed, Group, Touch, read_groups};
+use source_feed::{Change, Feed, FeedFault, Group, Prepared, Touch, read_groups};
 use std::alloc::Global;
+use std::process::Abort;
 use std::test::Fail;
 
 /// One inserted row: BEGIN, FIELD, ROW, GTID, COMMIT in one message.
@@ -73,19 +75,30 @@ fn opened(alloc: Global, workflow: &[u8], feed: &[u8]) -> Result<(usize, usize),
     Ok((feed.len(), touches))
 }
 
+/// The first group, at this position, whose one change inserts the row.
+fn is_first_group(group: &Group<'_>, position: &GtidSet) -> bool {
+    group.number() == 1
+        && position.is_within(group.position())
+        && group.position().is_within(position)
+        && match group.changes() {
+            [change] => inserts_the_row(change),
+            _ => false,
+        }
+}
+
+/// The feed is the one group above.
+fn is_one_group(alloc: Global, feed: &[u8], position: &GtidSet) -> Result<bool, FeedFault> {
+    let groups = read_groups(alloc, feed, "", "")?;
+    Ok(match groups.as_slice() {
+        [group] => is_first_group(group, position),
+        _ => false,
+    })
+}
+
 #[test]
 fn one_inserted_row_is_a_group(rt: HostRuntime) -> Result<(), Fail> {
-    let alloc = rt.alloc();
-    let groups = read_groups(alloc, ONE_ROW, "", "")?;
-    assert_eq!(rt; groups.len(), 1);
-    let group = groups.first().ok_or("no group")?;
-    assert_eq!(rt; group.number(), 1);
-    let position = GtidSet::parse(alloc, "3e11fa47-71ca-11e1-9e33-c80aa9429562:1")?;
-    assert!(rt; position.is_within(group.position()));
-    assert!(rt; group.position().is_within(&position));
-    assert_eq!(rt; group.changes().len(), 1);
-    let change = group.changes().first().ok_or("no change")?;
-    assert!(rt; inserts_the_row(change));
+    let position = GtidSet::parse(rt.alloc(), "3e11fa47-71ca-11e1-9e33-c80aa9429562:1")?;
+    assert!(rt; is_one_group(rt.alloc(), ONE_ROW, &position)?);
     Ok(())
 }
 
@@ -96,29 +109,52 @@ fn changes_and_groups_are_small(rt: HostRuntime) {
     assert!(rt; size_of::<Group<'static>>() <= 96);
 }
 
+fn check_opened(
+    rt: &impl Abort,
+    alloc: Global,
+    workflow: &[u8],
+    feed: &[u8],
+    wanted: Result<(usize, usize), u8>,
+) {
+    assert!(rt; opened(alloc, workflow, feed) == wanted);
+}
+
+/// The first group puts the row.
+fn is_put(group: &Prepared<'_>) -> bool {
+    match group.touches() {
+        [touch] => group.number() == 1 && puts_into_the_first(touch),
+        _ => false,
+    }
+}
+
 #[test]
 fn feed_opens_under_its_plan(rt: HostRuntime) -> Result<(), Fail> {
-    let alloc = rt.alloc();
-    assert_eq!(rt; opened(alloc, WORKFLOW, ONE_ROW), Ok((1, 1)));
-    let plans = Plan::read_all(alloc, WORKFLOW)?;
-    let feed = Feed::open(alloc, ONE_ROW, plans.first().ok_or("no plan")?)?;
-    let group = feed.prepare(alloc, 1)?;
-    assert_eq!(rt; group.number(), 1);
-    assert!(rt; puts_into_the_first(group.touches().first().ok_or("no touch")?));
+    check_opened(&rt, rt.alloc(), WORKFLOW, ONE_ROW, Ok((1, 1)));
+    let group = prepared(rt.alloc(), WORKFLOW, ONE_ROW, 1)?;
+    assert!(rt; is_put(&group));
     Ok(())
 }
 
 #[test]
 fn column_type_differs(rt: HostRuntime) {
-    assert_eq!(rt; opened(rt.alloc(), WORKFLOW_WITH_TEXT, ONE_ROW), Err(85));
+    check_opened(&rt, rt.alloc(), WORKFLOW_WITH_TEXT, ONE_ROW, Err(85));
 }
 
 #[test]
 fn changes_of_other_tables_are_dropped(rt: HostRuntime) {
-    assert_eq!(rt;
-        opened(rt.alloc(), WORKFLOW_OF_ANOTHER_TABLE, ONE_ROW),
-        Ok((1, 0))
+    check_opened(
+        &rt,
+        rt.alloc(),
+        WORKFLOW_OF_ANOTHER_TABLE,
+        ONE_ROW,
+        Ok((1, 0)),
     );
+}
+
+/// The feed is refused under a plan of `t`, and opened under one of another table.
+fn check_fields_differ(rt: &impl Abort, alloc: Global, feed: &[u8]) {
+    check_opened(rt, alloc, WORKFLOW, feed, Err(85));
+    assert!(rt; opened(alloc, WORKFLOW_OF_ANOTHER_TABLE, feed).is_ok());
 }
 
 /// The table `t` with its columns in another order, with another name, of another type, and one fewer.
@@ -130,8 +166,7 @@ fn field_differs_from_plan(rt: HostRuntime) {
         b"\x1a\x0a\x18\x08\x0d\x32\x14\x0a\x01\x74\x12\x07\x0a\x02\x69\x64\x10\x89\x02\x12\x06\x0a\x01\x76\x10\x93\x30".as_slice(),
         b"\x12\x0a\x10\x08\x0d\x32\x0c\x0a\x01\x74\x12\x07\x0a\x02\x69\x64\x10\x89\x02".as_slice(),
     ] {
-        assert_eq!(rt; opened(rt.alloc(), WORKFLOW, feed), Err(85));
-        assert!(rt; opened(rt.alloc(), WORKFLOW_OF_ANOTHER_TABLE, feed).is_ok());
+        check_fields_differ(&rt, rt.alloc(), feed);
     }
 }
 
@@ -145,7 +180,6 @@ fn every_planned_field_checked(rt: HostRuntime) {
         // in a repeat
         b"\x7a\x0a\x2a\x08\x01\x1a\x26\x33\x65\x31\x31\x66\x61\x34\x37\x2d\x37\x31\x63\x61\x2d\x31\x31\x65\x31\x2d\x39\x65\x33\x33\x2d\x63\x38\x30\x61\x61\x39\x34\x32\x39\x35\x36\x32\x3a\x31\x0a\x02\x08\x02\x0a\x18\x08\x0d\x32\x14\x0a\x01\x74\x12\x07\x0a\x02\x69\x64\x10\x89\x02\x12\x06\x0a\x01\x76\x10\x93\x30\x0a\x2a\x08\x01\x1a\x26\x33\x65\x31\x31\x66\x61\x34\x37\x2d\x37\x31\x63\x61\x2d\x31\x31\x65\x31\x2d\x39\x65\x33\x33\x2d\x63\x38\x30\x61\x61\x39\x34\x32\x39\x35\x36\x32\x3a\x31\x0a\x02\x08\x03".as_slice(),
     ] {
-        assert_eq!(rt; opened(rt.alloc(), WORKFLOW, feed), Err(85));
-        assert!(rt; opened(rt.alloc(), WORKFLOW_OF_ANOTHER_TABLE, feed).is_ok());
+        check_fields_differ(&rt, rt.alloc(), feed);
     }
 }

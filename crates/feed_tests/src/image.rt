@@ -71,16 +71,29 @@ fn keys_by_chunks(
     Ok(numbers)
 }
 
-/// A table's keys, read in chunks of so many rows, have these numbers.
+/// The keys of `t`, read in chunks of so many rows, have these numbers after so many groups.
 fn has_keys(
     alloc: Global,
-    image: &Image<'_>,
-    t: u8,
+    feed: &Feed<'_>,
+    groups: u32,
     rows: usize,
     wanted: &[i128],
-) -> Result<bool, AllocError> {
-    let numbers = keys_by_chunks(alloc, image, t, rows)?;
-    Ok(numbers.as_slice() == wanted)
+) -> Result<bool, FeedFault> {
+    let image = image_at(alloc, feed, groups)?;
+    let numbers = keys_by_chunks(alloc, &image, 1, rows)?;
+    Ok(image.len() == wanted.len() && numbers.as_slice() == wanted)
+}
+
+/// So many rows are in the first chunk of `t` after so many groups.
+fn first_chunk(
+    alloc: Global,
+    feed: &Feed<'_>,
+    groups: u32,
+    rows: usize,
+) -> Result<usize, FeedFault> {
+    let image = image_at(alloc, feed, groups)?;
+    let chunk = image.chunk(alloc, 1, None, rows)?;
+    Ok(chunk.len())
 }
 
 /// Rows 3, 5 and 7 are put in; 7 becomes 4; 3 becomes 8.
@@ -107,74 +120,116 @@ fn three_groups(alloc: Global) -> Result<Vec<u8>, AllocError> {
     Ok(feed)
 }
 
+/// A feed of both tables, all of whose rows pass.
+fn opened<'h>(alloc: Global, bytes: &'h [u8]) -> Result<Feed<'h>, FeedFault> {
+    let plan = every_row(alloc)?;
+    Feed::open(alloc, bytes, &plan)
+}
+
+/// A feed of both tables, whose rows pass by their value.
+fn opened_by_value<'h>(alloc: Global, bytes: &'h [u8]) -> Result<Feed<'h>, FeedFault> {
+    let plan = by_value(alloc)?;
+    Feed::open(alloc, bytes, &plan)
+}
+
+/// The rows of `t` at each of the three groups.
+fn are_images(alloc: Global, feed: &Feed<'_>) -> Result<bool, FeedFault> {
+    Ok(
+        has_keys(alloc, feed, 0, 2, &[])?
+            && has_keys(alloc, feed, 1, 2, &[3, 5, 7])?
+            && has_keys(alloc, feed, 2, 9, &[3, 4, 5])?
+            && has_keys(alloc, feed, 3, 1, &[4, 5, 8])?,
+    )
+}
+
 #[test]
 fn image_at_each_group(rt: HostRuntime) -> Result<(), Fail> {
-    let alloc = rt.alloc();
-    let bytes = three_groups(alloc)?;
-    let feed = Feed::open(alloc, &bytes, &every_row(alloc)?)?;
-    assert_eq!(rt; image_at(alloc, &feed, 0)?.len(), 0);
-    let first = image_at(alloc, &feed, 1)?;
-    let chunk = first.chunk(alloc, 1, None, 2)?;
-    assert_eq!(rt; chunk.len(), 2);
-    assert!(rt; has_keys(alloc, &first, 1, 2, &[3, 5, 7])?);
-    assert!(rt; has_keys(alloc, &image_at(alloc, &feed, 2)?, 1, 9, &[3, 4, 5])?);
-    assert!(rt; has_keys(alloc, &image_at(alloc, &feed, 3)?, 1, 1, &[4, 5, 8])?);
+    let bytes = three_groups(rt.alloc())?;
+    let feed = opened(rt.alloc(), &bytes)?;
+    assert!(rt; are_images(rt.alloc(), &feed)?);
     Ok(())
 }
 
-/// A chunk is of one table: what stands before and behind it in the image isn't given.
-#[test]
-fn chunks_of_two_tables(rt: HostRuntime) -> Result<(), Fail> {
-    let alloc = rt.alloc();
-    let mut bytes = Vec::new(alloc);
+/// A group that puts two rows into each table.
+fn rows_of_two_tables(alloc: Global) -> Result<Vec<u8>, AllocError> {
+    let mut feed = Vec::new(alloc);
     let steps = [
         inserts(b't', (b'2', b'a')),
         inserts(b's', (b'9', b'a')),
         inserts(b't', (b'1', b'a')),
         inserts(b's', (b'3', b'a')),
     ];
-    push_group(alloc, &mut bytes, b'1', &steps)?;
-    let feed = Feed::open(alloc, &bytes, &every_row(alloc)?)?;
-    let image = image_at(alloc, &feed, 1)?;
-    assert_eq!(rt; image.len(), 4);
-    assert!(rt; has_keys(alloc, &image, 0, 1, &[3, 9])?);
-    assert!(rt; has_keys(alloc, &image, 1, 1, &[1, 2])?);
+    push_group(alloc, &mut feed, b'1', &steps)?;
+    Ok(feed)
+}
+
+/// Row by row, the first table has 3 and 9 and the second 1 and 2.
+fn are_both_tables(alloc: Global, feed: &Feed<'_>) -> Result<bool, FeedFault> {
+    let image = image_at(alloc, feed, 1)?;
+    let first = keys_by_chunks(alloc, &image, 0, 1)?;
+    let second = keys_by_chunks(alloc, &image, 1, 1)?;
+    Ok(
+        image.len() == 4
+            && first.as_slice() == [3i128, 9].as_slice()
+            && second.as_slice() == [1i128, 2].as_slice(),
+    )
+}
+
+/// A chunk is of one table: what stands before and behind it in the image isn't given.
+#[test]
+fn chunks_of_two_tables(rt: HostRuntime) -> Result<(), Fail> {
+    let bytes = rows_of_two_tables(rt.alloc())?;
+    let feed = opened(rt.alloc(), &bytes)?;
+    assert!(rt; are_both_tables(rt.alloc(), &feed)?);
     Ok(())
+}
+
+/// A row of `t` whose value is at first `a`, then `b`, then `a`.
+fn there_and_back(alloc: Global) -> Result<Vec<u8>, AllocError> {
+    let mut feed = Vec::new(alloc);
+    push_group(alloc, &mut feed, b'1', &[inserts(b't', (b'1', b'a'))])?;
+    let steps = [moves(b't', (b'1', b'a'), (b'1', b'b'))];
+    push_group(alloc, &mut feed, b'2', &steps)?;
+    let steps = [moves(b't', (b'1', b'b'), (b'1', b'a'))];
+    push_group(alloc, &mut feed, b'3', &steps)?;
+    Ok(feed)
+}
+
+/// The image's length after so many groups.
+fn length_at(alloc: Global, feed: &Feed<'_>, groups: u32) -> Result<usize, FeedFault> {
+    Ok(image_at(alloc, feed, groups)?.len())
+}
+
+fn leaves_and_returns(alloc: Global, feed: &Feed<'_>) -> Result<bool, FeedFault> {
+    Ok(
+        length_at(alloc, feed, 1)? == 1
+            && length_at(alloc, feed, 2)? == 0
+            && length_at(alloc, feed, 3)? == 1,
+    )
 }
 
 /// A row whose new value doesn't pass leaves the image, and returns with one that does.
 #[test]
 fn row_leaves_and_returns(rt: HostRuntime) -> Result<(), Fail> {
-    let alloc = rt.alloc();
-    let mut bytes = Vec::new(alloc);
-    push_group(alloc, &mut bytes, b'1', &[inserts(b't', (b'1', b'a'))])?;
-    push_group(
-        alloc,
-        &mut bytes,
-        b'2',
-        &[moves(b't', (b'1', b'a'), (b'1', b'b'))],
-    )?;
-    push_group(
-        alloc,
-        &mut bytes,
-        b'3',
-        &[moves(b't', (b'1', b'b'), (b'1', b'a'))],
-    )?;
-    let feed = Feed::open(alloc, &bytes, &by_value(alloc)?)?;
-    assert_eq!(rt; image_at(alloc, &feed, 1)?.len(), 1);
-    assert_eq!(rt; image_at(alloc, &feed, 2)?.len(), 0);
-    assert_eq!(rt; image_at(alloc, &feed, 3)?.len(), 1);
+    let bytes = there_and_back(rt.alloc())?;
+    let feed = opened_by_value(rt.alloc(), &bytes)?;
+    assert!(rt; leaves_and_returns(rt.alloc(), &feed)?);
     Ok(())
+}
+
+/// The image's lengths before and after it is cleared.
+fn cleared(alloc: Global, feed: &Feed<'_>) -> Result<(usize, usize), FeedFault> {
+    let mut image = image_at(alloc, feed, 1)?;
+    let before = image.len();
+    image.clear();
+    Ok((before, image.len()))
 }
 
 #[test]
 fn cleared_image_is_empty(rt: HostRuntime) -> Result<(), Fail> {
-    let alloc = rt.alloc();
-    let bytes = three_groups(alloc)?;
-    let feed = Feed::open(alloc, &bytes, &every_row(alloc)?)?;
-    let mut image = image_at(alloc, &feed, 1)?;
-    image.clear();
-    assert_eq!(rt; image.len(), 0);
+    let bytes = three_groups(rt.alloc())?;
+    let feed = opened(rt.alloc(), &bytes)?;
+    assert_eq!(rt; cleared(rt.alloc(), &feed)?, (3, 0));
     Ok(())
 }
 

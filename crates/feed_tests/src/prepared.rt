@@ -5,6 +5,7 @@ use pk_copy::{KeyPart, LentKey};
 use row_view::{Column, RowView};
 use source_feed::{Feed, FeedFault, Prepared, Put, Touch};
 use std::alloc::Global;
+use std::process::Abort;
 use std::sync::Arc;
 use std::test::Fail;
 
@@ -99,7 +100,7 @@ fn puts(touch: Option<&Touch<'_>>, key: i128, value: &[u8], passes: bool) -> boo
 }
 
 /// A group of a feed under the first plan of a workflow.
-fn prepared<'h>(
+pub(crate) fn prepared<'h>(
     alloc: Global,
     workflow: &[u8],
     feed: &'h [u8],
@@ -120,48 +121,77 @@ fn refused(alloc: Global, workflow: &[u8], feed: &[u8], number: u32) -> Option<F
     prepared(alloc, workflow, feed, number).err()
 }
 
+fn check_refused(
+    rt: &impl Abort,
+    alloc: Global,
+    (workflow, feed): (&[u8], &[u8]),
+    number: u32,
+    wanted: Option<FeedFault>,
+) {
+    assert_eq!(rt; refused(alloc, workflow, feed, number), wanted);
+}
+
+/// The touches leave nothing at the first key, and put a row with this value at the second, of which
+/// the filter answers this.
+fn removes_and_puts(
+    group: &Prepared<'_>,
+    removed: i128,
+    put: i128,
+    value: &[u8],
+    passes: bool,
+) -> bool {
+    let touches = group.touches();
+    touches.len() == 2
+        && removes(touches.first(), removed)
+        && puts(touches.get(1), put, value, passes)
+}
+
 #[test]
 fn touches_of_updates(rt: HostRuntime) -> Result<(), Fail> {
-    let alloc = rt.alloc();
-    let moved = prepared(alloc, EVERY_ROW, THREE_GROUPS, 2)?;
-    assert_eq!(rt; moved.number(), 2);
-    assert_eq!(rt; moved.touches().len(), 2);
-    assert!(rt; removes(moved.touches().first(), 7));
-    assert!(rt; puts(moved.touches().get(1), 4, b"h", true));
-    let changed = prepared(alloc, BY_VALUE, VALUES_OF_ONE_KEY, 2)?;
-    assert_eq!(rt; changed.touches().len(), 2);
-    assert!(rt; removes(changed.touches().first(), 1));
-    assert!(rt; puts(changed.touches().get(1), 1, b"abc", false));
+    let moved = prepared(rt.alloc(), EVERY_ROW, THREE_GROUPS, 2)?;
+    assert!(rt; removes_and_puts(&moved, 7, 4, b"h", true) && moved.number() == 2);
+    let changed = prepared(rt.alloc(), BY_VALUE, VALUES_OF_ONE_KEY, 2)?;
+    assert!(rt; removes_and_puts(&changed, 1, 1, b"abc", false));
     Ok(())
+}
+
+/// Three rows are put, the first and the last of which are these.
+fn puts_three(group: &Prepared<'_>) -> bool {
+    let touches = group.touches();
+    touches.len() == 3
+        && puts(touches.first(), 3, b"c", true)
+        && puts(touches.get(2), 7, b"g", true)
+}
+
+/// There is one touch, which leaves nothing at the key 1.
+fn removes_one(group: &Prepared<'_>) -> bool {
+    group.touches().len() == 1 && removes(group.touches().first(), 1)
 }
 
 #[test]
 fn touches_of_inserts_and_a_delete(rt: HostRuntime) -> Result<(), Fail> {
-    let alloc = rt.alloc();
-    let inserted = prepared(alloc, EVERY_ROW, THREE_GROUPS, 1)?;
-    assert_eq!(rt; inserted.touches().len(), 3);
-    assert!(rt; puts(inserted.touches().first(), 3, b"c", true));
-    assert!(rt; puts(inserted.touches().get(2), 7, b"g", true));
-    let deleted = prepared(alloc, BY_VALUE, REMOVAL, 1)?;
-    assert_eq!(rt; deleted.touches().len(), 1);
-    assert!(rt; removes(deleted.touches().first(), 1));
+    let inserted = prepared(rt.alloc(), EVERY_ROW, THREE_GROUPS, 1)?;
+    assert!(rt; puts_three(&inserted));
+    let deleted = prepared(rt.alloc(), BY_VALUE, REMOVAL, 1)?;
+    assert!(rt; removes_one(&deleted));
     Ok(())
 }
 
 #[test]
 fn no_such_group(rt: HostRuntime) {
-    let alloc = rt.alloc();
+    let fault = FeedFault::NoGroup { groups: 3 };
     for number in [0, 4, u32::MAX] {
-        assert_eq!(rt;
-            refused(alloc, EVERY_ROW, THREE_GROUPS, number),
-            Some(FeedFault::NoGroup { groups: 3 })
+        check_refused(
+            &rt,
+            rt.alloc(),
+            (EVERY_ROW, THREE_GROUPS),
+            number,
+            Some(fault),
         );
     }
-    assert_eq!(rt; FeedFault::NoGroup { groups: 3 }.number(), 91);
-    assert_eq!(rt;
-        refused(alloc, EVERY_ROW, b"", 1),
-        Some(FeedFault::NoGroup { groups: 0 })
-    );
+    assert_eq!(rt; fault.number(), 91);
+    let empty = Some(FeedFault::NoGroup { groups: 0 });
+    check_refused(&rt, rt.alloc(), (EVERY_ROW, b""), 1, empty);
 }
 
 /// A row's refusal.
@@ -176,47 +206,47 @@ fn bad_row(group: u32, table: u8, cause: u8) -> Option<FeedFault> {
 #[test]
 fn row_unsound(rt: HostRuntime) {
     let alloc = rt.alloc();
-    assert_eq!(rt;
-        refused(alloc, SECOND_TABLE, NULL_KEY, 2),
-        bad_row(2, 1, 61)
-    );
-    assert_eq!(rt; refused(alloc, SECOND_TABLE, NULL_KEY, 1), None);
-    assert_eq!(rt;
-        refused(alloc, EVERY_ROW, WORD_AS_KEY, 1),
-        bad_row(1, 0, 62)
-    );
-    assert_eq!(rt;
-        refused(alloc, BY_VALUE, NULL_IN_FILTER, 1),
-        bad_row(1, 0, 43)
-    );
-    assert_eq!(rt;
-        refused(alloc, BY_NUMBER, NEGATIVE_ID, 1),
-        bad_row(1, 0, 44)
-    );
+    check_refused(&rt, alloc, (SECOND_TABLE, NULL_KEY), 2, bad_row(2, 1, 61));
+    check_refused(&rt, alloc, (SECOND_TABLE, NULL_KEY), 1, None);
+    check_refused(&rt, alloc, (EVERY_ROW, WORD_AS_KEY), 1, bad_row(1, 0, 62));
+    check_refused(&rt, alloc, (BY_VALUE, NULL_IN_FILTER), 1, bad_row(1, 0, 43));
+    check_refused(&rt, alloc, (BY_NUMBER, NEGATIVE_ID), 1, bad_row(1, 0, 44));
+}
+
+#[test]
+fn numbers_of_an_unsound_row(rt: HostRuntime) {
     let fault = FeedFault::BadRow {
         group: 2,
         table: 1,
         cause: 61,
     };
-    assert_eq!(rt; fault.number(), 90);
-    assert_eq!(rt; fault.cause(), Some(61));
+    assert_eq!(rt; (fault.number(), fault.cause()), (90, Some(61)));
 }
 
 /// The key before, the key after, the filter after; and of two changes the first.
 #[test]
 fn first_cause_of_a_group(rt: HostRuntime) {
     let alloc = rt.alloc();
-    assert_eq!(rt;
-        refused(alloc, EVERY_ROW, BEFORE_KEY_FIRST, 1),
-        bad_row(1, 0, 62)
+    check_refused(
+        &rt,
+        alloc,
+        (EVERY_ROW, BEFORE_KEY_FIRST),
+        1,
+        bad_row(1, 0, 62),
     );
-    assert_eq!(rt;
-        refused(alloc, BY_NUMBER, AFTER_KEY_BEFORE_FILTER, 1),
-        bad_row(1, 0, 61)
+    check_refused(
+        &rt,
+        alloc,
+        (BY_NUMBER, AFTER_KEY_BEFORE_FILTER),
+        1,
+        bad_row(1, 0, 61),
     );
-    assert_eq!(rt;
-        refused(alloc, BY_NUMBER, FILTER_OF_THE_FIRST, 1),
-        bad_row(1, 0, 44)
+    check_refused(
+        &rt,
+        alloc,
+        (BY_NUMBER, FILTER_OF_THE_FIRST),
+        1,
+        bad_row(1, 0, 44),
     );
 }
 
@@ -224,8 +254,7 @@ fn first_cause_of_a_group(rt: HostRuntime) {
 #[test]
 fn before_row_filter_unasked(rt: HostRuntime) -> Result<(), Fail> {
     let prepared = prepared(rt.alloc(), BY_VALUE, NULL_BEFORE, 1)?;
-    assert_eq!(rt; prepared.touches().len(), 2);
-    assert!(rt; removes(prepared.touches().first(), 1));
+    assert!(rt; prepared.touches().len() == 2 && removes(prepared.touches().first(), 1));
     Ok(())
 }
 

@@ -2,6 +2,7 @@ use filter_rule::*;
 use row_view::RowView;
 use std::alloc::Global;
 use std::process::Abort;
+use std::sync::Arc;
 use std::test::Fail;
 
 /// The number of the refusal, or 0 where the file is read.
@@ -60,29 +61,65 @@ fn is_first_rule_bad(alloc: Global, text: &str) -> bool {
     }
 }
 
-#[test]
-fn workflow_faults_named(rt: HostRuntime) -> Result<(), Fail> {
-    let alloc = rt.alloc();
-    let text = workflow(alloc, COLUMNS, "[\"x\"]", VINDEX, EVERY_ROW)?;
-    assert!(rt; is_column_fault(alloc, text.as_str(), 53, "t", "x"));
-    let numeric = ",\"vindex\":[\"v\",\"numeric\"]";
-    let text = workflow(alloc, COLUMNS, KEY, numeric, EVERY_ROW)?;
-    assert!(rt; is_column_fault(alloc, text.as_str(), 54, "t", "v"));
-    let hash = ",\"vindex\":[\"id\",\"hash\"]";
-    let text = workflow(alloc, COLUMNS, KEY, hash, EVERY_ROW)?;
-    assert_eq!(rt; number_of(alloc, text.as_str()), 52);
-    let no_range = "[{\"match\":\"/.*\",\"filter\":\"8-\"}]";
-    let text = workflow(alloc, COLUMNS, KEY, VINDEX, no_range)?;
-    assert!(rt; is_first_rule_bad(alloc, text.as_str()));
-    let other = "[{\"match\":\"t\",\"filter\":\"select * from u\"}]";
-    let text = workflow(alloc, COLUMNS, KEY, VINDEX, other)?;
-    assert!(rt; is_first_rule_bad(alloc, text.as_str()));
+/// The parts of a workflow file of one table and one stream: columns, key, vindex and rules.
+type Parts = (&'static str, &'static str, &'static str, &'static str);
+
+/// The file of these parts names a column of `t` for this number.
+fn names_column(alloc: Global, parts: Parts, number: u8, column: &str) -> Result<bool, Fail> {
+    let (columns, key, vindex, rules) = parts;
+    let text = workflow(alloc, columns, key, vindex, rules)?;
+    Ok(
+        is_column_fault(alloc, text.as_str(), number, "t", column)
+            && number_of(alloc, text.as_str()) == number,
+    )
+}
+
+/// The file of these rules is refused for the first of them.
+fn names_first_rule(alloc: Global, rules: &str) -> Result<bool, Fail> {
+    let text = workflow(alloc, COLUMNS, KEY, VINDEX, rules)?;
+    Ok(is_first_rule_bad(alloc, text.as_str()))
+}
+
+fn check_names(
+    rt: &(impl Abort + AllocGlobal),
+    parts: Parts,
+    number: u8,
+    column: &str,
+) -> Result<(), Fail> {
+    assert!(rt;
+        names_column(rt.alloc(), parts, number, column)?,
+        "{column}"
+    );
+    Ok(())
+}
+
+fn check_first_rule(rt: &(impl Abort + AllocGlobal), rules: &str) -> Result<(), Fail> {
+    assert!(rt; names_first_rule(rt.alloc(), rules)?, "{rules}");
     Ok(())
 }
 
 #[test]
+fn workflow_faults_named(rt: HostRuntime) -> Result<(), Fail> {
+    let numeric = ",\"vindex\":[\"v\",\"numeric\"]";
+    let hash = ",\"vindex\":[\"id\",\"hash\"]";
+    let no_range = "[{\"match\":\"/.*\",\"filter\":\"8-\"}]";
+    let other = "[{\"match\":\"t\",\"filter\":\"select * from u\"}]";
+    check_names(&rt, (COLUMNS, "[\"x\"]", VINDEX, EVERY_ROW), 53, "x")?;
+    check_names(&rt, (COLUMNS, KEY, numeric, EVERY_ROW), 54, "v")?;
+    check_parts(&rt, (COLUMNS, KEY, hash, EVERY_ROW), 52)?;
+    check_first_rule(&rt, no_range)?;
+    check_first_rule(&rt, other)
+}
+
+/// The refusal's number of a file with one rule.
+fn number_of_rule(alloc: Global, matches: &str, filter: &str) -> Result<u8, Fail> {
+    let rules = format!(in alloc; "[{{\"match\":\"{matches}\",\"filter\":\"{filter}\"}}]")?;
+    let text = workflow(alloc, COLUMNS, KEY, VINDEX, rules.as_str())?;
+    Ok(number_of(alloc, text.as_str()))
+}
+
+#[test]
 fn filter_forms(rt: HostRuntime) -> Result<(), Fail> {
-    let alloc = rt.alloc();
     for (matches, filter, number) in [
         ("/.*", "", 0),
         ("/.*", "-80", 0),
@@ -115,10 +152,8 @@ fn filter_forms(rt: HostRuntime) -> Result<(), Fail> {
         ("t", " -80", 55),
         ("t", "exclude", 55),
     ] {
-        let rules = format!(in alloc; "[{{\"match\":\"{matches}\",\"filter\":\"{filter}\"}}]")?;
-        let text = workflow(alloc, COLUMNS, KEY, VINDEX, rules.as_str())?;
         assert_eq!(rt;
-            number_of(alloc, text.as_str()),
+            number_of_rule(rt.alloc(), matches, filter)?,
             number,
             "{matches} {filter}"
         );
@@ -126,20 +161,17 @@ fn filter_forms(rt: HostRuntime) -> Result<(), Fail> {
     Ok(())
 }
 
-/// The parts of a workflow file of one table and one stream: columns, key, vindex and rules.
-type Parts = (&'static str, &'static str, &'static str, &'static str);
-
 /// The file of these parts is refused with this number, or read for 0.
 fn check_parts(rt: &(impl Abort + AllocGlobal), parts: Parts, number: u8) -> Result<(), Fail> {
     let (columns, key, vindex, rules) = parts;
     let text = workflow(rt.alloc(), columns, key, vindex, rules)?;
-    assert_eq!(rt;
-        number_of(rt.alloc(), text.as_str()),
-        number,
-        "{}",
-        text.as_str()
-    );
+    check_number(rt, rt.alloc(), text.as_str(), number);
     Ok(())
+}
+
+/// The file is refused with this number, or read for 0.
+fn check_number(rt: &impl Abort, alloc: Global, text: &str, number: u8) {
+    assert_eq!(rt; number_of(alloc, text), number, "{text}");
 }
 
 #[test]
@@ -200,25 +232,51 @@ fn json_oddities(rt: HostRuntime) -> Result<(), Fail> {
     // of a key that stands twice the last counts
     let twice = ",\"vindex\":3,\"vindex\":[\"id\",\"numeric\"]";
     check_parts(&rt, (COLUMNS, KEY, twice, EVERY_ROW), 0)?;
-    assert_eq!(rt; number_of(rt.alloc(), "{"), 51);
-    assert_eq!(rt; number_of(rt.alloc(), "[]"), 52);
+    check_number(&rt, rt.alloc(), "{", 51);
+    check_number(&rt, rt.alloc(), "[]", 52);
     Ok(())
 }
 
 /// What a plan answers of a row of its first table: 1 for yes, 0 for no, or the refusal's number.
-fn answer_of(rt: &impl Abort, plan: &Plan, row: &RowView<'_>) -> u8 {
-    assert!(rt; !plan.tables().is_empty());
-    assert_eq!(rt; row.len(), plan.columns(0).len());
-    match plan.passes(0, row) {
-        Ok(passes) => u8::from(passes),
-        Err(fault) => fault.number(),
+fn answer_of(plan: &Plan, row: &RowView<'_>) -> Option<u8> {
+    if plan.tables().is_empty() || row.len() != plan.columns(0).len() {
+        return None;
     }
+    match plan.passes(0, row) {
+        Ok(passes) => Some(u8::from(passes)),
+        Err(fault) => Some(fault.number()),
+    }
+}
+
+/// The only plan's answer, which is the same plan as itself.
+fn only_answer(plans: &[Arc<Plan>], row: &RowView<'_>) -> Option<u8> {
+    match plans {
+        [plan] if plan.same(plan) => answer_of(plan, row),
+        _ => None,
+    }
+}
+
+/// The answer of the only plan of a file.
+fn answer_of_file(alloc: Global, text: &str, row: &RowView<'_>) -> Option<u8> {
+    match Plan::read_all(alloc, text.as_bytes()) {
+        Ok(plans) => only_answer(&plans, row),
+        Err(_) => None,
+    }
+}
+
+/// What a rule on the column `id` of this type answers of a row.
+fn answer_under(alloc: Global, kind: &str, bytes: &[u8]) -> Result<Option<u8>, Fail> {
+    let rules = "[{\"match\":\"t\",\"filter\":\"SELECT * FROM t WHERE IN_KEYRANGE('-80')\"}]";
+    let columns = format!(in alloc; "[[\"id\",\"{kind}\"],[\"v\",\"VARCHAR\"]]")?;
+    let text = workflow(alloc, columns.as_str(), KEY, VINDEX, rules)?;
+    Ok(match RowView::read(bytes) {
+        Ok(row) => answer_of_file(alloc, text.as_str(), &row),
+        Err(_) => None,
+    })
 }
 
 #[test]
 fn in_keyrange_any_case(rt: HostRuntime) -> Result<(), Fail> {
-    let alloc = rt.alloc();
-    let rules = "[{\"match\":\"t\",\"filter\":\"SELECT * FROM t WHERE IN_KEYRANGE('-80')\"}]";
     for (kind, bytes, answer) in [
         (
             "INT64",
@@ -233,22 +291,17 @@ fn in_keyrange_any_case(rt: HostRuntime) -> Result<(), Fail> {
         ("INT64", b"\x0a\x02\x04\x02\x12\x03-1a".as_slice(), 44),
         ("INT64", b"\x0a\x02\x01\x02\x12\x01a".as_slice(), 43),
     ] {
-        let columns = format!(in alloc; "[[\"id\",\"{kind}\"],[\"v\",\"VARCHAR\"]]")?;
-        let text = workflow(alloc, columns.as_str(), KEY, VINDEX, rules)?;
-        let plans = Plan::read_all(alloc, text.as_bytes())
-            .ok()
-            .ok_or("the file is good")?;
-        assert_eq!(rt; plans.len(), 1);
-        let row = RowView::read(bytes).ok().ok_or("the row is good")?;
-        assert_eq!(rt; answer_of(&rt, &plans[0], &row), answer, "{kind}");
-        assert!(rt; plans[0].same(&plans[0]));
+        assert_eq!(rt;
+            answer_under(rt.alloc(), kind, bytes)?,
+            Some(answer),
+            "{kind}"
+        );
     }
     Ok(())
 }
 
 #[test]
 fn wrong_shape(rt: HostRuntime) {
-    let alloc = rt.alloc();
     for text in [
         // an absent key, at each level
         "{\"tables\":[],\"streams\":[]}",
@@ -269,31 +322,30 @@ fn wrong_shape(rt: HostRuntime) {
         "{\"keyspace\":\"\",\"tables\":[{\"name\":\"t\",\"columns\":[],\"key\":[]},{\"name\":\"t\",\"columns\":[],\"key\":[]}],\"streams\":[]}",
         "{\"keyspace\":\"\",\"tables\":[],\"streams\":[{\"shard\":\"-\",\"filter\":{\"rules\":[]}},{\"shard\":\"-\",\"filter\":{\"rules\":[]}}]}",
     ] {
-        assert_eq!(rt; number_of(alloc, text), 52, "{text}");
+        check_number(&rt, rt.alloc(), text, 52);
     }
+}
+
+fn check_not_json(rt: &impl Abort, alloc: Global, text: &[u8]) {
+    assert!(rt; matches!(Plan::read_all(alloc, text), Err(PlanFault::Json)));
 }
 
 #[test]
 fn not_json(rt: HostRuntime) {
-    let alloc = rt.alloc();
-    for text in [
-        b"".as_slice(),
-        b"{\"keyspace\":\"\",}".as_slice(),
-        b"{\"keyspace\":\"ks\",\"tables\":[{\"name\":\"t\"".as_slice(),
-        b"{\"ignored\":\"\xff\"}".as_slice(),
-    ] {
-        let number = match Plan::read_all(alloc, text) {
-            Ok(_) => 0,
-            Err(fault) => fault.number(),
-        };
-        assert_eq!(rt; number, 51);
-    }
+    check_not_json(&rt, rt.alloc(), b"");
+    check_not_json(&rt, rt.alloc(), b"{\"keyspace\":\"\",}");
+    check_not_json(
+        &rt,
+        rt.alloc(),
+        b"{\"keyspace\":\"ks\",\"tables\":[{\"name\":\"t\"",
+    );
+    check_not_json(&rt, rt.alloc(), b"{\"ignored\":\"\xff\"}");
+    check_number(&rt, rt.alloc(), "", 51);
 }
 
 /// A key, a vindex or a rule names a column that its table hasn't: 53 with both names.
 #[test]
 fn no_such_column(rt: HostRuntime) -> Result<(), Fail> {
-    let alloc = rt.alloc();
     let of_x =
         "[{\"match\":\"t\",\"filter\":\"select * from t where in_keyrange(x, 'binary', '-')\"}]";
     for (key, vindex, rules) in [
@@ -301,12 +353,10 @@ fn no_such_column(rt: HostRuntime) -> Result<(), Fail> {
         (KEY, ",\"vindex\":[\"x\",\"numeric\"]", EVERY_ROW),
         (KEY, VINDEX, of_x),
     ] {
-        let text = workflow(alloc, COLUMNS, key, vindex, rules)?;
         assert!(rt;
-            is_column_fault(alloc, text.as_str(), 53, "t", "x"),
+            names_column(rt.alloc(), (COLUMNS, key, vindex, rules), 53, "x")?,
             "{rules}"
         );
-        assert_eq!(rt; number_of(alloc, text.as_str()), 53);
     }
     Ok(())
 }
@@ -314,7 +364,6 @@ fn no_such_column(rt: HostRuntime) -> Result<(), Fail> {
 /// A key, a vindex or a rule names a column of a type that it can't take: 54 with both names.
 #[test]
 fn unfit_key_type(rt: HostRuntime) -> Result<(), Fail> {
-    let alloc = rt.alloc();
     let columns = "[[\"id\",\"INT64\"],[\"v\",\"TEXT\"]]";
     let of_v =
         "[{\"match\":\"t\",\"filter\":\"select * from t where in_keyrange(v, 'numeric', '-')\"}]";
@@ -323,14 +372,20 @@ fn unfit_key_type(rt: HostRuntime) -> Result<(), Fail> {
         (KEY, ",\"vindex\":[\"v\",\"reverse_bits\"]", EVERY_ROW),
         (KEY, VINDEX, of_v),
     ] {
-        let text = workflow(alloc, columns, key, vindex, rules)?;
         assert!(rt;
-            is_column_fault(alloc, text.as_str(), 54, "t", "v"),
+            names_column(rt.alloc(), (columns, key, vindex, rules), 54, "v")?,
             "{rules}"
         );
-        assert_eq!(rt; number_of(alloc, text.as_str()), 54);
     }
     Ok(())
+}
+
+/// The stream and the place of the rule that a file is refused for.
+fn place_of_bad_rule(alloc: Global, text: &str) -> Option<(usize, usize)> {
+    match Plan::read_all(alloc, text.as_bytes()) {
+        Err(PlanFault::BadRule { stream, rule }) => Some((stream, rule)),
+        _ => None,
+    }
 }
 
 /// The refusal of a rule names its stream and its place there, from 0.
@@ -338,49 +393,64 @@ fn unfit_key_type(rt: HostRuntime) -> Result<(), Fail> {
 fn bad_rule(rt: HostRuntime) {
     let text =
         "{\"keyspace\":\"\",\"tables\":[{\"name\":\"t\",\"columns\":[[\"id\",265]],\"key\":[\"id\"]}],\"streams\":[{\"shard\":\"-80\",\"filter\":{\"rules\":[{\"match\":\"t\"}]}},{\"shard\":\"80-\",\"filter\":{\"rules\":[{\"match\":\"u\"},{\"match\":\"v\"},{\"match\":\"t\",\"filter\":\"-80\"}]}}]}";
-    let place = match Plan::read_all(rt.alloc(), text.as_bytes()) {
-        Err(PlanFault::BadRule { stream, rule }) => (stream, rule),
-        _ => (9, 9),
-    };
-    assert_eq!(rt; place, (1, 2));
-    assert_eq!(rt; number_of(rt.alloc(), text), 55);
+    assert!(rt; place_of_bad_rule(rt.alloc(), text) == Some((1, 2)));
+    check_number(&rt, rt.alloc(), text, 55);
+}
+
+/// Seventy-one rules.
+fn many_rules(alloc: Global) -> Result<String, Fail> {
+    let mut rules = String::from_str(alloc, "{\"match\":\"\"}")?;
+    for _ in 0..70 {
+        rules.push_str(",{\"match\":\"\"}")?;
+    }
+    Ok(rules)
 }
 
 /// Keyspace, shard and match may be empty texts, and rules as many as one likes.
 #[test]
 fn empty_words_allowed(rt: HostRuntime) -> Result<(), Fail> {
-    let alloc = rt.alloc();
-    let mut rules = String::from_str(alloc, "{\"match\":\"\"}")?;
-    for _ in 0..70 {
-        rules.push_str(",{\"match\":\"\"}")?;
-    }
-    let text = format!(in alloc;
+    let rules = many_rules(rt.alloc())?;
+    let text = format!(in rt.alloc();
         "{{\"keyspace\":\"\",\"tables\":[{{\"name\":\"t\",\"columns\":[[\"id\",265]],\"key\":[\"id\"]}}],\"streams\":[{{\"shard\":\"\",\"filter\":{{\"rules\":[{rules}]}}}}]}}"
     )?;
-    assert_eq!(rt; number_of(alloc, text.as_str()), 0);
+    check_number(&rt, rt.alloc(), text.as_str(), 0);
     Ok(())
+}
+
+/// The columns `v` and `id`.
+fn are_columns(columns: &[ColumnDef]) -> bool {
+    match columns {
+        [v, id] => v.name() == "v" && id.type_number() == 265,
+        _ => false,
+    }
+}
+
+/// The plan has one table, `t`, with these columns in the other order as its key.
+fn is_first_plan(plan: &Plan) -> bool {
+    plan.keyspace() == "ks"
+        && plan.shard() == "-80"
+        && plan.table("t") == Some(0)
+        && plan.table("T").is_none()
+        && plan.tables().len() == 1
+        && plan.key_columns(0) == [1u8, 0].as_slice()
+        && are_columns(plan.columns(0))
+        && plan.same(plan)
+        && plan.same_tables(plan)
+}
+
+fn are_first_plans(plans: &[Arc<Plan>]) -> bool {
+    match plans {
+        [plan] => is_first_plan(plan),
+        _ => false,
+    }
 }
 
 /// What a plan of the first worked workflow answers of itself.
 #[test]
 fn parts_of_a_plan(rt: HostRuntime) -> Result<(), Fail> {
-    let alloc = rt.alloc();
     let columns = "[[\"v\",\"VARCHAR\"],[\"id\",\"INT64\"]]";
-    let text = workflow(alloc, columns, "[\"id\",\"v\"]", VINDEX, EVERY_ROW)?;
-    let plans = Plan::read_all(alloc, text.as_bytes())
-        .ok()
-        .ok_or("the file is good")?;
-    assert_eq!(rt; plans.len(), 1);
-    let plan = &plans[0];
-    assert_eq!(rt; plan.keyspace(), "ks");
-    assert_eq!(rt; plan.shard(), "-80");
-    assert_eq!(rt; plan.table("t"), Some(0));
-    assert_eq!(rt; plan.table("T"), None);
-    assert_eq!(rt; plan.tables().len(), 1);
-    assert_eq!(rt; plan.key_columns(0), [1u8, 0].as_slice());
-    assert_eq!(rt; plan.columns(0).len(), 2);
-    assert_eq!(rt; plan.columns(0)[0].name(), "v");
-    assert_eq!(rt; plan.columns(0)[1].type_number(), 265);
-    assert!(rt; plan.same(plan) && plan.same_tables(plan));
+    let text = workflow(rt.alloc(), columns, "[\"id\",\"v\"]", VINDEX, EVERY_ROW)?;
+    let plans = Plan::read_all(rt.alloc(), text.as_bytes())?;
+    assert!(rt; are_first_plans(&plans));
     Ok(())
 }

@@ -1,7 +1,8 @@
 #!/usr/bin/python3
-"""Writes src/samples.rt: a response of each event type that is read, as Google's protobuf library
-writes it (Debian's python3-protobuf). The fields are those of binlogdata.proto and query.proto, the
-ones that the crate doesn't read among them. Run it here: ./write_samples.py > ../src/samples.rt"""
+"""Writes src/samples.rt: a response of each event type that is read, an answer of a stream of rows and
+a stream's part of a checkpoint, as Google's protobuf library writes them (Debian's python3-protobuf).
+The fields are those of binlogdata.proto and query.proto, the ones that the crates don't read among
+them. Run it here: ./write_samples.py > ../src/samples.rt. tests/run_protobuf.py compares the two."""
 
 from google.protobuf import descriptor_pb2, descriptor_pool, message_factory
 
@@ -25,7 +26,15 @@ MESSAGES = {
                ("row_event", 5, ONE, "RowEvent"), ("field_event", 6, ONE, "FieldEvent"),
                ("vgtid", 7, ONE, "VGtid"), ("current_time", 20, ONE, F.TYPE_INT64)],
     "VStreamResponse": [("events", 1, MANY, "VEvent")],
+    "RowsResponse": [("fields", 1, MANY, "Field"), ("pkfields", 2, MANY, "Field"), ("gtid", 3, ONE, F.TYPE_STRING),
+                     ("rows", 4, MANY, "Row"), ("lastpk", 5, ONE, "Row")],
+    "TablePart": [("mark", 1, ONE, F.TYPE_UINT64), ("answer", 2, ONE, "RowsResponse")],
+    "StreamPart": [("shard", 1, ONE, F.TYPE_STRING), ("tables", 2, MANY, "TablePart")],
 }
+
+# the fields that no event keeps
+UNREAD = {"VEvent": ("timestamp", "statement", "current_time"), "RowEvent": ("keyspace", "flags"),
+          "FieldEvent": ("keyspace",), "Field": ("table", "column_length")}
 
 
 def messages():
@@ -68,17 +77,53 @@ def response(m):
     add(type=4)
     for ignored in (11, 14, 17, 19):
         add(type=ignored, timestamp=1700000000)
-    return made.SerializeToString(deterministic=True)
+    return made
 
 
-def main():
-    data = response(messages())
-    print("//! A response as Google's protobuf library writes it; samples/write_samples.py wrote this file.")
-    print()
-    print(f"pub(crate) const RESPONSE: [u8; {len(data)}] = [")
-    for at in range(0, len(data), 16):
-        print("    " + " ".join(f"0x{byte:02x}," for byte in data[at:at + 16]))
-    print("];")
+def without_unread(message):
+    """The message without the fields that aren't read, in what it holds too."""
+    for name in UNREAD.get(message.DESCRIPTOR.name, ()):
+        message.ClearField(name)
+    for field, value in message.ListFields():
+        if field.type == field.TYPE_MESSAGE:
+            for one in value if field.label == field.LABEL_REPEATED else [value]:
+                without_unread(one)
+    return message
 
 
-main()
+def stream_part(m):
+    made = m["StreamPart"](shard="-80")
+    table = made.tables.add(mark=1)
+    table.answer.fields.add(name="id", type=265)
+    table.answer.fields.add(name="v", type=6165)
+    table.answer.pkfields.add(name="id", type=265)
+    table.answer.gtid = "U:1"
+    table.answer.rows.add(lengths=[1, 2], values=b"1ab")
+    table.answer.lastpk.CopyFrom(m["Row"](lengths=[1], values=b"1"))
+    return made
+
+
+def samples():
+    """Name, line and message of each sample, in the order of the file."""
+    m = messages()
+    return [
+        ("RESPONSE", "A response of each event type that is read.", response(m)),
+        ("READ_RESPONSE", "The same response without the fields that aren't read.", without_unread(response(m))),
+        ("SAMPLE_ANSWER", "An answer of a stream of rows, with one row.", stream_part(m).tables[0].answer),
+        ("SAMPLE_PART", "A stream's part of a checkpoint, with this answer.", stream_part(m)),
+    ]
+
+
+def text_of(name, line, data):
+    rows = [" ".join(f"0x{byte:02x}," for byte in data[at:at + 16]) for at in range(0, len(data), 16)]
+    body = "".join(f"    {row}\n" for row in rows)
+    return f"\n/// {line}\npub(crate) const {name}: [u8; {len(data)}] = [\n{body}];\n"
+
+
+def text():
+    head = "//! Messages as Google's protobuf library writes them; samples/write_samples.py wrote this file.\n"
+    return head + "".join(text_of(name, line, made.SerializeToString(deterministic=True)) for name, line, made in samples())
+
+
+if __name__ == "__main__":
+    print(text(), end="")

@@ -26,6 +26,15 @@ fn position_of(bytes: &[u8]) -> Option<&str> {
     }
 }
 
+/// The bytes are refused so, or an event where nothing is wanted.
+fn check_fault(rt: &impl Abort, bytes: &[u8], wanted: Option<EventFault>) {
+    assert_eq!(rt; fault_of(bytes), wanted);
+}
+
+fn check_position(rt: &impl Abort, bytes: &[u8], wanted: &str) {
+    assert_eq!(rt; position_of(bytes), Some(wanted));
+}
+
 /// How many columns a row has, if there is one.
 fn width_of(row: Option<RowView<'_>>) -> Option<usize> {
     match row {
@@ -45,11 +54,28 @@ fn widths_of(bytes: &[u8]) -> Option<(Option<usize>, Option<usize>)> {
     }
 }
 
+fn check_widths(rt: &impl Abort, bytes: &[u8], wanted: Option<(Option<usize>, Option<usize>)>) {
+    assert!(rt; widths_of(bytes) == wanted);
+}
+
 /// The first column of a field event.
 fn column_of(bytes: &[u8]) -> Option<ColumnField<'_>> {
     match Event::read(bytes) {
         Ok(Event::Field(event)) => event.fields().next(),
         _ => None,
+    }
+}
+
+/// The first column of a field event has this name and this type.
+fn has_column(bytes: &[u8], name: &str, type_number: u64) -> bool {
+    is_column(column_of(bytes), name, type_number)
+}
+
+/// The column is there, with this name and this type.
+pub(crate) fn is_column(column: Option<ColumnField<'_>>, name: &str, type_number: u64) -> bool {
+    match column {
+        None => false,
+        Some(column) => column.name == name && column.type_number == type_number,
     }
 }
 
@@ -61,10 +87,18 @@ fn entry_of(bytes: &[u8]) -> Option<ShardGtid<'_>> {
     }
 }
 
+/// The entry is there, of this source and with this position.
+fn is_entry(entry: Option<ShardGtid<'_>>, keyspace: &str, shard: &str, gtid: &str) -> bool {
+    match entry {
+        None => false,
+        Some(entry) => entry.keyspace == keyspace && entry.shard == shard && entry.gtid == gtid,
+    }
+}
+
 /// Each of the bytes is refused so.
 fn check_refused(rt: &impl Abort, all: &[&[u8]], wanted: EventFault) {
     for bytes in all {
-        assert_eq!(rt; fault_of(bytes), Some(wanted));
+        check_fault(rt, bytes, Some(wanted));
     }
 }
 
@@ -77,8 +111,7 @@ fn check_read(rt: &impl Abort, all: &[&[u8]]) {
 
 /// The fault has these numbers, its own and that of the innermost fault.
 fn check_numbers(rt: &impl Abort, fault: EventFault, number: u8, cause: u8) {
-    assert_eq!(rt; fault.number(), number);
-    assert_eq!(rt; fault.cause(), cause);
+    assert_eq!(rt; (fault.number(), fault.cause()), (number, cause));
 }
 
 #[test]
@@ -98,9 +131,10 @@ fn event_is_no_list(rt: HostRuntime) {
         b"\x3a\x00\x3a\x01\x0b",
     ];
     check_refused(&rt, &broken, GROUP);
-    assert_eq!(rt;
-        fault_of(b"\x08\x80"),
-        Some(EventFault::Wire(WireFault::Truncated))
+    check_fault(
+        &rt,
+        b"\x08\x80",
+        Some(EventFault::Wire(WireFault::Truncated)),
     );
     check_numbers(&rt, GROUP, 21, 3);
 }
@@ -116,36 +150,37 @@ fn single_message_twice(rt: HostRuntime) {
     ];
     check_refused(&rt, &twice, EventFault::RepeatedMessage);
     // One of another wire type doesn't count.
-    assert_eq!(rt; fault_of(b"\x08\x04\x3a\x00\x38\x00"), None);
+    check_fault(&rt, b"\x08\x04\x3a\x00\x38\x00", None);
     check_numbers(&rt, EventFault::RepeatedMessage, 22, 22);
 }
 
 #[test]
 fn event_type_refused(rt: HostRuntime) {
-    assert_eq!(rt; fault_of(b"\x08\x06"), Some(EventFault::BadType(6)));
-    assert_eq!(rt; fault_of(b""), Some(EventFault::BadType(0)));
+    check_fault(&rt, b"\x08\x06", Some(EventFault::BadType(6)));
+    check_fault(&rt, b"", Some(EventFault::BadType(0)));
     check_numbers(&rt, EventFault::BadType(6), 23, 23);
 }
 
 #[test]
 fn refused_event_types(rt: HostRuntime) {
     for number in [0, 6, 7, 8, 9, 10, 16, 18, 20, 21, 127] {
-        assert_eq!(rt;
-            fault_of(&[8, number]),
-            Some(EventFault::BadType(u64::from(number)))
+        check_fault(
+            &rt,
+            &[8, number],
+            Some(EventFault::BadType(u64::from(number))),
         );
     }
     for number in [1, 2, 3, 4, 5, 11, 12, 13, 14, 15, 17, 19] {
-        assert_eq!(rt; fault_of(&[8, number]), None);
+        check_fault(&rt, &[8, number], None);
     }
 }
 
 #[test]
 fn type_is_whole_varint(rt: HostRuntime) {
     let far = Some(EventFault::BadType(4_294_967_298));
-    assert_eq!(rt; fault_of(b"\x08\x82\x80\x80\x80\x10"), far);
-    let column = column_of(b"\x08\x0d\x32\x08\x12\x06\x10\x82\x80\x80\x80\x10");
-    assert_eq!(rt; column.expect(&rt, "a column").type_number, 4_294_967_298);
+    check_fault(&rt, b"\x08\x82\x80\x80\x80\x10", far);
+    let column = b"\x08\x0d\x32\x08\x12\x06\x10\x82\x80\x80\x80\x10";
+    assert!(rt; has_column(column, "", 4_294_967_298));
 }
 
 #[test]
@@ -183,12 +218,9 @@ fn partial_row_image(rt: HostRuntime) {
 #[test]
 fn other_wire_type_in_change(rt: HostRuntime) {
     let change = b"\x08\x0c\x2a\x06\x12\x04\x08\x05\x10\x05";
-    assert_eq!(rt; widths_of(change), Some((None, None)));
+    check_widths(&rt, change, Some((None, None)));
     let partial = Some(EventFault::PartialRow);
-    assert_eq!(rt;
-        fault_of(b"\x08\x0c\x2a\x06\x12\x04\x08\x05\x18\x05"),
-        partial
-    );
+    check_fault(&rt, b"\x08\x0c\x2a\x06\x12\x04\x08\x05\x18\x05", partial);
 }
 
 #[test]
@@ -201,62 +233,47 @@ fn fields_any_order_last_counts(rt: HostRuntime) {
             Ok(Event::Begin)
         )
     );
-    assert_eq!(rt;
-        fault_of(b"\x0d\x02\x00\x00\x00"),
-        Some(EventFault::BadType(0))
-    );
-    let position = position_of(b"\x1a\x01a\x10\x05\x1a\x01b\x08\x01");
-    assert_eq!(rt;
-        position.expect(&rt, "a position").as_bytes(),
-        b"b".as_slice()
-    );
-    let position = position_of(b"\x18\x05\x08\x01");
-    assert_eq!(rt; position.expect(&rt, "a position").len(), 0);
+    check_fault(&rt, b"\x0d\x02\x00\x00\x00", Some(EventFault::BadType(0)));
+    check_position(&rt, b"\x1a\x01a\x10\x05\x1a\x01b\x08\x01", "b");
+    check_position(&rt, b"\x18\x05\x08\x01", "");
 }
 
 #[test]
 fn last_text_and_number_of_a_column(rt: HostRuntime) {
-    let column = column_of(b"\x08\x0d\x32\x0c\x12\x0a\x0a\x01a\x10\x05\x0a\x01b\x10\x07");
-    let column = column.expect(&rt, "a column");
-    assert_eq!(rt; column.name.as_bytes(), b"b".as_slice());
-    assert_eq!(rt; column.type_number, 7);
+    let column = b"\x08\x0d\x32\x0c\x12\x0a\x0a\x01a\x10\x05\x0a\x01b\x10\x07";
+    assert!(rt; has_column(column, "b", 7));
     let entry = entry_of(b"\x08\x0f\x3a\x0b\x0a\x09\x1a\x01c\x12\x01b\x0a\x01a");
-    let entry = entry.expect(&rt, "an entry");
-    assert_eq!(rt; entry.keyspace.as_bytes(), b"a".as_slice());
-    assert_eq!(rt; entry.shard.as_bytes(), b"b".as_slice());
-    assert_eq!(rt; entry.gtid.as_bytes(), b"c".as_slice());
+    assert!(rt; is_entry(entry, "a", "b", "c"));
 }
 
 #[test]
 fn empty_position_text(rt: HostRuntime) {
-    assert_eq!(rt; position_of(b"\x08\x01").expect(&rt, "a position").len(), 0);
+    check_position(&rt, b"\x08\x01", "");
     // Only the last text must be UTF-8.
-    assert_eq!(rt;
-        position_of(b"\x08\x01\x1a\x01\xff\x1a\x00")
-            .expect(&rt, "a position")
-            .len(),
-        0
-    );
-    assert_eq!(rt;
-        fault_of(b"\x08\x01\x1a\x00\x1a\x01\xff"),
-        Some(EventFault::NotUtf8)
+    check_position(&rt, b"\x08\x01\x1a\x01\xff\x1a\x00", "");
+    check_fault(
+        &rt,
+        b"\x08\x01\x1a\x00\x1a\x01\xff",
+        Some(EventFault::NotUtf8),
     );
 }
 
 #[test]
 fn absent_row_is_none(rt: HostRuntime) {
-    assert_eq!(rt;
-        widths_of(b"\x08\x0c\x2a\x04\x12\x02\x12\x00"),
-        Some((None, Some(0)))
+    check_widths(
+        &rt,
+        b"\x08\x0c\x2a\x04\x12\x02\x12\x00",
+        Some((None, Some(0))),
     );
-    assert_eq!(rt;
-        widths_of(b"\x08\x0c\x2a\x06\x12\x04\x0a\x02\x08\x01"),
-        Some((Some(1), None))
+    check_widths(
+        &rt,
+        b"\x08\x0c\x2a\x06\x12\x04\x0a\x02\x08\x01",
+        Some((Some(1), None)),
     );
-    assert_eq!(rt; widths_of(b"\x08\x0c\x2a\x02\x12\x00"), Some((None, None)));
+    check_widths(&rt, b"\x08\x0c\x2a\x02\x12\x00", Some((None, None)));
     // A row event that is absent has no changes, and no name.
-    assert_eq!(rt; widths_of(b"\x08\x0c"), None);
-    assert_eq!(rt; fault_of(b"\x08\x0c"), None);
+    check_widths(&rt, b"\x08\x0c", None);
+    check_fault(&rt, b"\x08\x0c", None);
 }
 
 /// One event with a fault of each number, from which one fault after another is taken.
@@ -264,15 +281,15 @@ fn absent_row_is_none(rt: HostRuntime) {
 fn event_faults_in_order(rt: HostRuntime) {
     let all =
         b"\x2a\x0c\x0a\x01\xff\x12\x03\x0a\x01\x0b\x12\x02\x18\x01\x08\x06\x3a\x00\x3a\x00\x0b";
-    assert_eq!(rt; fault_of(all), Some(GROUP));
-    assert_eq!(rt; fault_of(&all[..20]), Some(EventFault::RepeatedMessage));
-    assert_eq!(rt; fault_of(&all[..18]), Some(EventFault::BadType(6)));
+    check_fault(&rt, all, Some(GROUP));
+    check_fault(&rt, &all[..20], Some(EventFault::RepeatedMessage));
+    check_fault(&rt, &all[..18], Some(EventFault::BadType(6)));
     let typed = b"\x2a\x0c\x0a\x01\xff\x12\x03\x0a\x01\x0b\x12\x02\x18\x01\x08\x0c";
-    assert_eq!(rt; fault_of(typed), Some(EventFault::NotUtf8));
+    check_fault(&rt, typed, Some(EventFault::NotUtf8));
     let named = b"\x2a\x0c\x0a\x01t\x12\x03\x0a\x01\x0b\x12\x02\x18\x01\x08\x0c";
-    assert_eq!(rt; fault_of(named), Some(EventFault::PartialRow));
+    check_fault(&rt, named, Some(EventFault::PartialRow));
     let whole = b"\x2a\x08\x0a\x01t\x12\x03\x0a\x01\x0b\x08\x0c";
-    assert_eq!(rt; fault_of(whole), Some(BROKEN_ROW));
+    check_fault(&rt, whole, Some(BROKEN_ROW));
     check_numbers(&rt, BROKEN_ROW, 11, 3);
 }
 
@@ -282,9 +299,9 @@ fn event_faults_in_order(rt: HostRuntime) {
 fn first_row_fault_in_order(rt: HostRuntime) {
     let past = EventFault::Row(RowFault::LengthsPastValues);
     let changes = b"\x08\x02\x2a\x0a\x12\x08\x12\x01\x0b\x0a\x03\x0a\x01\x0a";
-    assert_eq!(rt; fault_of(changes), Some(BROKEN_ROW));
+    check_fault(&rt, changes, Some(BROKEN_ROW));
     let changes = b"\x08\x02\x2a\x0a\x12\x08\x12\x03\x0a\x01\x0a\x0a\x01\x0b";
-    assert_eq!(rt; fault_of(changes), Some(past));
+    check_fault(&rt, changes, Some(past));
     check_numbers(&rt, past, 12, 12);
 }
 
@@ -296,24 +313,28 @@ fn all_have(bytes: &[u8], columns: usize) -> Option<bool> {
     }
 }
 
+fn check_all_have(rt: &impl Abort, bytes: &[u8], columns: usize, wanted: Option<bool>) {
+    assert_eq!(rt; all_have(bytes, columns), wanted);
+}
+
 #[test]
 fn columns_of_all_rows(rt: HostRuntime) {
     // Rows of one NULL, and at last one of two.
     let update = b"\x08\x0c\x2a\x0c\x12\x0a\x0a\x03\x0a\x01\x01\x12\x03\x0a\x01\x01";
-    assert_eq!(rt; all_have(update, 1), Some(true));
-    assert_eq!(rt; all_have(update, 2), Some(false));
+    check_all_have(&rt, update, 1, Some(true));
+    check_all_have(&rt, update, 2, Some(false));
     let two = b"\x08\x0c\x2a\x0e\x12\x05\x12\x03\x0a\x01\x01\x12\x05\x12\x03\x0a\x01\x01";
-    assert_eq!(rt; all_have(two, 1), Some(true));
+    check_all_have(&rt, two, 1, Some(true));
     let mixed = b"\x08\x0c\x2a\x0f\x12\x05\x12\x03\x0a\x01\x01\x12\x06\x0a\x04\x0a\x02\x01\x01";
-    assert_eq!(rt; all_have(mixed, 1), Some(false));
-    assert_eq!(rt; all_have(mixed, 2), Some(false));
+    check_all_have(&rt, mixed, 1, Some(false));
+    check_all_have(&rt, mixed, 2, Some(false));
     // Without a row any count is that of all.
-    assert_eq!(rt; all_have(b"\x08\x0c\x2a\x02\x12\x00", 7), Some(true));
+    check_all_have(&rt, b"\x08\x0c\x2a\x02\x12\x00", 7, Some(true));
 }
 
-/// The text of a fault.
-fn text_of(alloc: Global, fault: EventFault) -> Result<String, AllocError> {
-    format!(in alloc; "{fault}")
+/// The fault prints this text.
+fn has_text(alloc: Global, fault: EventFault, wanted: &str) -> Result<bool, AllocError> {
+    Ok(format!(in alloc; "{fault}")?.as_str() == wanted)
 }
 
 #[test]
@@ -338,115 +359,118 @@ fn texts_of_event_faults(rt: HostRuntime) -> Result<(), Fail> {
             "a row is at fault: a row has more than 256 columns",
         ),
     ] {
-        assert_eq!(rt; text_of(rt.alloc(), fault)?.as_str(), text);
+        assert!(rt; has_text(rt.alloc(), fault, text)?, "{text}");
     }
     Ok(())
 }
 
-/// The next event of a response that has one.
-fn next_of<'b>(rt: &impl Abort, response: &mut Response<'b>) -> Event<'b> {
-    response
-        .next_event()
-        .expect(rt, "an event")
-        .expect(rt, "one more")
+/// The response is BEGIN and then this fault, again and again.
+fn begins_and_fails(bytes: &[u8], fault: EventFault) -> bool {
+    let mut response = Response::new(bytes);
+    matches!(response.next_event(), Ok(Some(Event::Begin)))
+        && response.next_event().err() == Some(fault)
+        && response.next_event().err() == Some(fault)
 }
 
 #[test]
 fn response_ends_at_its_fault(rt: HostRuntime) {
     // BEGIN, a field that isn't known, a bad event, COMMIT.
-    let mut response = Response::new(b"\x0a\x02\x08\x02\x10\x05\x0a\x02\x08\x06\x0a\x02\x08\x03");
-    assert!(rt; matches!(next_of(&rt, &mut response), Event::Begin));
-    assert_eq!(rt; response.next_event().err(), Some(EventFault::BadType(6)));
-    assert_eq!(rt; response.next_event().err(), Some(EventFault::BadType(6)));
+    let bytes = b"\x0a\x02\x08\x02\x10\x05\x0a\x02\x08\x06\x0a\x02\x08\x03";
+    assert!(rt; begins_and_fails(bytes, EventFault::BadType(6)));
     // The response's own bad field.
-    let mut response = Response::new(b"\x0a\x02\x08\x02\x0b");
-    assert!(rt; matches!(next_of(&rt, &mut response), Event::Begin));
-    assert_eq!(rt; response.next_event().err(), Some(GROUP));
-    assert_eq!(rt; response.next_event().err(), Some(GROUP));
+    assert!(rt; begins_and_fails(b"\x0a\x02\x08\x02\x0b", GROUP));
 }
 
-const POSITION: &[u8] = b"MySQL56/3e11fa47-71ca-11e1-9e33-c80aa9429562:1-5";
+const POSITION: &str = "MySQL56/3e11fa47-71ca-11e1-9e33-c80aa9429562:1-5";
 
 /// The columns that the library wrote.
-fn check_columns(rt: &impl Abort, event: &FieldEvent<'_>) {
-    assert_eq!(rt; event.table_name().as_bytes(), b"ks.t".as_slice());
+fn are_columns(event: &FieldEvent<'_>) -> bool {
     let mut columns = event.fields();
-    let column = columns.next().expect(rt, "a column");
-    assert_eq!(rt; column.name.as_bytes(), b"id".as_slice());
-    assert_eq!(rt; column.type_number, 265);
-    let column = columns.next().expect(rt, "a second column");
-    assert_eq!(rt; column.name.as_bytes(), b"v".as_slice());
-    assert_eq!(rt; column.type_number, 6165);
-    assert!(rt; columns.next().is_none());
+    event.table_name() == "ks.t"
+        && is_column(columns.next(), "id", 265)
+        && is_column(columns.next(), "v", 6165)
+        && columns.next().is_none()
 }
 
-/// A row of 1 and this second column.
-fn check_row(rt: &impl Abort, row: Option<RowView<'_>>, second: Column<'_>) {
-    let row = row.expect(rt, "a row");
+fn is_cell(column: Option<Column<'_>>, wanted: Column<'_>) -> bool {
+    match column {
+        None => false,
+        Some(column) => column == wanted,
+    }
+}
+
+/// A row of 1 and this second column, or none.
+fn is_row(row: Option<RowView<'_>>, second: Option<Column<'_>>) -> bool {
+    let Some(row) = row else {
+        return second.is_none();
+    };
+    let Some(second) = second else {
+        return false;
+    };
     let mut columns = row.columns();
-    assert_eq!(rt; columns.next(), Some(Column::Bytes(b"1")));
-    assert_eq!(rt; columns.next(), Some(second));
-    assert!(rt; columns.next().is_none());
+    is_cell(columns.next(), Column::Bytes(b"1"))
+        && is_cell(columns.next(), second)
+        && columns.next().is_none()
+}
+
+/// The change has rows of 1 and these second columns.
+fn is_change(
+    change: Option<RowChange<'_>>,
+    before: Option<Column<'_>>,
+    after: Option<Column<'_>>,
+) -> bool {
+    let Some(change) = change else {
+        return false;
+    };
+    change.has_before() == before.is_some()
+        && change.has_after() == after.is_some()
+        && is_row(change.before(), before)
+        && is_row(change.after(), after)
 }
 
 /// The insert, update and delete that the library wrote.
-fn check_changes(rt: &impl Abort, event: &RowEvent<'_>) {
-    assert_eq!(rt; event.table_name().as_bytes(), b"ks.t".as_slice());
+fn are_changes(event: &RowEvent<'_>) -> bool {
     let mut changes = event.changes();
-    let change = changes.next().expect(rt, "an insert");
-    assert!(rt; !change.has_before() && change.has_after());
-    assert!(rt; change.before().is_none());
-    check_row(rt, change.after(), Column::Null);
-    let change = changes.next().expect(rt, "an update");
-    check_row(rt, change.before(), Column::Null);
-    check_row(rt, change.after(), Column::Bytes(b"ab"));
-    let change = changes.next().expect(rt, "a delete");
-    assert!(rt; change.has_before() && !change.has_after());
-    check_row(rt, change.before(), Column::Bytes(b"ab"));
-    assert!(rt; change.after().is_none());
-    assert!(rt; changes.next().is_none());
+    let text = Some(Column::Bytes(b"ab"));
+    event.table_name() == "ks.t"
+        && is_change(changes.next(), None, Some(Column::Null))
+        && is_change(changes.next(), Some(Column::Null), text)
+        && is_change(changes.next(), text, None)
+        && changes.next().is_none()
 }
 
 /// The positions that the library wrote.
-fn check_entries(rt: &impl Abort, event: &VGtid<'_>) {
+fn are_entries(event: &VGtid<'_>) -> bool {
     let mut entries = event.entries();
-    let entry = entries.next().expect(rt, "an entry");
-    assert_eq!(rt; entry.keyspace.as_bytes(), b"ks".as_slice());
-    assert_eq!(rt; entry.shard.as_bytes(), b"-80".as_slice());
-    assert_eq!(rt; entry.gtid.as_bytes(), POSITION);
-    let entry = entries.next().expect(rt, "a second entry");
-    assert_eq!(rt; entry.shard.as_bytes(), b"80-".as_slice());
-    assert_eq!(rt; entry.gtid.len(), 0);
-    assert!(rt; entries.next().is_none());
+    is_entry(entries.next(), "ks", "-80", POSITION)
+        && is_entry(entries.next(), "ks", "80-", "")
+        && entries.next().is_none()
 }
 
-/// The event that the library wrote, and its type.
-fn check_event(rt: &impl Abort, event: &Event<'_>) -> u8 {
+/// The type of an event that is as the library wrote it; 0 where it isn't.
+fn type_of(event: &Event<'_>) -> u8 {
     match event {
-        Event::Gtid(position) => {
-            assert_eq!(rt; position.as_bytes(), POSITION);
-            1
-        }
+        Event::Gtid(position) if *position == POSITION => 1,
         Event::Begin => 2,
         Event::Commit => 3,
         Event::Rollback => 4,
-        Event::Row(event) => {
-            check_changes(rt, event);
-            12
-        }
-        Event::Field(event) => {
-            check_columns(rt, event);
-            13
-        }
-        Event::Vgtid(event) => {
-            check_entries(rt, event);
-            15
-        }
+        Event::Row(event) if are_changes(event) => 12,
+        Event::Field(event) if are_columns(event) => 13,
+        Event::Vgtid(event) if are_entries(event) => 15,
         Event::Ignored(IgnoredEvent::Ddl) => 5,
         Event::Ignored(IgnoredEvent::Other) => 11,
         Event::Ignored(IgnoredEvent::Heartbeat) => 14,
         Event::Ignored(IgnoredEvent::Version) => 17,
         Event::Ignored(IgnoredEvent::Savepoint) => 19,
+        _ => 0,
+    }
+}
+
+/// The type of a response's next event, as the library wrote it.
+fn next_type(response: &mut Response<'_>) -> u8 {
+    match response.next_event() {
+        Ok(Some(event)) => type_of(&event),
+        _ => 0,
     }
 }
 
@@ -454,8 +478,7 @@ fn check_event(rt: &impl Abort, event: &Event<'_>) -> u8 {
 fn response_of_googles_library(rt: HostRuntime) {
     let mut response = Response::new(&RESPONSE);
     for number in [2, 13, 12, 15, 1, 5, 3, 4, 11, 14, 17, 19] {
-        let event = next_of(&rt, &mut response);
-        assert_eq!(rt; check_event(&rt, &event), number);
+        assert_eq!(rt; next_type(&mut response), number);
     }
     assert!(rt; matches!(response.next_event(), Ok(None)));
     assert!(rt; matches!(response.next_event(), Ok(None)));

@@ -1,7 +1,9 @@
 //! Events, answers and parts of a checkpoint as they are written. The events are those of a feed with
 //! one inserted row.
 
-use crate::samples::RESPONSE;
+use crate::events::is_column;
+use crate::samples::{READ_RESPONSE, RESPONSE, SAMPLE_ANSWER, SAMPLE_PART};
+use proto_wire::put_bytes_head;
 use row_view::*;
 use std::alloc::{AllocError, Global};
 use std::test::Fail;
@@ -16,22 +18,27 @@ fn rewritten(alloc: Global, event: &[u8]) -> Result<Vec<u8>, AllocError> {
     Ok(out)
 }
 
+/// Whether an event is written so.
+fn is_rewritten(alloc: Global, event: &[u8], wanted: &[u8]) -> Result<bool, AllocError> {
+    Ok(rewritten(alloc, event)?.as_slice() == wanted)
+}
+
 /// Whether an event is written as it stands.
 fn is_kept(alloc: Global, event: &[u8]) -> Result<bool, AllocError> {
-    Ok(rewritten(alloc, event)?.as_slice() == event)
+    is_rewritten(alloc, event, event)
 }
 
 #[test]
 fn events_of_a_feed(rt: HostRuntime) -> Result<(), Fail> {
-    let alloc = rt.alloc();
-    assert!(rt; is_kept(alloc, b"\x08\x02")?);
-    let field =
-        b"\x08\x0d\x32\x14\x0a\x01t\x12\x07\x0a\x02id\x10\x89\x02\x12\x06\x0a\x01v\x10\x95\x30";
-    assert!(rt; is_kept(alloc, field)?);
-    let row = b"\x08\x0c\x2a\x10\x0a\x01t\x12\x0b\x12\x09\x0a\x02\x02\x04\x12\x031ab";
-    assert!(rt; is_kept(alloc, row)?);
-    assert!(rt; is_kept(alloc, b"\x08\x01\x1a\x0bMySQL56/U:1")?);
-    assert!(rt; is_kept(alloc, b"\x08\x03")?);
+    for event in [
+        b"\x08\x02".as_slice(),
+        b"\x08\x0d\x32\x14\x0a\x01t\x12\x07\x0a\x02id\x10\x89\x02\x12\x06\x0a\x01v\x10\x95\x30".as_slice(),
+        b"\x08\x0c\x2a\x10\x0a\x01t\x12\x0b\x12\x09\x0a\x02\x02\x04\x12\x031ab".as_slice(),
+        b"\x08\x01\x1a\x0bMySQL56/U:1".as_slice(),
+        b"\x08\x03".as_slice(),
+    ] {
+        assert!(rt; is_kept(rt.alloc(), event)?);
+    }
     Ok(())
 }
 
@@ -48,10 +55,7 @@ fn every_kind_of_change(rt: HostRuntime) -> Result<(), Fail> {
 fn entries_of_two_shards(rt: HostRuntime) -> Result<(), Fail> {
     let entries = b"\x08\x0f\x3a\x12\x0a\x08\x0a\x02ks\x12\x02-8\x0a\x06\x12\x028-\x1a\x00";
     let written = b"\x08\x0f\x3a\x10\x0a\x08\x0a\x02ks\x12\x02-8\x0a\x04\x12\x028-";
-    assert_eq!(rt;
-        rewritten(rt.alloc(), entries)?.as_slice(),
-        written.as_slice()
-    );
+    assert!(rt; is_rewritten(rt.alloc(), entries, written)?);
     Ok(())
 }
 
@@ -59,30 +63,37 @@ fn entries_of_two_shards(rt: HostRuntime) -> Result<(), Fail> {
 fn fields_that_are_not_read_are_left_out(rt: HostRuntime) -> Result<(), Fail> {
     // a timestamp, a type and a text that come twice, unknown fields of a column
     let event = b"\x10\x07\x08\x03\x1a\x01x\x08\x01\x1a\x01y";
-    assert_eq!(rt;
-        rewritten(rt.alloc(), event)?.as_slice(),
-        b"\x08\x01\x1a\x01y".as_slice()
-    );
+    assert!(rt; is_rewritten(rt.alloc(), event, b"\x08\x01\x1a\x01y")?);
     let field = b"\x08\x0d\x32\x08\x12\x06\x0a\x01v\x1a\x01t";
-    assert_eq!(rt;
-        rewritten(rt.alloc(), field)?.as_slice(),
-        b"\x08\x0d\x32\x05\x12\x03\x0a\x01v".as_slice()
-    );
+    assert!(rt; is_rewritten(rt.alloc(), field, b"\x08\x0d\x32\x05\x12\x03\x0a\x01v")?);
     Ok(())
 }
 
-/// Each event of a response written by Google's library is written so that it is written alike again.
+/// Appends an event as a part of a response.
+fn put_event(out: &mut Vec<u8>, event: &Event<'_>) -> Result<(), AllocError> {
+    put_bytes_head(out, 1, event_size(event)?)?;
+    write_event(out, event)
+}
+
+/// The events of a response as they are written, a response again.
+fn rewritten_response(alloc: Global, response: &mut Response<'_>) -> Result<Vec<u8>, AllocError> {
+    let mut out = Vec::new(alloc);
+    for _ in 0..100 {
+        match response.next_event() {
+            Ok(Some(event)) => put_event(&mut out, &event)?,
+            _ => return Ok(out),
+        }
+    }
+    Ok(out)
+}
+
+/// What is written of a response by Google's library is what that library writes where it leaves out
+/// the fields that aren't read.
 #[test]
 fn events_of_another_library(rt: HostRuntime) -> Result<(), Fail> {
     let mut response = Response::new(&RESPONSE);
-    for _ in 0..RESPONSE.len() {
-        let Ok(Some(event)) = response.next_event() else {
-            break;
-        };
-        let mut once = Vec::new(rt.alloc());
-        write_event(&mut once, &event)?;
-        assert!(rt; is_kept(rt.alloc(), &once)?);
-    }
+    let written = rewritten_response(rt.alloc(), &mut response)?;
+    assert_eq!(rt; written.as_slice(), READ_RESPONSE.as_slice());
     assert!(rt; matches!(response.next_event(), Ok(None)));
     Ok(())
 }
@@ -98,19 +109,20 @@ const COLUMNS: [ColumnField<'static>; 2] = [
     },
 ];
 
-/// The two columns and the key of a table, as they stand in an answer.
-const HEAD: &[u8] =
-    b"\x0a\x07\x0a\x02id\x10\x89\x02\x0a\x06\x0a\x01v\x10\x95\x30\x12\x07\x0a\x02id\x10\x89\x02";
-
 const ROW: &[u8] = b"\x0a\x02\x02\x04\x12\x031ab";
 
-/// The part of a stream with one table, of one row, that is copied up to a key.
-fn written_part(
-    alloc: Global,
-    row: RowBytes<'_>,
-    key: RowBytes<'_>,
-) -> Result<Vec<u8>, AllocError> {
-    let mut out = Vec::new(alloc);
+const KEY: &[u8] = b"\x0a\x01\x02\x12\x011";
+
+/// An answer of one row, the part of its table, which is copied up to a key, and that of its stream,
+/// each as it is written alone.
+#[derive(Drop)]
+struct Written {
+    answer: Vec<u8>,
+    table: Vec<u8>,
+    stream: Vec<u8>,
+}
+
+fn write_each(out: &mut Written, row: RowBytes<'_>, key: RowBytes<'_>) -> Result<(), AllocError> {
     let rows = [row];
     let answer = AnswerContent {
         fields: &COLUMNS,
@@ -119,53 +131,110 @@ fn written_part(
         rows: &rows,
         lastpk: Some(key),
     };
-    let tables = [TableContent {
+    write_answer(&mut out.answer, &answer)?;
+    let table = TableContent {
         mark: TableMark::Upto,
         answer,
-    }];
+    };
+    write_table_part(&mut out.table, &table)?;
+    let tables = [table];
     let part = StreamContent {
         shard: "-80",
         tables: &tables,
     };
-    write_stream_part(&mut out, &part)?;
+    write_stream_part(&mut out.stream, &part)
+}
+
+/// The row above, up to its key.
+fn written_parts(alloc: Global) -> Result<Written, Fail> {
+    let row = RowBytes::read(ROW).ok().ok_or("a row")?;
+    let key = RowBytes::read(KEY).ok().ok_or("a key")?;
+    let mut out = Written {
+        answer: Vec::new(alloc),
+        table: Vec::new(alloc),
+        stream: Vec::new(alloc),
+    };
+    write_each(&mut out, row, key)?;
     Ok(out)
 }
 
-/// The part of the row above, up to its key.
-fn sample_part(alloc: Global) -> Result<Vec<u8>, Fail> {
-    let row = RowBytes::read(ROW).ok().ok_or("a row")?;
-    let key = RowBytes::read(b"\x0a\x01\x02\x12\x011")
-        .ok()
-        .ok_or("a key")?;
-    Ok(written_part(alloc, row, key)?)
+/// The parts are as Google's library writes them, the table's behind the stream's own fields.
+fn are_sample_parts(parts: &Written) -> bool {
+    parts.answer.as_slice() == SAMPLE_ANSWER.as_slice()
+        && parts.stream.as_slice() == SAMPLE_PART.as_slice()
+        && parts.stream.get(7..) == Some(parts.table.as_slice())
 }
 
 #[test]
-fn part_of_a_stream(rt: HostRuntime) -> Result<(), Fail> {
-    let mut wanted = Vec::from_slice(rt.alloc(), b"\x0a\x03-80\x12\x36\x08\x01\x12\x32")?;
-    wanted.extend_from_slice(HEAD)?;
-    wanted.extend_from_slice(b"\x1a\x03U:1\x22\x09")?;
-    wanted.extend_from_slice(ROW)?;
-    wanted.extend_from_slice(b"\x2a\x06\x0a\x01\x02\x12\x011")?;
-    assert_eq!(rt; sample_part(rt.alloc())?.as_slice(), wanted.as_slice());
+fn an_answer_and_parts_alone(rt: HostRuntime) -> Result<(), Fail> {
+    let parts = written_parts(rt.alloc())?;
+    assert!(rt; are_sample_parts(&parts));
     Ok(())
 }
 
+fn is_row_of(row: Option<RowBytes<'_>>, bytes: &[u8]) -> bool {
+    let Some(row) = row else {
+        return false;
+    };
+    let Ok(wanted) = RowBytes::read(bytes) else {
+        return false;
+    };
+    row.same(&wanted)
+}
+
+/// The answer says what was written.
+fn is_sample_answer(answer: &RowsAnswer<'_>) -> bool {
+    let mut fields = answer.fields();
+    let mut keys = answer.pkfields();
+    let mut rows = answer.rows();
+    answer.gtid() == "U:1"
+        && is_column(fields.next(), "id", 265)
+        && is_column(fields.next(), "v", 6165)
+        && fields.next().is_none()
+        && is_column(keys.next(), "id", 265)
+        && keys.next().is_none()
+        && is_row_of(rows.next(), ROW)
+        && rows.next().is_none()
+        && is_row_of(answer.lastpk(), KEY)
+}
+
+fn is_sample_table(table: &TablePart<'_>) -> bool {
+    table.mark() == Some(TableMark::Upto) && is_sample_answer(&table.answer())
+}
+
+fn reads_answer(bytes: &[u8]) -> bool {
+    match RowsAnswer::read(bytes) {
+        Ok(answer) => is_sample_answer(&answer),
+        Err(_) => false,
+    }
+}
+
+fn reads_table(bytes: &[u8]) -> bool {
+    match TablePart::read(bytes) {
+        Ok(table) => is_sample_table(&table),
+        Err(_) => false,
+    }
+}
+
+fn reads_stream(bytes: &[u8]) -> bool {
+    let Ok(part) = StreamPart::read(bytes) else {
+        return false;
+    };
+    let mut tables = part.tables();
+    match tables.next() {
+        None => false,
+        Some(table) => {
+            part.shard() == "-80" && is_sample_table(&table) && tables.next().is_none()
+        }
+    }
+}
+
 #[test]
-fn part_of_a_stream_read_again(rt: HostRuntime) -> Result<(), Fail> {
-    let bytes = sample_part(rt.alloc())?;
-    let part = StreamPart::read(&bytes).ok().ok_or("a part")?;
-    assert_eq!(rt; part.shard(), "-80");
-    let table = part.tables().next().ok_or("a table")?;
-    assert!(rt; table.mark() == Some(TableMark::Upto));
-    let answer = table.answer();
-    assert_eq!(rt; answer.gtid(), "U:1");
-    let field = answer.pkfields().next().ok_or("a column")?;
-    assert!(rt; field.name == "id" && field.type_number == 265);
-    let row = answer.rows().next().ok_or("a row")?;
-    assert!(rt; row.same(&RowBytes::read(ROW).ok().ok_or("a row")?));
-    assert!(rt; answer.lastpk().is_some());
-    assert!(rt; answer.fields().nth(1).is_some() && answer.fields().nth(2).is_none());
+fn an_answer_and_parts_read_again(rt: HostRuntime) -> Result<(), Fail> {
+    let parts = written_parts(rt.alloc())?;
+    assert!(rt; reads_answer(&parts.answer));
+    assert!(rt; reads_table(&parts.table));
+    assert!(rt; reads_stream(&parts.stream));
     Ok(())
 }
 
