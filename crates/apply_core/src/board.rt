@@ -7,7 +7,7 @@ ghost use Rattle.target_tables.specs.Contents.{value_at, standing};
 ghost use Rattle.pk_copy.specs.KeyOrder.{key_cmp};
 ghost use Rattle.board_laws.specs.declared.answer.Answer as answers;
 ghost use Rattle.board_laws.specs.declared.refusal.Refusal.TheVariants.{NoStream};
-ghost use Rattle.board_laws.specs.Lawful.{standing_of};
+ghost use Rattle.board_laws.specs.Lawful.{standing_of, IsLawful};
 ghost use Rattle.board_laws.specs.Event.{offer, open_at, close, restart};
 ghost use Rattle.board_laws.specs.Step.{answered, IsStep};
 ghost use Rattle.apply_core.specs.Fresh.{fresh_board, HaveSameTables, IsRefusedBoard};
@@ -115,6 +115,13 @@ impl<'h> Board<'h> {
     {
         steps_keep_boards_lawful();
         restart_on(&mut self.streams, s)
+    }
+
+    /// The board is lawful. Takes no memory.
+    pub fn is_lawful(&self)
+        ensures { IsLawful self.now }
+    {
+        let _ = &self.streams;
     }
 
     /// The stream and row at a key of the target. Takes no memory.
