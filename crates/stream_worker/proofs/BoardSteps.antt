@@ -1,0 +1,196 @@
+-- A step on a board changes its own stream alone, which goes on; and what a seat owes and gains by it.
+use Rattle.std.proofs.Common.{◌≡◌, ◌≢◌, ◌==◌, ℕ, zero, suc, ◌+◌, ◌≤◌, Bool, true, false, true≢false, List, [], ◌∷◌, ◌++◌, length, length-set, take, set, Option, Some, None, Result, Ok, Err, IsSome, IsSomeAnd, MatchOption, slice_get, nat_le, refl, sym, ap, ◌∙◌, subst, arith, if◌then◌else◌}
+use Rattle.std.proofs.lemmas.Bool.{or_left, eqb-false}
+use Rattle.std.proofs.lemmas.Option.{same_Some}
+use Rattle.std.specs.Option.{option_and_then}
+use borrow.Author.Tests.{eqb-true, eq-eqb}
+use Rattle.pk_copy.specs.KeyOrder.{key_cmp}
+use Rattle.pk_copy.specs.KeyValue.{KeyValue}
+use Rattle.target_tables.specs.Contents.{value_at}
+use Rattle.source_feed.specs.History.{RowValue}
+use Rattle.source_feed.specs.Touches.{PreparedValue}
+use Rattle.board_laws.specs.declared.answer.Answer.{Answer}
+use Rattle.board_laws.specs.declared.refusal.Refusal.{Refusal}
+use Rattle.board_laws.specs.declared.refusal.Refusal.TheVariants.{NoStream, Memory}
+use Rattle.board_laws.specs.Meaning.{State, Meaning}
+use Rattle.board_laws.specs.Lawful.{IsLawful}
+use Rattle.board_laws.specs.Event.{Event, offer, advance, open_at, copy_rows, close, restart}
+use Rattle.board_laws.specs.Chunk.{takes_all, copied_state}
+use Rattle.board_laws.specs.StateAfter.{state_after}
+use Rattle.board_laws.specs.declared.answer.Answer.TheVariants.{Applied}
+use Rattle.board_laws.specs.Cut.{own_row}
+use Rattle.board_laws.specs.Step.{IsMade, IsStep}
+use Rattle.stream_worker.specs.Knowing.{Laid, names}
+use Rattle.stream_worker.specs.Rule.{GoesOn, AllGoOn, IsOwnChange}
+use Rattle.stream_worker.specs.Seats.{IsBoardStep, IsReceiptOf, next_group_of, own_cut}
+use Rattle.stream_worker.proofs.States.{take-fewer, goes_on-refl, same_goes_on, all_go_on-same}
+
+-- ---- one stream
+
+front-stays : {A : Type 0} (n : ℕ) (xs ys : List A) → n ≤ length xs → take n (xs ++ ys) ≡ take n xs
+front-stays zero xs ys h = refl
+front-stays (suc n) [] ys h = absurd (omega arith)
+front-stays {A} (suc n) (x ∷ xs) ys h = ap (λ (zs : List A). x ∷ zs) (front-stays n xs ys (omega arith))
+
+goes_on_copy : (state : State) (c : ℕ) → GoesOn state (copied_state state c)
+goes_on_copy state c = by (takes_all state c) refl
+  where
+    by : (b : Bool) → takes_all state c ≡ b → GoesOn state (copied_state state c)
+    by true e = rw e (record { plan = refl; applied = omega arith; groups = refl })
+    by false e = rw e (record { plan = refl; applied = omega arith; groups = refl })
+
+-- a stream goes on behind each step that it may make
+pub goes_on_step : (state : State) (event : Event) → state.applied ≤ length state.list → GoesOn state (state_after state event)
+goes_on_step state (offer group) within = by (nat_le group.number (length state.list)) refl
+  where
+    by : (b : Bool) → nat_le group.number (length state.list) ≡ b → GoesOn state (state_after state (offer group))
+    by true e = rw e (goes_on-refl state)
+    by false e = rw e (record { plan = refl; applied = omega arith; groups = front-stays state.applied state.list (group ∷ []) within })
+goes_on_step state advance within = record { plan = refl; applied = omega arith; groups = refl }
+goes_on_step state (open_at m) within = record { plan = refl; applied = omega arith; groups = refl }
+goes_on_step state (copy_rows c) within = goes_on_copy state c
+goes_on_step state close within = record { plan = refl; applied = omega arith; groups = refl }
+goes_on_step state restart within = record { plan = refl; applied = omega arith; groups = take-fewer state.applied state.applied state.list (omega arith) }
+
+-- ---- a board
+
+set_other : {A : Type 0} (xs : List A) (s : ℕ) (x : A) (i : ℕ) → i ≢ s → slice_get (set xs s x) i ≡ slice_get xs i
+set_other [] s x i ne = refl
+set_other (z ∷ xs) zero x zero ne = absurd (ne refl)
+set_other (z ∷ xs) zero x (suc i) ne = refl
+set_other (z ∷ xs) (suc s) x zero ne = refl
+set_other (z ∷ xs) (suc s) x (suc i) ne = set_other xs s x i (λ e. ne (ap suc e))
+
+set_same : {A : Type 0} (xs : List A) (s : ℕ) (x y : A) → slice_get xs s ≡ Some y → slice_get (set xs s x) s ≡ Some x
+set_same [] s x y e = cc
+set_same (z ∷ xs) zero x y e = refl
+set_same (z ∷ xs) (suc s) x y e = set_same xs s x y e
+
+-- a board with another state of one stream, which goes on
+with_one : (board : List State) (s : ℕ) (state next : State) → slice_get board s ≡ Some state → GoesOn state next → AllGoOn board (set board s next)
+with_one board s state next here on t other e = by (t == s) refl
+  where
+    by : (b : Bool) → (t == s) ≡ b → IsSomeAnd (slice_get (set board s next) t) (GoesOn other)
+    by true same =
+        let at : t ≡ s = eqb-true t s same in
+        let is : state ≡ other = same_Some state other (sym here ∙ ap (slice_get board) (sym at) ∙ e) in
+        let there : slice_get (set board s next) t ≡ Some next = ap (slice_get (set board s next)) at ∙ set_same board s next state here in
+        subst (λ (o : Option State). IsSomeAnd o (GoesOn other)) (sym there) (subst (λ (one : State). GoesOn one next) is on)
+    by false ne = same_goes_on (slice_get (set board s next) t) other (set_other board s next t (eqb-false t s ne) ∙ e)
+
+not_named : (s t : ℕ) → names (s ∷ []) t ≡ false → t ≢ s
+not_named s t e same = true≢false (sym (or_left (s == t) false (eq-eqb s t (sym same))) ∙ e)
+
+-- a step changes its own stream alone
+pub step_changes : (taken left : Laid) (s : ℕ) (event : Event) (result : Result Answer Refusal) → IsBoardStep taken s event result left → IsOwnChange (s ∷ []) taken left
+step_changes taken left s event (Ok answer) h =
+    let old : Meaning = record { streams = taken.board; rows = h.rows } in
+    let new : Meaning = record { streams = left.board; rows = h.rows_left } in
+    let made : IsMade old s event answer new = h.step in
+    let next : State = state_after made.state event in
+    let within = (h.lawful.sound s made.state made.stream).standing.applied in
+    let streams : left.board ≡ set taken.board s next = made.streams in
+    record {
+      others = λ t ne. ap (λ (board : List State). slice_get board t) streams ∙ set_other taken.board s next t (not_named s t ne);
+      every = subst (λ (board : List State). AllGoOn taken.board board) (sym streams) (with_one taken.board s made.state next made.stream (goes_on_step made.state event within));
+      long = ap length streams ∙ length-set taken.board s next;
+    }
+step_changes taken left s event (Err refusal) h =
+    let same : left.board ≡ taken.board = ap (λ (board : Meaning). board.streams) h.step.1 in
+    record {
+      others = λ t ne. ap (λ (board : List State). slice_get board t) same;
+      every = all_go_on-same taken.board left.board same;
+      long = ap length same;
+    }
+
+abbrev laid_of : Meaning → ℕ → Laid
+laid_of board given = record { board = board.streams; given = given }
+
+-- a step on the board that was taken is one on what is seen of it
+pub of_step : (old new : Meaning) (now : Laid) (given s : ℕ) (event : Event) (result : Result Answer Refusal) → laid_of old given ≡ now → IsLawful old
+    → IsStep old s event result new → IsBoardStep now s event result (record { board = new.streams; given = given })
+of_step old new now given s event result is lawful step =
+    subst (λ (laid : Laid). IsBoardStep laid s event result (record { board = new.streams; given = given })) is
+    (record { rows = old.rows; rows_left = new.rows; lawful = lawful; step = step; given = refl })
+
+-- ---- a group that is applied
+
+-- what stands behind an advance: the stream, and the group at its new number
+applied_state : (old new : Meaning) (s : ℕ) (answer : Answer) (made : IsMade old s advance answer new) → slice_get new.streams s ≡ Some (state_after made.state advance)
+applied_state old new s answer made = ap (λ (board : List State). slice_get board s) made.streams ∙ set_same old.streams s (state_after made.state advance) made.state made.stream
+
+applied_within : (old new : Meaning) (s : ℕ) (answer : Answer) (made : IsMade old s advance answer new) → made.state.applied + 1 ≤ length made.state.list
+applied_within old new s answer made = (made.lawful.sound s (state_after made.state advance) (applied_state old new s answer made)).standing.applied
+
+next_there : (old new : Meaning) (s : ℕ) (answer : Answer) (made : IsMade old s advance answer new) → next_group_of old.streams s ≡ slice_get made.state.list made.state.applied
+next_there old new s answer made = ap (option_and_then (λ (state : State). slice_get state.list state.applied)) made.stream
+
+-- a group that isn't there isn't applied
+pub none_applied : (old new : Meaning) (s number : ℕ) → IsStep old s advance (Ok (Applied number)) new → next_group_of old.streams s ≡ None → ⊥
+none_applied old new s number made none = by (slice_get made.state.list made.state.applied) refl
+  where
+    within : made.state.applied + 1 ≤ length made.state.list
+    within = applied_within old new s (Applied number) made
+
+    short : {A : Type 0} (xs : List A) (i : ℕ) → i + 1 ≤ length xs → slice_get xs i ≡ None → ⊥
+    short [] i h e = absurd (omega (arith, h))
+    short (x ∷ xs) zero h e = cc
+    short (x ∷ xs) (suc i) h e = short xs i (omega (arith, h)) e
+
+    by : (o : Option PreparedValue) → slice_get made.state.list made.state.applied ≡ o → ⊥
+    by None e = short made.state.list made.state.applied within e
+    by (Some group) e = let two : Some group ≡ None = sym e ∙ sym (next_there old new s (Applied number) made) ∙ none in absurd cc
+
+-- the receipt of the group that was the next one
+pub receipt_of : (old new : Meaning) (s number : ℕ) (group : PreparedValue) → IsStep old s advance (Ok (Applied number)) new → next_group_of old.streams s ≡ Some group
+    → IsSomeAnd (slice_get new.streams s) (λ state. IsReceiptOf s state s number group)
+receipt_of old new s number group made next =
+    subst (λ (o : Option State). IsSomeAnd o (λ state. IsReceiptOf s state s number group)) (sym (applied_state old new s (Applied number) made))
+    (record {
+      stream = refl;
+      number = is;
+      group = ap (slice_get made.state.list) (let e = is in omega arith) ∙ sym (next_there old new s (Applied number) made) ∙ next;
+    })
+  where
+    number_in : Answer → ℕ
+    number_in (Applied n) = n
+    number_in answer = 0
+
+    is : number ≡ made.state.applied + 1
+    is = ap number_in made.answered
+
+-- ---- the row of a stream's own
+
+pub own_found : (board : Meaning) (s : ℕ) (key : KeyValue) (owner : ℕ) (row : RowValue) → IsLawful board → value_at key_cmp board.rows key ≡ Some (owner, row) → owner ≡ s
+    → Some row ≡ own_cut board.streams s key
+own_found board s key owner row lawful there same =
+    sym (pick (owner == s) (eq-eqb owner s same)) ∙ ap (own_row s) (sym there) ∙ lawful.cuts s key
+  where
+    pick : (b : Bool) → b ≡ true → (if b then Some row else None) ≡ Some row
+    pick true e = refl
+    pick false e = absurd (true≢false (sym e))
+
+pub own_else : (board : Meaning) (s : ℕ) (key : KeyValue) (owner : ℕ) (row : RowValue) → IsLawful board → value_at key_cmp board.rows key ≡ Some (owner, row) → owner ≢ s
+    → None ≡ own_cut board.streams s key
+own_else board s key owner row lawful there other =
+    sym (leave (owner == s) refl) ∙ ap (own_row s) (sym there) ∙ lawful.cuts s key
+  where
+    leave : (b : Bool) → (owner == s) ≡ b → (if b then Some row else None) ≡ None
+    leave true e = absurd (other (eqb-true owner s e))
+    leave false e = refl
+
+pub own_none : (board : Meaning) (s : ℕ) (key : KeyValue) → IsLawful board → value_at key_cmp board.rows key ≡ None → None ≡ own_cut board.streams s key
+own_none board s key lawful there = ap (own_row s) (sym there) ∙ lawful.cuts s key
+
+-- an advance that wants memory before the board is asked
+pub wants_memory : (old : Meaning) (now : Laid) (given s : ℕ) → laid_of old given ≡ now → IsLawful old → IsSome (slice_get now.board s) → IsBoardStep now s advance (Err Memory) now
+wants_memory old now given s is lawful there =
+    subst (λ (laid : Laid). IsBoardStep laid s advance (Err Memory) laid) is
+    (record { rows = old.rows; rows_left = old.rows; lawful = lawful; step = (by (slice_get old.streams s) there', refl); given = refl })
+  where
+    there' : IsSome (slice_get old.streams s)
+    there' = subst (λ (laid : Laid). IsSome (slice_get laid.board s)) (sym is) there
+
+    by : (o : Option State) → IsSome o → MatchOption o (Memory ≡ NoStream) (λ state. true ≡ true)
+    by None h = absurd (true≢false (sym h))
+    by (Some state) h = refl

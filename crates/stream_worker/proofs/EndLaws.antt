@@ -1,0 +1,192 @@
+-- What a pass knows that takes the streams of seats, one after another.
+use Rattle.std.proofs.Common.{◌≡◌, ◌≢◌, ◌⊎◌, ◌==◌, ℕ, zero, suc, ◌+◌, ◌<◌, ◌≤◌, Bool, true, false, true≢false, List, [], ◌∷◌, ◌++◌, length, length-append, take, Option, Some, None, IsSome, is_some, MatchOption, slice_get, inl, inr, ⊎_elim, refl, sym, ap, ◌∙◌, subst, arith}
+use Rattle.std.proofs.lemmas.Bool.{or_left, or_from, eqb-false}
+use Rattle.std.proofs.lemmas.Option.{same_Some}
+use Rattle.std.specs.Option.{option_map, option_and_then}
+use borrow.Author.Tests.{eqb-true, eq-eqb, ne_eqb}
+use Rattle.crossbeam_channel.specs.Claims.{view}
+use Rattle.board_laws.specs.Meaning.{State}
+use Rattle.board_laws.specs.Lawful.{standing_of}
+use Rattle.stream_worker.specs.declared.seat.Seat.{Seat}
+use Rattle.stream_worker.specs.declared.shared.Shared.{Shared}
+use Rattle.stream_worker.specs.Knowing.{Laid, Knows, names, with_states, states_joined, states_seen, joined, state_seen}
+use Rattle.stream_worker.specs.Rule.{IsSaid, IsTaken}
+use Rattle.stream_worker.specs.SeatOf.{seat_state, IsSeatOf, AreSeatsOf, AreStatesOf, AreAllKnown}
+use Rattle.stream_worker.proofs.Passes.{named_before, named_behind}
+use Rattle.stream_worker.proofs.States.{take-fewer, joined_theirs, joined_ours}
+
+-- ---- one seat
+
+some_of : {A B : Type 0} (f : A → B) (o : Option A) (y : B) → option_map f o ≡ Some y → (x : A) × (o ≡ Some x)
+some_of f None y e = cc
+some_of f (Some x) y e = (x, refl)
+
+-- a seat knows its stream's state
+pub seat_has : (seat : Seat) → (state : State) × (seat_state seat ≡ Some state)
+seat_has seat = some_of standing_of (seat_state seat) seat.cursor seat.numbers
+
+-- a pass that knows a state saw a board
+pub seat_saw : (seat : Seat) → IsSome (view seat.pass).seen
+seat_saw seat = by (view seat.pass).seen (seat_has seat).1
+  where
+    by : (o : Option Laid) → option_and_then (λ (laid : Laid). slice_get laid.board seat.stream) o ≡ Some (seat_has seat).0 → IsSome o
+    by None e = cc
+    by (Some laid) e = refl
+
+seat_names : (seat : Seat) → names (view seat.pass).streams seat.stream ≡ true
+seat_names seat = ap (λ (l : List ℕ). names l seat.stream) seat.own ∙ or_left (seat.stream == seat.stream) false (eq-eqb seat.stream seat.stream refl)
+
+seat_names_not : (seat : Seat) (s : ℕ) → s ≢ seat.stream → names (view seat.pass).streams s ≡ false
+seat_names_not seat s ne = ap (λ (l : List ℕ). names l s) seat.own ∙ or_from (seat.stream == s) false (ne_eqb seat.stream s (λ e. ne (sym e))) refl
+
+-- ---- the first seat
+
+pub first_known : (seats : List Seat) (n : ℕ) (seat : Seat) → length seats ≤ n + 1 → slice_get seats n ≡ Some seat → AreAllKnown seats n (view seat.pass)
+first_known seats n seat last there =
+    record {
+      holds = seat.free;
+      seen = seat_saw seat;
+      own = λ k other le at. let is = same k other le at in subst (λ (one : Seat). names (view seat.pass).streams one.stream ≡ true) is (seat_names seat);
+      states = λ k other le at. let is = same k other le at in subst (λ (one : Seat). state_seen (view seat.pass) one.stream ≡ seat_state one) is refl;
+    }
+  where
+    within : {A : Type 0} (xs : List A) (k : ℕ) (x : A) → slice_get xs k ≡ Some x → k < length xs
+    within [] k x e = cc
+    within (y ∷ xs) zero x e = omega arith
+    within (y ∷ xs) (suc k) x e = let less = within xs k x e in omega arith
+
+    same : (k : ℕ) (other : Seat) → n ≤ k → slice_get seats k ≡ Some other → seat ≡ other
+    same k other le at =
+        let less = within seats k other at in
+        let is : k ≡ n = omega (arith, last) in
+        same_Some seat other (sym there ∙ sym (ap (slice_get seats) is) ∙ at)
+
+-- ---- one seat more
+
+-- the states that a joined pass saw
+joined_state : (v w : Knows) (mine : Laid) (s : ℕ) → v.seen ≡ Some mine → state_seen (joined v w) s ≡ slice_get (states_joined w.streams 0 (states_seen w.seen) mine.board) s
+joined_state v w mine s e = ap (λ (o : Option Laid). option_and_then (λ (laid : Laid). slice_get laid.board s) (option_map {T = Laid} (with_states w.streams w.seen) o)) e
+
+seen_states : (o : Option Laid) (s : ℕ) (state : State) → option_and_then (λ (laid : Laid). slice_get laid.board s) o ≡ Some state → slice_get (states_seen o) s ≡ Some state
+seen_states None s state e = cc
+seen_states (Some laid) s state e = e
+
+start : (s : ℕ) → s ≡ 0 + s
+start s = omega arith
+
+takes_theirs : (v w : Knows) (s : ℕ) (state : State) → IsSome v.seen → names w.streams s ≡ true → state_seen w s ≡ Some state → state_seen (joined v w) s ≡ Some state
+takes_theirs v w s state some name there = by v.seen refl some
+  where
+    by : (o : Option Laid) → v.seen ≡ o → IsSome o → state_seen (joined v w) s ≡ Some state
+    by None e h = absurd (true≢false (sym h))
+    by (Some mine) e h =
+        joined_state v w mine s e ∙ joined_theirs w.streams 0 (states_seen w.seen) mine.board s s state (start s) name (seen_states w.seen s state there)
+
+keeps_ours : (v w : Knows) (s : ℕ) (state : State) → names w.streams s ≡ false → state_seen v s ≡ Some state → state_seen (joined v w) s ≡ Some state
+keeps_ours v w s state name there = by v.seen refl there
+  where
+    by : (o : Option Laid) → v.seen ≡ o → option_and_then (λ (laid : Laid). slice_get laid.board s) o ≡ Some state → state_seen (joined v w) s ≡ Some state
+    by None e h = cc
+    by (Some mine) e h = joined_state v w mine s e ∙ joined_ours w.streams 0 (states_seen w.seen) mine.board s s state (start s) name h
+
+pub joined_known : (shared : Shared) (seats : List Seat) (n : ℕ) (v : Knows) (seat : Seat) → AreSeatsOf shared seats → AreAllKnown seats (n + 1) v → slice_get seats n ≡ Some seat
+    → AreAllKnown seats n (joined v (view seat.pass))
+joined_known shared seats n v seat all known there =
+    record {
+      holds = known.holds;
+      seen = saw v.seen known.seen;
+      own = own;
+      states = states;
+    }
+  where
+    w : Knows
+    w = view seat.pass
+
+    saw : (o : Option Laid) → IsSome o → IsSome (option_map {T = Laid} (with_states w.streams w.seen) o)
+    saw None h = absurd (true≢false (sym h))
+    saw (Some mine) h = refl
+
+    here : (k : ℕ) (other : Seat) → k ≡ n → slice_get seats k ≡ Some other → seat ≡ other
+    here k other is at = same_Some seat other (sym there ∙ sym (ap (slice_get seats) is) ∙ at)
+
+    apart : (k : ℕ) (other : Seat) → n + 1 ≤ k → slice_get seats k ≡ Some other → names w.streams other.stream ≡ false
+    apart k other le at =
+        seat_names_not seat other.stream
+        (λ e. let one = (all n seat there).1 in let two = (all k other at).1 in absurd (let same : k ≡ n = sym two ∙ e ∙ one in omega arith))
+
+    at_or_behind : (k : ℕ) → n ≤ k → (k ≡ n) ⊎ (n + 1 ≤ k)
+    at_or_behind k le = by (k == n) refl
+      where
+        by : (b : Bool) → (k == n) ≡ b → (k ≡ n) ⊎ (n + 1 ≤ k)
+        by true e = inl (eqb-true k n e)
+        by false e = inr (let ne : k ≢ n = eqb-false k n e in omega arith)
+
+    own : (k : ℕ) (other : Seat) → n ≤ k → slice_get seats k ≡ Some other → names (v.streams ++ w.streams) other.stream ≡ true
+    own k other le at =
+        ⊎_elim (λ (is : k ≡ n). subst (λ (one : Seat). names (v.streams ++ w.streams) one.stream ≡ true) (here k other is at) (named_behind v.streams w.streams seat.stream (seat_names seat)))
+        (λ (past : n + 1 ≤ k). named_before v.streams w.streams other.stream (known.own k other past at)) (at_or_behind k le)
+
+    states : (k : ℕ) (other : Seat) → n ≤ k → slice_get seats k ≡ Some other → state_seen (joined v w) other.stream ≡ seat_state other
+    states k other le at =
+        ⊎_elim
+        (λ (is : k ≡ n).
+        subst (λ (one : Seat). state_seen (joined v w) one.stream ≡ seat_state one) (here k other is at)
+        (takes_theirs v w seat.stream (seat_has seat).0 known.seen (seat_names seat) (seat_has seat).1 ∙ sym (seat_has seat).1))
+        (λ (past : n + 1 ≤ k).
+        keeps_ours v w other.stream (seat_has other).0 (apart k other past at) (known.states k other past at ∙ (seat_has other).1) ∙ sym (seat_has other).1)
+        (at_or_behind k le)
+
+-- ---- the end
+
+-- the board that such a pass takes has the states that the seats know
+pub ended : (seats : List Seat) (v holding : Knows) (deal : Laid) → AreAllKnown seats 0 v → IsTaken v deal holding → AreStatesOf seats deal.board
+ended seats v holding deal known h k seat at = by v.seen refl h.says
+  where
+    zero_le : 0 ≤ k
+    zero_le = omega arith
+
+    by : (o : Option Laid) → v.seen ≡ o → MatchOption o (v.streams ≡ []) (λ seen. IsSaid v.streams seen deal) → slice_get deal.board seat.stream ≡ seat_state seat
+    by None e says = absurd (true≢false (sym known.seen ∙ ap is_some e))
+    by (Some seen) e says =
+        says.own seat.stream (known.own k seat zero_le at)
+        ∙ sym (ap (λ (o : Option Laid). option_and_then (λ (laid : Laid). slice_get laid.board seat.stream) o) e)
+        ∙ known.states k seat zero_le at
+
+-- ---- seats taken off the end
+
+front-get : {A : Type 0} (n : ℕ) (xs : List A) → slice_get (take (suc n) xs) n ≡ slice_get xs n
+front-get n [] = refl
+front-get zero (x ∷ xs) = refl
+front-get (suc n) (x ∷ xs) = front-get n xs
+
+last-get : {A : Type 0} (ys : List A) (x : A) (n : ℕ) → length ys ≡ n → slice_get (ys ++ x ∷ []) n ≡ Some x
+last-get [] x zero e = refl
+last-get [] x (suc n) e = absurd (omega arith)
+last-get (y ∷ ys) x zero e = absurd (omega arith)
+last-get (y ∷ ys) x (suc n) e = last-get ys x n (omega arith)
+
+front-of : {A : Type 0} (ys : List A) (x : A) (n : ℕ) → length ys ≡ n → take n (ys ++ x ∷ []) ≡ ys
+front-of [] x zero e = refl
+front-of [] x (suc n) e = absurd (omega arith)
+front-of (y ∷ ys) x zero e = absurd (omega arith)
+front-of {A} (y ∷ ys) x (suc n) e = ap (λ (zs : List A). y ∷ zs) (front-of ys x n (omega arith))
+
+-- the last of all seats, and those before it
+pub first_popped : (shared : Shared) (all rest : List Seat) (n : ℕ) (x : Seat) → AreSeatsOf shared all → all ≡ rest ++ x ∷ [] → length rest ≡ n
+    → (rest ≡ take n all) × IsSeatOf shared x × AreAllKnown all n (view x.pass)
+first_popped shared all rest n x each split long =
+    let there : slice_get all n ≡ Some x = ap (λ (l : List Seat). slice_get l n) split ∙ last-get rest x n long in
+    let few : length all ≤ n + 1 = let sum = ap length split ∙ length-append rest (x ∷ []) in omega (arith, long) in
+    (sym (front-of rest x n long) ∙ ap (take n) (sym split), (each n x there).0, first_known all n x few there)
+
+-- the last of the first seats, and those before it
+pub next_popped : (shared : Shared) (all items rest : List Seat) (m n : ℕ) (x : Seat) (v : Knows) → AreSeatsOf shared all → items ≡ take m all → items ≡ rest ++ x ∷ [] → m ≡ n + 1 → length rest ≡ n
+    → AreAllKnown all m v → IsSeatOf shared x × (rest ≡ take n all) × AreAllKnown all n (joined v (view x.pass))
+next_popped shared all items rest m n x v each front split more long known =
+    let is : m ≡ suc n = omega (arith, more) in
+    let cut : items ≡ take (suc n) all = front ∙ ap (λ (k : ℕ). take k all) is in
+    let there : slice_get all n ≡ Some x = sym (front-get n all) ∙ ap (λ (l : List Seat). slice_get l n) (sym cut ∙ split) ∙ last-get rest x n long in (
+      (each n x there).0,
+      sym (front-of rest x n long) ∙ ap (take n) (sym split ∙ cut) ∙ take-fewer n (suc n) all (omega arith),
+      joined_known shared all n v x each (subst (λ (k : ℕ). AreAllKnown all k v) more known) there,
+    )

@@ -1,0 +1,101 @@
+-- What claiming a seat owes and gains.
+use Rattle.std.proofs.Common.{◌≡◌, ℕ, zero, suc, ◌+◌, ◌<◌, true≢false, List, [], ◌∷◌, ◌++◌, length, Option, Some, None, IsSome, is_some, MatchOption, slice_get, inl, inr, refl, sym, ap, ◌∙◌, subst, arith}
+use Rattle.std.proofs.lemmas.Option.{same_Some}
+use Rattle.std.specs.Option.{option_and_then}
+use Rattle.board_laws.specs.Meaning.{State}
+use Rattle.stream_worker.specs.declared.seat.Seat.{Seat}
+use Rattle.stream_worker.specs.declared.shared.Shared.{Shared}
+use Rattle.stream_worker.specs.Knowing.{Laid, Knows, first_view, copy_of, state_seen}
+use Rattle.stream_worker.specs.Rule.{IsSaid, Says, IsTaken, IsOwnChange, MayPut, IsPut}
+use Rattle.stream_worker.specs.Seats.{IsOpener}
+use Rattle.stream_worker.specs.SeatOf.{seat_state, IsSeatOf, AreSeatsOf, AreStatesSeen}
+use Rattle.stream_worker.proofs.States.{all_go_on-same}
+use Rattle.stream_worker.proofs.SeatLaws.{taken_seen, may_put_change}
+
+-- ---- the opener
+
+-- the opener puts any board in first
+pub may_put_first : (v : Knows) (board : Laid) → v ≡ first_view → MayPut v board
+may_put_first v board e = subst (λ (u : Knows). MayPut u board) (sym e) tt
+
+pub opener_put : (v after : Knows) (board : Laid) → v ≡ first_view → IsPut v board after → IsOpener after
+opener_put v after board e put =
+    record { streams = put.first (ap (λ (u : Knows). u.seen) e); seen = ap is_some put.seen }
+
+pub opener_saw : (v after : Knows) (board : Laid) (k : ℕ) → IsPut v board after → state_seen after k ≡ slice_get board.board k
+opener_saw v after board k put = ap (λ (o : Option Laid). option_and_then (λ (laid : Laid). slice_get laid.board k) o) put.seen
+
+within : {A : Type 0} (xs : List A) (k : ℕ) → k < length xs → IsSome (slice_get xs k)
+within [] k h = absurd (omega (arith, h))
+within (x ∷ xs) zero h = refl
+within (x ∷ xs) (suc k) h = within xs k (omega (arith, h))
+
+-- it saw a state of each stream
+pub opener_saw_each : (v after : Knows) (board : Laid) (n : ℕ) → IsPut v board after → length board.board ≡ n → (k : ℕ) → k < n → IsSome (state_seen after k)
+opener_saw_each v after board n put long k less =
+    subst (λ (o : Option State). IsSome o) (sym (opener_saw v after board k put)) (within board.board k (subst (λ (m : ℕ). k < m) (sym long) less))
+
+-- ---- a claim
+
+-- a stream without a seat is as the opener saw it
+pub claimed_state : (v fresh : Knows) (deal : Laid) (k : ℕ) → IsOpener v → fresh ≡ copy_of v → Says fresh deal → deal.given ≡ k → slice_get deal.board k ≡ state_seen v k
+claimed_state v fresh deal k opener made says count = by v.seen opener.seen (subst (λ (u : Knows). Says u deal) made says)
+  where
+    by : (o : Option Laid) → IsSome o → MatchOption o ((copy_of v).streams ≡ []) (λ seen. IsSaid [] seen deal) → slice_get deal.board k ≡ option_and_then (λ (laid : Laid). slice_get laid.board k) o
+    by None some said = absurd (true≢false (sym some))
+    by (Some seen) some said = said.without_seat refl k (let e = count in omega arith)
+
+pub claimed_there : (v fresh : Knows) (deal left : Laid) (k : ℕ) → IsOpener v → fresh ≡ copy_of v → Says fresh deal → deal.given ≡ k → left.board ≡ deal.board → IsSome (state_seen v k)
+    → IsSome (slice_get left.board k)
+claimed_there v fresh deal left k opener made says count same there =
+    subst (λ (o : Option State). IsSome o) (sym (ap (λ (board : List State). slice_get board k) same ∙ claimed_state v fresh deal k opener made says count)) there
+
+unchanged : (streams : List ℕ) (deal left : Laid) → left.board ≡ deal.board → IsOwnChange streams deal left
+unchanged streams deal left same =
+    record {
+      others = λ s e. ap (λ (board : List State). slice_get board s) same;
+      every = all_go_on-same deal.board left.board same;
+      long = ap length same;
+    }
+
+-- one seat more may be put back by a pass without a stream
+pub may_put_count : (v fresh holding : Knows) (deal left : Laid) → fresh ≡ copy_of v → IsTaken fresh deal holding → left.board ≡ deal.board → left.given ≡ deal.given + 1 → MayPut holding left
+may_put_count v fresh holding deal left made h same more =
+    may_put_change fresh holding deal left h (unchanged fresh.streams deal left same) (inr (more, ap (λ (u : Knows). u.streams) made))
+
+-- the board may be put back as it was taken
+pub may_put_same : (before holding : Knows) (deal : Laid) → IsTaken before deal holding → MayPut holding deal
+may_put_same before holding deal h = may_put_change before holding deal deal h (unchanged before.streams deal deal refl) (inl refl)
+
+-- and the seat's stream is then the pass's
+pub claimed_streams : (fresh holding after : Knows) (deal left : Laid) (k : ℕ) → IsTaken fresh deal holding → left.given ≡ deal.given + 1 → IsPut holding left after → deal.given ≡ k → after.streams ≡ k ∷ []
+claimed_streams fresh holding after deal left k h more put count = put.counted deal (taken_seen fresh holding deal h) more ∙ ap (λ (n : ℕ). n ∷ []) count
+
+pub claimed_seen : (v fresh holding after : Knows) (deal left : Laid) (k : ℕ) → IsOpener v → fresh ≡ copy_of v → IsTaken fresh deal holding → deal.given ≡ k → left.board ≡ deal.board → IsPut holding left after
+    → state_seen after k ≡ state_seen v k
+claimed_seen v fresh holding after deal left k opener made h count same put =
+    ap (λ (o : Option Laid). option_and_then (λ (laid : Laid). slice_get laid.board k) o) put.seen
+    ∙ ap (λ (board : List State). slice_get board k) same
+    ∙ claimed_state v fresh deal k opener made h.says count
+
+-- ---- a list of seats
+
+-- a fact of each element, and of one more
+pub each_pushed : {A : Type 0} (P : ℕ → A → Type 0) (xs : List A) (x : A) → ((k : ℕ) (y : A) → slice_get xs k ≡ Some y → P k y) → P (length xs) x
+    → (k : ℕ) (y : A) → slice_get (xs ++ x ∷ []) k ≡ Some y → P k y
+each_pushed P [] x old new zero y e = subst (P 0) (same_Some x y e) new
+each_pushed P [] x old new (suc k) y e = cc
+each_pushed P (z ∷ xs) x old new zero y e = old zero y e
+each_pushed P (z ∷ xs) x old new (suc k) y e = each_pushed (λ n. P (suc n)) xs x (λ n. old (suc n)) new k y e
+
+pub seats_pushed : (shared : Shared) (seats more : List Seat) (seat : Seat) (k : ℕ) → more ≡ seats ++ seat ∷ [] → length seats ≡ k → AreSeatsOf shared seats → IsSeatOf shared seat → seat.stream ≡ k
+    → AreSeatsOf shared more
+seats_pushed shared seats more seat k is long each one at =
+    subst (λ (l : List Seat). AreSeatsOf shared l) (sym is)
+    (each_pushed (λ i other. IsSeatOf shared other × (other.stream ≡ i)) seats seat each (one, at ∙ sym long))
+
+pub states_pushed : (seats more : List Seat) (seat : Seat) (k : ℕ) (v u : Knows) → more ≡ seats ++ seat ∷ [] → AreStatesSeen seats v → u ≡ v → seat_state seat ≡ state_seen u k → seat.stream ≡ k
+    → AreStatesSeen more v
+states_pushed seats more seat k v u is each same one at =
+    subst (λ (l : List Seat). AreStatesSeen l v) (sym is)
+    (each_pushed (λ i other. seat_state other ≡ state_seen v other.stream) seats seat each (one ∙ ap (λ (w : Knows). state_seen w k) same ∙ sym (ap (state_seen v) at)))

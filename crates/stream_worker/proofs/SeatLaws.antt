@@ -1,0 +1,79 @@
+-- What a call of a seat owes and gains, from the board that it took to the one that it put back.
+use Rattle.std.proofs.Common.{◌≡◌, ◌==◌, ℕ, true, false, List, [], ◌∷◌, Option, Some, None, Result, IsSome, IsSomeAnd, MatchOption, slice_get, inl, refl, sym, ap, ◌∙◌, subst}
+use Rattle.std.proofs.lemmas.Bool.{or_left}
+use Rattle.std.specs.Option.{option_map, option_and_then}
+use borrow.Author.Tests.{eq-eqb}
+use Rattle.stream_core.specs.Standing.{Standing}
+use Rattle.board_laws.specs.declared.answer.Answer.{Answer}
+use Rattle.board_laws.specs.declared.refusal.Refusal.{Refusal}
+use Rattle.board_laws.specs.Meaning.{State}
+use Rattle.board_laws.specs.Lawful.{standing_of}
+use Rattle.board_laws.specs.Event.{Event}
+use Rattle.stream_worker.specs.Knowing.{Laid, Knows, names, state_seen}
+use Rattle.stream_worker.specs.Rule.{GoesOn, IsSaid, Says, IsTaken, IsOwnChange, CountsSeats, MayPut, IsPut}
+use Rattle.stream_worker.specs.Seats.{IsBoardStep, IsSeatStep}
+use Rattle.stream_worker.proofs.BoardSteps.{step_changes}
+
+-- a pass that took the board holds it, and saw it
+pub taken_holds : (before holding : Knows) (taken : Laid) → IsTaken before taken holding → holding.holds ≡ true
+taken_holds before holding taken h = ap (λ (v : Knows). v.holds) h.view
+
+pub taken_seen : (before holding : Knows) (taken : Laid) → IsTaken before taken holding → holding.seen ≡ Some taken
+taken_seen before holding taken h = ap (λ (v : Knows). v.seen) h.view
+
+pub taken_streams : (before holding : Knows) (taken : Laid) → IsTaken before taken holding → holding.streams ≡ before.streams
+taken_streams before holding taken h = ap (λ (v : Knows). v.streams) h.view
+
+-- a change of the board that was taken may be put back
+pub may_put_change : (before holding : Knows) (taken left : Laid) → IsTaken before taken holding → IsOwnChange before.streams taken left → CountsSeats before.streams taken left → MayPut holding left
+may_put_change before holding taken left h change counts = subst (λ (v : Knows). MayPut v left) (sym h.view) (change, counts)
+
+-- behind a step on the seat's stream
+pub may_put : (before holding : Knows) (s : ℕ) (taken left : Laid) (event : Event) (result : Result Answer Refusal) → before.streams ≡ s ∷ [] → IsTaken before taken holding
+    → IsBoardStep taken s event result left → MayPut holding left
+may_put before holding s taken left event result own h step =
+    may_put_change before holding taken left h (subst (λ (l : List ℕ). IsOwnChange l taken left) (sym own) (step_changes taken left s event result step)) (inl step.given)
+
+named_itself : (s : ℕ) → names (s ∷ []) s ≡ true
+named_itself s = or_left (s == s) false (eq-eqb s s refl)
+
+-- the seat's own stream is as the seat knew it
+pub own_as_seen : (before : Knows) (s : ℕ) (taken : Laid) (standing : Standing) → before.streams ≡ s ∷ [] → Says before taken
+    → option_map standing_of (state_seen before s) ≡ Some standing → slice_get taken.board s ≡ state_seen before s
+own_as_seen before s taken standing own says numbers = by before.seen says numbers
+  where
+    by : (o : Option Laid) → MatchOption o (before.streams ≡ []) (λ seen. IsSaid before.streams seen taken) → option_map standing_of (option_and_then (λ (laid : Laid). slice_get laid.board s) o) ≡ Some standing
+        → slice_get taken.board s ≡ option_and_then (λ (laid : Laid). slice_get laid.board s) o
+    by None said e = cc
+    by (Some seen) said e = said.own s (ap (λ (l : List ℕ). names l s) own ∙ named_itself s)
+
+-- behind the step its stream is there
+pub still_there : (before : Knows) (s : ℕ) (taken left : Laid) (event : Event) (result : Result Answer Refusal) (standing : Standing) → before.streams ≡ s ∷ [] → Says before taken
+    → option_map standing_of (state_seen before s) ≡ Some standing → IsBoardStep taken s event result left → IsSome (slice_get left.board s)
+still_there before s taken left event result standing own says numbers step = by (slice_get taken.board s) refl was
+  where
+    was : option_map standing_of (slice_get taken.board s) ≡ Some standing
+    was = ap (option_map standing_of) (own_as_seen before s taken standing own says numbers) ∙ numbers
+
+    some : (o : Option State) (state : State) → IsSomeAnd o (GoesOn state) → IsSome o
+    some None state h = absurd h
+    some (Some next) state h = refl
+
+    by : (o : Option State) → slice_get taken.board s ≡ o → option_map standing_of o ≡ Some standing → IsSome (slice_get left.board s)
+    by None e h = cc
+    by (Some state) e h = some (slice_get left.board s) state ((step_changes taken left s event result step).every s state e)
+
+-- ---- what the seat then is
+
+pub put_streams : (before holding after : Knows) (s : ℕ) (taken left : Laid) → before.streams ≡ s ∷ [] → IsTaken before taken holding → left.given ≡ taken.given → IsPut holding left after
+    → after.streams ≡ s ∷ []
+put_streams before holding after s taken left own h many put = put.same taken (taken_seen before holding taken h) many ∙ taken_streams before holding taken h ∙ own
+
+pub put_numbers : (holding after : Knows) (s : ℕ) (left : Laid) (standing : Standing) → IsPut holding left after → option_map standing_of (slice_get left.board s) ≡ Some standing
+    → option_map standing_of (state_seen after s) ≡ Some standing
+put_numbers holding after s left standing put numbers =
+    ap (λ (o : Option Laid). option_map standing_of (option_and_then (λ (laid : Laid). slice_get laid.board s) o)) put.seen ∙ numbers
+
+pub seat_step : (before holding after : Knows) (s : ℕ) (taken left : Laid) (event : Event) (result : Result Answer Refusal) → IsTaken before taken holding → IsBoardStep taken s event result left
+    → IsPut holding left after → IsSeatStep before s event result after
+seat_step before holding after s taken left event result h step put = record { taken = taken; left = left; says = h.says; step = step; seen = put.seen }

@@ -1,0 +1,14 @@
+use Rattle.std.proofs.Common.{List, slice_get, ap, ◌∙◌}
+use Rattle.crossbeam_channel.specs.Claims.{view}
+use Rattle.board_laws.specs.Meaning.{State}
+use Rattle.stream_worker.proofs.EndLaws.{ended}
+use Rattle.stream_worker.proofs.shared.Shared.end.Goals as goal
+
+pub returns : goal.returns
+returns g c =
+    record {
+      states =
+          λ k seat at.
+          ap (λ (board : List State). slice_get board seat.stream) c.into_board.ensures
+          ∙ ended c.args.seats.items (view c.joined-pass.result) (view c.take-deal.new.pass) c.take-deal.result c.joined-pass.ensures.known c.take-deal.ensures.taken k seat at;
+    }

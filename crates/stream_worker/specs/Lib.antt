@@ -1,0 +1,4 @@
+pub mod Knowing
+pub mod Rule
+pub mod Seats
+pub mod SeatOf

@@ -1,0 +1,45 @@
+-- What a seat knows, and the shared board that it is of (this profile).
+use Rattle.std.specs.Prelude.{◌≡◌, ℕ, ◌≤◌, true, false, List, length, Option, Some, IsSome, slice_get}
+use Rattle.crossbeam_channel.specs.Claims.{view, IsSeatAt}
+use Rattle.crossbeam_channel.specs.Ends.{sends_on}
+use Rattle.board_laws.specs.Meaning.{State}
+use Rattle.stream_worker.specs.declared.seat.Seat.{Seat}
+use Rattle.stream_worker.specs.declared.shared.Shared.{Shared}
+use Rattle.stream_worker.specs.Knowing.{Knows, names, state_seen}
+
+-- what a seat knows of the board
+abbrev pub known : Seat → Knows
+known seat = view seat.pass
+
+-- the state of a seat's stream
+abbrev pub seat_state : Seat → Option State
+seat_state seat = state_seen (known seat) seat.stream
+
+-- the seat is one of this shared board's
+abbrev pub IsSeatOf : Shared → Seat → Type 0
+IsSeatOf shared seat = IsSeatAt (sends_on shared.lock.sender) seat.pass
+
+-- seats of a shared board, one a stream, in the order of the streams
+abbrev pub AreSeatsOf : Shared → List Seat → Type 0
+AreSeatsOf shared seats = (k : ℕ) (seat : Seat) → slice_get seats k ≡ Some seat → IsSeatOf shared seat × (seat.stream ≡ k)
+
+-- each stream has the state that its seat knows
+abbrev pub AreStatesOf : List Seat → List State → Type 0
+AreStatesOf seats board = (k : ℕ) (seat : Seat) → slice_get seats k ≡ Some seat → slice_get board seat.stream ≡ seat_state seat
+
+-- a board is opened: there is a seat for each stream, and it knows the stream's state
+pub record IsOpened (board : List State) (shared : Shared) (seats : List Seat) : Type 0 where
+  pub count : length seats ≡ length board
+  pub each : AreSeatsOf shared seats
+  pub states : AreStatesOf seats board
+
+-- each seat knows the state of its stream that a pass saw
+abbrev pub AreStatesSeen : List Seat → Knows → Type 0
+AreStatesSeen seats v = (k : ℕ) (seat : Seat) → slice_get seats k ≡ Some seat → seat_state seat ≡ state_seen v seat.stream
+
+-- a pass that holds nothing has the streams of the seats from place n on, and saw the states that these know
+pub record AreAllKnown (seats : List Seat) (n : ℕ) (v : Knows) : Type 0 where
+  pub holds : v.holds ≡ false
+  pub seen : IsSome v.seen
+  pub own : (k : ℕ) (seat : Seat) → n ≤ k → slice_get seats k ≡ Some seat → names v.streams seat.stream ≡ true
+  pub states : (k : ℕ) (seat : Seat) → n ≤ k → slice_get seats k ≡ Some seat → state_seen v seat.stream ≡ seat_state seat

@@ -1,0 +1,193 @@
+//! What lies in the lock: the board, and how many seats are given out.
+
+ghost use Rattle.std.specs.Prelude.{◌≡◌, ◌+◌, ◌<◌, Some, IsSome, IfOk, IsSomeAnd, slice_get};
+ghost use Rattle.std.specs.Option.{option_map};
+ghost use Rattle.std.specs.Arc.{arc_value};
+ghost use Rattle.board_laws.specs.declared.answer.Answer as answers;
+ghost use Rattle.board_laws.specs.Lawful.{standing_of};
+ghost use Rattle.board_laws.specs.Event.{offer, advance, open_at, copy_rows, close, restart};
+ghost use Rattle.board_laws.specs.Step.{answered};
+ghost use Rattle.stream_worker.specs.Seats.{IsBoardStep, IsReceiptOf, next_group_of, own_cut};
+
+use crate::receipt::Receipt;
+use apply_core::{Board, Copied, Offered, Refusal};
+use pk_copy::Key;
+use row_view::RowBuf;
+use source_feed::Prepared;
+use std::alloc::{AllocError, Global};
+use std::marker::Model;
+use std::sync::Arc;
+use stream_core::Cursor;
+
+/// The board and the number of seats that are given out. It is what the lock's channel carries; its board
+/// is lawful, so whoever receives it has a lawful board.
+#[derive(Drop)]
+pub struct Deal<'h> {
+    pub(crate) board: Board<'h>,
+    pub(crate) given: u8,
+}
+
+impl<'h> Model for Deal<'h> {
+    ghost use Rattle.board_laws.specs.Lawful.{IsLawful};
+    ghost use Rattle.stream_worker.specs.Knowing.{Laid};
+
+    ghost Value = { Laid };
+
+    ghost view = { λ d. record { board = d.board.streams; given = d.given } };
+
+    ghost invariant = { λ d. IsLawful d.board };
+}
+
+impl<'h> Deal<'h> {
+    /// The board of a shared board that no seat is given out of.
+    pub(crate) fn new(board: Board<'h>) -> Deal<'h>
+        ensures { result ≡ record { board = board.entry.streams; given = 0 } }
+    {
+        board.is_lawful();
+        Deal { board, given: 0 }
+    }
+
+    /// One seat more is given out.
+    pub(crate) fn count(&mut self)
+        requires { self.old.given < 255 }
+        ensures { self.new ≡ record { board = self.old.board; given = self.old.given + 1 } }
+    {
+        self.given += 1;
+    }
+
+    /// Where a stream of the board stands, by its numbers.
+    pub(crate) fn cursor(&self, s: u8) -> Cursor
+        requires { IsSome (slice_get self.now.board s) }
+        ensures { option_map standing_of (slice_get self.now.board s) ≡ Some result }
+    {
+        match self.board.state(s) {
+            Ok(cursor) => cursor,
+            Err(_) => unreachable!(),
+        }
+    }
+
+    /// A group is offered to a stream of the board.
+    pub(crate) fn offer(
+        &mut self,
+        alloc: Global,
+        s: u8,
+        group: Arc<Prepared<'h>>,
+    ) -> Result<Offered, Refusal>
+        ensures { IsBoardStep self.old s (offer (arc_value group.entry)) (answered answers.Answer.Offered result) self.new }
+    {
+        let result = self.board.offer(alloc, s, group);
+        self.board.is_lawful();
+        result
+    }
+
+    /// The next group of a stream of the board, shared. An error is want of memory.
+    fn next_group(&self, s: u8) -> Result<Option<Arc<Prepared<'h>>>, AllocError>
+        ensures { IfOk result (λ group. option_map arc_value group ≡ next_group_of self.now.board s) }
+    {
+        let (Ok(cursor), Ok(list)) = (self.board.state(s), self.board.read_list(s)) else {
+            return Ok(None);
+        };
+        match list.get(cursor.applied() as usize) {
+            None => Ok(None),
+            Some(group) => {
+                let group = Arc::try_clone(group)?;
+                Ok(Some(group))
+            }
+        }
+    }
+
+    /// The next group of a stream of the board is applied. The receipt's share of the group is made before.
+    pub(crate) fn advance(&mut self, alloc: Global, s: u8) -> Result<Receipt<'h>, Refusal>
+        requires { IsSome (slice_get self.old.board s) }
+        ensures step { IsBoardStep self.old s advance (answered (λ receipt. answers.Answer.Applied receipt.number) result) self.new }
+        ensures receipt { IfOk result (λ receipt. IsSomeAnd (slice_get self.new.board s) (λ state. IsReceiptOf s state receipt.stream receipt.number (arc_value receipt.group))) }
+    {
+        let Ok(group) = self.next_group(s) else {
+            return Err(Refusal::Memory);
+        };
+        let result = self.board.advance(alloc, s);
+        self.board.is_lawful();
+        match (result, group) {
+            (Ok(number), Some(group)) => Ok(Receipt {
+                stream: s,
+                number,
+                group,
+            }),
+            (Ok(_), None) => unreachable!(),
+            (Err(refusal), _) => Err(refusal),
+        }
+    }
+
+    /// The row of stream `s` at a key, in memory of its own. An error is want of memory.
+    pub(crate) fn own_row(
+        &self,
+        alloc: Global,
+        s: u8,
+        key: &Key,
+    ) -> Result<Option<RowBuf>, AllocError>
+        ensures { IfOk result (λ row. row ≡ own_cut self.now.board s key.now) }
+    {
+        self.board.is_lawful();
+        match self.board.row(key) {
+            None => Ok(None),
+            Some((owner, row)) => {
+                if owner != s {
+                    return Ok(None);
+                }
+                let row = row.try_clone(alloc)?;
+                Ok(Some(row))
+            }
+        }
+    }
+
+    /// How many seats are given out.
+    pub(crate) fn given(&self) -> u8
+        ensures { result ≡ self.now.given }
+    {
+        self.given
+    }
+
+    /// The board.
+    pub(crate) fn into_board(self) -> Board<'h>
+        ensures { result.streams ≡ self.entry.board }
+    {
+        let Deal { board, .. } = self;
+        board
+    }
+
+    /// A snapshot is opened on a stream of the board.
+    pub(crate) fn open_snapshot(&mut self, alloc: Global, s: u8, group: u32) -> Result<(), Refusal>
+        ensures { IsBoardStep self.old s (open_at group) (answered (λ _. answers.Answer.Opened group) result) self.new }
+    {
+        let result = self.board.open_snapshot(alloc, s, group);
+        self.board.is_lawful();
+        result
+    }
+
+    /// Rows are copied out of the snapshot of a stream of the board.
+    pub(crate) fn copy_chunk(&mut self, alloc: Global, s: u8, c: u32) -> Result<Copied, Refusal>
+        ensures { IsBoardStep self.old s (copy_rows c) (answered answers.Answer.Copied result) self.new }
+    {
+        let result = self.board.copy_chunk(alloc, s, c);
+        self.board.is_lawful();
+        result
+    }
+
+    /// The snapshot of a stream of the board is closed. Takes no memory.
+    pub(crate) fn close_snapshot(&mut self, s: u8) -> Result<(), Refusal>
+        ensures { IsBoardStep self.old s close (answered (λ _. answers.Answer.Closed) result) self.new }
+    {
+        let result = self.board.close_snapshot(s);
+        self.board.is_lawful();
+        result
+    }
+
+    /// A stream of the board starts again behind its applied group. Takes no memory.
+    pub(crate) fn restart(&mut self, s: u8) -> Result<u32, Refusal>
+        ensures { IsBoardStep self.old s restart (answered answers.Answer.Restarted result) self.new }
+    {
+        let result = self.board.restart(s);
+        self.board.is_lawful();
+        result
+    }
+}

@@ -1,0 +1,109 @@
+//! Sharing a board.
+
+ghost use Rattle.std.specs.Prelude.{◌≡◌, ℕ, ◌<◌, ◌≤◌, [], IsSome, IfOk, IfErr, length, vec_len};
+ghost use Rattle.std.specs.Vec.{vec_capacity};
+ghost use Rattle.crossbeam_channel.specs.Claims.{view, IsSeatAt};
+ghost use Rattle.crossbeam_channel.specs.Ends.{sends_on};
+ghost use Rattle.stream_worker.specs.Knowing.{state_seen};
+ghost use Rattle.stream_worker.specs.Seats.{IsOpener};
+
+use crate::deal::Deal;
+use crate::lock::{Lock, LockPass};
+use crate::seat::Seat;
+use crate::shared::Shared;
+use apply_core::Board;
+use std::alloc::Global;
+use std::sync::Wait;
+
+/// A growth was refused, so the board isn't shared: it is handed back as it was.
+#[derive(Drop)]
+pub struct OpenRefusal<'h> {
+    /// the board
+    pub board: Board<'h>,
+}
+
+impl<'h> Shared<'h> {
+    ghost use Rattle.stream_worker.specs.SeatOf.{seat_state, IsSeatOf, AreSeatsOf, AreStatesSeen, IsOpened};
+
+    /// The seat of stream `k`, where `k` seats are given out: the count of seats is looked at, and the seat
+    /// is claimed by counting it.
+    fn seat<R: Wait>(&self, rt: &R, opener: &mut LockPass<'h>, k: u8) -> Seat<'h>
+        requires pass { IsSeatAt (sends_on self.now.lock.sender) opener.old }
+        requires opened { IsOpener (view opener.old) }
+        requires there { IsSome (state_seen (view opener.old) k) }
+        requires few { k < 64 }
+        ensures opener { IsSeatAt (sends_on self.now.lock.sender) opener.new × (view opener.new ≡ view opener.old) }
+        ensures seat { IsSeatOf self.now result × (result.stream ≡ k) }
+        ensures state { seat_state result ≡ state_seen (view opener.old) k }
+    {
+        for _ in rt.forever() {
+            let mut pass = self.lock.pass(opener);
+            let mut deal = self.lock.take(rt, &mut pass);
+            if deal.given() == k {
+                deal.count();
+                let cursor = deal.cursor(k);
+                self.lock.put_back(rt, &mut pass, deal);
+                return Seat {
+                    stream: k,
+                    cursor,
+                    pass,
+                };
+            }
+            self.lock.put_back(rt, &mut pass, deal);
+        }
+        unreachable!()
+    }
+
+    /// The seats of so many streams, in order, in a vector with room for them.
+    fn seats<R: Wait>(
+        &self,
+        rt: &R,
+        mut opener: LockPass<'h>,
+        n: u8,
+        mut seats: Vec<Seat<'h>>,
+    ) -> Vec<Seat<'h>>
+        requires pass { IsSeatAt (sends_on self.now.lock.sender) opener }
+        requires opened { IsOpener (view opener) }
+        requires there { (k : ℕ) → k < n → IsSome (state_seen (view opener) k) }
+        requires few { n ≤ 64 }
+        requires room { (seats.items ≡ []) × (vec_len seats ≡ 0) × (n ≤ vec_capacity seats) }
+        ensures count { length result.items ≡ n }
+        ensures seats { AreSeatsOf self.now result.items }
+        ensures states { AreStatesSeen result.items (view opener.entry) }
+    {
+        let mut k = 0;
+        while k < n {
+            let seat = self.seat(rt, &mut opener, k);
+            match seats.push(seat) {
+                Ok(()) => {}
+                Err(_) => unreachable!(),
+            }
+            k += 1;
+        }
+        seats
+    }
+
+    /// Shares a board: the answer has a seat for each stream, in the order of the streams, and each knows its
+    /// stream's state. A refusal, where a growth was refused, hands the board back.
+    pub fn open<R: Wait>(
+        alloc: Global,
+        rt: &R,
+        board: Board<'h>,
+    ) -> Result<(Shared<'h>, Vec<Seat<'h>>), OpenRefusal<'h>>
+        ensures opened { IfOk result (λ opened. IsOpened board.entry.streams opened.0 opened.1.items) }
+        ensures refused { IfErr result (λ refusal. refusal.board ≡ board.entry) }
+    {
+        board.is_lawful();
+        let n = board.len();
+        let Ok(seats) = Vec::with_capacity(alloc, n) else {
+            return Err(OpenRefusal { board });
+        };
+        let Ok((lock, mut opener)) = Lock::new(alloc) else {
+            return Err(OpenRefusal { board });
+        };
+        lock.put_back(rt, &mut opener, Deal::new(board));
+        let shared = Shared { lock };
+        let seats = shared.seats(rt, opener, n as u8, seats);
+        Ok((shared, seats))
+    }
+}

@@ -1,0 +1,157 @@
+//! The shared board, and the calls of its seats.
+
+ghost use Rattle.std.specs.Prelude.{◌≡◌, IfOk, IsSomeAnd};
+ghost use Rattle.std.specs.Arc.{arc_value};
+ghost use Rattle.board_laws.specs.declared.answer.Answer as answers;
+ghost use Rattle.board_laws.specs.Cut.{cut_of};
+ghost use Rattle.board_laws.specs.Event.{offer, advance, open_at, copy_rows, close, restart};
+ghost use Rattle.board_laws.specs.Step.{answered};
+ghost use Rattle.stream_worker.specs.Seats.{IsSeatStep, IsReceiptOf};
+
+use crate::lock::Lock;
+use crate::receipt::Receipt;
+use crate::seat::Seat;
+use apply_core::{Copied, Offered, Refusal};
+use pk_copy::Key;
+use row_view::RowBuf;
+use source_feed::Prepared;
+use std::alloc::{AllocError, Global};
+use std::sync::{Arc, Wait};
+
+/// A board that threads share: each has a seat, with a stream of its own. It lies in a lock, and every call
+/// of a seat takes it, makes one step on it and puts it back.
+#[derive(Drop)]
+pub struct Shared<'h> {
+    pub(crate) lock: Lock<'h>,
+}
+
+impl<'h> Shared<'h> {
+    ghost use Rattle.stream_worker.specs.SeatOf.{known, seat_state, IsSeatOf};
+
+    /// A group is offered to the seat's stream: it is read, or was read before. Refused as the board's
+    /// call of this name, on the seat's own state.
+    pub fn offer<R: Wait>(
+        &self,
+        alloc: Global,
+        rt: &R,
+        seat: &mut Seat<'h>,
+        group: Arc<Prepared<'h>>,
+    ) -> Result<Offered, Refusal>
+        requires { IsSeatOf self.now seat.old }
+        ensures seat { IsSeatOf self.now seat.new × (seat.new.stream ≡ seat.old.stream) }
+        ensures step { IsSeatStep (known seat.old) seat.old.stream (offer (arc_value group.entry)) (answered answers.Answer.Offered result) (known seat.new) }
+    {
+        let mut deal = self.lock.take(rt, &mut seat.pass);
+        let result = deal.offer(alloc, seat.stream, group);
+        seat.cursor = deal.cursor(seat.stream);
+        self.lock.put_back(rt, &mut seat.pass, deal);
+        result
+    }
+
+    /// The next group of the seat's stream is applied, with its rows; the answer is its receipt. Refused as the
+    /// board's call of this name, on the seat's own state.
+    pub fn advance<R: Wait>(
+        &self,
+        alloc: Global,
+        rt: &R,
+        seat: &mut Seat<'h>,
+    ) -> Result<Receipt<'h>, Refusal>
+        requires { IsSeatOf self.now seat.old }
+        ensures seat { IsSeatOf self.now seat.new × (seat.new.stream ≡ seat.old.stream) }
+        ensures step { IsSeatStep (known seat.old) seat.old.stream advance (answered (λ receipt. answers.Answer.Applied receipt.number) result) (known seat.new) }
+        ensures receipt { IfOk result (λ receipt. IsSomeAnd (seat_state seat.new) (λ state. IsReceiptOf seat.new.stream state receipt.stream receipt.number (arc_value receipt.group))) }
+    {
+        let mut deal = self.lock.take(rt, &mut seat.pass);
+        let result = deal.advance(alloc, seat.stream);
+        seat.cursor = deal.cursor(seat.stream);
+        self.lock.put_back(rt, &mut seat.pass, deal);
+        result
+    }
+
+    /// The seat's applied number, and the row of its stream at a key, in memory of its own. It changes nothing.
+    /// An error is want of memory.
+    pub fn look<R: Wait>(
+        &self,
+        alloc: Global,
+        rt: &R,
+        seat: &mut Seat<'h>,
+        key: &Key,
+    ) -> Result<(u32, Option<RowBuf>), AllocError>
+        requires { IsSeatOf self.now seat.old }
+        ensures seat { IsSeatOf self.now seat.new × (seat.new.stream ≡ seat.old.stream) }
+        ensures state { seat_state seat.new ≡ seat_state seat.old }
+        ensures row { IfOk result (λ found. IsSomeAnd (seat_state seat.new) (λ state. (found.0 ≡ state.applied) × (found.1 ≡ cut_of state key.now))) }
+    {
+        let deal = self.lock.take(rt, &mut seat.pass);
+        let row = deal.own_row(alloc, seat.stream, key);
+        self.lock.put_back(rt, &mut seat.pass, deal);
+        let row = row?;
+        Ok((seat.cursor.applied(), row))
+    }
+
+    /// A snapshot is opened on the seat's stream. Refused as the board's call of this name, on the seat's
+    /// own state.
+    pub fn open_snapshot<R: Wait>(
+        &self,
+        alloc: Global,
+        rt: &R,
+        seat: &mut Seat<'h>,
+        group: u32,
+    ) -> Result<(), Refusal>
+        requires { IsSeatOf self.now seat.old }
+        ensures seat { IsSeatOf self.now seat.new × (seat.new.stream ≡ seat.old.stream) }
+        ensures step { IsSeatStep (known seat.old) seat.old.stream (open_at group) (answered (λ _. answers.Answer.Opened group) result) (known seat.new) }
+    {
+        let mut deal = self.lock.take(rt, &mut seat.pass);
+        let result = deal.open_snapshot(alloc, seat.stream, group);
+        seat.cursor = deal.cursor(seat.stream);
+        self.lock.put_back(rt, &mut seat.pass, deal);
+        result
+    }
+
+    /// Up to `c` rows are copied out of the snapshot of the seat's stream. Refused as the board's call of this
+    /// name, on the seat's own state.
+    pub fn copy_chunk<R: Wait>(
+        &self,
+        alloc: Global,
+        rt: &R,
+        seat: &mut Seat<'h>,
+        c: u32,
+    ) -> Result<Copied, Refusal>
+        requires { IsSeatOf self.now seat.old }
+        ensures seat { IsSeatOf self.now seat.new × (seat.new.stream ≡ seat.old.stream) }
+        ensures step { IsSeatStep (known seat.old) seat.old.stream (copy_rows c) (answered answers.Answer.Copied result) (known seat.new) }
+    {
+        let mut deal = self.lock.take(rt, &mut seat.pass);
+        let result = deal.copy_chunk(alloc, seat.stream, c);
+        seat.cursor = deal.cursor(seat.stream);
+        self.lock.put_back(rt, &mut seat.pass, deal);
+        result
+    }
+
+    /// The snapshot of the seat's stream is closed. Refused 108, on the seat's own state. Takes no memory.
+    pub fn close_snapshot<R: Wait>(&self, rt: &R, seat: &mut Seat<'h>) -> Result<(), Refusal>
+        requires { IsSeatOf self.now seat.old }
+        ensures seat { IsSeatOf self.now seat.new × (seat.new.stream ≡ seat.old.stream) }
+        ensures step { IsSeatStep (known seat.old) seat.old.stream close (answered (λ _. answers.Answer.Closed) result) (known seat.new) }
+    {
+        let mut deal = self.lock.take(rt, &mut seat.pass);
+        let result = deal.close_snapshot(seat.stream);
+        seat.cursor = deal.cursor(seat.stream);
+        self.lock.put_back(rt, &mut seat.pass, deal);
+        result
+    }
+
+    /// The seat's stream starts again behind its applied group, whose number is the answer. Takes no memory.
+    pub fn restart<R: Wait>(&self, rt: &R, seat: &mut Seat<'h>) -> Result<u32, Refusal>
+        requires { IsSeatOf self.now seat.old }
+        ensures seat { IsSeatOf self.now seat.new × (seat.new.stream ≡ seat.old.stream) }
+        ensures step { IsSeatStep (known seat.old) seat.old.stream restart (answered answers.Answer.Restarted result) (known seat.new) }
+    {
+        let mut deal = self.lock.take(rt, &mut seat.pass);
+        let result = deal.restart(seat.stream);
+        seat.cursor = deal.cursor(seat.stream);
+        self.lock.put_back(rt, &mut seat.pass, deal);
+        result
+    }
+}
