@@ -1,4 +1,5 @@
-//! Tests of the crates that the board stands on: keys and copy marks, the step table, the staged map, and rows with their dump.
+//! Tests of the board and of the crates that it stands on: keys and copy marks, the step table, the staged
+//! map, rows with their dump, and lists of steps on several streams.
 #![tactic(auto)]
 
 #[cfg(test)]
@@ -11,6 +12,12 @@ mod keys;
 mod lastpk;
 #[cfg(test)]
 mod marks;
+#[cfg(test)]
+mod schedule_feeds;
+#[cfg(test)]
+mod schedules;
+#[cfg(test)]
+mod slow;
 #[cfg(test)]
 mod steps;
 #[cfg(test)]
