@@ -7,3 +7,6 @@ pub mod ApplyLaws
 pub mod CopyLaws
 pub mod ScheduleLaws
 pub mod ShowLaws
+pub mod TogetherLaws
+pub mod BesideLaws
+pub mod JoinLaws

@@ -4,3 +4,5 @@ pub mod Chunks
 pub mod Place
 pub mod StreamState
 pub mod StreamStep
+pub mod Beside
+pub mod Together

@@ -2,12 +2,14 @@
 #![tactic(auto)]
 
 mod applying;
+mod beside;
 mod board;
 mod bringing;
 mod clashing;
 mod cloning;
 mod copying;
 mod fresh;
+mod joining;
 mod one_step;
 mod place;
 mod puts;
@@ -16,7 +18,10 @@ mod showing;
 mod steps;
 mod stream;
 mod taking;
+mod together;
 
 pub use board::Board;
 pub use board_laws::{Answer, Copied, Offered, Refusal, StepRefusal};
+pub use join_laws::JoinFault;
+pub use joining::{JoinRefusal, join};
 pub use schedule::run_schedule;

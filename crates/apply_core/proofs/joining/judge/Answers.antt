@@ -1,0 +1,7 @@
+use Rattle.std.proofs.Common.{refl, sym, subst}
+use Rattle.std.specs.Prelude.{IsTrue}
+use Rattle.join_laws.proofs.Pairs.{same_plan}
+use Rattle.apply_core.proofs.joining.judge.Goals as goal
+
+pub first_stream_not-requires-in-None-clause-premise : goal.first_stream_not-requires-in-None-clause-premise
+first_stream_not-requires-in-None-clause-premise c = same_plan c.args.a.now.streams c.args.b.now.streams (c.have_same_plans.ensures.0 (subst IsTrue (sym c.if-not-have_same_plans.false) refl))

@@ -1,0 +1,47 @@
+-- Streams that are put together over one target, in order.
+use Rattle.std.specs.Prelude.{◌≡◌, List, Option, length}
+use Rattle.pk_copy.specs.KeyOrder.{key_cmp}
+use Rattle.pk_copy.specs.KeyValue.{KeyValue}
+use Rattle.target_tables.specs.Touches.{last_at, IsLeastClash}
+use Rattle.source_feed.specs.History.{RowValue}
+use Rattle.board_laws.specs.Meaning.{State, TargetRows, Meaning}
+use Rattle.board_laws.specs.Step.{due_at}
+use Rattle.join_laws.specs.declared.fault.JoinFault.{JoinFault}
+use Rattle.join_laws.specs.declared.fault.JoinFault.TheVariants.{WrongPlan, NotRunning, HistoriesDiffer, OwnedByOther, Memory}
+use Rattle.join_laws.specs.Chosen.{all_chosen}
+use Rattle.join_laws.specs.Joined.{rows_from}
+use Rattle.join_laws.specs.Compatible.{AreApart, AreCompatible}
+use Rattle.join_laws.specs.Refused.{IsFirstClash}
+use Rattle.apply_core.specs.declared.joining.Source.{Source}
+use Rattle.apply_core.specs.declared.joining.Source.TheVariants.{First, Second, Both}
+
+-- the rows are those of the cuts of these streams, which share no key
+pub record AreTogether (states : List State) (rows : TargetRows) : Type 0 where
+  pub apart : AreApart states
+  pub target : rows ≡ rows_from 0 states
+
+-- puts are the rows of a stream's cut
+abbrev pub ArePutsOfCut : State → List (KeyValue × Option RowValue) → Type 0
+ArePutsOfCut state puts = (key : KeyValue) → last_at key_cmp puts key ≡ due_at state key
+
+-- the next stream isn't put to these: at the least key a lower one has a row; or want of memory
+abbrev pub IsNotPut : List State → State → JoinFault → Type 0
+IsNotPut lower state (OwnedByOther key owner) = IsLeastClash key_cmp (rows_from 0 lower) (length lower) (due_at state) key owner
+IsNotPut lower state Memory = Unit {0}
+IsNotPut lower state WrongPlan = ⊥
+IsNotPut lower state (NotRunning s) = ⊥
+IsNotPut lower state (HistoriesDiffer s) = ⊥
+
+-- the streams aren't put together
+abbrev pub AreNotTogether : List State → JoinFault → Type 0
+AreNotTogether states (OwnedByOther key owner) = IsFirstClash states key owner
+AreNotTogether states Memory = Unit {0}
+AreNotTogether states WrongPlan = ⊥
+AreNotTogether states (NotRunning s) = ⊥
+AreNotTogether states (HistoriesDiffer s) = ⊥
+
+-- where the streams of a join come from: all from one of the boards, or from both, with the rows
+abbrev pub IsSource : Meaning → Meaning → Source → Type 0
+IsSource a b First = AreCompatible a b × (all_chosen a.streams b.streams ≡ a.streams)
+IsSource a b Second = AreCompatible a b × (all_chosen a.streams b.streams ≡ b.streams)
+IsSource a b (Both rows) = AreCompatible a b × (rows.entries ≡ rows_from 0 (all_chosen a.streams b.streams))

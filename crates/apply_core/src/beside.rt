@@ -1,0 +1,114 @@
+//! The streams of two boards side by side: what a join asks of them, and which of two states is further on.
+
+ghost use Rattle.std.specs.Prelude.{◌≡◌, ◌↔◌, ◌≤◌, length, map, IsTrue, MatchOption};
+ghost use Rattle.std.specs.Ordering.{is_lt};
+ghost use Rattle.std.specs.Arc.{arc_value};
+ghost use Rattle.join_laws.specs.Order.{state_cmp, IsRunning};
+ghost use Rattle.join_laws.specs.Compatible.{OfEachStream, AreRunning, AreOfOneHistory};
+ghost use Rattle.join_laws.specs.Refused.{IsFirstNot};
+ghost use Rattle.apply_core.specs.Private.Beside.{AreSameGroups, Premise, Passes};
+
+use crate::stream::Stream;
+use join_laws::states_are_ordered;
+use source_feed::Prepared;
+use std::sync::Arc;
+
+/// What is asked of the two states of each stream.
+#[derive(Clone, Copy)]
+pub(crate) enum Test {
+    /// They are of one plan.
+    OnePlan,
+    /// All tables are copied in both.
+    Running,
+    /// One read list is a beginning of the other.
+    OneHistory,
+    /// The second isn't further on than the first.
+    NoFurther,
+}
+
+/// The first groups of a list are the same as all of another one, by number, position and touches.
+fn begins(front: &[Arc<Prepared<'_>>], whole: &[Arc<Prepared<'_>>]) -> bool
+    ensures { IsTrue result ↔ AreSameGroups (map arc_value front.now) (map arc_value whole.now) }
+{
+    if front.len() > whole.len() {
+        return false;
+    }
+    let mut i = 0;
+    while i < front.len() {
+        if !front[i].same(&whole[i]) {
+            return false;
+        }
+        i += 1;
+    }
+    true
+}
+
+impl<'h> Stream<'h> {
+    /// The other stream is of the same plan. Takes no memory.
+    fn has_plan_of(&self, other: &Stream<'_>) -> bool
+        ensures { IsTrue result ↔ (self.now.plan ≡ other.now.plan) }
+    {
+        self.plan.same(&other.plan)
+    }
+
+    /// All tables are copied. Takes no memory.
+    fn is_running(&self) -> bool
+        ensures { IsTrue result ↔ IsRunning self.now }
+    {
+        self.marks.done() == self.marks.tables()
+    }
+
+    /// The other state of this stream is further on: more groups are applied, or as many and more are read.
+    /// Takes no memory.
+    pub(crate) fn is_behind(&self, other: &Stream<'_>) -> bool
+        requires plan { self.now.plan ≡ other.now.plan }
+        requires running { AreRunning self.now other.now }
+        ensures { result ≡ is_lt (state_cmp self.now other.now) }
+    {
+        states_are_ordered();
+        self.is_sound();
+        other.is_sound();
+        self.applied < other.applied
+            || (self.applied == other.applied && self.list.len() < other.list.len())
+    }
+
+    /// One of the two read lists is a beginning of the other. Takes no memory.
+    fn shares_history_with(&self, other: &Stream<'_>) -> bool
+        requires { self.now.plan ≡ other.now.plan }
+        ensures { IsTrue result ↔ AreOfOneHistory self.now other.now }
+    {
+        self.is_sound();
+        other.is_sound();
+        begins(&self.list, &other.list) || begins(&other.list, &self.list)
+    }
+}
+
+/// Whether two states of a stream pass a test. Takes no memory.
+fn passes(test: Test, x: &Stream<'_>, y: &Stream<'_>) -> bool
+    requires { Premise test x.now y.now }
+    ensures { IsTrue result ↔ Passes test x.now y.now }
+{
+    match test {
+        Test::OnePlan => x.has_plan_of(y),
+        Test::Running => x.is_running() && y.is_running(),
+        Test::OneHistory => x.shares_history_with(y),
+        Test::NoFurther => !x.is_behind(y),
+    }
+}
+
+/// The first stream whose two states don't pass a test, if any. Takes no memory.
+pub(crate) fn first_not(test: Test, a: &[Stream<'_>], b: &[Stream<'_>]) -> Option<u8>
+    requires few { length a.now ≤ 64 }
+    requires both { length a.now ≡ length b.now }
+    requires premise { OfEachStream (Premise test) a.now b.now }
+    ensures { MatchOption result (OfEachStream (Passes test) a.now b.now) (IsFirstNot (Passes test) a.now b.now) }
+{
+    let mut s = 0;
+    while s < a.len() {
+        if !passes(test, &a[s], &b[s]) {
+            return Some(s as u8);
+        }
+        s += 1;
+    }
+    None
+}

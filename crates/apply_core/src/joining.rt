@@ -1,0 +1,171 @@
+//! Two boards joined to one.
+
+ghost use Rattle.std.specs.Prelude.{◌≡◌, ◌↔◌, length, IfOk, IfErr, OnOk, IsTrue, MatchOption};
+ghost use Rattle.join_laws.specs.Chosen.{chosen, all_chosen};
+ghost use Rattle.join_laws.specs.Compatible.{plans_of, OfEachStream, AreRunning, AreCompatible};
+ghost use Rattle.join_laws.specs.Joined.{joined};
+ghost use Rattle.join_laws.specs.Refused.{IsFirstNot, IsRefusedJoin};
+ghost use Rattle.apply_core.specs.Private.Beside.{plans_in, Premise, Passes, AreAlike};
+ghost use Rattle.apply_core.specs.Private.Together.{IsSource};
+
+use crate::beside::{Test, first_not};
+use crate::board::Board;
+use crate::stream::Stream;
+use crate::together::joined_rows;
+use join_laws::{JoinFault, joined_boards_are_lawful};
+use pk_copy::{Key, keys_tie_where_they_are_equal};
+use row_view::RowBuf;
+use std::alloc::Global;
+use std::mem::swap;
+use target_tables::Tables;
+
+/// Two boards that aren't joined, as they were, and why.
+#[derive(Drop)]
+pub struct JoinRefusal<'h> {
+    pub why: JoinFault,
+    pub a: Board<'h>,
+    pub b: Board<'h>,
+}
+
+/// Where the streams of a join come from.
+#[derive(Drop)]
+pub(crate) enum Source {
+    /// All from the first board.
+    First,
+    /// All from the second board.
+    Second,
+    /// From both, with the rows of the further states.
+    Both(Tables<Key, RowBuf>),
+}
+
+/// The first stream whose states on the two boards don't pass a test, if any. Takes no memory.
+fn first_stream_not(test: Test, a: &Board<'_>, b: &Board<'_>) -> Option<u8>
+    requires both { length a.now.streams ≡ length b.now.streams }
+    requires premise { OfEachStream (Premise test) a.now.streams b.now.streams }
+    ensures { MatchOption result (OfEachStream (Passes test) a.now.streams b.now.streams) (IsFirstNot (Passes test) a.now.streams b.now.streams) }
+{
+    first_not(test, &a.streams, &b.streams)
+}
+
+/// Whether the boards have the same plans. Takes no memory.
+fn have_same_plans(a: &Board<'_>, b: &Board<'_>) -> bool
+    ensures { IsTrue result ↔ (plans_of a.now ≡ plans_of b.now) }
+{
+    if a.len() != b.len() {
+        return false;
+    }
+    match first_stream_not(Test::OnePlan, a, b) {
+        None => true,
+        Some(_) => false,
+    }
+}
+
+/// What a join asks of the streams, rows aside: their plans are the same, all tables are copied, and of each
+/// stream one read list is a beginning of the other. Takes no memory.
+fn judge(a: &Board<'_>, b: &Board<'_>) -> Result<(), JoinFault>
+    ensures ok { OnOk result (AreAlike a.now b.now) }
+    ensures err { IfErr result (IsRefusedJoin a.now b.now) }
+{
+    if !have_same_plans(a, b) {
+        return Err(JoinFault::WrongPlan);
+    }
+    match first_stream_not(Test::Running, a, b) {
+        Some(s) => Err(JoinFault::NotRunning(s)),
+        None => match first_stream_not(Test::OneHistory, a, b) {
+            Some(s) => Err(JoinFault::HistoriesDiffer(s)),
+            None => Ok(()),
+        },
+    }
+}
+
+/// No stream is further on in the second board than in the first. Takes no memory.
+fn holds_all(a: &Board<'_>, b: &Board<'_>) -> bool
+    requires { AreAlike a.now b.now }
+    ensures { IsTrue result → all_chosen a.now.streams b.now.streams ≡ a.now.streams }
+{
+    match first_stream_not(Test::NoFurther, a, b) {
+        None => true,
+        Some(_) => false,
+    }
+}
+
+/// Where the streams of a join come from, or why the boards aren't joined.
+#[tactic(auto, using(crate::proofs::JoinLaws::turned))]
+fn find_source(alloc: Global, a: &Board<'_>, b: &Board<'_>) -> Result<Source, JoinFault>
+    ensures ok { IfOk result (IsSource a.now b.now) }
+    ensures err { IfErr result (IsRefusedJoin a.now b.now) }
+{
+    keys_tie_where_they_are_equal();
+    joined_boards_are_lawful();
+    a.is_lawful();
+    b.is_lawful();
+    match judge(a, b) {
+        Err(fault) => Err(fault),
+        Ok(()) => {
+            if holds_all(a, b) {
+                return Ok(Source::First);
+            }
+            if holds_all(b, a) {
+                return Ok(Source::Second);
+            }
+            match joined_rows(alloc, a, b) {
+                Err(fault) => Err(fault),
+                Ok(rows) => Ok(Source::Both(rows)),
+            }
+        }
+    }
+}
+
+/// The first state is the one of the two that is further on. Takes no memory.
+fn keep_further<'h>(x: &mut Stream<'h>, y: &mut Stream<'h>)
+    requires plan { x.old.plan ≡ y.old.plan }
+    requires running { AreRunning x.old y.old }
+    ensures { x.new ≡ chosen x.old y.old }
+{
+    if x.is_behind(y) {
+        swap(x, y);
+    }
+}
+
+/// The first list has of each stream the state that is further on. Takes no memory.
+fn keep_all_further<'h>(a: &mut [Stream<'h>], b: &mut [Stream<'h>])
+    requires plans { plans_in a.old ≡ plans_in b.old }
+    requires running { OfEachStream AreRunning a.old b.old }
+    ensures { a.new ≡ all_chosen a.old b.old }
+{
+    let mut s = 0;
+    while s < a.len() {
+        keep_further(&mut a[s], &mut b[s]);
+        s += 1;
+    }
+}
+
+/// Two boards over the same target joined to one: each stream's read list, position and rows come from the
+/// board that has applied more of its groups, at equal numbers from the one that has read more.
+///
+/// Refused 111 where the plans differ; 114 for the least stream with a table that isn't copied; 113 for the
+/// least stream of which neither read list is a beginning of the other; 71 where two streams then have a row
+/// at one key: for the first stream that meets a lower one, its least such key and the lower stream; 72 for
+/// want of memory. A refusal hands both boards back as they were. Where all streams come from one board it
+/// is the answer as it stands; else the rows of the answer are copied.
+pub fn join<'h>(alloc: Global, a: Board<'h>, b: Board<'h>) -> Result<Board<'h>, JoinRefusal<'h>>
+    ensures joined { IfOk result (λ board. AreCompatible a.entry b.entry × (board ≡ joined a.entry b.entry)) }
+    ensures refused { IfErr result (λ refusal. IsRefusedJoin a.entry b.entry refusal.why) }
+    ensures handed_back { IfErr result (λ refusal. (refusal.a ≡ a.entry) × (refusal.b ≡ b.entry)) }
+{
+    keys_tie_where_they_are_equal();
+    joined_boards_are_lawful();
+    a.is_lawful();
+    b.is_lawful();
+    match find_source(alloc, &a, &b) {
+        Err(why) => Err(JoinRefusal { why, a, b }),
+        Ok(Source::First) => Ok(a),
+        Ok(Source::Second) => Ok(b),
+        Ok(Source::Both(rows)) => {
+            let mut streams = a.streams;
+            let mut others = b.streams;
+            keep_all_further(&mut streams, &mut others);
+            Ok(Board { streams, rows })
+        }
+    }
+}
