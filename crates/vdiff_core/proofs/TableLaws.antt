@@ -27,7 +27,7 @@ lesser_table a b (inl lt) e =
     let all : key_cmp a b ≡ Greater = ap (λ o. ordering_then o (parts_cmp a.parts b.parts)) (sym greater) in
     cc
 
-table_of_less : (a b : KeyValue) → key_cmp a b ≡ Less → a.table ≤ b.table
+pub table_of_less : (a b : KeyValue) → key_cmp a b ≡ Less → a.table ≤ b.table
 table_of_less a b e = lesser_table a b (cases_lt b.table a.table) e
 
 -- rows behind a row are of its table or of one behind

@@ -4,3 +4,5 @@ pub mod Cells
 pub mod Dump
 pub mod Private
 pub mod Report
+pub mod DumpReading
+pub mod DumpFaults

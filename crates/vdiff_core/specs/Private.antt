@@ -1,3 +1,4 @@
 -- What private code alone needs.
 pub mod Progress
 pub mod Tables
+pub mod Reading

@@ -4,9 +4,12 @@
 mod cells;
 mod dump;
 mod gathered;
+mod line_fault;
 mod places;
 mod put;
+mod reading;
 mod report;
+mod row_cells;
 mod rows;
 mod writer;
 
@@ -14,6 +17,7 @@ pub use cells::{add_cell, add_cells};
 pub use dump::write_dump;
 pub use gathered::Gathered;
 pub use put::put_all;
+pub use reading::{DumpFault, read_dump};
 pub use report::{Report, compare, first_difference};
 pub use rows::Rows;
 pub use writer::{Out, OutFailed, Writer};

@@ -1,0 +1,76 @@
+use Rattle.std.proofs.Common.{◌≡◌, ◌<◌, ◌≤◌, ◌∙◌, ℕ, length, ap, sym, subst, arith, inl, Ok, Err}
+use Rattle.vdiff_core.specs.declared.reading.DumpFault.TheVariants.{BadDump}
+use Rattle.vdiff_core.specs.DumpReading.{Behind, IsDump, IsFirstBad}
+use Rattle.vdiff_core.specs.RowsValue.{RowsValue}
+use Rattle.vdiff_core.proofs.StandLaws.{bad_line, missing_line, read_all, read_more, no_dump, one_bad, dumps_determine, is_zero, is_more}
+use Rattle.vdiff_core.proofs.reading.read_dump.Goals as goal
+
+pub loop-rest-preserved : goal.loop-rest-preserved
+loop-rest-preserved c = read_more _ _ _ _ _ _ _ c.loop-rest.invariant c.in-Ok.ensures.taken
+
+pub returns-in-Err-Bad-clause-only : goal.returns-in-Err-Bad-clause-only
+returns-in-Err-Bad-clause-only c =
+    let bad = bad_line _ _ _ _ _ c.loop-rest.invariant (c.in-Err-Bad.ensures.bad (ap Err c.in-Err-Bad.field-0-is)) (is_more _ _ c.is_empty.ensures c.loop-rest-test.true) in
+    λ rows dump. absurd (no_dump _ _ _ _ bad dump)
+
+pub returns-in-Err-Bad-clause-bad : goal.returns-in-Err-Bad-clause-bad
+returns-in-Err-Bad-clause-bad c =
+    let bad = bad_line _ _ _ _ _ c.loop-rest.invariant (c.in-Err-Bad.ensures.bad (ap Err c.in-Err-Bad.field-0-is)) (is_more _ _ c.is_empty.ensures c.loop-rest-test.true) in
+    λ n e.
+    let is : c.loop-rest.line ≡ n = cc in
+    subst (IsFirstBad c.args.plan.now c.args.bytes.now) is bad
+
+pub returns-in-Err-Bad-clause-first : goal.returns-in-Err-Bad-clause-first
+returns-in-Err-Bad-clause-first c =
+    let bad = bad_line _ _ _ _ _ c.loop-rest.invariant (c.in-Err-Bad.ensures.bad (ap Err c.in-Err-Bad.field-0-is)) (is_more _ _ c.is_empty.ensures c.loop-rest-test.true) in
+    λ n other. inl (ap (λ (k : ℕ). Err (BadDump k)) (one_bad _ _ _ _ bad other))
+
+pub returns-in-Err-Bad-clause-determined : goal.returns-in-Err-Bad-clause-determined
+returns-in-Err-Bad-clause-determined c = dumps_determine _
+
+pub returns-in-Err-Memory-clause-determined : goal.returns-in-Err-Memory-clause-determined
+returns-in-Err-Memory-clause-determined c = dumps_determine _
+
+pub returns-then-read-tables-clause-determined : goal.returns-then-read-tables-clause-determined
+returns-then-read-tables-clause-determined c = dumps_determine _
+
+pub returns-clause-determined : goal.returns-clause-determined
+returns-clause-determined c = dumps_determine _
+
+pub returns-then-read-tables-clause-only : goal.returns-then-read-tables-clause-only
+returns-then-read-tables-clause-only c =
+    let lt : c.loop-rest.read.begun < length c.args.plan.now.tables = omega (arith, c.if-read-tables.true, ap (λ (s : Behind). s.begun) c.read-2.view_is, ap length c.tables.ensures.tables) in
+    let bad = missing_line _ _ _ _ _ c.loop-rest.invariant (is_zero _ _ c.is_empty.ensures c.loop-rest-test.false) lt in
+    λ rows dump. absurd (no_dump _ _ _ _ bad dump)
+
+pub returns-then-read-tables-clause-bad : goal.returns-then-read-tables-clause-bad
+returns-then-read-tables-clause-bad c =
+    let lt : c.loop-rest.read.begun < length c.args.plan.now.tables = omega (arith, c.if-read-tables.true, ap (λ (s : Behind). s.begun) c.read-2.view_is, ap length c.tables.ensures.tables) in
+    let bad = missing_line _ _ _ _ _ c.loop-rest.invariant (is_zero _ _ c.is_empty.ensures c.loop-rest-test.false) lt in
+    λ n e.
+    let is : c.loop-rest.line ≡ n = cc in
+    subst (IsFirstBad c.args.plan.now c.args.bytes.now) is bad
+
+pub returns-then-read-tables-clause-first : goal.returns-then-read-tables-clause-first
+returns-then-read-tables-clause-first c =
+    let lt : c.loop-rest.read.begun < length c.args.plan.now.tables = omega (arith, c.if-read-tables.true, ap (λ (s : Behind). s.begun) c.read-2.view_is, ap length c.tables.ensures.tables) in
+    let bad = missing_line _ _ _ _ _ c.loop-rest.invariant (is_zero _ _ c.is_empty.ensures c.loop-rest-test.false) lt in
+    λ n other. inl (ap (λ (k : ℕ). Err (BadDump k)) (one_bad _ _ _ _ bad other))
+
+pub returns-clause-ok : goal.returns-clause-ok
+returns-clause-ok c =
+    let all : length c.args.plan.now.tables ≤ c.loop-rest.read.begun = omega (arith, c.if-read-tables.false, ap (λ (s : Behind). s.begun) c.read-2.view_is, ap length c.tables.ensures.tables) in
+    let dump = read_all _ _ _ _ _ c.loop-rest.invariant (is_zero _ _ c.is_empty.ensures c.loop-rest-test.false) all in
+    subst (λ (rows : RowsValue). IsDump c.args.plan.now rows c.args.bytes.now) (sym (ap (λ (s : Behind). s.rows) c.read-2.view_is)) dump
+
+pub returns-clause-only : goal.returns-clause-only
+returns-clause-only c =
+    let all : length c.args.plan.now.tables ≤ c.loop-rest.read.begun = omega (arith, c.if-read-tables.false, ap (λ (s : Behind). s.begun) c.read-2.view_is, ap length c.tables.ensures.tables) in
+    let dump = read_all _ _ _ _ _ c.loop-rest.invariant (is_zero _ _ c.is_empty.ensures c.loop-rest-test.false) all in
+    λ rows other. inl (ap Ok (ap (λ (s : Behind). s.rows) c.read-2.view_is ∙ dumps_determine _ _ _ _ dump other))
+
+pub returns-clause-first : goal.returns-clause-first
+returns-clause-first c =
+    let all : length c.args.plan.now.tables ≤ c.loop-rest.read.begun = omega (arith, c.if-read-tables.false, ap (λ (s : Behind). s.begun) c.read-2.view_is, ap length c.tables.ensures.tables) in
+    let dump = read_all _ _ _ _ _ c.loop-rest.invariant (is_zero _ _ c.is_empty.ensures c.loop-rest-test.false) all in
+    λ n bad. absurd (no_dump _ _ _ _ bad dump)

@@ -1,0 +1,97 @@
+-- Which texts are dumps of a plan's tables, and which line is the first that can't stand in a text that is none
+-- (this profile).
+use Rattle.std.specs.Prelude.{◌≡◌, ℕ, ◌+◌, ◌<◌, ◌⊎◌, List, [], ◌∷◌, ◌++◌, length, slice_get, IfSome, Ok}
+use Rattle.std.specs.List.{AllByRecursion, flat_map}
+use Rattle.std.specs.Option.{option_map_or}
+use Rattle.filter_rule.specs.PlanValue.{PlanValue, columns_of}
+use Rattle.pk_copy.specs.KeyOf.{key_of}
+use Rattle.pk_copy.specs.KeyOrder.{key_cmp}
+use Rattle.pk_copy.specs.KeyValue.{KeyValue}
+use Rattle.row_view.specs.WrittenRow.{IsWithinLimits}
+use Rattle.target_tables.specs.Rising.{IsRising, AreBelow}
+use Rattle.vdiff_core.specs.Dump.{dump_of, row_line, table_line}
+use Rattle.vdiff_core.specs.RowsValue.{RowValue, RowsValue}
+
+-- each value is of bytes
+abbrev pub AreBytes : RowValue → Type 0
+AreBytes row = AllByRecursion (λ column. IfSome column (AllByRecursion (λ byte. byte < 256))) row
+
+-- a row that a dump of the plan's tables can have: of one of them, as wide as it, at the key that its columns
+-- give, and within the limits of a row
+pub record FitsPlan (plan : PlanValue) (row : KeyValue × RowValue) : Type 0 where
+  pub table : row.0.table < length plan.tables
+  pub width : length row.1 ≡ length (columns_of plan row.0.table)
+  pub key : key_of plan row.0.table row.1 ≡ Ok row.0
+  pub limits : IsWithinLimits row.1
+  pub bytes : AreBytes row.1
+
+-- rows that a dump can have: by rising key, and each fits
+pub record AreRowsOf (plan : PlanValue) (rows : RowsValue) : Type 0 where
+  pub rising : IsRising key_cmp rows
+  pub each_row : AllByRecursion (FitsPlan plan) rows
+
+-- the text is the dump of these rows
+pub record IsDump (plan : PlanValue) (rows : RowsValue) (text : List ℕ) : Type 0 where
+  pub rows_of_plan : AreRowsOf plan rows
+  pub is_text : text ≡ dump_of plan rows
+
+-- a dump determines its rows
+abbrev pub DumpsDetermineRows : PlanValue → Type 0
+DumpsDetermineRows plan = (text : List ℕ) (rows others : RowsValue) → IsDump plan rows text → IsDump plan others text → rows ≡ others
+
+-- ---- line by line
+
+-- what stands behind some lines: how many tables have begun, and the rows so far
+pub record Behind : Type 0 where
+  pub begun : ℕ
+  pub rows : RowsValue
+
+abbrev pub name_of : PlanValue → ℕ → List ℕ
+name_of plan t = option_map_or (λ table. table.name) (slice_get plan.tables t) []
+
+-- the line of the next table's name
+pub record BeginsTable (plan : PlanValue) (old new : Behind) (line : List ℕ) : Type 0 where
+  pub more : old.begun < length plan.tables
+  pub is_line : line ≡ table_line (name_of plan old.begun)
+  pub is_new : new ≡ record { begun = old.begun + 1; rows = old.rows }
+
+-- the line of a row of the table that began last, at a greater key than those so far
+pub record AddsRow (plan : PlanValue) (old new : Behind) (line : List ℕ) : Type 0 where
+  pub row : KeyValue × RowValue
+  pub fits : FitsPlan plan row
+  pub begun_last : row.0.table + 1 ≡ old.begun
+  pub above : AreBelow key_cmp row.0 old.rows
+  pub is_line : line ≡ row_line row.1
+  pub is_new : new ≡ record { begun = old.begun; rows = old.rows ++ row ∷ [] }
+
+-- a line, with its end, can stand there
+abbrev pub CanStand : PlanValue → Behind → Behind → List ℕ → Type 0
+CanStand plan old new line = BeginsTable plan old new line ⊎ AddsRow plan old new line
+
+-- lines that can stand one behind the other
+abbrev pub Stand : PlanValue → Behind → List (List ℕ) → Behind → Type 0
+Stand plan old [] new = old ≡ new
+Stand plan old (line ∷ lines) new = (now : Behind) × CanStand plan old now line × Stand plan now lines new
+
+-- no line that can stand there is in front
+abbrev pub NoneStands : PlanValue → Behind → List ℕ → Type 0
+NoneStands plan now rest = (line others : List ℕ) (new : Behind) → rest ≡ line ++ others → CanStand plan now new line → ⊥
+
+abbrev pub joined : List (List ℕ) → List ℕ
+joined lines = flat_map (λ line. line) lines
+
+-- where no line stands yet
+abbrev pub at_front : Behind
+at_front = record { begun = 0; rows = [] }
+
+-- behind n - 1 lines that can stand there, up to this rest, no further line can; the rest isn't the end of a
+-- dump, so line n, counted from 1, can't stand there or is missing
+pub record IsFirstBad (plan : PlanValue) (text : List ℕ) (n : ℕ) : Type 0 where
+  pub lines : List (List ℕ)
+  pub now : Behind
+  pub rest : List ℕ
+  pub parts : text ≡ joined lines ++ rest
+  pub stand : Stand plan at_front lines now
+  pub stops : NoneStands plan now rest
+  pub unfinished : (rest ≡ []) × (now.begun ≡ length plan.tables) → ⊥
+  pub number : n ≡ length lines + 1

@@ -1,0 +1,173 @@
+//! Reading of dumps.
+
+ghost use Rattle.std.specs.Prelude.{◌≡◌, ◌⊎◌, ℕ, ◌+◌, ◌<◌, ◌++◌, IfOk, Ok, Err, length, MatchOption, IfSome, IsErr, List};
+ghost use Rattle.filter_rule.specs.PlanValue.{columns_of};
+ghost use Rattle.pk_copy.specs.KeyOf.{key_of};
+ghost use Rattle.vdiff_core.specs.Dump.{table_line};
+ghost use Rattle.vdiff_core.specs.DumpReading.{IsDump, IsFirstBad, NoneStands, DumpsDetermineRows, name_of};
+ghost use Rattle.vdiff_core.specs.DumpFaults.{number_of};
+ghost use Rattle.vdiff_core.specs.RowsValue.{RowsValue};
+ghost use Rattle.vdiff_core.specs.Private.Reading.{TakesLine, TakesRowLine, NoRowStands};
+
+use crate::line_fault::LineFault;
+use crate::row_cells::take_row;
+use crate::rows::Rows;
+use filter_rule::Plan;
+use pk_copy::{Key, key_of};
+use row_view::RowBuf;
+use std::alloc::Global;
+use std::marker::Model;
+
+/// Why a text isn't read as a dump.
+#[derive(Clone, Copy, Debug, PartialEq, Eq)]
+pub enum DumpFault {
+    /// 121: this line, counted from 1, can't stand there, or is missing where the text ends.
+    BadDump { line: usize },
+    /// 72: a growth of memory was refused.
+    Memory,
+}
+
+/// What stands behind some lines: how many tables have begun, and the rows so far.
+#[derive(Drop)]
+struct DumpRows {
+    begun: usize,
+    rows: Rows,
+}
+
+impl Model for DumpRows {
+    ghost use Rattle.vdiff_core.specs.DumpReading.{Behind};
+
+    ghost Value = { Behind };
+
+    ghost view = { λ r. record { begun = r.begun; rows = r.rows } };
+}
+
+impl DumpFault {
+    /// The number of the fault.
+    pub fn number(&self) -> u8
+        ensures { result ≡ number_of self.now }
+    {
+        match self {
+            DumpFault::BadDump { .. } => 121,
+            DumpFault::Memory => 72,
+        }
+    }
+}
+
+impl DumpRows {
+    /// Takes a line off the front: that of the next table's name, or of a row.
+    fn take_line<'t>(
+        &mut self,
+        alloc: Global,
+        plan: &Plan,
+        text: &'t [u8],
+    ) -> Result<&'t [u8], LineFault>
+        ensures taken { IfOk result (λ rest. TakesLine plan.now self.old self.new text.now rest.now) }
+        ensures bad { result ≡ Err LineFault.Bad → NoneStands plan.now self.old text.now }
+    {
+        if let Some(rest) = behind_table_line(plan, self.begun, text) {
+            self.begun += 1;
+            return Ok(rest);
+        }
+        let rest = self.take_row_line(alloc, plan, text)?;
+        Ok(rest)
+    }
+
+    /// Takes the line of a row off the front, of the table that began last.
+    fn take_row_line<'t>(
+        &mut self,
+        alloc: Global,
+        plan: &Plan,
+        text: &'t [u8],
+    ) -> Result<&'t [u8], LineFault>
+        ensures taken { IfOk result (λ rest. TakesRowLine plan.now self.old self.new text.now rest.now) }
+        ensures bad { result ≡ Err LineFault.Bad → NoRowStands plan.now self.old text.now }
+    {
+        let tables = plan.tables().len();
+        if self.begun == 0 || self.begun > tables {
+            return Err(LineFault::Bad);
+        }
+        let t = (self.begun - 1) as u8;
+        let (row, rest) = take_row(alloc, plan.columns(t).len(), text)?;
+        let key = key_of_row(alloc, plan, t, &row)?;
+        if !self.rows.is_behind_all(&key) {
+            return Err(LineFault::Bad);
+        }
+        self.rows.push(key, row)?;
+        Ok(rest)
+    }
+}
+
+/// The key of a row of table `t`.
+fn key_of_row(alloc: Global, plan: &Plan, t: u8, row: &RowBuf) -> Result<Key, LineFault>
+    requires table { t < length plan.now.tables }
+    requires columns { length row.now ≡ length (columns_of plan.now t) }
+    ensures ok { IfOk result (λ key. (key_of plan.now t row.now ≡ Ok key) × (key.table ≡ t)) }
+    ensures bad { result ≡ Err LineFault.Bad → IsErr (key_of plan.now t row.now) }
+{
+    match key_of(plan, t, &row.view()) {
+        Ok(key) => Ok(Key::from_view(alloc, &key)?),
+        Err(_) => Err(LineFault::Bad),
+    }
+}
+
+/// Reads a dump of the plan's tables: exactly the texts that `write_dump` writes of rows that fit them are
+/// read, and then as these rows. `BadDump` names the first line, from 1, that can't stand behind those
+/// before it: any other than the next table's or a row's of the table that began last, as wide as it, with a
+/// key that can be read and is greater than those so far; where lines are missing, the one behind the last.
+/// A line without its end can't stand there. Linear in the text.
+pub fn read_dump(alloc: Global, plan: &Plan, bytes: &[u8]) -> Result<Rows, DumpFault>
+    ensures ok { IfOk result (λ rows. IsDump plan.now rows bytes.now) }
+    ensures only { (rows : RowsValue) → IsDump plan.now rows bytes.now → (result ≡ Ok rows) ⊎ (result ≡ Err DumpFault.Memory) }
+    ensures bad { (n : ℕ) → (result ≡ Err (DumpFault.BadDump n)) → IsFirstBad plan.now bytes.now n }
+    ensures first { (n : ℕ) → IsFirstBad plan.now bytes.now n → (result ≡ Err (DumpFault.BadDump n)) ⊎ (result ≡ Err DumpFault.Memory) }
+    // A dump determines its rows.
+    ensures determined { DumpsDetermineRows plan.now }
+{
+    let mut read = DumpRows {
+        begun: 0,
+        rows: Rows::new(alloc),
+    };
+    let mut rest = bytes;
+    let mut line: usize = 1;
+    while !rest.is_empty() {
+        match read.take_line(alloc, plan, rest) {
+            Ok(behind) => rest = behind,
+            Err(LineFault::Bad) => return Err(DumpFault::BadDump { line }),
+            Err(LineFault::Memory) => return Err(DumpFault::Memory),
+        }
+        line += 1;
+    }
+    if read.begun < plan.tables().len() {
+        return Err(DumpFault::BadDump { line });
+    }
+    Ok(read.rows)
+}
+
+/// What stands behind the line of a table's name in front.
+fn behind_table_line<'t>(plan: &Plan, t: usize, text: &'t [u8]) -> Option<&'t [u8]>
+    ensures line { MatchOption result
+        (t < length plan.now.tables → (rest : List ℕ) → text.now ≡ table_line (name_of plan.now t) ++ rest → ⊥)
+        (λ rest. (t < length plan.now.tables) × (text.now ≡ table_line (name_of plan.now t) ++ rest.now)) }
+    ensures few { IfSome result (λ rest. t < 64) }
+{
+    let tables = plan.tables();
+    if t >= tables.len() {
+        return None;
+    }
+    let table = &tables[t];
+    let name = behind(text, b"table ")?;
+    let end = behind(name, table.name().as_bytes())?;
+    let rest = behind(end, b"\n")?;
+    Some(rest)
+}
+
+/// What stands behind a text in front.
+fn behind<'t>(text: &'t [u8], front: &[u8]) -> Option<&'t [u8]>
+    ensures { MatchOption result ((rest : List ℕ) → text.now ≡ front.now ++ rest → ⊥) (λ rest. text.now ≡ front.now ++ rest.now) }
+{
+    match text.strip_prefix(front) {
+        Some(rest) => Some(rest),
+        None => None,
+    }
+}
