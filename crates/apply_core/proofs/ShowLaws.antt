@@ -1,5 +1,5 @@
 -- Walks over the entries of a target, and what is copied of them.
-use Rattle.std.proofs.Common.{◌≡◌, ℕ, Bool, true, false, List, [], ◌∷◌, ◌++◌, map, append_assoc, append-nil, sym, ap, subst, ◌∙◌}
+use Rattle.std.proofs.Common.{◌≡◌, ℕ, Bool, List, [], ◌∷◌, ◌++◌, map, append_assoc, append-nil, sym, ap, subst, ◌∙◌}
 use borrow.Author.Tests.{eq-eqb}
 use Rattle.std.proofs.lemmas.Bool.{ne_eqb}
 use Rattle.std.specs.Prelude.{◌==◌, cond}
@@ -13,7 +13,6 @@ use Rattle.target_tables.specs.Contents.{entry}
 use Rattle.target_tables.specs.Rising.{IsRising, AreBelow}
 use Rattle.target_tables.proofs.Order.{before_middle}
 use Rattle.source_feed.specs.History.{RowValue}
-use Rattle.vdiff_core.specs.RowsValue.{RowsValue}
 use Rattle.board_laws.specs.Meaning.{TargetRows}
 use Rattle.board_laws.proofs.Lookups.{all-filter}
 use Rattle.apply_core.specs.Shown.{unowned, all_rows, rows_of}

@@ -1,5 +1,5 @@
 -- What a board shows of its streams and of the rows of its target (this profile).
-use Rattle.std.specs.Prelude.{ℕ, List, take, map, ◌==◌}
+use Rattle.std.specs.Prelude.{ℕ, take, map, ◌==◌}
 use Rattle.std.specs.List.{filter}
 use Rattle.pk_copy.specs.KeyValue.{KeyValue}
 use Rattle.source_feed.specs.GroupValue.{Position}
