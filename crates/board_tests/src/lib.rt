@@ -3,7 +3,15 @@
 #![tactic(auto)]
 
 #[cfg(test)]
+mod boards;
+#[cfg(test)]
+mod copies;
+#[cfg(test)]
 mod dumps;
+#[cfg(test)]
+mod feeds;
+#[cfg(test)]
+mod follow;
 #[cfg(test)]
 mod groups_of_touches;
 #[cfg(test)]
