@@ -8,3 +8,5 @@ mod ScriptLaws
 mod LineLaws
 mod KeyTextLaws
 mod OpenLaws
+mod ScriptRunLaws
+mod StepLaws

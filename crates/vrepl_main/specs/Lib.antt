@@ -26,3 +26,6 @@ pub mod RefusedText
 pub mod Opening
 pub mod Given
 pub mod OpenedFeeds
+pub mod ScriptRun
+pub mod ScriptPrinting
+pub mod Replied

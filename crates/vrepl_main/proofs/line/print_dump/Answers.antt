@@ -1,0 +1,20 @@
+use Rattle.std.proofs.Common.{[], Err}
+use Rattle.std.proofs.lemmas.Result.{err_from_is_err_and}
+use Rattle.vdiff_core.specs.Dump.{dump_of}
+use Rattle.vdiff_core.proofs.PrintLaws.{adds_none_written, first_breaks, prints_adds, then_adds}
+use Rattle.vrepl_main.proofs.AddLaws.{added}
+use Rattle.vrepl_main.proofs.line.print_dump.Goals as goal
+
+pub returns-in_err-finish : goal.returns-in_err-finish
+returns-in_err-finish g c =
+    let p = err_from_is_err_and c.from_residual.result c.from_residual.ensures.1 in
+    rw p.1 (added {X = Unit {0}} (Err p.0) _ c.args.text.now _ _ (dump_of c.args.plan.now c.args.rows.now) (first_breaks _ _ c.args.text.now (dump_of c.args.plan.now c.args.rows.now) c.in_err-finish.ensures.printed))
+
+pub returns : goal.returns
+returns g c =
+    let text = dump_of c.args.plan.now c.args.rows.now in
+    rw c.in_ok-finish.ensures.empty
+    (added c.write_dump.result _ c.args.text.now _ [] text
+    (then_adds c.write_dump.result _ c.args.text.now _ [] _ [] [] text
+    (adds_none_written _ _ c.args.text.now c.in_ok-finish.ensures.printed)
+    (prints_adds c.write_dump.result _ _ text c.write_dump.ensures)))
