@@ -68,8 +68,8 @@ impl<'h> Board<'h> {
     /// One step on stream `s`, where the feeds stand in the order of the streams: an offer prepares the
     /// group of its number of the stream's feed and offers it; any other step is the call of its name.
     ///
-    /// Refused 115 first, where there is no such stream. An offer is refused 91 and 90 where its group can't
-    /// be prepared, and then as `offer`; every other step as its call. A refused step changes nothing.
+    /// Refused 115 first, where there is no feed of its number. An offer is refused 91 and 90 where its
+    /// group can't be prepared, and then as `offer`; every other step as its call. A refused step changes nothing.
     pub fn take_step(
         &mut self,
         alloc: Global,

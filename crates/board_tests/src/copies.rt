@@ -213,8 +213,8 @@ fn two_streams_in_any_order(rt: HostRuntime) -> Result<(), Fail> {
     Ok(())
 }
 
-/// Whether the second stream's next group is refused for the row 1 of the first one, and the second stream has
-/// no rows.
+/// Whether the second stream's next group is refused for the first one's row of key 1, and the second stream
+/// has no rows.
 fn meets_the_least_key(alloc: Global) -> Result<bool, Fail> {
     let one = feed_of(
         alloc,
