@@ -1,13 +1,11 @@
 //! Tests of the board and of the crates that it stands on: keys and copy marks, the step table, the staged
-//! map, rows with their dump, and lists of steps on several streams.
+//! map, and lists of steps on several streams.
 #![tactic(auto)]
 
 #[cfg(test)]
 mod boards;
 #[cfg(test)]
 mod copies;
-#[cfg(test)]
-mod dumps;
 #[cfg(test)]
 mod feeds;
 #[cfg(test)]

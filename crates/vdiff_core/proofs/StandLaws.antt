@@ -20,7 +20,7 @@ use Rattle.pk_copy.specs.KeyValue.{KeyValue}
 use Rattle.target_tables.specs.Rising.{AreAbove, AreBelow}
 use Rattle.target_tables.proofs.Order.{all_join, all_right, before_middle, behind_middle, each}
 use Rattle.vdiff_core.specs.Dump.{row_line, row_lines, rows_of_table, table_line, table_lines}
-use Rattle.vdiff_core.specs.DumpReading.{AreBytes, FitsPlan, AreRowsOf, IsDump, Behind, BeginsTable, AddsRow, CanStand, Stand, NoneStands, DumpsDetermineRows, IsFirstBad, at_front, joined, name_of}
+use Rattle.vdiff_core.specs.DumpReading.{AreBytes, FitsPlan, AreRowsOf, IsDump, Behind, BeginsTable, AddsRow, CanStand, Stand, NoneStands, IsFirstBad, AreReadOnce, at_front, joined, name_of}
 use Rattle.vdiff_core.specs.Private.Reading.{row_front, IsReadSoFar, NoRowIn, NoRowStands, TakesLine, TakesRow, TakesRowLine}
 use Rattle.vdiff_core.specs.RowsValue.{RowValue, RowsValue}
 use Rattle.vdiff_core.proofs.ReadingLaws.{row_there, some_pair}
@@ -306,7 +306,7 @@ dump_lines plan rows text dump =
     let again = stand_is_dump plan lead.0 (record { begun = length plan.tables; rows = rows }) (joined lead.0) lead.1 refl (omega arith) in
     record { lines = lead.0; stand = lead.1; is_text = dump.is_text ∙ sym again.is_text }
 
-pub dumps_determine : (plan : PlanValue) → DumpsDetermineRows plan
+pub dumps_determine : (plan : PlanValue) (text : List ℕ) (rows others : RowsValue) → IsDump plan rows text → IsDump plan others text → rows ≡ others
 dumps_determine plan text rows others one two =
     let a = dump_lines plan rows text one in
     let b = dump_lines plan others text two in
@@ -327,6 +327,12 @@ pub one_bad : (plan : PlanValue) (text : List ℕ) (n m : ℕ) → IsFirstBad pl
 one_bad plan text n m a b =
     let same = same_end plan a.lines b.lines at_front a.now b.now a.rest b.rest a.stand b.stand (sym a.parts ∙ b.parts) a.stops b.stops in
     omega (arith, a.number, b.number, same.2)
+
+pub read_once : AreReadOnce
+read_once plan text (Ok rows) (Ok others) one other = ap Ok (dumps_determine plan text rows others one other)
+read_once plan text (Ok rows) (Err n) one other = absurd (no_dump plan rows text n other one)
+read_once plan text (Err n) (Ok rows) one other = absurd (no_dump plan rows text n one other)
+read_once plan text (Err n) (Err m) one other = ap Err (one_bad plan text n m one other)
 
 -- ---- the loop
 

@@ -1,6 +1,6 @@
 -- Which texts are dumps of a plan's tables, and which line is the first that can't stand in a text that is none
 -- (this profile).
-use Rattle.std.specs.Prelude.{◌≡◌, ℕ, ◌+◌, ◌<◌, ◌⊎◌, List, [], ◌∷◌, ◌++◌, length, slice_get, IfSome, Ok}
+use Rattle.std.specs.Prelude.{◌≡◌, ℕ, ◌+◌, ◌<◌, ◌⊎◌, List, [], ◌∷◌, ◌++◌, length, slice_get, IfSome, Result, Ok, Err}
 use Rattle.std.specs.List.{AllByRecursion, flat_map}
 use Rattle.std.specs.Option.{option_map_or}
 use Rattle.filter_rule.specs.PlanValue.{PlanValue, columns_of}
@@ -34,10 +34,6 @@ pub record AreRowsOf (plan : PlanValue) (rows : RowsValue) : Type 0 where
 pub record IsDump (plan : PlanValue) (rows : RowsValue) (text : List ℕ) : Type 0 where
   pub rows_of_plan : AreRowsOf plan rows
   pub is_text : text ≡ dump_of plan rows
-
--- a dump determines its rows
-abbrev pub DumpsDetermineRows : PlanValue → Type 0
-DumpsDetermineRows plan = (text : List ℕ) (rows others : RowsValue) → IsDump plan rows text → IsDump plan others text → rows ≡ others
 
 -- ---- line by line
 
@@ -95,3 +91,14 @@ pub record IsFirstBad (plan : PlanValue) (text : List ℕ) (n : ℕ) : Type 0 wh
   pub stops : NoneStands plan now rest
   pub unfinished : (rest ≡ []) × (now.begun ≡ length plan.tables) → ⊥
   pub number : n ≡ length lines + 1
+
+-- ---- what a text is read as
+
+-- the rows of a dump, or the number of the first line that can't stand
+abbrev pub IsRead : PlanValue → List ℕ → Result RowsValue ℕ → Type 0
+IsRead plan text (Ok rows) = IsDump plan rows text
+IsRead plan text (Err line) = IsFirstBad plan text line
+
+-- under a plan each text is read as one thing alone: a dump determines its rows, and no dump has a line that can't stand
+abbrev pub AreReadOnce : Type 0
+AreReadOnce = (plan : PlanValue) (text : List ℕ) (one other : Result RowsValue ℕ) → IsRead plan text one → IsRead plan text other → one ≡ other

@@ -17,7 +17,7 @@ pub use cells::{add_cell, add_cells};
 pub use dump::write_dump;
 pub use gathered::Gathered;
 pub use put::put_all;
-pub use reading::{DumpFault, read_dump};
+pub use reading::{DumpFault, read_dump, texts_are_read_once};
 pub use report::{Report, compare, first_difference};
 pub use rows::Rows;
 pub use writer::{Out, OutFailed, Writer};

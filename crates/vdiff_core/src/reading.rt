@@ -4,7 +4,7 @@ ghost use Rattle.std.specs.Prelude.{◌≡◌, ◌⊎◌, ℕ, ◌+◌, ◌<◌,
 ghost use Rattle.filter_rule.specs.PlanValue.{columns_of};
 ghost use Rattle.pk_copy.specs.KeyOf.{key_of};
 ghost use Rattle.vdiff_core.specs.Dump.{table_line};
-ghost use Rattle.vdiff_core.specs.DumpReading.{IsDump, IsFirstBad, NoneStands, DumpsDetermineRows, name_of};
+ghost use Rattle.vdiff_core.specs.DumpReading.{IsDump, IsFirstBad, NoneStands, AreReadOnce, name_of};
 ghost use Rattle.vdiff_core.specs.DumpFaults.{number_of};
 ghost use Rattle.vdiff_core.specs.RowsValue.{RowsValue};
 ghost use Rattle.vdiff_core.specs.Private.Reading.{TakesLine, TakesRowLine, NoRowStands};
@@ -121,8 +121,6 @@ pub fn read_dump(alloc: Global, plan: &Plan, bytes: &[u8]) -> Result<Rows, DumpF
     ensures only { (rows : RowsValue) → IsDump plan.now rows bytes.now → (result ≡ Ok rows) ⊎ (result ≡ Err DumpFault.Memory) }
     ensures bad { (n : ℕ) → (result ≡ Err (DumpFault.BadDump n)) → IsFirstBad plan.now bytes.now n }
     ensures first { (n : ℕ) → IsFirstBad plan.now bytes.now n → (result ≡ Err (DumpFault.BadDump n)) ⊎ (result ≡ Err DumpFault.Memory) }
-    // A dump determines its rows.
-    ensures determined { DumpsDetermineRows plan.now }
 {
     let mut read = DumpRows {
         begun: 0,
@@ -143,6 +141,12 @@ pub fn read_dump(alloc: Global, plan: &Plan, bytes: &[u8]) -> Result<Rows, DumpF
     }
     Ok(read.rows)
 }
+
+/// Each text is read as one thing alone: a dump determines its rows and has no line that can't stand, and in
+/// any other text one line is the first that can't.
+pub fn texts_are_read_once()
+    ensures { AreReadOnce }
+{}
 
 /// What stands behind the line of a table's name in front.
 fn behind_table_line<'t>(plan: &Plan, t: usize, text: &'t [u8]) -> Option<&'t [u8]>

@@ -25,18 +25,6 @@ returns-in-Err-Bad-clause-first c =
     let bad = bad_line _ _ _ _ _ c.loop-rest.invariant (c.in-Err-Bad.ensures.bad (ap Err c.in-Err-Bad.field-0-is)) (is_more _ _ c.is_empty.ensures c.loop-rest-test.true) in
     λ n other. inl (ap (λ (k : ℕ). Err (BadDump k)) (one_bad _ _ _ _ bad other))
 
-pub returns-in-Err-Bad-clause-determined : goal.returns-in-Err-Bad-clause-determined
-returns-in-Err-Bad-clause-determined c = dumps_determine _
-
-pub returns-in-Err-Memory-clause-determined : goal.returns-in-Err-Memory-clause-determined
-returns-in-Err-Memory-clause-determined c = dumps_determine _
-
-pub returns-then-read-tables-clause-determined : goal.returns-then-read-tables-clause-determined
-returns-then-read-tables-clause-determined c = dumps_determine _
-
-pub returns-clause-determined : goal.returns-clause-determined
-returns-clause-determined c = dumps_determine _
-
 pub returns-then-read-tables-clause-only : goal.returns-then-read-tables-clause-only
 returns-then-read-tables-clause-only c =
     let lt : c.loop-rest.read.begun < length c.args.plan.now.tables = omega (arith, c.if-read-tables.true, ap (λ (s : Behind). s.begun) c.read-2.view_is, ap length c.tables.ensures.tables) in

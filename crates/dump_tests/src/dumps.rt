@@ -1,28 +1,17 @@
-//! Rows by key and their dump, over two tables: `t` of `id` (INT64) and `v` (VARCHAR), and `u` of `id` alone.
+//! Rows by key and their dump.
 
 ghost use Rattle.std.specs.Prelude.{Some};
 
+use crate::two_tables::{plan, rows_of};
 use filter_rule::Plan;
 use pk_copy::{Key, KeyView, key_of};
 use row_view::{RowBuf, RowView};
 use std::alloc::Global;
-use std::sync::Arc;
 use std::test::Fail;
 use vdiff_core::*;
 
-const WORKFLOW: &str =
-    "{\"keyspace\":\"ks\",\"tables\":[{\"name\":\"t\",\"columns\":[[\"id\",\"INT64\"],[\"v\",\"VARCHAR\"]],\"key\":[\"id\"]},{\"name\":\"u\",\"columns\":[[\"id\",\"INT64\"]],\"key\":[\"id\"]}],\"streams\":[{\"shard\":\"-80\",\"filter\":{\"rules\":[{\"match\":\"/.*\",\"filter\":\"\"}]}}]}";
-
 /// The dump of `some_rows`.
 const DUMP: &[u8] = b"table t\nx31\tx61\nx32\tN\nx3131\tx\ntable u\nx39\n";
-
-/// The workflow's one plan.
-fn plan(alloc: Global) -> Result<Arc<Plan>, Fail> {
-    let plan = Plan::read_all(alloc, WORKFLOW.as_bytes())?
-        .pop()
-        .ok_or("a plan")?;
-    Ok(plan)
-}
 
 /// The key of a row of a table, if it has one.
 fn key<'b>(plan: &Plan, t: u8, row: &RowView<'b>) -> Option<KeyView<'b>> {
@@ -117,6 +106,17 @@ fn dump_of_two_tables(rt: HostRuntime) -> Result<(), Fail> {
     let mut none = Short::new(rt.alloc(), 1000, 1000);
     assert!(rt; write_dump(&mut none, &plan, &Rows::new(rt.alloc())).is_ok());
     assert_eq!(rt; none.got.as_slice(), b"table t\ntable u\n".as_slice());
+    Ok(())
+}
+
+/// A dump is read as the rows that it was written of.
+#[test]
+fn dump_is_read_as_its_rows(rt: HostRuntime) -> Result<(), Fail> {
+    let plan = plan(rt.alloc())?;
+    let rows = some_rows(rt.alloc(), &plan)?;
+    let read = rows_of(rt.alloc(), &plan, DUMP)?;
+    assert!(rt; first_difference(&rows, &read).is_none());
+    assert!(rt; compare(&rows, &read).matching == 4);
     Ok(())
 }
 
