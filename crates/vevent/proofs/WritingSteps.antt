@@ -1,6 +1,6 @@
 -- Writing one part of a message after another.
-use Rattle.std.proofs.Common.{◌≡◌, ℕ, ◌+◌, List, [], ◌∷◌, ◌++◌, length, sym, ap, ◌∙◌, append_assoc}
-use Rattle.std.proofs.lemmas.List.{append-nil, length-append}
+use Rattle.std.proofs.Common.{◌≡◌, ℕ, ◌+◌, ◌<◌, List, [], ◌∷◌, ◌++◌, length, sym, ap, ◌∙◌, append_assoc, arith, get_or, drop}
+use Rattle.std.proofs.lemmas.List.{append-nil, length-append, at_drop_more}
 use Rattle.std.proofs.lemmas.List.Concat.{flat_map-append}
 use Rattle.proto_wire.specs.Field.{WireField}
 use Rattle.proto_wire.specs.Writing.{written_field, written_fields, message_field, Begins}
@@ -24,3 +24,24 @@ length-with_message xs message number =
 
 pub begins_behind : (a b c : List ℕ) → Begins a b → Begins b c → Begins a c
 begins_behind a b c one two = record { more = one.more ++ two.more; is = two.is ∙ ap (λ (w : List ℕ). w ++ two.more) one.is ∙ append_assoc a one.more two.more }
+
+-- ---- one message after another
+
+-- a message more, of those that are still to come
+pub message_then : (all out mid new message : List ℕ) (number : ℕ) (rest : List WireField) → out ++ written_fields (message_field number message ∷ rest) ≡ all
+    → mid ++ message ≡ out ++ written_field (message_field number message) → new ≡ mid ++ message → new ++ written_fields rest ≡ all
+message_then all out mid new message number rest is head body =
+    ap (λ (w : List ℕ). w ++ written_fields rest) (body ∙ head) ∙ append_assoc out (written_field (message_field number message)) (written_fields rest) ∙ is
+
+-- nothing is still to come
+pub nothing_then : (all out : List ℕ) → out ++ [] ≡ all → out ≡ all
+nothing_then all out is = sym (append-nil out) ∙ is
+
+-- a field more is counted, of those that are still to come
+pub counted_then : (all size one next : ℕ) (f : WireField) (rest : List WireField) → size + length (written_fields (f ∷ rest)) ≡ all → one ≡ length (written_field f) → next ≡ size + one
+    → next + length (written_fields rest) ≡ all
+counted_then all size one next f rest is one_is next_is = omega (arith, is, one_is, next_is, length-append (written_field f) (written_fields rest))
+
+-- what is said of an item and those behind it is said of those that are left at its place
+pub at_item : {X : Type 0} {Y : Type 0} (F : List X → Y) (xs : List X) (i : ℕ) (x : X) → i < length xs → x ≡ get_or xs i x → F (x ∷ drop (i + 1) xs) ≡ F (drop i xs)
+at_item F xs i x lt is = ap (λ y. F (y ∷ drop (i + 1) xs)) is ∙ sym (at_drop_more F xs i x lt)

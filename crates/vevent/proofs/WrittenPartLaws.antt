@@ -13,7 +13,7 @@ use Rattle.proto_wire.specs.Reading.{Reading}
 use Rattle.proto_wire.specs.Field.{WireField, Varint}
 use Rattle.vevent.proofs.FirstFault.{none_first, none_second}
 use Rattle.proto_wire.specs.Parts.{bytes_in, part_in, count_in, last_of, first_of, text, scalar, parts, embedded, is_repeated}
-use Rattle.proto_wire.specs.Writing.{written_field, written_fields, number_field, text_field, message_field, FieldsAreReadAgain}
+use Rattle.proto_wire.specs.Writing.{written_field, written_fields, text_field, message_field, FieldsAreReadAgain}
 use Rattle.row_view.specs.Row.{row_of_message}
 use Rattle.row_view.specs.WrittenRow.{written_row, IsWithinLimits, RowsAreReadAgain}
 use Rattle.vevent.specs.EventValue.{FieldValue}
@@ -239,9 +239,6 @@ answers_back law rows a is short =
     every_value answer_conditions answer_of (written_answer a) a (record { wire = h.wire; once = h.once; texts = h.texts; rows = h.rows }, sym h.value)
 
 -- ---- a table's part
-
-abbrev table_list : TablePartValue → List WireField
-table_list t = number_field 1 t.mark ++ message_field 2 (written_answer t.answer) ∷ []
 
 -- what is true of a table's part that was written
 record IsTableOf (bytes : List ℕ) (t : TablePartValue) : Type 0 where

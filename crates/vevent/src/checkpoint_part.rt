@@ -1,6 +1,6 @@
 //! The parts of a checkpoint: a stream's, and in it a table's.
 
-ghost use Rattle.std.specs.Prelude.{◌≡◌, ℕ, List, true, None, IfOk, IfErr, Ok, Err};
+ghost use Rattle.std.specs.Prelude.{◌≡◌, List, true, None, IfOk, IfErr, Ok, Err};
 ghost use Rattle.std.specs.Iterator.{YieldsFirstBy, item_count};
 ghost use Rattle.vevent.specs.declared.fault.EventFault.{EventFault};
 ghost use Rattle.vevent.specs.Judging.{IsValue, IsAtFault};

@@ -1,10 +1,9 @@
 //! What a row event holds, in one pass over it and its row changes.
 
-ghost use Rattle.std.specs.Prelude.{◌≡◌, ◌||◌, ◌&&◌, ℕ, List, [], ◌∷◌, None, Some, MatchResult, OnOk, option_and_then};
-ghost use Rattle.std.specs.List.{filter_map};
+ghost use Rattle.std.specs.Prelude.{◌≡◌, ◌||◌, ℕ, List, [], ◌∷◌, None, Some, MatchResult, OnOk, option_and_then};
 ghost use Rattle.std.specs.Result.{result_err};
 ghost use Rattle.proto_wire.specs.Field.{WireField, wire_field, fields_of};
-ghost use Rattle.proto_wire.specs.Parts.{bytes_in, part_in};
+ghost use Rattle.proto_wire.specs.Parts.{bytes_in};
 ghost use Rattle.vevent.specs.Fault.{in_plain, wire_fault_by};
 ghost use Rattle.vevent.specs.Private.EventParts.{AreRowParts, AreAllRowParts, PutsChange};
 

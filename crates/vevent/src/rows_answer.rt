@@ -1,6 +1,6 @@
 //! Answers of a stream of rows.
 
-ghost use Rattle.std.specs.Prelude.{◌≡◌, ◌⊎◌, ℕ, List, true, None, IfOk, IfErr, Ok, Err, option_map};
+ghost use Rattle.std.specs.Prelude.{◌≡◌, ℕ, List, true, None, IfOk, IfErr, Ok, Err, option_map};
 ghost use Rattle.std.specs.Iterator.{YieldsFirstBy, item_count};
 ghost use Rattle.proto_wire.specs.Parts.{single};
 ghost use Rattle.vevent.specs.declared.fault.EventFault.{EventFault};

@@ -1,6 +1,6 @@
 //! Writing of answers of a stream of rows.
 
-ghost use Rattle.std.specs.Prelude.{◌≡◌, ◌++◌, ℕ, List, Option, map, length, OnOk, OnErr, IfOk};
+ghost use Rattle.std.specs.Prelude.{◌≡◌, ◌++◌, Option, map, length, OnOk, OnErr, IfOk};
 ghost use Rattle.proto_wire.specs.Writing.{written_field, written_fields, message_field, Begins};
 ghost use Rattle.row_view.specs.WrittenRow.{written_row};
 ghost use Rattle.vevent.specs.ColumnView.{field_value};

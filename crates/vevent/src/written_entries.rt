@@ -1,9 +1,9 @@
 //! Writing of a VGTID's entries.
 
-ghost use Rattle.std.specs.Prelude.{◌≡◌, ◌++◌, map, length, OnOk, IfOk};
-ghost use Rattle.proto_wire.specs.Writing.{written_fields, Begins};
+ghost use Rattle.std.specs.Prelude.{◌≡◌, ◌++◌, length, OnOk, IfOk};
+ghost use Rattle.proto_wire.specs.Writing.{Begins};
 ghost use Rattle.vevent.specs.ShardGtidView.{shard_gtid_value};
-ghost use Rattle.vevent.specs.WrittenEvent.{message_fields, written_shard_gtid, written_vgtid};
+ghost use Rattle.vevent.specs.WrittenEvent.{written_shard_gtid, written_vgtid};
 
 use crate::vgtid_event::{ShardGtid, ShardGtids, VGtid};
 use proto_wire::{bytes_field_size, put_bytes_head, put_text, size_of_both, text_field_size};

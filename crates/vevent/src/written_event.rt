@@ -1,6 +1,6 @@
 //! Writing of events.
 
-ghost use Rattle.std.specs.Prelude.{◌≡◌, ◌≤◌, ◌++◌, length, OnOk, OnErr, IfOk};
+ghost use Rattle.std.specs.Prelude.{◌≡◌, ◌++◌, length, OnOk, OnErr, IfOk};
 ghost use Rattle.proto_wire.specs.Writing.{written_fields, Begins};
 ghost use Rattle.vevent.specs.EventView.{event_value};
 ghost use Rattle.vevent.specs.WrittenEvent.{ignored_number, type_number, body_fields, written_event, EventsAreReadAgain};

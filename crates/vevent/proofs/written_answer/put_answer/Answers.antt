@@ -28,3 +28,27 @@ returns-clause-kept c =
     let third = begins_behind old c.put_columns-2.new.out.items c.put_text.new.out.items second c.put_text.ensures.kept in
     let fourth = begins_behind old c.put_text.new.out.items c.put_rows.new.out.items third c.put_rows.ensures.kept in
     begins_behind old c.put_rows.new.out.items c.put_row_field.new.out.items fourth c.put_row_field.ensures.kept
+
+pub returns-in_err-put_columns-2-clause-kept : goal.returns-in_err-put_columns-2-clause-kept
+returns-in_err-put_columns-2-clause-kept c = begins_behind c.args.out.now.items c.put_columns.new.out.items c.put_columns-2.new.out.items c.put_columns.ensures.kept c.put_columns-2.ensures.kept
+
+pub returns-in_err-put_text-clause-kept : goal.returns-in_err-put_text-clause-kept
+returns-in_err-put_text-clause-kept c =
+    let old = c.args.out.now.items in
+    let second = begins_behind old c.put_columns.new.out.items c.put_columns-2.new.out.items c.put_columns.ensures.kept c.put_columns-2.ensures.kept in
+    begins_behind old c.put_columns-2.new.out.items c.put_text.new.out.items second c.put_text.ensures.kept
+
+pub returns-in_err-put_rows-clause-kept : goal.returns-in_err-put_rows-clause-kept
+returns-in_err-put_rows-clause-kept c =
+    let old = c.args.out.now.items in
+    let second = begins_behind old c.put_columns.new.out.items c.put_columns-2.new.out.items c.put_columns.ensures.kept c.put_columns-2.ensures.kept in
+    let third = begins_behind old c.put_columns-2.new.out.items c.put_text.new.out.items second c.put_text.ensures.kept in
+    begins_behind old c.put_text.new.out.items c.put_rows.new.out.items third c.put_rows.ensures.kept
+
+pub returns-in_err-put_row_field-clause-kept : goal.returns-in_err-put_row_field-clause-kept
+returns-in_err-put_row_field-clause-kept c =
+    let old = c.args.out.now.items in
+    let second = begins_behind old c.put_columns.new.out.items c.put_columns-2.new.out.items c.put_columns.ensures.kept c.put_columns-2.ensures.kept in
+    let third = begins_behind old c.put_columns-2.new.out.items c.put_text.new.out.items second c.put_text.ensures.kept in
+    let fourth = begins_behind old c.put_text.new.out.items c.put_rows.new.out.items third c.put_rows.ensures.kept in
+    begins_behind old c.put_rows.new.out.items c.put_row_field.new.out.items fourth c.put_row_field.ensures.kept
