@@ -1,0 +1,5 @@
+pub mod PartLaws
+pub mod FeedGroups
+pub mod OwnRows
+pub mod ResumedLaws
+pub mod RestartedLaws

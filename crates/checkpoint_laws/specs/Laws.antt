@@ -1,0 +1,71 @@
+-- Laws of checkpoints, as statements: each is the contract of a function without a body.
+use Rattle.std.specs.Prelude.{◌≡◌, ℕ, ◌^◌, ◌<◌, ◌≤◌, List, length, map, take, Some, slice_get}
+use Rattle.std.specs.List.{AllByRecursion}
+use Rattle.filter_rule.specs.PlanValue.{PlanValue}
+use Rattle.filter_rule.specs.WellFormed.{IsPlan}
+use Rattle.source_feed.specs.Planned.{FeedValue, IsFeed}
+use Rattle.vevent.specs.CheckpointPart.{StreamPartValue}
+use Rattle.vevent.specs.WrittenPart.{IsSoundStream}
+use Rattle.board_laws.specs.Meaning.{State, Meaning}
+use Rattle.board_laws.specs.Lawful.{IsLawful}
+use Rattle.board_laws.specs.Event.{restart}
+use Rattle.board_laws.specs.Runs.{sound_groups}
+use Rattle.board_laws.specs.StateAfter.{state_after}
+use Rattle.checkpoint_laws.specs.Saved.{SavedStream, saved_of}
+use Rattle.checkpoint_laws.specs.Written.{written_checkpoint}
+use Rattle.checkpoint_laws.specs.Said as said
+use Rattle.checkpoint_laws.specs.Said.{IsCheckpoint}
+use Rattle.checkpoint_laws.specs.Resumed.{IsResumedBoard, AtEachPlace}
+use Rattle.checkpoint_laws.specs.Refused.{plans_of_feeds}
+
+-- ---- parts
+
+-- parts within the limits that are written are read as these parts
+abbrev pub CheckpointsAreReadAgain : Type 0
+CheckpointsAreReadAgain =
+    (parts : List StreamPartValue) → AllByRecursion IsSoundStream parts → length (written_checkpoint parts) < 2 ^ 64 → said.AreParts (written_checkpoint parts) parts
+
+-- ---- what is said
+
+-- bytes say one thing at most
+abbrev pub CheckpointsSayOneThing : Type 0
+CheckpointsSayOneThing =
+    (plans : List PlanValue) (bytes : List ℕ) (one other : List SavedStream) → AllByRecursion IsPlan plans → IsCheckpoint plans bytes one → IsCheckpoint plans bytes other → one ≡ other
+
+-- ---- the resumed board
+
+-- feeds as a board can have them: from 1 to 64, whole, under well-formed plans over the same tables
+pub record AreFeeds (feeds : List FeedValue) : Type 0 where
+  pub some : 1 ≤ length feeds
+  pub few : length feeds ≤ 64
+  pub whole : (s : ℕ) (feed : FeedValue) → slice_get feeds s ≡ Some feed → IsFeed feed
+  pub plans : AllByRecursion IsPlan (plans_of_feeds feeds)
+  pub tables : (s t : ℕ) (one other : FeedValue) → slice_get feeds s ≡ Some one → slice_get feeds t ≡ Some other → one.plan.tables ≡ other.plan.tables
+
+-- whatever the bytes, a board that they and feeds make is lawful, and has the positions, marks and rows that they say
+abbrev pub ResumedBoardsAreLawful : Type 0
+ResumedBoardsAreLawful =
+    (feeds : List FeedValue) (bytes : List ℕ) (saved : List SavedStream) (board : Meaning) → AreFeeds feeds
+    → IsCheckpoint (plans_of_feeds feeds) bytes saved → IsResumedBoard feeds saved board → IsLawful board × (saved_of board ≡ saved)
+
+-- ---- a board that is saved and resumed
+
+-- a board after a restart of each stream
+abbrev pub restarted : Meaning → Meaning
+restarted board = record { streams = map (λ state. state_after state restart) board.streams; rows = board.rows }
+
+-- a feed's groups begin with those that a stream has applied
+pub record BeginsWithApplied (feed : FeedValue) (state : State) : Type 0 where
+  pub plan : state.plan ≡ feed.plan
+  pub applied : take state.applied state.list ≡ take state.applied (sound_groups feed)
+
+-- the same of every stream
+pub record BeginWithApplied (feeds : List FeedValue) (board : Meaning) : Type 0 where
+  pub count : length feeds ≡ length board.streams
+  pub each_stream : AtEachPlace BeginsWithApplied feeds board.streams
+
+-- such feeds and the checkpoint make the board after a restart of each stream, and no other
+abbrev pub RestartedBoardsAreResumed : Type 0
+RestartedBoardsAreResumed =
+    (feeds : List FeedValue) (board : Meaning) → AreFeeds feeds → IsLawful board → BeginWithApplied feeds board
+    → IsResumedBoard feeds (saved_of board) (restarted board) × ((other : Meaning) → IsResumedBoard feeds (saved_of board) other → other ≡ restarted board)

@@ -1,0 +1,7 @@
+pub mod Saved
+pub mod Written
+pub mod Said
+pub mod Resumed
+pub mod Faults
+pub mod Refused
+pub mod Laws

@@ -1,0 +1,84 @@
+-- What a checkpoint says, whoever wrote it: bytes of which nothing of this can be said are no checkpoint (this
+-- profile).
+use Rattle.std.specs.Prelude.{◌≡◌, ℕ, ◌<◌, List, ◌++◌, map, length, Option, None, Some, Ok, slice_get}
+use Rattle.std.specs.List.{AllByRecursion}
+use Rattle.filter_rule.specs.PlanValue.{PlanValue, columns_of, key_columns_of}
+use Rattle.gtid_set.specs.Text.{position_of_text}
+use Rattle.pk_copy.specs.KeyOf.{key_of}
+use Rattle.pk_copy.specs.KeyOrder.{key_cmp}
+use Rattle.pk_copy.specs.KeyValue.{KeyValue}
+use Rattle.pk_copy.specs.Lastpk.{key_of_lastpk}
+use Rattle.pk_copy.specs.Marks.{MarkValue, waiting, up_to, copied, AreMarks, mark_of}
+use Rattle.proto_wire.specs.Frame.{frames_of}
+use Rattle.source_feed.specs.History.{RowValue}
+use Rattle.target_tables.specs.Rising.{IsRising}
+use Rattle.vevent.specs.Answer.{AnswerValue}
+use Rattle.vevent.specs.CheckpointPart.{TablePartValue, StreamPartValue, stream_part_at}
+use Rattle.checkpoint_laws.specs.Saved.{SavedStream}
+use Rattle.checkpoint_laws.specs.Written.{fields_of_table, key_fields_of, number_of_mark, rows_of_table, opening}
+
+-- ---- the parts
+
+-- the bytes are the eight first ones, then these parts, each behind its length, and nothing after them
+pub record AreParts (bytes : List ℕ) (parts : List StreamPartValue) : Type 0 where
+  pub rest : List ℕ
+  pub opened : bytes ≡ opening ++ rest
+  pub messages : List (List ℕ)
+  pub framed : frames_of rest ≡ record { items = messages; fault = None }
+  pub read : map stream_part_at messages ≡ map Ok parts
+
+-- ---- a table's part
+
+-- the key of a mark is given exactly where the table is copied up to one, as a row of its key columns
+abbrev pub SaysLast : PlanValue → ℕ → MarkValue → Option RowValue → Type 0
+SaysLast plan t waiting lastpk = lastpk ≡ None
+SaysLast plan t (up_to key) lastpk = (row : RowValue) × (lastpk ≡ Some row) × (length row ≡ length (key_columns_of plan t)) × (key_of_lastpk plan t row ≡ Ok key)
+SaysLast plan t copied lastpk = lastpk ≡ None
+
+-- an answer has the columns of the table and of its key, the position, the rows of the table in order, and the
+-- key of its mark
+pub record SaysAnswer (plan : PlanValue) (saved : SavedStream) (t : ℕ) (answer : AnswerValue) : Type 0 where
+  pub fields : answer.fields ≡ fields_of_table plan t
+  pub key_fields : answer.pkfields ≡ key_fields_of plan t
+  pub position : position_of_text answer.gtid ≡ Ok saved.position
+  pub rows : answer.rows ≡ map (λ row. row.1) (rows_of_table t saved.rows)
+  pub last : SaysLast plan t (mark_of saved.marks t) answer.lastpk
+
+-- the part of table t has its mark and its answer
+pub record SaysTable (plan : PlanValue) (saved : SavedStream) (t : ℕ) (part : TablePartValue) : Type 0 where
+  pub mark : part.mark ≡ number_of_mark (mark_of saved.marks t)
+  pub answer : SaysAnswer plan saved t part.answer
+
+-- ---- a stream's part
+
+-- a row is of one of the plan's tables, has its width, and stands at its own key
+pub record IsKeyed (plan : PlanValue) (row : KeyValue × RowValue) : Type 0 where
+  pub table : row.0.table < length plan.tables
+  pub width : length row.1 ≡ length (columns_of plan row.0.table)
+  pub key : key_of plan row.0.table row.1 ≡ Ok row.0
+
+-- what can be said of a stream under a plan: marks of its tables, of which the first ones are done, then at most one
+-- is copied up to a key, and the others wait; rows by rising key, each at its own key
+pub record IsSaved (plan : PlanValue) (saved : SavedStream) : Type 0 where
+  pub tables : saved.marks.tables ≡ length plan.tables
+  pub marks : AreMarks saved.marks
+  pub rising : IsRising key_cmp saved.rows
+  pub keyed : AllByRecursion (IsKeyed plan) saved.rows
+
+-- a stream's part has the shard's name and a part for each table, which says what is said of the stream
+pub record SaysStream (plan : PlanValue) (saved : SavedStream) (part : StreamPartValue) : Type 0 where
+  pub sound : IsSaved plan saved
+  pub shard : part.shard ≡ plan.shard
+  pub count : length part.tables ≡ length plan.tables
+  pub each_table : (t : ℕ) (table : TablePartValue) → slice_get part.tables t ≡ Some table → SaysTable plan saved t table
+
+-- ---- the checkpoint
+
+-- the bytes are a checkpoint for these plans, which says this of their streams
+pub record IsCheckpoint (plans : List PlanValue) (bytes : List ℕ) (saved : List SavedStream) : Type 0 where
+  pub parts : List StreamPartValue
+  pub are : AreParts bytes parts
+  pub count : length parts ≡ length plans
+  pub same_count : length saved ≡ length plans
+  pub each_stream : (s : ℕ) (plan : PlanValue) (one : SavedStream) (part : StreamPartValue)
+      → slice_get plans s ≡ Some plan → slice_get saved s ≡ Some one → slice_get parts s ≡ Some part → SaysStream plan one part

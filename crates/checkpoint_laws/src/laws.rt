@@ -1,0 +1,31 @@
+//! Laws of checkpoints, each the contract of a function without a body: they hold of the values that
+//! contracts see boards as.
+
+ghost use Rattle.checkpoint_laws.specs.Laws.{CheckpointsAreReadAgain, ResumedBoardsAreLawful, RestartedBoardsAreResumed};
+
+use pk_copy::keys_tie_where_they_are_equal;
+use vevent::stream_parts_are_read_again;
+
+/// Parts of streams that are written as a checkpoint are read as these parts, where they are within the
+/// limits.
+pub fn checkpoints_are_read_again()
+    ensures { CheckpointsAreReadAgain }
+{
+    stream_parts_are_read_again();
+}
+
+/// Whatever the bytes, a board that they and the feeds make is lawful, and has the positions, marks and
+/// rows that they say.
+pub fn resumed_boards_are_lawful()
+    ensures { ResumedBoardsAreLawful }
+{
+    keys_tie_where_they_are_equal();
+}
+
+/// Feeds that begin with the applied groups and what is kept of a board make the board after a restart of
+/// each stream, and no other.
+pub fn restarted_boards_are_resumed()
+    ensures { RestartedBoardsAreResumed }
+{
+    keys_tie_where_they_are_equal();
+}

@@ -1,0 +1,11 @@
+//! What a checkpoint of a board is and says, and which board it makes with the streams' feeds. A crate of
+//! definitions and laws: beside the words of refusals it has no code.
+#![tactic(auto)]
+
+mod fault;
+mod laws;
+
+pub use fault::ResumeFault;
+pub use laws::{
+    checkpoints_are_read_again, restarted_boards_are_resumed, resumed_boards_are_lawful,
+};
