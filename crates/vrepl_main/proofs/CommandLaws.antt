@@ -13,7 +13,7 @@ use Rattle.vrepl_main.specs.Command.{PrintsWhole, PrintsSome, Refuses, IsUnwritt
 use Rattle.vrepl_main.specs.RefusalOf.{refusal_of_feed}
 use Rattle.vrepl_main.specs.Show.{shown_groups}
 use Rattle.vrepl_main.specs.declared.refusal.Refusal.{Refusal}
-use Rattle.vrepl_main.specs.declared.refusal.Refusal.TheVariants.{Memory, Workflow, FeedCount, Feed, BadHex, BadScript, CannotRead, CannotWrite}
+use Rattle.vrepl_main.specs.declared.refusal.Refusal.TheVariants.{Memory, Workflow, FeedCount, Feed, BadHex, BadScript, BadDump, CannotRead, CannotWrite}
 use Rattle.vrepl_main.proofs.PrintLaws.{prints_nothing}
 
 -- nothing was printed
@@ -36,6 +36,7 @@ Refuses-unwritten FeedCount reading x is unwritten = absurd unwritten
 Refuses-unwritten (Feed fault) reading x is unwritten = absurd unwritten
 Refuses-unwritten BadHex reading x is unwritten = absurd unwritten
 Refuses-unwritten (BadScript bad) reading x is unwritten = absurd unwritten
+Refuses-unwritten (BadDump bad) reading x is unwritten = absurd unwritten
 Refuses-unwritten (CannotRead file) reading x is unwritten = absurd unwritten
 
 -- the refusal of a feed

@@ -8,7 +8,7 @@ use Rattle.vrepl_main.specs.Inputs.{name_of, IsUnread, IsUnreadAmong}
 use Rattle.vrepl_main.specs.declared.input.InputName.{InputName}
 use Rattle.vrepl_main.specs.declared.input.InputName.TheVariants.{Standard}
 use Rattle.vrepl_main.specs.declared.refusal.Refusal.{Refusal}
-use Rattle.vrepl_main.specs.declared.refusal.Refusal.TheVariants.{Memory, Workflow, FeedCount, Feed, BadHex, BadScript, CannotRead, CannotWrite}
+use Rattle.vrepl_main.specs.declared.refusal.Refusal.TheVariants.{Memory, Workflow, FeedCount, Feed, BadHex, BadScript, BadDump, CannotRead, CannotWrite}
 
 -- a read that finds the end shows that the bytes are all that was left
 pub whole : (old mid new : Option (List ℕ)) (bytes piece : List ℕ) (n : ℕ) → n ≡ 0 → Consumes old mid bytes → Consumes mid new (take n piece) → IsAtEnd new → IfSome old (λ left. bytes ≡ left)
@@ -33,6 +33,7 @@ unread_among names i FeedCount within unread = absurd unread
 unread_among names i (Feed fault) within unread = absurd unread
 unread_among names i BadHex within unread = absurd unread
 unread_among names i (BadScript bad) within unread = absurd unread
+unread_among names i (BadDump bad) within unread = absurd unread
 unread_among names i (CannotWrite file) within unread = absurd unread
 
 pub IsUnreadAmong-one : (names : List InputName) (i : ℕ) (default : InputName) (refusal : Refusal) → i < length names → IsUnread (name_of (get_or names i default)) refusal → IsUnreadAmong names refusal

@@ -10,3 +10,4 @@ mod KeyTextLaws
 mod OpenLaws
 mod ScriptRunLaws
 mod StepLaws
+mod VdiffLaws

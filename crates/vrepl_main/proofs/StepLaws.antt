@@ -11,7 +11,7 @@ use Rattle.board_laws.specs.Meaning.{Meaning}
 use Rattle.apply_core.specs.Fresh.{fresh_board}
 use Rattle.vrepl_main.specs.declared.script.ScriptStep.{ScriptStep}
 use Rattle.vrepl_main.specs.declared.refusal.Refusal.{Refusal}
-use Rattle.vrepl_main.specs.declared.refusal.Refusal.TheVariants.{Memory, Workflow, FeedCount, Feed, BadHex, BadScript, CannotRead, CannotWrite}
+use Rattle.vrepl_main.specs.declared.refusal.Refusal.TheVariants.{Memory, Workflow, FeedCount, Feed, BadHex, BadScript, BadDump, CannotRead, CannotWrite}
 use Rattle.vrepl_main.specs.HexText.{feed_bytes}
 use Rattle.vrepl_main.specs.Reasons.{Reason, RefusesInputs}
 use Rattle.vrepl_main.specs.Command.{Refuses, IsUnwritten}
@@ -34,6 +34,7 @@ refuses FeedCount reading is = is
 refuses (Feed fault) reading is = is
 refuses BadHex reading is = is
 refuses (BadScript bad) reading is = is
+refuses (BadDump bad) reading is = is
 refuses (CannotRead file) reading is = is
 refuses (CannotWrite file) reading is = absurd is
 

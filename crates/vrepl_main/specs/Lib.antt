@@ -29,3 +29,4 @@ pub mod OpenedFeeds
 pub mod ScriptRun
 pub mod ScriptPrinting
 pub mod Replied
+pub mod Comparison

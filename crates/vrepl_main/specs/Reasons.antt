@@ -4,16 +4,18 @@ use Rattle.filter_rule.specs.Faults as plans
 use Rattle.source_feed.specs.FaultNumber as feed
 use Rattle.source_feed.specs.declared.fault.FeedFault.{FeedFault}
 use Rattle.vrepl_main.specs.declared.refusal.Refusal.{Refusal}
-use Rattle.vrepl_main.specs.declared.refusal.Refusal.TheVariants.{Memory, Workflow, FeedCount, Feed, BadHex, BadScript, CannotRead, CannotWrite}
+use Rattle.vrepl_main.specs.declared.refusal.Refusal.TheVariants.{Memory, Workflow, FeedCount, Feed, BadHex, BadScript, BadDump, CannotRead, CannotWrite}
 
 -- the workflow file has a fault; there aren't as many feeds as streams; a feed that is to be hexadecimal text is
--- none; a feed is refused; a line of the script is no step
+-- none; a feed is refused; a line of the script is no step; a line of a dump can't stand
+-- there
 pub data Reason : Type 0 where
   bad_workflow : plans.Fault → Reason
   feed_count : Reason
   bad_hex : Reason
   bad_feed : FeedFault → Reason
   bad_script : ℕ → Reason
+  bad_dump : ℕ → Reason
 
 -- what a refusal says of the inputs; nothing for want of memory, and where a file can't be read or written
 abbrev pub meant_of : Refusal → Option Reason
@@ -23,6 +25,7 @@ meant_of FeedCount = Some feed_count
 meant_of (Feed fault) = option_map bad_feed (feed.meant_of fault)
 meant_of BadHex = Some bad_hex
 meant_of (BadScript bad) = Some (bad_script bad)
+meant_of (BadDump bad) = Some (bad_dump bad)
 meant_of (CannotRead file) = None
 meant_of (CannotWrite file) = None
 

@@ -3,10 +3,12 @@ use Rattle.filter_rule.specs.declared.fault.PlanFault.{PlanFault}
 use Rattle.filter_rule.specs.declared.fault.PlanFault.TheVariants as plans
 use Rattle.source_feed.specs.declared.fault.FeedFault.{FeedFault}
 use Rattle.source_feed.specs.declared.fault.FeedFault.TheVariants as feed
+use Rattle.vdiff_core.specs.declared.reading.DumpFault.{DumpFault}
+use Rattle.vdiff_core.specs.declared.reading.DumpFault.TheVariants as dumps
 use Rattle.vrepl_main.specs.declared.hex_text.HexFault.{HexFault}
 use Rattle.vrepl_main.specs.declared.hex_text.HexFault.TheVariants as hex
 use Rattle.vrepl_main.specs.declared.refusal.Refusal.{Refusal}
-use Rattle.vrepl_main.specs.declared.refusal.Refusal.TheVariants.{Memory, Workflow, Feed, BadHex}
+use Rattle.vrepl_main.specs.declared.refusal.Refusal.TheVariants.{Memory, Workflow, Feed, BadHex, BadDump}
 
 -- want of memory is one refusal, wherever it strikes
 abbrev pub refusal_of_feed : FeedFault → Refusal
@@ -20,3 +22,7 @@ refusal_of_hex hex.BadHex = BadHex
 abbrev pub refusal_of_workflow : PlanFault → Refusal
 refusal_of_workflow plans.Memory = Memory
 refusal_of_workflow fault = Workflow fault
+
+abbrev pub refusal_of_dump : DumpFault → Refusal
+refusal_of_dump dumps.Memory = Memory
+refusal_of_dump (dumps.BadDump line) = BadDump line

@@ -8,7 +8,7 @@ use Rattle.source_feed.specs.FaultNumber as feed
 use Rattle.source_feed.specs.declared.fault.FeedFault.{FeedFault}
 use Rattle.source_feed.specs.declared.fault.FeedFault.TheVariants.{Event, Diverged}
 use Rattle.vrepl_main.specs.declared.refusal.Refusal.{Refusal}
-use Rattle.vrepl_main.specs.declared.refusal.Refusal.TheVariants.{Memory, Workflow, FeedCount, Feed, BadHex, BadScript, CannotRead, CannotWrite}
+use Rattle.vrepl_main.specs.declared.refusal.Refusal.TheVariants.{Memory, Workflow, FeedCount, Feed, BadHex, BadScript, BadDump, CannotRead, CannotWrite}
 
 -- the number of each refusal
 abbrev pub number_of : Refusal → ℕ
@@ -18,6 +18,7 @@ number_of FeedCount = 119
 number_of (Feed fault) = feed.number_of fault
 number_of BadHex = 93
 number_of (BadScript bad) = 120
+number_of (BadDump bad) = 121
 number_of (CannotRead file) = 131
 number_of (CannotWrite file) = 132
 
@@ -52,6 +53,7 @@ abbrev pub details_of : Refusal → List ℕ
 details_of (Workflow fault) = workflow_details fault
 details_of (Feed fault) = feed_details fault
 details_of (BadScript bad) = codes " line " ++ decimal bad
+details_of (BadDump bad) = codes " line " ++ decimal bad
 details_of (CannotRead file) = codes " file " ++ file.now
 details_of (CannotWrite file) = codes " file " ++ file.now
 details_of _ = []

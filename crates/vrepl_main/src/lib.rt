@@ -19,3 +19,4 @@ pub mod source;
 pub mod state_text;
 pub mod step;
 pub mod thin;
+pub mod vdiff;

@@ -10,7 +10,7 @@ use crate::output::{put_all, put_str, put_text};
 use filter_rule::PlanFault;
 use source_feed::FeedFault;
 use std::alloc::AllocError;
-use vdiff_core::{Gathered, Out, OutFailed};
+use vdiff_core::{DumpFault, Gathered, Out, OutFailed};
 use vevent::EventFault;
 
 /// Why the program ends with status 1. Its line on standard error is `refused`, the number, and for
@@ -29,6 +29,8 @@ pub enum Refusal<'w> {
     BadHex,
     /// 120: a line of a script, from 1, is no step.
     BadScript { line: usize },
+    /// 121: a line of a dump, from 1, can't stand there, or is missing where the text ends.
+    BadDump { line: usize },
     /// 131: a file, or standard input as `-`, can't be read to its end.
     CannotRead { file: &'w str },
     /// 132: standard output, `-`, can't be written.
@@ -47,6 +49,7 @@ impl Refusal<'_> {
             Refusal::Feed(fault) => fault.number(),
             Refusal::BadHex => 93,
             Refusal::BadScript { .. } => 120,
+            Refusal::BadDump { .. } => 121,
             Refusal::CannotRead { .. } => 131,
             Refusal::CannotWrite { .. } => 132,
         }
@@ -102,6 +105,20 @@ impl<'w> From<HexFault> for Refusal<'w> {
         match fault {
             HexFault::BadHex => Refusal::BadHex,
             HexFault::Memory => Refusal::Memory,
+        }
+    }
+}
+
+impl<'w> From<DumpFault> for Refusal<'w> {
+    ghost use Rattle.std.specs.Prelude.{◌≡◌};
+    ghost use Rattle.vrepl_main.specs.RefusalOf.{refusal_of_dump};
+
+    ghost from_gives = { λ fault refusal. refusal ≡ refusal_of_dump fault };
+
+    fn from(fault: DumpFault) -> Refusal<'w> {
+        match fault {
+            DumpFault::BadDump { line } => Refusal::BadDump { line },
+            DumpFault::Memory => Refusal::Memory,
         }
     }
 }
@@ -214,7 +231,9 @@ fn print_details<E: Out>(
         Refusal::CannotRead { file } | Refusal::CannotWrite { file } => print_file(err, text, file),
         Refusal::Workflow(fault) => print_workflow_details(err, text, fault),
         Refusal::Feed(fault) => print_feed_details(err, text, fault),
-        Refusal::BadScript { line } => put_text(err, text, format_args!(" line {line}")),
+        Refusal::BadScript { line } | Refusal::BadDump { line } => {
+            put_text(err, text, format_args!(" line {line}"))
+        }
         Refusal::Memory | Refusal::FeedCount | Refusal::BadHex => Ok(()),
     }
 }

@@ -112,7 +112,7 @@ fn print_owner<W: Out>(out: &mut W, text: &mut Gathered, owner: u8) -> Result<()
 }
 
 /// The name of a table by its number.
-fn name_of_table(tables: &[Table], t: u8) -> &str
+pub(crate) fn name_of_table(tables: &[Table], t: u8) -> &str
     ensures { result.now ≡ name_of_table tables.now t }
 {
     match tables.get(usize::from(t)) {
