@@ -3,3 +3,4 @@ pub mod FeedGroups
 pub mod OwnRows
 pub mod ResumedLaws
 pub mod RestartedLaws
+pub mod OneThing

@@ -81,7 +81,7 @@ apart_again states apart s t x y key p q c d =
 
 -- ---- what is kept of each stream
 
-saved_at : (k : ℕ) (streams : List State) (rows : TargetRows) (i : ℕ) (state : State) → slice_get streams i ≡ Some state → slice_get (saved_from k streams rows) i ≡ Some (saved_stream (k + i) state rows)
+pub saved_at : (k : ℕ) (streams : List State) (rows : TargetRows) (i : ℕ) (state : State) → slice_get streams i ≡ Some state → slice_get (saved_from k streams rows) i ≡ Some (saved_stream (k + i) state rows)
 saved_at k [] rows i state e = no_place i state e
 saved_at k (x ∷ streams) rows zero state e =
     let zero_more : k + 0 ≡ k = omega arith in
@@ -90,7 +90,7 @@ saved_at k (x ∷ streams) rows (suc i) state e =
     let more : k + 1 + i ≡ k + suc i = omega arith in
     saved_at (k + 1) streams rows i state e ∙ ap (λ n. Some (saved_stream n state rows)) more
 
-saved_long : (k : ℕ) (streams : List State) (rows : TargetRows) → length (saved_from k streams rows) ≡ length streams
+pub saved_long : (k : ℕ) (streams : List State) (rows : TargetRows) → length (saved_from k streams rows) ≡ length streams
 saved_long k [] rows = refl
 saved_long k (x ∷ streams) rows = ap suc (saved_long (k + 1) streams rows)
 

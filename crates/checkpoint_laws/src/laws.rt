@@ -1,7 +1,7 @@
 //! Laws of checkpoints, each the contract of a function without a body: they hold of the values that
 //! contracts see boards as.
 
-ghost use Rattle.checkpoint_laws.specs.Laws.{CheckpointsAreReadAgain, ResumedBoardsAreLawful, RestartedBoardsAreResumed};
+ghost use Rattle.checkpoint_laws.specs.Laws.{CheckpointsAreReadAgain, CheckpointsSayOneThing, ResumedBoardsAreLawful, RestartedBoardsAreResumed};
 
 use pk_copy::keys_tie_where_they_are_equal;
 use vevent::stream_parts_are_read_again;
@@ -12,6 +12,13 @@ pub fn checkpoints_are_read_again()
     ensures { CheckpointsAreReadAgain }
 {
     stream_parts_are_read_again();
+}
+
+/// Bytes say one thing at most, under well-formed plans.
+pub fn checkpoints_say_one_thing()
+    ensures { CheckpointsSayOneThing }
+{
+    keys_tie_where_they_are_equal();
 }
 
 /// Whatever the bytes, a board that they and the feeds make is lawful, and has the positions, marks and

@@ -7,5 +7,6 @@ mod laws;
 
 pub use fault::ResumeFault;
 pub use laws::{
-    checkpoints_are_read_again, restarted_boards_are_resumed, resumed_boards_are_lawful,
+    checkpoints_are_read_again, checkpoints_say_one_thing, restarted_boards_are_resumed,
+    resumed_boards_are_lawful,
 };
