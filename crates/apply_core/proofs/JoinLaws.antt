@@ -21,7 +21,6 @@ use Rattle.join_laws.specs.Order.{state_cmp}
 use Rattle.join_laws.specs.Chosen.{chosen, all_chosen}
 use Rattle.join_laws.specs.Joined.{rows_from, board_of, joined}
 use Rattle.join_laws.specs.Compatible.{OfEachStream, AreRunning, AreApart, AreCompatible}
-use Rattle.join_laws.specs.Refused.{IsRefusedJoin}
 use Rattle.join_laws.proofs.States.{states_tie}
 use Rattle.join_laws.proofs.Pairs.{same_plan, chosen_plans, chosen_comm, at_chosen}
 use Rattle.apply_core.specs.Private.Beside.{plans_in, AreAlike}
@@ -135,9 +134,6 @@ pub record AreFurther (xs ys : List State) (n : ℕ) (now others : List State) :
   pub one : (t : ℕ) → n ≤ t → slice_get now t ≡ slice_get xs t
   pub other : (t : ℕ) → n ≤ t → slice_get others t ≡ slice_get ys t
 
-pub none_yet : (xs ys : List State) → AreFurther xs ys 0 xs ys
-none_yet xs ys = record { long = refl; past = λ t less. absurd (omega (arith, less)); one = λ t le. refl; other = λ t le. refl }
-
 module _ (xs ys : List State) (n : ℕ) (now others : List State) (h : AreFurther xs ys n now others) (x y : State) (here : slice_get now n ≡ Some x) (there : slice_get others n ≡ Some y) where
   pub was_here : slice_get xs n ≡ Some x
   was_here = sym (h.one n (omega arith)) ∙ here
@@ -220,16 +216,6 @@ all_second ties a b la lb apart alike is =
     let same : all_chosen a.streams b.streams ≡ all_chosen b.streams a.streams
     = chosen_comm a.streams b.streams (λ s x y p q tie. states_tie ties x y (la.sound s x p) (lb.sound s y q) (same_plan a.streams b.streams alike.plans s x y p q) (alike.histories s x y p q) tie) in
     (compatible a b alike (subst AreApart (sym (same ∙ is)) apart), same ∙ is)
-
-pub mixed : (a b : Meaning) (rows : TargetRows) → AreAlike a b → AreTogether (all_chosen a.streams b.streams) rows → AreCompatible a b × (rows ≡ rows_from 0 (all_chosen a.streams b.streams))
-mixed a b rows alike together = (compatible a b alike together.apart, together.target)
-
-pub not_mixed : (a b : Meaning) (fault : JoinFault) → AreAlike a b → AreNotTogether (all_chosen a.streams b.streams) fault → IsRefusedJoin a b fault
-not_mixed a b (OwnedByOther key owner) alike clash = record { plans = alike.plans; running = alike.running; histories = alike.histories; first = clash }
-not_mixed a b Memory alike none = tt
-not_mixed a b WrongPlan alike none = absurd none
-not_mixed a b (NotRunning s) alike none = absurd none
-not_mixed a b (HistoriesDiffer s) alike none = absurd none
 
 -- ---- the joined board
 
