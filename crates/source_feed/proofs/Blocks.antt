@@ -36,15 +36,6 @@ pub record Ends (source : SourceValue) (history : PastEvents) (all : List GroupV
 pub append-nothing : (groups : List GroupValue) → groups ++ [] ≡ groups
 append-nothing groups = search rules
 
--- an event that ends no block
-pub ends-none : (source : SourceValue) (earlier : PastEvents) (event : EventValue) (groups : List GroupValue)
-    → block_at source earlier event ≡ None → Ends source earlier groups → Ends source (event ∷ earlier) groups
-ends-none source earlier event groups b e = record {
-  groups = e.groups ∙ sym (append-nothing (groups_of source earlier)) ∙ ap (λ block. groups_of source earlier ++ group_of_block (seen source earlier) (length (groups_of source earlier) + 1) block) (sym b);
-  last = e.last ∙ ap (λ block. with_block (seen source earlier) block) (sym b);
-  canonical = rw b e.canonical;
-}
-
 -- the block is skipped, kept or refused
 abbrev pub BlockEnds : SourceValue → PastEvents → EventValue → List GroupValue → Position → List TableChangeValue → Result (List GroupValue) FeedFault → Type 0
 BlockEnds source earlier event groups position changes (Ok new) = (block_fault source earlier position ≡ None) × Ends source (event ∷ earlier) new

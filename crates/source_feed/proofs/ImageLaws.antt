@@ -2,8 +2,7 @@
 use Rattle.std.proofs.Common.{◌≡◌, ◌==◌, ℕ, suc, ◌+◌, ◌<◌, add-one, subst, Bool, true, false, cond, List, [], ◌∷◌, ◌++◌, length, map, take, Option, Some, None, slice_get, refl, sym, ap, ◌∙◌}
 use Rattle.std.specs.Prelude.{IfSome, Result, Ok, Err, OnOk}
 use Rattle.std.specs.declared.cmp.Ordering.TheVariants.{Less}
-use Rattle.std.specs.List.{flat_map, AllByRecursion}
-use Rattle.std.specs.Map.{lookup}
+use Rattle.std.specs.List.{AllByRecursion}
 use Rattle.std.specs.Option.{option_or, option_map, option_and_then}
 use Rattle.std.specs.Ordering.{eq_by_cmp}
 use Rattle.std.proofs.lemmas.Grind.{flat_map-append}
@@ -14,9 +13,9 @@ use Rattle.pk_copy.specs.KeyOrder.{key_cmp}
 use Rattle.pk_copy.specs.KeyValue.{KeyValue}
 use Rattle.target_tables.specs.Contents.{value_at}
 use Rattle.target_tables.specs.Rising.{IsRising}
-use Rattle.target_tables.specs.Touches.{last_at, touched, owner_in_the_way, IsTouched}
+use Rattle.target_tables.specs.Touches.{last_at, touched, IsTouched}
 use Rattle.source_feed.specs.Touches.{PutValue, TouchValue, PreparedValue}
-use Rattle.source_feed.specs.History.{RowValue, touches_in, row_at, passing, kept_at, IsKept}
+use Rattle.source_feed.specs.History.{RowValue, touches_in, passing, kept_at, IsKept}
 use Rattle.source_feed.specs.Image.{ImageRows, row_in, kept_after}
 use Rattle.source_feed.specs.Private.ImageEntries.{Entries, rows_of, AreOwn, change_of}
 
@@ -86,22 +85,6 @@ row_after old new touches own h k =
     ∙ touched-own (last_at key_cmp touches k) (value_at key_cmp old k) (own k)
     ∙ ap (λ (v : Option RowValue). kept_after (last_at key_cmp touches k) v) (sym (row_in-rows_of old k))
 
-pub own_after : (old new : Entries) (touch : KeyValue → Option (Option RowValue)) → AreOwn old → IsTouched key_cmp old 0 touch new → AreOwn new
-own_after old new touch own h k = rw h (touched-stays-own (touch k) (value_at key_cmp old k) (own k))
-
--- no row of another stream is in the way
-pub no_other : (entries : Entries) (touch : Option (Option RowValue)) (k : KeyValue) (owner : ℕ) → AreOwn entries → owner_in_the_way 0 touch (value_at key_cmp entries k) ≡ Some owner → ⊥
-no_other entries touch k owner own e = by touch (value_at key_cmp entries k) (own k) e
-  where
-    by : (touch : Option (Option RowValue)) (there : Option (ℕ × RowValue)) → IfSome there (λ x. x.0 ≡ 0) → owner_in_the_way 0 touch there ≡ Some owner → ⊥
-    by None there own e = cc
-    by (Some None) there own e = cc
-    by (Some (Some row)) None own e = cc
-    by (Some (Some row)) (Some there) own e =
-        let none : cond (there.0 == 0) None (Some there.0) ≡ None = ap (λ n. cond (n == 0) None (Some there.0)) own in
-        let some : cond (there.0 == 0) None (Some there.0) ≡ Some owner = e in
-        cc
-
 -- ---- rows without their stream rise as their entries do
 
 all-rows_of : (P : KeyValue → Type 0) (entries : Entries) → AllByRecursion (λ e. P e.0) entries → AllByRecursion (λ r. P r.0) (rows_of entries)
@@ -157,11 +140,6 @@ take-pushed history group = rw add-one (whole history)
     whole : (groups : List PreparedValue) → take (suc (length groups)) (groups ++ group ∷ []) ≡ take (length groups) groups ++ group ∷ []
     whole [] = refl
     whole (g ∷ groups) = ap (λ (gs : List PreparedValue). g ∷ gs) (whole groups)
-
--- ---- no group
-
-pub kept-none : (history : List PreparedValue) → IsKept history 0 []
-kept-none history = record { rising = tt; each_key = λ k. refl }
 
 -- ---- what an advance leaves
 

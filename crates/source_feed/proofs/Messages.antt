@@ -15,7 +15,7 @@ use Rattle.vevent.specs.Event.{event_at}
 use Rattle.vevent.specs.declared.fault.EventFault.{EventFault}
 use Rattle.source_feed.specs.declared.fault.FeedFault.{FeedFault}
 use Rattle.source_feed.specs.declared.fault.FeedFault.TheVariants.{Memory}
-use Rattle.outcome.specs.Outcome.{◌>>=◌, unless, Refuses, IsFault}
+use Rattle.outcome.specs.Outcome.{◌>>=◌, unless, Refuses}
 use Rattle.source_feed.specs.FaultNumber.{meant_of}
 use Rattle.source_feed.specs.SourceValue.{SourceValue}
 use Rattle.source_feed.specs.EventList.{end_of_message, events_then, events_in}
@@ -29,34 +29,6 @@ pub refuses_along : {Y Z : Type 0} (fault : FeedFault) (one : Result Y FeedFault
     → (one ≡ Err fault → other ≡ Err fault) → Refuses meant_of fault one → Refuses meant_of fault other
 refuses_along Memory one other h r = tt
 refuses_along fault one other h r = h r
-
-pub refuses_from : {Z : Type 0} (fault : FeedFault) (named : Option FeedFault) (definition : Result Z FeedFault)
-    → (named ≡ Some fault → definition ≡ Err fault) → IsFault meant_of fault named → Refuses meant_of fault definition
-refuses_from Memory named definition h r = tt
-refuses_from fault named definition h r = h r
-
--- ---- events of a message
-
-pub took_event : (source : SourceValue) (whole : Result PastEvents FeedFault) (history : PastEvents) (event : EventValue) (old new : Reading EventValue EventFault)
-    → whole ≡ past_behind source history old.items (end_of_message old.fault) → old.items ≡ event ∷ new.items → old.fault ≡ new.fault
-    → fault_at source history event ≡ None → whole ≡ past_behind source (event ∷ history) new.items (end_of_message new.fault)
-took_event source whole history event old new w i f none =
-    w ∙ ap (λ items. past_behind source history items (end_of_message old.fault)) i
-    ∙ ap (λ fault. past_behind source history (event ∷ new.items) (end_of_message fault)) f
-    ∙ ap (λ fault. unless fault >>= λ _. past_behind source (event ∷ history) new.items (end_of_message new.fault)) none
-
-pub refused_event : (source : SourceValue) (whole : Result PastEvents FeedFault) (history : PastEvents) (event : EventValue) (old new : Reading EventValue EventFault) (fault : FeedFault)
-    → whole ≡ past_behind source history old.items (end_of_message old.fault) → old.items ≡ event ∷ new.items
-    → fault_at source history event ≡ Some fault → whole ≡ Err fault
-refused_event source whole history event old new fault w i some =
-    w ∙ ap (λ items. past_behind source history items (end_of_message old.fault)) i
-    ∙ ap (λ fault. unless fault >>= λ _. past_behind source (event ∷ history) new.items (end_of_message old.fault)) some
-
-pub ended_events : (source : SourceValue) (whole : Result PastEvents FeedFault) (history : PastEvents) (old : Reading EventValue EventFault) (end : Option EventFault)
-    → whole ≡ past_behind source history old.items (end_of_message old.fault) → old.items ≡ [] → old.fault ≡ end
-    → whole ≡ (unless (end_of_message end) >>= λ _. Ok history)
-ended_events source whole history old end w i f =
-    w ∙ ap (λ items. past_behind source history items (end_of_message old.fault)) i ∙ ap (λ fault. unless (end_of_message fault) >>= λ _. Ok history) f
 
 -- ---- messages of a feed
 
@@ -152,15 +124,6 @@ total-frames NoItem bytes (message ∷ messages) end s =
 -- the events of a feed aren't more than its bytes
 pub length-feed : (feed : List ℕ) (frames : Reading (List ℕ) FrameFault) → AreFrames feed frames → length (events_in frames.items frames.fault).items ≤ length feed
 length-feed feed frames s = omega (arith, length-events_in frames.items frames.fault, total-frames (NoFrame (length feed)) feed frames.items frames.fault s)
-
--- a message's events are among those still to come
-pub events_first : (message : List ℕ) (old new : Reading (List ℕ) FrameFault) → old.items ≡ message ∷ new.items → old.fault ≡ new.fault
-    → length (response_of message).items ≤ length (events_in old.items old.fault).items
-events_first message old new i f = rw (split_message message old new i f) (among (response_of message).items (response_of message).fault (events_in new.items new.fault))
-  where
-    among : (items : List EventValue) (fault : Option EventFault) (others : Reading EventValue FeedFault) → length items ≤ length (events_then items fault others).items
-    among items None others = omega (arith, length-append items others.items)
-    among items (Some fault) others = omega arith
 
 -- a fault that ends some events leaves no history behind them
 ended_badly : (source : SourceValue) (next : PastEvents) (items : List EventValue) (fault : FeedFault) (history : PastEvents) → past_behind source history items (Some fault) ≡ Ok next → ⊥

@@ -33,9 +33,6 @@ pub dot_missing : (keyspace name behind : List ℕ) (found : Option (Bor (List �
 dot_missing keyspace name behind (Some x) e m = tt
 dot_missing keyspace name behind None e m = λ rest p. m rest (append_cancel_left keyspace behind (46 ∷ rest) (sym e ∙ p ∙ append_assoc keyspace (46 ∷ []) rest))
 
-pub keyspace_missing : (keyspace name : List ℕ) → ((rest : List ℕ) → name ≢ keyspace ++ rest) → (rest : List ℕ) → name ≢ (keyspace ++ 46 ∷ []) ++ rest
-keyspace_missing keyspace name m rest p = m (46 ∷ rest) (p ∙ append_assoc keyspace (46 ∷ []) rest)
-
 pub short_name-by_prefix : (keyspace name : List ℕ) → keyspace ≢ [] → short_name keyspace name ≡ without_prefix (keyspace ++ 46 ∷ []) name
 short_name-by_prefix [] name some = absurd (some refl)
 short_name-by_prefix (b ∷ keyspace) name some = refl

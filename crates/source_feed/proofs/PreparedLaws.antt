@@ -16,7 +16,7 @@ use Rattle.source_feed.specs.declared.fault.FeedFault.{FeedFault}
 use Rattle.source_feed.specs.GroupValue.{Position}
 use Rattle.source_feed.specs.Planned.{FeedValue, PlannedGroupValue, PlannedChangeValue, IsFeed, IsChangeUnder}
 use Rattle.source_feed.specs.Prepared.{IsTouchUnder, IsPrepared}
-use Rattle.source_feed.specs.Touches.{PutValue, TouchValue, group_at, in_group, key_in, passes_in, touches_before, touches_after, touches_of_change, touches_of}
+use Rattle.source_feed.specs.Touches.{TouchValue, group_at, in_group, key_in, passes_in, touches_before, touches_after, touches_of_change, touches_of}
 use Rattle.source_feed.proofs.PlanLaws.{All-append}
 
 pub group_at-place : (feed : FeedValue) (number : ℕ) → 0 < number → group_at feed number ≡ slice_get feed.groups (number - 1)

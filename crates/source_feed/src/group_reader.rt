@@ -1,7 +1,6 @@
 //! The groups of the events of a feed, event after event.
 
-ghost use Rattle.std.specs.Prelude.{◌≡◌, ℕ, true, List, Option, ◌+◌, ◌^◌, ◌<◌, ◌≤◌, ◌++◌, [], Some, None, Ok, OnOk, IfOk, IfErr, length};
-ghost use Rattle.std.specs.Option.{option_map};
+ghost use Rattle.std.specs.Prelude.{◌≡◌, List, Option, ◌+◌, ◌^◌, ◌<◌, ◌≤◌, [], Some, None, Ok, IfOk, length};
 ghost use Rattle.vevent.specs.EventValue as value;
 ghost use Rattle.vevent.specs.EventValue.{ShardGtidValue};
 ghost use Rattle.source_feed.specs.SourceValue.{SourceValue, own_gtid};

@@ -1,6 +1,6 @@
 //! The groups of a feed.
 
-ghost use Rattle.std.specs.Prelude.{◌≡◌, ◌||◌, ℕ, ◌+◌, ◌^◌, ◌<◌, ◌≤◌, [], length, option_copied, OnOk, IfOk, IfErr, IfSome};
+ghost use Rattle.std.specs.Prelude.{◌≡◌, ◌||◌, ◌+◌, ◌^◌, ◌<◌, ◌≤◌, [], length, option_copied, OnOk, IfOk, IfErr, IfSome};
 ghost use Rattle.std.specs.List.{list_any};
 ghost use Rattle.vevent.specs.Response.{response_of};
 ghost use Rattle.outcome.specs.Outcome.{GivesUnless, Refuses};

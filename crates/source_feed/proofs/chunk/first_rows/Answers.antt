@@ -1,4 +1,4 @@
-use Rattle.std.proofs.Common.{◌≡◌, ◌-◌, ◌<◌, ◌≤◌, ◌++◌, [], ◌∷◌, length, map, length-append, arith, refl, sym, ap, eq-eqb, ◌∙◌}
+use Rattle.std.proofs.Common.{◌≡◌, ◌<◌, ◌++◌, [], ◌∷◌, length, map, length-append, arith, refl, sym, ap, eq-eqb, ◌∙◌}
 use Rattle.std.proofs.lemmas.Bool.{ne_eqb}
 use Rattle.source_feed.specs.Image.{lent_row}
 use Rattle.source_feed.proofs.ChunkLaws.{ends-later, rises-on, skipped, pushed}

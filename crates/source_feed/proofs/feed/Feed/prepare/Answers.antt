@@ -1,8 +1,7 @@
-use Rattle.std.proofs.Common.{◌≡◌, rules, ap, subst, sym, Some}
+use Rattle.std.proofs.Common.{◌≡◌, rules, ap, subst, sym}
 use Rattle.std.specs.Arc.{arc_value}
 use Rattle.source_feed.specs.Planned.{FeedValue, IsFeed, IsChangeUnder}
 use Rattle.source_feed.specs.Prepared.{IsPrepared}
-use Rattle.source_feed.specs.Touches.{group_at}
 use Rattle.source_feed.proofs.PreparedLaws.{changes_under, made_whole, group_number}
 use Rattle.source_feed.proofs.feed.Feed.prepare.Goals as goal
 

@@ -1,4 +1,4 @@
-use Rattle.std.proofs.Common.{refl, ap}
+use Rattle.std.proofs.Common.{refl, ap, rules}
 use Rattle.vevent.specs.EventValue.{Gtid, Vgtid}
 use Rattle.source_feed.specs.Private.ReaderState.{body_held}
 use Rattle.source_feed.proofs.Steps.{position-puts, carries-gtid, carries-vgtid}
@@ -15,3 +15,9 @@ returns-in-None-clause-vgtid c = λ source earlier entries own m.
     position-puts c.set_laws.ensures source earlier (Vgtid entries) c.args.text.now c.args.self.now (record { transaction = c.args.self.now.transaction; widths = c.args.self.now.widths; groups = c.end_block.new.groups }) c.end_block.result c.in_ok-position.position
     (carries-vgtid source entries c.args.text.now own) c.in_ok-position.ensures.exact c.in_ok-position.ensures.canonical m
     (ap body_held c.in-None.is) (ap body_held c.in-None.is) (λ table. refl) (rw c.new.ensures.items at c.end_block.ensures.block)
+
+pub returns-in-Some-clause-gtid : goal.returns-in-Some-clause-gtid
+returns-in-Some-clause-gtid c = search rules
+
+pub returns-in-Some-clause-vgtid : goal.returns-in-Some-clause-vgtid
+returns-in-Some-clause-vgtid c = search rules
