@@ -1,4 +1,4 @@
-use Rattle.std.proofs.Common.{◌≡◌, length, refl, ap, subst, ◌∙◌, arith}
+use Rattle.std.proofs.Common.{◌≡◌, List, length, refl, ap, subst, ◌∙◌, arith}
 use Rattle.board_laws.specs.Meaning.{State, Meaning}
 use Rattle.join_laws.specs.Chosen.{all_chosen}
 use Rattle.apply_core.specs.declared.joining.Source.TheVariants.{First, Second, Both}
