@@ -4,3 +4,4 @@ pub mod OwnRows
 pub mod ResumedLaws
 pub mod RestartedLaws
 pub mod OneThing
+pub mod SaidLaws

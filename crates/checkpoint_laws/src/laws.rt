@@ -1,9 +1,10 @@
 //! Laws of checkpoints, each the contract of a function without a body: they hold of the values that
 //! contracts see boards as.
 
-ghost use Rattle.checkpoint_laws.specs.Laws.{CheckpointsAreReadAgain, CheckpointsSayOneThing, ResumedBoardsAreLawful, RestartedBoardsAreResumed};
+ghost use Rattle.checkpoint_laws.specs.Laws.{CheckpointsAreReadAgain, CheckpointsSayOneThing, ResumedBoardsAreLawful, RestartedBoardsAreResumed, SavedBoardsAreSaid};
 
-use pk_copy::keys_tie_where_they_are_equal;
+use gtid_set::printed_text_reads_back;
+use pk_copy::{keys_tie_where_they_are_equal, lastpks_are_read_again};
 use vevent::stream_parts_are_read_again;
 
 /// Parts of streams that are written as a checkpoint are read as these parts, where they are within the
@@ -19,6 +20,15 @@ pub fn checkpoints_say_one_thing()
     ensures { CheckpointsSayOneThing }
 {
     keys_tie_where_they_are_equal();
+}
+
+/// What is kept of a board within the limits is what its checkpoint says.
+pub fn saved_boards_are_said()
+    ensures { SavedBoardsAreSaid }
+{
+    stream_parts_are_read_again();
+    printed_text_reads_back();
+    lastpks_are_read_again();
 }
 
 /// Whatever the bytes, a board that they and the feeds make is lawful, and has the positions, marks and

@@ -8,5 +8,5 @@ mod laws;
 pub use fault::ResumeFault;
 pub use laws::{
     checkpoints_are_read_again, checkpoints_say_one_thing, restarted_boards_are_resumed,
-    resumed_boards_are_lawful,
+    resumed_boards_are_lawful, saved_boards_are_said,
 };

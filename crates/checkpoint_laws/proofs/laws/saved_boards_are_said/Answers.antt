@@ -1,0 +1,5 @@
+use Rattle.checkpoint_laws.proofs.SaidLaws.{saved_boards}
+use Rattle.checkpoint_laws.proofs.laws.saved_boards_are_said.Goals as goal
+
+pub returns : goal.returns
+returns c = saved_boards c.stream_parts_are_read_again.ensures c.printed_text_reads_back.ensures.with_flavor c.lastpks_are_read_again.ensures
