@@ -1,11 +1,13 @@
 //! Boards whose rows aren't copied: offers, snapshots, restarts, and what is refused.
 
-use crate::feeds::{Change, ONE, OTHER_TABLE, TWO, feed_of, feeds_of, plans_of};
+use crate::feeds::{BY_VALUE, Change, ONE, OTHER_TABLE, TWO, feed_of, feeds_of, plans_of};
 use crate::follow::{Case, board_of, follows, is_met, read, repeat};
 use apply_core::{Answer, Board, Refusal};
 use gtid_set::GtidSet;
 use pk_copy::Mark;
+use source_feed::{Feed, Prepared};
 use std::alloc::Global;
+use std::sync::Arc;
 use std::test::Fail;
 use stream_core::{Phase, Step};
 
@@ -16,6 +18,9 @@ const FOUR: &[&[Change]] = &[
     &[(None, Some((b"3", b"c")))],
     &[(None, Some((b"4", b"d")))],
 ];
+
+/// Two groups, of which the first one is another.
+const ANOTHER: &[&[Change]] = &[&[(None, Some((b"1", b"z")))], &[(None, Some((b"2", b"b")))]];
 
 /// What can go to another thread.
 fn is_send<T: Send>(_: &T) {}
@@ -144,6 +149,56 @@ fn refused<T: Drop>(answer: Result<T, Refusal>) -> u8 {
         Ok(_) => 0,
         Err(refusal) => refusal.number(),
     }
+}
+
+/// The group of a number in the first feed of a workflow.
+fn group_of<'h>(
+    alloc: Global,
+    workflow: &[u8],
+    bytes: &'h [u8],
+    number: u32,
+) -> Result<Arc<Prepared<'h>>, Fail> {
+    let feeds = feeds_of(alloc, workflow, bytes, bytes)?;
+    match feeds.first() {
+        None => Err("a feed".into()),
+        Some(feed) => Ok(feed.prepare(alloc, number)?),
+    }
+}
+
+/// The number with which a group is refused by a board that has read the first of four groups.
+fn refused_group<'h>(alloc: Global, bytes: &'h [u8], group: Arc<Prepared<'h>>) -> Result<u8, Fail> {
+    let feeds = feeds_of(alloc, ONE, bytes, bytes)?;
+    let mut board = board_of(alloc, ONE)?;
+    if !follows(alloc, &mut board, &feeds, &[(0, Step::Offer(1), read(1))]) {
+        return Err("group 1 is read".into());
+    }
+    Ok(refused(board.offer(alloc, 0, group)))
+}
+
+/// The number with which a group of a feed is refused behind the first of four groups; 0 where it isn't.
+fn refused_offer(
+    alloc: Global,
+    workflow: &[u8],
+    server: u8,
+    groups: &[&[Change]],
+    number: u32,
+) -> Result<u8, Fail> {
+    let bytes = feed_of(alloc, b'2', FOUR)?;
+    let others = feed_of(alloc, server, groups)?;
+    let group = group_of(alloc, workflow, &others, number)?;
+    refused_group(alloc, &bytes, group)
+}
+
+/// Another group at a number that was read, one that doesn't go on from the last position, one of another
+/// filter, and one that goes on.
+#[test]
+fn offers_of_another_history(rt: HostRuntime) -> Result<(), Fail> {
+    let alloc = rt.alloc();
+    assert!(rt; refused_offer(alloc, ONE, b'2', ANOTHER, 1)? == 112);
+    assert!(rt; refused_offer(alloc, ONE, b'3', ANOTHER, 2)? == 112);
+    assert!(rt; refused_offer(alloc, BY_VALUE, b'2', FOUR, 2)? == 111);
+    assert!(rt; refused_offer(alloc, ONE, b'2', ANOTHER, 2)? == 0);
+    Ok(())
 }
 
 /// Whether every call on a stream that isn't there is refused so.
