@@ -5,3 +5,4 @@ pub mod BoardSteps
 pub mod SeatLaws
 pub mod OpenLaws
 pub mod EndLaws
+pub mod CallLaws

@@ -2,3 +2,4 @@ pub mod Knowing
 pub mod Rule
 pub mod Seats
 pub mod SeatOf
+pub mod Calls

@@ -3,6 +3,7 @@
 
 mod deal;
 mod ending;
+mod laws;
 mod lock;
 mod opening;
 mod receipt;
@@ -10,6 +11,7 @@ mod seat;
 mod shared;
 
 pub use board_laws::{Answer, Copied, Offered, Refusal};
+pub use laws::calls_keep_applied_groups;
 pub use opening::OpenRefusal;
 pub use receipt::Receipt;
 pub use seat::Seat;
