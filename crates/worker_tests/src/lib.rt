@@ -1,0 +1,7 @@
+//! Tests of a board that threads share.
+#![tactic(auto)]
+
+#[cfg(test)]
+mod feeds;
+#[cfg(test)]
+mod seats;
