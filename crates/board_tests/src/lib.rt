@@ -13,6 +13,8 @@ mod follow;
 #[cfg(test)]
 mod groups_of_touches;
 #[cfg(test)]
+mod joins;
+#[cfg(test)]
 mod keys;
 #[cfg(test)]
 mod lastpk;
