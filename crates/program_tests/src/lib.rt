@@ -10,5 +10,3 @@ mod inputs;
 mod outputs;
 #[cfg(test)]
 mod show;
-#[cfg(test)]
-mod thin;

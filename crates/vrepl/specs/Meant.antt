@@ -1,10 +1,10 @@
 -- What the words that were read ask for.
-use Rattle.vrepl.specs.Words.{ShowValue, ThinValue, WordsValue, asks_show, asks_thin}
-use Rattle.std.specs.Prelude.{ℕ, List, Result}
+use Rattle.vrepl.specs.Words.{ShowValue, StepValue, WordsValue, asks_show, asks_step}
+use Rattle.std.specs.Prelude.{◌≡◌, ℕ, List, map, Option, None, Some, Result, Ok, Err}
 use Rattle.vrepl_main.specs.Show.{shown_feed, source_of}
 use Rattle.vrepl_main.specs.Reasons.{Reason}
 use Rattle.vrepl.specs.declared.words.Show.{Show}
-use Rattle.vrepl.specs.declared.words.Thin.{Thin}
+use Rattle.vrepl.specs.declared.words.Step.{Step}
 use Rattle.vrepl.specs.declared.words.Words.{Words}
 use Rattle.vrepl.specs.declared.words.Words.TheVariants as words
 
@@ -17,13 +17,19 @@ show_value show = record {
   feed = show.feed.now;
 }
 
-abbrev pub thin_value : Thin → ThinValue
-thin_value thin = record { table = thin.table.now; feed = thin.feed.now }
+abbrev pub step_value : Step → StepValue
+step_value step = record { hex = step.hex; workflow = step.workflow.now; feeds = map (λ feed. feed.now) step.feeds.items }
 
 -- what was read of the words, as a plain value
 abbrev pub value_of : Words → WordsValue
 value_of (words.Show show) = asks_show (show_value show)
-value_of (words.Thin thin) = asks_thin (thin_value thin)
+value_of (words.Step step) = asks_step (step_value step)
+
+-- what was met asks for this, if for anything, unless a fault kept it from being read
+abbrev pub Asks : {E : Type 0} → Option (Result Words E) → Option WordsValue → Type 0
+Asks None asked = asked ≡ None
+Asks (Some (Ok words)) asked = asked ≡ Some (value_of words)
+Asks (Some (Err fault)) asked = Unit {0}
 
 -- the text that the words of `show` ask for of a feed, or why it is refused
 abbrev pub text_asked : Show → List ℕ → Result (List ℕ) Reason

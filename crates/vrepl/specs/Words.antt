@@ -5,7 +5,7 @@ use Rattle.std.specs.Str.{bytes_eq}
 use Rattle.clap.specs.Words.{App, Row, Rule, Shape, Text, fault_of, subcommand_of}
 use Rattle.clap.specs.Simple.{new_shape}
 use Rattle.clap.specs.Kinds.{Kinds}
-use Rattle.vrepl.specs.Arguments.{flag_rule, is_given, operand_rule, option_rule, text_given}
+use Rattle.vrepl.specs.Arguments.{flag_rule, is_given, operand_rule, operands_rule, option_rule, text_given, texts_given}
 
 -- `show`: a feed, whose it is, and whether it is hexadecimal text
 pub record ShowValue : Type 0 where
@@ -14,15 +14,16 @@ pub record ShowValue : Type 0 where
   pub shard : Text
   pub feed : Text
 
--- `thin`: a table and a feed
-pub record ThinValue : Type 0 where
-  pub table : Text
-  pub feed : Text
+-- `step`: a workflow, a feed for each of its streams, and whether feeds are hexadecimal text
+pub record StepValue : Type 0 where
+  pub hex : Bool
+  pub workflow : Text
+  pub feeds : List Text
 
 -- what words ask for
 pub data WordsValue : Type 0 where
   asks_show : ShowValue → WordsValue
-  asks_thin : ThinValue → WordsValue
+  asks_step : StepValue → WordsValue
 
 -- a subcommand: its name, its arguments in their order, and what it asks for, by what is given to them
 pub record Subcommand : Type 0 where
@@ -47,21 +48,21 @@ show_subcommand = record {
   meaning = λ given. asks_show (show_given given);
 }
 
--- what is given to the arguments of `thin`
-abbrev pub thin_given : List Row → ThinValue
-thin_given given = record { table = text_given (codes "table") given; feed = text_given (codes "feed") given }
+-- what is given to the arguments of `step`
+abbrev pub step_given : List Row → StepValue
+step_given given = record { hex = is_given (codes "hex") given; workflow = text_given (codes "workflow") given; feeds = texts_given (codes "feed") given }
 
--- `thin TABLE FEED`
-abbrev pub thin_subcommand : Subcommand
-thin_subcommand = record {
-  name = codes "thin";
-  rules = operand_rule (codes "table") ∷ operand_rule (codes "feed") ∷ [];
-  meaning = λ given. asks_thin (thin_given given);
+-- `step [--hex] WORKFLOW FEED..`
+abbrev pub step_subcommand : Subcommand
+step_subcommand = record {
+  name = codes "step";
+  rules = flag_rule (codes "hex") ∷ operand_rule (codes "workflow") ∷ operands_rule (codes "feed") ∷ [];
+  meaning = λ given. asks_step (step_given given);
 }
 
 -- the subcommands, in the order of the help
 abbrev pub subcommands : List Subcommand
-subcommands = show_subcommand ∷ thin_subcommand ∷ []
+subcommands = show_subcommand ∷ step_subcommand ∷ []
 
 -- a subcommand as `clap` sees it
 abbrev pub shape_of_subcommand : Subcommand → Shape

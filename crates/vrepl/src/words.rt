@@ -1,11 +1,11 @@
 //! The words of the command line, as `clap` reads them.
 
-ghost use Rattle.std.specs.Prelude.{◌≡◌, IfOk, Some, map, option_map, string_bytes};
+ghost use Rattle.std.specs.Prelude.{◌≡◌, IfOk, Some, map, string_bytes};
 ghost use Rattle.clap.specs.Words.{FailsBy, found_of, rows_of, subcommand_rows_of};
-ghost use Rattle.vrepl.specs.Arguments.{flag_rule, is_given, operand_rule, option_rule, text_given};
+ghost use Rattle.vrepl.specs.Arguments.{flag_rule, is_given, operand_rule, operands_rule, option_rule, text_given, texts_given};
 ghost use Rattle.vrepl.specs.Built.{HasApp, HasRule, IsSubcommand};
-ghost use Rattle.vrepl.specs.Meant.{show_value, thin_value, value_of};
-ghost use Rattle.vrepl.specs.Words.{asked_by, faults_of, program_app, show_given, show_subcommand, thin_given, thin_subcommand, words_of};
+ghost use Rattle.vrepl.specs.Meant.{Asks, show_value, value_of};
+ghost use Rattle.vrepl.specs.Words.{asked_by, asks_step, faults_of, program_app, show_given, show_subcommand, step_given, step_subcommand, words_of};
 
 use clap::error::ErrorKind;
 use clap::{Arg, ArgAction, ArgMatches, Command, Error};
@@ -13,21 +13,23 @@ use std::alloc::{AllocError, Global};
 use vrepl_main::source::Source;
 
 /// What the words ask for.
-#[derive(Clone, Copy, Debug, PartialEq, Eq)]
+#[derive(Drop)]
 pub enum Words<'w> {
     /// `show`: print the groups of one feed.
     Show(Show<'w>),
-    /// `thin`: take the steps of a script over one feed and one table.
-    Thin(Thin<'w>),
+    /// `step`: take the steps of a script on a board over a workflow and its feeds.
+    Step(Step<'w>),
 }
 
-/// The words of `thin`.
-#[derive(Clone, Copy, Debug, PartialEq, Eq)]
-pub struct Thin<'w> {
-    /// The table's name.
-    pub table: &'w str,
-    /// The feed's file.
-    pub feed: &'w str,
+/// The words of `step`.
+#[derive(Drop)]
+pub struct Step<'w> {
+    /// Whether the feeds are hexadecimal text.
+    pub hex: bool,
+    /// The workflow's file.
+    pub workflow: &'w str,
+    /// The feeds' files, in the order of the streams.
+    pub feeds: Vec<&'w str>,
 }
 
 /// The words of `show`.
@@ -61,20 +63,20 @@ pub fn read<'w>(alloc: Global, words: &'w [String]) -> Result<Words<'w>, Error>
     }
     let mut command = program(alloc)?;
     let matches = command.try_get_matches_from_mut(words)?;
-    match asked(&matches) {
-        Some(words) => Ok(words),
+    match asked(alloc, &matches) {
+        Some(words) => Ok(words?),
         None => Err(command.error(ErrorKind::MissingSubcommand, "no subcommand was given")?),
     }
 }
 
-/// What the subcommand that was met asks for.
-fn asked<'w>(matches: &ArgMatches<'w>) -> Option<Words<'w>>
-    ensures { option_map value_of result ≡ asked_by (subcommand_rows_of matches.now) }
+/// What the subcommand that was met asks for. A fault is want of memory.
+fn asked<'w>(alloc: Global, matches: &ArgMatches<'w>) -> Option<Result<Words<'w>, AllocError>>
+    ensures { Asks result (asked_by (subcommand_rows_of matches.now)) }
 {
     let (name, given) = matches.subcommand()?;
     match name {
-        "show" => Some(Words::Show(show_words(given))),
-        "thin" => Some(Words::Thin(thin_words(given))),
+        "show" => Some(Ok(Words::Show(show_words(given)))),
+        "step" => Some(step_words(alloc, given)),
         _ => None,
     }
 }
@@ -86,13 +88,15 @@ Example:
   group 1 3e11fa47-71ca-11e1-9e33-c80aa9429562:1
   + t\tx31\tx6162";
 
-/// A call of `thin` and what it prints.
-const THIN_EXAMPLE: &str = "\
+/// A call of `step` and what it prints.
+const STEP_EXAMPLE: &str = "\
 Example:
-  $ xxd -r -p examples/one_insert.hex > /tmp/feed
-  $ vrepl thin t /tmp/feed < examples/apply_one.script
+  $ vrepl step --hex examples/workflows/one_shard.json examples/one_insert.hex \\
+      < examples/copy_one.script
   read 1
   applied 1
+  snapshot 1
+  copied 1 done
   table t
   x31\tx6162";
 
@@ -107,7 +111,7 @@ fn program<'w>(alloc: Global) -> Result<Command<'w>, AllocError>
         .subcommand_required(true)
         .disable_help_subcommand(true)
         .subcommand(show_command(alloc)?)?
-        .subcommand(thin_command(alloc)?)
+        .subcommand(step_command(alloc)?)
 }
 
 fn show_command<'w>(alloc: Global) -> Result<Command<'w>, AllocError>
@@ -123,14 +127,16 @@ fn show_command<'w>(alloc: Global) -> Result<Command<'w>, AllocError>
         .arg(operand(alloc, "feed", "FEED", feed_help))
 }
 
-fn thin_command<'w>(alloc: Global) -> Result<Command<'w>, AllocError>
-    ensures { IfOk result (IsSubcommand thin_subcommand) }
+fn step_command<'w>(alloc: Global) -> Result<Command<'w>, AllocError>
+    ensures { IfOk result (IsSubcommand step_subcommand) }
 {
-    Command::new(alloc, "thin")
-        .about("Takes the steps of a script on standard input over a feed and a table")
-        .after_help(THIN_EXAMPLE)
-        .arg(operand(alloc, "table", "TABLE", "The table's name"))?
-        .arg(operand(alloc, "feed", "FEED", "The feed's file"))
+    let feed_help = "A feed's file for each stream, in their order";
+    Command::new(alloc, "step")
+        .about("Takes the steps of a script on standard input over a workflow and its feeds")
+        .after_help(STEP_EXAMPLE)
+        .arg(flag(alloc, "hex", "Reads feeds as hexadecimal text"))?
+        .arg(operand(alloc, "workflow", "WORKFLOW", "The workflow's file"))?
+        .arg(operands(alloc, "feed", "FEED", feed_help))
 }
 
 /// `--name`.
@@ -163,6 +169,13 @@ fn operand<'w>(alloc: Global, name: &'w str, value: &'w str, help: &'w str) -> A
         .help(help)
 }
 
+/// `TEXT..` in its place, once or more often.
+fn operands<'w>(alloc: Global, name: &'w str, value: &'w str, help: &'w str) -> Arg<'w>
+    ensures { HasRule (operands_rule name.entry.now) result }
+{
+    operand(alloc, name, value, help).num_args(1..)
+}
+
 fn show_words<'w>(given: &ArgMatches<'w>) -> Show<'w>
     ensures { show_value result ≡ show_given (rows_of (found_of given.now)) }
 {
@@ -176,13 +189,15 @@ fn show_words<'w>(given: &ArgMatches<'w>) -> Show<'w>
     }
 }
 
-fn thin_words<'w>(given: &ArgMatches<'w>) -> Thin<'w>
-    ensures { thin_value result ≡ thin_given (rows_of (found_of given.now)) }
+fn step_words<'w>(alloc: Global, given: &ArgMatches<'w>) -> Result<Words<'w>, AllocError>
+    ensures { IfOk result (λ words. value_of words ≡ asks_step (step_given (rows_of (found_of given.now)))) }
 {
-    Thin {
-        table: text(given, "table"),
-        feed: text(given, "feed"),
-    }
+    let feeds = texts(alloc, given, "feed")?;
+    Ok(Words::Step(Step {
+        hex: has_flag(given, "hex"),
+        workflow: text(given, "workflow"),
+        feeds,
+    }))
 }
 
 /// A flag was given.
@@ -197,4 +212,25 @@ fn text<'w>(given: &ArgMatches<'w>, name: &str) -> &'w str
     ensures { result.now ≡ text_given name.now (rows_of (found_of given.now)) }
 {
     given.get_str(name).unwrap_or("")
+}
+
+/// The texts that were given. An error is want of memory.
+fn texts<'w>(alloc: Global, given: &ArgMatches<'w>, name: &str) -> Result<Vec<&'w str>, AllocError>
+    ensures { IfOk result (λ texts. map (λ text. text.now) texts.items ≡ texts_given name.now (rows_of (found_of given.now))) }
+{
+    match given.get_strs(name) {
+        Some(texts) => copies(alloc, texts),
+        None => Ok(Vec::new(alloc)),
+    }
+}
+
+/// The same texts, in a vector. An error is want of memory.
+fn copies<'w>(alloc: Global, texts: &[&'w str]) -> Result<Vec<&'w str>, AllocError>
+    ensures { IfOk result (λ copies. map (λ text. text.now) copies.items ≡ map (λ text. text.now) texts.now) }
+{
+    let mut copies = Vec::with_capacity(alloc, texts.len())?;
+    for text in texts {
+        copies.push(*text)?;
+    }
+    Ok(copies)
 }

@@ -3,8 +3,6 @@ pub mod InputLaws
 pub mod PrintLaws
 pub mod AddLaws
 pub mod CommandLaws
-mod ThinLaws
-mod ScriptLaws
 mod LineLaws
 mod KeyTextLaws
 mod OpenLaws

@@ -8,17 +8,6 @@ pub mod Inputs
 pub mod Adding
 pub mod Shown
 pub mod Show
-pub mod RowAt
-pub mod StreamStep
-pub mod Thin
-pub mod DumpText
-pub mod ThinSteps
-pub mod RowsHold
-pub mod StreamKeeps
-pub mod Script
-pub mod ScriptFaults
-pub mod ReplyText
-pub mod ThinRun
 pub mod ScriptLines
 pub mod ScriptRefusal
 pub mod AnswerText

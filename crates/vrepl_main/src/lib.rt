@@ -18,5 +18,4 @@ pub mod shown;
 pub mod source;
 pub mod state_text;
 pub mod step;
-pub mod thin;
 pub mod vdiff;

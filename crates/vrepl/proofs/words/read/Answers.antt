@@ -1,10 +1,17 @@
-use Rattle.std.proofs.Common.{◌≡◌, ◌∙◌, ap, sym, subst, [], map, string_bytes}
+use Rattle.std.proofs.Common.{◌≡◌, ◌∙◌, ap, sym, subst, rules, [], map, string_bytes, Option, Some, Result, Ok, Err}
 use Rattle.std.proofs.lemmas.Result.{err_from_is_err_and}
 use Rattle.clap.specs.Words.{app_of, fault_of, is_simple, is_simple_and_free}
 use Rattle.clap.specs.Kinds.{HasKind, Kinds}
-use Rattle.vrepl.specs.Words.{asked_by, faults_of, words_of}
+use Rattle.vrepl.specs.Meant.{Asks, value_of}
+use Rattle.vrepl.specs.declared.words.Words.{Words}
+use Rattle.vrepl.specs.Words.{WordsValue, asked_by, faults_of, words_of}
 use Rattle.vrepl.proofs.TakenWords.{faults_are, no_word, no_words_asked, no_words_taken, simple, simple_and_free, spelled_is, unasked, words_are, words_ask}
 use Rattle.vrepl.proofs.words.read.Goals as goal
+
+-- what was read is what was asked for
+read_is : {E : Type 0} (result : Result Words E) (words : Words) (asked all : Option WordsValue) → Asks (Some result) asked → asked ≡ all → result ≡ Ok words → all ≡ Some (value_of words)
+read_is (Ok read) words asked all asks same is = let e : read ≡ words = cc in sym same ∙ asks ∙ ap (λ w. Some (value_of w)) e
+read_is (Err fault) words asked all asks same is = cc
 
 pub returns-then-is_empty-clause-read : goal.returns-then-is_empty-clause-read
 returns-then-is_empty-clause-read c = ap (λ ws. words_of (map string_bytes ws)) (no_word c.args.words.now c.if-is_empty.ensures) ∙ no_words_asked
@@ -26,7 +33,7 @@ returns-in-Some-clause-read c =
     let is = c.in_ok-command.ensures.0 in
     let same = spelled_is string_bytes c.args.words.now c.if-is_empty.ensures in
     let given = (c.in_ok-matches.ensures.ok.2 (ap is_simple is ∙ simple)).1 in
-    sym (c.in-Some.ensures ∙ ap asked_by given ∙ words_are _ _ is same)
+    read_is _ _ _ _ c.in-Some.ensures (ap asked_by given ∙ words_are _ _ is same) (search rules)
 
 pub returns-in-Some-clause-refused : goal.returns-in-Some-clause-refused
 returns-in-Some-clause-refused c =
@@ -40,4 +47,4 @@ returns-clause-refused c =
     let same = spelled_is string_bytes c.args.words.now c.if-is_empty.ensures in
     let given = (c.in_ok-matches.ensures.ok.2 (ap is_simple is ∙ simple)).1 in
     let taken : faults_of (map string_bytes c.args.words.now) ≡ [] = sym (faults_are _ _ is same) ∙ c.in_ok-matches.ensures.kinds (ap is_simple_and_free is ∙ simple_and_free) in
-    absurd (unasked _ (words_ask (map string_bytes c.args.words.now) taken) (sym (c.in-None.ensures ∙ ap asked_by given ∙ words_are _ _ is same)))
+    absurd (unasked _ (words_ask (map string_bytes c.args.words.now) taken) (sym (words_are _ _ is same) ∙ ap asked_by (sym given) ∙ c.in-None.ensures))
