@@ -18,6 +18,7 @@ A case is a folder of tests/cases with these files, each of which may be missing
 It runs in a copy of files/, which has a copy of the repository's examples/ too. The last line is
 'N passed, M failed'.
 """
+import contextlib
 import os
 import shutil
 import subprocess
@@ -53,26 +54,31 @@ class Case:
         self.status = int(read(self.folder, "status", b"0"))
         self.stderr = read(self.folder, "stderr", None if self.status == 2 else b"")
 
-    def run(self, program, environment=None):
-        """Answers the status, standard output and standard error."""
+    @contextlib.contextmanager
+    def place(self):
+        """Makes the folder that the case runs in."""
         with tempfile.TemporaryDirectory(prefix="vrepl-case-") as room:
             place = os.path.join(room, "files")
             if os.path.isdir(os.path.join(self.folder, "files")):
                 shutil.copytree(os.path.join(self.folder, "files"), place)
             shutil.copytree(EXAMPLES, os.path.join(place, "examples"))
-            words = [os.fsencode(program), *self.words]
-            how = {"cwd": place, "env": environment, "timeout": SECONDS}
-            how |= {"stdout": subprocess.PIPE, "stderr": subprocess.PIPE} | self.standard_input(place)
-            if self.output == "closed":
-                how |= {"stdout": None, "preexec_fn": lambda: os.close(1)}
-            elif self.output:
-                how["stdout"] = open(self.output, "wb", buffering=0)
-            try:
-                ran = subprocess.run(words, **how)
-            finally:
-                if "stdin" in how:
-                    os.close(how["stdin"])
-            return ran.returncode, ran.stdout or b"", ran.stderr
+            yield place
+
+    def run(self, program, place, environment=None):
+        """Answers the status, standard output and standard error of one run in a place."""
+        words = [os.fsencode(program), *self.words]
+        how = {"cwd": place, "env": environment, "timeout": SECONDS}
+        how |= {"stdout": subprocess.PIPE, "stderr": subprocess.PIPE} | self.standard_input(place)
+        if self.output == "closed":
+            how |= {"stdout": None, "preexec_fn": lambda: os.close(1)}
+        elif self.output:
+            how["stdout"] = open(self.output, "wb", buffering=0)
+        try:
+            ran = subprocess.run(words, **how)
+        finally:
+            if "stdin" in how:
+                os.close(how["stdin"])
+        return ran.returncode, ran.stdout or b"", ran.stderr
 
     def standard_input(self, place):
         """Answers the words of `subprocess.run` that give the program its standard input."""
@@ -105,7 +111,8 @@ def main(program, *chosen):
     for name in chosen or names():
         case = Case(name)
         try:
-            found = case.faults(*case.run(program))
+            with case.place() as place:
+                found = case.faults(*case.run(program, place))
         except subprocess.TimeoutExpired:
             found = [f"no end after {SECONDS} seconds"]
         for line in found:

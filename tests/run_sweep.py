@@ -3,8 +3,9 @@
 
 usage: tests/run_sweep.py PROGRAM
 
-The built program runs over every case of tests/cases, once for each growth that it asks for: with
-that growth refused, and with that one and all later ones refused (tests/refuse_growth.c). It has to
+The built program runs over every case of tests/cases, as many cases at once as there are cores, and once for
+each growth that it asks for: with that growth refused, and with that one and all later ones refused
+(tests/refuse_growth.c). It has to
 do what the case wants, or to print nothing, say `refused 72` and end with status 1. In a script the
 line of a refused step is its reply: there `refused 72` may stand in place of a reply, behind which the
 script goes on from another state.
@@ -14,6 +15,8 @@ until none fails, but at most to the number beside the crate, since each N build
 test may fail only with want of memory: as the error that it ends with, or as what it compared.
 The last line is 'N passed, M failed': one check a case, and one a crate.
 """
+import functools
+import multiprocessing
 import os
 import re
 import subprocess
@@ -52,20 +55,20 @@ def is_reply_of_a_step(case, status, stdout, stderr):
     return is_script and (status, stderr, first) == (case.status, case.stderr, [b"refused 72"])
 
 
-def sweep_case(case, program, library, room):
+def sweep_case(program, library, name):
     """Answers why the case fails under some refused growth, or nothing."""
-    count = os.path.join(room, "growths")
-    preloaded = {**os.environ, "LD_PRELOAD": library}
-    plain = case.run(program, {**preloaded, "GROWTHS": count})
-    if case.faults(*plain):
-        return "fails with no growth refused"
-    with open(count, encoding="ascii") as file:
-        growths = int(file.read())
-    for at in range(1, growths + 1):
-        for refused in (f"{at}", f"{at}+"):
-            ran = case.run(program, {**preloaded, "REFUSE_GROWTH": refused})
-            if case.faults(*ran) and ran != REFUSED and not is_reply_of_a_step(case, *ran):
-                return f"growth {refused} of {growths} refused: status {ran[0]}, output {ran[1]!r}, error {ran[2]!r}"
+    case = run_cases.Case(name)
+    with case.place() as place, tempfile.NamedTemporaryFile("r", encoding="ascii") as count:
+        preloaded = {**os.environ, "LD_PRELOAD": library}
+        plain = case.run(program, place, {**preloaded, "GROWTHS": count.name})
+        if case.faults(*plain):
+            return "fails with no growth refused"
+        growths = int(count.read())
+        for at in range(1, growths + 1):
+            for refused in (f"{at}", f"{at}+"):
+                ran = case.run(program, place, {**preloaded, "REFUSE_GROWTH": refused})
+                if case.faults(*ran) and ran != REFUSED and not is_reply_of_a_step(case, *ran):
+                    return f"growth {refused} of {growths} refused: status {ran[0]}, output {ran[1]!r}, error {ran[2]!r}"
     return None
 
 
@@ -87,13 +90,12 @@ def sweep_crate(name, last):
 
 def main(program):
     program = os.path.abspath(program)
-    faults, checks = [], 0
-    with tempfile.TemporaryDirectory(prefix="vrepl-sweep-") as room:
-        library = refusing_library(room)
-        for name in run_cases.names():
-            checks += 1
-            why = sweep_case(run_cases.Case(name), program, library, room)
-            faults += [f"case {name}: {why}"] * (why is not None)
+    names = run_cases.names()
+    with tempfile.TemporaryDirectory(prefix="vrepl-sweep-") as room, multiprocessing.Pool() as pool:
+        sweep = functools.partial(sweep_case, program, refusing_library(room))
+        said = pool.map(sweep, names, chunksize=1)
+    faults = [f"case {name}: {why}" for name, why in zip(names, said) if why is not None]
+    checks = len(names)
     for name, last in SWEPT.items():
         checks += 1
         why = sweep_crate(name, last)

@@ -91,3 +91,11 @@ module _ (items : List State) (rows new : TargetRows) (s : ℕ) (event : Event) 
     -- and leaves it lawful
     pub lent-made-lawful : IsLawful (record { streams = take n (after ++ drop (length after) items); rows = new })
     lent-made-lawful = (lent-made (record { streams = items; rows = rows }) refl).lawful
+
+-- puts that were built before are those of the step on lent streams
+pub puts_here : (lent items streams : List State) (s : ℕ) (event : Event) (puts : List (KeyValue × Option RowValue)) → lent ≡ items → items ≡ streams → MayMake lent s event
+    → IfSome (slice_get streams s) (λ state. (key : KeyValue) → last_at key_cmp puts key ≡ touch_of state event key) → ArePutsOf lent s event puts
+puts_here lent items streams s event puts one two may does = record {
+  may = may;
+  left = subst (λ (xs : List State). IfSome (slice_get xs s) (λ state. (key : KeyValue) → last_at key_cmp puts key ≡ touch_of state event key)) (sym (one ∙ two)) does;
+}

@@ -18,14 +18,15 @@ use Rattle.board_laws.specs.Lawful.{IsSoundState}
 use Rattle.board_laws.specs.Event.{copy_rows}
 use Rattle.board_laws.specs.Chunk.{rows_left, rows_taken, takes_all, marks_behind}
 use Rattle.board_laws.specs.StateAfter.{state_after}
-use Rattle.board_laws.specs.Touching.{put_by}
+use Rattle.board_laws.specs.Touching.{touch_of, put_by}
 use Rattle.board_laws.specs.Allowed.{IsAllowed}
 use Rattle.board_laws.specs.Laws.{StatesStaySound, OneMoreTells}
 use Rattle.board_laws.proofs.Lookups.{Ties, rising-left}
 use Rattle.board_laws.proofs.Chunks.{left-rising, last-past}
-use Rattle.apply_core.specs.Private.Chunks.{last_key_of, IsMoveOf, IsTaken}
+use Rattle.apply_core.specs.Chunks.{last_key_of, IsMoveOf, IsTaken, IsChunkFor}
 use Rattle.apply_core.specs.Private.StreamState.{IsStream}
-use Rattle.apply_core.specs.Private.StreamStep.{MayMake}
+use Rattle.apply_core.specs.Private.StreamStep.{MayMake, ArePutsOf}
+use Rattle.apply_core.specs.declared.taking.Chunk.{Chunk}
 use Rattle.apply_core.specs.declared.taking.Move.{Move}
 use denote.Ref.{Bor}
 
@@ -134,3 +135,21 @@ module _ (old now : State) (is : old ≡ now) (c : ℕ) (step : Move) (moves : I
       within = inv.within;
       opened = inv.opened;
     }
+
+-- ---- a chunk that was taken before
+
+module _ (items streams : List State) (is : items ≡ streams) (s c : ℕ) (taken : Chunk) (h : IsChunkFor streams s c taken) where
+  there : slice_get items s ≡ Some h.state
+  there = ap (λ (xs : List State). slice_get xs s) is ∙ h.stream
+
+  pub chunk_may : MayMake items s (copy_rows c)
+  chunk_may = record { state = h.state; stream = there; allowed = h.allowed }
+
+  pub chunk_puts : ArePutsOf items s (copy_rows c) taken.puts.items
+  chunk_puts = record {
+    may = chunk_may;
+    left = subst (λ (o : Option State). IfSome o (λ state. (key : KeyValue) → last_at key_cmp taken.puts.items key ≡ touch_of state (copy_rows c) key)) (sym there) h.chunk.puts;
+  }
+
+  pub chunk_moves : IfSome (slice_get items s) (λ state. IsMoveOf state c taken.step)
+  chunk_moves = subst (λ (o : Option State). IfSome o (λ state. IsMoveOf state c taken.step)) (sym there) h.chunk.step

@@ -10,3 +10,4 @@ pub mod ShowLaws
 pub mod TogetherLaws
 pub mod BesideLaws
 pub mod JoinLaws
+pub mod SaveLaws

@@ -1,5 +1,7 @@
 pub mod Fresh
 pub mod Feeds
 pub mod Schedules
+pub mod Chunks
+pub mod Putting
 pub mod Private
 pub mod Shown

@@ -1,8 +1,8 @@
 -- What serves the crate's own code alone.
 pub mod Changes
-pub mod Chunks
 pub mod Place
 pub mod StreamState
 pub mod StreamStep
 pub mod Beside
 pub mod Together
+pub mod Saving

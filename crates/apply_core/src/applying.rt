@@ -1,6 +1,6 @@
 //! Applying the next group.
 
-ghost use Rattle.std.specs.Prelude.{◌≡◌, ◌+◌, IfOk, IfErr};
+ghost use Rattle.std.specs.Prelude.{◌≡◌, ◌+◌, IfOk, IfErr, IfSome, OnOk, slice_get};
 ghost use Rattle.pk_copy.specs.KeyOrder.{key_cmp};
 ghost use Rattle.pk_copy.specs.KeyValue.{KeyValue};
 ghost use Rattle.target_tables.specs.Touches.{last_at};
@@ -10,27 +10,26 @@ ghost use Rattle.board_laws.specs.StateAfter.{state_after};
 ghost use Rattle.board_laws.specs.Touching.{touch_of};
 ghost use Rattle.board_laws.specs.Allowed.{IsAllowed};
 ghost use Rattle.board_laws.specs.Step.{answered, IsStep};
+ghost use Rattle.apply_core.specs.Putting.{DoAsStep};
 ghost use Rattle.apply_core.specs.Private.StreamStep.{MayMake, MakesStep, IsRefusedAlone, ArePutsOf};
 
 use crate::board::Board;
 use crate::clashing::refusal_by;
-use crate::puts::puts_of_group;
+use crate::puts::Puts;
 use crate::stream::Stream;
 use board_laws::{Refusal, steps_keep_boards_lawful};
-use pk_copy::Key;
-use row_view::RowBuf;
 use std::alloc::{AllocError, Global};
 use stream_core::Step;
 
 impl<'h> Stream<'h> {
     /// What the next group leaves at the copied keys, in memory of its own. An error is want of memory.
-    fn puts_of_next(&self, alloc: Global) -> Result<Vec<(Key, Option<RowBuf>)>, AllocError>
+    fn puts_of_next(&self, alloc: Global) -> Result<Puts, AllocError>
         requires { IsAllowed self.now advance }
-        ensures { IfOk result (λ puts. (key : KeyValue) → last_at key_cmp puts.items key ≡ touch_of self.now advance key) }
+        ensures { IfOk result (λ puts. (key : KeyValue) → last_at key_cmp puts.changes.items key ≡ touch_of self.now advance key) }
     {
         steps_keep_boards_lawful();
         let group = &self.list[self.applied as usize];
-        let puts = puts_of_group(alloc, &self.marks, group)?;
+        let puts = Puts::of_group(alloc, &self.marks, group)?;
         Ok(puts)
     }
 
@@ -47,12 +46,8 @@ impl<'h> Stream<'h> {
 }
 
 /// What stream `s` puts into the target when its next group is applied.
-fn puts_of_next_on(
-    alloc: Global,
-    streams: &[Stream<'_>],
-    s: u8,
-) -> Result<Vec<(Key, Option<RowBuf>)>, Refusal>
-    ensures puts { IfOk result (λ puts. ArePutsOf streams.now s advance puts.items) }
+fn puts_of_next_on(alloc: Global, streams: &[Stream<'_>], s: u8) -> Result<Puts, Refusal>
+    ensures puts { IfOk result (λ puts. ArePutsOf streams.now s advance puts.changes.items) }
     ensures refused { IfErr result (IsRefusedAlone streams.now s advance) }
 {
     if s as usize >= streams.len() {
@@ -65,6 +60,20 @@ fn puts_of_next_on(
             Err(_) => Err(Refusal::Memory),
             Ok(puts) => Ok(puts),
         },
+    }
+}
+
+/// Whether nothing that stream `s` has itself is against applying its next group. Takes no memory.
+fn may_advance(streams: &[Stream<'_>], s: u8) -> Result<(), Refusal>
+    ensures may { OnOk result (MayMake streams.now s advance) }
+    ensures refused { IfErr result (IsRefusedAlone streams.now s advance) }
+{
+    if s as usize >= streams.len() {
+        return Err(Refusal::NoStream);
+    }
+    match streams[s as usize].judge(Step::Advance) {
+        Err(refusal) => Err(Refusal::Core(refusal)),
+        Ok(()) => Ok(()),
     }
 }
 
@@ -86,10 +95,23 @@ impl<'h> Board<'h> {
     pub fn advance(&mut self, alloc: Global, s: u8) -> Result<u32, Refusal>
         ensures { IsStep self.old s advance (answered answers.Answer.Applied result) self.new }
     {
-        steps_keep_boards_lawful();
         match puts_of_next_on(alloc, &self.streams, s) {
             Err(refusal) => Err(refusal),
-            Ok(puts) => match self.rows.apply(alloc, s, puts) {
+            Ok(puts) => self.advance_by(alloc, s, puts),
+        }
+    }
+
+    /// The same with puts that were built before, so that a target that is shared needn't be held
+    /// meanwhile. That they are what the step does is the caller's; where there is no such stream, or its
+    /// own state is against the step, they don't matter. Takes memory for new rows' places alone.
+    pub fn advance_by(&mut self, alloc: Global, s: u8, puts: Puts) -> Result<u32, Refusal>
+        requires { IfSome (slice_get self.old.streams s) (λ state. DoAsStep state advance puts.changes.items) }
+        ensures { IsStep self.old s advance (answered answers.Answer.Applied result) self.new }
+    {
+        steps_keep_boards_lawful();
+        match may_advance(&self.streams, s) {
+            Err(refusal) => Err(refusal),
+            Ok(()) => match self.rows.apply(alloc, s, puts.changes) {
                 Err(fault) => Err(refusal_by(fault)),
                 Ok(()) => Ok(advance_on(&mut self.streams, s)),
             },

@@ -1,22 +1,39 @@
 //! Copying rows.
 
-ghost use Rattle.std.specs.Prelude.{◌≡◌, None, IfOk, IfErr, IfSome, slice_get};
+ghost use Rattle.std.specs.Prelude.{◌≡◌, None, IfOk, IfErr, IfSome, IsSomeAnd, slice_get};
 ghost use Rattle.board_laws.specs.declared.answer.Answer as answers;
 ghost use Rattle.board_laws.specs.Event.{copy_rows};
 ghost use Rattle.board_laws.specs.StateAfter.{state_after};
 ghost use Rattle.board_laws.specs.Allowed.{IsAllowed};
-ghost use Rattle.board_laws.specs.Step.{answered, IsStep};
-ghost use Rattle.apply_core.specs.Private.Chunks.{IsMoveOf};
-ghost use Rattle.apply_core.specs.Private.StreamStep.{MayMake, MakesStep, IsRefusedAlone, ArePutsOf};
+ghost use Rattle.board_laws.specs.declared.refusal.Refusal.TheVariants.{NoStream};
+ghost use Rattle.board_laws.specs.Step.{answered, IsRefused, IsStep};
+ghost use Rattle.apply_core.specs.Chunks.{IsMoveOf, IsChunkFor};
+ghost use Rattle.apply_core.specs.Private.StreamStep.{MayMake, MakesStep, IsRefusedAlone};
 
 use crate::board::Board;
 use crate::clashing::refusal_by;
 use crate::stream::Stream;
-use crate::taking::{Move, Taken};
+use crate::taking::{Chunk, Move};
 use board_laws::{Copied, Refusal, steps_keep_boards_lawful};
-use pk_copy::keys_tie_where_they_are_equal;
-use std::alloc::Global;
+use pk_copy::{CopyState, keys_tie_where_they_are_equal};
+use std::alloc::{AllocError, Global};
 use stream_core::Step;
+
+impl Move {
+    /// The same move, in memory of its own. An error is want of memory.
+    fn try_clone(&self, alloc: Global) -> Result<Move, AllocError>
+        ensures { IfOk result (λ copy. copy ≡ self.now) }
+    {
+        let last = match &self.last {
+            None => None,
+            Some(last) => Some(last.try_clone(alloc)?),
+        };
+        Ok(Move {
+            copied: self.copied,
+            last,
+        })
+    }
+}
 
 impl<'h> Stream<'h> {
     /// The image is dropped where all tables are done, since no snapshot is opened any more.
@@ -28,6 +45,24 @@ impl<'h> Stream<'h> {
             self.image.clear();
             self.imaged = 0;
         }
+    }
+
+    /// The marks as a chunk moves them, in memory of their own.
+    fn marks_behind(&self, alloc: Global, _c: u32, step: Move) -> Result<CopyState, AllocError>
+        requires allowed { IsAllowed self.now (copy_rows _c) }
+        requires moves { IsMoveOf self.now _c step }
+        ensures { IfOk result (λ marks. marks ≡ (state_after self.now (copy_rows _c)).marks) }
+    {
+        steps_keep_boards_lawful();
+        keys_tie_where_they_are_equal();
+        let mut marks = self.marks.try_clone(alloc)?;
+        let Move { copied, last } = step;
+        if copied.done {
+            marks.finish_table();
+        } else if let Some(key) = last {
+            marks.move_to(key);
+        }
+        Ok(marks)
     }
 
     /// The mark of the table that is copied moves as a chunk says; where the table is done the snapshot is
@@ -51,9 +86,8 @@ impl<'h> Stream<'h> {
 }
 
 /// The next chunk of stream `s`, of up to `c` rows.
-fn chunk_on(alloc: Global, streams: &[Stream<'_>], s: u8, c: u32) -> Result<Taken, Refusal>
-    ensures puts { IfOk result (λ taken. ArePutsOf streams.now s (copy_rows c) taken.puts.items) }
-    ensures moves { IfOk result (λ taken. IfSome (slice_get streams.now s) (λ state. IsMoveOf state c taken.step)) }
+fn chunk_on(alloc: Global, streams: &[Stream<'_>], s: u8, c: u32) -> Result<Chunk, Refusal>
+    ensures chunk { IfOk result (IsChunkFor streams.now s c) }
     ensures refused { IfErr result (IsRefusedAlone streams.now s (copy_rows c)) }
 {
     if s as usize >= streams.len() {
@@ -91,13 +125,60 @@ impl<'h> Board<'h> {
     pub fn copy_chunk(&mut self, alloc: Global, s: u8, c: u32) -> Result<Copied, Refusal>
         ensures { IsStep self.old s (copy_rows c) (answered answers.Answer.Copied result) self.new }
     {
-        steps_keep_boards_lawful();
-        match chunk_on(alloc, &self.streams, s, c) {
+        match self.next_chunk(alloc, s, c) {
             Err(refusal) => Err(refusal),
-            Ok(taken) => match self.rows.apply(alloc, s, taken.puts) {
-                Err(fault) => Err(refusal_by(fault)),
-                Ok(()) => Ok(copied_on(&mut self.streams, s, c, taken.step)),
-            },
+            Ok(chunk) => self.copy_by(alloc, s, c, chunk),
+        }
+    }
+
+    /// The next chunk of stream `s`, of up to `c` rows, in memory of its own. Refused as `copy_chunk` is, a
+    /// row of another stream aside.
+    pub fn next_chunk(&self, alloc: Global, s: u8, c: u32) -> Result<Chunk, Refusal>
+        ensures chunk { IfOk result (IsChunkFor self.now.streams s c) }
+        ensures refused { IfErr result (IsRefused self.now s (copy_rows c)) }
+    {
+        chunk_on(alloc, &self.streams, s, c)
+    }
+
+    /// A copy of the marks that stream `s` has once the chunk is copied. That it is the stream's next chunk
+    /// is the caller's. An error is want of memory.
+    pub fn marks_behind(
+        &self,
+        alloc: Global,
+        s: u8,
+        c: u32,
+        chunk: &Chunk,
+    ) -> Result<CopyState, AllocError>
+        requires { IsChunkFor self.now.streams s c chunk.now }
+        ensures { IfOk result (λ marks. IfSome (slice_get self.now.streams s) (λ state. marks ≡ (state_after state (copy_rows c)).marks)) }
+    {
+        let step = chunk.step.try_clone(alloc)?;
+        let marks = self.streams[s as usize].marks_behind(alloc, c, step)?;
+        Ok(marks)
+    }
+
+    /// The same as `copy_chunk` with a chunk that was taken before. That it is the stream's next chunk is the
+    /// caller's. Refused 71 where a row is due where a row of another stream stands. Takes memory for new
+    /// rows' places alone.
+    pub fn copy_by(&mut self, alloc: Global, s: u8, c: u32, chunk: Chunk) -> Result<Copied, Refusal>
+        requires { IsChunkFor self.old.streams s c chunk }
+        ensures { IsStep self.old s (copy_rows c) (answered answers.Answer.Copied result) self.new }
+    {
+        steps_keep_boards_lawful();
+        match self.rows.apply(alloc, s, chunk.puts) {
+            Err(fault) => Err(refusal_by(fault)),
+            Ok(()) => Ok(copied_on(&mut self.streams, s, c, chunk.step)),
+        }
+    }
+
+    /// How far stream `s` has copied its tables. Refused 115 alone. Takes no memory.
+    pub fn marks(&self, s: u8) -> Result<&CopyState, Refusal>
+        ensures marks { IfOk result (λ marks. IsSomeAnd (slice_get self.now.streams s) (λ state. marks.now ≡ state.marks)) }
+        ensures no_stream { IfErr result (λ refusal. (refusal ≡ NoStream) × (slice_get self.now.streams s ≡ None)) }
+    {
+        match self.stream(s) {
+            None => Err(Refusal::NoStream),
+            Some(stream) => Ok(&stream.marks),
         }
     }
 }

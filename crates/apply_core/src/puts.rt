@@ -1,7 +1,7 @@
 //! Keys and rows in memory of their own, as a step puts them into the target. They are made before the
 //! target is touched, and where it is shared before it is taken.
 
-ghost use Rattle.std.specs.Prelude.{◌≡◌, ◌++◌, List, map, reverse, Some, IfOk};
+ghost use Rattle.std.specs.Prelude.{◌≡◌, ◌++◌, [], List, map, reverse, Some, IfOk};
 ghost use Rattle.std.specs.List.{filter};
 ghost use Rattle.std.specs.Option.{option_map, option_and_then, option_copied};
 ghost use Rattle.pk_copy.specs.KeyOrder.{key_cmp};
@@ -19,6 +19,39 @@ use row_view::{RowBuf, RowBytes};
 use source_feed::{Prepared, Touch};
 use std::alloc::{AllocError, Global};
 use target_tables::last_touches;
+
+/// What a step puts into the target, in memory of its own: keys, each with the row that is put there;
+/// without a row the key is taken away.
+#[derive(Drop)]
+pub struct Puts {
+    /// by rising key, each key once
+    pub changes: Vec<(Key, Option<RowBuf>)>,
+}
+
+impl Puts {
+    /// Nothing is put. Takes no memory.
+    pub fn none(alloc: Global) -> Puts
+        ensures { result.changes.items ≡ [] }
+    {
+        Puts {
+            changes: Vec::new(alloc),
+        }
+    }
+
+    /// What a group leaves at the copied keys, by rising key: the last touch of each key puts a row that
+    /// passes the plan's filter, and else takes the key away. Takes memory for these touches alone; an
+    /// error is want of it.
+    pub fn of_group(
+        alloc: Global,
+        marks: &CopyState,
+        group: &Prepared<'_>,
+    ) -> Result<Puts, AllocError>
+        ensures { IfOk result (λ puts. (key : KeyValue) → last_at key_cmp puts.changes.items key ≡ left_by marks.now group.now key) }
+    {
+        let changes = puts_of_group(alloc, marks, group)?;
+        Ok(Puts { changes })
+    }
+}
 
 /// A key and the row that is put there, in memory of their own; without a row the key is taken away.
 fn owned(
@@ -81,7 +114,7 @@ fn owned_changes(
 /// What a group leaves at the copied keys, in memory of its own and by rising key: the last touch of each
 /// key puts a row that passes the plan's filter, and else takes the key away. Only these touches are
 /// copied. Takes a search among the touches' keys; an error is want of memory.
-pub(crate) fn puts_of_group(
+fn puts_of_group(
     alloc: Global,
     marks: &CopyState,
     group: &Prepared<'_>,

@@ -44,7 +44,7 @@ fn copies_of_own(alloc: Global, rows: &Tables<Key, RowBuf>, s: u8) -> Result<Row
 
 impl<'h> Stream<'h> {
     /// The position of the last applied group; none where no group is applied.
-    fn position(&self) -> Option<&GtidSet>
+    pub(crate) fn position(&self) -> Option<&GtidSet>
         ensures { option_map_or (λ set. set.now) result [] ≡ position_of self.now }
     {
         self.is_sound();

@@ -5,7 +5,7 @@ ghost use Rattle.source_feed.specs.Image.{lent_row};
 ghost use Rattle.board_laws.specs.Allowed.{IsAllowed};
 ghost use Rattle.board_laws.specs.Chunk.{rows_left};
 ghost use Rattle.board_laws.specs.Event.{copy_rows};
-ghost use Rattle.apply_core.specs.Private.Chunks.{last_key_of, IsTaken};
+ghost use Rattle.apply_core.specs.Chunks.{last_key_of, IsTaken};
 
 use crate::puts::puts_of_rows;
 use crate::stream::Stream;
@@ -16,20 +16,20 @@ use std::alloc::{AllocError, Global};
 
 /// A chunk in memory of its own, before its rows are put into the target.
 #[derive(Drop)]
-pub(crate) struct Taken {
+pub struct Chunk {
     /// the rows as they are put
-    pub(crate) puts: Vec<(Key, Option<RowBuf>)>,
+    pub puts: Vec<(Key, Option<RowBuf>)>,
     /// how the mark moves
-    pub(crate) step: Move,
+    pub step: Move,
 }
 
 /// How a chunk moves the mark of its table.
 #[derive(Drop)]
-pub(crate) struct Move {
+pub struct Move {
     /// how many rows the chunk has, and whether the table is then done
-    pub(crate) copied: Copied,
+    pub copied: Copied,
     /// the last row's key
-    pub(crate) last: Option<Key>,
+    pub last: Option<Key>,
 }
 
 /// The key up to which the first table that isn't done is copied, if there is one.
@@ -80,7 +80,7 @@ impl<'h> Stream<'h> {
 
     /// The next chunk, in memory of its own. One row more tells whether it takes all that are left. An error
     /// is want of memory.
-    pub(crate) fn take_chunk(&self, alloc: Global, c: u32) -> Result<Taken, AllocError>
+    pub(crate) fn take_chunk(&self, alloc: Global, c: u32) -> Result<Chunk, AllocError>
         requires { IsAllowed self.now (copy_rows c) }
         ensures { IfOk result (IsTaken self.now c) }
     {
@@ -95,7 +95,7 @@ impl<'h> Stream<'h> {
             rows: rows.len() as u32,
             done,
         };
-        Ok(Taken {
+        Ok(Chunk {
             puts,
             step: Move { copied, last },
         })

@@ -3,9 +3,8 @@
 use filter_rule::Plan;
 use pk_copy::*;
 use row_view::RowView;
-use std::alloc::Global;
+use std::alloc::{AllocError, Global};
 use std::mem::size_of;
-use std::process::Abort;
 use std::sync::Arc;
 use std::test::Fail;
 
@@ -36,39 +35,75 @@ fn rise<K: Ord>(keys: &[K]) -> bool {
     keys.windows(2).all(|pair| pair[0] < pair[1])
 }
 
-/// Whether the key is the one that is lent.
-fn shows(key: &Key, view: &KeyView<'_>) -> bool {
-    view.cmp(&key.view()).is_eq()
+/// Whether the rows have keys, and each is less than the next.
+fn views_rise(plans: &[Arc<Plan>], rows: &[&[u8]]) -> bool {
+    rows.windows(2).all(|pair| match (key(plans, pair[0]), key(plans, pair[1])) {
+        (Ok(one), Ok(next)) => one < next,
+        _ => false,
+    })
 }
+
+/// The kept keys of the rows that have one.
+fn kept(alloc: Global, plans: &[Arc<Plan>], rows: &[&[u8]]) -> Result<Vec<Key>, AllocError> {
+    let mut keys = Vec::new(alloc);
+    for bytes in rows {
+        if let Ok(view) = key(plans, bytes) {
+            keys.push(Key::from_view(alloc, &view)?)?;
+        }
+    }
+    Ok(keys)
+}
+
+/// Whether the kept key, and a copy of it, is the key of the row.
+fn is_key_of(
+    alloc: Global,
+    plans: &[Arc<Plan>],
+    kept: &Key,
+    bytes: &[u8],
+) -> Result<bool, AllocError> {
+    let Ok(view) = key(plans, bytes) else {
+        return Ok(false);
+    };
+    let copy = kept.try_clone(alloc)?;
+    let shows = view.cmp(&kept.view()).is_eq() && copy == *kept;
+    Ok(shows && kept.table() == 0 && view.table() == 0 && view.parts().len() == 2)
+}
+
+const RISING: [&[u8]; 8] = [
+    b"\x0a\x02\x02\x28\x12\x15a-9223372036854775808",
+    b"\x0a\x02\x02\x04\x12\x03a-1",
+    b"\x0a\x02\x02\x02\x12\x02a0",
+    b"\x0a\x02\x02\x02\x12\x02a2",
+    b"\x0a\x02\x04\x02\x12\x03ab2",
+    b"\x0a\x02\x02\x02\x12\x02b2",
+    b"\x0a\x02\x02\x04\x12\x03a10",
+    b"\x0a\x02\x02\x28\x12\x15a18446744073709551615",
+];
 
 #[test]
 fn key_order_and_parts(rt: HostRuntime) -> Result<(), Fail> {
     let plans = plan(rt.alloc())?;
-    let rising: [&[u8]; 8] = [
-        b"\x0a\x02\x02\x28\x12\x15a-9223372036854775808",
-        b"\x0a\x02\x02\x04\x12\x03a-1",
-        b"\x0a\x02\x02\x02\x12\x02a0",
-        b"\x0a\x02\x02\x02\x12\x02a2",
-        b"\x0a\x02\x04\x02\x12\x03ab2",
-        b"\x0a\x02\x02\x02\x12\x02b2",
-        b"\x0a\x02\x02\x04\x12\x03a10",
-        b"\x0a\x02\x02\x28\x12\x15a18446744073709551615",
-    ];
-    let mut views = Vec::new(rt.alloc());
-    let mut keys = Vec::new(rt.alloc());
-    for bytes in rising {
-        let view = key(&plans, bytes).expect(&rt, "a key");
-        keys.push(Key::from_view(rt.alloc(), &view)?)?;
-        views.push(view)?;
-    }
-    assert!(rt; rise(&views));
-    assert!(rt; rise(&keys));
-    for (key, view) in keys.iter().zip(&views) {
-        assert!(rt; shows(key, view));
-        assert_eq!(rt; (key.table(), view.table(), view.parts().len()), (0, 0, 2));
-        assert!(rt; key.try_clone(rt.alloc())? == *key);
+    let keys = kept(rt.alloc(), &plans, &RISING)?;
+    assert!(rt; keys.len() == 8 && rise(&keys) && views_rise(&plans, &RISING));
+    for (kept, bytes) in keys.iter().zip(RISING) {
+        assert!(rt; is_key_of(rt.alloc(), &plans, kept, bytes)?);
     }
     Ok(())
+}
+
+/// Whether two rows have the same key, lent and kept.
+fn have_one_key(
+    alloc: Global,
+    plans: &[Arc<Plan>],
+    bytes: &[u8],
+    others: &[u8],
+) -> Result<bool, AllocError> {
+    let (Ok(view), Ok(other)) = (key(plans, bytes), key(plans, others)) else {
+        return Ok(false);
+    };
+    let kept = Key::from_view(alloc, &view)?;
+    let other_kept = Key::from_view(alloc, &other)?;
+    Ok(view == other && kept == other_kept)
 }
 
 /// `007` and `7` are one part, `-0` and `0` too.
@@ -86,10 +121,7 @@ fn minus_zero_and_zeros(rt: HostRuntime) -> Result<(), Fail> {
         ),
     ];
     for (bytes, others) in same {
-        let view = key(&plans, bytes).expect(&rt, "a key");
-        let other = key(&plans, others).expect(&rt, "a key");
-        assert!(rt; view == other);
-        assert!(rt; Key::from_view(rt.alloc(), &view)? == Key::from_view(rt.alloc(), &other)?);
+        assert!(rt; have_one_key(rt.alloc(), &plans, bytes, others)?);
     }
     Ok(())
 }
@@ -108,7 +140,7 @@ fn rows_without_key(rt: HostRuntime) -> Result<(), Fail> {
         (b"\x0a\x02\x01\x04\x12\x021x", 61),
     ];
     for (bytes, number) in rows {
-        assert_eq!(rt; key(&plans, bytes).err(), Some(number));
+        assert!(rt; key(&plans, bytes).err() == Some(number));
     }
     Ok(())
 }

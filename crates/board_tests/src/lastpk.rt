@@ -3,8 +3,8 @@
 
 use filter_rule::Plan;
 use pk_copy::*;
-use row_view::{Column, RowView};
-use std::alloc::Global;
+use row_view::{Column, RowBuf, RowView};
+use std::alloc::{AllocError, Global};
 use std::sync::Arc;
 use std::test::Fail;
 
@@ -34,29 +34,46 @@ fn fault_of(plans: &[Arc<Plan>], bytes: &[u8]) -> Option<u8> {
     last_key(plans, &row).err()
 }
 
+/// The key of the number 007 and the text 8 as a row, in key order; nothing where that is no key.
+fn written(alloc: Global, plans: &[Arc<Plan>]) -> Result<Option<RowBuf>, AllocError> {
+    let Ok(row) = RowView::read(b"\x0a\x02\x06\x02\x12\x040078") else {
+        return Ok(None);
+    };
+    let Ok(key) = last_key(plans, &row) else {
+        return Ok(None);
+    };
+    let row = lastpk_of(alloc, &key)?;
+    Ok(Some(row))
+}
+
+/// Whether the row has these two columns, and is the key that the other row is.
+fn is_written(plans: &[Arc<Plan>], row: &RowBuf, columns: [&[u8]; 2], other: &[u8]) -> bool {
+    let Ok(other) = RowView::read(other) else {
+        return false;
+    };
+    let row = row.view();
+    let mut own = row.columns();
+    own.next() == Some(Column::Bytes(columns[0]))
+        && own.next() == Some(Column::Bytes(columns[1]))
+        && own.next().is_none()
+        && last_key(plans, &row).is_ok()
+        && last_key(plans, &row) == last_key(plans, &other)
+}
+
 #[test]
 fn lastpk_in_key_order(rt: HostRuntime) -> Result<(), Fail> {
     let plans = plan(rt.alloc())?;
-    // the number 007 and the text 8
-    let row = RowView::read(b"\x0a\x02\x06\x02\x12\x040078")
-        .ok()
-        .ok_or("a row")?;
-    let key = last_key(&plans, &row).ok().ok_or("a key")?;
-    let written = lastpk_of(rt.alloc(), &key)?;
-    let again = written.view();
-    assert_eq!(rt; again.len(), 2);
-    let mut columns = again.columns();
-    assert_eq!(rt; columns.next(), Some(Column::Bytes(b"7")));
-    assert_eq!(rt; columns.next(), Some(Column::Bytes(b"8")));
-    let read = last_key(&plans, &again).ok().ok_or("a key")?;
-    assert!(rt; read == key);
+    let row = written(rt.alloc(), &plans)?.ok_or("a key")?;
+    assert!(rt; is_written(&plans, &row, [b"7", b"8"], b"\x0a\x02\x06\x02\x12\x040078"));
     Ok(())
 }
 
 #[test]
 fn lastpk_that_is_no_key(rt: HostRuntime) -> Result<(), Fail> {
     let plans = plan(rt.alloc())?;
-    assert_eq!(rt; fault_of(&plans, b"\x0a\x02\x02\x01\x12\x01x"), Some(61));
-    assert_eq!(rt; fault_of(&plans, b"\x0a\x02\x02\x02\x12\x02xy"), Some(62));
+    assert!(rt;
+        fault_of(&plans, b"\x0a\x02\x02\x01\x12\x01x") == Some(61)
+            && fault_of(&plans, b"\x0a\x02\x02\x02\x12\x02xy") == Some(62)
+    );
     Ok(())
 }

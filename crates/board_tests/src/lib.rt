@@ -21,6 +21,12 @@ mod lastpk;
 #[cfg(test)]
 mod marks;
 #[cfg(test)]
+mod random_steps;
+#[cfg(test)]
+mod runs;
+#[cfg(test)]
+mod saves;
+#[cfg(test)]
 mod schedule_feeds;
 #[cfg(test)]
 mod schedules;

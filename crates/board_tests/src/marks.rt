@@ -3,6 +3,7 @@
 use filter_rule::Plan;
 use pk_copy::*;
 use row_view::RowView;
+use std::alloc::{AllocError, Global};
 use std::sync::Arc;
 use std::test::Fail;
 
@@ -28,60 +29,94 @@ fn kind(mark: Mark<'_>) -> u8 {
     }
 }
 
+/// Whether so many of three tables are done, and the marks are of these kinds.
+fn are_kinds(marks: &CopyState, done: u8, kinds: [u8; 3]) -> bool {
+    marks.tables() == 3
+        && marks.done() == done
+        && !marks.finished()
+        && kind(marks.mark(0)) == kinds[0]
+        && kind(marks.mark(1)) == kinds[1]
+        && kind(marks.mark(2)) == kinds[2]
+}
+
+/// Whether the marks say so of the key of a row: whether it is copied, and whether it can be next.
+fn says(
+    marks: &CopyState,
+    plans: &[Arc<Plan>],
+    row: (u8, &[u8]),
+    inside: bool,
+    past: bool,
+) -> bool {
+    let Some(view) = key(plans, row.0, row.1) else {
+        return false;
+    };
+    marks.inside(&view) == inside && marks.past(&view) == past
+}
+
+/// The table that is copied is copied up to the key of a row, if that can be next.
+fn move_to(
+    alloc: Global,
+    marks: &mut CopyState,
+    plans: &[Arc<Plan>],
+    row: (u8, &[u8]),
+) -> Result<(), AllocError> {
+    match key(plans, row.0, row.1) {
+        Some(view) if marks.past(&view) => marks.move_to(Key::from_view(alloc, &view)?),
+        _ => {}
+    }
+    Ok(())
+}
+
+/// The table that is copied is done, if there is one.
+fn finish(marks: &mut CopyState) {
+    if marks.done() < marks.tables() {
+        marks.finish_table();
+    }
+}
+
+const FIVE: &[u8] = b"\x08\x02\x12\x015";
+
+const NINE: &[u8] = b"\x08\x02\x12\x019";
+
+const TEN: &[u8] = b"\x08\x04\x12\x0210";
+
+/// The first table is copied up to 5, whatever was copied before.
+fn first_is_copied(alloc: Global, plans: &[Arc<Plan>]) -> Result<bool, AllocError> {
+    let mut marks = CopyState::new(3);
+    let fresh = are_kinds(&marks, 0, [0, 0, 0]) && says(&marks, plans, (0, FIVE), false, true);
+    move_to(alloc, &mut marks, plans, (0, FIVE))?;
+    Ok(fresh && are_kinds(&marks, 0, [1, 0, 0]) && says(&marks, plans, (0, FIVE), true, false))
+}
+
+/// A copy of the marks of three tables, of which the first is done and the second copied up to 9.
+fn second_is_copied(alloc: Global, plans: &[Arc<Plan>]) -> Result<CopyState, AllocError> {
+    let mut marks = CopyState::new(3);
+    finish(&mut marks);
+    move_to(alloc, &mut marks, plans, (1, NINE))?;
+    marks.try_clone(alloc)
+}
+
 #[test]
 fn marks_before_and_behind(rt: HostRuntime) -> Result<(), Fail> {
-    let alloc = rt.alloc();
-    let plans = Plan::read_all(alloc, WORKFLOW.as_bytes())?;
-    let five: &[u8] = b"\x08\x02\x12\x015";
-    let nine: &[u8] = b"\x08\x02\x12\x019";
-    let ten: &[u8] = b"\x08\x04\x12\x0210";
-    let mut marks = CopyState::new(3);
-    assert_eq!(rt; kind(marks.mark(0)), 0);
-    assert!(rt; !marks.inside(&key(&plans, 0, five).expect(&rt, "a key")));
-    let last = key(&plans, 0, five).expect(&rt, "a key");
-    assert!(rt; marks.past(&last));
-    marks.move_to(Key::from_view(alloc, &last)?);
-    assert!(rt; marks.inside(&last));
-    assert!(rt; marks.done() < marks.tables());
-    marks.finish_table();
-
-    let last = key(&plans, 1, nine).expect(&rt, "a key");
-    assert!(rt; marks.past(&last));
-    marks.move_to(Key::from_view(alloc, &last)?);
-    let marks = marks.try_clone(alloc)?;
-    assert_eq!(rt;
-        (
-            kind(marks.mark(0)),
-            kind(marks.mark(1)),
-            kind(marks.mark(2))
-        ),
-        (2, 1, 0)
+    let plans = Plan::read_all(rt.alloc(), WORKFLOW.as_bytes())?;
+    assert!(rt; first_is_copied(rt.alloc(), &plans)?);
+    let marks = second_is_copied(rt.alloc(), &plans)?;
+    assert!(rt;
+        are_kinds(&marks, 1, [2, 1, 0])
+            && says(&marks, &plans, (0, TEN), true, false)
+            && says(&marks, &plans, (1, FIVE), true, false)
+            && says(&marks, &plans, (1, NINE), true, false)
+            && says(&marks, &plans, (1, TEN), false, true)
+            && says(&marks, &plans, (2, FIVE), false, false)
+            && says(&marks, &plans, (2, TEN), false, false)
     );
-    assert_eq!(rt;
-        (marks.tables(), marks.done(), marks.finished()),
-        (3, 1, false)
-    );
-    let wanted: [(u8, &[u8], bool, bool); 6] = [
-        (0, ten, true, false),
-        (1, five, true, false),
-        (1, nine, true, false),
-        (1, ten, false, true),
-        (2, five, false, false),
-        (2, ten, false, false),
-    ];
-    for (t, bytes, inside, past) in wanted {
-        let view = key(&plans, t, bytes).expect(&rt, "a key");
-        assert_eq!(rt; (marks.inside(&view), marks.past(&view)), (inside, past));
-    }
     Ok(())
 }
 
 #[test]
 fn all_tables_done(rt: HostRuntime) {
     let mut marks = CopyState::new(1);
-    assert!(rt; !marks.finished());
-    assert!(rt; marks.done() < marks.tables());
-    marks.finish_table();
-    assert!(rt; marks.finished());
-    assert_eq!(rt; kind(marks.mark(0)), 2);
+    let begun = marks.finished();
+    finish(&mut marks);
+    assert!(rt; !begun && marks.finished() && marks.tables() == 1 && kind(marks.mark(0)) == 2);
 }

@@ -112,3 +112,37 @@ fn staged_touches_wait_for_their_commit(rt: HostRuntime) -> Result<(), Fail> {
     );
     Ok(())
 }
+
+/// Touches the keys from one up to another, one at a time; how many entries each page has then.
+fn page_lens(
+    alloc: Global,
+    tables: &mut Tables<u64, u32>,
+    from: u64,
+    to: u64,
+    row: Option<u32>,
+) -> Result<Vec<usize>, Fail> {
+    for key in from..to {
+        let _ = tables.apply(alloc, 0, vec![in alloc; (key, row)]?);
+    }
+    let mut lens = Vec::new(alloc);
+    for i in 0..tables.pages() {
+        lens.push(tables.page_len(i))?;
+    }
+    Ok(lens)
+}
+
+/// The 129th key splits a page, and a page leaves with its last entry.
+#[test]
+fn pages_split_and_leave(rt: HostRuntime) -> Result<(), Fail> {
+    let alloc = rt.alloc();
+    let mut tables: Tables<u64, u32> = Tables::new(alloc);
+    let full = page_lens(alloc, &mut tables, 1, 129, Some(0))?;
+    let split = page_lens(alloc, &mut tables, 129, 130, Some(0))?;
+    let left = page_lens(alloc, &mut tables, 1, 65, None)?;
+    let none = page_lens(alloc, &mut tables, 65, 130, None)?;
+    assert_eq!(rt; full.as_slice(), [128].as_slice());
+    assert_eq!(rt; split.as_slice(), [64, 65].as_slice());
+    assert_eq!(rt; left.as_slice(), [65].as_slice());
+    assert_eq!(rt; none.is_empty(), true);
+    Ok(())
+}

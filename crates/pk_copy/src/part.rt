@@ -19,7 +19,14 @@ pub enum KeyPart<'b> {
 }
 
 impl Default for KeyPart<'_> {
-    fn default() -> Self {
+    ghost use Rattle.std.specs.Prelude.{◌≡◌, pos};
+    ghost use Rattle.pk_copy.specs.KeyValue.{number};
+    ghost use Rattle.pk_copy.specs.PartValue.{part_value};
+
+    /// The number 0.
+    fn default() -> Self
+        ensures { part_value result ≡ number (pos 0) }
+    {
         KeyPart::Number(0)
     }
 }

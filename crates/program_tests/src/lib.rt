@@ -9,4 +9,14 @@ mod inputs;
 #[cfg(test)]
 mod outputs;
 #[cfg(test)]
+mod save;
+#[cfg(test)]
+mod scripts;
+#[cfg(test)]
 mod show;
+#[cfg(test)]
+mod step;
+#[cfg(test)]
+mod step_feeds;
+#[cfg(test)]
+mod vdiff;

@@ -2,7 +2,10 @@
 use Rattle.std.proofs.Common.{◌≡◌, ◌≢◌, ◌==◌, ℕ, zero, suc, ◌+◌, ◌≤◌, Bool, true, false, true≢false, List, [], ◌∷◌, ◌++◌, length, length-set, take, set, Option, Some, None, Result, Ok, Err, IsSome, IsSomeAnd, MatchOption, slice_get, nat_le, refl, sym, ap, ◌∙◌, subst, arith, if◌then◌else◌}
 use Rattle.std.proofs.lemmas.Bool.{or_left, eqb-false}
 use Rattle.std.proofs.lemmas.Option.{same_Some}
-use Rattle.std.specs.Option.{option_and_then}
+use Rattle.std.specs.Option.{option_map, option_and_then}
+use Rattle.std.specs.Arc.{arc_value}
+use Rattle.std.specs.Prelude.{IfSome}
+use Rattle.pk_copy.specs.Marks.{Marks}
 use borrow.Author.Tests.{eqb-true, eq-eqb}
 use Rattle.pk_copy.specs.KeyOrder.{key_cmp}
 use Rattle.pk_copy.specs.KeyValue.{KeyValue}
@@ -19,10 +22,13 @@ use Rattle.board_laws.specs.Chunk.{takes_all, copied_state}
 use Rattle.board_laws.specs.StateAfter.{state_after}
 use Rattle.board_laws.specs.declared.answer.Answer.TheVariants.{Applied}
 use Rattle.board_laws.specs.Cut.{own_row}
-use Rattle.board_laws.specs.Step.{IsMade, IsStep}
+use Rattle.board_laws.specs.Step.{takes_memory, IsMade, IsRefused, IsStep}
+use Rattle.apply_core.specs.Putting.{DoAsStep}
 use Rattle.stream_worker.specs.Knowing.{Laid, names}
 use Rattle.stream_worker.specs.Rule.{GoesOn, AllGoOn, IsOwnChange}
-use Rattle.stream_worker.specs.Seats.{IsBoardStep, IsReceiptOf, next_group_of, own_cut}
+use Rattle.stream_worker.specs.Outlines.{IsNextOf}
+use Rattle.stream_worker.specs.declared.outline.Next.{Next}
+use Rattle.stream_worker.specs.Seats.{IsBoardStep, IsReceiptOf, own_cut}
 use Rattle.stream_worker.proofs.States.{take-fewer, goes_on-refl, same_goes_on, all_go_on-same}
 
 -- ---- one stream
@@ -113,7 +119,48 @@ of_step old new now given s event result is lawful step =
     subst (λ (laid : Laid). IsBoardStep laid s event result (record { board = new.streams; given = given })) is
     (record { rows = old.rows; rows_left = new.rows; lawful = lawful; step = step; given = refl })
 
+-- the state of a stream behind a step, or the same where it is refused
+abbrev pub behind : State → Event → Result Answer Refusal → State
+behind state event (Ok answer) = state_after state event
+behind state event (Err refusal) = state
+
+-- a step leaves its stream so
+pub step_leaves : (taken left : Laid) (s : ℕ) (event : Event) (result : Result Answer Refusal) (state : State) → IsBoardStep taken s event result left → slice_get taken.board s ≡ Some state
+    → slice_get left.board s ≡ Some (behind state event result)
+step_leaves taken left s event (Ok answer) state h e =
+    let made : IsMade (record { streams = taken.board; rows = h.rows }) s event answer (record { streams = left.board; rows = h.rows_left }) = h.step in
+    let is : made.state ≡ state = same_Some made.state state (sym made.stream ∙ e) in
+    let streams : left.board ≡ set taken.board s (state_after made.state event) = made.streams in
+    ap (λ (board : List State). slice_get board s) streams
+    ∙ set_same taken.board s (state_after made.state event) made.state made.stream
+    ∙ ap (λ (one : State). Some (state_after one event)) is
+step_leaves taken left s event (Err refusal) state h e =
+    let same : left.board ≡ taken.board = ap (λ (board : Meaning). board.streams) h.step.1 in
+    ap (λ (board : List State). slice_get board s) same ∙ e
+
 -- ---- a group that is applied
+
+-- the group that stream s of a board applies next
+abbrev pub next_group_of : List State → ℕ → Option PreparedValue
+next_group_of board s = option_and_then (λ state. slice_get state.list state.applied) (slice_get board s)
+
+-- what was built for the stream's state is of that group, and what it puts
+pub next_here : (old : Meaning) (now : Laid) (given s : ℕ) (next : Next) → laid_of old given ≡ now → IsSomeAnd (slice_get now.board s) (λ state. IsNextOf state next)
+    → next_group_of old.streams s ≡ option_map arc_value next.group
+next_here old now given s next is here = ap (λ (laid : Laid). next_group_of laid.board s) is ∙ by (slice_get now.board s) here
+  where
+    by : (o : Option State) → IsSomeAnd o (λ state. IsNextOf state next) → option_and_then (λ (state : State). slice_get state.list state.applied) o ≡ option_map arc_value next.group
+    by None h = absurd h
+    by (Some state) h = sym h.group
+
+pub puts_here : (old : Meaning) (now : Laid) (given s : ℕ) (next : Next) → laid_of old given ≡ now → IsSomeAnd (slice_get now.board s) (λ state. IsNextOf state next)
+    → IfSome (slice_get old.streams s) (λ state. DoAsStep state advance next.puts.changes.items)
+puts_here old now given s next is here =
+    subst (λ (laid : Laid). IfSome (slice_get laid.board s) (λ state. DoAsStep state advance next.puts.changes.items)) (sym is) (by (slice_get now.board s) here)
+  where
+    by : (o : Option State) → IsSomeAnd o (λ state. IsNextOf state next) → IfSome o (λ state. DoAsStep state advance next.puts.changes.items)
+    by None h = absurd h
+    by (Some state) h = h.puts
 
 -- what stands behind an advance: the stream, and the group at its new number
 applied_state : (old new : Meaning) (s : ℕ) (answer : Answer) (made : IsMade old s advance answer new) → slice_get new.streams s ≡ Some (state_after made.state advance)
@@ -182,15 +229,33 @@ own_else board s key owner row lawful there other =
 pub own_none : (board : Meaning) (s : ℕ) (key : KeyValue) → IsLawful board → value_at key_cmp board.rows key ≡ None → None ≡ own_cut board.streams s key
 own_none board s key lawful there = ap (own_row s) (sym there) ∙ lawful.cuts s key
 
--- an advance that wants memory before the board is asked
-pub wants_memory : (old : Meaning) (now : Laid) (given s : ℕ) → laid_of old given ≡ now → IsLawful old → IsSome (slice_get now.board s) → IsBoardStep now s advance (Err Memory) now
-wants_memory old now given s is lawful there =
-    subst (λ (laid : Laid). IsBoardStep laid s advance (Err Memory) laid) is
-    (record { rows = old.rows; rows_left = old.rows; lawful = lawful; step = (by (slice_get old.streams s) there', refl); given = refl })
-  where
-    there' : IsSome (slice_get old.streams s)
-    there' = subst (λ (laid : Laid). IsSome (slice_get laid.board s)) (sym is) there
+-- ---- a call that changes nothing
 
-    by : (o : Option State) → IsSome o → MatchOption o (Memory ≡ NoStream) (λ state. true ≡ true)
+-- a refusal that was found before the step is made leaves the board
+pub refused_here : (old : Meaning) (now : Laid) (given s : ℕ) (event : Event) (refusal : Refusal) → laid_of old given ≡ now → IsLawful old → IsRefused old s event refusal
+    → IsBoardStep now s event (Err refusal) now
+refused_here old now given s event refusal is lawful refused =
+    subst (λ (laid : Laid). IsBoardStep laid s event (Err refusal) laid) is
+    (record { rows = old.rows; rows_left = old.rows; lawful = lawful; step = (refused, refl); given = refl })
+
+-- a call that wants memory before the board is asked
+pub wants_memory : (old : Meaning) (now : Laid) (given s : ℕ) (event : Event) → laid_of old given ≡ now → IsLawful old → IsSome (slice_get now.board s) → takes_memory event ≡ true
+    → IsBoardStep now s event (Err Memory) now
+wants_memory old now given s event is lawful there takes =
+    refused_here old now given s event Memory is lawful (by (slice_get old.streams s) (subst (λ (laid : Laid). IsSome (slice_get laid.board s)) (sym is) there))
+  where
+    by : (o : Option State) → IsSome o → MatchOption o (Memory ≡ NoStream) (λ state. takes_memory event ≡ true)
     by None h = absurd (true≢false (sym h))
-    by (Some state) h = refl
+    by (Some state) h = takes
+
+-- ---- a chunk
+
+-- the marks that were made before are those behind the step
+pub marks_here : (old : Meaning) (now : Laid) (given s c : ℕ) (marks : Marks) → laid_of old given ≡ now → IsSome (slice_get now.board s)
+    → IfSome (slice_get old.streams s) (λ state. marks ≡ (state_after state (copy_rows c)).marks) → IsSomeAnd (slice_get now.board s) (λ state. marks ≡ (state_after state (copy_rows c)).marks)
+marks_here old now given s c marks is there h =
+    by (slice_get now.board s) there (subst (λ (laid : Laid). IfSome (slice_get laid.board s) (λ state. marks ≡ (state_after state (copy_rows c)).marks)) is h)
+  where
+    by : (o : Option State) → IsSome o → IfSome o (λ state. marks ≡ (state_after state (copy_rows c)).marks) → IsSomeAnd o (λ state. marks ≡ (state_after state (copy_rows c)).marks)
+    by None some h = absurd (true≢false (sym some))
+    by (Some state) some h = h

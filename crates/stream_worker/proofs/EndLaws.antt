@@ -9,10 +9,11 @@ use Rattle.board_laws.specs.Meaning.{State}
 use Rattle.board_laws.specs.Lawful.{standing_of}
 use Rattle.stream_worker.specs.declared.seat.Seat.{Seat}
 use Rattle.stream_worker.specs.declared.shared.Shared.{Shared}
-use Rattle.stream_worker.specs.Knowing.{Laid, Knows, names, with_states, states_joined, states_seen, joined, state_seen}
+use Rattle.stream_worker.specs.Knowing.{Laid, Knows, IsAmong, boards_of, names, with_states, states_joined, states_seen, joined, state_seen}
 use Rattle.stream_worker.specs.Rule.{IsSaid, IsTaken}
-use Rattle.stream_worker.specs.SeatOf.{seat_state, IsSeatOf, AreSeatsOf, AreStatesOf, AreAllKnown}
+use Rattle.stream_worker.specs.SeatOf.{known, seat_state, IsSeatOf, AreSeatsOf, AreStatesOf, AreAllKnown, AllGoOnFromSeen, SawAsMany}
 use Rattle.stream_worker.proofs.Passes.{named_before, named_behind}
+use Rattle.stream_worker.proofs.ToldLaws.{among_before, among_behind, saw_among, told_among, from_boards}
 use Rattle.stream_worker.proofs.States.{take-fewer, joined_theirs, joined_ours}
 
 -- ---- one seat
@@ -48,6 +49,7 @@ first_known seats n seat last there =
       seen = seat_saw seat;
       own = λ k other le at. let is = same k other le at in subst (λ (one : Seat). names (view seat.pass).streams one.stream ≡ true) is (seat_names seat);
       states = λ k other le at. let is = same k other le at in subst (λ (one : Seat). state_seen (view seat.pass) one.stream ≡ seat_state one) is refl;
+      told = λ k other laid le at saw. let is = same k other le at in saw_among (view seat.pass) laid (ap (λ (one : Seat). (known one).seen) is ∙ saw);
     }
   where
     within : {A : Type 0} (xs : List A) (k : ℕ) (x : A) → slice_get xs k ≡ Some x → k < length xs
@@ -91,12 +93,13 @@ keeps_ours v w s state name there = by v.seen refl there
 
 pub joined_known : (shared : Shared) (seats : List Seat) (n : ℕ) (v : Knows) (seat : Seat) → AreSeatsOf shared seats → AreAllKnown seats (n + 1) v → slice_get seats n ≡ Some seat
     → AreAllKnown seats n (joined v (view seat.pass))
-joined_known shared seats n v seat all known there =
+joined_known shared seats n v seat all known_before there =
     record {
-      holds = known.holds;
-      seen = saw v.seen known.seen;
+      holds = known_before.holds;
+      seen = saw v.seen known_before.seen;
       own = own;
       states = states;
+      told = told;
     }
   where
     w : Knows
@@ -124,33 +127,46 @@ joined_known shared seats n v seat all known there =
     own : (k : ℕ) (other : Seat) → n ≤ k → slice_get seats k ≡ Some other → names (v.streams ++ w.streams) other.stream ≡ true
     own k other le at =
         ⊎_elim (λ (is : k ≡ n). subst (λ (one : Seat). names (v.streams ++ w.streams) one.stream ≡ true) (here k other is at) (named_behind v.streams w.streams seat.stream (seat_names seat)))
-        (λ (past : n + 1 ≤ k). named_before v.streams w.streams other.stream (known.own k other past at)) (at_or_behind k le)
+        (λ (past : n + 1 ≤ k). named_before v.streams w.streams other.stream (known_before.own k other past at)) (at_or_behind k le)
 
     states : (k : ℕ) (other : Seat) → n ≤ k → slice_get seats k ≡ Some other → state_seen (joined v w) other.stream ≡ seat_state other
     states k other le at =
         ⊎_elim
         (λ (is : k ≡ n).
         subst (λ (one : Seat). state_seen (joined v w) one.stream ≡ seat_state one) (here k other is at)
-        (takes_theirs v w seat.stream (seat_has seat).0 known.seen (seat_names seat) (seat_has seat).1 ∙ sym (seat_has seat).1))
+        (takes_theirs v w seat.stream (seat_has seat).0 known_before.seen (seat_names seat) (seat_has seat).1 ∙ sym (seat_has seat).1))
         (λ (past : n + 1 ≤ k).
-        keeps_ours v w other.stream (seat_has other).0 (apart k other past at) (known.states k other past at ∙ (seat_has other).1) ∙ sym (seat_has other).1)
+        keeps_ours v w other.stream (seat_has other).0 (apart k other past at) (known_before.states k other past at ∙ (seat_has other).1) ∙ sym (seat_has other).1)
         (at_or_behind k le)
+
+    told : (k : ℕ) (other : Seat) (laid : Laid) → n ≤ k → slice_get seats k ≡ Some other → (known other).seen ≡ Some laid → IsAmong laid.board (boards_of (joined v w))
+    told k other laid le at saw =
+        told_among (joined v w) laid.board
+        (⊎_elim (λ (is : k ≡ n). among_behind (boards_of v) (boards_of w) laid.board (saw_among w laid (ap (λ (one : Seat). (known one).seen) (here k other is at) ∙ saw)))
+        (λ (past : n + 1 ≤ k). among_before (boards_of v) (boards_of w) laid.board (known_before.told k other laid past at saw)) (at_or_behind k le))
 
 -- ---- the end
 
 -- the board that such a pass takes has the states that the seats know
 pub ended : (seats : List Seat) (v holding : Knows) (deal : Laid) → AreAllKnown seats 0 v → IsTaken v deal holding → AreStatesOf seats deal.board
-ended seats v holding deal known h k seat at = by v.seen refl h.says
+ended seats v holding deal all h k seat at = by v.seen refl h.says
   where
     zero_le : 0 ≤ k
     zero_le = omega arith
 
     by : (o : Option Laid) → v.seen ≡ o → MatchOption o (v.streams ≡ []) (λ seen. IsSaid v.streams seen deal) → slice_get deal.board seat.stream ≡ seat_state seat
-    by None e says = absurd (true≢false (sym known.seen ∙ ap is_some e))
+    by None e says = absurd (true≢false (sym all.seen ∙ ap is_some e))
     by (Some seen) e says =
-        says.own seat.stream (known.own k seat zero_le at)
+        says.own seat.stream (all.own k seat zero_le at)
         ∙ sym (ap (λ (o : Option Laid). option_and_then (λ (laid : Laid). slice_get laid.board seat.stream) o) e)
-        ∙ known.states k seat zero_le at
+        ∙ all.states k seat zero_le at
+
+-- it goes on from what each of them saw
+pub ended_on : (seats : List Seat) (v holding : Knows) (deal : Laid) → AreAllKnown seats 0 v → IsTaken v deal holding → AllGoOnFromSeen seats deal.board
+ended_on seats v holding deal all h k seat laid at saw = (from_boards v deal h.says h.told laid.board (all.told k seat laid (omega arith) at saw)).every
+
+pub ended_many : (seats : List Seat) (v holding : Knows) (deal : Laid) → AreAllKnown seats 0 v → IsTaken v deal holding → SawAsMany seats (length deal.board)
+ended_many seats v holding deal all h k seat laid at saw = sym (from_boards v deal h.says h.told laid.board (all.told k seat laid (omega arith) at saw)).long
 
 -- ---- seats taken off the end
 
@@ -182,11 +198,11 @@ first_popped shared all rest n x each split long =
 -- the last of the first seats, and those before it
 pub next_popped : (shared : Shared) (all items rest : List Seat) (m n : ℕ) (x : Seat) (v : Knows) → AreSeatsOf shared all → items ≡ take m all → items ≡ rest ++ x ∷ [] → m ≡ n + 1 → length rest ≡ n
     → AreAllKnown all m v → IsSeatOf shared x × (rest ≡ take n all) × AreAllKnown all n (joined v (view x.pass))
-next_popped shared all items rest m n x v each front split more long known =
+next_popped shared all items rest m n x v each front split more long all_known =
     let is : m ≡ suc n = omega (arith, more) in
     let cut : items ≡ take (suc n) all = front ∙ ap (λ (k : ℕ). take k all) is in
     let there : slice_get all n ≡ Some x = sym (front-get n all) ∙ ap (λ (l : List Seat). slice_get l n) (sym cut ∙ split) ∙ last-get rest x n long in (
       (each n x there).0,
       sym (front-of rest x n long) ∙ ap (take n) (sym split ∙ cut) ∙ take-fewer n (suc n) all (omega arith),
-      joined_known shared all n v x each (subst (λ (k : ℕ). AreAllKnown all k v) more known) there,
+      joined_known shared all n v x each (subst (λ (k : ℕ). AreAllKnown all k v) more all_known) there,
     )

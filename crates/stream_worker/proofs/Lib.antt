@@ -1,8 +1,15 @@
 pub mod Passes
 pub mod States
+pub mod ToldLaws
 pub mod Steps
 pub mod BoardSteps
 pub mod SeatLaws
+pub mod OutlineLaws
 pub mod OpenLaws
 pub mod EndLaws
 pub mod CallLaws
+pub mod CourseLaws
+pub mod UnionLaws
+pub mod Progress
+pub mod StepsOn
+pub mod OneStep

@@ -1,14 +1,16 @@
 -- What claiming a seat owes and gains.
-use Rattle.std.proofs.Common.{◌≡◌, ℕ, zero, suc, ◌+◌, ◌<◌, true≢false, List, [], ◌∷◌, ◌++◌, length, Option, Some, None, IsSome, is_some, MatchOption, slice_get, inl, inr, refl, sym, ap, ◌∙◌, subst, arith}
+use Rattle.std.proofs.Common.{◌≡◌, ℕ, zero, suc, ◌+◌, ◌<◌, true≢false, List, [], ◌∷◌, ◌++◌, length, map, Option, Some, None, IsSome, is_some, MatchOption, slice_get, inl, inr, refl, sym, ap, ◌∙◌, subst, arith}
+use Rattle.std.proofs.lemmas.List.{length-map}
 use Rattle.std.proofs.lemmas.Option.{same_Some}
-use Rattle.std.specs.Option.{option_and_then}
+use Rattle.std.specs.Option.{option_map, option_and_then}
 use Rattle.board_laws.specs.Meaning.{State}
 use Rattle.stream_worker.specs.declared.seat.Seat.{Seat}
 use Rattle.stream_worker.specs.declared.shared.Shared.{Shared}
-use Rattle.stream_worker.specs.Knowing.{Laid, Knows, first_view, copy_of, state_seen}
+use Rattle.stream_worker.specs.Knowing.{Laid, Knows, SawStreams, first_view, copy_of, state_seen}
 use Rattle.stream_worker.specs.Rule.{IsSaid, Says, IsTaken, IsOwnChange, MayPut, IsPut}
+use Rattle.stream_worker.specs.Outlines.{Outlined, outline_of, AreOutlinesSeen}
 use Rattle.stream_worker.specs.Seats.{IsOpener}
-use Rattle.stream_worker.specs.SeatOf.{seat_state, IsSeatOf, AreSeatsOf, AreStatesSeen}
+use Rattle.stream_worker.specs.SeatOf.{known, seat_state, IsSeatOf, AreSeatsOf, AreStatesSeen, SawAsMany, IsOpened}
 use Rattle.stream_worker.proofs.States.{all_go_on-same}
 use Rattle.stream_worker.proofs.SeatLaws.{taken_seen, may_put_change}
 
@@ -34,6 +36,31 @@ within (x ∷ xs) (suc k) h = within xs k (omega (arith, h))
 pub opener_saw_each : (v after : Knows) (board : Laid) (n : ℕ) → IsPut v board after → length board.board ≡ n → (k : ℕ) → k < n → IsSome (state_seen after k)
 opener_saw_each v after board n put long k less =
     subst (λ (o : Option State). IsSome o) (sym (opener_saw v after board k put)) (within board.board k (subst (λ (m : ℕ). k < m) (sym long) less))
+
+pub opener_saw_streams : (v after : Knows) (board : Laid) → IsPut v board after → SawStreams after (length board.board)
+opener_saw_streams v after board put laid e = ap (λ (x : Laid). length x.board) (same_Some laid board (sym e ∙ put.seen))
+
+mapped : (streams : List State) (k : ℕ) (outline : Outlined) → slice_get (map outline_of streams) k ≡ Some outline → option_map outline_of (slice_get streams k) ≡ Some outline
+mapped [] k outline e = cc
+mapped (x ∷ xs) zero outline e = e
+mapped (x ∷ xs) (suc k) outline e = mapped xs k outline e
+
+-- the outlines of a board's streams are of what its opener saw
+pub opener_outlines : (v after : Knows) (laid : Laid) (streams : List State) (outlines : List Outlined) → IsPut v laid after → laid.board ≡ streams → outlines ≡ map outline_of streams → AreOutlinesSeen outlines after
+opener_outlines v after laid streams outlines put same each k outline at =
+    ap (option_map outline_of) (opener_saw v after laid k put ∙ ap (λ (board : List State). slice_get board k) same)
+    ∙ mapped streams k outline (sym (ap (λ (l : List Outlined). slice_get l k) each) ∙ at)
+
+-- a board is opened, where each seat knows what its opener saw
+pub opened : (v after : Knows) (laid : Laid) (streams : List State) (outlines : List Outlined) (shared : Shared) (seats : List Seat) → IsPut v laid after → laid.board ≡ streams → outlines ≡ map outline_of streams
+    → length seats ≡ length outlines → AreSeatsOf shared seats → AreStatesSeen seats after → ((n : ℕ) → SawStreams after n → SawAsMany seats n) → IsOpened streams shared seats
+opened v after laid streams outlines shared seats put same each count of_this seen many =
+    record {
+      count = count ∙ ap length each ∙ length-map streams outline_of;
+      each = of_this;
+      states = λ k seat at. sym (seen k seat at ∙ opener_saw v after laid seat.stream put ∙ ap (λ (board : List State). slice_get board seat.stream) same);
+      many = many (length streams) (subst (λ (board : List State). SawStreams after (length board)) same (opener_saw_streams v after laid put));
+    }
 
 -- ---- a claim
 
@@ -78,6 +105,16 @@ claimed_seen v fresh holding after deal left k opener made h count same put =
     ∙ ap (λ (board : List State). slice_get board k) same
     ∙ claimed_state v fresh deal k opener made h.says count
 
+-- it saw as many streams as the opener
+pub claimed_many : (v fresh holding after : Knows) (deal left : Laid) → IsOpener v → fresh ≡ copy_of v → IsTaken fresh deal holding → left.board ≡ deal.board → IsPut holding left after
+    → (n : ℕ) → SawStreams v n → SawStreams after n
+claimed_many v fresh holding after deal left opener made h same put n saw laid e =
+    ap (λ (x : Laid). length x.board) (same_Some laid left (sym e ∙ put.seen)) ∙ ap length same ∙ by v.seen refl opener.seen (subst (λ (u : Knows). Says u deal) made h.says)
+  where
+    by : (o : Option Laid) → v.seen ≡ o → IsSome o → MatchOption o ((copy_of v).streams ≡ []) (λ seen. IsSaid [] seen deal) → length deal.board ≡ n
+    by None at some said = absurd (true≢false (sym some))
+    by (Some seen) at some said = said.long ∙ saw seen at
+
 -- ---- a list of seats
 
 -- a fact of each element, and of one more
@@ -99,3 +136,9 @@ pub states_pushed : (seats more : List Seat) (seat : Seat) (k : ℕ) (v u : Know
 states_pushed seats more seat k v u is each same one at =
     subst (λ (l : List Seat). AreStatesSeen l v) (sym is)
     (each_pushed (λ i other. seat_state other ≡ state_seen v other.stream) seats seat each (one ∙ ap (λ (w : Knows). state_seen w k) same ∙ sym (ap (state_seen v) at)))
+
+pub many_pushed : (seats more : List Seat) (seat : Seat) (v u : Knows) → more ≡ seats ++ seat ∷ [] → ((n : ℕ) → SawStreams v n → SawAsMany seats n) → u ≡ v
+    → ((n : ℕ) → SawStreams u n → SawStreams (known seat) n) → (n : ℕ) → SawStreams v n → SawAsMany more n
+many_pushed seats more seat v u is each same one n saw =
+    subst (λ (l : List Seat). SawAsMany l n) (sym is)
+    (λ k other laid at. each_pushed (λ i x. SawStreams (known x) n) seats seat (λ i x at laid. each n saw i x laid at) (one n (subst (λ (w : Knows). SawStreams w n) (sym same) saw)) k other at laid)

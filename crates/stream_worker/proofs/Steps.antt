@@ -10,8 +10,9 @@ use Rattle.std.specs.Option.{option_map}
 use Rattle.atomic_table.proofs.Lists.{at_set, set_else, set_again, at_longer}
 use Rattle.board_laws.specs.Meaning.{State}
 use Rattle.stream_worker.specs.Knowing.{Laid, Knows, first_view, names, with_board, without_board, copy_of, with_states, states_joined, joined, spent_view}
-use Rattle.stream_worker.specs.Rule.{GoesOn, IsSaid, Says, SaysOf, IsPassOf, EachPass, IsFree, IsHeld, OneBoard, IsTaken, IsOwnChange, CountsSeats, MayPut, IsPut}
+use Rattle.stream_worker.specs.Rule.{GoesOn, IsSaid, Says, SaysOf, ToldOf, IsPassOf, EachPass, IsFree, IsHeld, OneBoard, IsTaken, IsOwnChange, CountsSeats, MayPut, IsPut}
 use Rattle.stream_worker.proofs.Passes.{set_there, each_set, each_added, named_either, none_named, no_list}
+use Rattle.stream_worker.proofs.ToldLaws.{from_none, told_nothing, from_further, from_boards, from_joined}
 use Rattle.stream_worker.proofs.States.{same_goes_on, all_go_on-refl, all_go_on-trans, joined_long, joined_named, joined_other}
 
 -- ---- what a pass says
@@ -47,7 +48,7 @@ begins =
             alone = each_set (λ pass v. v.holds ≡ true → pass ≡ 0) (first_view ∷ []) 0 first_view (λ h. refl) (λ q u other e. absurd (none_else q u other e));
           });
       each =
-          each_set (IsPassOf (λ s. 0) None) (first_view ∷ []) 0 first_view (record { own = λ s e. absurd (true≢false (sym e)); says = (refl, refl) })
+          each_set (IsPassOf (λ s. 0) None) (first_view ∷ []) 0 first_view (record { own = λ s e. absurd (true≢false (sym e)); says = (refl, refl); told = refl })
           (λ q u other e. absurd (none_else q u other e));
     }
   where
@@ -78,7 +79,7 @@ takes pass v x items views h at = ⊎_elim free held h.place
         let mine : IsPassOf h.owner h.now pass v = h.each pass v at in
         let said : Says v x = subst (SaysOf v) is mine.says in
         let own : IsPassOf h.owner h.now pass w =
-        record { own = mine.own; says = subst (SaysOf w) (sym is) (said_itself v.streams x (says_given v x said)) } in (
+        record { own = mine.own; says = subst (SaysOf w) (sym is) (said_itself v.streams x (says_given v x said)); told = told_nothing w h.now refl } in (
           w,
           record {
             now = h.now;
@@ -95,7 +96,7 @@ takes pass v x items views h at = ⊎_elim free held h.place
                 });
             each = each_set (IsPassOf h.owner h.now) views pass w own (λ q u other e. h.each q u e);
           },
-          record { view = refl; says = said },
+          record { view = refl; says = said; told = subst (ToldOf v) is mine.told },
         )
 
 -- ---- put back
@@ -197,8 +198,8 @@ puts n pass v x holds may items views room h at = by v.seen refl may
         let w : Knows = without_board [] x in (
           w,
           laid_back pass v x w items views h.owner of_holder.0 of_holder.2 refl
-              (record { own = λ s e. absurd (true≢false (sym e)); says = said_itself [] x (λ s e. absurd (true≢false (sym e))) })
-              (λ q u other e. let theirs : IsPassOf h.owner h.now q u = h.each q u e in record { own = theirs.own; says = silent u x (subst (SaysOf u) now theirs.says) }),
+              (record { own = λ s e. absurd (true≢false (sym e)); says = said_itself [] x (λ s e. absurd (true≢false (sym e))); told = told_nothing w (Some x) refl })
+              (λ q u other e. let theirs : IsPassOf h.owner h.now q u = h.each q u e in record { own = theirs.own; says = silent u x (subst (SaysOf u) now theirs.says); told = from_none u.told x.board (subst (ToldOf u) now theirs.told) }),
           record {
             holds = refl;
             seen = refl;
@@ -232,13 +233,16 @@ puts n pass v x holds may items views room h at = by v.seen refl may
             still (Some seen) so =
                 said_still v.streams u.streams seen taken x change counts given (λ s their my. other (sym (theirs.own s their) ∙ mine.own s my)) so
 
+        told_still : (q : ℕ) (u : Knows) → get_elem? views q ≡ some u → ToldOf u (Some x)
+        told_still q u e = from_further u.told v.streams taken x change (subst (ToldOf u) now (h.each q u e).told)
+
         same : x.given ≡ taken.given → (w : Knows) × OneBoard (items ++ x ∷ []) (set views pass w) × IsPut v x w
         same as_many =
             let w : Knows = without_board v.streams x in (
               w,
               laid_back pass v x w items views h.owner of_holder.0 of_holder.2 refl
-                  (record { own = mine.own; says = said_itself v.streams x (λ s e. let y = given s e in omega arith) })
-                  (λ q u other e. record { own = (h.each q u e).own; says = theirs_still q u other e }),
+                  (record { own = mine.own; says = said_itself v.streams x (λ s e. let y = given s e in omega arith); told = told_nothing w (Some x) refl })
+                  (λ q u other e. record { own = (h.each q u e).own; says = theirs_still q u other e; told = told_still q u e }),
               record {
                 holds = refl;
                 seen = refl;
@@ -257,6 +261,7 @@ puts n pass v x holds may items views room h at = by v.seen refl may
                   (record {
                     own = λ s e. owner_here taken.given pass h.owner s (one_name taken.given s e);
                     says = said_itself (taken.given ∷ []) x (λ s e. let is : s ≡ taken.given = one_name taken.given s e in let more = one_more.0 in omega arith);
+                    told = told_nothing w (Some x) refl;
                   })
                   (λ q u other e.
                   record {
@@ -265,6 +270,7 @@ puts n pass v x holds may items views room h at = by v.seen refl may
                         owner_else taken.given pass h.owner s (says_given u taken (subst (SaysOf u) now (h.each q u e).says) s name)
                         ∙ (h.each q u e).own s name;
                     says = theirs_still q u other e;
+                    told = told_still q u e;
                   }),
               record {
                 holds = refl;
@@ -290,7 +296,7 @@ forks pass v none items views h at =
       now = h.now;
       owner = h.owner;
       place = ⊎_elim (λ p. inl (free p)) (λ p. inr (held p)) h.place;
-      each = each_added (IsPassOf h.owner h.now) views (copy_of v) (λ q. record { own = λ s e. absurd (true≢false (sym e)); says = says h.now (h.each pass v at).says }) h.each;
+      each = each_added (IsPassOf h.owner h.now) views (copy_of v) (λ q. record { own = λ s e. absurd (true≢false (sym e)); says = says h.now (h.each pass v at).says; told = told_nothing (copy_of v) h.now refl }) h.each;
     })
   where
     free : IsFree items views h.now → IsFree items (views ++ copy_of v ∷ []) h.now
@@ -372,7 +378,7 @@ merges pass v other w mine theirs my my_down their their_down items views h at a
       now = h.now;
       owner = owner;
       place = ⊎_elim (λ p. inl (free p)) (λ p. inr (held p)) h.place;
-      each = over (IsPassOf owner h.now) both spent (λ q u e here there. record { own = λ s name. moved_not other pass h.owner s q ((h.each q u e).own s name) there; says = (h.each q u e).says });
+      each = over (IsPassOf owner h.now) both spent (λ q u e here there. record { own = λ s name. moved_not other pass h.owner s q ((h.each q u e).own s name) there; says = (h.each q u e).says; told = (h.each q u e).told });
     }
   where
     owner : ℕ → ℕ
@@ -400,6 +406,10 @@ merges pass v other w mine theirs my my_down their their_down items views h at a
         subst (λ (o : Option Laid). MatchOption (option_map {T = Laid} (with_states w.streams o) v.seen) (v.streams ++ w.streams ≡ []) (λ seen. IsSaid (v.streams ++ w.streams) seen now)) (sym their)
         (subst (λ (o : Option Laid). MatchOption (option_map {T = Laid} (with_states w.streams (Some theirs)) o) (v.streams ++ w.streams ≡ []) (λ seen. IsSaid (v.streams ++ w.streams) seen now)) (sym my) as_one)
 
+    told : (now : Option Laid) → SaysOf v now → SaysOf w now → ToldOf v now → ToldOf w now → ToldOf (joined v w) now
+    told None one two mine_told their_told = let no : Some mine ≡ None = sym my ∙ one.1 in absurd cc
+    told (Some now) one two mine_told their_told = from_joined v w now (from_boards v now one mine_told) (from_boards w now two their_told)
+
     both : IsPassOf owner h.now pass (joined v w)
     both =
         record {
@@ -408,6 +418,7 @@ merges pass v other w mine theirs my my_down their their_down items views h at a
               ⊎_elim (λ (x : names v.streams s ≡ true). moved_not other pass h.owner s pass ((h.each pass v at).own s x) (λ same. apart (sym same)))
               (λ (x : names w.streams s ≡ true). moved_over other pass h.owner s ((h.each other w before).own s x)) (named_either v.streams w.streams s e);
           says = says h.now (h.each pass v at).says (h.each other w before).says;
+          told = told h.now (h.each pass v at).says (h.each other w before).says (h.each pass v at).told (h.each other w before).told;
         }
 
     nothing : (now : Option Laid) → SaysOf spent_view now
@@ -415,7 +426,7 @@ merges pass v other w mine theirs my my_down their their_down items views h at a
     nothing (Some now) = refl
 
     spent : IsPassOf owner h.now other spent_view
-    spent = record { own = λ s e. absurd (true≢false (sym e)); says = nothing h.now }
+    spent = record { own = λ s e. absurd (true≢false (sym e)); says = nothing h.now; told = told_nothing spent_view h.now refl }
 
     free : IsFree items views h.now → IsFree items (set (set views pass (joined v w)) other spent_view) h.now
     free p = record { board = p.board; is = p.is; item = p.item; none = over (λ q u. u.holds ≡ false) my_down refl (λ q u e here there. p.none q u e) }

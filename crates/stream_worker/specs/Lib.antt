@@ -1,5 +1,9 @@
 pub mod Knowing
 pub mod Rule
+pub mod Outlines
 pub mod Seats
 pub mod SeatOf
 pub mod Calls
+pub mod Ended
+pub mod RunRefused
+pub mod Private

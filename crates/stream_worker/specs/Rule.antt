@@ -3,7 +3,7 @@ use Rattle.std.specs.Prelude.{◌≡◌, ◌⊎◌, ℕ, ◌+◌, ◌<◌, ◌�
 use mathlib.Core.Option.{some}
 use lib.ListN.{get_elem?}
 use Rattle.board_laws.specs.Meaning.{State}
-use Rattle.stream_worker.specs.Knowing.{Laid, Knows, names, with_board}
+use Rattle.stream_worker.specs.Knowing.{Laid, Knows, IsAmong, names, with_board}
 
 -- ---- one stream
 
@@ -17,6 +17,15 @@ pub record GoesOn (earlier later : State) : Type 0 where
 -- every stream of a board goes on from the earlier board
 abbrev pub AllGoOn : List State → List State → Type 0
 AllGoOn earlier later = (s : ℕ) (state : State) → slice_get earlier s ≡ Some state → IsSomeAnd (slice_get later s) (GoesOn state)
+
+-- a board goes on from an earlier one: it has as many streams, and each goes on
+pub record BoardGoesOn (earlier later : List State) : Type 0 where
+  pub every : AllGoOn earlier later
+  pub long : length later ≡ length earlier
+
+-- a board goes on from each of these
+abbrev pub GoesOnFromAll : List (List State) → List State → Type 0
+GoesOnFromAll told later = (earlier : List State) → IsAmong earlier told → BoardGoesOn earlier later
 
 -- ---- what a pass says of the board
 
@@ -38,10 +47,15 @@ abbrev pub SaysOf : Knows → Option Laid → Type 0
 SaysOf v None = (v.streams ≡ []) × (v.seen ≡ None)
 SaysOf v (Some now) = Says v now
 
--- each of a pass's streams is its own, and what it says is so
+-- what a pass was told of, the board now goes on from; before the opener's first step no pass was told of any
+abbrev pub ToldOf : Knows → Option Laid → Type 0
+ToldOf v now = MatchOption now (v.told ≡ []) (λ laid. GoesOnFromAll v.told laid.board)
+
+-- each of a pass's streams is its own, and what it says, and was told, is so
 pub record IsPassOf (owner : ℕ → ℕ) (now : Option Laid) (pass : ℕ) (v : Knows) : Type 0 where
   pub own : (s : ℕ) → names v.streams s ≡ true → owner s ≡ pass
   pub says : SaysOf v now
+  pub told : ToldOf v now
 
 -- ---- where the board is
 
@@ -78,10 +92,11 @@ pub record OneBoard (items : List Laid) (views : List Knows) : Type 0 where
 
 -- ---- the two steps
 
--- take: the pass holds the board, which is as it said
+-- take: the pass holds the board, which is as it said, and goes on from what it was told
 pub record IsTaken (before : Knows) (board : Laid) (after : Knows) : Type 0 where
   pub view : after ≡ with_board before.streams board
   pub says : Says before board
+  pub told : GoesOnFromAll before.told board.board
 
 -- what a pass of these streams may change of the board that it took: its own streams, each of which goes on
 pub record IsOwnChange (streams : List ℕ) (taken board : Laid) : Type 0 where

@@ -5,7 +5,8 @@ use Rattle.crossbeam_channel.specs.Ends.{sends_on}
 use Rattle.board_laws.specs.Meaning.{State}
 use Rattle.stream_worker.specs.declared.seat.Seat.{Seat}
 use Rattle.stream_worker.specs.declared.shared.Shared.{Shared}
-use Rattle.stream_worker.specs.Knowing.{Knows, names, state_seen}
+use Rattle.stream_worker.specs.Knowing.{Laid, Knows, IsAmong, names, boards_of, state_seen}
+use Rattle.stream_worker.specs.Rule.{AllGoOn}
 
 -- what a seat knows of the board
 abbrev pub known : Seat → Knows
@@ -27,19 +28,31 @@ AreSeatsOf shared seats = (k : ℕ) (seat : Seat) → slice_get seats k ≡ Some
 abbrev pub AreStatesOf : List Seat → List State → Type 0
 AreStatesOf seats board = (k : ℕ) (seat : Seat) → slice_get seats k ≡ Some seat → slice_get board seat.stream ≡ seat_state seat
 
--- a board is opened: there is a seat for each stream, and it knows the stream's state
+-- every stream goes on from what any of the seats saw of it
+abbrev pub AllGoOnFromSeen : List Seat → List State → Type 0
+AllGoOnFromSeen seats board = (k : ℕ) (seat : Seat) (laid : Laid) → slice_get seats k ≡ Some seat → (known seat).seen ≡ Some laid → AllGoOn laid.board board
+
+-- each seat saw a board of so many streams
+abbrev pub SawAsMany : List Seat → ℕ → Type 0
+SawAsMany seats n = (k : ℕ) (seat : Seat) (laid : Laid) → slice_get seats k ≡ Some seat → (known seat).seen ≡ Some laid → length laid.board ≡ n
+
+-- a board is opened: there is a seat for each stream, and it knows the stream's state, and how many
+-- streams there are
 pub record IsOpened (board : List State) (shared : Shared) (seats : List Seat) : Type 0 where
   pub count : length seats ≡ length board
   pub each : AreSeatsOf shared seats
   pub states : AreStatesOf seats board
+  pub many : SawAsMany seats (length board)
 
 -- each seat knows the state of its stream that a pass saw
 abbrev pub AreStatesSeen : List Seat → Knows → Type 0
 AreStatesSeen seats v = (k : ℕ) (seat : Seat) → slice_get seats k ≡ Some seat → seat_state seat ≡ state_seen v seat.stream
 
--- a pass that holds nothing has the streams of the seats from place n on, and saw the states that these know
+-- a pass that holds nothing has the streams of the seats from place n on, saw the states that these know, and saw or was
+-- told of each board that these saw
 pub record AreAllKnown (seats : List Seat) (n : ℕ) (v : Knows) : Type 0 where
   pub holds : v.holds ≡ false
   pub seen : IsSome v.seen
   pub own : (k : ℕ) (seat : Seat) → n ≤ k → slice_get seats k ≡ Some seat → names v.streams seat.stream ≡ true
   pub states : (k : ℕ) (seat : Seat) → n ≤ k → slice_get seats k ≡ Some seat → state_seen v seat.stream ≡ seat_state seat
+  pub told : (k : ℕ) (seat : Seat) (laid : Laid) → n ≤ k → slice_get seats k ≡ Some seat → (known seat).seen ≡ Some laid → IsAmong laid.board (boards_of v)

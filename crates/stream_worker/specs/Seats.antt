@@ -38,10 +38,6 @@ pub record IsReceiptOf (s : ℕ) (state : State) (named told : ℕ) (shown : Pre
   pub number : told ≡ state.applied
   pub group : slice_get state.list (told - 1) ≡ Some shown
 
--- the group that stream s of a board applies next
-abbrev pub next_group_of : List State → ℕ → Option PreparedValue
-next_group_of board s = option_and_then (λ state. slice_get state.list state.applied) (slice_get board s)
-
 -- the row that the cut of stream s of a board has at a key
 abbrev pub own_cut : List State → ℕ → KeyValue → Option RowValue
 own_cut board s key = option_and_then (λ state. cut_of state key) (slice_get board s)

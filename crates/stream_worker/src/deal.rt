@@ -1,17 +1,21 @@
 //! What lies in the lock: the board, and how many seats are given out.
 
-ghost use Rattle.std.specs.Prelude.{◌≡◌, ◌+◌, ◌<◌, Some, IsSome, IfOk, IsSomeAnd, slice_get};
+ghost use Rattle.std.specs.Prelude.{◌≡◌, ◌+◌, ◌<◌, true, Some, Err, IsSome, IfOk, IsSomeAnd, slice_get};
 ghost use Rattle.std.specs.Option.{option_map};
 ghost use Rattle.std.specs.Arc.{arc_value};
 ghost use Rattle.board_laws.specs.declared.answer.Answer as answers;
 ghost use Rattle.board_laws.specs.Lawful.{standing_of};
-ghost use Rattle.board_laws.specs.Event.{offer, advance, open_at, copy_rows, close, restart};
-ghost use Rattle.board_laws.specs.Step.{answered};
-ghost use Rattle.stream_worker.specs.Seats.{IsBoardStep, IsReceiptOf, next_group_of, own_cut};
+ghost use Rattle.board_laws.specs.declared.refusal.Refusal.TheVariants.{Memory};
+ghost use Rattle.board_laws.specs.Event.{Event, offer, advance, open_at, copy_rows, close, restart};
+ghost use Rattle.board_laws.specs.StateAfter.{state_after};
+ghost use Rattle.board_laws.specs.Step.{answered, takes_memory};
+ghost use Rattle.stream_worker.specs.Outlines.{IsNextOf};
+ghost use Rattle.stream_worker.specs.Seats.{IsBoardStep, IsReceiptOf, own_cut};
 
+use crate::outline::Next;
 use crate::receipt::Receipt;
 use apply_core::{Board, Copied, Offered, Refusal};
-use pk_copy::Key;
+use pk_copy::{CopyState, Key};
 use row_view::RowBuf;
 use source_feed::Prepared;
 use std::alloc::{AllocError, Global};
@@ -66,6 +70,14 @@ impl<'h> Deal<'h> {
         }
     }
 
+    /// A call that takes memory, and found none before it came to the board, changes nothing.
+    pub(crate) fn lacks_memory(&self, _s: u8)
+        requires { IsSome (slice_get self.now.board _s) }
+        ensures { (event : Event) → takes_memory event ≡ true → IsBoardStep self.now _s event (Err Memory) self.now }
+    {
+        self.board.is_lawful();
+    }
+
     /// A group is offered to a stream of the board.
     pub(crate) fn offer(
         &mut self,
@@ -80,32 +92,20 @@ impl<'h> Deal<'h> {
         result
     }
 
-    /// The next group of a stream of the board, shared. An error is want of memory.
-    fn next_group(&self, s: u8) -> Result<Option<Arc<Prepared<'h>>>, AllocError>
-        ensures { IfOk result (λ group. option_map arc_value group ≡ next_group_of self.now.board s) }
-    {
-        let (Ok(cursor), Ok(list)) = (self.board.state(s), self.board.read_list(s)) else {
-            return Ok(None);
-        };
-        match list.get(cursor.applied() as usize) {
-            None => Ok(None),
-            Some(group) => {
-                let group = Arc::try_clone(group)?;
-                Ok(Some(group))
-            }
-        }
-    }
-
-    /// The next group of a stream of the board is applied. The receipt's share of the group is made before.
-    pub(crate) fn advance(&mut self, alloc: Global, s: u8) -> Result<Receipt<'h>, Refusal>
-        requires { IsSome (slice_get self.old.board s) }
+    /// The next group of a stream of the board is applied. It was looked up, and what it puts was built,
+    /// before the board was taken.
+    pub(crate) fn advance(
+        &mut self,
+        alloc: Global,
+        s: u8,
+        next: Next<'h>,
+    ) -> Result<Receipt<'h>, Refusal>
+        requires { IsSomeAnd (slice_get self.old.board s) (λ state. IsNextOf state next) }
         ensures step { IsBoardStep self.old s advance (answered (λ receipt. answers.Answer.Applied receipt.number) result) self.new }
         ensures receipt { IfOk result (λ receipt. IsSomeAnd (slice_get self.new.board s) (λ state. IsReceiptOf s state receipt.stream receipt.number (arc_value receipt.group))) }
     {
-        let Ok(group) = self.next_group(s) else {
-            return Err(Refusal::Memory);
-        };
-        let result = self.board.advance(alloc, s);
+        let Next { group, puts } = next;
+        let result = self.board.advance_by(alloc, s, puts);
         self.board.is_lawful();
         match (result, group) {
             (Ok(number), Some(group)) => Ok(Receipt {
@@ -164,13 +164,32 @@ impl<'h> Deal<'h> {
         result
     }
 
-    /// Rows are copied out of the snapshot of a stream of the board.
-    pub(crate) fn copy_chunk(&mut self, alloc: Global, s: u8, c: u32) -> Result<Copied, Refusal>
-        ensures { IsBoardStep self.old s (copy_rows c) (answered answers.Answer.Copied result) self.new }
+    /// Rows are copied out of the snapshot of a stream of the board; with what was copied a copy of the
+    /// stream's marks is given, which was made before.
+    pub(crate) fn copy_chunk(
+        &mut self,
+        alloc: Global,
+        s: u8,
+        c: u32,
+    ) -> Result<(Copied, CopyState), Refusal>
+        requires { IsSome (slice_get self.old.board s) }
+        ensures step { IsBoardStep self.old s (copy_rows c) (answered (λ made. answers.Answer.Copied made.0) result) self.new }
+        ensures marks { IfOk result (λ made. IsSomeAnd (slice_get self.old.board s) (λ state. made.1 ≡ (state_after state (copy_rows c)).marks)) }
     {
-        let result = self.board.copy_chunk(alloc, s, c);
         self.board.is_lawful();
-        result
+        let chunk = match self.board.next_chunk(alloc, s, c) {
+            Err(refusal) => return Err(refusal),
+            Ok(chunk) => chunk,
+        };
+        let Ok(marks) = self.board.marks_behind(alloc, s, c, &chunk) else {
+            return Err(Refusal::Memory);
+        };
+        let result = self.board.copy_by(alloc, s, c, chunk);
+        self.board.is_lawful();
+        match result {
+            Err(refusal) => Err(refusal),
+            Ok(copied) => Ok((copied, marks)),
+        }
     }
 
     /// The snapshot of a stream of the board is closed. Takes no memory.

@@ -1,6 +1,6 @@
 //! Taking a board out of its lock.
 
-ghost use Rattle.std.specs.Prelude.{◌≡◌, ◌<◌, vec_len};
+ghost use Rattle.std.specs.Prelude.{◌≡◌, ◌<◌, length, vec_len};
 ghost use Rattle.crossbeam_channel.specs.Claims.{view, IsSeatAt};
 ghost use Rattle.crossbeam_channel.specs.Ends.{sends_on};
 
@@ -11,7 +11,7 @@ use apply_core::Board;
 use std::sync::Wait;
 
 impl<'h> Shared<'h> {
-    ghost use Rattle.stream_worker.specs.SeatOf.{AreSeatsOf, AreStatesOf, AreAllKnown};
+    ghost use Rattle.stream_worker.specs.SeatOf.{AreSeatsOf, AreStatesOf, AreAllKnown, AllGoOnFromSeen, SawAsMany};
 
     /// One pass of all the seats' streams.
     fn joined(&self, mut seats: Vec<Seat<'h>>) -> LockPass<'h>
@@ -32,11 +32,14 @@ impl<'h> Shared<'h> {
     }
 
     /// Takes the board out, once the threads have ended, with all seats, in the order of their streams: each
-    /// stream has the state that its seat knows. Takes no memory.
+    /// stream has the state that its seat knows, and goes on from what any other seat saw of it. Takes no
+    /// memory.
     pub fn end<R: Wait>(self, rt: &R, seats: Vec<Seat<'h>>) -> Board<'h>
         requires some { 0 < vec_len seats }
         requires seats { AreSeatsOf self seats.items }
         ensures states { AreStatesOf seats.entry.items result.streams }
+        ensures seen { AllGoOnFromSeen seats.entry.items result.streams }
+        ensures many { SawAsMany seats.entry.items (length result.streams) }
     {
         let mut pass = self.joined(seats);
         let deal = self.lock.take(rt, &mut pass);

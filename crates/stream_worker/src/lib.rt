@@ -1,18 +1,28 @@
 //! Streams in threads over one board, which lies in a lock.
 #![tactic(auto)]
 
+mod alone;
+mod course;
 mod deal;
 mod ending;
 mod laws;
 mod lock;
 mod opening;
+mod outline;
+mod policy;
 mod receipt;
+mod run_laws;
+mod run_refusal;
 mod seat;
 mod shared;
 
+pub use alone::run_alone;
 pub use board_laws::{Answer, Copied, Offered, Refusal};
 pub use laws::calls_keep_applied_groups;
 pub use opening::OpenRefusal;
+pub use policy::Policy;
 pub use receipt::Receipt;
+pub use run_laws::ended_boards_have_the_union;
+pub use run_refusal::RunRefusal;
 pub use seat::Seat;
 pub use shared::Shared;

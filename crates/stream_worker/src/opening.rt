@@ -1,14 +1,17 @@
 //! Sharing a board.
 
-ghost use Rattle.std.specs.Prelude.{◌≡◌, ℕ, ◌<◌, ◌≤◌, [], IsSome, IfOk, IfErr, length, vec_len};
+ghost use Rattle.std.specs.Prelude.{◌≡◌, ◌<◌, ◌≤◌, ℕ, [], Some, IfOk, IfErr, length, vec_len};
+ghost use Rattle.std.specs.Option.{option_map};
 ghost use Rattle.std.specs.Vec.{vec_capacity};
 ghost use Rattle.crossbeam_channel.specs.Claims.{view, IsSeatAt};
 ghost use Rattle.crossbeam_channel.specs.Ends.{sends_on};
-ghost use Rattle.stream_worker.specs.Knowing.{state_seen};
+ghost use Rattle.stream_worker.specs.Knowing.{SawStreams, state_seen};
+ghost use Rattle.stream_worker.specs.Outlines.{outline_of, AreOutlinesSeen};
 ghost use Rattle.stream_worker.specs.Seats.{IsOpener};
 
 use crate::deal::Deal;
 use crate::lock::{Lock, LockPass};
+use crate::outline::{Outline, outlines_of};
 use crate::seat::Seat;
 use crate::shared::Shared;
 use apply_core::Board;
@@ -23,18 +26,25 @@ pub struct OpenRefusal<'h> {
 }
 
 impl<'h> Shared<'h> {
-    ghost use Rattle.stream_worker.specs.SeatOf.{seat_state, IsSeatOf, AreSeatsOf, AreStatesSeen, IsOpened};
+    ghost use Rattle.stream_worker.specs.SeatOf.{known, seat_state, IsSeatOf, AreSeatsOf, AreStatesSeen, SawAsMany, IsOpened};
 
     /// The seat of stream `k`, where `k` seats are given out: the count of seats is looked at, and the seat
     /// is claimed by counting it.
-    fn seat<R: Wait>(&self, rt: &R, opener: &mut LockPass<'h>, k: u8) -> Seat<'h>
+    fn seat<R: Wait>(
+        &self,
+        rt: &R,
+        opener: &mut LockPass<'h>,
+        k: u8,
+        outline: Outline<'h>,
+    ) -> Seat<'h>
         requires pass { IsSeatAt (sends_on self.now.lock.sender) opener.old }
         requires opened { IsOpener (view opener.old) }
-        requires there { IsSome (state_seen (view opener.old) k) }
+        requires outlined { option_map outline_of (state_seen (view opener.old) k) ≡ Some outline }
         requires few { k < 64 }
         ensures opener { IsSeatAt (sends_on self.now.lock.sender) opener.new × (view opener.new ≡ view opener.old) }
         ensures seat { IsSeatOf self.now result × (result.stream ≡ k) }
         ensures state { seat_state result ≡ state_seen (view opener.old) k }
+        ensures many { (n : ℕ) → SawStreams (view opener.old) n → SawStreams (known result) n }
     {
         for _ in rt.forever() {
             let mut pass = self.lock.pass(opener);
@@ -46,6 +56,7 @@ impl<'h> Shared<'h> {
                 return Seat {
                     stream: k,
                     cursor,
+                    outline,
                     pass,
                 };
             }
@@ -54,26 +65,27 @@ impl<'h> Shared<'h> {
         unreachable!()
     }
 
-    /// The seats of so many streams, in order, in a vector with room for them.
+    /// The seats of the streams of these outlines, in order, in a vector with room for them.
     fn seats<R: Wait>(
         &self,
         rt: &R,
         mut opener: LockPass<'h>,
-        n: u8,
+        outlines: Vec<Outline<'h>>,
         mut seats: Vec<Seat<'h>>,
     ) -> Vec<Seat<'h>>
         requires pass { IsSeatAt (sends_on self.now.lock.sender) opener }
         requires opened { IsOpener (view opener) }
-        requires there { (k : ℕ) → k < n → IsSome (state_seen (view opener) k) }
-        requires few { n ≤ 64 }
-        requires room { (seats.items ≡ []) × (vec_len seats ≡ 0) × (n ≤ vec_capacity seats) }
-        ensures count { length result.items ≡ n }
+        requires outlined { AreOutlinesSeen outlines.items (view opener) }
+        requires few { length outlines.items ≤ 64 }
+        requires room { (seats.items ≡ []) × (vec_len seats ≡ 0) × (length outlines.items ≤ vec_capacity seats) }
+        ensures count { length result.items ≡ length outlines.entry.items }
         ensures seats { AreSeatsOf self.now result.items }
         ensures states { AreStatesSeen result.items (view opener.entry) }
+        ensures many { (n : ℕ) → SawStreams (view opener.entry) n → SawAsMany result.items n }
     {
         let mut k = 0;
-        while k < n {
-            let seat = self.seat(rt, &mut opener, k);
+        for outline in outlines {
+            let seat = self.seat(rt, &mut opener, k, outline);
             match seats.push(seat) {
                 Ok(()) => {}
                 Err(_) => unreachable!(),
@@ -95,6 +107,9 @@ impl<'h> Shared<'h> {
     {
         board.is_lawful();
         let n = board.len();
+        let Ok(outlines) = outlines_of(alloc, &board) else {
+            return Err(OpenRefusal { board });
+        };
         let Ok(seats) = Vec::with_capacity(alloc, n) else {
             return Err(OpenRefusal { board });
         };
@@ -103,7 +118,7 @@ impl<'h> Shared<'h> {
         };
         lock.put_back(rt, &mut opener, Deal::new(board));
         let shared = Shared { lock };
-        let seats = shared.seats(rt, opener, n as u8, seats);
+        let seats = shared.seats(rt, opener, outlines, seats);
         Ok((shared, seats))
     }
 }

@@ -5,20 +5,24 @@ ghost use Rattle.std.specs.Option.{option_map};
 ghost use Rattle.crossbeam_channel.specs.Claims.{view};
 ghost use Rattle.board_laws.specs.Lawful.{standing_of};
 ghost use Rattle.stream_worker.specs.Knowing.{state_seen};
+ghost use Rattle.stream_worker.specs.Outlines.{outline_of};
 
 use crate::lock::LockPass;
+use crate::outline::Outline;
 use stream_core::Cursor;
 
 /// A seat at a shared board: one stream, which whoever has the seat steps on. It knows its stream's state
-/// as its last call left it, for no other seat changes that.
+/// as its last call left it, for no other seat changes that, and has a copy of what an advance is built from.
 #[derive(Drop)]
 pub struct Seat<'h> {
     pub(crate) stream: u8,
     pub(crate) cursor: Cursor,
+    pub(crate) outline: Outline<'h>,
     pub(crate) pass: LockPass<'h>,
     ghost own: { (view pass).streams ≡ stream ∷ [] },
     ghost free: { (view pass).holds ≡ false },
     ghost numbers: { option_map standing_of (state_seen (view pass) stream) ≡ Some cursor },
+    ghost outlined: { option_map outline_of (state_seen (view pass) stream) ≡ Some outline },
 }
 
 impl<'h> Seat<'h> {

@@ -1,11 +1,12 @@
 //! The shared board, and the calls of its seats.
 
-ghost use Rattle.std.specs.Prelude.{◌≡◌, IfOk, IsSomeAnd};
+ghost use Rattle.std.specs.Prelude.{◌≡◌, true, Err, IfOk, IsSomeAnd};
 ghost use Rattle.std.specs.Arc.{arc_value};
 ghost use Rattle.board_laws.specs.declared.answer.Answer as answers;
 ghost use Rattle.board_laws.specs.Cut.{cut_of};
-ghost use Rattle.board_laws.specs.Event.{offer, advance, open_at, copy_rows, close, restart};
-ghost use Rattle.board_laws.specs.Step.{answered};
+ghost use Rattle.board_laws.specs.declared.refusal.Refusal.TheVariants.{Memory};
+ghost use Rattle.board_laws.specs.Event.{Event, offer, advance, open_at, copy_rows, close, restart};
+ghost use Rattle.board_laws.specs.Step.{answered, takes_memory};
 ghost use Rattle.stream_worker.specs.Seats.{IsSeatStep, IsReceiptOf};
 
 use crate::lock::Lock;
@@ -28,6 +29,20 @@ pub struct Shared<'h> {
 impl<'h> Shared<'h> {
     ghost use Rattle.stream_worker.specs.SeatOf.{known, seat_state, IsSeatOf};
 
+    /// A call that takes memory, and found none before it came to the board, is refused so on whatever board
+    /// there is.
+    fn lacks_memory<R: Wait>(&self, rt: &R, seat: &mut Seat<'h>) -> Refusal
+        requires { IsSeatOf self.now seat.old }
+        ensures memory { result ≡ Memory }
+        ensures seat { IsSeatOf self.now seat.new × (seat.new.stream ≡ seat.old.stream) }
+        ensures step { (event : Event) → takes_memory event ≡ true → IsSeatStep (known seat.old) seat.old.stream event (Err Memory) (known seat.new) }
+    {
+        let deal = self.lock.take(rt, &mut seat.pass);
+        deal.lacks_memory(seat.stream);
+        self.lock.put_back(rt, &mut seat.pass, deal);
+        Refusal::Memory
+    }
+
     /// A group is offered to the seat's stream: it is read, or was read before. Refused as the board's
     /// call of this name, on the seat's own state.
     pub fn offer<R: Wait>(
@@ -41,10 +56,14 @@ impl<'h> Shared<'h> {
         ensures seat { IsSeatOf self.now seat.new × (seat.new.stream ≡ seat.old.stream) }
         ensures step { IsSeatStep (known seat.old) seat.old.stream (offer (arc_value group.entry)) (answered answers.Answer.Offered result) (known seat.new) }
     {
+        let Ok(()) = seat.outline.push(&group) else {
+            return Err(self.lacks_memory(rt, seat));
+        };
         let mut deal = self.lock.take(rt, &mut seat.pass);
         let result = deal.offer(alloc, seat.stream, group);
         seat.cursor = deal.cursor(seat.stream);
         self.lock.put_back(rt, &mut seat.pass, deal);
+        seat.outline.keep(seat.cursor.read());
         result
     }
 
@@ -61,8 +80,11 @@ impl<'h> Shared<'h> {
         ensures step { IsSeatStep (known seat.old) seat.old.stream advance (answered (λ receipt. answers.Answer.Applied receipt.number) result) (known seat.new) }
         ensures receipt { IfOk result (λ receipt. IsSomeAnd (seat_state seat.new) (λ state. IsReceiptOf seat.new.stream state receipt.stream receipt.number (arc_value receipt.group))) }
     {
+        let Ok(next) = seat.outline.next(alloc, seat.cursor.applied()) else {
+            return Err(self.lacks_memory(rt, seat));
+        };
         let mut deal = self.lock.take(rt, &mut seat.pass);
-        let result = deal.advance(alloc, seat.stream);
+        let result = deal.advance(alloc, seat.stream, next);
         seat.cursor = deal.cursor(seat.stream);
         self.lock.put_back(rt, &mut seat.pass, deal);
         result
@@ -126,7 +148,13 @@ impl<'h> Shared<'h> {
         let result = deal.copy_chunk(alloc, seat.stream, c);
         seat.cursor = deal.cursor(seat.stream);
         self.lock.put_back(rt, &mut seat.pass, deal);
-        result
+        match result {
+            Err(refusal) => Err(refusal),
+            Ok((copied, marks)) => {
+                seat.outline.mark(marks);
+                Ok(copied)
+            }
+        }
     }
 
     /// The snapshot of the seat's stream is closed. Refused 108, on the seat's own state. Takes no memory.
@@ -152,6 +180,7 @@ impl<'h> Shared<'h> {
         let result = deal.restart(seat.stream);
         seat.cursor = deal.cursor(seat.stream);
         self.lock.put_back(rt, &mut seat.pass, deal);
+        seat.outline.keep(seat.cursor.read());
         result
     }
 }

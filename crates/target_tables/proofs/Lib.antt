@@ -3,6 +3,10 @@ pub mod Results
 pub mod Seeking
 pub mod Values
 pub mod Placed
+pub mod Paging
+pub mod Falling
+pub mod Rooms
+pub mod Splitting
 pub mod Sorting
 pub mod Keeping
 pub mod Judging

@@ -15,11 +15,11 @@ use Rattle.target_tables.specs.Touches.{removed}
 use Rattle.target_tables.proofs.Order.{split_at, ordered_with, ordered_without}
 use Rattle.target_tables.proofs.Values.{by_key, found, absent, skip, put_over, put_in}
 
-set-parts : {X : Type 0} (xs : List X) (i : ℕ) (y : X) → i < length xs → set xs i y ≡ take i xs ++ y ∷ drop (i + 1) xs
+pub set-parts : {X : Type 0} (xs : List X) (i : ℕ) (y : X) → i < length xs → set xs i y ≡ take i xs ++ y ∷ drop (i + 1) xs
 set-parts {X} xs i y inside =
     sym (take-append-drop i (set xs i y)) ∙ ap (λ (front : List X). front ++ drop i (set xs i y)) (take-set xs i y) ∙ ap (λ (back : List X). take i xs ++ back) (drop-set xs i y inside)
 
-remove-parts : {X : Type 0} (xs : List X) (i : ℕ) → remove xs i ≡ take i xs ++ drop (i + 1) xs
+pub remove-parts : {X : Type 0} (xs : List X) (i : ℕ) → remove xs i ≡ take i xs ++ drop (i + 1) xs
 remove-parts {X} xs i = ap (λ n. take i xs ++ drop n xs) (sym (add-one i))
 
 module _ {K R : Type 0} {cmp : K → K → Ordering} (o : IsTotalOrder cmp) (es : List (K × (ℕ × R))) (k : K) (i : ℕ) (rising : IsRising cmp es) where

@@ -7,14 +7,15 @@ use Rattle.std.specs.Ordering.{eq_by_cmp, is_lt, is_gt}
 use Rattle.std.specs.Coded.{Coded, code_by, coded×, coded_list, coded_ℕ}
 use denote.Ref.{Bor}
 
--- the entries by rising key, each with its stream and row, and how many new keys can be put in without taking memory
+-- the entries by rising key, each with its stream and row, how many new keys can be put in without taking memory, and how many entries each page has
 pub record Contents (K R : Type 0) : Type 0 where
   pub entries : List (K × (ℕ × R))
   pub room : ℕ
+  pub pages : List ℕ
 
--- contents are stored as the pair of their parts
+-- contents are stored as the tuple of their parts
 abbrev pub contents_code : {K R : Type 0} → Coded K → Coded R → Coded (Contents K R)
-contents_code k r = code_by _ (coded× (coded_list (coded× k (coded× coded_ℕ r))) coded_ℕ) (λ c. (c.entries, c.room)) (λ p. record { entries = p.0; room = p.1 }) (λ _. refl)
+contents_code k r = code_by _ (coded× (coded_list (coded× k (coded× coded_ℕ r))) (coded× coded_ℕ (coded_list coded_ℕ))) (λ c. (c.entries, (c.room, c.pages))) (λ p. record { entries = p.0; room = p.1.0; pages = p.1.1 }) (λ _. refl)
 
 -- the stream and row that stand at a key
 abbrev pub value_at : {K R : Type 0} → (K → K → Ordering) → List (K × (ℕ × R)) → K → Option (ℕ × R)

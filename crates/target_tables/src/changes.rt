@@ -1,14 +1,17 @@
 //! Changes of rising entries, and the last touches of a group.
 
-ghost use Rattle.std.specs.Prelude.{◌≡◌, ℕ, ◌+◌, ◌≤◌, Some, None, IfOk, vec_len, if◌then◌else◌};
+ghost use Rattle.std.specs.Prelude.{◌≡◌, ℕ, ◌+◌, ◌<◌, ◌≤◌, [], ◌∷◌, ◌++◌, Some, None, IfOk, length, if◌then◌else◌};
+ghost use Rattle.std.specs.List.{insert};
 ghost use Rattle.std.specs.Ordering.{flip_args};
-ghost use Rattle.std.specs.Vec.{vec_capacity};
 ghost use Rattle.target_tables.specs.Contents.{value_at};
 ghost use Rattle.target_tables.specs.Kept.{ends_at};
+ghost use Rattle.target_tables.specs.Pages.{entries_of, page_at, flat, room_of};
 ghost use Rattle.target_tables.specs.Rising.{IsRising, NeverFalls};
 ghost use Rattle.target_tables.specs.Touches.{last_at, change_at, is_new, new_keys, IsTouched, IsChanged};
 
-use crate::places::place_of;
+use crate::page::{FULL, HALF};
+use crate::pages::Pages;
+use crate::spots::{Spot, entry_at, spot_of};
 use std::alloc::{AllocError, Global};
 
 /// The last of the touches has the key.
@@ -51,73 +54,134 @@ pub fn last_touches<K: Ord + Drop, R: Drop>(
     last_of_each(alloc, touches)
 }
 
-/// Puts a stream's row at a key. Takes no memory.
-fn put<K: Ord + Drop, R: Drop>(entries: &mut Vec<(K, (u8, R))>, stream: u8, key: K, row: R)
-    requires rising { IsRising K.cmp entries.old.items }
-    requires room { vec_len entries.old + (if is_new (Some row) (value_at K.cmp entries.old.items key) then 1 else 0) ≤ vec_capacity entries.old }
-    ensures rising { IsRising K.cmp entries.new.items }
-    ensures values { IsChanged K.cmp entries.old.items stream (key, Some row) entries.new.items }
-    ensures room { (n : ℕ) → vec_len entries.old + (n + (if is_new (Some row) (value_at K.cmp entries.old.items key) then 1 else 0)) ≤ vec_capacity entries.old
-        → vec_len entries.new + n ≤ vec_capacity entries.new }
+/// Puts an entry with a new key in at its place, and says in which page it stands then. A full page is split in
+/// two of 64 first, and the entry goes into the second if its key is greater than the first's last. Takes no
+/// memory.
+fn put_new<K: Drop, R: Drop>(pages: &mut Pages<K, R>, spot: Spot, entry: (K, (u8, R))) -> usize
+    requires inside { 0 < length pages.old.pages → spot.page < length pages.old.pages }
+    requires within { spot.place ≤ length (page_at pages.old.pages spot.page) }
+    requires room { 1 ≤ room_of pages.old.pages pages.old.spares }
+    ensures entries { entries_of pages.new.pages ≡ insert (entries_of pages.old.pages) (flat pages.old.pages spot.page spot.place) entry }
+    ensures room { (n : ℕ) → n + 1 ≤ room_of pages.old.pages pages.old.spares → n ≤ room_of pages.new.pages pages.new.spares }
 {
-    match place_of(entries, &key) {
-        Ok(place) => entries[place] = (key, (stream, row)),
-        Err(place) => {
-            let _ = entries.insert(place, (key, (stream, row)));
+    let Spot { page, place } = spot;
+    if pages.as_slice().is_empty() {
+        pages.start(entry);
+        return 0;
+    }
+    if pages.as_slice()[page].len() < FULL {
+        pages.put_in(page, place, entry);
+        return page;
+    }
+    pages.split(page);
+    if place < HALF {
+        pages.put_in(page, place, entry);
+        return page;
+    }
+    pages.put_in(page + 1, place - HALF, entry);
+    page + 1
+}
+
+/// Puts an entry behind all others. Takes no memory.
+pub fn put_last<K: Drop, R: Drop>(pages: &mut Pages<K, R>, entry: (K, (u8, R)))
+    requires { 1 ≤ room_of pages.old.pages pages.old.spares }
+    ensures { entries_of pages.new.pages ≡ entries_of pages.old.pages ++ entry ∷ [] }
+{
+    let all = pages.as_slice().len();
+    if all == 0 {
+        let _page = put_new(pages, Spot { page: 0, place: 0 }, entry);
+        return;
+    }
+    let page = all - 1;
+    let place = pages.as_slice()[page].len();
+    let _page = put_new(pages, Spot { page, place }, entry);
+}
+
+/// Puts a stream's row at a key, and says in which page. Takes no memory.
+fn put<K: Ord + Drop, R: Drop>(
+    pages: &mut Pages<K, R>,
+    near: usize,
+    stream: u8,
+    key: K,
+    row: R,
+) -> usize
+    requires rising { IsRising K.cmp (entries_of pages.old.pages) }
+    requires room { (if is_new (Some row) (value_at K.cmp (entries_of pages.old.pages) key) then 1 else 0) ≤ room_of pages.old.pages pages.old.spares }
+    ensures rising { IsRising K.cmp (entries_of pages.new.pages) }
+    ensures values { IsChanged K.cmp (entries_of pages.old.pages) stream (key, Some row) (entries_of pages.new.pages) }
+    ensures room { (n : ℕ) → n + (if is_new (Some row) (value_at K.cmp (entries_of pages.old.pages) key) then 1 else 0) ≤ room_of pages.old.pages pages.old.spares
+        → n ≤ room_of pages.new.pages pages.new.spares }
+{
+    match spot_of(pages.as_slice(), near, &key) {
+        Ok(spot) => {
+            pages.put_over(spot.page, spot.place, (key, (stream, row)));
+            spot.page
         }
+        Err(spot) => put_new(pages, spot, (key, (stream, row))),
     }
 }
 
-/// Takes a stream's row at a key away. Takes no memory.
-fn take_away<K: Ord + Drop, R: Drop>(entries: &mut Vec<(K, (u8, R))>, stream: u8, key: &K)
-    requires { IsRising K.cmp entries.old.items }
-    ensures rising { IsRising K.cmp entries.new.items }
-    ensures values { IsChanged K.cmp entries.old.items stream (key.now, None) entries.new.items }
-    ensures room { (n : ℕ) → vec_len entries.old + n ≤ vec_capacity entries.old → vec_len entries.new + n ≤ vec_capacity entries.new }
+/// Takes a stream's row at a key away, and says from which page. Takes no memory.
+fn take_away<K: Ord + Drop, R: Drop>(
+    pages: &mut Pages<K, R>,
+    near: usize,
+    stream: u8,
+    key: &K,
+) -> usize
+    requires { IsRising K.cmp (entries_of pages.old.pages) }
+    ensures rising { IsRising K.cmp (entries_of pages.new.pages) }
+    ensures values { IsChanged K.cmp (entries_of pages.old.pages) stream (key.now, None) (entries_of pages.new.pages) }
+    ensures room { room_of pages.old.pages pages.old.spares ≤ room_of pages.new.pages pages.new.spares }
 {
-    match place_of(entries, key) {
-        Ok(place) => {
-            if entries[place].1.0 == stream {
-                drop(entries.remove(place));
+    match spot_of(pages.as_slice(), near, key) {
+        Ok(spot) => {
+            let entry = entry_at(pages.as_slice(), spot);
+            let owner = entry.1.0;
+            if owner == stream {
+                pages.take_out(spot.page, spot.place);
             }
+            spot.page
         }
-        Err(_) => {}
+        Err(spot) => spot.page,
     }
 }
 
-/// Makes one change of a stream. Takes no memory.
+/// Makes one change of a stream, and says in which page. Takes no memory.
 fn make_change<K: Ord + Drop, R: Drop>(
-    entries: &mut Vec<(K, (u8, R))>,
+    pages: &mut Pages<K, R>,
+    near: usize,
     stream: u8,
     change: (K, Option<R>),
-)
-    requires rising { IsRising K.cmp entries.old.items }
-    requires room { vec_len entries.old + (if is_new change.1 (value_at K.cmp entries.old.items change.0) then 1 else 0) ≤ vec_capacity entries.old }
-    ensures rising { IsRising K.cmp entries.new.items }
-    ensures values { IsChanged K.cmp entries.old.items stream change entries.new.items }
-    ensures room { (n : ℕ) → vec_len entries.old + (n + (if is_new change.1 (value_at K.cmp entries.old.items change.0) then 1 else 0)) ≤ vec_capacity entries.old
-        → vec_len entries.new + n ≤ vec_capacity entries.new }
+) -> usize
+    requires rising { IsRising K.cmp (entries_of pages.old.pages) }
+    requires room { (if is_new change.1 (value_at K.cmp (entries_of pages.old.pages) change.0) then 1 else 0) ≤ room_of pages.old.pages pages.old.spares }
+    ensures rising { IsRising K.cmp (entries_of pages.new.pages) }
+    ensures values { IsChanged K.cmp (entries_of pages.old.pages) stream change (entries_of pages.new.pages) }
+    ensures room { (n : ℕ) → n + (if is_new change.1 (value_at K.cmp (entries_of pages.old.pages) change.0) then 1 else 0) ≤ room_of pages.old.pages pages.old.spares
+        → n ≤ room_of pages.new.pages pages.new.spares }
 {
     let (key, row) = change;
     match row {
-        Some(row) => put(entries, stream, key, row),
-        None => take_away(entries, stream, &key),
+        Some(row) => put(pages, near, stream, key, row),
+        None => take_away(pages, near, stream, &key),
     }
 }
 
-/// A stream's changes, each at a key of its own, by rising key. Takes no memory.
+/// A stream's changes, each at a key of its own, by rising key, each sought from the page of the one before
+/// it. Takes no memory.
 pub fn change_all<K: Ord + Drop, R: Drop>(
-    entries: &mut Vec<(K, (u8, R))>,
+    pages: &mut Pages<K, R>,
     stream: u8,
     mut changes: Vec<(K, Option<R>)>,
 )
-    requires rising { IsRising K.cmp entries.old.items }
+    requires rising { IsRising K.cmp (entries_of pages.old.pages) }
     requires falling { IsRising (flip_args K.cmp) changes.items }
-    requires room { vec_len entries.old + new_keys K.cmp entries.old.items changes.items ≤ vec_capacity entries.old }
-    ensures rising { IsRising K.cmp entries.new.items }
-    ensures values { IsTouched K.cmp entries.old.items stream (change_at K.cmp changes.items) entries.new.items }
+    requires room { new_keys K.cmp (entries_of pages.old.pages) changes.items ≤ room_of pages.old.pages pages.old.spares }
+    ensures rising { IsRising K.cmp (entries_of pages.new.pages) }
+    ensures values { IsTouched K.cmp (entries_of pages.old.pages) stream (change_at K.cmp changes.items) (entries_of pages.new.pages) }
 {
+    let mut near = 0;
     while let Some(change) = changes.pop() {
-        make_change(entries, stream, change);
+        near = make_change(pages, near, stream, change);
     }
 }

@@ -4,8 +4,11 @@
 mod changes;
 mod fault;
 mod laws;
+mod page;
+mod pages;
 mod places;
 mod scan;
+mod spots;
 mod staged;
 mod survey;
 mod tables;

@@ -1,42 +1,77 @@
 //! A map from keys to rows, each with the stream that owns it.
 
-ghost use Rattle.std.specs.Prelude.{◌≡◌, ◌≤◌, ◌↔◌, ◌∷◌, ◌++◌, ℕ, [], Some, None, length, IfOk, IfErr, OnOk, OnErr, IsTrue};
+ghost use Rattle.std.specs.Prelude.{◌≡◌, ◌+◌, ◌-◌, ◌*◌, ◌<◌, ◌≤◌, ◌^◌, ◌==◌, ◌↔◌, ◌∷◌, ◌++◌, ℕ, [], Some, None, length, sum, slice_index, IfOk, IfErr, OnOk, OnErr, IsTrue};
+ghost use Rattle.std.specs.List.{All};
+ghost use Rattle.target_tables.specs.Pages.{entries_of, AreFull};
 ghost use Rattle.std.specs.Option.{option_map};
 ghost use Rattle.target_tables.specs.Contents.{value_at, from_key, past_key, standing};
 ghost use Rattle.target_tables.specs.Rising.{IsRising, AreBelow};
 ghost use Rattle.target_tables.specs.Touches.{last_at, change_at, removed, IsTouched, IsReady, IsUntouched, ComesLast, NoneInTheWay};
 ghost use Rattle.target_tables.specs.Clashes.{IsRefusal};
 
-use crate::changes::{change_all, last_touches};
+use crate::changes::{change_all, last_touches, put_last};
 use crate::fault::TableFault;
-use crate::places::place_of;
-use crate::scan::Scan;
+use crate::page::{HALF, Page};
+use crate::pages::Pages;
+use crate::scan::{Scan, scan_from};
+use crate::spots::{Spot, entry_at, spot_of};
 use crate::staged::Staged;
 use crate::survey::survey;
 use std::alloc::{AllocError, Global};
 use std::marker::Model;
 
 /// A map from keys to rows, each with the number of the stream that owns it. Keys are told apart by
-/// their order. Seen in contracts as the list of entries by rising key, and how many new keys can
-/// be put in without taking memory.
+/// their order. They lie in pages of 1 to 128 entries. Seen in contracts as the list of entries by rising
+/// key, how many of them each page has, and how many new keys can be put in without taking memory.
 #[derive(Drop)]
 pub struct Tables<K: Ord, R> {
-    entries: Vec<(K, (u8, R))>,
+    pages: Pages<K, R>,
 }
 
 impl<K: Ord, R> Model for Tables<K, R> {
-    ghost use Rattle.std.specs.Prelude.{◌-◌, vec_len};
-    ghost use Rattle.std.specs.Vec.{vec_capacity};
+    ghost use Rattle.std.specs.Prelude.{length, map};
     ghost use Rattle.target_tables.specs.Contents.{Contents, contents_code};
+    ghost use Rattle.target_tables.specs.Pages.{entries_of, room_of};
     ghost use Rattle.target_tables.specs.Rising.{IsRising};
 
     ghost Value = { Contents K R };
 
     ghost coded = { contents_code K.code R.code };
 
-    ghost view = { λ t. record { entries = t.entries.items; room = vec_capacity t.entries - vec_len t.entries } };
+    ghost view = { λ t. record { entries = entries_of t.pages.pages; room = room_of t.pages.pages t.pages.spares; pages = map (λ page. length page) t.pages.pages } };
 
-    ghost invariant = { λ t. IsRising K.cmp t.entries.items };
+    ghost invariant = { λ t. IsRising K.cmp (entries_of t.pages.pages) };
+}
+
+/// How many entries pages have.
+fn count<K, R>(pages: &[Page<K, R>]) -> usize
+    requires full { AreFull pages.now }
+    requires few { length pages.now ≤ 2 ^ 56 }
+    ensures { result ≡ length (entries_of pages.now) }
+{
+    let mut count = 0;
+    for page in pages {
+        count += page.len();
+    }
+    count
+}
+
+/// Pages have no entry.
+fn is_none<K, R>(pages: &[Page<K, R>]) -> bool
+    requires { AreFull pages.now }
+    ensures { result ≡ (length (entries_of pages.now) == 0) }
+{
+    pages.is_empty()
+}
+
+/// How many spare pages so many new keys can need beside so many pages: one each, and all together no more than
+/// one for each page and one for each 64 of them.
+fn spares_for(count: usize, pages: usize) -> usize
+    requires { pages ≤ 2 ^ 56 }
+    ensures { (owed : ℕ) → owed ≤ 64 * (pages + 1) → count ≤ result + (63 * result + 63 - owed) }
+{
+    let most = count / HALF + pages + 1;
+    if most < count { most } else { count }
 }
 
 impl<K: Ord, R> Tables<K, R> {
@@ -45,7 +80,7 @@ impl<K: Ord, R> Tables<K, R> {
         ensures { result.entries ≡ [] }
     {
         Tables {
-            entries: Vec::new(alloc),
+            pages: Pages::new(alloc),
         }
     }
 
@@ -53,23 +88,42 @@ impl<K: Ord, R> Tables<K, R> {
     pub fn len(&self) -> usize
         ensures { result ≡ length self.now.entries }
     {
-        self.entries.len()
+        count(self.pages.as_slice())
+    }
+
+    /// How many pages the entries lie in. Takes no memory.
+    pub fn pages(&self) -> usize
+        ensures pages { result ≡ length self.now.pages }
+        ensures entries { sum self.now.pages ≡ length self.now.entries }
+        ensures limits { All (λ n. (1 ≤ n) × (n ≤ 128)) self.now.pages }
+    {
+        self.pages.as_slice().len()
+    }
+
+    /// How many entries page `i` has, 1 to 128. That there is such a page is the caller's. Takes no memory.
+    pub fn page_len(&self, i: usize) -> usize
+        requires { i < length self.now.pages }
+        ensures { result ≡ slice_index self.now.pages i }
+    {
+        self.pages.as_slice()[i].len()
     }
 
     /// No key has a row. Takes no memory.
     pub fn is_empty(&self) -> bool
         ensures { IsTrue result ↔ (self.now.entries ≡ []) }
     {
-        self.entries.is_empty()
+        is_none(self.pages.as_slice())
     }
 
     /// The stream and row at a key, found by halves. Takes no memory.
     pub fn get(&self, key: &K) -> Option<(u8, &R)>
         ensures { option_map standing result ≡ value_at K.cmp self.now.entries key.now }
     {
-        match place_of(&self.entries, key) {
-            Ok(place) => {
-                let (stream, row) = &self.entries[place].1;
+        let pages = self.pages.as_slice();
+        match spot_of(pages, 0, key) {
+            Ok(spot) => {
+                let entry = entry_at(pages, spot);
+                let (stream, row) = &entry.1;
                 Some((*stream, row))
             }
             Err(_) => None,
@@ -81,7 +135,7 @@ impl<K: Ord, R> Tables<K, R> {
         ensures entries { result ≡ self.now.entries }
         ensures rising { IsRising K.cmp self.now.entries }
     {
-        Scan::new(&self.entries)
+        scan_from(self.pages.as_slice(), Spot { page: 0, place: 0 })
     }
 
     /// The entries at a key and past it, by rising key. The first is found by halves. Takes no
@@ -90,9 +144,10 @@ impl<K: Ord, R> Tables<K, R> {
         ensures entries { result ≡ from_key K.cmp self.now.entries from.now }
         ensures rising { IsRising K.cmp self.now.entries }
     {
-        match place_of(&self.entries, from) {
-            Ok(place) => Scan::new(&self.entries[place..]),
-            Err(place) => Scan::new(&self.entries[place..]),
+        let pages = self.pages.as_slice();
+        match spot_of(pages, 0, from) {
+            Ok(spot) => scan_from(pages, spot),
+            Err(spot) => scan_from(pages, spot),
         }
     }
 
@@ -102,9 +157,16 @@ impl<K: Ord, R> Tables<K, R> {
         ensures entries { result ≡ past_key K.cmp self.now.entries key.now }
         ensures rising { IsRising K.cmp self.now.entries }
     {
-        match place_of(&self.entries, key) {
-            Ok(place) => Scan::new(&self.entries[place + 1..]),
-            Err(place) => Scan::new(&self.entries[place..]),
+        let pages = self.pages.as_slice();
+        match spot_of(pages, 0, key) {
+            Ok(spot) => scan_from(
+                pages,
+                Spot {
+                    page: spot.page,
+                    place: spot.place + 1,
+                },
+            ),
+            Err(spot) => scan_from(pages, spot),
         }
     }
 }
@@ -130,13 +192,14 @@ impl<K: Ord + Drop, R: Drop> Tables<K, R> {
         ensures refused { IfErr result (IsRefusal K.cmp self.old.entries stream (last_at K.cmp touches.items)) }
     {
         let mut changes = last_touches(alloc, touches)?;
-        match survey(&self.entries, stream, &changes) {
+        match survey(self.pages.as_slice(), stream, &changes) {
             Err(clash) => Err(TableFault::OwnedByOther {
                 key: changes.swap_remove(clash.place).0,
                 owner: clash.owner,
             }),
             Ok(count) => {
-                self.entries.reserve(count)?;
+                let spares = spares_for(count, self.pages.as_slice().len());
+                self.pages.reserve(spares)?;
                 Ok(Staged { stream, changes })
             }
         }
@@ -150,7 +213,7 @@ impl<K: Ord + Drop, R: Drop> Tables<K, R> {
         ensures rising { IsRising K.cmp self.new.entries }
     {
         let Staged { stream, changes } = staged;
-        change_all(&mut self.entries, stream, changes);
+        change_all(&mut self.pages, stream, changes);
     }
 
     /// Makes a stream's touches: stages them and commits them. Of each key the touch that comes last
@@ -190,7 +253,8 @@ impl<K: Ord + Drop, R: Drop> Tables<K, R> {
         ensures pushed { OnOk result (self.new.entries ≡ self.old.entries ++ (key, (stream, row)) ∷ []) }
         ensures unchanged { OnErr result (self.new.entries ≡ self.old.entries) }
     {
-        self.entries.push((key, (stream, row)))?;
+        self.pages.reserve(1)?;
+        put_last(&mut self.pages, (key, (stream, row)));
         Ok(())
     }
 
@@ -198,11 +262,11 @@ impl<K: Ord + Drop, R: Drop> Tables<K, R> {
     pub fn clear(&mut self)
         ensures { self.new.entries ≡ [] }
     {
-        self.entries.clear();
+        self.pages.clear();
     }
 }
 
-impl<K: Ord + Clone, R: Clone> Tables<K, R> {
+impl<K: Ord + Clone + Drop, R: Clone + Drop> Tables<K, R> {
     /// A copy of the map, which holds equal keys and rows. Takes memory for the copy alone. That a
     /// clone of a key or of a row equals it is the caller's; it is a fact of their types.
     pub fn try_clone(&self, alloc: Global) -> Result<Tables<K, R>, AllocError>
@@ -210,7 +274,7 @@ impl<K: Ord + Clone, R: Clone> Tables<K, R> {
         requires rows { (row copy : R) → R.is_clone row copy → copy ≡ row }
         ensures { IfOk result (λ copy. copy.entries ≡ self.now.entries) }
     {
-        let entries = Vec::from_clones(alloc, &self.entries)?;
-        Ok(Tables { entries })
+        let pages = self.pages.try_clone(alloc)?;
+        Ok(Tables { pages })
     }
 }

@@ -3,3 +3,4 @@ pub mod Words
 pub mod Built
 pub mod Meant
 pub mod Usage
+pub mod Places

@@ -20,10 +20,17 @@ pub record StepValue : Type 0 where
   pub workflow : Text
   pub feeds : List Text
 
+-- `vdiff`: a workflow, and the dumps of a source and of a target
+pub record VdiffValue : Type 0 where
+  pub workflow : Text
+  pub source : Text
+  pub target : Text
+
 -- what words ask for
 pub data WordsValue : Type 0 where
   asks_show : ShowValue → WordsValue
   asks_step : StepValue → WordsValue
+  asks_vdiff : VdiffValue → WordsValue
 
 -- a subcommand: its name, its arguments in their order, and what it asks for, by what is given to them
 pub record Subcommand : Type 0 where
@@ -60,9 +67,21 @@ step_subcommand = record {
   meaning = λ given. asks_step (step_given given);
 }
 
+-- what is given to the arguments of `vdiff`
+abbrev pub vdiff_given : List Row → VdiffValue
+vdiff_given given = record { workflow = text_given (codes "workflow") given; source = text_given (codes "source") given; target = text_given (codes "target") given }
+
+-- `vdiff WORKFLOW SOURCE TARGET`
+abbrev pub vdiff_subcommand : Subcommand
+vdiff_subcommand = record {
+  name = codes "vdiff";
+  rules = operand_rule (codes "workflow") ∷ operand_rule (codes "source") ∷ operand_rule (codes "target") ∷ [];
+  meaning = λ given. asks_vdiff (vdiff_given given);
+}
+
 -- the subcommands, in the order of the help
 abbrev pub subcommands : List Subcommand
-subcommands = show_subcommand ∷ step_subcommand ∷ []
+subcommands = show_subcommand ∷ step_subcommand ∷ vdiff_subcommand ∷ []
 
 -- a subcommand as `clap` sees it
 abbrev pub shape_of_subcommand : Subcommand → Shape

@@ -4,8 +4,8 @@ ghost use Rattle.std.specs.Prelude.{◌≡◌, IfOk, Some, map, string_bytes};
 ghost use Rattle.clap.specs.Words.{FailsBy, found_of, rows_of, subcommand_rows_of};
 ghost use Rattle.vrepl.specs.Arguments.{flag_rule, is_given, operand_rule, operands_rule, option_rule, text_given, texts_given};
 ghost use Rattle.vrepl.specs.Built.{HasApp, HasRule, IsSubcommand};
-ghost use Rattle.vrepl.specs.Meant.{Asks, show_value, value_of};
-ghost use Rattle.vrepl.specs.Words.{asked_by, asks_step, faults_of, program_app, show_given, show_subcommand, step_given, step_subcommand, words_of};
+ghost use Rattle.vrepl.specs.Meant.{Asks, show_value, value_of, vdiff_value};
+ghost use Rattle.vrepl.specs.Words.{asked_by, asks_step, faults_of, program_app, show_given, show_subcommand, step_given, step_subcommand, vdiff_given, vdiff_subcommand, words_of};
 
 use clap::error::ErrorKind;
 use clap::{Arg, ArgAction, ArgMatches, Command, Error};
@@ -19,6 +19,19 @@ pub enum Words<'w> {
     Show(Show<'w>),
     /// `step`: take the steps of a script on a board over a workflow and its feeds.
     Step(Step<'w>),
+    /// `vdiff`: compare two dumps.
+    Vdiff(Vdiff<'w>),
+}
+
+/// The words of `vdiff`.
+#[derive(Clone, Copy, Debug, PartialEq, Eq)]
+pub struct Vdiff<'w> {
+    /// The workflow's file.
+    pub workflow: &'w str,
+    /// The file of the source's dump.
+    pub source: &'w str,
+    /// The file of the target's dump.
+    pub target: &'w str,
 }
 
 /// The words of `step`.
@@ -77,6 +90,7 @@ fn asked<'w>(alloc: Global, matches: &ArgMatches<'w>) -> Option<Result<Words<'w>
     match name {
         "show" => Some(Ok(Words::Show(show_words(given)))),
         "step" => Some(step_words(alloc, given)),
+        "vdiff" => Some(Ok(Words::Vdiff(vdiff_words(given)))),
         _ => None,
     }
 }
@@ -100,6 +114,20 @@ Example:
   table t
   x31\tx6162";
 
+/// A call of `vdiff`, what it prints, and its status.
+const VDIFF_EXAMPLE: &str = "\
+Example:
+  $ vrepl vdiff examples/workflows/one_shard.json \\
+      examples/dumps/source.dump examples/dumps/target.dump
+  processed 4
+  matching 1
+  mismatched 1
+  extra source 1
+  extra target 1
+  first table t key x32
+
+The status is 0 where the dumps are of the same rows, and 3 where they differ.";
+
 /// The program: its words are those of a subcommand.
 fn program<'w>(alloc: Global) -> Result<Command<'w>, AllocError>
     ensures { IfOk result (HasApp program_app) }
@@ -111,7 +139,8 @@ fn program<'w>(alloc: Global) -> Result<Command<'w>, AllocError>
         .subcommand_required(true)
         .disable_help_subcommand(true)
         .subcommand(show_command(alloc)?)?
-        .subcommand(step_command(alloc)?)
+        .subcommand(step_command(alloc)?)?
+        .subcommand(vdiff_command(alloc)?)
 }
 
 fn show_command<'w>(alloc: Global) -> Result<Command<'w>, AllocError>
@@ -137,6 +166,17 @@ fn step_command<'w>(alloc: Global) -> Result<Command<'w>, AllocError>
         .arg(flag(alloc, "hex", "Reads feeds as hexadecimal text"))?
         .arg(operand(alloc, "workflow", "WORKFLOW", "The workflow's file"))?
         .arg(operands(alloc, "feed", "FEED", feed_help))
+}
+
+fn vdiff_command<'w>(alloc: Global) -> Result<Command<'w>, AllocError>
+    ensures { IfOk result (IsSubcommand vdiff_subcommand) }
+{
+    Command::new(alloc, "vdiff")
+        .about("Compares two dumps of a workflow's tables")
+        .after_help(VDIFF_EXAMPLE)
+        .arg(operand(alloc, "workflow", "WORKFLOW", "The workflow's file"))?
+        .arg(operand(alloc, "source", "SOURCE", "The source's dump"))?
+        .arg(operand(alloc, "target", "TARGET", "The target's dump"))
 }
 
 /// `--name`.
@@ -198,6 +238,16 @@ fn step_words<'w>(alloc: Global, given: &ArgMatches<'w>) -> Result<Words<'w>, Al
         workflow: text(given, "workflow"),
         feeds,
     }))
+}
+
+fn vdiff_words<'w>(given: &ArgMatches<'w>) -> Vdiff<'w>
+    ensures { vdiff_value result ≡ vdiff_given (rows_of (found_of given.now)) }
+{
+    Vdiff {
+        workflow: text(given, "workflow"),
+        source: text(given, "source"),
+        target: text(given, "target"),
+    }
 }
 
 /// A flag was given.

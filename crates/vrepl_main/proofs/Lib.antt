@@ -9,3 +9,4 @@ mod OpenLaws
 mod ScriptRunLaws
 mod StepLaws
 mod VdiffLaws
+mod SaveLaws

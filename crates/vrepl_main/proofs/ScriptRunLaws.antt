@@ -37,7 +37,7 @@ run_more feeds old now new [] step (r ∷ replies) reply run last = absurd run
 run_more feeds old now new (s ∷ steps) step [] reply run last = absurd run
 run_more feeds old now new (s ∷ steps) step (r ∷ replies) reply (between, first, rest) last = (between, first, run_more feeds between now new steps step replies reply rest last)
 
-run_on : (feeds : List FeedValue) (old now new : Meaning) (steps : List ScriptStep) (i : ℕ) (d : ScriptStep) (replies : List ScriptReply) (reply : ScriptReply) → i < length steps
+pub run_on : (feeds : List FeedValue) (old now new : Meaning) (steps : List ScriptStep) (i : ℕ) (d : ScriptStep) (replies : List ScriptReply) (reply : ScriptReply) → i < length steps
     → IsScriptRun feeds old (take i steps) replies now → IsScriptStep feeds now (get_or steps i d) reply new → IsScriptRun feeds old (take (i + 1) steps) (replies ++ reply ∷ []) new
 run_on feeds old now new steps i d replies reply lt run last =
     subst (λ (lines : List ScriptStep). IsScriptRun feeds old lines (replies ++ reply ∷ []) new) (sym (take_more steps i d lt))

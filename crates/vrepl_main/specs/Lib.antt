@@ -19,3 +19,4 @@ pub mod ScriptRun
 pub mod ScriptPrinting
 pub mod Replied
 pub mod Comparison
+pub mod SavedBoard

@@ -12,6 +12,7 @@ pub mod opened;
 pub mod output;
 pub mod refusal;
 pub mod refused_text;
+pub mod save;
 pub mod script;
 pub mod show;
 pub mod shown;

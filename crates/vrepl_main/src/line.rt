@@ -53,7 +53,7 @@ fn byte_of(stream: u32) -> Option<u8>
 }
 
 /// Takes a step on a stream.
-fn answer_to<'h>(
+pub(crate) fn answer_to<'h>(
     alloc: Global,
     board: &mut Board<'h>,
     feeds: &[Feed<'h>],

@@ -86,7 +86,7 @@ fn print_script<W: Out>(
 }
 
 /// The steps of a script.
-fn steps_of(alloc: Global, script: &[u8]) -> Result<Vec<ScriptStep>, Refusal<'static>>
+pub(crate) fn steps_of(alloc: Global, script: &[u8]) -> Result<Vec<ScriptStep>, Refusal<'static>>
     ensures { GivesOfInputs (λ steps. steps.items) result (said_steps (script_steps script.now)) }
 {
     match read_script(alloc, script) {
@@ -109,7 +109,7 @@ fn first_plan(plans: &[Arc<Plan>]) -> Result<Arc<Plan>, AllocError>
 
 /// A board of which nothing is read. The plans of a workflow have the same tables, so that an error is
 /// want of memory.
-fn fresh_board<'h>(alloc: Global, plans: Vec<Arc<Plan>>) -> Result<Board<'h>, AllocError>
+pub(crate) fn fresh_board<'h>(alloc: Global, plans: Vec<Arc<Plan>>) -> Result<Board<'h>, AllocError>
     requires some { 1 ≤ length plans.items }
     requires few { length plans.items ≤ 64 }
     ensures { IfOk result (λ board. board ≡ fresh_board (map arc_value plans.items)) }

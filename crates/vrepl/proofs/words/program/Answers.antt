@@ -17,4 +17,5 @@ returns c =
     let required = sets (on_top (λ (s : Shape). record s { subcommand_required = true })) _ c.no_binary_name.result c.subcommand_required.result _ c.subcommand_required.ensures refl refl words in
     let no_help = sets (on_top (λ (s : Shape). record s { disable_help_subcommand = true })) _ c.subcommand_required.result c.disable_help_subcommand.result _ c.disable_help_subcommand.ensures refl refl required in
     let show = adds_subcommand _ _ c.disable_help_subcommand.result c.in_ok-subcommand.field-0 c.in_ok-show_command.field-0 c.in_ok-subcommand.ensures no_help c.in_ok-show_command.ensures in
-    IfOk-weaker c.subcommand-2.result _ _ (λ made adds. adds_subcommand _ _ c.in_ok-subcommand.field-0 made c.in_ok-step_command.field-0 adds show c.in_ok-step_command.ensures) c.subcommand-2.ensures
+    let step = adds_subcommand _ _ c.in_ok-subcommand.field-0 c.in_ok-subcommand-2.field-0 c.in_ok-step_command.field-0 c.in_ok-subcommand-2.ensures show c.in_ok-step_command.ensures in
+    IfOk-weaker c.subcommand-3.result _ _ (λ made adds. adds_subcommand _ _ c.in_ok-subcommand-2.field-0 made c.in_ok-vdiff_command.field-0 adds step c.in_ok-vdiff_command.ensures) c.subcommand-3.ensures

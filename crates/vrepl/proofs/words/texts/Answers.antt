@@ -1,4 +1,4 @@
-use Rattle.std.proofs.Common.{◌≡◌, ◌∙◌, ap, sym, [], List, ℕ, Option, unwrap_or}
+use Rattle.std.proofs.Common.{◌∙◌, ap, sym, [], List, ℕ, Option, unwrap_or}
 use Rattle.std.proofs.lemmas.Result.{IfOk-weaker}
 use Rattle.std.specs.Prelude.{map, option_map}
 use Rattle.clap.specs.Words.{found_of}

@@ -1,10 +1,10 @@
-use Rattle.board_laws.specs.declared.answer.Answer.TheVariants as answers
+use Rattle.std.proofs.Common.{refl}
 use Rattle.board_laws.specs.Event.{copy_rows}
-use Rattle.board_laws.specs.Step.{answered}
-use Rattle.stream_worker.proofs.BoardSteps.{of_step}
+use Rattle.stream_worker.proofs.BoardSteps.{refused_here, wants_memory}
 use Rattle.stream_worker.proofs.deal.Deal.copy_chunk.Goals as goal
 
-pub returns : goal.returns
-returns c =
-    of_step c.self.inside.board c.copy_chunk-result.new.self c.args.self.now c.self.inside.given c.args.s (copy_rows c.args.c) (answered answers.Copied c.copy_chunk-result.result) c.self.view_is c.self.invariant
-    c.copy_chunk-result.ensures
+pub returns-in-Err-clause-step : goal.returns-in-Err-clause-step
+returns-in-Err-clause-step c = refused_here c.self.inside.board c.args.self.now c.self.inside.given c.args.s (copy_rows c.args.c) c.in-Err.refusal c.self.view_is c.self.invariant c.in-Err.ensures.refused
+
+pub returns-in_default-clause-step : goal.returns-in_default-clause-step
+returns-in_default-clause-step c = wants_memory c.self.inside.board c.args.self.now c.self.inside.given c.args.s (copy_rows c.args.c) c.self.view_is c.self.invariant c.requires refl

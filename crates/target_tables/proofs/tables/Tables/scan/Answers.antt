@@ -1,30 +1,34 @@
 use Rattle.std.proofs.Common.{ℕ, List, drop, sym, ap, subst, ◌∙◌}
 use Rattle.target_tables.specs.Contents.{Contents, from_key}
-use Rattle.target_tables.specs.Places.{IsAt, IsGap}
 use Rattle.target_tables.specs.Rising.{IsRising}
-use Rattle.target_tables.proofs.Scanning.{from_place, from_gap, take_rest}
+use Rattle.target_tables.specs.Pages.{entries_of, flat, StandsAt, WouldStandAt}
+use Rattle.target_tables.proofs.Scanning.{from_place, from_gap}
 use Rattle.target_tables.proofs.tables.Tables.scan.Goals as goal
 
 pub returns-in-Ok-clause-entries : goal.returns-in-Ok-clause-entries
 returns-in-Ok-clause-entries g c =
-    let P : List (g.row.K.Denot × (ℕ × g.row.R.Denot)) → Type 0 = λ es. IsAt g.K.Ord.cmp es c.args.from.now c.in-Ok.place in
-    let at : IsAt g.K.Ord.cmp c.self.inside.entries.items c.args.from.now c.in-Ok.place = subst P c.deref.ensures.value c.in-Ok.ensures in
-    c.new.ensures ∙ take_rest c.in-Ok.place c.deref-in-Ok.result.now ∙ ap (λ (es : List (g.row.K.Denot × (ℕ × g.row.R.Denot))). drop c.in-Ok.place es) c.deref-in-Ok.ensures.value
-    ∙ sym (from_place g.met.K.Ord.total c.self.inside.entries.items c.args.from.now c.in-Ok.place at)
+    let Q : (List (List (g.row.K.Denot × (ℕ × g.row.R.Denot)))) → Type 0 = λ l. StandsAt g.K.Ord.cmp l c.args.from.now c.in-Ok.spot.page c.in-Ok.spot.place in
+    let at : StandsAt g.K.Ord.cmp c.self.inside.pages.pages c.args.from.now c.in-Ok.spot.page c.in-Ok.spot.place = subst Q c.as_slice-pages.ensures.pages c.in-Ok.ensures in
+    let es : (List (g.row.K.Denot × (ℕ × g.row.R.Denot))) = entries_of c.self.inside.pages.pages in
+    let n : ℕ = flat c.self.inside.pages.pages c.in-Ok.spot.page c.in-Ok.spot.place in
+    c.scan_from.ensures
+    ∙ ap (λ (l : (List (List (g.row.K.Denot × (ℕ × g.row.R.Denot))))). drop (flat l c.in-Ok.spot.page (c.in-Ok.spot.place)) (entries_of l)) c.as_slice-pages.ensures.pages
+    ∙ sym (from_place g.met.K.Ord.total es c.args.from.now n at.at)
     ∙ ap (λ (v : Contents g.row.K.Denot g.row.R.Denot). from_key g.K.Ord.cmp v.entries c.args.from.now) c.self.view_is
 
 pub returns-in-Ok-clause-rising : goal.returns-in-Ok-clause-rising
-returns-in-Ok-clause-rising g c =
-    let P : Contents g.row.K.Denot g.row.R.Denot → Type 0 = λ v. IsRising g.K.Ord.cmp v.entries in
-    subst P c.self.view_is c.self.invariant
+returns-in-Ok-clause-rising g c = subst (λ (v : Contents g.row.K.Denot g.row.R.Denot). IsRising g.K.Ord.cmp v.entries) c.self.view_is c.self.invariant
 
 pub returns-in-Err-clause-entries : goal.returns-in-Err-clause-entries
 returns-in-Err-clause-entries g c =
-    let P : List (g.row.K.Denot × (ℕ × g.row.R.Denot)) → Type 0 = λ es. IsGap g.K.Ord.cmp es c.args.from.now c.in-Err.place in
-    let gap : IsGap g.K.Ord.cmp c.self.inside.entries.items c.args.from.now c.in-Err.place = subst P c.deref.ensures.value c.in-Err.ensures in
-    c.new-in-Err.ensures ∙ take_rest c.in-Err.place c.deref-in-Err.result.now ∙ ap (λ (es : List (g.row.K.Denot × (ℕ × g.row.R.Denot))). drop c.in-Err.place es) c.deref-in-Err.ensures.value
-    ∙ sym (from_gap g.met.K.Ord.total c.self.inside.entries.items c.args.from.now c.in-Err.place gap)
+    let Q : (List (List (g.row.K.Denot × (ℕ × g.row.R.Denot)))) → Type 0 = λ l. WouldStandAt g.K.Ord.cmp l c.args.from.now c.in-Err.spot.page c.in-Err.spot.place in
+    let at : WouldStandAt g.K.Ord.cmp c.self.inside.pages.pages c.args.from.now c.in-Err.spot.page c.in-Err.spot.place = subst Q c.as_slice-pages.ensures.pages c.in-Err.ensures in
+    let es : (List (g.row.K.Denot × (ℕ × g.row.R.Denot))) = entries_of c.self.inside.pages.pages in
+    let n : ℕ = flat c.self.inside.pages.pages c.in-Err.spot.page c.in-Err.spot.place in
+    c.scan_from-in-Err.ensures
+    ∙ ap (λ (l : (List (List (g.row.K.Denot × (ℕ × g.row.R.Denot))))). drop (flat l c.in-Err.spot.page c.in-Err.spot.place) (entries_of l)) c.as_slice-pages.ensures.pages
+    ∙ sym (from_gap g.met.K.Ord.total es c.args.from.now n at.gap)
     ∙ ap (λ (v : Contents g.row.K.Denot g.row.R.Denot). from_key g.K.Ord.cmp v.entries c.args.from.now) c.self.view_is
 
-pub place_of-requires : goal.place_of-requires
-place_of-requires g c = rw c.deref.ensures.value c.self.invariant
+pub returns-in-Err-clause-rising : goal.returns-in-Err-clause-rising
+returns-in-Err-clause-rising g c = subst (λ (v : Contents g.row.K.Denot g.row.R.Denot). IsRising g.K.Ord.cmp v.entries) c.self.view_is c.self.invariant

@@ -1,0 +1,74 @@
+-- A table's part as it is written, one item after another.
+use Rattle.std.proofs.Common.{◌≡◌, ◌==◌, ℕ, suc, ◌+◌, ◌<◌, Bool, true, false, cond, List, [], ◌∷◌, ◌++◌, length, map, drop, get_or, Some, slice_get, append_assoc, refl, sym, ap, ◌∙◌, arith}
+use Rattle.std.proofs.lemmas.Bool.{ne_eqb}
+use Rattle.std.proofs.lemmas.List.{drop_more, map-append}
+use borrow.Author.Tests.{eq-eqb}
+use Rattle.std.specs.Option.{option_map}
+use Rattle.filter_rule.specs.PlanTable.{ColumnValue}
+use Rattle.filter_rule.specs.PlanValue.{PlanValue}
+use Rattle.pk_copy.specs.KeyValue.{KeyValue}
+use Rattle.pk_copy.specs.Marks.{Marks, mark_of}
+use Rattle.vevent.specs.CheckpointPart.{TablePartValue}
+use Rattle.vevent.specs.EventValue.{FieldValue}
+use Rattle.source_feed.specs.History.{RowValue}
+use Rattle.source_feed.specs.Image.{ImageRows, lent_row}
+use Rattle.checkpoint_laws.specs.Written.{field_of, rows_of_table, numbers_below}
+use Rattle.checkpoint_core.specs.Private.Texts.{fields_at, part_of_table, parts_of_tables}
+use denote.Ref.{Bor}
+
+-- what is made so far, and what the others make, is all: one item further
+pub turn : {A : Type 0} (made more whole front rest : List A) → made ++ rest ≡ whole → rest ≡ front ++ more → (made ++ front) ++ more ≡ whole
+turn {A} made more whole front rest is parts = append_assoc made front more ∙ ap (λ (xs : List A). made ++ xs) (sym parts) ∙ is
+
+-- an item and what comes behind it
+pub at_item : {A : Type 0} (xs : List A) (i : ℕ) (x : A) → i < length xs → x ≡ get_or xs i x → drop i xs ≡ x ∷ drop (i + 1) xs
+at_item {A} xs i x less is = drop_more xs i x less ∙ ap (λ (y : A). y ∷ drop (i + 1) xs) (sym is)
+
+-- ---- columns at places
+
+fields_more : (columns : List ColumnValue) (place : ℕ) (places : List ℕ) (field : FieldValue) → option_map field_of (slice_get columns place) ≡ Some field → fields_at columns (place ∷ places) ≡ field ∷ fields_at columns places
+fields_more columns place places field here = rw here refl
+
+pub fields_turn : (columns : List ColumnValue) (places : List ℕ) (i place : ℕ) (made new whole : List FieldValue) (field : FieldValue) → drop i places ≡ place ∷ drop (i + 1) places
+    → option_map field_of (slice_get columns place) ≡ Some field → new ≡ made ++ field ∷ [] → made ++ fields_at columns (drop i places) ≡ whole → new ++ fields_at columns (drop (i + 1) places) ≡ whole
+fields_turn columns places i place made new whole field at here is so_far =
+    let more : List FieldValue = fields_at columns (drop (i + 1) places) in
+    ap (λ (xs : List FieldValue). xs ++ more) is
+    ∙ turn made more whole (field ∷ []) (fields_at columns (drop i places)) so_far (ap (fields_at columns) at ∙ fields_more columns place (drop (i + 1) places) field here)
+
+-- ---- the rows of a table
+
+abbrev pub Lent : Type 0
+Lent = Bor KeyValue × Bor RowValue
+
+abbrev pub rows_at : ℕ → List Lent → List RowValue
+rows_at t own = map (λ (row : KeyValue × RowValue). row.1) (rows_of_table t (map lent_row own))
+
+module _ (t : ℕ) (own : List Lent) (i : ℕ) (row : Lent) (at : drop i own ≡ row ∷ drop (i + 1) own) where
+  others : ImageRows
+  others = rows_of_table t (map lent_row (drop (i + 1) own))
+
+  first : (b : Bool) → (row.0.now.table == t) ≡ b → rows_at t (drop i own) ≡ map (λ (row : KeyValue × RowValue). row.1) (cond b (lent_row row ∷ rows_of_table t (map lent_row (drop (i + 1) own))) (rows_of_table t (map lent_row (drop (i + 1) own))))
+  first b e =
+      ap (rows_at t) at
+      ∙ ap (λ b. map (λ (row : KeyValue × RowValue). row.1) (cond b (lent_row row ∷ rows_of_table t (map lent_row (drop (i + 1) own))) (rows_of_table t (map lent_row (drop (i + 1) own))))) e
+
+  pub rows_turn : (made new whole : List RowValue) → row.0.now.table ≡ t → new ≡ made ++ row.1.now ∷ [] → made ++ rows_at t (drop i own) ≡ whole → new ++ rows_at t (drop (i + 1) own) ≡ whole
+  rows_turn made new whole mine is so_far =
+      ap (λ (xs : List RowValue). xs ++ rows_at t (drop (i + 1) own)) is
+      ∙ turn made (rows_at t (drop (i + 1) own)) whole (row.1.now ∷ []) (rows_at t (drop i own)) so_far (first true (eq-eqb row.0.now.table t mine))
+
+  pub rows_pass : (made whole : List RowValue) → (row.0.now.table ≡ t → ⊥) → made ++ rows_at t (drop i own) ≡ whole → made ++ rows_at t (drop (i + 1) own) ≡ whole
+  rows_pass made whole other so_far = ap (λ (xs : List RowValue). made ++ xs) (sym (first false (ne_eqb row.0.now.table t other))) ∙ so_far
+
+-- ---- the parts of tables
+
+pub parts_more : (plan : PlanValue) (marks : Marks) (rows : ImageRows) (position : List ℕ) (t : ℕ) (made new : List TablePartValue) (part : TablePartValue) → new ≡ made ++ part ∷ []
+    → made ≡ parts_of_tables plan marks rows position t → part ≡ part_of_table plan t (mark_of marks t) rows position → new ≡ parts_of_tables plan marks rows position (t + 1)
+parts_more plan marks rows position t made new part is so_far one =
+    let next : t + 1 ≡ suc t = omega arith in
+    is
+    ∙ ap (λ (xs : List TablePartValue). xs ++ part ∷ []) so_far
+    ∙ ap (λ (x : TablePartValue). parts_of_tables plan marks rows position t ++ x ∷ []) one
+    ∙ sym (map-append (λ t. part_of_table plan t (mark_of marks t) rows position) (numbers_below t) (t ∷ []))
+    ∙ ap (parts_of_tables plan marks rows position) (sym next)

@@ -1,0 +1,46 @@
+-- What is written of a table, before the texts of its stream are known.
+use Rattle.std.specs.Prelude.{ℕ, List, map, option_map, slice_get}
+use Rattle.std.specs.List.{filter_map}
+use Rattle.filter_rule.specs.PlanTable.{ColumnValue}
+use Rattle.filter_rule.specs.PlanValue.{PlanValue}
+use Rattle.pk_copy.specs.Marks.{MarkValue, Marks, mark_of}
+use Rattle.source_feed.specs.Image.{ImageRows}
+use Rattle.vevent.specs.CheckpointPart.{TablePartValue, mark_number}
+use Rattle.vevent.specs.ColumnView.{field_value}
+use Rattle.vevent.specs.EventValue.{FieldValue}
+use Rattle.checkpoint_laws.specs.Written.{field_of, fields_of_table, key_fields_of, number_of_mark, last_row_of, rows_of_table, numbers_below}
+use Rattle.checkpoint_core.specs.declared.texts.TableText.{TableText}
+
+-- the columns at places, as an answer names them
+abbrev pub fields_at : List ColumnValue → List ℕ → List FieldValue
+fields_at columns places = filter_map (λ place. option_map field_of (slice_get columns place)) places
+
+-- the part of a table by its mark, the rows of its stream and the text of the position
+abbrev pub part_of_table : PlanValue → ℕ → MarkValue → ImageRows → List ℕ → TablePartValue
+part_of_table plan t mark rows position = record {
+  mark = number_of_mark mark;
+  answer = record {
+    fields = fields_of_table plan t;
+    pkfields = key_fields_of plan t;
+    gtid = position;
+    rows = map (λ row. row.1) (rows_of_table t rows);
+    lastpk = last_row_of mark;
+  };
+}
+
+-- the parts of the first n tables
+abbrev pub parts_of_tables : PlanValue → Marks → ImageRows → List ℕ → ℕ → List TablePartValue
+parts_of_tables plan marks rows position n = map (λ t. part_of_table plan t (mark_of marks t) rows position) (numbers_below n)
+
+-- what is written of a table, with the text of the position
+abbrev pub text_value : List ℕ → TableText → TablePartValue
+text_value position text = record {
+  mark = mark_number text.mark;
+  answer = record {
+    fields = map field_value text.fields.items;
+    pkfields = map field_value text.key_fields.items;
+    gtid = position;
+    rows = text.rows.items;
+    lastpk = text.last;
+  };
+}

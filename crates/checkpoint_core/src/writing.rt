@@ -1,0 +1,79 @@
+//! A stream as its part of a checkpoint.
+
+ghost use Rattle.std.specs.Prelude.{◌≡◌, ◌++◌, ℕ, List, [], map, IfOk, OnOk};
+ghost use Rattle.std.specs.Option.{option_map_or};
+ghost use Rattle.std.specs.String.{string_bytes};
+ghost use Rattle.source_feed.specs.Image.{lent_row};
+ghost use Rattle.vevent.specs.ContentView.{table_content};
+ghost use Rattle.vevent.specs.WrittenPart.{written_stream_part};
+ghost use Rattle.checkpoint_laws.specs.Written.{position_text, stream_part, framed};
+ghost use Rattle.checkpoint_core.specs.Private.Texts.{text_value};
+
+use crate::texts::{TableText, content_of, table_texts};
+use filter_rule::Plan;
+use gtid_set::GtidSet;
+use pk_copy::{CopyState, Key};
+use proto_wire::put_varint;
+use row_view::RowBuf;
+use std::alloc::{AllocError, Global};
+use vevent::{StreamContent, TableContent, stream_part_size, write_stream_part};
+
+/// A position as it is written.
+fn position_text(alloc: Global, position: Option<&GtidSet>) -> Result<String, AllocError>
+    ensures { IfOk result (λ text. string_bytes text ≡ position_text (option_map_or (λ set. set.now) position.entry [])) }
+{
+    match position {
+        None => String::from_str(alloc, "MySQL56/"),
+        Some(set) => format!(in alloc; "MySQL56/{set}"),
+    }
+}
+
+/// The same, lent, with the text of the position.
+fn contents_of<'c>(
+    alloc: Global,
+    texts: &'c [TableText<'_>],
+    position: &'c str,
+) -> Result<Vec<TableContent<'c>>, AllocError>
+    ensures { IfOk result (λ contents. map table_content contents.items ≡ map (text_value position.now) texts.now) }
+{
+    let mut contents = Vec::new(alloc);
+    for text in texts {
+        contents.push(content_of(text, position))?;
+    }
+    Ok(contents)
+}
+
+/// Appends a stream's part behind its length. An error is want of memory.
+fn put_framed<'x>(
+    out: &mut Vec<u8>,
+    shard: &'x str,
+    tables: &'x [TableContent<'x>],
+) -> Result<(), AllocError>
+    ensures { OnOk result (out.new.items ≡ out.old.items ++ framed (written_stream_part (record { shard = shard.now; tables = map table_content tables.now }))) }
+{
+    let part = StreamContent { shard, tables };
+    let size = stream_part_size(&part)?;
+    put_varint(out, size as u64)?;
+    write_stream_part(out, &part)?;
+    Ok(())
+}
+
+/// Appends a stream's part of a checkpoint behind its length: the shard of its plan, and of each table its
+/// columns, the position (none: the empty set), the stream's rows in it, which stand by rising key, and how
+/// far it is copied. An error is want of memory.
+pub fn put_stream<'x>(
+    alloc: Global,
+    out: &mut Vec<u8>,
+    plan: &'x Plan,
+    position: Option<&GtidSet>,
+    marks: &'x CopyState,
+    rows: &'x [(&'x Key, &'x RowBuf)],
+) -> Result<(), AllocError>
+    ensures { OnOk result (out.new.items ≡ out.old.items ++ framed (written_stream_part (stream_part plan.now (record { position = option_map_or (λ set. set.now) position.entry []; marks = marks.now; rows = map lent_row rows.now })))) }
+{
+    let gtid = position_text(alloc, position)?;
+    let texts = table_texts(alloc, &*plan, &*marks, &*rows)?;
+    let tables = contents_of(alloc, &texts, gtid.as_str())?;
+    put_framed(out, plan.shard(), &tables)?;
+    Ok(())
+}

@@ -1,0 +1,60 @@
+-- Streams at their feeds' ends, and the rows that the feeds keep together (this profile).
+use Rattle.std.specs.Prelude.{◌≡◌, ℕ, List, [], ◌∷◌, length, Option, Some, None, slice_get}
+use Rattle.std.specs.Option.{option_or}
+use Rattle.pk_copy.specs.KeyOrder.{key_cmp}
+use Rattle.pk_copy.specs.KeyValue.{KeyValue}
+use Rattle.stream_core.specs.declared.phase.Phase.TheVariants.{Running}
+use Rattle.stream_core.specs.Standing.{phase_of}
+use Rattle.target_tables.specs.Rising.{IsRising}
+use Rattle.vdiff_core.specs.RowsValue.{RowsValue, row_at}
+use Rattle.source_feed.specs.History.{RowValue, kept_at}
+use Rattle.source_feed.specs.Planned.{FeedValue}
+use Rattle.board_laws.specs.Meaning.{State, Meaning}
+use Rattle.board_laws.specs.Lawful.{standing_of, IsLawful}
+use Rattle.board_laws.specs.Reading.{AllReadTheirFeeds}
+use Rattle.board_laws.specs.Runs.{sound_groups}
+use Rattle.apply_core.specs.Shown.{all_rows}
+
+-- ---- the end of a feed
+
+-- the stream has ended: all its tables are copied, and all groups of its feed are read and applied
+pub record HasEnded (feed : FeedValue) (state : State) : Type 0 where
+  pub running : phase_of (standing_of state) ≡ Running
+  pub read : length state.list ≡ length feed.groups
+  pub applied : state.applied ≡ length feed.groups
+
+-- a lawful board with a stream for each feed, which reads that feed
+pub record IsFedBoard (feeds : List FeedValue) (board : Meaning) : Type 0 where
+  pub lawful : IsLawful board
+  pub count : length board.streams ≡ length feeds
+  pub reads : AllReadTheirFeeds feeds board
+
+-- each stream of a board has ended
+abbrev pub AllHaveEnded : List FeedValue → Meaning → Type 0
+AllHaveEnded feeds board = (s : ℕ) (feed : FeedValue) (state : State) → slice_get feeds s ≡ Some feed → slice_get board.streams s ≡ Some state → HasEnded feed state
+
+-- ---- the rows of whole feeds
+
+-- the row that all groups of a feed left at a key, if it passes the filter
+abbrev pub kept_of : FeedValue → KeyValue → Option RowValue
+kept_of feed key = kept_at (sound_groups feed) (length feed.groups) key
+
+-- the row that one of the feeds keeps at a key: the first that keeps one there
+abbrev pub kept_by : List FeedValue → KeyValue → Option RowValue
+kept_by [] key = None
+kept_by (feed ∷ later) key = option_or (kept_of feed key) (kept_by later key)
+
+-- rows by rising key that are just those which the feeds keep
+pub record IsRowsUnion (feeds : List FeedValue) (rows : RowsValue) : Type 0 where
+  pub rising : IsRising key_cmp rows
+  pub each_key : (key : KeyValue) → row_at rows key ≡ kept_by feeds key
+
+-- ---- laws
+
+-- where all streams have ended, the rows of the target are the union of what the feeds keep
+abbrev pub EndedBoardsHaveTheUnion : Type 0
+EndedBoardsHaveTheUnion = (feeds : List FeedValue) (board : Meaning) → IsFedBoard feeds board → AllHaveEnded feeds board → IsRowsUnion feeds (all_rows board.rows)
+
+-- there is one such list of rows
+abbrev pub UnionsAreOne : Type 0
+UnionsAreOne = (feeds : List FeedValue) (one other : RowsValue) → IsRowsUnion feeds one → IsRowsUnion feeds other → one ≡ other

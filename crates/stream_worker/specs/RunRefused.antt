@@ -1,0 +1,46 @@
+-- Why a run of all streams to their feeds' ends is refused (this profile).
+use Rattle.std.specs.Prelude.{◌≡◌, ◌≢◌, ℕ, List, length, Some, Err, slice_get}
+use Rattle.filter_rule.specs.PlanValue.{PlanValue}
+use Rattle.source_feed.specs.FaultNumber as feed
+use Rattle.source_feed.specs.declared.fault.FeedFault.{FeedFault}
+use Rattle.source_feed.specs.Planned.{PlannedGroupValue, FeedValue}
+use Rattle.source_feed.specs.Touches.{prepared}
+use Rattle.board_laws.specs.Runs.{sound_groups, AreDisjoint}
+use Rattle.apply_core.specs.Feeds.{AreFed}
+use Rattle.stream_worker.specs.declared.run_refusal.RunRefusal.{RunRefusal}
+use Rattle.stream_worker.specs.declared.run_refusal.RunRefusal.TheVariants.{FeedCount, WrongPlan, Unsound, OwnedByOther, Memory}
+
+abbrev pub number_of_run : RunRefusal → ℕ
+number_of_run FeedCount = 119
+number_of_run WrongPlan = 111
+number_of_run (Unsound stream fault) = feed.number_of fault
+number_of_run (OwnedByOther stream key owner) = 71
+number_of_run Memory = 72
+
+-- the fault of the first group of a feed that isn't sound
+pub record IsFirstUnsound (feed : FeedValue) (fault : FeedFault) : Type 0 where
+  pub group : PlannedGroupValue
+  pub place : slice_get feed.groups (length (sound_groups feed)) ≡ Some group
+  pub refused : prepared feed.plan group ≡ Err fault
+
+-- the same of the feed of stream s
+pub record HasUnsound (feeds : List FeedValue) (s : ℕ) (fault : FeedFault) : Type 0 where
+  pub feed : FeedValue
+  pub fed : slice_get feeds s ≡ Some feed
+  pub first : IsFirstUnsound feed fault
+
+-- what stands where a stream's step ends a run: a group of its feed isn't sound; a key is touched in two of the
+-- feeds; or memory is wanted
+abbrev pub EndsRun : List FeedValue → RunRefusal → Type 0
+EndsRun feeds FeedCount = ⊥
+EndsRun feeds WrongPlan = ⊥
+EndsRun feeds (Unsound stream fault) = HasUnsound feeds stream fault
+EndsRun feeds (OwnedByOther stream key owner) = ¬ AreDisjoint feeds
+EndsRun feeds Memory = Unit {0}
+
+-- A run is refused 119 exactly where there aren't as many feeds as plans, else 111 exactly where two plans differ in
+-- their tables or a feed wasn't opened under its plan, and else where a step of a stream ends it.
+abbrev pub IsRefusedRun : List PlanValue → List FeedValue → RunRefusal → Type 0
+IsRefusedRun plans feeds FeedCount = length feeds ≢ length plans
+IsRefusedRun plans feeds WrongPlan = (length feeds ≡ length plans) × ¬ AreFed plans feeds
+IsRefusedRun plans feeds refusal = AreFed plans feeds × EndsRun feeds refusal

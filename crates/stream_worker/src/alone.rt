@@ -1,0 +1,150 @@
+//! All streams run to their feeds' ends, one after another.
+
+ghost use Rattle.std.specs.Prelude.{◌≡◌, ◌≢◌, ℕ, ◌<◌, ◌≤◌, IsTrue, false, length, map, slice_get, IfOk, IfErr, OnOk};
+ghost use Rattle.std.specs.Arc.{arc_value};
+ghost use Rattle.board_laws.specs.Lawful.{IsLawful};
+ghost use Rattle.board_laws.specs.Meaning.{State};
+ghost use Rattle.apply_core.specs.Feeds.{AreFed};
+ghost use Rattle.apply_core.specs.Shown.{all_rows};
+ghost use Rattle.source_feed.specs.Planned.{FeedValue};
+ghost use Rattle.stream_worker.specs.Ended.{HasEnded, IsFedBoard, AllHaveEnded, IsRowsUnion};
+ghost use Rattle.stream_worker.specs.RunRefused.{EndsRun, IsRefusedRun};
+ghost use Rattle.stream_worker.specs.Private.Courses.{left_on};
+ghost use Rattle.stream_worker.specs.Private.AllowedSteps.{EndsStream};
+
+use crate::course::Course;
+use crate::policy::Policy;
+use crate::run_laws::ended_boards_have_the_union;
+use crate::run_refusal::RunRefusal;
+use apply_core::{Board, Refusal, StepRefusal, run_schedule};
+use filter_rule::Plan;
+use pk_copy::keys_tie_where_they_are_equal;
+use source_feed::Feed;
+use std::alloc::Global;
+use std::sync::Arc;
+
+/// The refusal of a step on stream `s` of its course, as that of a run.
+fn ended_by(feeds: &[Feed<'_>], s: u8, refusal: StepRefusal) -> RunRefusal
+    requires { EndsStream feeds.now s refusal }
+    ensures { EndsRun feeds.now result }
+{
+    let _ = feeds;
+    match refusal {
+        StepRefusal::Unprepared(fault) => RunRefusal::Unsound { stream: s, fault },
+        StepRefusal::Refused(Refusal::OwnedByOther { key, owner }) => RunRefusal::OwnedByOther {
+            stream: s,
+            key,
+            owner,
+        },
+        StepRefusal::Refused(Refusal::Memory) => RunRefusal::Memory,
+        StepRefusal::Refused(_) => unreachable!(),
+    }
+}
+
+/// The next step of stream `s` on its course is taken: whether there was one.
+fn go_on<'h>(
+    alloc: Global,
+    board: &mut Board<'h>,
+    feeds: &[Feed<'h>],
+    s: u8,
+    policy: &Policy,
+    course: &mut Course,
+) -> Result<bool, RunRefusal>
+    requires fed { IsFedBoard feeds.now board.old }
+    requires there { s < length feeds.now }
+    ensures fed { OnOk result (IsFedBoard feeds.now board.new) }
+    ensures others { OnOk result ((t : ℕ) → t ≢ s → slice_get board.new.streams t ≡ slice_get board.old.streams t) }
+    ensures nearer { IfOk result (λ went. IsTrue went → left_on feeds.now board.new s course.new.to_copy < left_on feeds.now board.old s course.old.to_copy) }
+    ensures ended { IfOk result (λ went. went ≡ false → (feed : FeedValue) (state : State) → slice_get feeds.now s ≡ Some feed → slice_get board.new.streams s ≡ Some state → HasEnded feed state) }
+    ensures refused { IfErr result (EndsRun feeds.now) }
+{
+    keys_tie_where_they_are_equal();
+    let groups = feeds[s as usize].len() as u32;
+    let Ok(at) = board.state(s) else {
+        unreachable!()
+    };
+    let Some(step) = course.next(policy, &at, groups) else {
+        return Ok(false);
+    };
+    match board.take_step(alloc, feeds, s, step) {
+        Ok(_) => Ok(true),
+        Err(refusal) => Err(ended_by(feeds, s, refusal)),
+    }
+}
+
+/// Stream `s` runs to its feed's end.
+fn run_stream<'h>(
+    alloc: Global,
+    board: &mut Board<'h>,
+    feeds: &[Feed<'h>],
+    s: u8,
+    policy: &Policy,
+) -> Result<(), RunRefusal>
+    requires fed { IsFedBoard feeds.now board.old }
+    requires there { s < length feeds.now }
+    ensures fed { OnOk result (IsFedBoard feeds.now board.new) }
+    ensures others { OnOk result ((t : ℕ) → t ≢ s → slice_get board.new.streams t ≡ slice_get board.old.streams t) }
+    ensures ended { OnOk result ((feed : FeedValue) (state : State) → slice_get feeds.now s ≡ Some feed → slice_get board.new.streams s ≡ Some state → HasEnded feed state) }
+    ensures refused { IfErr result (EndsRun feeds.now) }
+{
+    let mut course = Course::new(policy);
+    while go_on(alloc, board, feeds, s, policy, &mut course)? {}
+    Ok(())
+}
+
+/// A board over the plans and their feeds, of which nothing is read.
+fn board_over<'h>(
+    alloc: Global,
+    plans: Vec<Arc<Plan>>,
+    feeds: &[Feed<'h>],
+) -> Result<Board<'h>, RunRefusal>
+    requires some { 1 ≤ length plans.items }
+    requires few { length plans.items ≤ 64 }
+    ensures fed { IfOk result (λ board. AreFed (map arc_value plans.items) feeds.now × IsFedBoard feeds.now board) }
+    ensures refused { IfErr result (IsRefusedRun (map arc_value plans.items) feeds.now) }
+{
+    match run_schedule(alloc, plans, feeds, &[]) {
+        Ok((board, _)) => Ok(board),
+        Err(Refusal::FeedCount) => Err(RunRefusal::FeedCount),
+        Err(Refusal::WrongPlan) => Err(RunRefusal::WrongPlan),
+        Err(Refusal::Memory) => Err(RunRefusal::Memory),
+        Err(_) => unreachable!(),
+    }
+}
+
+/// Runs all streams, stream after stream, from a board of 1 to 64 plans of which nothing is read, each to its
+/// feed's end, in the portions of the policy. The feeds stand in the order of the plans. The answer is the
+/// board behind them: all streams are Running, and the target's rows are the union of those that the feeds
+/// keep, whatever the policy.
+///
+/// Refused 119 where there aren't as many feeds as plans, else 111 where two plans differ in their tables or a
+/// feed wasn't opened under its plan. The first refusal of a stream ends the run: 90, where a group of its feed
+/// isn't sound, by the first such group; 71, only where a key is touched in two feeds. Any other error is want
+/// of memory.
+pub fn run_alone<'h>(
+    alloc: Global,
+    plans: Vec<Arc<Plan>>,
+    feeds: &[Feed<'h>],
+    policy: &Policy,
+) -> Result<Board<'h>, RunRefusal>
+    requires some { 1 ≤ length plans.items }
+    requires few { length plans.items ≤ 64 }
+    ensures fed { IfOk result (λ _. AreFed (map arc_value plans.items) feeds.now) }
+    // The board is lawful, with a stream for each feed, which reads that feed.
+    ensures board { IfOk result (IsFedBoard feeds.now) }
+    // Each stream is Running, and all groups of its feed are read and applied.
+    ensures ended { IfOk result (AllHaveEnded feeds.now) }
+    // The target has just the rows that the feeds keep.
+    ensures rows { IfOk result (λ board. IsRowsUnion feeds.now (all_rows board.rows)) }
+    ensures refused { IfErr result (IsRefusedRun (map arc_value plans.items) feeds.now) }
+{
+    ended_boards_have_the_union();
+    let mut board = board_over(alloc, plans, feeds)?;
+    for s in 0..feeds.len() {
+        match run_stream(alloc, &mut board, feeds, s as u8, policy) {
+            Ok(()) => {}
+            Err(refusal) => return Err(refusal),
+        }
+    }
+    Ok(board)
+}

@@ -1,0 +1,129 @@
+//! What a seat has of its stream in memory of its own, so that what an advance puts is built before the
+//! board is taken.
+
+ghost use Rattle.std.specs.Prelude.{◌≡◌, ◌<◌, ◌∷◌, ◌++◌, [], ℕ, take, map, Some, IsSome, IfOk, OnOk, OnErr, length, slice_get};
+ghost use Rattle.std.specs.Arc.{arc_value};
+ghost use Rattle.std.specs.Option.{option_map};
+ghost use Rattle.stream_worker.specs.Outlines.{outline_of, IsNextIn};
+
+use apply_core::{Board, Puts};
+use pk_copy::CopyState;
+use source_feed::Prepared;
+use std::alloc::{AllocError, Global};
+use std::marker::Model;
+use std::sync::Arc;
+
+/// The groups that a stream has read, shared with the board, and a copy of its marks.
+#[derive(Drop)]
+pub(crate) struct Outline<'h> {
+    list: Vec<Arc<Prepared<'h>>>,
+    marks: CopyState,
+}
+
+impl<'h> Model for Outline<'h> {
+    ghost use Rattle.std.specs.Prelude.{map};
+    ghost use Rattle.std.specs.Arc.{arc_value};
+    ghost use Rattle.stream_worker.specs.Outlines.{Outlined};
+
+    ghost Value = { Outlined };
+
+    ghost view = { λ o. record { list = map arc_value o.list.items; marks = o.marks } };
+}
+
+/// The group that a stream applies next, if one is read, and what it puts.
+#[derive(Drop)]
+pub(crate) struct Next<'h> {
+    pub(crate) group: Option<Arc<Prepared<'h>>>,
+    pub(crate) puts: Puts,
+}
+
+/// The groups of a list, shared with it. An error is want of memory.
+fn shared_groups<'h>(
+    alloc: Global,
+    list: &[Arc<Prepared<'h>>],
+) -> Result<Vec<Arc<Prepared<'h>>>, AllocError>
+    ensures { IfOk result (λ groups. map arc_value groups.items ≡ map arc_value list.now) }
+{
+    let mut groups = Vec::with_capacity(alloc, list.len())?;
+    for group in list {
+        groups.push(Arc::clone(group)?)?;
+    }
+    Ok(groups)
+}
+
+impl<'h> Outline<'h> {
+    /// The outline of a stream of a board. An error is want of memory.
+    fn of(alloc: Global, board: &Board<'h>, s: u8) -> Result<Outline<'h>, AllocError>
+        requires { IsSome (slice_get board.now.streams s) }
+        ensures { IfOk result (λ outline. option_map outline_of (slice_get board.now.streams s) ≡ Some outline) }
+    {
+        let (Ok(groups), Ok(marks)) = (board.read_list(s), board.marks(s)) else {
+            unreachable!()
+        };
+        let list = shared_groups(alloc, groups)?;
+        let marks = marks.try_clone(alloc)?;
+        Ok(Outline { list, marks })
+    }
+
+    /// The group behind so many applied ones, if one is read, and what it puts. An error is want of memory.
+    pub(crate) fn next(&self, alloc: Global, applied: u32) -> Result<Next<'h>, AllocError>
+        ensures { IfOk result (IsNextIn self.now applied) }
+    {
+        match self.list.get(applied as usize) {
+            None => Ok(Next {
+                group: None,
+                puts: Puts::none(alloc),
+            }),
+            Some(group) => {
+                let puts = Puts::of_group(alloc, &self.marks, group)?;
+                let group = Arc::clone(group)?;
+                Ok(Next {
+                    group: Some(group),
+                    puts,
+                })
+            }
+        }
+    }
+
+    /// A group is added behind those that are read. An error is want of memory.
+    pub(crate) fn push(&mut self, group: &Arc<Prepared<'h>>) -> Result<(), AllocError>
+        ensures pushed { OnOk result (self.new ≡ record self.old { list = self.old.list ++ arc_value group.now ∷ [] }) }
+        ensures unchanged { OnErr result (self.new ≡ self.old) }
+    {
+        let group = Arc::clone(group)?;
+        self.list.push(group)?;
+        Ok(())
+    }
+
+    /// Only the first groups are kept, as many as are read. Takes no memory.
+    pub(crate) fn keep(&mut self, read: u32)
+        ensures { self.new ≡ record self.old { list = take read self.old.list } }
+    {
+        self.list.truncate(read as usize);
+    }
+
+    /// The marks have moved. Takes no memory.
+    pub(crate) fn mark(&mut self, marks: CopyState)
+        ensures { self.new ≡ record self.old { marks = marks } }
+    {
+        self.marks = marks;
+    }
+}
+
+/// The outlines of a board's streams, in order. An error is want of memory.
+pub(crate) fn outlines_of<'h>(
+    alloc: Global,
+    board: &Board<'h>,
+) -> Result<Vec<Outline<'h>>, AllocError>
+    requires { length board.now.streams < 256 }
+    ensures { IfOk result (λ outlines. outlines.items ≡ map outline_of board.now.streams) }
+{
+    let n = board.len();
+    let mut outlines = Vec::with_capacity(alloc, n)?;
+    let mut s = 0;
+    while s < n {
+        outlines.push(Outline::of(alloc, board, s as u8)?)?;
+        s += 1;
+    }
+    Ok(outlines)
+}

@@ -1,0 +1,126 @@
+//! A page: a run of entries by rising key.
+
+ghost use Rattle.std.specs.Prelude.{◌≡◌, ℕ, ◌<◌, ◌≤◌, [], IfOk, length, take, drop, set, vec_len};
+ghost use Rattle.std.specs.List.{insert, remove};
+ghost use Rattle.std.specs.Vec.{vec_capacity};
+
+use std::alloc::{AllocError, Global};
+use std::marker::Model;
+
+/// How many entries a page has at most.
+pub const FULL: usize = 128;
+
+/// How many entries the first of two pages has where a full one is split.
+pub const HALF: usize = 64;
+
+/// Up to 128 entries of a map. Seen in contracts as their list. What it can have is reserved from the start.
+#[derive(Drop)]
+pub struct Page<K, R> {
+    entries: Vec<(K, (u8, R))>,
+}
+
+impl<K, R> Model for Page<K, R> {
+    ghost use Rattle.std.specs.Prelude.{ℕ, List, ◌≤◌};
+    ghost use Rattle.std.specs.Vec.{vec_capacity};
+
+    ghost Value = { List (K × (ℕ × R)) };
+
+    ghost view = { λ p. p.entries.items };
+
+    ghost invariant = { λ p. 128 ≤ vec_capacity p.entries };
+}
+
+/// Moves what stands past 64 entries behind no other ones.
+fn move_upper<X>(lower: &mut Vec<X>, upper: &mut Vec<X>)
+    requires size { 64 ≤ vec_len lower.old }
+    requires most { vec_len lower.old ≤ 128 }
+    requires none { upper.old.items ≡ [] }
+    requires room { 128 ≤ vec_capacity upper.old }
+    ensures lower { lower.new.items ≡ take 64 lower.old.items }
+    ensures upper { upper.new.items ≡ drop 64 lower.old.items }
+    ensures lower_room { vec_capacity lower.old ≤ vec_capacity lower.new }
+    ensures upper_room { vec_capacity upper.old ≤ vec_capacity upper.new }
+{
+    while lower.len() > HALF {
+        let entry = lower.take_last();
+        upper.push_reserved(entry);
+    }
+    upper.reverse();
+}
+
+impl<K, R> Page<K, R> {
+    /// No entry, and places for 128. An error is want of memory.
+    pub fn new(alloc: Global) -> Result<Page<K, R>, AllocError>
+        ensures { IfOk result (λ page. page ≡ []) }
+    {
+        let entries = Vec::with_capacity(alloc, FULL)?;
+        Ok(Page { entries })
+    }
+
+    /// The entries. Takes no memory.
+    pub fn entries(&self) -> &[(K, (u8, R))]
+        ensures { result.now ≡ self.now }
+    {
+        &self.entries
+    }
+
+    /// How many entries there are. Takes no memory.
+    pub fn len(&self) -> usize
+        ensures { result ≡ length self.now }
+    {
+        self.entries.len()
+    }
+
+    /// Takes the entry at a place away. Takes no memory.
+    pub fn take_out(&mut self, place: usize) -> (K, (u8, R))
+        requires { place < length self.old }
+        ensures { self.new ≡ remove self.old place }
+    {
+        self.entries.remove(place)
+    }
+
+    /// Moves all but the first 64 entries of a full page into an empty one. Takes no memory.
+    pub fn halve(&mut self, upper: &mut Page<K, R>)
+        requires size { length self.old ≡ 128 }
+        requires none { upper.old ≡ [] }
+        ensures lower { self.new ≡ take 64 self.old }
+        ensures upper { upper.new ≡ drop 64 self.old }
+    {
+        move_upper(&mut self.entries, &mut upper.entries);
+    }
+}
+
+impl<K: Drop, R: Drop> Page<K, R> {
+    /// Puts an entry in at a place of a page that isn't full. Takes no memory.
+    pub fn put_in(&mut self, place: usize, entry: (K, (u8, R)))
+        requires within { place ≤ length self.old }
+        requires room { length self.old < 128 }
+        ensures { self.new ≡ insert self.old place entry }
+    {
+        let _ = self.entries.insert(place, entry);
+    }
+
+    /// Puts an entry over the one at a place. Takes no memory.
+    pub fn put_over(&mut self, place: usize, entry: (K, (u8, R)))
+        requires { place < length self.old }
+        ensures { self.new ≡ set self.old place entry }
+    {
+        self.entries[place] = entry;
+    }
+}
+
+impl<K: Clone, R: Clone> Page<K, R> {
+    /// A copy with equal keys and rows. That a clone equals what it is made of is the caller's; an error is
+    /// want of memory.
+    pub fn try_clone(&self, alloc: Global) -> Result<Page<K, R>, AllocError>
+        requires keys { (key copy : K) → K.is_clone key copy → copy ≡ key }
+        requires rows { (row copy : R) → R.is_clone row copy → copy ≡ row }
+        ensures { IfOk result (λ copy. copy ≡ self.now) }
+    {
+        let mut entries = Vec::from_clones(alloc, &self.entries)?;
+        if entries.capacity() < FULL {
+            entries.reserve(FULL - entries.len())?;
+        }
+        Ok(Page { entries })
+    }
+}

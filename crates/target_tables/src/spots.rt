@@ -1,0 +1,105 @@
+//! Where a key stands in a map's pages.
+
+ghost use Rattle.std.specs.Prelude.{◌≡◌, ◌<◌, length, get_or, MatchResult};
+ghost use Rattle.target_tables.specs.Rising.{IsRising};
+ghost use Rattle.target_tables.specs.Pages.{entries_of, page_at, flat, begins_past, AreFull, IsSpan, FallsInto, StandsAt, WouldStandAt};
+
+use crate::page::Page;
+use crate::places::place_of;
+
+/// A place in a page.
+#[derive(Clone, Copy)]
+pub struct Spot {
+    /// the page
+    pub page: usize,
+    /// the entry's place in it
+    pub place: usize,
+}
+
+/// The page's first key is greater than this one.
+fn is_past<K: Ord, R>(page: &Page<K, R>, key: &K) -> bool
+    ensures { result ≡ begins_past K.cmp key.now page.now }
+{
+    match page.entries().first() {
+        Some(entry) => entry.0.cmp(key).is_gt(),
+        None => false,
+    }
+}
+
+/// Where pages are looked for a key that falls into the page at `low` or a later one before `high`.
+#[derive(Clone, Copy)]
+struct Span {
+    low: usize,
+    high: usize,
+}
+
+/// The pages that a key can fall into, by a look at one page and the next: one alone where the key falls into
+/// it.
+fn span_near<K: Ord, R>(pages: &[Page<K, R>], near: usize, key: &K) -> Span
+    requires rising { IsRising K.cmp (entries_of pages.now) }
+    requires full { AreFull pages.now }
+    requires some { 0 < length pages.now }
+    ensures { IsSpan K.cmp pages.now key.now result.low result.high }
+{
+    let all = pages.len();
+    if near >= all || is_past(&pages[near], key) {
+        return Span { low: 0, high: all };
+    }
+    if near + 1 < all && is_past(&pages[near + 1], key) {
+        return Span {
+            low: near,
+            high: near + 1,
+        };
+    }
+    Span {
+        low: near,
+        high: all,
+    }
+}
+
+/// The page that a key falls into: the last whose first key is at most it, else the first page. Found by
+/// halves, unless it is the page `near` or the last one, behind it.
+fn page_of<K: Ord, R>(pages: &[Page<K, R>], near: usize, key: &K) -> usize
+    requires rising { IsRising K.cmp (entries_of pages.now) }
+    requires full { AreFull pages.now }
+    requires some { 0 < length pages.now }
+    ensures { FallsInto K.cmp pages.now key.now result }
+{
+    let Span { mut low, mut high } = span_near(pages, near, key);
+    while high - low > 1 {
+        let middle = low + (high - low) / 2;
+        if is_past(&pages[middle], key) {
+            high = middle;
+        } else {
+            low = middle;
+        }
+    }
+    low
+}
+
+/// The place of the entry with the key, or else the place at which it would stand. The page `near` is looked at
+/// first; the others are searched by halves, and so is the page.
+pub fn spot_of<K: Ord, R>(pages: &[Page<K, R>], near: usize, key: &K) -> Result<Spot, Spot>
+    requires rising { IsRising K.cmp (entries_of pages.now) }
+    requires full { AreFull pages.now }
+    ensures { MatchResult result (λ spot. StandsAt K.cmp pages.now key.now spot.page spot.place) (λ spot. WouldStandAt K.cmp pages.now key.now spot.page spot.place) }
+{
+    if pages.is_empty() {
+        return Err(Spot { page: 0, place: 0 });
+    }
+    let page = page_of(pages, near, key);
+    match place_of(pages[page].entries(), key) {
+        Ok(place) => Ok(Spot { page, place }),
+        Err(place) => Err(Spot { page, place }),
+    }
+}
+
+/// The entry at a place. That it is there is the caller's.
+pub fn entry_at<'t, K, R>(pages: &'t [Page<K, R>], spot: Spot) -> &'t (K, (u8, R))
+    requires inside { spot.page < length pages.now }
+    requires within { spot.place < length (page_at pages.now spot.page) }
+    ensures { result.now ≡ get_or (entries_of pages.now) (flat pages.now spot.page spot.place) result.now }
+{
+    let Spot { page, place } = spot;
+    &pages[page].entries()[place]
+}

@@ -1,0 +1,35 @@
+-- The inputs of a command by their places, as the command is given them.
+use Rattle.std.proofs.Common.{arith, ◌≡◌, ◌∙◌, ap, sym, subst, ℕ, ◌-◌, ◌≤◌, ◌<◌, Bool, List, [], length, take, drop, get_or, map}
+use Rattle.std.proofs.lemmas.List.{drop-map, get_or-map, length-map, take-map}
+use Rattle.vrepl_main.specs.ScriptRun.{script_given}
+use Rattle.vrepl.specs.Places.{feeds_of, script_asked, script_of, source_of, target_of, workflow_of}
+
+-- what stands at a place
+at_place : {X : Type 0} (f : X → List ℕ) (inputs : List X) (n : ℕ) (x : X) (bytes : List ℕ) → n < length inputs → x ≡ get_or inputs n x → bytes ≡ f x
+    → bytes ≡ get_or (map f inputs) n []
+at_place f inputs n x bytes within is read = read ∙ ap f is ∙ sym (get_or-map f inputs n x [] within)
+
+pub asked_is : {X : Type 0} (f : X → List ℕ) (hex : Bool) (inputs : List X) (first last : X) (workflow script : List ℕ) → 2 ≤ length inputs
+    → first ≡ get_or inputs 0 first → last ≡ get_or inputs (length inputs - 1) last → workflow ≡ f first → script ≡ f last
+    → script_given hex workflow (map f (take (length inputs - 1 - 1) (drop 1 inputs))) script ≡ script_asked hex (map f inputs)
+asked_is f hex inputs first last workflow script some at_front at_end front end =
+    let two : length inputs - 1 - 1 ≡ length inputs - 2 = omega (arith, some) in
+    let w : workflow ≡ workflow_of (map f inputs) = at_place f inputs 0 first workflow (omega (arith, some)) at_front front in
+    let s : script ≡ script_of (map f inputs) =
+    at_place f inputs (length inputs - 1) last script (omega (arith, some)) at_end end ∙ ap (λ n. get_or (map f inputs) (n - 1) []) (sym (length-map inputs f)) in
+    let between : map f (take (length inputs - 1 - 1) (drop 1 inputs)) ≡ feeds_of (map f inputs) =
+    sym (take-map f (length inputs - 1 - 1) (drop 1 inputs)) ∙ ap (take (length inputs - 1 - 1)) (sym (drop-map f 1 inputs))
+    ∙ ap (λ n. take n (drop 1 (map f inputs))) (two ∙ ap (λ n. n - 2) (sym (length-map inputs f))) in
+    ap (λ x. script_given hex x (map f (take (length inputs - 1 - 1) (drop 1 inputs))) script) w
+    ∙ ap (λ x. script_given hex (workflow_of (map f inputs)) x script) between
+    ∙ ap (λ x. script_given hex (workflow_of (map f inputs)) (feeds_of (map f inputs)) x) s
+
+-- what holds of the files of `vdiff` holds of its inputs
+pub of_files : {X : Type 0} (f : X → List ℕ) (P : List ℕ → List ℕ → List ℕ → Type 0) (inputs : List X) (first second third : X) (workflow source target : List ℕ)
+    → length inputs ≡ 3 → first ≡ get_or inputs 0 first → second ≡ get_or inputs 1 second → third ≡ get_or inputs 2 third
+    → workflow ≡ f first → source ≡ f second → target ≡ f third
+    → P workflow source target → P (workflow_of (map f inputs)) (source_of (map f inputs)) (target_of (map f inputs))
+of_files f P inputs first second third workflow source target three at_first at_second at_third is_first is_second is_third holds =
+    subst (λ x. P x (source_of (map f inputs)) (target_of (map f inputs))) (at_place f inputs 0 first workflow (omega (arith, three)) at_first is_first)
+    (subst (λ x. P workflow x (target_of (map f inputs))) (at_place f inputs 1 second source (omega (arith, three)) at_second is_second)
+    (subst (P workflow source) (at_place f inputs 2 third target (omega (arith, three)) at_third is_third) holds))

@@ -1,0 +1,37 @@
+-- The inputs of a command that has several, one behind the other (this profile).
+use Rattle.std.specs.Prelude.{ℕ, ◌-◌, Bool, List, [], length, map, take, drop, get_or, Result}
+use Rattle.std.specs.Global.{Vec}
+use Rattle.vrepl_main.specs.Reasons.{Reason}
+use Rattle.vrepl_main.specs.ScriptRun.{ScriptGiven, script_given}
+
+-- the bytes of each
+abbrev pub bytes_of : List (Vec ℕ) → List (List ℕ)
+bytes_of inputs = map (λ input. input.items) inputs
+
+-- the workflow stands first
+abbrev pub workflow_of : List (List ℕ) → List ℕ
+workflow_of inputs = get_or inputs 0 []
+
+-- ---- `step`
+
+-- the script stands last
+abbrev pub script_of : List (List ℕ) → List ℕ
+script_of inputs = get_or inputs (length inputs - 1) []
+
+-- and the feeds between them
+abbrev pub feeds_of : List (List ℕ) → List (List ℕ)
+feeds_of inputs = take (length inputs - 2) (drop 1 inputs)
+
+-- what the inputs give to `step`, or why they are refused
+abbrev pub script_asked : Bool → List (List ℕ) → Result ScriptGiven Reason
+script_asked hex inputs = script_given hex (workflow_of inputs) (feeds_of inputs) (script_of inputs)
+
+-- ---- `vdiff`
+
+-- the source's dump stands behind the workflow
+abbrev pub source_of : List (List ℕ) → List ℕ
+source_of inputs = get_or inputs 1 []
+
+-- and the target's behind that
+abbrev pub target_of : List (List ℕ) → List ℕ
+target_of inputs = get_or inputs 2 []

@@ -1,0 +1,87 @@
+//! The inputs of the commands that have several: their names in order, and each command over what was read
+//! of them, by their places.
+
+ghost use Rattle.std.specs.Prelude.{◌≡◌, ◌≢◌, ◌≤◌, ◌⊎◌, ◌∷◌, ◌++◌, [], length, map, IfOk};
+ghost use Rattle.vrepl.specs.Places.{bytes_of, script_asked, source_of, target_of, workflow_of};
+ghost use Rattle.vrepl_main.specs.Command.{PrintsRefusal};
+ghost use Rattle.vrepl_main.specs.Comparison.{IsComparedAs, PrintsDumpRefusal, PrintsSomeComparison};
+ghost use Rattle.vrepl_main.specs.Replied.{PrintsReplies, PrintsSomeReplies};
+ghost use Rattle.vrepl_main.specs.declared.input.InputName.TheVariants.{File, Standard};
+ghost use Rattle.vrepl_main.specs.declared.vdiff.Verdict.TheVariants.{Same, Differ};
+
+use crate::words::Vdiff;
+use std::alloc::{AllocError, Global};
+use vdiff_core::Out;
+use vrepl_main::input::InputName;
+use vrepl_main::{step, vdiff};
+
+/// The inputs of `step`: the workflow, the feeds in their order, and the script.
+pub fn step_inputs<'w>(
+    alloc: Global,
+    workflow: &'w str,
+    feeds: &[&'w str],
+) -> Result<Vec<InputName<'w>>, AllocError>
+    ensures { IfOk result (λ names. names.items ≡ File workflow.entry ∷ (map File feeds.now ++ Standard ∷ [])) }
+{
+    let mut names = file_names(alloc, feeds)?;
+    names.insert(0, InputName::File(workflow))?;
+    names.push(InputName::Standard)?;
+    Ok(names)
+}
+
+/// Files as inputs.
+fn file_names<'w>(alloc: Global, files: &[&'w str]) -> Result<Vec<InputName<'w>>, AllocError>
+    ensures { IfOk result (λ names. names.items ≡ map File files.now) }
+{
+    let mut names = Vec::with_capacity(alloc, files.len())?;
+    for file in files {
+        names.push(InputName::File(*file))?;
+    }
+    Ok(names)
+}
+
+/// Takes the steps of the script, which is the last input, on a board over the workflow, the first one, and
+/// its feeds, those between them.
+pub fn step_on<W: Out, E: Out>(
+    alloc: Global,
+    hex: bool,
+    inputs: &[Vec<u8>],
+    out: &mut W,
+    err: &mut E,
+) -> u8
+    requires { 2 ≤ length inputs.now }
+    ensures status { (result ≡ 0) ⊎ (result ≡ 1) }
+    ensures printed { result ≡ 0 → PrintsReplies (script_asked hex (bytes_of inputs.now)) (W.written out.old).bytes (W.written out.new).bytes }
+    ensures begun { PrintsSomeReplies (script_asked hex (bytes_of inputs.now)) (W.written out.old).bytes (W.written out.new).bytes }
+    ensures quiet { result ≡ 0 → err.new ≡ err.old }
+    ensures refused { result ≡ 1 → PrintsRefusal (script_asked hex (bytes_of inputs.now)) (E.written err.old).bytes (E.written err.new).bytes }
+{
+    let last = inputs.len() - 1;
+    let feeds = &inputs[1..last];
+    step::step(alloc, hex, &inputs[0], feeds, &inputs[last], out, err)
+}
+
+/// The inputs of `vdiff`: the workflow, the source's dump, and the target's.
+pub fn vdiff_inputs<'w>(words: Vdiff<'w>) -> [InputName<'w>; 3]
+    ensures { result ≡ File words.entry.workflow ∷ File words.entry.source ∷ File words.entry.target ∷ [] }
+{
+    [
+        InputName::File(words.workflow),
+        InputName::File(words.source),
+        InputName::File(words.target),
+    ]
+}
+
+/// Compares the dumps of the source, which is the second input, and of the target, the third, by the tables
+/// of the workflow, the first one.
+pub fn vdiff_on<W: Out, E: Out>(alloc: Global, inputs: &[Vec<u8>], out: &mut W, err: &mut E) -> u8
+    requires { length inputs.now ≡ 3 }
+    ensures status { (result ≡ 0) ⊎ (result ≡ 1) ⊎ (result ≡ 3) }
+    ensures same { result ≡ 0 → IsComparedAs Same (workflow_of (bytes_of inputs.now)) (source_of (bytes_of inputs.now)) (target_of (bytes_of inputs.now)) (W.written out.old).bytes (W.written out.new).bytes }
+    ensures differ { result ≡ 3 → IsComparedAs Differ (workflow_of (bytes_of inputs.now)) (source_of (bytes_of inputs.now)) (target_of (bytes_of inputs.now)) (W.written out.old).bytes (W.written out.new).bytes }
+    ensures begun { PrintsSomeComparison (workflow_of (bytes_of inputs.now)) (source_of (bytes_of inputs.now)) (target_of (bytes_of inputs.now)) (W.written out.old).bytes (W.written out.new).bytes }
+    ensures quiet { result ≢ 1 → err.new ≡ err.old }
+    ensures refused { result ≡ 1 → PrintsDumpRefusal (workflow_of (bytes_of inputs.now)) (source_of (bytes_of inputs.now)) (target_of (bytes_of inputs.now)) (E.written err.old).bytes (E.written err.new).bytes }
+{
+    vdiff::vdiff(alloc, &inputs[0], &inputs[1], &inputs[2], out, err)
+}

@@ -1,0 +1,36 @@
+-- What the command `save` prints, and why it is refused, by what its inputs say.
+use Rattle.std.proofs.Common.{◌≡◌, sym, subst, ℕ, ◌≤◌, List, length, take, Result, Ok, Err}
+use Rattle.std.proofs.lemmas.List.{take_all}
+use Rattle.filter_rule.specs.PlanValue.{PlanValue}
+use Rattle.source_feed.specs.Planned.{FeedValue}
+use Rattle.board_laws.specs.Meaning.{Meaning}
+use Rattle.checkpoint_laws.specs.Written.{checkpoint_of}
+use Rattle.apply_core.specs.Fresh.{fresh_board}
+use Rattle.vrepl_main.specs.declared.refusal.Refusal.{Refusal}
+use Rattle.vrepl_main.specs.declared.script.ScriptStep.{ScriptStep}
+use Rattle.vrepl_main.specs.Command.{Refuses, IsUnwritten}
+use Rattle.vrepl_main.specs.Reasons.{Reason}
+use Rattle.vrepl_main.specs.SavedBoard.{IsSaved}
+use Rattle.vrepl_main.specs.ScriptRun.{ScriptReply, ScriptGiven, IsScriptRun}
+use Rattle.vrepl_main.proofs.StepLaws.{refuses_unwritten}
+
+-- the checkpoint can't be written
+pub unwritten : (refusal : Refusal) (reading : Result ScriptGiven Reason) (bytes : List ℕ) → IsSaved reading bytes → IsUnwritten refusal → Refuses {X = ScriptGiven} refusal reading
+unwritten refusal (Ok given) bytes saved is = refuses_unwritten refusal given is
+unwritten refusal (Err reason) bytes saved is = absurd saved
+
+-- other words for what is given
+pub saved_as : (one other : Result ScriptGiven Reason) (bytes : List ℕ) → one ≡ other → IsSaved other bytes → IsSaved one bytes
+saved_as one other bytes is saved = subst (λ (r : Result ScriptGiven Reason). IsSaved r bytes) (sym is) saved
+
+-- the board behind the steps
+pub saved_behind : (reading : Result ScriptGiven Reason) (plans : List PlanValue) (feeds : List FeedValue) (steps : List ScriptStep) (board : Meaning) (bytes : List ℕ)
+    → reading ≡ Ok (record { opened = record { plans = plans; feeds = feeds }; steps = steps }) → (replies : List ScriptReply) × IsScriptRun feeds (fresh_board plans) steps replies board
+    → bytes ≡ checkpoint_of board → IsSaved reading bytes
+saved_behind reading plans feeds steps board bytes is (replies, run) saved =
+    saved_as reading (Ok (record { opened = record { plans = plans; feeds = feeds }; steps = steps })) bytes is (record { replies = replies; board = board; run = run; checkpoint = saved })
+
+-- all lines are taken
+pub all_taken : (feeds : List FeedValue) (old now : Meaning) (steps : List ScriptStep) (i : ℕ) → length steps ≤ i → (replies : List ScriptReply) × IsScriptRun feeds old (take i steps) replies now
+    → (replies : List ScriptReply) × IsScriptRun feeds old steps replies now
+all_taken feeds old now steps i most (replies, run) = (replies, subst (λ (lines : List ScriptStep). IsScriptRun feeds old lines replies now) (take_all i steps most) run)

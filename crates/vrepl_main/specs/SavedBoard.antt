@@ -1,0 +1,29 @@
+-- What the command `save` leaves on its writer (this profile).
+use Rattle.std.specs.Prelude.{◌≡◌, ◌⊎◌, ℕ, List, Option, Result, Ok, Err}
+use Rattle.std.specs.Io.KnownBytes.{Appends}
+use Rattle.board_laws.specs.Meaning.{Meaning}
+use Rattle.checkpoint_laws.specs.Written.{checkpoint_of}
+use Rattle.apply_core.specs.Fresh.{fresh_board}
+use Rattle.vrepl_main.specs.Printing.{PrintsBeginning}
+use Rattle.vrepl_main.specs.Reasons.{Reason}
+use Rattle.vrepl_main.specs.ScriptRun.{ScriptReply, ScriptGiven, IsScriptRun}
+
+-- the bytes are the checkpoint of the board behind the steps of a script, whatever they reply
+pub record IsSavedBehind (given : ScriptGiven) (bytes : List ℕ) : Type 0 where
+  pub replies : List ScriptReply
+  pub board : Meaning
+  pub run : IsScriptRun given.opened.feeds (fresh_board given.opened.plans) given.steps replies board
+  pub checkpoint : bytes ≡ checkpoint_of board
+
+-- there is such a board, and they are its checkpoint
+abbrev pub IsSaved : Result ScriptGiven Reason → List ℕ → Type 0
+IsSaved (Ok given) bytes = IsSavedBehind given bytes
+IsSaved (Err reason) bytes = ⊥
+
+-- its checkpoint was printed
+abbrev pub PrintsCheckpoint : Result ScriptGiven Reason → Option (List ℕ) → Option (List ℕ) → Type 0
+PrintsCheckpoint reading old new = (bytes : List ℕ) × IsSaved reading bytes × Appends old new bytes
+
+-- nothing was printed, or a beginning of its checkpoint; nothing where there is no such board
+abbrev pub PrintsSomeCheckpoint : Result ScriptGiven Reason → Option (List ℕ) → Option (List ℕ) → Type 0
+PrintsSomeCheckpoint reading old new = (new ≡ old) ⊎ ((bytes : List ℕ) × IsSaved reading bytes × PrintsBeginning old new bytes)
