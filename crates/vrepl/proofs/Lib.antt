@@ -1,4 +1,3 @@
 pub mod Builders
 pub mod MetSubcommand
 pub mod TakenWords
-pub mod PlaceLaws

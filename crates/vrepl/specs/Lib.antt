@@ -3,4 +3,3 @@ pub mod Words
 pub mod Built
 pub mod Meant
 pub mod Usage
-pub mod Places

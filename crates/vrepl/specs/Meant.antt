@@ -5,7 +5,7 @@ use Rattle.vrepl_main.specs.Show.{shown_feed, source_of}
 use Rattle.vrepl_main.specs.Reasons.{Reason}
 use Rattle.vrepl.specs.declared.words.Show.{Show}
 use Rattle.vrepl.specs.declared.words.Step.{Step}
-use Rattle.vrepl.specs.declared.words.Vdiff.{Vdiff}
+use Rattle.vrepl_main.specs.declared.input_list.VdiffFiles.{VdiffFiles}
 use Rattle.vrepl.specs.declared.words.Words.{Words}
 use Rattle.vrepl.specs.declared.words.Words.TheVariants as words
 
@@ -21,14 +21,14 @@ show_value show = record {
 abbrev pub step_value : Step → StepValue
 step_value step = record { hex = step.hex; workflow = step.workflow.now; feeds = map (λ feed. feed.now) step.feeds.items }
 
-abbrev pub vdiff_value : Vdiff → VdiffValue
-vdiff_value vdiff = record { workflow = vdiff.workflow.now; source = vdiff.source.now; target = vdiff.target.now }
+abbrev pub vdiff_value : VdiffFiles → VdiffValue
+vdiff_value files = record { workflow = files.workflow.now; source = files.source.now; target = files.target.now }
 
 -- what was read of the words, as a plain value
 abbrev pub value_of : Words → WordsValue
 value_of (words.Show show) = asks_show (show_value show)
 value_of (words.Step step) = asks_step (step_value step)
-value_of (words.Vdiff vdiff) = asks_vdiff (vdiff_value vdiff)
+value_of (words.Vdiff files) = asks_vdiff (vdiff_value files)
 
 -- what was met asks for this, if for anything, unless a fault kept it from being read
 abbrev pub Asks : {E : Type 0} → Option (Result Words E) → Option WordsValue → Type 0

@@ -10,6 +10,7 @@ ghost use Rattle.vrepl.specs.Words.{asked_by, asks_step, faults_of, program_app,
 use clap::error::ErrorKind;
 use clap::{Arg, ArgAction, ArgMatches, Command, Error};
 use std::alloc::{AllocError, Global};
+use vrepl_main::input_list::VdiffFiles;
 use vrepl_main::source::Source;
 
 /// What the words ask for.
@@ -20,18 +21,7 @@ pub enum Words<'w> {
     /// `step`: take the steps of a script on a board over a workflow and its feeds.
     Step(Step<'w>),
     /// `vdiff`: compare two dumps.
-    Vdiff(Vdiff<'w>),
-}
-
-/// The words of `vdiff`.
-#[derive(Clone, Copy, Debug, PartialEq, Eq)]
-pub struct Vdiff<'w> {
-    /// The workflow's file.
-    pub workflow: &'w str,
-    /// The file of the source's dump.
-    pub source: &'w str,
-    /// The file of the target's dump.
-    pub target: &'w str,
+    Vdiff(VdiffFiles<'w>),
 }
 
 /// The words of `step`.
@@ -240,10 +230,10 @@ fn step_words<'w>(alloc: Global, given: &ArgMatches<'w>) -> Result<Words<'w>, Al
     }))
 }
 
-fn vdiff_words<'w>(given: &ArgMatches<'w>) -> Vdiff<'w>
+fn vdiff_words<'w>(given: &ArgMatches<'w>) -> VdiffFiles<'w>
     ensures { vdiff_value result ≡ vdiff_given (rows_of (found_of given.now)) }
 {
-    Vdiff {
+    VdiffFiles {
         workflow: text(given, "workflow"),
         source: text(given, "source"),
         target: text(given, "target"),

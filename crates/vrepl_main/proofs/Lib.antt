@@ -10,3 +10,4 @@ mod ScriptRunLaws
 mod StepLaws
 mod VdiffLaws
 mod SaveLaws
+mod InputListLaws

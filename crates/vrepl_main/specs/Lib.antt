@@ -20,3 +20,4 @@ pub mod ScriptPrinting
 pub mod Replied
 pub mod Comparison
 pub mod SavedBoard
+pub mod InputList

@@ -5,6 +5,7 @@ pub mod answer_text;
 pub mod given;
 pub mod hex_text;
 pub mod input;
+pub mod input_list;
 pub mod key_text;
 mod line;
 mod lines;

@@ -2,7 +2,7 @@
 use Rattle.std.proofs.Common.{arith, ◌≡◌, ◌∙◌, ap, sym, subst, ℕ, ◌-◌, ◌≤◌, ◌<◌, Bool, List, [], length, take, drop, get_or, map}
 use Rattle.std.proofs.lemmas.List.{drop-map, get_or-map, length-map, take-map}
 use Rattle.vrepl_main.specs.ScriptRun.{script_given}
-use Rattle.vrepl.specs.Places.{feeds_of, script_asked, script_of, source_of, target_of, workflow_of}
+use Rattle.vrepl_main.specs.InputList.{feeds_of, script_asked, script_of, source_of, target_of, workflow_of}
 
 -- what stands at a place
 at_place : {X : Type 0} (f : X → List ℕ) (inputs : List X) (n : ℕ) (x : X) (bytes : List ℕ) → n < length inputs → x ≡ get_or inputs n x → bytes ≡ f x

@@ -3,8 +3,8 @@ use Rattle.vrepl_main.specs.Command.{PrintsRefusal}
 use Rattle.vrepl_main.specs.Reasons.{Reason}
 use Rattle.vrepl_main.specs.Replied.{PrintsReplies, PrintsSomeReplies}
 use Rattle.vrepl_main.specs.ScriptRun.{ScriptGiven}
-use Rattle.vrepl.proofs.PlaceLaws.{asked_is}
-use Rattle.vrepl.proofs.inputs.step_on.Goals as goal
+use Rattle.vrepl_main.proofs.InputListLaws.{asked_is}
+use Rattle.vrepl_main.proofs.input_list.step_on.Goals as goal
 
 pub returns-clause-printed : goal.returns-clause-printed
 returns-clause-printed g c = λ zero.

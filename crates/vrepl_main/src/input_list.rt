@@ -2,18 +2,28 @@
 //! of them, by their places.
 
 ghost use Rattle.std.specs.Prelude.{◌≡◌, ◌≢◌, ◌≤◌, ◌⊎◌, ◌∷◌, ◌++◌, [], length, map, IfOk};
-ghost use Rattle.vrepl.specs.Places.{bytes_of, script_asked, source_of, target_of, workflow_of};
+ghost use Rattle.vrepl_main.specs.InputList.{bytes_of, script_asked, source_of, target_of, workflow_of};
 ghost use Rattle.vrepl_main.specs.Command.{PrintsRefusal};
 ghost use Rattle.vrepl_main.specs.Comparison.{IsComparedAs, PrintsDumpRefusal, PrintsSomeComparison};
 ghost use Rattle.vrepl_main.specs.Replied.{PrintsReplies, PrintsSomeReplies};
 ghost use Rattle.vrepl_main.specs.declared.input.InputName.TheVariants.{File, Standard};
 ghost use Rattle.vrepl_main.specs.declared.vdiff.Verdict.TheVariants.{Same, Differ};
 
-use crate::words::Vdiff;
+use crate::input::InputName;
+use crate::{step, vdiff};
 use std::alloc::{AllocError, Global};
 use vdiff_core::Out;
-use vrepl_main::input::InputName;
-use vrepl_main::{step, vdiff};
+
+/// The files of `vdiff`.
+#[derive(Clone, Copy, Debug, PartialEq, Eq)]
+pub struct VdiffFiles<'w> {
+    /// The workflow's file.
+    pub workflow: &'w str,
+    /// The file of the source's dump.
+    pub source: &'w str,
+    /// The file of the target's dump.
+    pub target: &'w str,
+}
 
 /// The inputs of `step`: the workflow, the feeds in their order, and the script.
 pub fn step_inputs<'w>(
@@ -62,13 +72,13 @@ pub fn step_on<W: Out, E: Out>(
 }
 
 /// The inputs of `vdiff`: the workflow, the source's dump, and the target's.
-pub fn vdiff_inputs<'w>(words: Vdiff<'w>) -> [InputName<'w>; 3]
-    ensures { result ≡ File words.entry.workflow ∷ File words.entry.source ∷ File words.entry.target ∷ [] }
+pub fn vdiff_inputs<'w>(files: VdiffFiles<'w>) -> [InputName<'w>; 3]
+    ensures { result ≡ File files.entry.workflow ∷ File files.entry.source ∷ File files.entry.target ∷ [] }
 {
     [
-        InputName::File(words.workflow),
-        InputName::File(words.source),
-        InputName::File(words.target),
+        InputName::File(files.workflow),
+        InputName::File(files.source),
+        InputName::File(files.target),
     ]
 }
 

@@ -1,7 +1,7 @@
 use Rattle.vrepl_main.specs.Comparison.{IsComparedAs, PrintsDumpRefusal, PrintsSomeComparison}
 use Rattle.vrepl_main.specs.declared.vdiff.Verdict.TheVariants.{Same, Differ}
-use Rattle.vrepl.proofs.PlaceLaws.{of_files}
-use Rattle.vrepl.proofs.inputs.vdiff_on.Goals as goal
+use Rattle.vrepl_main.proofs.InputListLaws.{of_files}
+use Rattle.vrepl_main.proofs.input_list.vdiff_on.Goals as goal
 
 pub returns-clause-same : goal.returns-clause-same
 returns-clause-same g c = λ zero.

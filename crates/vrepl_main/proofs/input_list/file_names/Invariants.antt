@@ -1,6 +1,6 @@
 use Rattle.std.proofs.Common.{◌≡◌, take, map}
 use Rattle.vrepl_main.specs.declared.input.InputName.TheVariants.{File}
-use Rattle.vrepl.proofs.inputs.file_names.Given as goal
+use Rattle.vrepl_main.proofs.input_list.file_names.Given as goal
 
 -- the files so far
 abbrev pub invariant-loop-file : goal.invariant-loop-file
