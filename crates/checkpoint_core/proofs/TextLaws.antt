@@ -1,19 +1,16 @@
 -- A table's part as it is written, one item after another.
-use Rattle.std.proofs.Common.{◌≡◌, ◌==◌, ℕ, suc, ◌+◌, ◌<◌, Bool, true, false, cond, List, [], ◌∷◌, ◌++◌, length, map, drop, get_or, Some, slice_get, append_assoc, refl, sym, ap, ◌∙◌, arith}
+use Rattle.std.proofs.Common.{◌≡◌, ◌==◌, ℕ, suc, ◌+◌, ◌<◌, Bool, true, false, cond, List, [], ◌∷◌, ◌++◌, length, map, drop, get_or, append_assoc, sym, ap, ◌∙◌, arith}
 use Rattle.std.proofs.lemmas.Bool.{ne_eqb}
 use Rattle.std.proofs.lemmas.List.{drop_more, map-append}
 use borrow.Author.Tests.{eq-eqb}
-use Rattle.std.specs.Option.{option_map}
-use Rattle.filter_rule.specs.PlanTable.{ColumnValue}
 use Rattle.filter_rule.specs.PlanValue.{PlanValue}
 use Rattle.pk_copy.specs.KeyValue.{KeyValue}
 use Rattle.pk_copy.specs.Marks.{Marks, mark_of}
 use Rattle.vevent.specs.CheckpointPart.{TablePartValue}
-use Rattle.vevent.specs.EventValue.{FieldValue}
 use Rattle.source_feed.specs.History.{RowValue}
 use Rattle.source_feed.specs.Image.{ImageRows, lent_row}
-use Rattle.checkpoint_laws.specs.Written.{field_of, rows_of_table, numbers_below}
-use Rattle.checkpoint_core.specs.Private.Texts.{fields_at, part_of_table, parts_of_tables}
+use Rattle.checkpoint_laws.specs.Written.{rows_of_table, numbers_below}
+use Rattle.checkpoint_core.specs.Private.Texts.{part_of_table, parts_of_tables}
 use denote.Ref.{Bor}
 
 -- what is made so far, and what the others make, is all: one item further
@@ -23,18 +20,6 @@ turn {A} made more whole front rest is parts = append_assoc made front more ∙ 
 -- an item and what comes behind it
 pub at_item : {A : Type 0} (xs : List A) (i : ℕ) (x : A) → i < length xs → x ≡ get_or xs i x → drop i xs ≡ x ∷ drop (i + 1) xs
 at_item {A} xs i x less is = drop_more xs i x less ∙ ap (λ (y : A). y ∷ drop (i + 1) xs) (sym is)
-
--- ---- columns at places
-
-fields_more : (columns : List ColumnValue) (place : ℕ) (places : List ℕ) (field : FieldValue) → option_map field_of (slice_get columns place) ≡ Some field → fields_at columns (place ∷ places) ≡ field ∷ fields_at columns places
-fields_more columns place places field here = rw here refl
-
-pub fields_turn : (columns : List ColumnValue) (places : List ℕ) (i place : ℕ) (made new whole : List FieldValue) (field : FieldValue) → drop i places ≡ place ∷ drop (i + 1) places
-    → option_map field_of (slice_get columns place) ≡ Some field → new ≡ made ++ field ∷ [] → made ++ fields_at columns (drop i places) ≡ whole → new ++ fields_at columns (drop (i + 1) places) ≡ whole
-fields_turn columns places i place made new whole field at here is so_far =
-    let more : List FieldValue = fields_at columns (drop (i + 1) places) in
-    ap (λ (xs : List FieldValue). xs ++ more) is
-    ∙ turn made more whole (field ∷ []) (fields_at columns (drop i places)) so_far (ap (fields_at columns) at ∙ fields_more columns place (drop (i + 1) places) field here)
 
 -- ---- the rows of a table
 

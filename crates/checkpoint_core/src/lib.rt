@@ -1,7 +1,17 @@
-//! The bytes of a checkpoint, stream by stream, without a board.
+//! A checkpoint's bytes, written and read stream by stream: what they say, without a board.
 #![tactic(auto)]
 
+mod fault;
+mod head;
+mod marks;
+mod parts;
+mod reading;
+mod rows;
+mod saved;
 mod texts;
 mod writing;
 
+pub use fault::ReadFault;
+pub use reading::read_checkpoint;
+pub use saved::ReadStream;
 pub use writing::put_stream;

@@ -64,7 +64,7 @@ fn field_of(column: &ColumnDef) -> ColumnField<'_>
 }
 
 /// Columns as an answer names them.
-fn fields_of<'a>(
+pub(crate) fn fields_of<'a>(
     alloc: Global,
     columns: &'a [ColumnDef],
 ) -> Result<Vec<ColumnField<'a>>, AllocError>
@@ -86,7 +86,7 @@ fn field_at(columns: &[ColumnDef], place: usize) -> ColumnField<'_>
 }
 
 /// The columns at these places, as an answer names them.
-fn fields_at<'a>(
+pub(crate) fn fields_at<'a>(
     alloc: Global,
     columns: &'a [ColumnDef],
     places: &[u8],

@@ -54,7 +54,8 @@ as_read : (xs : List StreamPartValue) → ◌≡◌ {A = List Read} (map Ok xs) 
 as_read [] = refl
 as_read (x ∷ xs) = λ i. read x ∷ as_read xs i
 
-same_parts : (bytes : List ℕ) (xs ys : List StreamPartValue) → AreParts bytes xs → AreParts bytes ys → xs ≡ ys
+-- the parts of bytes are one list
+pub same_parts : (bytes : List ℕ) (xs ys : List StreamPartValue) → AreParts bytes xs → AreParts bytes ys → xs ≡ ys
 same_parts bytes xs ys p q =
     let rest : p.rest ≡ q.rest = append_cancel_left opening p.rest q.rest (sym p.opened ∙ q.opened) in
     let messages : p.messages ≡ q.messages = ap (λ (r : Reading (List ℕ) FrameFault). r.items) (sym p.framed ∙ ap frames_of rest ∙ q.framed) in

@@ -1,0 +1,237 @@
+-- What the parts of a checkpoint say of streams, put together of what was read of them.
+use Rattle.std.proofs.Common.{◌≡◌, ◌≢◌, ℕ, suc, ◌+◌, ◌<◌, ◌≤◌, inl, inr, List, [], ◌∷◌, ◌++◌, length, map, Option, Some, None, Result, Ok, Err, slice_get, append_assoc, append-nil, refl, sym, ap, subst, ◌∙◌, arith}
+use Rattle.std.proofs.lemmas.List.{append_cancel_left, map-append, length-map, length-append}
+use Rattle.std.proofs.lemmas.Option.{same_Some, none-some, slice_get_within}
+use Rattle.std.specs.Result.{result_ok}
+use Rattle.filter_rule.specs.PlanValue.{PlanValue}
+use Rattle.proto_wire.specs.declared.fault.FrameFault.{FrameFault}
+use Rattle.proto_wire.specs.Frame.{frames_of}
+use Rattle.proto_wire.specs.Reading.{Reading}
+use Rattle.source_feed.specs.GroupValue.{Position}
+use Rattle.vevent.specs.declared.fault.EventFault.{EventFault}
+use Rattle.vevent.specs.CheckpointPart.{TablePartValue, StreamPartValue, stream_part_at}
+use Rattle.board_laws.proofs.Lists.{slice_get-push}
+use Rattle.checkpoint_laws.specs.Saved.{SavedStream}
+use Rattle.checkpoint_laws.specs.Said.{AreParts, SaysTable, SaysStream, IsCheckpoint}
+use Rattle.checkpoint_laws.specs.Written.{opening}
+use Rattle.checkpoint_laws.proofs.OneThing.{same_parts}
+use Rattle.checkpoint_laws.proofs.ResumedLaws.{at_inside}
+use Rattle.checkpoint_core.specs.Private.Reading.{OfEachTable, IsPartOf, AreFramed, AreSoManyParts, IsAtPosition, HasHead, SaysMark, AreMarksOf, AreRows, rows_from, AreTablesOf, SayTables, SayStreams}
+use Rattle.checkpoint_core.proofs.RowLaws.{rows_said, rows_only}
+
+-- ---- parts
+
+abbrev Read : Type 0
+Read = Result StreamPartValue EventFault
+
+abbrev oks : List StreamPartValue → List Read
+oks parts = map Ok parts
+
+-- the frames so far are these parts, and the others are still to come
+pub record AreParted (bytes : List ℕ) (frames : Reading (List ℕ) FrameFault) (parts : List StreamPartValue) : Type 0 where
+  pub fault : frames.fault ≡ (frames_of bytes).fault
+  pub items : map stream_part_at (frames_of bytes).items ≡ map Ok parts ++ map stream_part_at frames.items
+
+pub no_part_yet : (bytes : List ℕ) (frames : Reading (List ℕ) FrameFault) (parts : List StreamPartValue) → frames ≡ frames_of bytes → parts ≡ [] → AreParted bytes frames parts
+no_part_yet bytes frames parts is none = record {
+  fault = ap (λ (r : Reading (List ℕ) FrameFault). r.fault) is;
+  items = ap (λ (r : Reading (List ℕ) FrameFault). map stream_part_at r.items) (sym is) ∙ ap (λ (ps : List StreamPartValue). oks ps ++ map stream_part_at frames.items) (sym none);
+}
+
+pub one_part_more : (bytes message : List ℕ) (old new : Reading (List ℕ) FrameFault) (parts more : List StreamPartValue) (part : StreamPartValue) → AreParted bytes old parts
+    → old.items ≡ message ∷ new.items → old.fault ≡ new.fault → stream_part_at message ≡ Ok part → more ≡ parts ++ part ∷ [] → AreParted bytes new more
+one_part_more bytes message old new parts more part are items fault is pushed = record {
+  fault = sym fault ∙ are.fault;
+  items =
+      are.items
+      ∙ ap (λ (ms : List (List ℕ)). oks parts ++ map stream_part_at ms) items
+      ∙ ap (λ (r : Read). oks parts ++ r ∷ map stream_part_at new.items) is
+      ∙ sym (append_assoc (oks parts) (Ok part ∷ []) (map stream_part_at new.items))
+      ∙ ap (λ (rs : List Read). rs ++ map stream_part_at new.items) (sym (map-append Ok parts (part ∷ [])) ∙ ap oks (sym pushed));
+}
+
+pub all_parts : (bytes : List ℕ) (count : ℕ) (frames : Reading (List ℕ) FrameFault) (parts : List StreamPartValue) → AreParted bytes frames parts → frames.items ≡ [] → frames.fault ≡ None → length parts ≡ count
+    → AreFramed bytes count parts
+all_parts bytes count frames parts are none ended long = record {
+  messages = (frames_of bytes).items;
+  framed = λ i. record { items = (frames_of bytes).items; fault = (sym are.fault ∙ ended) i };
+  read = are.items ∙ ap (λ (ms : List (List ℕ)). oks parts ++ map stream_part_at ms) none ∙ append-nil (oks parts);
+  long = long;
+}
+
+module _ (bytes : List ℕ) (count : ℕ) (frames : Reading (List ℕ) FrameFault) (parts : List StreamPartValue) (are : AreParted bytes frames parts) (others : List StreamPartValue) (h : AreFramed bytes count others) where
+  messages : h.messages ≡ (frames_of bytes).items
+  messages = ap (λ (r : Reading (List ℕ) FrameFault). r.items) (sym h.framed)
+
+  read : oks others ≡ oks parts ++ map stream_part_at frames.items
+  read = sym h.read ∙ ap (map stream_part_at) messages ∙ are.items
+
+  lengths : length others ≡ length parts + length frames.items
+  lengths =
+      sym (length-map others Ok) ∙ ap length read
+      ∙ length-append (oks parts) (map stream_part_at frames.items)
+      ∙ ap (λ n. n + length (map stream_part_at frames.items)) (length-map parts Ok)
+      ∙ ap (λ n. length parts + n) (length-map frames.items stream_part_at)
+
+  -- a frame that is broken
+  pub no_broken_frame : (fault : FrameFault) → frames.fault ≡ Some fault → ⊥
+  no_broken_frame fault is = none-some fault (ap (λ (r : Reading (List ℕ) FrameFault). r.fault) (sym h.framed) ∙ sym are.fault ∙ is)
+
+  -- too few parts
+  pub no_fewer : frames.items ≡ [] → length parts ≢ count → ⊥
+  no_fewer none other =
+      let long : length frames.items ≡ 0 = ap length none in
+      let all : length others ≡ count = h.long in
+      let both : length others ≡ length parts + length frames.items = lengths in
+      other (omega (arith, long, all, both))
+
+  -- too many
+  pub no_more : (message : List ℕ) (rest : List (List ℕ)) → frames.items ≡ message ∷ rest → length parts ≡ count → ⊥
+  no_more message rest is long =
+      let some : length frames.items ≡ suc (length rest) = ap length is in
+      let all : length others ≡ count = h.long in
+      let both : length others ≡ length parts + length frames.items = lengths in
+      omega (arith, long, some, all, both)
+
+  -- a message that is no part
+  pub no_broken_part : (message : List ℕ) (rest : List (List ℕ)) → frames.items ≡ message ∷ rest → ((part : StreamPartValue) → ¬ IsPartOf message part) → ⊥
+  no_broken_part message rest is none = by parts others (read ∙ ap (λ (ms : List (List ℕ)). oks parts ++ map stream_part_at ms) is)
+    where
+      by : (ps os : List StreamPartValue) → oks os ≡ oks ps ++ stream_part_at message ∷ map stream_part_at rest → ⊥
+      by [] [] e = none-some (stream_part_at message) (ap (λ (rs : List Read). slice_get rs 0) e)
+      by [] (o ∷ os) e = none o (sym (same_Some (Ok o) (stream_part_at message) (ap (λ (rs : List Read). slice_get rs 0) e)))
+      by (p ∷ ps) [] e = none-some (Ok p) (ap (λ (rs : List Read). slice_get rs 0) e)
+      by (p ∷ ps) (o ∷ os) e = by ps os (ap tail_of e)
+        where
+          tail_of : List Read → List Read
+          tail_of [] = []
+          tail_of (r ∷ rs) = rs
+
+pub parts_there : (bytes rest : List ℕ) (count : ℕ) (parts : List StreamPartValue) → bytes ≡ opening ++ rest → AreFramed rest count parts → AreSoManyParts bytes count parts
+parts_there bytes rest count parts opened framed = record {
+  are = record { rest = rest; opened = opened; messages = framed.messages; framed = framed.framed; read = framed.read };
+  long = framed.long;
+}
+
+pub parts_framed : (bytes rest : List ℕ) (count : ℕ) (parts : List StreamPartValue) → bytes ≡ opening ++ rest → AreSoManyParts bytes count parts → AreFramed rest count parts
+parts_framed bytes rest count parts opened h = record {
+  messages = h.are.messages;
+  framed = ap frames_of (append_cancel_left opening rest h.are.rest (sym opened ∙ h.are.opened)) ∙ h.are.framed;
+  read = h.are.read;
+  long = h.long;
+}
+
+-- ---- a stream
+
+pub tables_said : (plan : PlanValue) (tables : List TablePartValue) (saved : SavedStream) → OfEachTable (HasHead plan saved.position) tables → AreMarksOf plan tables saved.marks
+    → AreRows plan (rows_from 0 tables) saved.rows → SayTables plan tables saved
+tables_said plan tables saved heads marks rows = record {
+  sound = record { tables = marks.count; marks = marks.are; rising = rows.rising; keyed = rows.keyed };
+  each_table = λ t part there.
+      let head : HasHead plan saved.position t part = heads t part there in
+      let mark : SaysMark plan t _ part = marks.each_table t part there in
+      record {
+        mark = mark.number;
+        answer = record {
+          fields = head.fields;
+          key_fields = head.key_fields;
+          position = head.stands;
+          rows = rows_said plan tables saved.rows rows t part there;
+          last = mark.last;
+        };
+      };
+}
+
+module _ (plan : PlanValue) (tables : List TablePartValue) (saved : SavedStream) (says : SayTables plan tables saved) where
+  pub heads_of : OfEachTable (HasHead plan saved.position) tables
+  heads_of t part there =
+      let one : SaysTable plan saved t part = says.each_table t part there in
+      record { fields = one.answer.fields; key_fields = one.answer.key_fields; stands = one.answer.position }
+
+  pub position_of : OfEachTable (IsAtPosition saved.position) tables
+  position_of t part there = let one : SaysTable plan saved t part = says.each_table t part there in one.answer.position
+
+  pub marks_of : AreMarksOf plan tables saved.marks
+  marks_of = record {
+    count = says.sound.tables;
+    are = says.sound.marks;
+    each_table = λ t part there. let one : SaysTable plan saved t part = says.each_table t part there in record { number = one.mark; last = one.answer.last };
+  }
+
+  pub rows_of : length tables ≡ length plan.tables → AreRows plan (rows_from 0 tables) saved.rows
+  rows_of long = rows_only plan tables saved.rows long says.sound.rising says.sound.keyed (λ t part there. let one : SaysTable plan saved t part = says.each_table t part there in one.answer.rows)
+
+  -- it is the position of the first table
+  pub position_same : (position : Position) → 1 ≤ length tables → ((part : TablePartValue) → slice_get tables 0 ≡ Some part → IsAtPosition position 0 part) → saved.position ≡ position
+  position_same position some first =
+      let there : (part : TablePartValue) × (slice_get tables 0 ≡ Some part) = at_inside tables 0 some in
+      same_Some saved.position position (ap result_ok (sym (position_of 0 there.0 there.1) ∙ first there.0 there.1))
+
+  -- so all tables have that one
+  pub heads_at : (position : Position) → 1 ≤ length tables → ((part : TablePartValue) → slice_get tables 0 ≡ Some part → IsAtPosition position 0 part) → OfEachTable (HasHead plan position) tables
+  heads_at position some first = subst (λ (p : Position). OfEachTable (HasHead plan p) tables) (position_same position some first) heads_of
+
+pub stream_said : (plan : PlanValue) (part : StreamPartValue) (tables : List TablePartValue) (saved : SavedStream) → part.shard ≡ plan.shard → AreTablesOf part (length plan.tables) tables
+    → SayTables plan tables saved → SaysStream plan saved part
+stream_said plan part tables saved shard are says = record {
+  sound = says.sound;
+  shard = shard;
+  count = ap length (sym are.are) ∙ are.long;
+  each_table = subst (OfEachTable (SaysTable plan saved)) are.are says.each_table;
+}
+
+pub tables_of_said : (plan : PlanValue) (part : StreamPartValue) (tables : List TablePartValue) (saved : SavedStream) → tables ≡ part.tables → SaysStream plan saved part → SayTables plan tables saved
+tables_of_said plan part tables saved are says = record { sound = says.sound; each_table = subst (OfEachTable (SaysTable plan saved)) (sym are) says.each_table }
+
+-- ---- streams
+
+-- the parts of the first s streams say this of them
+pub record SayFirst (plans : List PlanValue) (parts : List StreamPartValue) (s : ℕ) (saved : List SavedStream) : Type 0 where
+  pub count : length saved ≡ s
+  pub each_stream : (i : ℕ) (plan : PlanValue) (one : SavedStream) (part : StreamPartValue)
+      → slice_get plans i ≡ Some plan → slice_get saved i ≡ Some one → slice_get parts i ≡ Some part → SaysStream plan one part
+
+pub say_none : (plans : List PlanValue) (parts : List StreamPartValue) (saved : List SavedStream) → saved ≡ [] → SayFirst plans parts 0 saved
+say_none plans parts saved none = record {
+  count = ap length none;
+  each_stream = λ i plan one part here there at. absurd (none-some one (ap (λ (xs : List SavedStream). slice_get xs i) (sym none) ∙ there));
+}
+
+pub say_more : (plans : List PlanValue) (parts : List StreamPartValue) (s : ℕ) (old new : List SavedStream) (plan : PlanValue) (one : SavedStream) (part : StreamPartValue) → slice_get plans s ≡ Some plan
+    → slice_get parts s ≡ Some part → SaysStream plan one part → new ≡ old ++ one ∷ [] → SayFirst plans parts s old → SayFirst plans parts (s + 1) new
+say_more plans parts s old new plan one part here at says pushed first = record {
+  count = let long : length old ≡ s = first.count in ap length pushed ∙ length-append old (one ∷ []) ∙ ap (λ n. n + 1) long;
+  each_stream = λ i plan2 one2 part2 here2 there2 at2. elim (slice_get-push old one one2 i (ap (λ (xs : List SavedStream). slice_get xs i) (sym pushed) ∙ there2)) [
+    | inl earlier ↦ first.each_stream i plan2 one2 part2 here2 earlier.1 at2
+    | inr last ↦ (
+        let is : i ≡ s = last.0 ∙ first.count in
+        let plan_is : plan ≡ plan2 = same_Some plan plan2 (sym here ∙ ap (slice_get plans) (sym is) ∙ here2) in
+        let part_is : part ≡ part2 = same_Some part part2 (sym at ∙ ap (slice_get parts) (sym is) ∙ at2) in
+        subst (λ (p : PlanValue). SaysStream p one2 part2) plan_is (subst (λ (x : SavedStream). SaysStream plan x part2) last.1 (subst (SaysStream plan one) part_is says)))
+  ];
+}
+
+pub say_all : (plans : List PlanValue) (parts : List StreamPartValue) (s : ℕ) (saved : List SavedStream) → s ≡ length plans → SayFirst plans parts s saved → SayStreams plans parts saved
+say_all plans parts s saved is first = record { count = first.count ∙ is; each_stream = first.each_stream }
+
+-- nothing is said of all where nothing is said of one
+pub not_one : (plans : List PlanValue) (parts : List StreamPartValue) (s : ℕ) (plan : PlanValue) (part : StreamPartValue) → slice_get plans s ≡ Some plan → slice_get parts s ≡ Some part
+    → ((one : SavedStream) → ¬ SaysStream plan one part) → (saved : List SavedStream) → ¬ SayStreams plans parts saved
+not_one plans parts s plan part here at none saved says =
+    let inside : s < length plans = slice_get_within plans s plan here in
+    let long : length saved ≡ length plans = says.count in
+    let there : (one : SavedStream) × (slice_get saved s ≡ Some one) = at_inside saved s (omega (arith, inside, long)) in
+    none there.0 (says.each_stream s plan there.0 part here there.1 at)
+
+-- ---- the checkpoint
+
+pub checkpoint_said : (plans : List PlanValue) (bytes : List ℕ) (parts : List StreamPartValue) (saved : List SavedStream) → AreSoManyParts bytes (length plans) parts → SayStreams plans parts saved → IsCheckpoint plans bytes saved
+checkpoint_said plans bytes parts saved are says = record { parts = parts; are = are.are; count = are.long; same_count = says.count; each_stream = says.each_stream }
+
+pub parts_of_checkpoint : (plans : List PlanValue) (bytes : List ℕ) (saved : List SavedStream) → (h : IsCheckpoint plans bytes saved) → AreSoManyParts bytes (length plans) h.parts
+parts_of_checkpoint plans bytes saved h = record { are = h.are; long = h.count }
+
+pub streams_of_checkpoint : (plans : List PlanValue) (bytes : List ℕ) (parts : List StreamPartValue) (saved : List SavedStream) → AreParts bytes parts → IsCheckpoint plans bytes saved → SayStreams plans parts saved
+streams_of_checkpoint plans bytes parts saved are h =
+    let same : h.parts ≡ parts = same_parts bytes h.parts parts h.are are in
+    record { count = h.same_count; each_stream = λ s plan one part here there at. h.each_stream s plan one part here there (ap (λ (ps : List StreamPartValue). slice_get ps s) same ∙ at) }

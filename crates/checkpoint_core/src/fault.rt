@@ -1,0 +1,23 @@
+//! Why bytes aren't read as a checkpoint.
+
+ghost use Rattle.checkpoint_core.specs.declared.fault.ReadFault.TheVariants.{Memory};
+ghost use Rattle.std.specs.Prelude.{◌≡◌};
+
+use std::alloc::AllocError;
+
+/// Why bytes aren't read as a checkpoint.
+#[derive(Clone, Copy, Debug)]
+pub enum ReadFault {
+    /// The bytes are no checkpoint for these plans.
+    Broken,
+    /// A growth was refused.
+    Memory,
+}
+
+impl From<AllocError> for ReadFault {
+    ghost from_gives = { λ _ fault. fault ≡ Memory };
+
+    fn from(_: AllocError) -> ReadFault {
+        ReadFault::Memory
+    }
+}

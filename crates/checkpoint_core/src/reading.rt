@@ -1,0 +1,158 @@
+//! What the parts of a checkpoint say of streams.
+
+ghost use Rattle.std.specs.Prelude.{◌≡◌, ◌≤◌, ◌↔◌, ◌++◌, ◌∷◌, [], Some, map, length, slice_get, IsTrue, IfOk, IfErr, OnOk};
+ghost use Rattle.std.specs.Arc.{arc_value};
+ghost use Rattle.source_feed.specs.GroupValue.{Position};
+ghost use Rattle.vevent.specs.CheckpointPart.{TablePartValue};
+ghost use Rattle.checkpoint_laws.specs.Saved.{SavedStream};
+ghost use Rattle.checkpoint_laws.specs.Said.{SaysStream, IsCheckpoint};
+ghost use Rattle.checkpoint_core.specs.Fault.{IsNothing};
+ghost use Rattle.checkpoint_core.specs.declared.fault.ReadFault.TheVariants.{Memory};
+ghost use Rattle.checkpoint_core.specs.Private.Reading.{OfEachTable, IsAtPosition, AreTablesOf, SayTables, SayStreams};
+
+use crate::fault::ReadFault;
+use crate::head::{have_heads, position_in};
+use crate::marks::read_marks;
+use crate::parts::read_parts;
+use crate::rows::read_rows;
+use crate::saved::ReadStream;
+use filter_rule::Plan;
+use gtid_set::GtidSet;
+use std::alloc::Global;
+use std::sync::Arc;
+use vevent::{StreamPart, TablePart};
+
+/// The position of the first table's part.
+fn first_position(alloc: Global, tables: &[TablePart<'_>]) -> Result<GtidSet, ReadFault>
+    requires { 1 ≤ length tables.now }
+    ensures ok { IfOk result (λ position. (part : TablePartValue) → slice_get tables.now 0 ≡ Some part → IsAtPosition position 0 part) }
+    ensures err { IfErr result (IsNothing (λ (position : Position). OfEachTable (IsAtPosition position) tables.now)) }
+{
+    match position_in(alloc, tables[0].answer().gtid())? {
+        None => Err(ReadFault::Broken),
+        Some(position) => Ok(position),
+    }
+}
+
+/// What the parts of a stream's tables say of it.
+fn read_tables<'b>(
+    alloc: Global,
+    plan: &Plan,
+    tables: &[TablePart<'b>],
+) -> Result<ReadStream<'b>, ReadFault>
+    requires { length tables.now ≡ length plan.now.tables }
+    ensures ok { IfOk result (SayTables plan.now tables.now) }
+    ensures err { IfErr result (IsNothing (SayTables plan.now tables.now)) }
+{
+    plan.tables();
+    let position = first_position(alloc, tables)?;
+    if !have_heads(alloc, plan, tables, &position)? {
+        return Err(ReadFault::Broken);
+    }
+    let marks = read_marks(alloc, plan, tables)?;
+    let rows = read_rows(alloc, plan, tables)?;
+    Ok(ReadStream {
+        position,
+        marks,
+        rows,
+    })
+}
+
+/// The parts of a stream's tables, of which there are so many.
+fn tables_of<'b>(
+    alloc: Global,
+    part: &StreamPart<'b>,
+    count: usize,
+) -> Result<Vec<TablePart<'b>>, ReadFault>
+    ensures ok { IfOk result (λ tables. AreTablesOf part.now count tables.items) }
+    ensures err { IfErr result (IsNothing (AreTablesOf part.now count)) }
+{
+    let mut tables = Vec::new(alloc);
+    for table in part.tables() {
+        if tables.len() == count {
+            return Err(ReadFault::Broken);
+        }
+        if tables.push(table).is_err() {
+            return Err(ReadFault::Memory);
+        }
+    }
+    if tables.len() != count {
+        return Err(ReadFault::Broken);
+    }
+    Ok(tables)
+}
+
+/// Whether a part is of the plan's shard.
+fn is_of_shard(plan: &Plan, part: &StreamPart<'_>) -> bool
+    ensures { IsTrue result ↔ (part.now.shard ≡ plan.now.shard) }
+{
+    part.shard() == plan.shard()
+}
+
+/// What a stream's part says of it.
+fn read_stream<'b>(
+    alloc: Global,
+    plan: &Plan,
+    part: &StreamPart<'b>,
+) -> Result<ReadStream<'b>, ReadFault>
+    ensures ok { IfOk result (λ saved. SaysStream plan.now saved part.now) }
+    ensures err { IfErr result (IsNothing (λ (saved : SavedStream). SaysStream plan.now saved part.now)) }
+{
+    if !is_of_shard(plan, part) {
+        return Err(ReadFault::Broken);
+    }
+    let tables = tables_of(alloc, part, plan.tables().len())?;
+    let saved = read_tables(alloc, plan, &tables)?;
+    Ok(saved)
+}
+
+/// Puts what is said of a stream behind the others.
+fn push_stream<'b>(saved: &mut Vec<ReadStream<'b>>, one: ReadStream<'b>) -> Result<(), ReadFault>
+    ensures ok { OnOk result (saved.new.items ≡ saved.old.items ++ one.entry ∷ []) }
+    ensures err { IfErr result (λ fault. fault ≡ Memory) }
+{
+    if saved.push(one).is_err() {
+        return Err(ReadFault::Memory);
+    }
+    Ok(())
+}
+
+/// What the parts of streams say of them, each by its plan.
+fn read_streams<'b>(
+    alloc: Global,
+    plans: &[Arc<Plan>],
+    parts: &[StreamPart<'b>],
+) -> Result<Vec<ReadStream<'b>>, ReadFault>
+    requires { length parts.now ≡ length plans.now }
+    ensures ok { IfOk result (λ saved. SayStreams (map arc_value plans.now) parts.now saved.items) }
+    ensures err { IfErr result (IsNothing (SayStreams (map arc_value plans.now) parts.now)) }
+{
+    let mut saved = Vec::new(alloc);
+    for s in 0..parts.len() {
+        let one = read_stream(alloc, &plans[s], &parts[s])?;
+        push_stream(&mut saved, one)?;
+    }
+    Ok(saved)
+}
+
+/// Reads a checkpoint of streams under these plans: of each its position, how far its tables are copied, and
+/// its rows by rising key, lent from the bytes. Fields come in any order, and others are skipped.
+///
+/// `Broken` where the bytes are no checkpoint for these plans: other first bytes, a broken frame or message,
+/// bytes after the end, another number of parts; of a stream another shard, another number of tables, other
+/// columns, a position that can't be read or that differs between its tables, another mark or marks out of
+/// order, a last key that isn't one of its table or stands without its mark, rows of another width, without a
+/// key or whose keys don't rise. Any other error is want of memory. Takes memory for the keys and some words a
+/// row.
+pub fn read_checkpoint<'b>(
+    alloc: Global,
+    plans: &[Arc<Plan>],
+    bytes: &'b [u8],
+) -> Result<Vec<ReadStream<'b>>, ReadFault>
+    ensures said { IfOk result (λ saved. IsCheckpoint (map arc_value plans.now) bytes.now saved.items) }
+    ensures refused { IfErr result (IsNothing (IsCheckpoint (map arc_value plans.now) bytes.now)) }
+{
+    let parts = read_parts(alloc, bytes, plans.len())?;
+    let saved = read_streams(alloc, plans, &parts)?;
+    Ok(saved)
+}
