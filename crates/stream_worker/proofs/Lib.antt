@@ -13,3 +13,8 @@ pub mod UnionLaws
 pub mod Progress
 pub mod StepsOn
 pub mod OneStep
+pub mod SeatCourse
+pub mod SeatGoesOn
+pub mod JobLaws
+pub mod ManyRuns
+pub mod BoardRuns

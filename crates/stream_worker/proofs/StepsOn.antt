@@ -44,7 +44,7 @@ use Rattle.stream_worker.proofs.Progress.{copy-less, read-most, less-left, same-
 
 -- ---- the group that is read next
 
-plus_one : (n : ℕ) → n + 1 ≡ suc n
+pub plus_one : (n : ℕ) → n + 1 ≡ suc n
 plus_one n = omega arith
 
 abbrev good : PreparedValue → Result PreparedValue FeedFault
@@ -72,7 +72,7 @@ of_group feed planned group h = by (touches_of feed.plan planned.number planned.
     by (Err fault) e = absurd (none-some group (ap result_ok e))
 
 -- a group of a feed that is prepared stands there
-at_number : (feed : FeedValue) (i : ℕ) (r : Result PreparedValue FeedFault) → i < length feed.groups → prepared_at feed (suc i) ≡ r
+pub at_number : (feed : FeedValue) (i : ℕ) (r : Result PreparedValue FeedFault) → i < length feed.groups → prepared_at feed (suc i) ≡ r
     → (planned : PlannedGroupValue) × (slice_get feed.groups i ≡ Some planned) × (prepared feed.plan planned ≡ r)
 at_number feed i r less h = by (slice_get feed.groups i) refl h
   where
@@ -135,7 +135,7 @@ module _ (feed : FeedValue) (state : State) (whole : IsFeed feed) (reads : Reads
           subst (λ (p : Position). IsProperPart p planned.position) (sym one.2.position) (whole.order.growing (length state.list - 1) (length state.list) one.0 planned before one.1 at)
 
   -- the fault of the next group is that of the first one that isn't sound
-  first-unsound : (fault : FeedFault) → length state.list < length feed.groups → prepared_at feed (suc (length state.list)) ≡ Err fault → IsFirstUnsound feed fault
+  pub first-unsound : (fault : FeedFault) → length state.list < length feed.groups → prepared_at feed (suc (length state.list)) ≡ Err fault → IsFirstUnsound feed fault
   first-unsound fault less h =
       let one : (planned : PlannedGroupValue) × (slice_get feed.groups (length state.list) ≡ Some planned) × (prepared feed.plan planned ≡ Err fault) = at_number feed (length state.list) (Err fault) less h in
       let read : length state.list ≡ length (take reads.length_read (sound_groups feed)) = ap (λ (xs : List PreparedValue). length xs) reads.list in
@@ -158,7 +158,7 @@ answers (refusal ∷ later) answer h = by refusal.0 h.0 (answers later answer h.
     by false e rest = rest
 
 -- what an offer and every other step is as an event
-of_offer : (feed : FeedValue) (n : ℕ) (event : Event) → event_of feed (Offer n) ≡ Some event → (group : PreparedValue) × (prepared_at feed n ≡ Ok group) × (offer group ≡ event)
+pub of_offer : (feed : FeedValue) (n : ℕ) (event : Event) → event_of feed (Offer n) ≡ Some event → (group : PreparedValue) × (prepared_at feed n ≡ Ok group) × (offer group ≡ event)
 of_offer feed n event h = by (prepared_at feed n) refl h
   where
     by : (r : Result PreparedValue FeedFault) → prepared_at feed n ≡ r → option_map offer (result_ok r) ≡ Some event → (group : PreparedValue) × (prepared_at feed n ≡ Ok group) × (offer group ≡ event)
@@ -210,7 +210,7 @@ module _ (feed : FeedValue) (state : State) (whole : IsFeed feed) (reads : Reads
             (read-nearer state.snapshot was is (length state.list) (length feed.groups) leads.2 leads.3 leads.1))
 
   -- nothing in the stream's own state is against a step on its course
-  allowed-on : (step : Step) (event : Event) → Leads step → event_of feed step ≡ Some event → IsAllowed state event
+  pub allowed-on : (step : Step) (event : Event) → Leads step → event_of feed step ≡ Some event → IsAllowed state event
   allowed-on (Offer n) event leads h =
       let one : (group : PreparedValue) × (prepared_at feed n ≡ Ok group) × (offer group ≡ event) = of_offer feed n event h in
       subst (IsAllowed state) one.2 (allowed-offer n leads one.0 one.1)
@@ -251,7 +251,7 @@ module _ (feed : FeedValue) (state : State) (whole : IsFeed feed) (reads : Reads
   allowed-on Restart event leads h = absurd leads
 
   -- each step makes less what is left
-  left-on : (ties : Ties) (step : Step) (event : Event) → Leads step → event_of feed step ≡ Some event → left_of feed (state_after state event) is < left_of feed state was
+  pub left-on : (ties : Ties) (step : Step) (event : Event) → Leads step → event_of feed step ≡ Some event → left_of feed (state_after state event) is < left_of feed state was
   left-on ties (Offer n) event leads h =
       let one : (group : PreparedValue) × (prepared_at feed n ≡ Ok group) × (offer group ≡ event) = of_offer feed n event h in
       subst (λ e. left_of feed (state_after state e) is < left_of feed state was) one.2 (left-offer n leads one.0 one.1)

@@ -1,3 +1,5 @@
 -- What serves the crate's own code alone.
 pub mod Courses
 pub mod AllowedSteps
+pub mod SeatSteps
+pub mod SeatRuns

@@ -1,5 +1,5 @@
 -- Why a run of all streams to their feeds' ends is refused (this profile).
-use Rattle.std.specs.Prelude.{◌≡◌, ◌≢◌, ℕ, List, length, Some, Err, slice_get}
+use Rattle.std.specs.Prelude.{◌≡◌, ◌≢◌, ℕ, ◌<◌, List, length, Option, Some, None, IfSome, Err, slice_get}
 use Rattle.filter_rule.specs.PlanValue.{PlanValue}
 use Rattle.source_feed.specs.FaultNumber as feed
 use Rattle.source_feed.specs.declared.fault.FeedFault.{FeedFault}
@@ -44,3 +44,14 @@ abbrev pub IsRefusedRun : List PlanValue → List FeedValue → RunRefusal → T
 IsRefusedRun plans feeds FeedCount = length feeds ≢ length plans
 IsRefusedRun plans feeds WrongPlan = (length feeds ≡ length plans) × ¬ AreFed plans feeds
 IsRefusedRun plans feeds refusal = AreFed plans feeds × EndsRun feeds refusal
+
+-- the stream that is refused, where it is one of them
+abbrev pub refused_stream : RunRefusal → Option ℕ
+refused_stream (Unsound stream fault) = Some stream
+refused_stream (OwnedByOther stream key owner) = Some stream
+refused_stream refusal = None
+
+-- every lower stream can come to its feed's end: all groups of its feed are sound
+abbrev pub IsLowest : List FeedValue → RunRefusal → Type 0
+IsLowest feeds refusal =
+    IfSome (refused_stream refusal) (λ s. (t : ℕ) (feed : FeedValue) → t < s → slice_get feeds t ≡ Some feed → length (sound_groups feed) ≡ length feed.groups)

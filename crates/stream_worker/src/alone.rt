@@ -1,6 +1,6 @@
 //! All streams run to their feeds' ends, one after another.
 
-ghost use Rattle.std.specs.Prelude.{◌≡◌, ◌≢◌, ℕ, ◌<◌, ◌≤◌, IsTrue, false, length, map, slice_get, IfOk, IfErr, OnOk};
+ghost use Rattle.std.specs.Prelude.{◌≡◌, ◌≢◌, ℕ, ◌<◌, ◌≤◌, IsTrue, false, length, map, slice_get, None, IfOk, IfErr, OnOk};
 ghost use Rattle.std.specs.Arc.{arc_value};
 ghost use Rattle.board_laws.specs.Lawful.{IsLawful};
 ghost use Rattle.board_laws.specs.Meaning.{State};
@@ -8,7 +8,7 @@ ghost use Rattle.apply_core.specs.Feeds.{AreFed};
 ghost use Rattle.apply_core.specs.Shown.{all_rows};
 ghost use Rattle.source_feed.specs.Planned.{FeedValue};
 ghost use Rattle.stream_worker.specs.Ended.{HasEnded, IsFedBoard, AllHaveEnded, IsRowsUnion};
-ghost use Rattle.stream_worker.specs.RunRefused.{EndsRun, IsRefusedRun};
+ghost use Rattle.stream_worker.specs.RunRefused.{EndsRun, IsRefusedRun, refused_stream};
 ghost use Rattle.stream_worker.specs.Private.Courses.{left_on};
 ghost use Rattle.stream_worker.specs.Private.AllowedSteps.{EndsStream};
 
@@ -93,7 +93,7 @@ fn run_stream<'h>(
 }
 
 /// A board over the plans and their feeds, of which nothing is read.
-fn board_over<'h>(
+pub(crate) fn board_over<'h>(
     alloc: Global,
     plans: Vec<Arc<Plan>>,
     feeds: &[Feed<'h>],
@@ -102,6 +102,7 @@ fn board_over<'h>(
     requires few { length plans.items ≤ 64 }
     ensures fed { IfOk result (λ board. AreFed (map arc_value plans.items) feeds.now × IsFedBoard feeds.now board) }
     ensures refused { IfErr result (IsRefusedRun (map arc_value plans.items) feeds.now) }
+    ensures of_none { IfErr result (λ refusal. refused_stream refusal ≡ None) }
 {
     match run_schedule(alloc, plans, feeds, &[]) {
         Ok((board, _)) => Ok(board),

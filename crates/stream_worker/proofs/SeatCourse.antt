@@ -1,0 +1,304 @@
+-- A step of a seat's stream on its course: what it leaves, and how a refused one ends the course.
+use Rattle.std.proofs.Common.{◌≡◌, ◌≢◌, ◌==◌, ℕ, zero, suc, ◌+◌, ◌<◌, ◌≤◌, inl, inr, Bool, true, false, cond, List, [], ◌∷◌, ◌++◌, length, map, take, drop, Option, Some, None, Result, Ok, Err, slice_get, set, refl, sym, ap, subst, ◌∙◌, arith}
+use Rattle.std.proofs.lemmas.Bool.{eqb-false}
+use Rattle.std.proofs.lemmas.Grind.{flat_map-append}
+use Rattle.std.proofs.lemmas.List.{take-append-drop}
+use Rattle.std.proofs.lemmas.Option.{same_Some, none-some, slice_get-map, MatchOption-at_some}
+use borrow.Author.Tests.{eq-eqb, leb-true}
+use Rattle.std.specs.Prelude.{IsSomeAnd, MatchOption, nat_le}
+use Rattle.std.specs.Option.{option_or, option_map, option_and_then}
+use Rattle.std.specs.Result.{result_ok, ok_prefix}
+use Rattle.pk_copy.specs.KeyOrder.{key_cmp}
+use Rattle.pk_copy.specs.KeyValue.{KeyValue}
+use Rattle.pk_copy.specs.Marks.{is_inside, next_table}
+use Rattle.stream_core.specs.declared.step.Step.{Step}
+use Rattle.stream_core.specs.declared.step.Step.TheVariants.{Offer, Advance, OpenAt, CopyRows, Close, Restart}
+use Rattle.target_tables.specs.Contents.{value_at}
+use Rattle.target_tables.specs.Touches.{last_at, owner_in_the_way}
+use Rattle.source_feed.specs.declared.fault.FeedFault.{FeedFault}
+use Rattle.source_feed.specs.History.{RowValue, touches_in, passing, kept_at}
+use Rattle.source_feed.specs.Planned.{PlannedGroupValue, FeedValue, IsFeed}
+use Rattle.source_feed.specs.Touches.{PutValue, TouchValue, PreparedValue, prepared, prepared_at}
+use Rattle.source_feed.proofs.ImageLaws.{last_at-append}
+use Rattle.board_laws.specs.declared.answer.Answer.{Answer}
+use Rattle.board_laws.specs.declared.refusal.Refusal.{Refusal}
+use Rattle.board_laws.specs.declared.refusal.Refusal.TheVariants.{NoStream, WrongPlan, Diverged, Core, OwnedByOther, FeedCount, Memory}
+use Rattle.board_laws.specs.declared.step_refusal.StepRefusal.{StepRefusal}
+use Rattle.board_laws.specs.declared.step_refusal.StepRefusal.TheVariants.{Unprepared, Refused}
+use Rattle.board_laws.specs.Meaning.{State, TargetRows, Meaning}
+use Rattle.board_laws.specs.Cut.{cut_of, cut_in, own_row}
+use Rattle.board_laws.specs.Lawful.{standing_of, IsSoundState, IsLawful}
+use Rattle.board_laws.specs.Event.{Event, offer, advance, open_at, copy_rows, close, restart}
+use Rattle.board_laws.specs.Chunk.{takes_all, rows_taken, marks_behind}
+use Rattle.board_laws.specs.StateAfter.{state_after}
+use Rattle.board_laws.specs.Step.{due_at, IsMade, IsRefusedFor, IsClash}
+use Rattle.board_laws.specs.Reading.{ReadsFeed}
+use Rattle.board_laws.specs.Runs.{event_of, sound_groups, IsTouchedIn}
+use Rattle.board_laws.specs.Schedule.{Reply, IsUnprepared}
+use Rattle.board_laws.proofs.Lookups.{Ties}
+use Rattle.board_laws.proofs.Lists.{slice_get-set_same}
+use Rattle.board_laws.proofs.Making.{plan-after}
+use Rattle.stream_worker.specs.Knowing.{Laid, Knows, SawStreams, state_seen}
+use Rattle.stream_worker.specs.Rule.{Says, IsSaid}
+use Rattle.stream_worker.specs.RunRefused.{IsFirstUnsound}
+use Rattle.stream_worker.specs.Seats.{IsBoardStep, IsSeatStep}
+use Rattle.stream_worker.specs.Private.Courses.{LeadsOn, left_by}
+use Rattle.stream_worker.specs.Private.SeatSteps.{IsReading, IsSeatEvent, IsSeatReply, MeetsRow, EndsByItsBoard, EndsSeatStep}
+use Rattle.stream_worker.proofs.BoardSteps.{step_changes}
+use Rattle.stream_worker.proofs.SeatLaws.{own_as_seen}
+use Rattle.stream_worker.proofs.StepsOn.{plus_one, at_number, of_offer, first-unsound, Hinders, none-alone, allowed-on, left-on}
+
+-- ---- a stream still reads its feed
+
+no_place : {A P : Type 0} (i : ℕ) (x : A) → slice_get [] i ≡ Some x → P
+no_place i x e = cc
+
+no_error : {A E P : Type 0} (r : Result A E) (g : A) → Some r ≡ Some (Ok g) → result_ok r ≡ None → P
+no_error r g h none = absurd (none-some g (sym none ∙ ap result_ok (same_Some r (Ok g) h)))
+
+same_good : {A E : Type 0} (r : Result A E) (x g : A) → Some r ≡ Some (Ok g) → result_ok r ≡ Some x → x ≡ g
+same_good r x g h is = same_Some x g (sym is ∙ ap result_ok (same_Some r (Ok g) h))
+
+-- what stands behind a front of the results before the first error, if it is one more result, is the next of them
+one_longer : {A E : Type 0} (xs : List (Result A E)) (n : ℕ) (g : A) → slice_get xs (length (take n (ok_prefix xs))) ≡ Some (Ok g) → take n (ok_prefix xs) ++ g ∷ [] ≡ take (suc n) (ok_prefix xs)
+one_longer [] n g h = no_place 0 (Ok g) h
+one_longer (Err e ∷ xs) zero g h = no_error (Err e) g h refl
+one_longer (Err e ∷ xs) (suc n) g h = no_error (Err e) g h refl
+one_longer {A} {E} (Ok x ∷ xs) zero g h = ap (λ (y : A). y ∷ []) (sym (same_good (Ok x) x g h refl))
+one_longer {A} {E} (Ok x ∷ xs) (suc n) g h = ap (λ (ys : List A). x ∷ ys) (one_longer xs n g h)
+
+module _ (feed : FeedValue) (state : State) (reads : ReadsFeed feed state) (was is : ℕ) where
+  still : (after : State) → after.plan ≡ state.plan → after.list ≡ state.list → ReadsFeed feed after
+  still after plan list = record { plan = plan ∙ reads.plan; length_read = reads.length_read; list = list ∙ reads.list }
+
+  list-copied : (c : ℕ) → (state_after state (copy_rows c)).list ≡ state.list
+  list-copied c =
+      elim (takes_all state c) as (λ b. (cond b (record state { marks = next_table state.marks; snapshot = None }) (record state { marks = marks_behind (rows_taken state c) state.marks })).list ≡ state.list) [ true ↦ refl | false ↦ refl ]
+
+  reads-offer : (n : ℕ) → LeadsOn (standing_of state) (length feed.groups) was is (Offer n) → (group : PreparedValue) → prepared_at feed n ≡ Ok group → ReadsFeed feed (state_after state (offer group))
+  reads-offer n leads group h = by (nat_le group.number (length state.list))
+    where
+      next : (planned : PlannedGroupValue) × (slice_get feed.groups (length state.list) ≡ Some planned) × (prepared feed.plan planned ≡ Ok group)
+      next = at_number feed (length state.list) (Ok group) leads.1 (ap (prepared_at feed) (sym (leads.0 ∙ plus_one (length state.list))) ∙ h)
+
+      here : slice_get (map (prepared feed.plan) feed.groups) (length (take reads.length_read (sound_groups feed))) ≡ Some (Ok group)
+      here =
+          ap (λ (xs : List PreparedValue). slice_get (map (prepared feed.plan) feed.groups) (length xs)) (sym reads.list)
+          ∙ slice_get-map (prepared feed.plan) feed.groups (length state.list)
+          ∙ ap (λ (o : Option PlannedGroupValue). option_map (prepared feed.plan) o) next.1
+          ∙ ap (λ (r : Result PreparedValue FeedFault). Some r) next.2
+
+      by : (b : Bool) → ReadsFeed feed (cond b state (record { plan = state.plan; list = state.list ++ group ∷ []; applied = state.applied; marks = state.marks; snapshot = state.snapshot }))
+      by true = reads
+      by false = record {
+        plan = reads.plan;
+        length_read = suc reads.length_read;
+        list = ap (λ (xs : List PreparedValue). xs ++ group ∷ []) reads.list ∙ one_longer (map (prepared feed.plan) feed.groups) reads.length_read group here;
+      }
+
+  -- behind a step on its course a stream still reads its feed
+  reads-on : (step : Step) (event : Event) → LeadsOn (standing_of state) (length feed.groups) was is step → event_of feed step ≡ Some event → ReadsFeed feed (state_after state event)
+  reads-on (Offer n) event leads h =
+      let one : (group : PreparedValue) × (prepared_at feed n ≡ Ok group) × (offer group ≡ event) = of_offer feed n event h in
+      subst (λ e. ReadsFeed feed (state_after state e)) one.2 (reads-offer n leads one.0 one.1)
+  reads-on Advance event leads h = subst (λ e. ReadsFeed feed (state_after state e)) (same_Some advance event h) (still (state_after state advance) refl refl)
+  reads-on (OpenAt m) event leads h = subst (λ e. ReadsFeed feed (state_after state e)) (same_Some (open_at m) event h) (still (state_after state (open_at m)) refl refl)
+  reads-on (CopyRows c) event leads h = subst (λ e. ReadsFeed feed (state_after state e)) (same_Some (copy_rows c) event h) (still (state_after state (copy_rows c)) (plan-after state (copy_rows c)) (list-copied c))
+  reads-on Close event leads h = subst (λ e. ReadsFeed feed (state_after state e)) (same_Some close event h) (still (state_after state close) refl refl)
+  reads-on Restart event leads h = absurd leads
+
+-- ---- keys of a cut
+
+-- a key that a front of groups touches the groups touch
+pub touched_front : (k : ℕ) (groups : List PreparedValue) (key : KeyValue) → IsTouchedIn (take k groups) key → IsTouchedIn groups key
+touched_front k groups key touched =
+    λ none.
+    touched
+    (right_none (last_at key_cmp (touches_in (drop k groups)) key) (last_at key_cmp (touches_in (take k groups)) key)
+    (sym (last_at-append (touches_in (take k groups)) (touches_in (drop k groups)) key)
+    ∙ ap (λ (ts : List TouchValue). last_at key_cmp ts key) (sym (flat_map-append (λ (g : PreparedValue). g.touches) (take k groups) (drop k groups)))
+    ∙ ap (λ (gs : List PreparedValue). last_at key_cmp (touches_in gs) key) (take-append-drop k groups)
+    ∙ none))
+  where
+    right_none : (a b : Option (Option PutValue)) → option_or a b ≡ None → b ≡ None
+    right_none None b e = e
+    right_none (Some x) b e = absurd (none-some x (sym e))
+
+-- a key with a row in a stream's cut is one that its applied groups touch
+pub cut_front : (state : State) (key : KeyValue) (row : RowValue) → cut_of state key ≡ Some row → IsTouchedIn (take state.applied state.list) key
+cut_front state key row e = λ untouched. none-some row (sym (no_row (is_inside state.marks key) untouched) ∙ e)
+  where
+    no_row : (b : Bool) → last_at key_cmp (touches_in (take state.applied state.list)) key ≡ None → cond b (kept_at state.list state.applied key) None ≡ None
+    no_row true untouched = ap (λ (t : Option (Option PutValue)). option_and_then passing (option_and_then (λ put. put) t)) untouched
+    no_row false untouched = refl
+
+-- a key that a front of a stream's list touches its feed touches
+pub read_touched : (feed : FeedValue) (state : State) (k : ℕ) (key : KeyValue) → ReadsFeed feed state → IsTouchedIn (take k state.list) key → IsTouchedIn (sound_groups feed) key
+read_touched feed state k key reads touched =
+    touched_front reads.length_read (sound_groups feed) key (subst (λ (groups : List PreparedValue). IsTouchedIn groups key) reads.list (touched_front k state.list key touched))
+
+-- a row in the way is another stream's, at a key where one is due
+pub record IsInTheWay (s : ℕ) (due : Option RowValue) (there : Option (ℕ × RowValue)) (owner : ℕ) : Type 0 where
+  pub row : RowValue
+  pub is_due : due ≡ Some row
+  pub old : RowValue
+  pub stands : there ≡ Some (owner, old)
+  pub other : owner ≢ s
+
+in_the_way : (s : ℕ) (due : Option RowValue) (there : Option (ℕ × RowValue)) (owner : ℕ) → owner_in_the_way s (option_map Some due) there ≡ Some owner → IsInTheWay s due there owner
+in_the_way s None there owner h = absurd (none-some owner h)
+in_the_way s (Some row) None owner h = absurd (none-some owner h)
+in_the_way s (Some row) (Some x) owner h = by (x.0 == s) refl h
+  where
+    by : (b : Bool) → (x.0 == s) ≡ b → cond b None (Some x.0) ≡ Some owner → IsInTheWay s (Some row) (Some x) owner
+    by true e h = absurd (none-some owner h)
+    by false e h =
+        let same : x.0 ≡ owner = same_Some x.0 owner h in
+        record { row = row; is_due = refl; old = x.1; stands = ap (λ (o : ℕ). Some (o, x.1)) same; other = λ is. eqb-false x.0 s e (same ∙ is) }
+
+-- ---- a step of a seat
+
+module _ (feed : FeedValue) (whole : IsFeed feed) (before after : Knows) (s : ℕ) (own : before.streams ≡ s ∷ []) (state : State) (here : state_seen before s ≡ Some state)
+    (reads : ReadsFeed feed state) (was is : ℕ) (step : Step) (leads : LeadsOn (standing_of state) (length feed.groups) was is step) where
+  module _ (result : Result Answer Refusal) (h : IsSeatEvent feed before s step result after) where
+    abbrev stepped : IsSeatStep before s h.event result after
+    stepped = h.stepped
+
+    taken_here : slice_get stepped.taken.board s ≡ Some state
+    taken_here = own_as_seen before s stepped.taken (standing_of state) own stepped.says (ap (option_map standing_of) here) ∙ here
+
+    sound-here : IsSoundState state
+    sound-here = stepped.step.lawful.sound s state taken_here
+
+    -- the board has as many streams as before
+    event-many : (n : ℕ) → SawStreams before n → SawStreams after n
+    event-many n many laid e =
+        ap (λ (l : Laid). length l.board) (sym (same_Some stepped.left laid (sym stepped.seen ∙ e)))
+        ∙ (step_changes stepped.taken stepped.left s h.event result stepped.step).long
+        ∙ by before.seen refl stepped.says here
+      where
+        by : (o : Option Laid) → before.seen ≡ o → MatchOption o (before.streams ≡ []) (λ seen. IsSaid before.streams seen stepped.taken)
+            → option_and_then (λ (laid : Laid). slice_get laid.board s) o ≡ Some state → length stepped.taken.board ≡ n
+        by None e said f = absurd (none-some state f)
+        by (Some seen) e said f = said.long ∙ many seen e
+
+  abbrev seen_state : Option Laid → Option State
+  seen_state o = option_and_then (λ (laid : Laid). slice_get laid.board s) o
+
+  -- a step that is made leaves a stream that reads its feed, and less of the course
+  module _ (ties : Ties) (answer : Answer) (h : IsSeatEvent feed before s step (Ok answer) after) where
+    abbrev made : IsMade (record { streams = h.stepped.taken.board; rows = h.stepped.step.rows }) s h.event answer (record { streams = h.stepped.left.board; rows = h.stepped.step.rows_left })
+    made = h.stepped.step.step
+
+    next-state : state_seen after s ≡ Some (state_after state h.event)
+    next-state =
+        ap seen_state h.stepped.seen
+        ∙ ap (λ (board : List State). slice_get board s) made.streams
+        ∙ ap (λ (x : State). slice_get (set h.stepped.taken.board s (state_after x h.event)) s) (same_Some made.state state (sym made.stream ∙ taken_here (Ok answer) h))
+        ∙ slice_get-set_same h.stepped.taken.board s (state_after state h.event) state (taken_here (Ok answer) h)
+
+    made-follows : IsSomeAnd (state_seen after s) (IsReading feed)
+    made-follows =
+        subst (λ (o : Option State). IsSomeAnd o (IsReading feed)) (sym next-state)
+        (record { reads = reads-on feed state reads was is step h.event leads h.of_step; sound = made.lawful.sound s (state_after state h.event) (sym (ap seen_state h.stepped.seen) ∙ next-state) })
+
+    made-nearer : left_by (Some feed) (state_seen after s) is < left_by (Some feed) (state_seen before s) was
+    made-nearer =
+        subst (λ (o : Option State). left_by (Some feed) o is < left_by (Some feed) (state_seen before s) was) (sym next-state)
+        (subst (λ (o : Option State). left_by (Some feed) (Some (state_after state h.event)) is < left_by (Some feed) o was) (sym here)
+        (left-on feed state whole reads (sound-here (Ok answer) h) was is ties step h.event leads h.of_step))
+
+  -- a refused step leaves the stream as it was
+  refused-stays : (refusal : Refusal) → IsSeatEvent feed before s step (Err refusal) after → state_seen after s ≡ Some state
+  refused-stays refusal h =
+      ap seen_state h.stepped.seen ∙ ap (λ (board : Meaning). slice_get board.streams s) h.stepped.step.step.1 ∙ taken_here (Err refusal) h
+
+  -- ---- how a refused step ends the course
+
+  module _ (refusal : Refusal) (h : IsSeatEvent feed before s step (Err refusal) after) where
+    abbrev old : Meaning
+    old = record { streams = h.stepped.taken.board; rows = h.stepped.step.rows }
+
+    refused-for : IsRefusedFor old s state h.event refusal
+    refused-for = MatchOption-at_some _ (λ (x : State). IsRefusedFor old s x h.event refusal) state (taken_here (Err refusal) h) h.stepped.step.step.0
+
+    hinders : Hinders refusal
+    hinders = none-alone old s state h.event refusal (allowed-on feed state whole reads (sound-here (Err refusal) h) was is step h.event leads h.of_step) refused-for
+
+  meets-row : (key : KeyValue) (owner : ℕ) → IsSeatEvent feed before s step (Err (OwnedByOther key owner)) after → MeetsRow feed after s key owner
+  meets-row key owner h = by (slice_get h.stepped.taken.board owner) refl cut
+    where
+      board : Meaning
+      board = old (OwnedByOther key owner) h
+
+      clash : IsClash h.stepped.step.rows s state h.event key owner
+      clash = refused-for (OwnedByOther key owner) h
+
+      way : IsInTheWay s (cut_of (state_after state h.event) key) (value_at key_cmp h.stepped.step.rows key) owner
+      way = in_the_way s (cut_of (state_after state h.event) key) (value_at key_cmp h.stepped.step.rows key) owner clash.least.here
+
+      touched : IsTouchedIn (sound_groups feed) key
+      touched =
+          read_touched feed (state_after state h.event) (state_after state h.event).applied key (reads-on feed state reads was is step h.event leads h.of_step)
+          (cut_front (state_after state h.event) key way.row way.is_due)
+
+      cut : cut_in board owner key ≡ Some way.old
+      cut = sym (h.stepped.step.lawful.cuts owner key) ∙ ap (own_row owner) way.stands ∙ ap (λ b. cond b (Some way.old) None) (eq-eqb owner owner refl)
+
+      by : (o : Option State) → slice_get h.stepped.taken.board owner ≡ o → option_and_then (λ x. cut_of x key) o ≡ Some way.old → MeetsRow feed after s key owner
+      by None at e = absurd (none-some way.old e)
+      by (Some x) at e = record {
+        touched = touched;
+        laid = h.stepped.left;
+        seen = h.stepped.seen;
+        other = way.other;
+        state = x;
+        there = ap (λ (m : Meaning). slice_get m.streams owner) h.stepped.step.step.1 ∙ at;
+        row = way.old;
+        cut = e;
+      }
+
+  ends-by-board : (refusal : Refusal) → IsSeatEvent feed before s step (Err refusal) after → EndsByItsBoard feed after s refusal
+  ends-by-board NoStream h = hinders NoStream h
+  ends-by-board WrongPlan h = hinders WrongPlan h
+  ends-by-board Diverged h = hinders Diverged h
+  ends-by-board (Core refusal) h = hinders (Core refusal) h
+  ends-by-board (OwnedByOther key owner) h = meets-row key owner h
+  ends-by-board FeedCount h = hinders FeedCount h
+  ends-by-board Memory h = tt
+
+  unsound : (fault : FeedFault) → IsUnprepared feed step fault → IsFirstUnsound feed fault
+  unsound fault u = by step leads u
+    where
+      by : (st : Step) → LeadsOn (standing_of state) (length feed.groups) was is st → IsUnprepared feed st fault → IsFirstUnsound feed fault
+      by (Offer n) l u = first-unsound feed state whole reads fault l.1 (ap (prepared_at feed) (sym (l.0 ∙ plus_one (length state.list))) ∙ u)
+      by Advance l u = absurd u
+      by (OpenAt m) l u = absurd u
+      by (CopyRows c) l u = absurd u
+      by Close l u = absurd u
+      by Restart l u = absurd u
+
+  -- ---- a reply
+
+  pub reply-many : (reply : Reply) → IsSeatReply feed before s step reply after → (n : ℕ) → SawStreams before n → SawStreams after n
+  reply-many (Ok answer) h n many = event-many (Ok answer) h n many
+  reply-many (Err (Unprepared fault)) h n many = subst (λ v. SawStreams v n) (sym h.1) many
+  reply-many (Err (Refused refusal)) (inl h) n many = subst (λ v. SawStreams v n) (sym h.1) many
+  reply-many (Err (Refused refusal)) (inr h) n many = event-many (Err refusal) h n many
+
+  reply-stays : (refusal : StepRefusal) → IsSeatReply feed before s step (Err refusal) after → state_seen after s ≡ Some state
+  reply-stays (Unprepared fault) h = ap (λ v. state_seen v s) h.1 ∙ here
+  reply-stays (Refused refusal) (inl h) = ap (λ v. state_seen v s) h.1 ∙ here
+  reply-stays (Refused refusal) (inr h) = refused-stays refusal h
+
+  pub reply-follows : Ties → IsSoundState state → (reply : Reply) → IsSeatReply feed before s step reply after → IsSomeAnd (state_seen after s) (IsReading feed)
+  reply-follows ties sound (Ok answer) h = made-follows ties answer h
+  reply-follows ties sound (Err refusal) h = subst (λ (o : Option State). IsSomeAnd o (IsReading feed)) (sym (reply-stays refusal h)) (record { reads = reads; sound = sound })
+
+  pub reply-nearer : Ties → (answer : Answer) → IsSeatReply feed before s step (Ok answer) after → left_by (Some feed) (state_seen after s) is < left_by (Some feed) (state_seen before s) was
+  reply-nearer ties answer h = made-nearer ties answer h
+
+  pub reply-ends : (refusal : StepRefusal) → IsSeatReply feed before s step (Err refusal) after → EndsSeatStep feed after s refusal
+  reply-ends (Unprepared fault) h = unsound fault h.0
+  reply-ends (Refused refusal) (inl h) = subst (EndsByItsBoard feed after s) (sym h.0) tt
+  reply-ends (Refused refusal) (inr h) = ends-by-board refusal h
