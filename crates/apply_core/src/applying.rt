@@ -18,8 +18,11 @@ use crate::clashing::refusal_by;
 use crate::puts::Puts;
 use crate::stream::Stream;
 use board_laws::{Refusal, steps_keep_boards_lawful};
+use pk_copy::Key;
+use row_view::RowBuf;
 use std::alloc::{AllocError, Global};
 use stream_core::Step;
+use target_tables::Freed;
 
 impl<'h> Stream<'h> {
     /// What the next group leaves at the copied keys, in memory of its own. An error is want of memory.
@@ -97,23 +100,32 @@ impl<'h> Board<'h> {
     {
         match puts_of_next_on(alloc, &self.streams, s) {
             Err(refusal) => Err(refusal),
-            Ok(puts) => self.advance_by(alloc, s, puts),
+            Ok(puts) => match self.advance_by(alloc, s, puts) {
+                Err(refusal) => Err(refusal),
+                Ok((number, _)) => Ok(number),
+            },
         }
     }
 
     /// The same with puts that were built before, so that a target that is shared needn't be held
     /// meanwhile. That they are what the step does is the caller's; where there is no such stream, or its
-    /// own state is against the step, they don't matter. Takes memory for new rows' places alone.
-    pub fn advance_by(&mut self, alloc: Global, s: u8, puts: Puts) -> Result<u32, Refusal>
+    /// own state is against the step, they don't matter. Takes memory for new rows' places alone. With the
+    /// group's number comes what the step replaced and took away, to be dropped.
+    pub fn advance_by(
+        &mut self,
+        alloc: Global,
+        s: u8,
+        puts: Puts,
+    ) -> Result<(u32, Freed<Key, RowBuf>), Refusal>
         requires { IfSome (slice_get self.old.streams s) (λ state. DoAsStep state advance puts.changes.items) }
-        ensures { IsStep self.old s advance (answered answers.Answer.Applied result) self.new }
+        ensures { IsStep self.old s advance (answered (λ made. answers.Answer.Applied made.0) result) self.new }
     {
         steps_keep_boards_lawful();
         match may_advance(&self.streams, s) {
             Err(refusal) => Err(refusal),
             Ok(()) => match self.rows.apply(alloc, s, puts.changes) {
                 Err(fault) => Err(refusal_by(fault)),
-                Ok(()) => Ok(advance_on(&mut self.streams, s)),
+                Ok(freed) => Ok((advance_on(&mut self.streams, s), freed)),
             },
         }
     }

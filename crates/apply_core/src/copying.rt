@@ -15,9 +15,11 @@ use crate::clashing::refusal_by;
 use crate::stream::Stream;
 use crate::taking::{Chunk, Move};
 use board_laws::{Copied, Refusal, steps_keep_boards_lawful};
-use pk_copy::{CopyState, keys_tie_where_they_are_equal};
+use pk_copy::{CopyState, Key, keys_tie_where_they_are_equal};
+use row_view::RowBuf;
 use std::alloc::{AllocError, Global};
 use stream_core::Step;
+use target_tables::Freed;
 
 impl Move {
     /// The same move, in memory of its own. An error is want of memory.
@@ -127,7 +129,10 @@ impl<'h> Board<'h> {
     {
         match self.next_chunk(alloc, s, c) {
             Err(refusal) => Err(refusal),
-            Ok(chunk) => self.copy_by(alloc, s, c, chunk),
+            Ok(chunk) => match self.copy_by(alloc, s, c, chunk) {
+                Err(refusal) => Err(refusal),
+                Ok((copied, _)) => Ok(copied),
+            },
         }
     }
 
@@ -159,15 +164,21 @@ impl<'h> Board<'h> {
 
     /// The same as `copy_chunk` with a chunk that was taken before. That it is the stream's next chunk is the
     /// caller's. Refused 71 where a row is due where a row of another stream stands. Takes memory for new
-    /// rows' places alone.
-    pub fn copy_by(&mut self, alloc: Global, s: u8, c: u32, chunk: Chunk) -> Result<Copied, Refusal>
+    /// rows' places alone. With what was copied comes what the step replaced, to be dropped.
+    pub fn copy_by(
+        &mut self,
+        alloc: Global,
+        s: u8,
+        c: u32,
+        chunk: Chunk,
+    ) -> Result<(Copied, Freed<Key, RowBuf>), Refusal>
         requires { IsChunkFor self.old.streams s c chunk }
-        ensures { IsStep self.old s (copy_rows c) (answered answers.Answer.Copied result) self.new }
+        ensures { IsStep self.old s (copy_rows c) (answered (λ made. answers.Answer.Copied made.0) result) self.new }
     {
         steps_keep_boards_lawful();
         match self.rows.apply(alloc, s, chunk.puts) {
             Err(fault) => Err(refusal_by(fault)),
-            Ok(()) => Ok(copied_on(&mut self.streams, s, c, chunk.step)),
+            Ok(freed) => Ok((copied_on(&mut self.streams, s, c, chunk.step), freed)),
         }
     }
 

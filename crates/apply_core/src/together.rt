@@ -33,7 +33,7 @@ pub(crate) fn put_stream(
 {
     keys_tie_where_they_are_equal();
     match rows.apply(alloc, s, puts) {
-        Ok(()) => Ok(()),
+        Ok(_) => Ok(()),
         Err(TableFault::Memory) => Err(JoinFault::Memory),
         Err(TableFault::OwnedByOther { key, owner }) => {
             Err(JoinFault::OwnedByOther { key, owner })

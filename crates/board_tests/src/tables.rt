@@ -10,7 +10,7 @@ fn touch<K: Ord + Drop, R: Drop>(
     touches: Vec<(K, Option<R>)>,
 ) -> Option<u8> {
     match tables.apply(alloc, stream, touches) {
-        Ok(()) => None,
+        Ok(_) => None,
         Err(fault) => Some(fault.number()),
     }
 }
@@ -101,7 +101,7 @@ fn staged_touches_wait_for_their_commit(rt: HostRuntime) -> Result<(), Fail> {
     match tables.stage(alloc, 2, vec![in alloc; (7, Some(70)), (5, Some(50))]?) {
         Ok(staged) => {
             assert_eq!(rt; tables.is_empty(), true);
-            tables.commit(staged);
+            drop(tables.commit(staged));
         }
         Err(_) => assert!(rt; false, "no row is in the way"),
     }

@@ -1,6 +1,6 @@
 -- What the touches of a group leave in an image, and the rows that groups leave, one group on.
 use Rattle.std.proofs.Common.{◌≡◌, ◌==◌, ℕ, suc, ◌+◌, ◌<◌, add-one, subst, Bool, true, false, cond, List, [], ◌∷◌, ◌++◌, length, map, take, Option, Some, None, slice_get, refl, sym, ap, ◌∙◌}
-use Rattle.std.specs.Prelude.{IfSome, Result, Ok, Err, OnOk}
+use Rattle.std.specs.Prelude.{IfSome}
 use Rattle.std.specs.declared.cmp.Ordering.TheVariants.{Less}
 use Rattle.std.specs.List.{AllByRecursion}
 use Rattle.std.specs.Option.{option_or, option_map, option_and_then}
@@ -151,11 +151,3 @@ image_after old new changes touches given before seen made same own h k =
     row_after old new touches own
     (λ q. h q ∙ ap (λ (cs : List (KeyValue × Option RowValue)). touched 0 (last_at key_cmp cs q) (value_at key_cmp old q)) (made ∙ ap (λ (ts : List TouchValue). map change_of ts) same)) k
     ∙ ap (λ (rows : ImageRows). kept_after (last_at key_cmp touches k) (row_in rows k)) seen
-
-pub on-ok : {T E P : Type 0} (r : Result T E) → P → OnOk r P
-on-ok (Ok x) p = p
-on-ok (Err e) p = tt
-
-pub on-err : {T E : Type 0} (P : Type 0) (r : Result T E) (e : E) → r ≡ Err e → OnOk r P
-on-err P (Ok x) e h = absurd (cc)
-on-err P (Err other) e h = tt

@@ -101,7 +101,7 @@ impl<'h> Image<'h> {
     {
         let changes = changes_of(alloc, group.touches())?;
         match self.rows.apply(alloc, 0, changes) {
-            Ok(()) => Ok(()),
+            Ok(_) => Ok(()),
             Err(TableFault::Memory) => Err(AllocError),
             Err(TableFault::OwnedByOther { .. }) => unreachable!(),
         }

@@ -22,6 +22,7 @@ use std::alloc::{AllocError, Global};
 use std::marker::Model;
 use std::sync::Arc;
 use stream_core::Cursor;
+use target_tables::Freed;
 
 /// The board and the number of seats that are given out. It is what the lock's channel carries; its board
 /// is lawful, so whoever receives it has a lawful board.
@@ -93,26 +94,30 @@ impl<'h> Deal<'h> {
     }
 
     /// The next group of a stream of the board is applied. It was looked up, and what it puts was built,
-    /// before the board was taken.
+    /// before the board was taken. With the receipt comes what it replaced, to be dropped once the board is
+    /// put back.
     pub(crate) fn advance(
         &mut self,
         alloc: Global,
         s: u8,
         next: Next<'h>,
-    ) -> Result<Receipt<'h>, Refusal>
+    ) -> Result<(Receipt<'h>, Freed<Key, RowBuf>), Refusal>
         requires { IsSomeAnd (slice_get self.old.board s) (λ state. IsNextOf state next) }
-        ensures step { IsBoardStep self.old s advance (answered (λ receipt. answers.Answer.Applied receipt.number) result) self.new }
-        ensures receipt { IfOk result (λ receipt. IsSomeAnd (slice_get self.new.board s) (λ state. IsReceiptOf s state receipt.stream receipt.number (arc_value receipt.group))) }
+        ensures step { IsBoardStep self.old s advance (answered (λ made. answers.Answer.Applied made.0.number) result) self.new }
+        ensures receipt { IfOk result (λ made. IsSomeAnd (slice_get self.new.board s) (λ state. IsReceiptOf s state made.0.stream made.0.number (arc_value made.0.group))) }
     {
         let Next { group, puts } = next;
         let result = self.board.advance_by(alloc, s, puts);
         self.board.is_lawful();
         match (result, group) {
-            (Ok(number), Some(group)) => Ok(Receipt {
-                stream: s,
-                number,
-                group,
-            }),
+            (Ok((number, freed)), Some(group)) => {
+                let receipt = Receipt {
+                    stream: s,
+                    number,
+                    group,
+                };
+                Ok((receipt, freed))
+            }
             (Ok(_), None) => unreachable!(),
             (Err(refusal), _) => Err(refusal),
         }
@@ -165,13 +170,14 @@ impl<'h> Deal<'h> {
     }
 
     /// Rows are copied out of the snapshot of a stream of the board; with what was copied a copy of the
-    /// stream's marks is given, which was made before.
+    /// stream's marks is given, which was made before, and what the rows replaced, to be dropped once the
+    /// board is put back.
     pub(crate) fn copy_chunk(
         &mut self,
         alloc: Global,
         s: u8,
         c: u32,
-    ) -> Result<(Copied, CopyState), Refusal>
+    ) -> Result<(Copied, CopyState, Freed<Key, RowBuf>), Refusal>
         requires { IsSome (slice_get self.old.board s) }
         ensures step { IsBoardStep self.old s (copy_rows c) (answered (λ made. answers.Answer.Copied made.0) result) self.new }
         ensures marks { IfOk result (λ made. IsSomeAnd (slice_get self.old.board s) (λ state. made.1 ≡ (state_after state (copy_rows c)).marks)) }
@@ -188,7 +194,7 @@ impl<'h> Deal<'h> {
         self.board.is_lawful();
         match result {
             Err(refusal) => Err(refusal),
-            Ok(copied) => Ok((copied, marks)),
+            Ok((copied, freed)) => Ok((copied, marks, freed)),
         }
     }
 

@@ -68,7 +68,8 @@ impl<'h> Shared<'h> {
     }
 
     /// The next group of the seat's stream is applied, with its rows; the answer is its receipt. Refused as the
-    /// board's call of this name, on the seat's own state.
+    /// board's call of this name, on the seat's own state. What it puts is built before the board is taken, and
+    /// what it replaced is dropped once the board is put back.
     pub fn advance<R: Wait>(
         &self,
         alloc: Global,
@@ -87,7 +88,13 @@ impl<'h> Shared<'h> {
         let result = deal.advance(alloc, seat.stream, next);
         seat.cursor = deal.cursor(seat.stream);
         self.lock.put_back(rt, &mut seat.pass, deal);
-        result
+        match result {
+            Err(refusal) => Err(refusal),
+            Ok((receipt, freed)) => {
+                drop(freed);
+                Ok(receipt)
+            }
+        }
     }
 
     /// The seat's applied number, and the row of its stream at a key, in memory of its own. It changes nothing.
@@ -132,7 +139,7 @@ impl<'h> Shared<'h> {
     }
 
     /// Up to `c` rows are copied out of the snapshot of the seat's stream. Refused as the board's call of this
-    /// name, on the seat's own state.
+    /// name, on the seat's own state. What they replaced is dropped once the board is put back.
     pub fn copy_chunk<R: Wait>(
         &self,
         alloc: Global,
@@ -150,7 +157,8 @@ impl<'h> Shared<'h> {
         self.lock.put_back(rt, &mut seat.pass, deal);
         match result {
             Err(refusal) => Err(refusal),
-            Ok((copied, marks)) => {
+            Ok((copied, marks, freed)) => {
+                drop(freed);
                 seat.outline.mark(marks);
                 Ok(copied)
             }

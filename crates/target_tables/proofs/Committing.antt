@@ -1,5 +1,7 @@
 -- Making the changes of a group one after another.
-use Rattle.std.proofs.Common.{◌≡◌, ℕ, ◌+◌, false, cond, List, [], ◌∷◌, ◌++◌, Option, Some, None, Ordering, refl, sym, ap, ◌∙◌, add_assoc, arith}
+use Rattle.std.proofs.Common.{◌≡◌, ℕ, ◌+◌, ◌-◌, ◌<◌, ◌≤◌, false, cond, List, [], ◌∷◌, ◌++◌, Option, Some, None, Ordering, length, take, get_or, refl, sym, ap, ◌∙◌, add_assoc, arith}
+use Rattle.std.proofs.lemmas.List.{take-take, take-set, take_more}
+use Rattle.std.specs.List.{swap_remove}
 use Rattle.std.proofs.lemmas.Cmp.{tied_back, tied_itself}
 use Rattle.std.specs.declared.cmp.Ordering.TheVariants.{Less, Equal, Greater}
 use Rattle.std.specs.Cmp.{IsTotalOrder}
@@ -17,6 +19,15 @@ new_keys-push cmp entries [] x = omega arith
 new_keys-push cmp entries (y ∷ xs) x =
     ap (λ n. cond (is_new y.1 (value_at cmp entries y.0)) 1 0 + n) (new_keys-push cmp entries xs x)
     ∙ sym (add_assoc (cond (is_new y.1 (value_at cmp entries y.0)) 1 0) (new_keys cmp entries xs) (cond (is_new x.1 (value_at cmp entries x.0)) 1 0))
+
+-- what stands before an element stays where the last one takes the element's place
+pub take_swapped : {X : Type 0} (xs : List X) (i : ℕ) (d : X) → i < length xs → take i (swap_remove xs i d) ≡ take i xs
+take_swapped xs i d h = take-take i (length xs - 1) _ (omega arith) ∙ take-set xs i _
+
+-- the last of the first n elements
+pub taken_apart : {X : Type 0} (xs : List X) (n : ℕ) (x : X) → 0 < n → n ≤ length xs → x ≡ get_or xs (n - 1) x → take n xs ≡ take (n - 1) xs ++ x ∷ []
+taken_apart xs n x some most is =
+    ap (λ m. take m xs) (let one : n ≡ n - 1 + 1 = omega arith in one) ∙ take_more xs (n - 1) x (omega arith) ∙ ap (λ y. take (n - 1) xs ++ y ∷ []) (sym is)
 
 -- the changes that are left lead from here to where all lead from the start
 pub record Leads {K R : Type 0} (cmp : K → K → Ordering) (old : List (K × (ℕ × R))) (stream : ℕ) (all left : List (K × Option R)) (now : List (K × (ℕ × R))) : Type 0 where

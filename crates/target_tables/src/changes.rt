@@ -97,14 +97,22 @@ pub fn put_last<K: Drop, R: Drop>(pages: &mut Pages<K, R>, entry: (K, (u8, R)))
     let _page = put_new(pages, Spot { page, place }, entry);
 }
 
-/// Puts a stream's row at a key, and says in which page. Takes no memory.
+/// A change that was made.
+struct Made<K, R> {
+    /// the page of its key
+    page: usize,
+    /// the entry that it replaced or took away; without a row the key of a change that met no entry of its stream
+    freed: Option<(K, Option<R>)>,
+}
+
+/// Puts a stream's row at a key. Takes no memory.
 fn put<K: Ord + Drop, R: Drop>(
     pages: &mut Pages<K, R>,
     near: usize,
     stream: u8,
     key: K,
     row: R,
-) -> usize
+) -> Made<K, R>
     requires rising { IsRising K.cmp (entries_of pages.old.pages) }
     requires room { (if is_new (Some row) (value_at K.cmp (entries_of pages.old.pages) key) then 1 else 0) ≤ room_of pages.old.pages pages.old.spares }
     ensures rising { IsRising K.cmp (entries_of pages.new.pages) }
@@ -114,45 +122,61 @@ fn put<K: Ord + Drop, R: Drop>(
 {
     match spot_of(pages.as_slice(), near, &key) {
         Ok(spot) => {
-            pages.put_over(spot.page, spot.place, (key, (stream, row)));
-            spot.page
+            let (key, (_, row)) = pages.put_over(spot.page, spot.place, (key, (stream, row)));
+            Made {
+                page: spot.page,
+                freed: Some((key, Some(row))),
+            }
         }
-        Err(spot) => put_new(pages, spot, (key, (stream, row))),
+        Err(spot) => Made {
+            page: put_new(pages, spot, (key, (stream, row))),
+            freed: None,
+        },
     }
 }
 
-/// Takes a stream's row at a key away, and says from which page. Takes no memory.
+/// Takes a stream's row at a key away. Takes no memory.
 fn take_away<K: Ord + Drop, R: Drop>(
     pages: &mut Pages<K, R>,
     near: usize,
     stream: u8,
-    key: &K,
-) -> usize
+    key: K,
+) -> Made<K, R>
     requires { IsRising K.cmp (entries_of pages.old.pages) }
     ensures rising { IsRising K.cmp (entries_of pages.new.pages) }
-    ensures values { IsChanged K.cmp (entries_of pages.old.pages) stream (key.now, None) (entries_of pages.new.pages) }
+    ensures values { IsChanged K.cmp (entries_of pages.old.pages) stream (key, None) (entries_of pages.new.pages) }
     ensures room { room_of pages.old.pages pages.old.spares ≤ room_of pages.new.pages pages.new.spares }
 {
-    match spot_of(pages.as_slice(), near, key) {
+    match spot_of(pages.as_slice(), near, &key) {
         Ok(spot) => {
             let entry = entry_at(pages.as_slice(), spot);
             let owner = entry.1.0;
             if owner == stream {
-                pages.take_out(spot.page, spot.place);
+                let (key, (_, row)) = pages.take_out(spot.page, spot.place);
+                return Made {
+                    page: spot.page,
+                    freed: Some((key, Some(row))),
+                };
             }
-            spot.page
+            Made {
+                page: spot.page,
+                freed: Some((key, None)),
+            }
         }
-        Err(spot) => spot.page,
+        Err(spot) => Made {
+            page: spot.page,
+            freed: Some((key, None)),
+        },
     }
 }
 
-/// Makes one change of a stream, and says in which page. Takes no memory.
+/// Makes one change of a stream. Takes no memory.
 fn make_change<K: Ord + Drop, R: Drop>(
     pages: &mut Pages<K, R>,
     near: usize,
     stream: u8,
     change: (K, Option<R>),
-) -> usize
+) -> Made<K, R>
     requires rising { IsRising K.cmp (entries_of pages.old.pages) }
     requires room { (if is_new change.1 (value_at K.cmp (entries_of pages.old.pages) change.0) then 1 else 0) ≤ room_of pages.old.pages pages.old.spares }
     ensures rising { IsRising K.cmp (entries_of pages.new.pages) }
@@ -163,17 +187,17 @@ fn make_change<K: Ord + Drop, R: Drop>(
     let (key, row) = change;
     match row {
         Some(row) => put(pages, near, stream, key, row),
-        None => take_away(pages, near, stream, &key),
+        None => take_away(pages, near, stream, key),
     }
 }
 
 /// A stream's changes, each at a key of its own, by rising key, each sought from the page of the one before
-/// it. Takes no memory.
+/// it. Takes no memory. What they replaced and took away is handed back, in their places in the list.
 pub fn change_all<K: Ord + Drop, R: Drop>(
     pages: &mut Pages<K, R>,
     stream: u8,
     mut changes: Vec<(K, Option<R>)>,
-)
+) -> Vec<(K, Option<R>)>
     requires rising { IsRising K.cmp (entries_of pages.old.pages) }
     requires falling { IsRising (flip_args K.cmp) changes.items }
     requires room { new_keys K.cmp (entries_of pages.old.pages) changes.items ≤ room_of pages.old.pages pages.old.spares }
@@ -181,7 +205,14 @@ pub fn change_all<K: Ord + Drop, R: Drop>(
     ensures values { IsTouched K.cmp (entries_of pages.old.pages) stream (change_at K.cmp changes.items) (entries_of pages.new.pages) }
 {
     let mut near = 0;
-    while let Some(change) = changes.pop() {
-        near = make_change(pages, near, stream, change);
+    let mut left = changes.len();
+    while left > 0 {
+        left -= 1;
+        let Made { page, freed } = make_change(pages, near, stream, changes.swap_remove(left));
+        near = page;
+        if let Some(entry) = freed {
+            changes.push_reserved(entry);
+        }
     }
+    changes
 }

@@ -3,6 +3,7 @@
 
 mod changes;
 mod fault;
+mod freed;
 mod laws;
 mod page;
 mod pages;
@@ -15,6 +16,7 @@ mod tables;
 
 pub use changes::last_touches;
 pub use fault::TableFault;
+pub use freed::Freed;
 pub use laws::what_comes_last_counts;
 pub use scan::Scan;
 pub use staged::Staged;

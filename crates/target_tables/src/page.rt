@@ -6,6 +6,7 @@ ghost use Rattle.std.specs.Vec.{vec_capacity};
 
 use std::alloc::{AllocError, Global};
 use std::marker::Model;
+use std::mem::replace;
 
 /// How many entries a page has at most.
 pub const FULL: usize = 128;
@@ -100,12 +101,12 @@ impl<K: Drop, R: Drop> Page<K, R> {
         let _ = self.entries.insert(place, entry);
     }
 
-    /// Puts an entry over the one at a place. Takes no memory.
-    pub fn put_over(&mut self, place: usize, entry: (K, (u8, R)))
+    /// Puts an entry over the one at a place, which is handed back. Takes no memory.
+    pub fn put_over(&mut self, place: usize, entry: (K, (u8, R))) -> (K, (u8, R))
         requires { place < length self.old }
         ensures { self.new ≡ set self.old place entry }
     {
-        self.entries[place] = entry;
+        replace(&mut self.entries[place], entry)
     }
 }
 

@@ -122,14 +122,14 @@ impl<K: Drop, R: Drop> Pages<K, R> {
         self.list[page].put_in(place, entry);
     }
 
-    /// Puts an entry over the one at a place of a page. Takes no memory.
-    pub fn put_over(&mut self, page: usize, place: usize, entry: (K, (u8, R)))
+    /// Puts an entry over the one at a place of a page, which is handed back. Takes no memory.
+    pub fn put_over(&mut self, page: usize, place: usize, entry: (K, (u8, R))) -> (K, (u8, R))
         requires inside { page < length self.old.pages }
         requires within { place < length (page_at self.old.pages page) }
         ensures pages { self.new.pages ≡ set self.old.pages page (set (page_at self.old.pages page) place entry) }
         ensures spares { self.new.spares ≡ self.old.spares }
     {
-        self.list[page].put_over(place, entry);
+        self.list[page].put_over(place, entry)
     }
 
     /// Splits a full page into two of 64. Takes no memory.
@@ -146,21 +146,21 @@ impl<K: Drop, R: Drop> Pages<K, R> {
     }
 
     /// Takes the entry at a place of a page away, and with its last entry the page. Takes no memory.
-    pub fn take_out(&mut self, page: usize, place: usize)
+    pub fn take_out(&mut self, page: usize, place: usize) -> (K, (u8, R))
         requires inside { page < length self.old.pages }
         requires within { place < length (page_at self.old.pages page) }
         ensures entries { entries_of self.new.pages ≡ remove (entries_of self.old.pages) (flat self.old.pages page place) }
         ensures room { room_of self.old.pages self.old.spares ≤ room_of self.new.pages self.new.spares }
     {
         if self.list[page].len() > 1 {
-            drop(self.list[page].take_out(place));
-            return;
+            return self.list[page].take_out(place);
         }
         let mut emptied = self.list.remove(page);
-        drop(emptied.take_out(place));
+        let entry = emptied.take_out(place);
         if self.list.is_empty() {
             self.spares.push_reserved(emptied);
         }
+        entry
     }
 
     /// Takes every page away. Takes no memory.

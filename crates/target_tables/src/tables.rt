@@ -11,6 +11,7 @@ ghost use Rattle.target_tables.specs.Clashes.{IsRefusal};
 
 use crate::changes::{change_all, last_touches, put_last};
 use crate::fault::TableFault;
+use crate::freed::Freed;
 use crate::page::{HALF, Page};
 use crate::pages::Pages;
 use crate::scan::{Scan, scan_from};
@@ -205,20 +206,23 @@ impl<K: Ord + Drop, R: Drop> Tables<K, R> {
         }
     }
 
-    /// Makes the changes that were staged. Takes no memory and always succeeds. That nothing was
-    /// committed since they were staged is the caller's.
-    pub fn commit(&mut self, staged: Staged<K, R>)
+    /// Makes the changes that were staged, and hands on what they replaced or took away, to be dropped.
+    /// Takes no memory and always succeeds. That nothing was committed since they were staged is the
+    /// caller's.
+    pub fn commit(&mut self, staged: Staged<K, R>) -> Freed<K, R>
         requires { IsReady K.cmp self.old staged }
         ensures values { IsTouched K.cmp self.old.entries staged.stream (change_at K.cmp staged.changes) self.new.entries }
         ensures rising { IsRising K.cmp self.new.entries }
     {
         let Staged { stream, changes } = staged;
-        change_all(&mut self.pages, stream, changes);
+        let entries = change_all(&mut self.pages, stream, changes);
+        Freed { entries }
     }
 
     /// Makes a stream's touches: stages them and commits them. Of each key the touch that comes last
     /// counts: a row is then at the key as this stream's, nothing takes this stream's row away and
-    /// leaves another stream's. A key without touch keeps what it has.
+    /// leaves another stream's. A key without touch keeps what it has. What is replaced or taken away is
+    /// handed on, to be dropped.
     ///
     /// Refused 71 where a touched key's last touch is a row and a row of another stream stands
     /// there, with the least such key and that stream; 72 for want of memory. A refusal leaves the
@@ -228,7 +232,7 @@ impl<K: Ord + Drop, R: Drop> Tables<K, R> {
         alloc: Global,
         stream: u8,
         touches: Vec<(K, Option<R>)>,
-    ) -> Result<(), TableFault<K>>
+    ) -> Result<Freed<K, R>, TableFault<K>>
         ensures put { OnOk result ((k : K) (row : R) → ComesLast K.cmp touches.items k (Some row)
             → value_at K.cmp self.new.entries k ≡ Some (stream, row)) }
         ensures taken { OnOk result ((k : K) → ComesLast K.cmp touches.items k None
@@ -242,8 +246,8 @@ impl<K: Ord + Drop, R: Drop> Tables<K, R> {
         ensures unchanged { OnErr result (self.new.entries ≡ self.old.entries) }
     {
         let staged = self.stage(alloc, stream, touches)?;
-        self.commit(staged);
-        Ok(())
+        let freed = self.commit(staged);
+        Ok(freed)
     }
 
     /// Puts a row of a stream behind all others, so that a map can be built by rising key. That the key is

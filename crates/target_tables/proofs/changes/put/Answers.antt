@@ -17,7 +17,7 @@ returns-in-Ok-clause-rising g c =
     let es : (List (g.row.K.Denot × (ℕ × g.row.R.Denot))) = entries_of c.args.pages.now.pages in
     let n : ℕ = flat c.args.pages.now.pages c.in-Ok.spot.page c.in-Ok.spot.place in
     let d : (g.row.K.Denot × (ℕ × g.row.R.Denot)) = (c.args.key, (c.args.stream, c.args.row)) in
-    let same : entries_of c.put_over.new.self.pages ≡ set es n d = ap (λ (l : (List (List (g.row.K.Denot × (ℕ × g.row.R.Denot))))). entries_of l) c.put_over.ensures.pages ∙ put_over c.args.pages.now.pages c.in-Ok.spot.page at.falls.inside c.in-Ok.spot.place at.within d in
+    let same : entries_of c.put_over-key.new.self.pages ≡ set es n d = ap (λ (l : (List (List (g.row.K.Denot × (ℕ × g.row.R.Denot))))). entries_of l) c.put_over-key.ensures.pages ∙ put_over c.args.pages.now.pages c.in-Ok.spot.page at.falls.inside c.in-Ok.spot.place at.within d in
     subst (IsRising g.K.Ord.cmp) (sym same) (rising_put g.met.K.Ord.total es c.args.key n c.requires.rising at.at (get_or es n d) (get_or_default es n d _ at.at.inside) (c.args.stream, c.args.row))
 
 pub returns-in-Ok-clause-values : goal.returns-in-Ok-clause-values
@@ -27,7 +27,7 @@ returns-in-Ok-clause-values g c =
     let es : (List (g.row.K.Denot × (ℕ × g.row.R.Denot))) = entries_of c.args.pages.now.pages in
     let n : ℕ = flat c.args.pages.now.pages c.in-Ok.spot.page c.in-Ok.spot.place in
     let d : (g.row.K.Denot × (ℕ × g.row.R.Denot)) = (c.args.key, (c.args.stream, c.args.row)) in
-    let same : entries_of c.put_over.new.self.pages ≡ set es n d = ap (λ (l : (List (List (g.row.K.Denot × (ℕ × g.row.R.Denot))))). entries_of l) c.put_over.ensures.pages ∙ put_over c.args.pages.now.pages c.in-Ok.spot.page at.falls.inside c.in-Ok.spot.place at.within d in
+    let same : entries_of c.put_over-key.new.self.pages ≡ set es n d = ap (λ (l : (List (List (g.row.K.Denot × (ℕ × g.row.R.Denot))))). entries_of l) c.put_over-key.ensures.pages ∙ put_over c.args.pages.now.pages c.in-Ok.spot.page at.falls.inside c.in-Ok.spot.place at.within d in
     λ q. ap (λ (l : (List (g.row.K.Denot × (ℕ × g.row.R.Denot)))). value_at g.K.Ord.cmp l q) same
     ∙ values_put g.met.K.Ord.total es c.args.key n c.requires.rising at.at (get_or es n d) (get_or_default es n d _ at.at.inside) (c.args.stream, c.args.row) q
 
@@ -40,7 +40,7 @@ returns-in-Ok-clause-room g c = λ m h.
     let long : length (set page c.in-Ok.spot.place d) ≡ length page = length-set page c.in-Ok.spot.place d in
     let kept : room_of c.args.pages.now.pages c.args.pages.now.spares ≤ room_of (set c.args.pages.now.pages c.in-Ok.spot.page (set page c.in-Ok.spot.place d)) c.args.pages.now.spares =
     room_set c.args.pages.now.pages c.in-Ok.spot.page at.falls.inside (set page c.in-Ok.spot.place d) (omega arith) c.args.pages.now.spares in
-    room_as c.put_over.new.self.pages (set c.args.pages.now.pages c.in-Ok.spot.page (set page c.in-Ok.spot.place d)) c.put_over.new.self.spares c.args.pages.now.spares m c.put_over.ensures.pages c.put_over.ensures.spares (omega arith)
+    room_as c.put_over-key.new.self.pages (set c.args.pages.now.pages c.in-Ok.spot.page (set page c.in-Ok.spot.place d)) c.put_over-key.new.self.spares c.args.pages.now.spares m c.put_over-key.ensures.pages c.put_over-key.ensures.spares (omega arith)
 
 pub put_new-requires-clause-room : goal.put_new-requires-clause-room
 put_new-requires-clause-room g c =

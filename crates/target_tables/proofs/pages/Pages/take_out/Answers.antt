@@ -66,10 +66,10 @@ invariant_of-self-then-is_empty g c =
     let len : c.len.result ≡ length c.index.result.now = c.len.ensures in
     let emptied : c.remove-emptied.result ≡ page_at all c.args.page = c.remove-emptied.ensures.value ∙ get_or_default all c.args.page _ [] inside in
     let less : length (remove (page_at all c.args.page) c.args.place) + 1 ≡ length (page_at all c.args.page) = length-remove (page_at all c.args.page) c.args.place within in
-    let same : length c.take_out-2.new.self ≡ length (remove (page_at all c.args.page) c.args.place) = ap length c.take_out-2.ensures ∙ ap (λ (page : List (g.row.K.Denot × (ℕ × g.row.R.Denot))). length (remove page c.args.place)) emptied in
+    let same : length c.take_out-entry.new.self ≡ length (remove (page_at all c.args.page) c.args.place) = ap length c.take_out-entry.ensures ∙ ap (λ (page : List (g.row.K.Denot × (ℕ × g.row.R.Denot))). length (remove page c.args.place)) emptied in
     let P : List (g.row.K.Denot × (ℕ × g.row.R.Denot)) → Type 0 = λ page. page ≡ [] in
     let Q : List (List (g.row.K.Denot × (ℕ × g.row.R.Denot))) → Type 0 = All P in
-    let gone : c.take_out-2.new.self ≡ [] = nil_from_length c.take_out-2.new.self (omega arith) in
+    let gone : c.take_out-entry.new.self ≡ [] = nil_from_length c.take_out-entry.new.self (omega arith) in
     record {
       full = subst AreFull (sym c.remove-emptied.ensures.items) (full_removed all c.args.page inside c.self.invariant.full);
       empty = subst Q (sym c.push_reserved.ensures.items) (All-push P c.self.inside.spares.items _ c.self.invariant.empty gone);
