@@ -13,3 +13,5 @@ pub mod Judging
 pub mod Committing
 pub mod Scanning
 pub mod Applying
+pub mod Mixing
+pub mod Meetings

@@ -6,3 +6,5 @@ pub mod Places
 pub mod Pages
 pub mod Kept
 pub mod Clashes
+pub mod Merged
+pub mod Common

@@ -85,7 +85,8 @@ fn put_new<K: Drop, R: Drop>(pages: &mut Pages<K, R>, spot: Spot, entry: (K, (u8
 /// Puts an entry behind all others. Takes no memory.
 pub fn put_last<K: Drop, R: Drop>(pages: &mut Pages<K, R>, entry: (K, (u8, R)))
     requires { 1 ≤ room_of pages.old.pages pages.old.spares }
-    ensures { entries_of pages.new.pages ≡ entries_of pages.old.pages ++ entry ∷ [] }
+    ensures entries { entries_of pages.new.pages ≡ entries_of pages.old.pages ++ entry ∷ [] }
+    ensures room { (n : ℕ) → n + 1 ≤ room_of pages.old.pages pages.old.spares → n ≤ room_of pages.new.pages pages.new.spares }
 {
     let all = pages.as_slice().len();
     if all == 0 {

@@ -2,9 +2,12 @@
 #![tactic(auto)]
 
 mod changes;
+mod common;
 mod fault;
 mod freed;
 mod laws;
+mod left;
+mod merging;
 mod page;
 mod pages;
 mod places;
@@ -13,11 +16,15 @@ mod spots;
 mod staged;
 mod survey;
 mod tables;
+mod taken;
 
 pub use changes::last_touches;
+pub use common::Common;
 pub use fault::TableFault;
 pub use freed::Freed;
 pub use laws::what_comes_last_counts;
+pub use left::has_mark;
+pub use merging::merge;
 pub use scan::Scan;
 pub use staged::Staged;
 pub use tables::Tables;

@@ -65,6 +65,13 @@ impl<K, R> Page<K, R> {
         &self.entries
     }
 
+    /// The entries, to be taken out. Takes no memory.
+    pub fn into_entries(self) -> Vec<(K, (u8, R))>
+        ensures { result.items ≡ self }
+    {
+        self.entries
+    }
+
     /// How many entries there are. Takes no memory.
     pub fn len(&self) -> usize
         ensures { result ≡ length self.now }

@@ -163,6 +163,16 @@ impl<K: Drop, R: Drop> Pages<K, R> {
         entry
     }
 
+    /// The pages, to be taken out; the empty ones are dropped. Takes no memory.
+    pub fn into_list(self) -> Vec<Page<K, R>>
+        ensures pages { result.items ≡ self.pages }
+        ensures full { AreFull self.pages }
+    {
+        let Pages { list, spares } = self;
+        drop(spares);
+        list
+    }
+
     /// Takes every page away. Takes no memory.
     pub fn clear(&mut self)
         ensures { self.new.pages ≡ [] }

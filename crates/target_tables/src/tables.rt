@@ -8,16 +8,22 @@ ghost use Rattle.target_tables.specs.Contents.{value_at, from_key, past_key, sta
 ghost use Rattle.target_tables.specs.Rising.{IsRising, AreBelow};
 ghost use Rattle.target_tables.specs.Touches.{last_at, change_at, removed, IsTouched, IsReady, IsUntouched, ComesLast, NoneInTheWay};
 ghost use Rattle.target_tables.specs.Clashes.{IsRefusal};
+ghost use Rattle.target_tables.specs.Common as shared;
+ghost use Rattle.target_tables.specs.Merged as marked;
+ghost use Rattle.target_tables.specs.Merged.{part_of};
 
 use crate::changes::{change_all, last_touches, put_last};
+use crate::common::Common;
 use crate::fault::TableFault;
 use crate::freed::Freed;
+use crate::left::{Left, count_marked};
 use crate::page::{HALF, Page};
 use crate::pages::Pages;
 use crate::scan::{Scan, scan_from};
 use crate::spots::{Spot, entry_at, spot_of};
 use crate::staged::Staged;
 use crate::survey::survey;
+use crate::taken::Taken;
 use std::alloc::{AllocError, Global};
 use std::marker::Model;
 
@@ -92,6 +98,14 @@ impl<K: Ord, R> Tables<K, R> {
         count(self.pages.as_slice())
     }
 
+    /// How many entries are of streams that have this mark. Takes no memory.
+    pub(crate) fn count(&self, marks: &[bool], mark: bool) -> usize
+        ensures { result ≡ length (part_of (marked.has_mark marks.now mark) self.now.entries) }
+    {
+        let pages = self.pages.as_slice();
+        count_marked(scan_from(pages, Spot { page: 0, place: 0 }), marks, mark)
+    }
+
     /// How many pages the entries lie in. Takes no memory.
     pub fn pages(&self) -> usize
         ensures pages { result ≡ length self.now.pages }
@@ -137,6 +151,13 @@ impl<K: Ord, R> Tables<K, R> {
         ensures rising { IsRising K.cmp self.now.entries }
     {
         scan_from(self.pages.as_slice(), Spot { page: 0, place: 0 })
+    }
+
+    /// The keys at which this map and another both have a row, by rising key. Takes no memory.
+    pub fn common<'t>(&'t self, other: &'t Tables<K, R>) -> Common<'t, K, R>
+        ensures { result ≡ shared.common K.cmp self.now.entries other.now.entries }
+    {
+        Common::new(self.iter(), other.iter())
     }
 
     /// The entries at a key and past it, by rising key. The first is found by halves. Takes no
@@ -199,8 +220,7 @@ impl<K: Ord + Drop, R: Drop> Tables<K, R> {
                 owner: clash.owner,
             }),
             Ok(count) => {
-                let spares = spares_for(count, self.pages.as_slice().len());
-                self.pages.reserve(spares)?;
+                self.reserve(count)?;
                 Ok(Staged { stream, changes })
             }
         }
@@ -260,6 +280,38 @@ impl<K: Ord + Drop, R: Drop> Tables<K, R> {
         self.pages.reserve(1)?;
         put_last(&mut self.pages, (key, (stream, row)));
         Ok(())
+    }
+
+    /// Sees that so many new keys can be put in without memory. An error is want of memory, and leaves the
+    /// entries as they are.
+    pub(crate) fn reserve(&mut self, count: usize) -> Result<(), AllocError>
+        ensures entries { self.new.entries ≡ self.old.entries }
+        ensures room { self.old.room ≤ self.new.room }
+        ensures ok { OnOk result (count ≤ self.new.room) }
+    {
+        let spares = spares_for(count, self.pages.as_slice().len());
+        self.pages.reserve(spares)?;
+        Ok(())
+    }
+
+    /// Puts an entry behind all others. Takes no memory.
+    pub(crate) fn push_reserved(&mut self, entry: (K, (u8, R)))
+        requires below { AreBelow K.cmp entry.0 self.old.entries }
+        requires room { 1 ≤ self.old.room }
+        ensures entries { self.new.entries ≡ self.old.entries ++ entry ∷ [] }
+        ensures room { (n : ℕ) → n + 1 ≤ self.old.room → n ≤ self.new.room }
+        ensures rising { IsRising K.cmp self.new.entries }
+    {
+        put_last(&mut self.pages, entry);
+    }
+
+    /// The entries of the streams that have this mark, to be taken out; the others are dropped. Takes no memory.
+    pub(crate) fn into_part(self, alloc: Global, marks: &[bool], mark: bool) -> Left<'_, K, R>
+        ensures entries { result ≡ part_of (marked.has_mark marks.now mark) self.entries }
+        ensures rising { IsRising K.cmp self.entries }
+    {
+        let list = self.pages.into_list();
+        Left::new(Taken::new(alloc, list), marks, mark)
     }
 
     /// Takes every entry away. Takes no memory.

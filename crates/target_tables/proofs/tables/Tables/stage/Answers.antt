@@ -1,11 +1,11 @@
-use Rattle.std.proofs.Common.{◌≡◌, ℕ, ◌+◌, ◌-◌, ◌*◌, ◌≤◌, List, length, Option, sym, ap, subst, arith}
+use Rattle.std.proofs.Common.{◌≡◌, ℕ, ◌≤◌, List, Option, sym, ap, subst, ◌∙◌, arith}
 use Rattle.std.specs.List.{AllByRecursion}
 use Rattle.target_tables.specs.Contents.{Contents}
-use Rattle.target_tables.specs.Pages.{entries_of, owed}
+use Rattle.target_tables.specs.Pages.{entries_of, AreFull}
+use Rattle.target_tables.specs.Rising.{IsRising}
 use Rattle.target_tables.specs.Touches.{last_at, new_keys, IsLeastClash}
 use Rattle.target_tables.specs.Kept.{IsFree, IsLastClash}
 use Rattle.target_tables.proofs.Judging.{free_everywhere, least_clash}
-use Rattle.target_tables.proofs.Rooms.{owed_most}
 use Rattle.target_tables.proofs.tables.Tables.stage.Goals as goal
 
 pub returns-in-Err-clause-refused : goal.returns-in-Err-clause-refused
@@ -19,21 +19,24 @@ returns-in-Err-clause-refused g c =
     (least_clash g.met.K.Ord.total es c.args.stream (last_at g.K.Ord.cmp c.args.touches.items) c.in_ok-changes.changes.items c.in-Err.clash.place c.in-Err.clash.owner c.swap_remove.result
     c.in_ok-changes.ensures.last c.in_ok-changes.ensures.falling h c.swap_remove.ensures.value)
 
+pub survey-requires-clause-rising : goal.survey-requires-clause-rising
+survey-requires-clause-rising g c = subst (λ (l : List (List (g.row.K.Denot × (ℕ × g.row.R.Denot)))). IsRising g.K.Ord.cmp (entries_of l)) (sym c.as_slice.ensures.pages) c.self.invariant
+
+pub survey-requires-clause-full : goal.survey-requires-clause-full
+survey-requires-clause-full g c = subst (λ (l : List (List (g.row.K.Denot × (ℕ × g.row.R.Denot)))). AreFull l) (sym c.as_slice.ensures.pages) c.as_slice.ensures.full
+
 pub returns-in_ok-reserve-in-Ok-clause-ready : goal.returns-in_ok-reserve-in-Ok-clause-ready
 returns-in_ok-reserve-in-Ok-clause-ready g c =
-    let now : (List (List (g.row.K.Denot × (ℕ × g.row.R.Denot)))) = c.reserve.new.self.pages in
+    let now : List (g.row.K.Denot × (ℕ × g.row.R.Denot)) = c.reserve.new.self.entries in
     let changes : List (g.row.K.Denot × Option g.row.R.Denot) = c.in_ok-changes.changes.items in
-    let P : (List (List (g.row.K.Denot × (ℕ × g.row.R.Denot)))) → Type 0 = λ l. (c.in-Ok.count ≡ new_keys g.K.Ord.cmp (entries_of l) c.deref.result.now) × AllByRecursion (IsFree g.K.Ord.cmp (entries_of l) c.args.stream) c.deref.result.now in
-    let Q : List (g.row.K.Denot × Option g.row.R.Denot) → Type 0 = λ l. (c.in-Ok.count ≡ new_keys g.K.Ord.cmp (entries_of now) l) × AllByRecursion (IsFree g.K.Ord.cmp (entries_of now) c.args.stream) l in
-    let h : (c.in-Ok.count ≡ new_keys g.K.Ord.cmp (entries_of now) changes) × AllByRecursion (IsFree g.K.Ord.cmp (entries_of now) c.args.stream) changes =
-    subst Q c.deref.ensures.value (subst P (sym c.reserve.ensures.pages) (subst P c.as_slice.ensures.pages c.in-Ok.ensures.ok)) in
-    let count : c.in-Ok.count ≡ new_keys g.K.Ord.cmp (entries_of now) changes = h.0 in
-    let few : owed c.self.inside.pages.pages ≤ 64 * (length c.self.inside.pages.pages + 1) = owed_most c.self.inside.pages.pages c.as_slice.ensures.full in
-    let pages : length c.as_slice-in-Ok.result.now ≡ length c.self.inside.pages.pages = ap length c.as_slice-in-Ok.ensures.pages in
-    let served : c.in-Ok.count ≤ c.spares_for-spares.result + (63 * c.spares_for-spares.result + 63 - owed c.self.inside.pages.pages) = c.spares_for-spares.ensures (owed c.self.inside.pages.pages) (omega arith) in
-    let same : owed now ≡ owed c.self.inside.pages.pages = ap (λ (l : (List (List (g.row.K.Denot × (ℕ × g.row.R.Denot))))). owed l) c.reserve.ensures.pages in
-    let ready : c.spares_for-spares.result ≤ c.reserve.new.self.spares = c.in_ok-reserve-in-Ok.ensures.ok in
+    let same : entries_of c.as_slice.result.now ≡ now =
+    ap (λ (l : List (List (g.row.K.Denot × (ℕ × g.row.R.Denot)))). entries_of l) c.as_slice.ensures.pages ∙ ap (λ (v : Contents g.row.K.Denot g.row.R.Denot). v.entries) c.self.view_is ∙ sym c.reserve.ensures.entries in
+    let P : List (g.row.K.Denot × (ℕ × g.row.R.Denot)) → Type 0 = λ es. (c.in-Ok.count ≡ new_keys g.K.Ord.cmp es c.deref.result.now) × AllByRecursion (IsFree g.K.Ord.cmp es c.args.stream) c.deref.result.now in
+    let Q : List (g.row.K.Denot × Option g.row.R.Denot) → Type 0 = λ l. (c.in-Ok.count ≡ new_keys g.K.Ord.cmp now l) × AllByRecursion (IsFree g.K.Ord.cmp now c.args.stream) l in
+    let h : (c.in-Ok.count ≡ new_keys g.K.Ord.cmp now changes) × AllByRecursion (IsFree g.K.Ord.cmp now c.args.stream) changes = subst Q c.deref.ensures.value (subst P same c.in-Ok.ensures.ok) in
+    let count : c.in-Ok.count ≡ new_keys g.K.Ord.cmp now changes = h.0 in
+    let ready : c.in-Ok.count ≤ c.reserve.new.self.room = c.in_ok-reserve-in-Ok.ensures.ok in
     record {
-      clear = free_everywhere g.met.K.Ord.total (entries_of now) c.args.stream changes h.1;
-      room = omega arith;
+      clear = free_everywhere g.met.K.Ord.total now c.args.stream changes h.1;
+      room = omega (arith, count, ready);
     }

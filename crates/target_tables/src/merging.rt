@@ -1,0 +1,82 @@
+//! One map made of the rows of two, by their streams.
+
+ghost use Rattle.std.specs.Prelude.{◌≡◌, ◌≤◌, ◌+◌, [], length, IfOk, IfErr};
+ghost use Rattle.target_tables.specs.Merged.{AreMerged};
+ghost use Rattle.target_tables.specs.Kept.{TakesLesser, AreMixed};
+ghost use Rattle.target_tables.specs.Rising.{IsRising};
+
+use crate::left::Left;
+use crate::tables::Tables;
+use std::alloc::Global;
+use std::cmp::Ordering;
+
+/// Takes out the lesser of the first entries of two maps; where their keys are equal that of the first, and
+/// drops the other.
+fn take_lesser<K: Ord + Drop, R: Drop>(
+    one: &mut Left<K, R>,
+    other: &mut Left<K, R>,
+) -> Option<(K, (u8, R))>
+    ensures { TakesLesser K.cmp one.old other.old result one.new other.new }
+{
+    match one.first() {
+        None => other.take(),
+        Some(key) => match other.first() {
+            None => one.take(),
+            Some(second) => match key.cmp(second) {
+                Ordering::Less => one.take(),
+                Ordering::Greater => other.take(),
+                Ordering::Equal => {
+                    drop(other.take());
+                    one.take()
+                }
+            },
+        },
+    }
+}
+
+/// All entries of two maps, put into an empty one; of two at one key that of the first.
+fn mix<K: Ord + Drop, R: Drop>(
+    mixed: &mut Tables<K, R>,
+    mut one: Left<'_, K, R>,
+    mut other: Left<'_, K, R>,
+)
+    requires empty { mixed.old.entries ≡ [] }
+    requires room { length one + length other ≤ mixed.old.room }
+    ensures { AreMixed K.cmp one.entry other.entry mixed.new.entries }
+{
+    while let Some(entry) = take_lesser(&mut one, &mut other) {
+        mixed.push_reserved(entry);
+    }
+}
+
+/// One map of the rows of two: of each stream that isn't marked the rows of the first map, and of each that
+/// is marked those of the second; of two rows at one key the first map's. Rows are moved, in time linear in
+/// the rows of both. Where memory is wanted both maps are handed back.
+pub fn merge<K: Ord + Drop, R: Drop>(
+    alloc: Global,
+    one: Tables<K, R>,
+    other: Tables<K, R>,
+    marks: &[bool],
+) -> Result<Tables<K, R>, (Tables<K, R>, Tables<K, R>)>
+    ensures merged { IfOk result (λ merged. AreMerged K.cmp marks.now one.entries other.entries merged.entries) }
+    ensures handed_back { IfErr result (λ both. (both.0.entries ≡ one.entries) × (both.1.entries ≡ other.entries)) }
+{
+    let count = one
+        .count(marks, false)
+        .checked_add(other.count(marks, true));
+    let Some(count) = count else {
+        return Err((one, other));
+    };
+    let mut merged = Tables::new(alloc);
+    match merged.reserve(count) {
+        Err(_) => Err((one, other)),
+        Ok(()) => {
+            mix(
+                &mut merged,
+                one.into_part(alloc, marks, false),
+                other.into_part(alloc, marks, true),
+            );
+            Ok(merged)
+        }
+    }
+}
