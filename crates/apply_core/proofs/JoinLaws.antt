@@ -203,7 +203,7 @@ turned a b alike = record {
   histories = λ s x y p q. (elim (alike.histories s y x q p) [ inl left ↦ inr left | inr right ↦ inl right ]);
 }
 
-compatible : (a b : Meaning) → AreAlike a b → AreApart (all_chosen a.streams b.streams) → AreCompatible a b
+pub compatible : (a b : Meaning) → AreAlike a b → AreApart (all_chosen a.streams b.streams) → AreCompatible a b
 compatible a b alike apart = record { plans = alike.plans; running = alike.running; histories = alike.histories; apart = apart }
 
 pub all_first : (a b : Meaning) → AreApart a.streams → AreAlike a b → all_chosen a.streams b.streams ≡ a.streams → AreCompatible a b × (all_chosen a.streams b.streams ≡ a.streams)

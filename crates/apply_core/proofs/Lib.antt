@@ -11,3 +11,4 @@ pub mod TogetherLaws
 pub mod BesideLaws
 pub mod JoinLaws
 pub mod SaveLaws
+pub mod MeetingLaws

@@ -4,5 +4,6 @@ pub mod Place
 pub mod StreamState
 pub mod StreamStep
 pub mod Beside
+pub mod Meeting
 pub mod Together
 pub mod Saving

@@ -6,18 +6,19 @@ ghost use Rattle.join_laws.specs.Compatible.{plans_of, OfEachStream, AreRunning,
 ghost use Rattle.join_laws.specs.Joined.{joined};
 ghost use Rattle.join_laws.specs.Refused.{IsFirstNot, IsRefusedJoin};
 ghost use Rattle.apply_core.specs.Private.Beside.{plans_in, Premise, Passes, AreAlike};
+ghost use Rattle.apply_core.specs.Private.Meeting.{AreFurtherMarks};
 ghost use Rattle.apply_core.specs.Private.Together.{IsSource};
+ghost use Rattle.join_laws.specs.declared.fault.JoinFault.TheVariants.{Memory};
 
 use crate::beside::{Test, first_not};
 use crate::board::Board;
+use crate::join_rows::mark_further;
 use crate::stream::Stream;
-use crate::together::joined_rows;
 use join_laws::{JoinFault, joined_boards_are_lawful};
-use pk_copy::{Key, keys_tie_where_they_are_equal};
-use row_view::RowBuf;
+use pk_copy::keys_tie_where_they_are_equal;
 use std::alloc::Global;
 use std::mem::swap;
-use target_tables::Tables;
+use target_tables::merge;
 
 /// Two boards that aren't joined, as they were, and why.
 #[derive(Drop)]
@@ -34,8 +35,8 @@ pub(crate) enum Source {
     First,
     /// All from the second board.
     Second,
-    /// From both, with the rows of the further states.
-    Both(Tables<Key, RowBuf>),
+    /// From both: of each stream whether it is further on in the second.
+    Both(Vec<bool>),
 }
 
 /// The first stream whose states on the two boards don't pass a test, if any. Takes no memory.
@@ -85,7 +86,7 @@ fn holds_all(a: &Board<'_>, b: &Board<'_>) -> bool
 {
     match first_stream_not(Test::NoFurther, a, b) {
         None => true,
-        Some(_) => false,
+        Some(_further) => false,
     }
 }
 
@@ -108,9 +109,9 @@ fn find_source(alloc: Global, a: &Board<'_>, b: &Board<'_>) -> Result<Source, Jo
             if holds_all(b, a) {
                 return Ok(Source::Second);
             }
-            match joined_rows(alloc, a, b) {
+            match mark_further(alloc, a, b) {
                 Err(fault) => Err(fault),
-                Ok(rows) => Ok(Source::Both(rows)),
+                Ok(marks) => Ok(Source::Both(marks)),
             }
         }
     }
@@ -140,6 +141,45 @@ fn keep_all_further<'h>(a: &mut [Stream<'h>], b: &mut [Stream<'h>])
     }
 }
 
+/// The join of two boards of which neither is further on in every stream, with the rows of both moved. Where
+/// memory is wanted both are handed back as they were.
+fn join_both<'h>(
+    alloc: Global,
+    a: Board<'h>,
+    b: Board<'h>,
+    marks: &[bool],
+) -> Result<Board<'h>, JoinRefusal<'h>>
+    requires compatible { AreCompatible a b }
+    requires marks { AreFurtherMarks a.streams b.streams marks.now }
+    ensures joined { IfOk result (λ board. board ≡ joined a.entry b.entry) }
+    ensures refused { IfErr result (λ refusal. refusal.why ≡ Memory) }
+    ensures handed_back { IfErr result (λ refusal. (refusal.a ≡ a.entry) × (refusal.b ≡ b.entry)) }
+{
+    keys_tie_where_they_are_equal();
+    joined_boards_are_lawful();
+    a.is_lawful();
+    b.is_lawful();
+    match merge(alloc, a.rows, b.rows, marks) {
+        Err((rows, others)) => Err(JoinRefusal {
+            why: JoinFault::Memory,
+            a: Board {
+                streams: a.streams,
+                rows,
+            },
+            b: Board {
+                streams: b.streams,
+                rows: others,
+            },
+        }),
+        Ok(rows) => {
+            let mut streams = a.streams;
+            let mut others = b.streams;
+            keep_all_further(&mut streams, &mut others);
+            Ok(Board { streams, rows })
+        }
+    }
+}
+
 /// Two boards over the same target joined to one: each stream's read list, position and rows come from the
 /// board that has applied more of its groups, at equal numbers from the one that has read more.
 ///
@@ -147,7 +187,8 @@ fn keep_all_further<'h>(a: &mut [Stream<'h>], b: &mut [Stream<'h>])
 /// least stream of which neither read list is a beginning of the other; 71 where two streams then have a row
 /// at one key: for the first stream that meets a lower one, its least such key and the lower stream; 72 for
 /// want of memory. A refusal hands both boards back as they were. Where all streams come from one board it
-/// is the answer as it stands; else the rows of the answer are copied.
+/// is the answer as it stands; else the rows of both are moved, one by one by rising key, in time linear in
+/// the rows of both. A key is copied for a refusal alone.
 pub fn join<'h>(alloc: Global, a: Board<'h>, b: Board<'h>) -> Result<Board<'h>, JoinRefusal<'h>>
     ensures joined { IfOk result (λ board. AreCompatible a.entry b.entry × (board ≡ joined a.entry b.entry)) }
     ensures refused { IfErr result (λ refusal. IsRefusedJoin a.entry b.entry refusal.why) }
@@ -161,11 +202,6 @@ pub fn join<'h>(alloc: Global, a: Board<'h>, b: Board<'h>) -> Result<Board<'h>, 
         Err(why) => Err(JoinRefusal { why, a, b }),
         Ok(Source::First) => Ok(a),
         Ok(Source::Second) => Ok(b),
-        Ok(Source::Both(rows)) => {
-            let mut streams = a.streams;
-            let mut others = b.streams;
-            keep_all_further(&mut streams, &mut others);
-            Ok(Board { streams, rows })
-        }
+        Ok(Source::Both(marks)) => join_both(alloc, a, b, &marks),
     }
 }

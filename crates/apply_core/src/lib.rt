@@ -9,6 +9,7 @@ mod clashing;
 mod cloning;
 mod copying;
 mod fresh;
+mod join_rows;
 mod joining;
 mod one_step;
 mod place;

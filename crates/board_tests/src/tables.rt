@@ -146,3 +146,51 @@ fn pages_split_and_leave(rt: HostRuntime) -> Result<(), Fail> {
     assert_eq!(rt; none.is_empty(), true);
     Ok(())
 }
+
+/// Rows of a stream at so many keys from the first on, and whether they are put.
+fn put_keys(
+    alloc: Global,
+    tables: &mut Tables<u64, u32>,
+    stream: u8,
+    first: u64,
+    count: u64,
+) -> Result<bool, Fail> {
+    let mut touches = Vec::new(alloc);
+    for key in first..first.saturating_add(count) {
+        touches.push((key, Some(7)))?;
+    }
+    Ok(touch(alloc, tables, stream, touches).is_none())
+}
+
+/// How many keys at the front of those that both maps have have a row of stream 0 in the one and of stream 1 in the
+/// other.
+fn met_by_0_and_1(one: &Tables<u64, u32>, other: &Tables<u64, u32>) -> u64 {
+    let mut keys = one.common(other);
+    for count in 0..1000 {
+        match keys.next_key() {
+            Some((_, 0, 1)) => {}
+            _ => return count,
+        }
+    }
+    1000
+}
+
+/// Stream 0's rows come from the first map and stream 1's from the second, over several pages.
+#[test]
+fn two_maps_become_one(rt: HostRuntime) -> Result<(), Fail> {
+    let alloc = rt.alloc();
+    let mut one: Tables<u64, u32> = Tables::new(alloc);
+    let mut other: Tables<u64, u32> = Tables::new(alloc);
+    let first = put_keys(alloc, &mut one, 0, 1, 200)? && put_keys(alloc, &mut one, 1, 500, 3)?;
+    let second = put_keys(alloc, &mut other, 0, 2, 5)? && put_keys(alloc, &mut other, 1, 190, 150)?;
+    assert!(rt; first && second);
+    assert!(rt; met_by_0_and_1(&one, &other) == 11);
+    match merge(alloc, one, other, &[false, true]) {
+        Err(_) => return Err(AllocError.into()),
+        Ok(both) => {
+            let (last, gone) = (both.get(&339).is_some(), both.get(&500).is_none());
+            assert!(rt; last && gone && both.len() == 339);
+        }
+    }
+    Ok(())
+}

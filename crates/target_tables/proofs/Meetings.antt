@@ -1,9 +1,9 @@
 -- The keys that two lists of rising entries both have, one after another.
-use Rattle.std.proofs.Common.{◌≡◌, ℕ, ◌+◌, ◌<◌, cond, List, [], ◌∷◌, length, drop, Option, Some, None, Ordering, refl, sym, ap, subst, ◌∙◌, arith}
-use Rattle.std.proofs.lemmas.Cmp.{tied_back, tied_itself}
+use Rattle.std.proofs.Common.{◌≡◌, ℕ, ◌<◌, cond, List, [], ◌∷◌, length, drop, Option, Some, Ordering, refl, sym, ap, ◌∙◌, arith}
+use Rattle.std.proofs.lemmas.Cmp.{tied_itself}
 use Rattle.std.specs.declared.cmp.Ordering.TheVariants.{Less, Equal, Greater}
 use Rattle.std.specs.Cmp.{IsTotalOrder}
-use Rattle.std.specs.Ordering.{ordering_reverse, is_eq, eq_by_cmp}
+use Rattle.std.specs.Ordering.{ordering_reverse, is_eq}
 use Rattle.target_tables.specs.Contents.{value_at}
 use Rattle.target_tables.specs.Common.{with_other, common}
 use Rattle.target_tables.specs.Kept.{IsFront}

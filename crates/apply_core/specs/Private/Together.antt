@@ -12,6 +12,7 @@ use Rattle.join_laws.specs.Chosen.{all_chosen}
 use Rattle.join_laws.specs.Joined.{rows_from}
 use Rattle.join_laws.specs.Compatible.{AreApart, AreCompatible}
 use Rattle.join_laws.specs.Refused.{IsFirstClash}
+use Rattle.apply_core.specs.Private.Meeting.{AreFurtherMarks}
 use Rattle.apply_core.specs.declared.joining.Source.{Source}
 use Rattle.apply_core.specs.declared.joining.Source.TheVariants.{First, Second, Both}
 
@@ -40,8 +41,8 @@ AreNotTogether states WrongPlan = ⊥
 AreNotTogether states (NotRunning s) = ⊥
 AreNotTogether states (HistoriesDiffer s) = ⊥
 
--- where the streams of a join come from: all from one of the boards, or from both, with the rows
+-- where the streams of a join come from: all from one of the boards, or from both, with the marks of those that come from the second
 abbrev pub IsSource : Meaning → Meaning → Source → Type 0
 IsSource a b First = AreCompatible a b × (all_chosen a.streams b.streams ≡ a.streams)
 IsSource a b Second = AreCompatible a b × (all_chosen a.streams b.streams ≡ b.streams)
-IsSource a b (Both rows) = AreCompatible a b × (rows.entries ≡ rows_from 0 (all_chosen a.streams b.streams))
+IsSource a b (Both marks) = AreCompatible a b × AreFurtherMarks a.streams b.streams marks.items

@@ -1,3 +1,4 @@
+use Rattle.std.proofs.lemmas.Bool.{false≢true}
 use Rattle.apply_core.proofs.JoinLaws.{as_long, none_further}
 use Rattle.join_laws.proofs.Pairs.{same_plan}
 use Rattle.apply_core.proofs.joining.holds_all.Goals as goal
@@ -10,3 +11,6 @@ first_stream_not-requires-clause-premise c = λ s x y p q. (same_plan c.args.a.n
 
 pub returns-in-None : goal.returns-in-None
 returns-in-None c = λ _. none_further c.args.a.now.streams c.args.b.now.streams (as_long c.args.a.now.streams c.args.b.now.streams c.requires.plans) c.in-None.ensures
+
+pub returns-in-Some : goal.returns-in-Some
+returns-in-Some c = λ is. absurd (false≢true is)

@@ -1,5 +1,5 @@
-use Rattle.std.proofs.Common.{◌≡◌, ◌∷◌, ℕ, List, drop, sym, ap, subst, ◌∙◌}
-use Rattle.target_tables.specs.Common.{common, meeting}
+use Rattle.std.proofs.Common.{◌∷◌, ℕ, List, drop, sym, ap, subst, ◌∙◌}
+use Rattle.target_tables.specs.Common.{common}
 use Rattle.target_tables.specs.Rising.{IsRising}
 use Rattle.target_tables.proofs.Meetings.{rest_rises, common_less, common_greater, common_equal, common_end}
 use Rattle.target_tables.proofs.common.next_common.Goals as goal

@@ -1,4 +1,4 @@
-use Rattle.std.proofs.Common.{◌≡◌, ◌+◌, ◌≤◌, ◌^◌, ℕ, suc, List, ◌∷◌, length, ap, ◌∙◌, arith}
+use Rattle.std.proofs.Common.{◌≡◌, ◌+◌, ◌≤◌, ◌^◌, length, arith}
 use Rattle.target_tables.specs.Merged.{has_mark, part_of}
 use Rattle.target_tables.proofs.Mixing.{part_most}
 use Rattle.target_tables.proofs.left.count_marked.Goals as goal

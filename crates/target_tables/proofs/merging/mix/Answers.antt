@@ -1,4 +1,4 @@
-use Rattle.std.proofs.Common.{◌≡◌, ◌+◌, ◌<◌, ◌≤◌, List, ℕ, length, sym, subst, arith}
+use Rattle.std.proofs.Common.{◌+◌, ◌<◌, ◌≤◌, List, ℕ, length, sym, subst, arith}
 use Rattle.target_tables.specs.Rising.{IsRising}
 use Rattle.target_tables.proofs.Mixing.{Mixes, mixes_none, below_lesser, mixes_on, mixed_all}
 use Rattle.target_tables.proofs.merging.mix.Goals as goal

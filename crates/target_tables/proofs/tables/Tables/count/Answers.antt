@@ -1,4 +1,4 @@
-use Rattle.std.proofs.Common.{◌≡◌, ℕ, ◌*◌, ◌^◌, ◌≤◌, List, length, sym, ap, ◌∙◌, arith}
+use Rattle.std.proofs.Common.{◌≡◌, ℕ, ◌*◌, ◌^◌, ◌≤◌, List, length, ap, ◌∙◌, arith}
 use Rattle.target_tables.specs.Pages.{entries_of}
 use Rattle.target_tables.proofs.Rooms.{length_most}
 use Rattle.target_tables.proofs.tables.Tables.count.Goals as goal

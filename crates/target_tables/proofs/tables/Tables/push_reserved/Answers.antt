@@ -1,4 +1,4 @@
-use Rattle.std.proofs.Common.{◌≡◌, ℕ, List, [], ◌∷◌, ◌++◌, append-nil, ap, sym, subst}
+use Rattle.std.proofs.Common.{◌≡◌, ℕ, List, [], append-nil, ap, sym, subst}
 use Rattle.std.specs.declared.cmp.Ordering.TheVariants.{Less}
 use Rattle.target_tables.specs.Contents.{Contents}
 use Rattle.target_tables.specs.Pages.{entries_of}

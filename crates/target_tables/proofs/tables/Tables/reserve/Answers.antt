@@ -1,4 +1,4 @@
-use Rattle.std.proofs.Common.{◌≡◌, ℕ, ◌+◌, ◌-◌, ◌*◌, ◌≤◌, List, length, ap, subst, arith}
+use Rattle.std.proofs.Common.{◌≡◌, ℕ, ◌+◌, ◌-◌, ◌*◌, ◌≤◌, List, length, ap, arith}
 use Rattle.target_tables.specs.Pages.{owed}
 use Rattle.target_tables.proofs.Rooms.{owed_most}
 use Rattle.target_tables.proofs.tables.Tables.reserve.Goals as goal

@@ -1,4 +1,4 @@
-use Rattle.std.proofs.Common.{◌≡◌, ℕ, List, [], ◌∷◌, ap, subst, ◌∙◌, arith, length}
+use Rattle.std.proofs.Common.{ℕ, List, [], ◌∷◌, subst, ◌∙◌, arith}
 use Rattle.std.proofs.lemmas.List.Elements.{All-rest}
 use Rattle.target_tables.specs.Pages.{IsFull, AreFull}
 use Rattle.target_tables.proofs.Mixing.{popped}
