@@ -78,7 +78,15 @@ fn one_row_is_read_again(rt: HostRuntime) -> Result<(), Fail> {
     let bytes: &[u8] =
         b"VREPLCP1`\n\x03-80\x12Y\x08\x02\x12U\n\x07\n\x02id\x10\x89\x02\n\x06\n\x01v\x10\x950\x12\x07\n\x02id\x10\x89\x02\x1a.MySQL56/3e11fa47-71ca-11e1-9e33-c80aa9429562:1\"\x09\n\x02\x02\x04\x12\x031ab";
     let row = Some(b"\n\x02\x02\x04\x12\x031ab".as_slice());
-    assert!(rt; says(rt.alloc(), bytes, "3e11fa47-71ca-11e1-9e33-c80aa9429562:1", (1, false), row)?);
+    assert!(rt;
+        says(
+            rt.alloc(),
+            bytes,
+            "3e11fa47-71ca-11e1-9e33-c80aa9429562:1",
+            (1, false),
+            row
+        )?
+    );
     Ok(())
 }
 
@@ -88,7 +96,15 @@ fn a_table_in_part_is_read_again(rt: HostRuntime) -> Result<(), Fail> {
     let bytes: &[u8] =
         b"VREPLCP1g\n\x03-80\x12`\x08\x01\x12\\\n\x07\n\x02id\x10\x89\x02\n\x06\n\x01v\x10\x950\x12\x07\n\x02id\x10\x89\x02\x1a.MySQL56/3e11fa47-71ca-11e1-9e33-c80aa9429562:1\"\x08\n\x02\x02\x02\x12\x021a*\x06\n\x01\x02\x12\x011";
     let row = Some(b"\n\x02\x02\x02\x12\x021a".as_slice());
-    assert!(rt; says(rt.alloc(), bytes, "3e11fa47-71ca-11e1-9e33-c80aa9429562:1", (0, true), row)?);
+    assert!(rt;
+        says(
+            rt.alloc(),
+            bytes,
+            "3e11fa47-71ca-11e1-9e33-c80aa9429562:1",
+            (0, true),
+            row
+        )?
+    );
     Ok(())
 }
 
@@ -108,7 +124,15 @@ fn other_spellings_are_read(rt: HostRuntime) -> Result<(), Fail> {
     let bytes: &[u8] =
         b"VREPLCP1n\n\x03-80\x12g\x18\x05\x12a\"\x09\n\x02\x02\x04\x12\x031ab\x1a0MySQL56/3E11FA47-71CA-11E1-9E33-C80AA9429562:1-1\x12\x07\n\x02id\x10\x89\x02\n\x07\n\x02id\x10\x89\x02\n\x06\n\x01v\x10\x950*\x08\n\x01\x06\x12\x03007\x08\x01";
     let row = Some(b"\n\x02\x02\x04\x12\x031ab".as_slice());
-    assert!(rt; says(rt.alloc(), bytes, "3e11fa47-71ca-11e1-9e33-c80aa9429562:1", (0, true), row)?);
+    assert!(rt;
+        says(
+            rt.alloc(),
+            bytes,
+            "3e11fa47-71ca-11e1-9e33-c80aa9429562:1",
+            (0, true),
+            row
+        )?
+    );
     Ok(())
 }
 

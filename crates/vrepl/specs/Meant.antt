@@ -1,5 +1,5 @@
 -- What the words that were read ask for.
-use Rattle.vrepl.specs.Words.{ShowValue, StepValue, VdiffValue, WordsValue, asks_show, asks_step, asks_vdiff}
+use Rattle.vrepl.specs.Words.{ShowValue, StepValue, VdiffValue, WordsValue, asks_show, asks_step, asks_save, asks_vdiff}
 use Rattle.std.specs.Prelude.{◌≡◌, ℕ, List, map, Option, None, Some, Result, Ok, Err}
 use Rattle.vrepl_main.specs.Show.{shown_feed, source_of}
 use Rattle.vrepl_main.specs.Reasons.{Reason}
@@ -28,6 +28,7 @@ vdiff_value files = record { workflow = files.workflow.now; source = files.sourc
 abbrev pub value_of : Words → WordsValue
 value_of (words.Show show) = asks_show (show_value show)
 value_of (words.Step step) = asks_step (step_value step)
+value_of (words.Save save) = asks_save (step_value save)
 value_of (words.Vdiff files) = asks_vdiff (vdiff_value files)
 
 -- what was met asks for this, if for anything, unless a fault kept it from being read

@@ -14,7 +14,7 @@ pub record ShowValue : Type 0 where
   pub shard : Text
   pub feed : Text
 
--- `step`: a workflow, a feed for each of its streams, and whether feeds are hexadecimal text
+-- `step` and `save`: a workflow, a feed for each of its streams, and whether feeds are hexadecimal text
 pub record StepValue : Type 0 where
   pub hex : Bool
   pub workflow : Text
@@ -30,6 +30,7 @@ pub record VdiffValue : Type 0 where
 pub data WordsValue : Type 0 where
   asks_show : ShowValue → WordsValue
   asks_step : StepValue → WordsValue
+  asks_save : StepValue → WordsValue
   asks_vdiff : VdiffValue → WordsValue
 
 -- a subcommand: its name, its arguments in their order, and what it asks for, by what is given to them
@@ -55,7 +56,7 @@ show_subcommand = record {
   meaning = λ given. asks_show (show_given given);
 }
 
--- what is given to the arguments of `step`
+-- what is given to the arguments of `step`, and to those of `save`
 abbrev pub step_given : List Row → StepValue
 step_given given = record { hex = is_given (codes "hex") given; workflow = text_given (codes "workflow") given; feeds = texts_given (codes "feed") given }
 
@@ -65,6 +66,14 @@ step_subcommand = record {
   name = codes "step";
   rules = flag_rule (codes "hex") ∷ operand_rule (codes "workflow") ∷ operands_rule (codes "feed") ∷ [];
   meaning = λ given. asks_step (step_given given);
+}
+
+-- `save [--hex] WORKFLOW FEED..`
+abbrev pub save_subcommand : Subcommand
+save_subcommand = record {
+  name = codes "save";
+  rules = flag_rule (codes "hex") ∷ operand_rule (codes "workflow") ∷ operands_rule (codes "feed") ∷ [];
+  meaning = λ given. asks_save (step_given given);
 }
 
 -- what is given to the arguments of `vdiff`
@@ -81,7 +90,7 @@ vdiff_subcommand = record {
 
 -- the subcommands, in the order of the help
 abbrev pub subcommands : List Subcommand
-subcommands = show_subcommand ∷ step_subcommand ∷ vdiff_subcommand ∷ []
+subcommands = show_subcommand ∷ step_subcommand ∷ vdiff_subcommand ∷ save_subcommand ∷ []
 
 -- a subcommand as `clap` sees it
 abbrev pub shape_of_subcommand : Subcommand → Shape

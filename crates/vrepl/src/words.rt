@@ -4,8 +4,8 @@ ghost use Rattle.std.specs.Prelude.{◌≡◌, IfOk, Some, map, string_bytes};
 ghost use Rattle.clap.specs.Words.{FailsBy, found_of, rows_of, subcommand_rows_of};
 ghost use Rattle.vrepl.specs.Arguments.{flag_rule, is_given, operand_rule, operands_rule, option_rule, text_given, texts_given};
 ghost use Rattle.vrepl.specs.Built.{HasApp, HasRule, IsSubcommand};
-ghost use Rattle.vrepl.specs.Meant.{Asks, show_value, value_of, vdiff_value};
-ghost use Rattle.vrepl.specs.Words.{asked_by, asks_step, faults_of, program_app, show_given, show_subcommand, step_given, step_subcommand, vdiff_given, vdiff_subcommand, words_of};
+ghost use Rattle.vrepl.specs.Meant.{Asks, show_value, step_value, value_of, vdiff_value};
+ghost use Rattle.vrepl.specs.Words.{asked_by, asks_save, asks_step, faults_of, program_app, save_subcommand, show_given, show_subcommand, step_given, step_subcommand, vdiff_given, vdiff_subcommand, words_of};
 
 use clap::error::ErrorKind;
 use clap::{Arg, ArgAction, ArgMatches, Command, Error};
@@ -20,11 +20,13 @@ pub enum Words<'w> {
     Show(Show<'w>),
     /// `step`: take the steps of a script on a board over a workflow and its feeds.
     Step(Step<'w>),
+    /// `save`: write the checkpoint of the board behind a script.
+    Save(Step<'w>),
     /// `vdiff`: compare two dumps.
     Vdiff(VdiffFiles<'w>),
 }
 
-/// The words of `step`.
+/// The words of `step`, and of `save`, which has the same.
 #[derive(Drop)]
 pub struct Step<'w> {
     /// Whether the feeds are hexadecimal text.
@@ -80,6 +82,7 @@ fn asked<'w>(alloc: Global, matches: &ArgMatches<'w>) -> Option<Result<Words<'w>
     match name {
         "show" => Some(Ok(Words::Show(show_words(given)))),
         "step" => Some(step_words(alloc, given)),
+        "save" => Some(save_words(alloc, given)),
         "vdiff" => Some(Ok(Words::Vdiff(vdiff_words(given)))),
         _ => None,
     }
@@ -103,6 +106,14 @@ Example:
   copied 1 done
   table t
   x31\tx6162";
+
+/// A call of `save`.
+const SAVE_EXAMPLE: &str = "\
+Example:
+  $ vrepl save --hex examples/workflows/one_shard.json examples/one_insert.hex \\
+      < examples/copy_one.script > one_row.checkpoint
+
+The replies to the script aren't printed.";
 
 /// A call of `vdiff`, what it prints, and its status.
 const VDIFF_EXAMPLE: &str = "\
@@ -130,7 +141,8 @@ fn program<'w>(alloc: Global) -> Result<Command<'w>, AllocError>
         .disable_help_subcommand(true)
         .subcommand(show_command(alloc)?)?
         .subcommand(step_command(alloc)?)?
-        .subcommand(vdiff_command(alloc)?)
+        .subcommand(vdiff_command(alloc)?)?
+        .subcommand(save_command(alloc)?)
 }
 
 fn show_command<'w>(alloc: Global) -> Result<Command<'w>, AllocError>
@@ -153,6 +165,18 @@ fn step_command<'w>(alloc: Global) -> Result<Command<'w>, AllocError>
     Command::new(alloc, "step")
         .about("Takes the steps of a script on standard input over a workflow and its feeds")
         .after_help(STEP_EXAMPLE)
+        .arg(flag(alloc, "hex", "Reads feeds as hexadecimal text"))?
+        .arg(operand(alloc, "workflow", "WORKFLOW", "The workflow's file"))?
+        .arg(operands(alloc, "feed", "FEED", feed_help))
+}
+
+fn save_command<'w>(alloc: Global) -> Result<Command<'w>, AllocError>
+    ensures { IfOk result (IsSubcommand save_subcommand) }
+{
+    let feed_help = "A feed's file for each stream, in their order";
+    Command::new(alloc, "save")
+        .about("Writes the checkpoint of the board behind a script on standard input")
+        .after_help(SAVE_EXAMPLE)
         .arg(flag(alloc, "hex", "Reads feeds as hexadecimal text"))?
         .arg(operand(alloc, "workflow", "WORKFLOW", "The workflow's file"))?
         .arg(operands(alloc, "feed", "FEED", feed_help))
@@ -219,15 +243,29 @@ fn show_words<'w>(given: &ArgMatches<'w>) -> Show<'w>
     }
 }
 
-fn step_words<'w>(alloc: Global, given: &ArgMatches<'w>) -> Result<Words<'w>, AllocError>
-    ensures { IfOk result (λ words. value_of words ≡ asks_step (step_given (rows_of (found_of given.now)))) }
+fn script_words<'w>(alloc: Global, given: &ArgMatches<'w>) -> Result<Step<'w>, AllocError>
+    ensures { IfOk result (λ words. step_value words ≡ step_given (rows_of (found_of given.now))) }
 {
     let feeds = texts(alloc, given, "feed")?;
-    Ok(Words::Step(Step {
+    Ok(Step {
         hex: has_flag(given, "hex"),
         workflow: text(given, "workflow"),
         feeds,
-    }))
+    })
+}
+
+fn step_words<'w>(alloc: Global, given: &ArgMatches<'w>) -> Result<Words<'w>, AllocError>
+    ensures { IfOk result (λ words. value_of words ≡ asks_step (step_given (rows_of (found_of given.now)))) }
+{
+    let words = script_words(alloc, given)?;
+    Ok(Words::Step(words))
+}
+
+fn save_words<'w>(alloc: Global, given: &ArgMatches<'w>) -> Result<Words<'w>, AllocError>
+    ensures { IfOk result (λ words. value_of words ≡ asks_save (step_given (rows_of (found_of given.now)))) }
+{
+    let words = script_words(alloc, given)?;
+    Ok(Words::Save(words))
 }
 
 fn vdiff_words<'w>(given: &ArgMatches<'w>) -> VdiffFiles<'w>

@@ -6,11 +6,12 @@ ghost use Rattle.vrepl_main.specs.InputList.{bytes_of, script_asked, source_of, 
 ghost use Rattle.vrepl_main.specs.Command.{PrintsRefusal};
 ghost use Rattle.vrepl_main.specs.Comparison.{IsComparedAs, PrintsDumpRefusal, PrintsSomeComparison};
 ghost use Rattle.vrepl_main.specs.Replied.{PrintsReplies, PrintsSomeReplies};
+ghost use Rattle.vrepl_main.specs.SavedBoard.{PrintsCheckpoint, PrintsSomeCheckpoint};
 ghost use Rattle.vrepl_main.specs.declared.input.InputName.TheVariants.{File, Standard};
 ghost use Rattle.vrepl_main.specs.declared.vdiff.Verdict.TheVariants.{Same, Differ};
 
 use crate::input::InputName;
-use crate::{step, vdiff};
+use crate::{save, step, vdiff};
 use std::alloc::{AllocError, Global};
 use vdiff_core::Out;
 
@@ -25,7 +26,7 @@ pub struct VdiffFiles<'w> {
     pub target: &'w str,
 }
 
-/// The inputs of `step`: the workflow, the feeds in their order, and the script.
+/// The inputs of `step` and of `save`: the workflow, the feeds in their order, and the script.
 pub fn step_inputs<'w>(
     alloc: Global,
     workflow: &'w str,
@@ -69,6 +70,27 @@ pub fn step_on<W: Out, E: Out>(
     let last = inputs.len() - 1;
     let feeds = &inputs[1..last];
     step::step(alloc, hex, &inputs[0], feeds, &inputs[last], out, err)
+}
+
+/// Writes the checkpoint of the board behind the script, which is the last input, over the workflow, the
+/// first one, and its feeds, those between them.
+pub fn save_on<W: Out, E: Out>(
+    alloc: Global,
+    hex: bool,
+    inputs: &[Vec<u8>],
+    out: &mut W,
+    err: &mut E,
+) -> u8
+    requires { 2 ≤ length inputs.now }
+    ensures status { (result ≡ 0) ⊎ (result ≡ 1) }
+    ensures printed { result ≡ 0 → PrintsCheckpoint (script_asked hex (bytes_of inputs.now)) (W.written out.old).bytes (W.written out.new).bytes }
+    ensures begun { PrintsSomeCheckpoint (script_asked hex (bytes_of inputs.now)) (W.written out.old).bytes (W.written out.new).bytes }
+    ensures quiet { result ≡ 0 → err.new ≡ err.old }
+    ensures refused { result ≡ 1 → PrintsRefusal (script_asked hex (bytes_of inputs.now)) (E.written err.old).bytes (E.written err.new).bytes }
+{
+    let last = inputs.len() - 1;
+    let between = &inputs[1..last];
+    save::save(alloc, hex, &inputs[0], between, &inputs[last], out, err)
 }
 
 /// The inputs of `vdiff`: the workflow, the source's dump, and the target's.

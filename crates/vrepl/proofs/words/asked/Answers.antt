@@ -3,7 +3,7 @@ use Rattle.std.specs.Prelude.{IfOk}
 use Rattle.clap.specs.Words.{Row, Text, found_of, rows_of, subcommand_rows_of}
 use Rattle.vrepl.specs.Meant.{Asks, value_of}
 use Rattle.vrepl.specs.declared.words.Words.{Words}
-use Rattle.vrepl.specs.Words.{WordsValue, asked_by, asks_show, asks_step, asks_vdiff, show_given, step_given, vdiff_given}
+use Rattle.vrepl.specs.Words.{WordsValue, asked_by, asks_save, asks_show, asks_step, asks_vdiff, show_given, step_given, vdiff_given}
 use Rattle.vrepl.proofs.MetSubcommand.{met, none_met, other_text}
 use Rattle.vrepl.proofs.words.asked.Goals as goal
 
@@ -15,6 +15,10 @@ asked_step : (given : List Row) → asked_by (Some (codes "step", given)) ≡ So
 unfolding asked_by
 asked_step given = refl
 
+asked_save : (given : List Row) → asked_by (Some (codes "save", given)) ≡ Some (asks_save (step_given given))
+unfolding asked_by
+asked_save given = refl
+
 asked_vdiff : (given : List Row) → asked_by (Some (codes "vdiff", given)) ≡ Some (asks_vdiff (vdiff_given given))
 unfolding asked_by
 asked_vdiff given = refl
@@ -23,11 +27,11 @@ asked_none : asked_by None ≡ None
 unfolding asked_by
 asked_none = refl
 
-asked_other : (name : Text) (given : List Row) → (name ≡ codes "show" → ⊥) → (name ≡ codes "step" → ⊥) → (name ≡ codes "vdiff" → ⊥)
+asked_other : (name : Text) (given : List Row) → (name ≡ codes "show" → ⊥) → (name ≡ codes "step" → ⊥) → (name ≡ codes "vdiff" → ⊥) → (name ≡ codes "save" → ⊥)
     → asked_by (Some (name, given)) ≡ None
 unfolding asked_by
-asked_other name given no_show no_step no_vdiff =
-    rw (other_text name (codes "show") no_show, other_text name (codes "step") no_step, other_text name (codes "vdiff") no_vdiff) refl
+asked_other name given no_show no_step no_vdiff no_save =
+    rw (other_text name (codes "show") no_show, other_text name (codes "step") no_step, other_text name (codes "vdiff") no_vdiff, other_text name (codes "save") no_save) refl
 
 -- words that were read, or a fault
 asks_read : {E : Type 0} (result : Result Words E) (value : WordsValue) (asked : Option WordsValue) → asked ≡ Some value → IfOk result (λ words. value_of words ≡ value) → Asks (Some result) asked
@@ -52,6 +56,14 @@ returns-in-step c =
     (ap asked_by (is ∙ ap (λ n. Some (n, rows_of (found_of c.in_ok-name.given.now))) c.in-step.is) ∙ asked_step (rows_of (found_of c.in_ok-name.given.now)))
     c.step_words.ensures
 
+pub returns-in-save : goal.returns-in-save
+returns-in-save c =
+    let is : subcommand_rows_of c.args.matches.now ≡ Some (c.in_ok-name.name.now, rows_of (found_of c.in_ok-name.given.now)) =
+    met c.args.matches.now _ _ c.in_ok-name.ensures.name c.in_ok-name.ensures.rows in
+    asks_read c.save_words.result (asks_save (step_given (rows_of (found_of c.in_ok-name.given.now)))) (asked_by (subcommand_rows_of c.args.matches.now))
+    (ap asked_by (is ∙ ap (λ n. Some (n, rows_of (found_of c.in_ok-name.given.now))) c.in-save.is) ∙ asked_save (rows_of (found_of c.in_ok-name.given.now)))
+    c.save_words.ensures
+
 pub returns-in-vdiff : goal.returns-in-vdiff
 returns-in-vdiff c =
     let is : subcommand_rows_of c.args.matches.now ≡ Some (c.in_ok-name.name.now, rows_of (found_of c.in_ok-name.given.now)) =
@@ -63,4 +75,4 @@ pub returns-in_default : goal.returns-in_default
 returns-in_default c =
     let is : subcommand_rows_of c.args.matches.now ≡ Some (c.in_ok-name.name.now, rows_of (found_of c.in_ok-name.given.now)) =
     met c.args.matches.now _ _ c.in_ok-name.ensures.name c.in_ok-name.ensures.rows in
-    ap asked_by is ∙ asked_other c.in_ok-name.name.now _ c.in_default.not-show c.in_default.not-step c.in_default.not-vdiff
+    ap asked_by is ∙ asked_other c.in_ok-name.name.now _ c.in_default.not-show c.in_default.not-step c.in_default.not-vdiff c.in_default.not-save

@@ -18,4 +18,5 @@ returns c =
     let no_help = sets (on_top (λ (s : Shape). record s { disable_help_subcommand = true })) _ c.subcommand_required.result c.disable_help_subcommand.result _ c.disable_help_subcommand.ensures refl refl required in
     let show = adds_subcommand _ _ c.disable_help_subcommand.result c.in_ok-subcommand.field-0 c.in_ok-show_command.field-0 c.in_ok-subcommand.ensures no_help c.in_ok-show_command.ensures in
     let step = adds_subcommand _ _ c.in_ok-subcommand.field-0 c.in_ok-subcommand-2.field-0 c.in_ok-step_command.field-0 c.in_ok-subcommand-2.ensures show c.in_ok-step_command.ensures in
-    IfOk-weaker c.subcommand-3.result _ _ (λ made adds. adds_subcommand _ _ c.in_ok-subcommand-2.field-0 made c.in_ok-vdiff_command.field-0 adds step c.in_ok-vdiff_command.ensures) c.subcommand-3.ensures
+    let vdiff = adds_subcommand _ _ c.in_ok-subcommand-2.field-0 c.in_ok-subcommand-3.field-0 c.in_ok-vdiff_command.field-0 c.in_ok-subcommand-3.ensures step c.in_ok-vdiff_command.ensures in
+    IfOk-weaker c.subcommand-4.result _ _ (λ made adds. adds_subcommand _ _ c.in_ok-subcommand-3.field-0 made c.in_ok-save_command.field-0 adds vdiff c.in_ok-save_command.ensures) c.subcommand-4.ensures

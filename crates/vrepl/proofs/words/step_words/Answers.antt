@@ -1,5 +1,6 @@
-use Rattle.std.proofs.Common.{refl}
+use Rattle.std.proofs.Common.{ap}
+use Rattle.vrepl.specs.Words.{asks_step}
 use Rattle.vrepl.proofs.words.step_words.Goals as goal
 
 pub returns : goal.returns
-returns c = rw (c.has_flag.ensures, c.text.ensures, c.in_ok-feeds.ensures) refl
+returns c = ap asks_step c.in_ok-words.ensures
