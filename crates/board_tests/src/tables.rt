@@ -1,4 +1,4 @@
-use std::alloc::Global;
+use std::alloc::{AllocError, Global};
 use std::test::*;
 use target_tables::*;
 
@@ -162,17 +162,16 @@ fn put_keys(
     Ok(touch(alloc, tables, stream, touches).is_none())
 }
 
-/// How many keys at the front of those that both maps have have a row of stream 0 in the one and of stream 1 in the
-/// other.
+/// How many keys have a row of stream 0 in the one map and of stream 1 in the other, of the first 1000 that both have.
 fn met_by_0_and_1(one: &Tables<u64, u32>, other: &Tables<u64, u32>) -> u64 {
     let mut keys = one.common(other);
-    for count in 0..1000 {
-        match keys.next_key() {
-            Some((_, 0, 1)) => {}
-            _ => return count,
+    let mut count = 0u64;
+    for _ in 0..1000 {
+        if let Some((_, 0, 1)) = keys.next_key() {
+            count = count.saturating_add(1);
         }
     }
-    1000
+    count
 }
 
 /// Stream 0's rows come from the first map and stream 1's from the second, over several pages.
