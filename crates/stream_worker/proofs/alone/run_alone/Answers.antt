@@ -4,6 +4,9 @@ use Rattle.stream_worker.specs.Ended.{AllHaveEnded}
 use Rattle.stream_worker.proofs.OneStep.{ended-more}
 use Rattle.stream_worker.proofs.alone.run_alone.Goals as goal
 
+pub loop-s-init : goal.loop-s-init
+loop-s-init c = (c.in_ok-board.ensures.fed.1, λ t feed state less at_f at_s. absurd (omega (arith, less)))
+
 pub loop-s-preserved : goal.loop-s-preserved
 loop-s-preserved c =
     (c.in-Ok.ensures.fed, ended-more c.args.feeds.now c.loop-s.board c.run_stream.new.board c.loop-s.s c.loop-s.invariant.1 c.in-Ok.ensures.others c.in-Ok.ensures.ended)
