@@ -15,17 +15,21 @@ use crate::opened::{Opened, open_workflow};
 use crate::refusal::{Refusal, refuse};
 use crate::script::ScriptStep;
 use crate::step::{fresh_board, steps_of};
-use apply_core::{Board, save as checkpoint};
+use apply_core::{Answer, Board, StepRefusal, save as checkpoint};
 use filter_rule::Plan;
 use source_feed::Feed;
 use std::alloc::{AllocError, Global};
 use std::sync::Arc;
 use vdiff_core::{Out, OutFailed, put_all};
 
+/// The number of a refusal for want of memory.
+const MEMORY: u8 = 72;
+
 /// Takes the steps of a script on a board over a workflow and its feeds, one in the order of the streams
 /// each, and prints on `out` the checkpoint of the board that they leave; their replies aren't printed. Or
 /// prints the line of a refusal on `err` and then nothing on `out`, unless it is `out` that can't be written.
-/// A refused step doesn't end the script. Where `hex` is set feeds are hexadecimal text. Answers the status:
+/// A refused step doesn't end the script, unless it is refused for want of memory: the checkpoint would be of
+/// another board then. Where `hex` is set feeds are hexadecimal text. Answers the status:
 /// 0, or 1 after a refusal, also of memory.
 pub fn save<W: Out, E: Out>(
     alloc: Global,
@@ -105,28 +109,50 @@ fn board_behind<'h>(
     ensures { IfOk result (λ board. (replies : List ScriptReply) × IsScriptRun feeds.now (fresh_board (map arc_value plans.items)) steps.now replies board) }
 {
     let mut board = fresh_board(alloc, plans)?;
-    take_quietly(alloc, &mut board, feeds, steps);
+    take_quietly(alloc, &mut board, feeds, steps)?;
     Ok(board)
 }
 
-/// Takes the steps of a script on a board, one after another, whatever they reply.
-fn take_quietly<'h>(alloc: Global, board: &mut Board<'h>, feeds: &[Feed<'h>], steps: &[ScriptStep])
-    ensures { (replies : List ScriptReply) × IsScriptRun feeds.now board.old steps.now replies board.new }
+/// Takes the steps of a script on a board, one after another, whatever they reply, up to one that is refused
+/// for want of memory.
+fn take_quietly<'h>(
+    alloc: Global,
+    board: &mut Board<'h>,
+    feeds: &[Feed<'h>],
+    steps: &[ScriptStep],
+) -> Result<(), AllocError>
+    ensures { OnOk result ((replies : List ScriptReply) × IsScriptRun feeds.now board.old steps.now replies board.new) }
 {
     for step in steps {
-        take_one(alloc, board, feeds, *step);
+        take_one(alloc, board, feeds, *step)?;
     }
+    Ok(())
 }
 
-/// Takes what a line of a script says on a board, whatever it replies.
-fn take_one<'h>(alloc: Global, board: &mut Board<'h>, feeds: &[Feed<'h>], step: ScriptStep)
+/// Takes what a line of a script says on a board, whatever it replies. An error is that of a step that is
+/// refused for want of memory.
+fn take_one<'h>(
+    alloc: Global,
+    board: &mut Board<'h>,
+    feeds: &[Feed<'h>],
+    step: ScriptStep,
+) -> Result<(), AllocError>
     ensures { (reply : ScriptReply) × IsScriptStep feeds.now board.old step reply board.new }
 {
     match step {
         ScriptStep::Take { stream, step } => {
-            let _answer = answer_to(alloc, board, feeds, stream, step);
+            let answer = answer_to(alloc, board, feeds, stream, step);
+            unless_memory(&answer)
         }
-        ScriptStep::State { .. } => {}
-        ScriptStep::Dump => {}
+        ScriptStep::State { .. } => Ok(()),
+        ScriptStep::Dump => Ok(()),
+    }
+}
+
+/// An error where a step was refused for want of memory.
+fn unless_memory(answer: &Result<Answer, StepRefusal>) -> Result<(), AllocError> {
+    match answer {
+        Err(refusal) if refusal.number() == MEMORY => Err(AllocError),
+        _ => Ok(()),
     }
 }
