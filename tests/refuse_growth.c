@@ -13,6 +13,7 @@ extern void *__libc_realloc(void *old, size_t size);
 extern char *getenv(const char *name);
 extern int creat(const char *path, unsigned mode);
 extern long write(int file, const void *bytes, size_t count);
+extern void _Exit(int status);
 
 static unsigned long growths, refused;
 static int and_later;
@@ -39,9 +40,17 @@ __attribute__((destructor)) static void end(void) {
     write(file, digits + at, sizeof digits - (size_t)at);
 }
 
+/* A program that may start threads ends by this, and no destructor runs. */
+void _exit(int status) {
+    end();
+    _Exit(status);
+    __builtin_unreachable();
+}
+
+/* Threads may ask at once. */
 static int is_refused(void) {
-    growths++;
-    return refused && (growths == refused || (and_later && growths > refused));
+    unsigned long at = __atomic_add_fetch(&growths, 1, __ATOMIC_SEQ_CST);
+    return refused && (at == refused || (and_later && at > refused));
 }
 
 void *malloc(size_t size) {

@@ -51,7 +51,7 @@ def is_reply_of_a_step(case, status, stdout, stderr):
     replies, wanted = stdout.splitlines(), case.stdout.splitlines()
     same = [reply == other for reply, other in zip(replies, wanted)] + [False]
     first = replies[same.index(False) :][:1]
-    is_script = case.words[:1] == [b"step"]
+    is_script = case.words[:1] in ([b"step"], [b"resume"])
     return is_script and (status, stderr, first) == (case.status, case.stderr, [b"refused 72"])
 
 

@@ -12,3 +12,6 @@ pub mod BesideLaws
 pub mod JoinLaws
 pub mod SaveLaws
 pub mod MeetingLaws
+pub mod ResumeLaws
+pub mod KeyedLaws
+pub mod AfterSaveLaws

@@ -5,3 +5,4 @@ pub mod Chunks
 pub mod Putting
 pub mod Private
 pub mod Shown
+pub mod Resuming

@@ -7,3 +7,4 @@ pub mod Beside
 pub mod Meeting
 pub mod Together
 pub mod Saving
+pub mod Resuming

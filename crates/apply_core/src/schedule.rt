@@ -22,7 +22,7 @@ use std::sync::Arc;
 use stream_core::Step;
 
 /// Whether each feed was opened under the plan of its number. Takes no memory.
-fn are_opened_under(feeds: &[Feed<'_>], plans: &[Arc<Plan>]) -> bool
+pub(crate) fn are_opened_under(feeds: &[Feed<'_>], plans: &[Arc<Plan>]) -> bool
     requires { length feeds.now ≡ length plans.now }
     ensures opened { IsTrue result ↔ (map (λ (feed : FeedValue). feed.plan) feeds.now ≡ map arc_value plans.now) }
     ensures whole { IsTrue result → AreWhole feeds.now }

@@ -1,4 +1,5 @@
 use std::alloc::{AllocError, Global};
+use std::sync::Arc;
 use std::test::*;
 use target_tables::*;
 
@@ -110,6 +111,32 @@ fn staged_touches_wait_for_their_commit(rt: HostRuntime) -> Result<(), Fail> {
         tables.get(&5).map(|(stream, row)| (stream, *row)),
         Some((2, 50))
     );
+    Ok(())
+}
+
+/// Puts a row at key 1, or takes it away; what that replaced.
+fn replaced(
+    alloc: Global,
+    tables: &mut Tables<u64, Arc<u32>>,
+    row: Option<Arc<u32>>,
+) -> Result<Freed<u64, Arc<u32>>, AllocError> {
+    match tables.apply(alloc, 0, vec![in alloc; (1, row)]?) {
+        Ok(freed) => Ok(freed),
+        Err(_) => Err(AllocError),
+    }
+}
+
+/// A row that is taken away is there until whoever took it away drops it.
+#[test]
+fn what_is_replaced_is_freed_by_the_caller(rt: HostRuntime) -> Result<(), Fail> {
+    let alloc = rt.alloc();
+    let mut tables: Tables<u64, Arc<u32>> = Tables::new(alloc);
+    let row = Arc::new(alloc, 7)?;
+    drop(replaced(alloc, &mut tables, Some(Arc::clone(&row)?))?);
+    let freed = replaced(alloc, &mut tables, None)?;
+    let held = Arc::strong_count(&row);
+    drop(freed);
+    assert!(rt; tables.is_empty() && held == 2 && Arc::strong_count(&row) == 1);
     Ok(())
 }
 

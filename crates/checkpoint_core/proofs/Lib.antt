@@ -4,3 +4,4 @@ pub mod MarkLaws
 pub mod BehindLaws
 pub mod RowLaws
 pub mod ReadLaws
+pub mod GroupLaws

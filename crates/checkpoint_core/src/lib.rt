@@ -4,6 +4,7 @@
 mod fault;
 mod head;
 mod marks;
+mod numbers;
 mod parts;
 mod reading;
 mod rows;
@@ -12,6 +13,7 @@ mod texts;
 mod writing;
 
 pub use fault::ReadFault;
+pub use numbers::{groups_up_to, number_at};
 pub use reading::read_checkpoint;
 pub use saved::ReadStream;
 pub use writing::put_stream;

@@ -117,7 +117,7 @@ same_place feed whole position zero b p q = let clash : None ≡ Some p.group = 
 same_place feed whole position (suc i) zero p q = let clash : None ≡ Some q.group = q.there in absurd (none-some q.group clash)
 same_place feed whole position (suc i) (suc j) p q = ap suc (one_place feed whole i j p.group q.group p.there q.there (p.at ∙ sym q.at))
 
-one_number : (feed : FeedValue) (whole : IsFeed feed) (position : Position) (a b : ℕ) → IsNumberAt feed position a → IsNumberAt feed position b → a ≡ b
+pub one_number : (feed : FeedValue) (whole : IsFeed feed) (position : Position) (a b : ℕ) → IsNumberAt feed position a → IsNumberAt feed position b → a ≡ b
 one_number feed whole position a b (inl p) (inl q) = p.1 ∙ sym q.1
 one_number feed whole position a b (inl p) (inr q) = none_empty feed whole position b p.0 q
 one_number feed whole position a b (inr p) (inl q) = none_empty feed whole position a q.0 p

@@ -69,12 +69,11 @@ SavedBoardsAreSaid = (board : Meaning) → IsLawful board → AreWithin board �
 
 -- ---- the resumed board
 
--- feeds as a board can have them: from 1 to 64, whole, under well-formed plans over the same tables
+-- feeds as a board can have them: from 1 to 64, whole, under plans over the same tables
 pub record AreFeeds (feeds : List FeedValue) : Type 0 where
   pub some : 1 ≤ length feeds
   pub few : length feeds ≤ 64
   pub whole : (s : ℕ) (feed : FeedValue) → slice_get feeds s ≡ Some feed → IsFeed feed
-  pub plans : AllByRecursion IsPlan (plans_of_feeds feeds)
   pub tables : (s t : ℕ) (one other : FeedValue) → slice_get feeds s ≡ Some one → slice_get feeds t ≡ Some other → one.plan.tables ≡ other.plan.tables
 
 -- whatever the bytes, a board that they and feeds make is lawful, and has the positions, marks and rows that they say

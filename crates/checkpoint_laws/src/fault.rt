@@ -4,6 +4,7 @@ ghost use Rattle.std.specs.Prelude.{◌≡◌};
 
 use pk_copy::Key;
 use source_feed::FeedFault;
+use std::alloc::AllocError;
 use thiserror::Error;
 
 /// Why a checkpoint isn't resumed.
@@ -35,6 +36,16 @@ pub enum ResumeFault {
     /// A growth was refused.
     #[error("out of memory")]
     Memory,
+}
+
+impl From<AllocError> for ResumeFault {
+    ghost use Rattle.checkpoint_laws.specs.declared.fault.ResumeFault.TheVariants.{Memory};
+
+    ghost from_gives = { λ _ fault. fault ≡ Memory };
+
+    fn from(_: AllocError) -> ResumeFault {
+        ResumeFault::Memory
+    }
 }
 
 impl ResumeFault {

@@ -9,6 +9,9 @@ pub mod Reached
 pub mod Added
 pub mod Parts
 pub mod DigitLaws
+pub mod HexTables
+pub mod UuidHalves
+pub mod FirstCut
 pub mod Reading
 pub mod PartLaws
 pub mod WholeText

@@ -34,27 +34,41 @@ pub fn number(text: &[u8], low: u64) -> Result<u64, GtidFault>
     Ok(number)
 }
 
+/// The value of each byte as a hexadecimal digit of either case, 255 where it is none.
+static HEX_VALUES: [u8; 256] = [
+    255, 255, 255, 255, 255, 255, 255, 255, 255, 255, 255, 255, 255, 255, 255, 255, 255, 255, 255,
+    255, 255, 255, 255, 255, 255, 255, 255, 255, 255, 255, 255, 255, 255, 255, 255, 255, 255, 255,
+    255, 255, 255, 255, 255, 255, 255, 255, 255, 255, 0, 1, 2, 3, 4, 5, 6, 7, 8, 9, 255, 255, 255,
+    255, 255, 255, 255, 10, 11, 12, 13, 14, 15, 255, 255, 255, 255, 255, 255, 255, 255, 255, 255,
+    255, 255, 255, 255, 255, 255, 255, 255, 255, 255, 255, 255, 255, 255, 255, 255, 10, 11, 12, 13,
+    14, 15, 255, 255, 255, 255, 255, 255, 255, 255, 255, 255, 255, 255, 255, 255, 255, 255, 255,
+    255, 255, 255, 255, 255, 255, 255, 255, 255, 255, 255, 255, 255, 255, 255, 255, 255, 255, 255,
+    255, 255, 255, 255, 255, 255, 255, 255, 255, 255, 255, 255, 255, 255, 255, 255, 255, 255, 255,
+    255, 255, 255, 255, 255, 255, 255, 255, 255, 255, 255, 255, 255, 255, 255, 255, 255, 255, 255,
+    255, 255, 255, 255, 255, 255, 255, 255, 255, 255, 255, 255, 255, 255, 255, 255, 255, 255, 255,
+    255, 255, 255, 255, 255, 255, 255, 255, 255, 255, 255, 255, 255, 255, 255, 255, 255, 255, 255,
+    255, 255, 255, 255, 255, 255, 255, 255, 255, 255, 255, 255, 255, 255, 255, 255, 255, 255, 255,
+    255, 255, 255, 255, 255, 255, 255, 255, 255, 255, 255, 255, 255, 255, 255, 255, 255, 255, 255,
+    255, 255, 255,
+];
+
 fn hex_digit(byte: u8) -> Option<u8>
     ensures value { result ≡ hex_digit_of byte }
     ensures small { IfSome result (λ d. d < 16) }
 {
-    match byte {
-        b'0'..=b'9' => Some(byte - b'0'),
-        b'a'..=b'f' => Some(byte - b'a' + 10),
-        b'A'..=b'F' => Some(byte - b'A' + 10),
-        _ => None,
-    }
+    let value = HEX_VALUES[usize::from(byte)];
+    if value < 16 { Some(value) } else { None }
 }
 
 /// The number of hexadecimal digits behind those that `front` stands for.
-fn hex_behind(front: u128, text: &[u8]) -> Option<u128>
-    requires { (front + 1) * 16 ^ length text.now ≤ 2 ^ 128 }
+fn hex_behind(front: u64, text: &[u8]) -> Option<u64>
+    requires { (front + 1) * 16 ^ length text.now ≤ 2 ^ 64 }
     ensures value { result ≡ number_behind hex_digit_of 16 front text.now }
     ensures small { IfSome result (λ n. n + 1 ≤ (front + 1) * 16 ^ length text.now) }
 {
     let mut number = front;
     for byte in text {
-        number = number * 16 + u128::from(hex_digit(*byte)?);
+        number = number * 16 + u64::from(hex_digit(*byte)?);
     }
     Some(number)
 }
@@ -77,7 +91,8 @@ pub fn uuid(text: &[u8]) -> Option<u128>
     }
     let time_low = hex_behind(0, &text[..8])?;
     let time_mid = hex_behind(time_low, &text[9..13])?;
-    let version = hex_behind(time_mid, &text[14..18])?;
-    let clock = hex_behind(version, &text[19..23])?;
-    hex_behind(clock, &text[24..36])
+    let high = hex_behind(time_mid, &text[14..18])?;
+    let clock = hex_behind(0, &text[19..23])?;
+    let low = hex_behind(clock, &text[24..36])?;
+    Some(u128::from(high) * (1 << 64) + u128::from(low))
 }

@@ -23,5 +23,5 @@ pub use laws::{
     subset_is_an_order, too_large_and_flavor_are_of_the_whole_text,
     union_is_the_least_set_over_both, union_with_a_superset_is_the_superset, within_is_subset,
 };
-pub use printed::IntervalText;
+pub use printed::{IntervalText, uuid_text};
 pub use set::GtidSet;

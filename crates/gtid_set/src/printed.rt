@@ -42,8 +42,8 @@ fn put(text: &mut [u8; 36], at: usize, group: u16)
     text[at + 3] = hex_glyph(group % 16);
 }
 
-/// A uuid's text, 8-4-4-4-12, in lower case.
-fn uuid_text(uuid: u128) -> [u8; 36]
+/// A uuid's text, 8-4-4-4-12, in lower case. Takes no memory.
+pub fn uuid_text(uuid: u128) -> [u8; 36]
     ensures { result ≡ uuid_text uuid }
 {
     let mut text = [b'-'; 36];

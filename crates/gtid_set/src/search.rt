@@ -19,6 +19,7 @@ pub fn place_of(set: &[Interval], interval: &Interval) -> usize
 
 /// The same place, where all intervals before `from` end before `interval`: by steps that double,
 /// and then by halves.
+#[inline(always)]
 fn reach(set: &[Interval], from: usize, interval: &Interval) -> usize
     requires canonical { IsCanonical set.now }
     requires inside { from ≤ length set.now }
@@ -27,6 +28,9 @@ fn reach(set: &[Interval], from: usize, interval: &Interval) -> usize
     ensures passed { AllEndBefore interval.now (take result set.now) }
     ensures stops { result < length set.now → HoldsAt (λ i. ends_before i interval.now ≡ false) set.now result }
 {
+    if from < set.len() && !set[from].ends_before(interval) {
+        return from;
+    }
     let mut low = from;
     let mut step = 1;
     while step <= set.len() - low && set[low + step - 1].ends_before(interval) {

@@ -4,6 +4,8 @@ ghost use Rattle.std.specs.Prelude.{◌≡◌};
 ghost use Rattle.std.specs.Option.{option_map};
 ghost use Rattle.gtid_set.specs.Blank.{is_blank, trimmed_front, trimmed_end, trimmed, cut};
 
+use memchr::memchr;
+
 fn is_blank(byte: u8) -> bool
     ensures { result ≡ is_blank byte }
 {
@@ -44,13 +46,12 @@ pub fn trimmed(text: &[u8]) -> &[u8]
 }
 
 /// What stands before the first separator, and what stands behind it where there is one.
+#[inline(always)]
 pub fn cut(text: &[u8], separator: u8) -> (&[u8], Option<&[u8]>)
     ensures { (result.0.now, option_map (λ r. r.now) result.1) ≡ cut separator text.now }
 {
-    for (place, byte) in text.iter().enumerate() {
-        if *byte == separator {
-            return (&text[..place], Some(&text[place + 1..]));
-        }
+    match memchr(separator, text) {
+        Some(place) => (&text[..place], Some(&text[place + 1..])),
+        None => (text, None),
     }
-    (text, None)
 }

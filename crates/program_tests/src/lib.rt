@@ -9,6 +9,10 @@ mod inputs;
 #[cfg(test)]
 mod outputs;
 #[cfg(test)]
+mod resume;
+#[cfg(test)]
+mod run;
+#[cfg(test)]
 mod save;
 #[cfg(test)]
 mod scripts;

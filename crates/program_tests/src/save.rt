@@ -9,10 +9,14 @@ use vdiff_core::Writer;
 use vrepl_main::save::save;
 
 /// One group, which inserts (1, ab).
-const ONE_ROW: &str = "6c 0a020802 0a18080d32140a017412070a02696410890212060a0176109530 \
+pub const ONE_ROW: &str = "6c 0a020802 0a18080d32140a017412070a02696410890212060a0176109530 \
     0a14080c2a100a0174120b12090a0202041203316162 \
     0a3208011a2e4d7953514c35362f33653131666134372d373163612d313165312d396533332d6338306161393432393536323a31 \
     0a020803";
+
+/// The checkpoint of the board that has copied and applied this group.
+pub const SAVED: &[u8] =
+    b"VREPLCP1`\n\x03-80\x12Y\x08\x02\x12U\n\x07\n\x02id\x10\x89\x02\n\x06\n\x01v\x10\x950\x12\x07\n\x02id\x10\x89\x02\x1a.MySQL56/3e11fa47-71ca-11e1-9e33-c80aa9429562:1\"\x09\n\x02\x02\x04\x12\x031ab";
 
 /// `save` over feeds in hexadecimal text ends with this status, and has printed these bytes, and behind them
 /// on standard error this line; an error where memory was wanting.
@@ -42,9 +46,7 @@ fn prints(
 #[test]
 fn checkpoint_of_one_row(rt: HostRuntime) -> Result<(), Fail> {
     let script = "offer 0 1\nadvance 0\nopen 0 1\ncopy 0 1\nadvance 0\ndump\n";
-    let wanted: &[u8] =
-        b"VREPLCP1`\n\x03-80\x12Y\x08\x02\x12U\n\x07\n\x02id\x10\x89\x02\n\x06\n\x01v\x10\x950\x12\x07\n\x02id\x10\x89\x02\x1a.MySQL56/3e11fa47-71ca-11e1-9e33-c80aa9429562:1\"\x09\n\x02\x02\x04\x12\x031ab";
-    assert!(rt; prints(rt.alloc(), (&[ONE_ROW], script), 0, wanted, "")?);
+    assert!(rt; prints(rt.alloc(), (&[ONE_ROW], script), 0, SAVED, "")?);
     Ok(())
 }
 

@@ -39,6 +39,7 @@ impl<'b> Field<'b> {
 impl<'b> Fields<'b> {
     /// The next bytes under the number, or `None` at the end; fields before them are skipped. After
     /// the end the end is answered again, and after a fault the same fault. Takes no memory.
+    #[inline(always)]
     pub fn next_part(&mut self, number: u32) -> Result<Option<&'b [u8]>, WireFault>
         ensures { Next (λ p. p.now) (parts_left number self.old) result (parts_left number self.new) }
     {
@@ -87,6 +88,7 @@ impl<'b> Iterator for Parts<'b> {
 
     ghost remaining = { item_count (λ rest. rest) };
 
+    #[inline(always)]
     fn next(&mut self) -> Option<&'b [u8]> {
         match self.fields.next_part(self.number) {
             Ok(part) => part,
@@ -96,6 +98,7 @@ impl<'b> Iterator for Parts<'b> {
 }
 
 /// The embedded message under the number, the first of several, or none. Takes no memory.
+#[inline(always)]
 pub fn single_of(message: &[u8], number: u32) -> Option<&[u8]>
     ensures { option_copied result ≡ single number message.now }
 {

@@ -50,6 +50,7 @@ impl<'b> Iterator for Columns<'b> {
 
     ghost remaining = { item_count (λ s. s) };
 
+    #[inline(always)]
     fn next(&mut self) -> Option<Column<'b>> {
         let length = self.lengths.next_length()?;
         if length < 0 {

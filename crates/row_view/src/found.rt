@@ -23,6 +23,7 @@ pub(crate) struct Found<'b> {
 }
 
 /// Reads the fields of a row message, or finds the fault of the wire that lies furthest left.
+#[inline(always)]
 pub(crate) fn found_in(bytes: &[u8]) -> Result<Found<'_>, WireFault>
     ensures { MatchResult result
         (λ found. (row_wire_fault bytes.now ≡ None) × (found.values.now ≡ row_values bytes.now)

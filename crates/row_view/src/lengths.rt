@@ -39,6 +39,7 @@ impl<'b> Lengths<'b> {
     }
 
     /// The next length, or `None` at the end.
+    #[inline(always)]
     pub(crate) fn next_length(&mut self) -> Option<i64>
         ensures { YieldsFirst (λ s. s) self.old result self.new }
     {

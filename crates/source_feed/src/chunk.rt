@@ -1,4 +1,4 @@
-//! The first rows of a table past a key.
+//! Rows of an image: the first ones of a table past a key, and all.
 
 ghost use Rattle.std.specs.Prelude.{◌≡◌, IfOk, map};
 ghost use Rattle.std.specs.Option.{option_copied};
@@ -51,6 +51,20 @@ fn entries_past<'i, 'h>(
 }
 
 impl<'h> Image<'h> {
+    /// All rows with their keys, by rising key. Takes memory for the answer; an error is want of it.
+    pub fn rows<'i>(
+        &'i self,
+        alloc: Global,
+    ) -> Result<Vec<(&'i LentKey<'h>, &'i RowBytes<'h>)>, AllocError>
+        ensures { IfOk result (λ found. map lent_row found.items ≡ self.now) }
+    {
+        let mut found = Vec::with_capacity(alloc, self.len())?;
+        for (key, _, row) in self.rows.iter() {
+            found.push((key, row))?;
+        }
+        Ok(found)
+    }
+
     /// The first so many rows of table `t` past a key, or from the table's first key on where none is
     /// given, by rising key. The first of them is found by halves, and no row of another table is passed
     /// over. Takes memory for the answer and for a key of several parts; an error is want of it.

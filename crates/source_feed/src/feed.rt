@@ -1,11 +1,11 @@
 //! A feed under a plan.
 
 ghost use Rattle.std.specs.Prelude.{◌≡◌, ◌↔◌, [], length, IsTrue, IfOk, slice_get};
-ghost use Rattle.std.specs.Option.{option_copied};
+ghost use Rattle.std.specs.Option.{option_copied, option_map};
 ghost use Rattle.std.specs.Arc.{arc_value};
 ghost use Rattle.outcome.specs.Outcome.{GivesUnless};
 ghost use Rattle.source_feed.specs.FaultNumber.{meant_of};
-ghost use Rattle.source_feed.specs.Planned.{groups_under, IsFeed};
+ghost use Rattle.source_feed.specs.Planned.{PlannedGroupValue, groups_under, IsFeed};
 ghost use Rattle.source_feed.specs.Prepared.{IsPrepared};
 ghost use Rattle.source_feed.specs.Touches.{group_at, prepared_at};
 
@@ -17,6 +17,7 @@ use crate::prepared::Prepared;
 use crate::preparing::touches_of;
 use crate::source::Source;
 use filter_rule::Plan;
+use gtid_set::GtidSet;
 use std::alloc::Global;
 use std::marker::Model;
 use std::sync::Arc;
@@ -106,6 +107,17 @@ impl<'h> Feed<'h> {
             return None;
         }
         group_in(&self.groups, (number - 1) as usize)
+    }
+
+    /// The source's position after the group of a number, from 1, if the feed has that group. Reads no row
+    /// and takes no memory.
+    pub fn position(&self, number: u32) -> Option<&GtidSet>
+        ensures { option_copied result ≡ option_map (λ (group : PlannedGroupValue). group.position) (group_at self.now number) }
+    {
+        match self.group(number) {
+            None => None,
+            Some(group) => Some(group.position()),
+        }
     }
 
     /// The group of a number, from 1, with its touches in order: in each change first the row before, whose

@@ -3,7 +3,7 @@
 ghost use Rattle.std.specs.Prelude.{◌≡◌};
 
 use gtid_set::GtidSet;
-use row_view::RowView;
+use row_view::{RowBytes, RowView};
 use std::marker::Model;
 use vevent::RowChange;
 
@@ -43,6 +43,20 @@ impl<'h> Change<'h> {
         ensures { result ≡ self.now.after }
     {
         self.rows.after()
+    }
+
+    /// The bytes of the row before the change, or `None` for an insert. Reads no row.
+    pub fn before_bytes(&self) -> Option<RowBytes<'h>>
+        ensures { result ≡ self.now.before }
+    {
+        self.rows.before_bytes()
+    }
+
+    /// The bytes of the row after the change, or `None` for a delete. Reads no row.
+    pub fn after_bytes(&self) -> Option<RowBytes<'h>>
+        ensures { result ≡ self.now.after }
+    {
+        self.rows.after_bytes()
     }
 }
 

@@ -55,6 +55,7 @@ fn last_position<'g>(groups: &'g [Group<'_>], empty: &'g GtidSet) -> &'g GtidSet
 }
 
 /// Ends a block: it is kept behind the groups, or skipped as a repeat, or refused as diverged.
+#[inline(always)]
 fn end_block<'h>(
     alloc: Global,
     groups: &mut Vec<Group<'h>>,

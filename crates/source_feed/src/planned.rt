@@ -90,6 +90,13 @@ impl<'h> PlannedGroup<'h> {
         &self.position
     }
 
+    /// The source's position after the group.
+    pub(crate) fn position(&self) -> &GtidSet
+        ensures { result.now ≡ self.now.position }
+    {
+        &self.position
+    }
+
     /// The group's changes, in the feed's order.
     pub(crate) fn changes(&self) -> &[PlannedChange<'h>]
         ensures { result.now ≡ self.now.changes }

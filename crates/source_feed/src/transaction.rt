@@ -68,7 +68,7 @@ fn push_change<'h>(
     ensures pushed { OnOk result (changes.new.items ≡ changes.old.items ++ change_in table.now rows.entry) }
     ensures err { IfErr result (λ fault. fault ≡ Memory) }
 {
-    if rows.has_before() || rows.has_after() {
+    if rows.has_after() || rows.has_before() {
         if changes.len() < 2 {
             // most transactions change one row or two; behind them the room doubles
             changes.reserve_exact(1)?;

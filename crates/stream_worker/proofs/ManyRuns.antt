@@ -1,9 +1,9 @@
 -- What is left of the runs of all seats, and the board that they leave.
-use Rattle.std.proofs.Common.{◌≡◌, ◌≢◌, ℕ, zero, suc, ◌+◌, ◌<◌, ◌≤◌, List, [], ◌∷◌, ◌++◌, length, map, take, Option, Some, None, Result, Ok, Err, IsSome, slice_get, refl, sym, ap, subst, ◌∙◌, arith}
+use Rattle.std.proofs.Common.{◌≡◌, ℕ, zero, suc, ◌<◌, ◌≤◌, List, [], ◌∷◌, ◌++◌, length, map, take, Option, Some, None, Result, Ok, Err, IsSome, slice_get, refl, sym, ap, subst, ◌∙◌, arith}
 use Rattle.std.proofs.lemmas.List.{length-map}
 use Rattle.std.proofs.lemmas.Option.{same_Some, none-some, slice_get-map, slice_get_within}
-use Rattle.std.specs.Prelude.{IsSomeAnd, MatchOption, IfSome}
-use Rattle.std.specs.Option.{option_or, option_map, option_and_then}
+use Rattle.std.specs.Prelude.{IsSomeAnd, MatchOption}
+use Rattle.std.specs.Option.{option_or, option_map}
 use Rattle.source_feed.specs.Planned.{FeedValue, IsFeed}
 use Rattle.std.specs.Result.{ok_prefix}
 use Rattle.source_feed.specs.Touches.{PreparedValue, prepared}
@@ -17,11 +17,11 @@ use Rattle.stream_worker.specs.declared.seat_run.Ran.{Ran}
 use Rattle.stream_worker.specs.declared.run_refusal.RunRefusal.{RunRefusal}
 use Rattle.stream_worker.specs.declared.run_refusal.RunRefusal.TheVariants.{FeedCount, WrongPlan, Unsound, OwnedByOther, Memory}
 use Rattle.stream_worker.specs.Ended.{HasEnded, IsFedBoard, AllHaveEnded}
-use Rattle.stream_worker.specs.Knowing.{Laid, Knows, state_seen}
-use Rattle.stream_worker.specs.Rule.{GoesOn, AllGoOn}
-use Rattle.stream_worker.specs.RunRefused.{IsFirstUnsound, HasUnsound, EndsRun, IsLowest, refused_stream}
+use Rattle.stream_worker.specs.Knowing.{Laid}
+use Rattle.stream_worker.specs.Rule.{GoesOn}
+use Rattle.stream_worker.specs.RunRefused.{EndsRun, IsLowest, refused_stream}
 use Rattle.stream_worker.specs.SeatOf.{known, seat_state, IsSeatOf, AreSeatsOf, AreStatesOf, AllGoOnFromSeen, SawAsMany, IsOpened}
-use Rattle.stream_worker.specs.Private.SeatSteps.{IsReading, Follows, HasCome, MeetsRow}
+use Rattle.stream_worker.specs.Private.SeatSteps.{IsReading, HasCome, MeetsRow}
 use Rattle.stream_worker.specs.Private.SeatRuns.{EndsSeat, IsSeated, IsRan, AreSeated, AreRan, first_refusal}
 use Rattle.stream_worker.proofs.EndLaws.{seat_saw}
 use Rattle.stream_worker.proofs.OneStep.{the-one}

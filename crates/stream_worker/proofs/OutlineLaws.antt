@@ -1,14 +1,19 @@
 -- A seat's outline behind its calls: the groups that its stream has read, and its marks.
 use Rattle.std.proofs.Common.{◌≡◌, ℕ, zero, suc, Bool, true, false, List, [], ◌∷◌, ◌++◌, length, take, map, Option, Some, None, Result, Ok, Err, IsSomeAnd, slice_get, nat_le, refl, sym, ap, ◌∙◌, subst}
 use Rattle.std.proofs.lemmas.Option.{same_Some}
+use Rattle.std.specs.Arc.{arc_value}
 use Rattle.std.specs.Option.{option_map, option_and_then}
+use Rattle.pk_copy.specs.KeyOrder.{key_cmp}
+use Rattle.pk_copy.specs.KeyValue.{KeyValue}
 use Rattle.pk_copy.specs.Marks.{Marks}
+use Rattle.target_tables.specs.Touches.{last_at}
 use Rattle.stream_core.specs.Standing.{Standing}
 use Rattle.source_feed.specs.Touches.{PreparedValue}
 use Rattle.board_laws.specs.declared.answer.Answer.{Answer}
 use Rattle.board_laws.specs.declared.refusal.Refusal.{Refusal}
 use Rattle.board_laws.specs.Meaning.{State}
 use Rattle.board_laws.specs.Lawful.{standing_of}
+use Rattle.board_laws.specs.Touching.{left_by}
 use Rattle.board_laws.specs.Event.{Event, offer, advance, open_at, copy_rows, close, restart}
 use Rattle.board_laws.specs.Chunk.{takes_all, copied_state}
 use Rattle.board_laws.specs.StateAfter.{state_after}
@@ -176,6 +181,13 @@ refused_outlined before holding after s taken left event refusal standing outlin
     put_outline before holding after s taken left event (Err refusal) standing outline outline put step h own numbers is (λ state here one there. one)
 
 -- ---- what an advance is built from
+
+-- the group at the place behind the applied ones, and what it leaves at the copied keys
+pub next_in : (outline inside : Outlined) (applied : ℕ) (group : PreparedValue) (next : Next) → inside ≡ outline → slice_get inside.list applied ≡ Some group → option_map arc_value next.group ≡ Some group
+    → ((key : KeyValue) → last_at key_cmp next.puts.changes.items key ≡ left_by inside.marks group key) → IsNextIn outline applied next
+next_in outline inside applied group next is there same puts =
+    subst (λ (o : Outlined). IsNextIn o applied next) is
+    (record { group = same ∙ sym there; puts = λ key. puts key ∙ sym (ap (option_and_then (λ (value : PreparedValue). left_by inside.marks value key)) there) })
 
 -- what a seat built of its outline is what its stream applies next on the board that it took
 pub next_taken : (before : Knows) (s : ℕ) (taken : Laid) (holding : Knows) (standing : Standing) (outline : Outlined) (next : Next) → before.streams ≡ s ∷ [] → IsTaken before taken holding

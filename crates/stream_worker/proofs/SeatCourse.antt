@@ -1,10 +1,10 @@
 -- A step of a seat's stream on its course: what it leaves, and how a refused one ends the course.
-use Rattle.std.proofs.Common.{◌≡◌, ◌≢◌, ◌==◌, ℕ, zero, suc, ◌+◌, ◌<◌, ◌≤◌, inl, inr, Bool, true, false, cond, List, [], ◌∷◌, ◌++◌, length, map, take, drop, Option, Some, None, Result, Ok, Err, slice_get, set, refl, sym, ap, subst, ◌∙◌, arith}
+use Rattle.std.proofs.Common.{◌≡◌, ◌≢◌, ◌==◌, ℕ, zero, suc, ◌<◌, inl, inr, Bool, true, false, cond, List, [], ◌∷◌, ◌++◌, length, map, take, drop, Option, Some, None, Result, Ok, Err, slice_get, set, refl, sym, ap, subst, ◌∙◌}
 use Rattle.std.proofs.lemmas.Bool.{eqb-false}
 use Rattle.std.proofs.lemmas.Grind.{flat_map-append}
 use Rattle.std.proofs.lemmas.List.{take-append-drop}
 use Rattle.std.proofs.lemmas.Option.{same_Some, none-some, slice_get-map, MatchOption-at_some}
-use borrow.Author.Tests.{eq-eqb, leb-true}
+use borrow.Author.Tests.{eq-eqb}
 use Rattle.std.specs.Prelude.{IsSomeAnd, MatchOption, nat_le}
 use Rattle.std.specs.Option.{option_or, option_map, option_and_then}
 use Rattle.std.specs.Result.{result_ok, ok_prefix}
@@ -25,13 +25,13 @@ use Rattle.board_laws.specs.declared.refusal.Refusal.{Refusal}
 use Rattle.board_laws.specs.declared.refusal.Refusal.TheVariants.{NoStream, WrongPlan, Diverged, Core, OwnedByOther, FeedCount, Memory}
 use Rattle.board_laws.specs.declared.step_refusal.StepRefusal.{StepRefusal}
 use Rattle.board_laws.specs.declared.step_refusal.StepRefusal.TheVariants.{Unprepared, Refused}
-use Rattle.board_laws.specs.Meaning.{State, TargetRows, Meaning}
+use Rattle.board_laws.specs.Meaning.{State, Meaning}
 use Rattle.board_laws.specs.Cut.{cut_of, cut_in, own_row}
-use Rattle.board_laws.specs.Lawful.{standing_of, IsSoundState, IsLawful}
-use Rattle.board_laws.specs.Event.{Event, offer, advance, open_at, copy_rows, close, restart}
+use Rattle.board_laws.specs.Lawful.{standing_of, IsSoundState}
+use Rattle.board_laws.specs.Event.{Event, offer, advance, open_at, copy_rows, close}
 use Rattle.board_laws.specs.Chunk.{takes_all, rows_taken, marks_behind}
 use Rattle.board_laws.specs.StateAfter.{state_after}
-use Rattle.board_laws.specs.Step.{due_at, IsMade, IsRefusedFor, IsClash}
+use Rattle.board_laws.specs.Step.{IsMade, IsRefusedFor, IsClash}
 use Rattle.board_laws.specs.Reading.{ReadsFeed}
 use Rattle.board_laws.specs.Runs.{event_of, sound_groups, IsTouchedIn}
 use Rattle.board_laws.specs.Schedule.{Reply, IsUnprepared}
@@ -39,9 +39,9 @@ use Rattle.board_laws.proofs.Lookups.{Ties}
 use Rattle.board_laws.proofs.Lists.{slice_get-set_same}
 use Rattle.board_laws.proofs.Making.{plan-after}
 use Rattle.stream_worker.specs.Knowing.{Laid, Knows, SawStreams, state_seen}
-use Rattle.stream_worker.specs.Rule.{Says, IsSaid}
+use Rattle.stream_worker.specs.Rule.{IsSaid}
 use Rattle.stream_worker.specs.RunRefused.{IsFirstUnsound}
-use Rattle.stream_worker.specs.Seats.{IsBoardStep, IsSeatStep}
+use Rattle.stream_worker.specs.Seats.{IsSeatStep}
 use Rattle.stream_worker.specs.Private.Courses.{LeadsOn, left_by}
 use Rattle.stream_worker.specs.Private.SeatSteps.{IsReading, IsSeatEvent, IsSeatReply, MeetsRow, EndsByItsBoard, EndsSeatStep}
 use Rattle.stream_worker.proofs.BoardSteps.{step_changes}

@@ -1,6 +1,7 @@
+pub mod DigitPairs
 mod RowsLaws
 pub mod PrintLaws
 mod TableLaws
-mod ReportLaws
+pub mod ReportLaws
 mod ReadingLaws
 mod StandLaws

@@ -25,6 +25,7 @@ pub fn add_cells<O: Out>(
 }
 
 /// Adds a column: `N` for NULL, else `x` and its bytes in lower case hexadecimal.
+#[inline(always)]
 pub fn add_cell<O: Out>(
     out: &mut O,
     text: &mut Gathered,

@@ -14,6 +14,10 @@ const ROOM: usize = 4096;
 /// The most bytes that are spelled at once.
 const PIECE: usize = 64;
 
+/// The two hexadecimal digits of each byte in lower case, pair behind pair.
+static PAIRS: [u8; 512] =
+    *b"000102030405060708090a0b0c0d0e0f101112131415161718191a1b1c1d1e1f202122232425262728292a2b2c2d2e2f303132333435363738393a3b3c3d3e3f404142434445464748494a4b4c4d4e4f505152535455565758595a5b5c5d5e5f606162636465666768696a6b6c6d6e6f707172737475767778797a7b7c7d7e7f808182838485868788898a8b8c8d8e8f909192939495969798999a9b9c9d9e9fa0a1a2a3a4a5a6a7a8a9aaabacadaeafb0b1b2b3b4b5b6b7b8b9babbbcbdbebfc0c1c2c3c4c5c6c7c8c9cacbcccdcecfd0d1d2d3d4d5d6d7d8d9dadbdcdddedfe0e1e2e3e4e5e6e7e8e9eaebecedeeeff0f1f2f3f4f5f6f7f8f9fafbfcfdfeff";
+
 /// Text that waits to be written, at most 4 KiB: small pieces are gathered here and written together once
 /// they fill it, and at the end by `finish`. It lies in the value itself. Seen in contracts as the bytes
 /// that wait.
@@ -47,6 +51,7 @@ impl Gathered {
 
     /// Adds a piece of text behind what waits. Takes no memory. After a fault what was written is a
     /// beginning of what waited and the piece.
+    #[inline(always)]
     pub fn put<O: Out>(&mut self, out: &mut O, piece: &[u8]) -> Result<(), OutFailed>
         ensures { Adds result (O.written out.old) self.old (O.written out.new) self.new piece.now }
     {
@@ -74,6 +79,7 @@ impl Gathered {
     }
 
     /// Writes what waits. After a fault what was written is a beginning of it.
+    #[inline(never)]
     pub fn finish<O: Out>(&mut self, out: &mut O) -> Result<(), OutFailed>
         ensures printed { Prints result (O.written out.old) (O.written out.new) self.old }
         ensures empty { OnOk result (self.new ≡ []) }
@@ -84,6 +90,7 @@ impl Gathered {
     }
 
     /// Makes room for so many bytes, at most 4 KiB: writes what waits where there is less.
+    #[inline(always)]
     fn make_room<O: Out>(&mut self, out: &mut O, count: usize) -> Result<(), OutFailed>
         requires { count ≤ ROOM }
         ensures added { Adds result (O.written out.old) self.old (O.written out.new) self.new [] }
@@ -96,6 +103,7 @@ impl Gathered {
     }
 
     /// Adds a piece for which there is room.
+    #[inline(always)]
     fn add(&mut self, piece: &[u8])
         requires { length self.old + length piece.now ≤ ROOM }
         ensures { self.new ≡ self.old ++ piece.now }
@@ -111,9 +119,19 @@ impl Gathered {
         ensures { self.new ≡ self.old ++ encode_lower piece.now }
     {
         let end = self.len + 2 * piece.len();
-        let Ok(()) = hex::encode_to_slice(piece, &mut self.bytes[self.len..end]) else {
-            unreachable!()
-        };
+        spell(piece, &mut self.bytes[self.len..end]);
         self.len = end;
+    }
+}
+
+/// Writes the digits of some bytes over room for them.
+fn spell(piece: &[u8], room: &mut [u8])
+    requires { length room.old ≡ 2 * length piece.now }
+    ensures { room.new ≡ encode_lower piece.now }
+{
+    for i in 0..piece.len() {
+        let from = usize::from(piece[i]) * 2;
+        room[2 * i] = PAIRS[from];
+        room[2 * i + 1] = PAIRS[from + 1];
     }
 }

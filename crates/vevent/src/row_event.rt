@@ -105,6 +105,7 @@ impl<'b> Iterator for RowChanges<'b> {
 
     ghost remaining = { item_count (λ rest. rest) };
 
+    #[inline(always)]
     fn next(&mut self) -> Option<RowChange<'b>> {
         Some(RowChange {
             message: self.parts.next()?,
@@ -182,6 +183,7 @@ impl<'b> RowChange<'b> {
 }
 
 /// The row under one of the two numbers of rows.
+#[inline(always)]
 fn row_under(change: &[u8], number: u32) -> Option<RowBytes<'_>>
     requires number { (number ≡ 1) ⊎ (number ≡ 2) }
     requires sound { change_fault change.now ≡ None }

@@ -6,9 +6,13 @@ ghost use Rattle.std.specs.Str.{is_utf8};
 use std::str::{from_utf8, from_utf8_unchecked};
 
 /// Whether the bytes are a text.
+#[inline(always)]
 pub(crate) fn is_text(bytes: &[u8]) -> bool
     ensures { result ≡ is_utf8 bytes.now }
 {
+    if bytes.is_ascii() {
+        return true;
+    }
     from_utf8(bytes).is_ok()
 }
 

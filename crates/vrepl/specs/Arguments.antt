@@ -1,9 +1,10 @@
 -- The arguments of a subcommand, as `clap` reads them, and what was given to one.
-use Rattle.std.specs.Prelude.{Bool, true, false, List, [], Some, codes, unwrap_or}
+use Rattle.std.specs.Prelude.{ℕ, ◌&&◌, nat_le, if◌then◌else◌, Bool, true, false, List, [], Option, None, Some, codes, unwrap_or, option_and_then}
 use Rattle.std.specs.Option.{option_map_or}
 use Rattle.std.specs.Str.{bytes_eq}
 use Rattle.clap.specs.Lexer.{usize_max}
 use Rattle.clap.specs.Words.{Row, Rule, Text, all_of, first_of, one_of, new_rule}
+use Rattle.vrepl_main.specs.ScriptLines.{number_of}
 use Rattle.clap.specs.declared.builder.action.ArgAction.TheVariants.{SetTrue}
 
 -- `--name`
@@ -13,6 +14,10 @@ flag_rule name = record (new_rule name) { long = Some name; action = Some SetTru
 -- `--name TEXT`, which may be left out
 abbrev pub option_rule : Text → Rule
 option_rule name = record (new_rule name) { long = Some name; value_names = 1 }
+
+-- `--name TEXT`, which has to be there
+abbrev pub needed_rule : Text → Rule
+needed_rule name = record (option_rule name) { required = true }
 
 -- `TEXT` in its place, which has to be there
 abbrev pub operand_rule : Text → Rule
@@ -33,3 +38,14 @@ text_given name rows = unwrap_or (first_of name rows) []
 -- the texts that were given
 abbrev pub texts_given : Text → List Row → List Text
 texts_given name rows = unwrap_or (all_of name rows) []
+
+-- a portion is a number of 1 to 1,000,000, in digits
+abbrev pub within_range : ℕ → Option ℕ
+within_range number = if nat_le 1 number && nat_le number 1000000 then Some number else None
+
+abbrev pub portion_of : Text → Option ℕ
+portion_of text = option_and_then within_range (number_of text)
+
+-- the portion that was given, or the usual one; none where what was given is no portion
+abbrev pub portion_given : ℕ → Text → List Row → Option ℕ
+portion_given usual name rows = option_map_or portion_of (first_of name rows) (Some usual)

@@ -1,8 +1,11 @@
 -- What the words that were read ask for.
-use Rattle.vrepl.specs.Words.{ShowValue, StepValue, VdiffValue, WordsValue, asks_show, asks_step, asks_save, asks_vdiff}
+use Rattle.vrepl.specs.Words.{PortionsValue, ResumeValue, RunValue, ShowValue, StepValue, VdiffValue, WordsValue, asks_run, asks_show, asks_step, asks_save, asks_resume, asks_vdiff}
 use Rattle.std.specs.Prelude.{◌≡◌, ℕ, List, map, Option, None, Some, Result, Ok, Err}
 use Rattle.vrepl_main.specs.Show.{shown_feed, source_of}
 use Rattle.vrepl_main.specs.Reasons.{Reason}
+use Rattle.stream_worker.specs.declared.policy.Policy.{Policy}
+use Rattle.vrepl.specs.declared.words.Resume.{Resume}
+use Rattle.vrepl.specs.declared.words.Run.{Run}
 use Rattle.vrepl.specs.declared.words.Show.{Show}
 use Rattle.vrepl.specs.declared.words.Step.{Step}
 use Rattle.vrepl_main.specs.declared.input_list.VdiffFiles.{VdiffFiles}
@@ -21,6 +24,21 @@ show_value show = record {
 abbrev pub step_value : Step → StepValue
 step_value step = record { hex = step.hex; workflow = step.workflow.now; feeds = map (λ feed. feed.now) step.feeds.items }
 
+abbrev pub resume_value : Resume → ResumeValue
+resume_value resume = record { checkpoint = resume.checkpoint.now; step = step_value resume.step }
+
+abbrev pub portions_of : Policy → PortionsValue
+portions_of policy = record { rows = policy.rows; ahead = policy.ahead; chunks = policy.chunks }
+
+abbrev pub run_value : Run → RunValue
+run_value run = record {
+  hex = run.hex;
+  alone = run.alone;
+  portions = portions_of run.policy;
+  workflow = run.workflow.now;
+  feeds = map (λ feed. feed.now) run.feeds.items;
+}
+
 abbrev pub vdiff_value : VdiffFiles → VdiffValue
 vdiff_value files = record { workflow = files.workflow.now; source = files.source.now; target = files.target.now }
 
@@ -28,7 +46,9 @@ vdiff_value files = record { workflow = files.workflow.now; source = files.sourc
 abbrev pub value_of : Words → WordsValue
 value_of (words.Show show) = asks_show (show_value show)
 value_of (words.Step step) = asks_step (step_value step)
+value_of (words.Run run) = asks_run (run_value run)
 value_of (words.Save save) = asks_save (step_value save)
+value_of (words.Resume resume) = asks_resume (resume_value resume)
 value_of (words.Vdiff files) = asks_vdiff (vdiff_value files)
 
 -- what was met asks for this, if for anything, unless a fault kept it from being read

@@ -1,17 +1,22 @@
 //! The words of the command line, as `clap` reads them.
 
-ghost use Rattle.std.specs.Prelude.{◌≡◌, IfOk, Some, map, string_bytes};
+ghost use Rattle.std.specs.Prelude.{◌≡◌, ◌≤◌, IfOk, IfSome, Some, map, option_map, string_bytes};
 ghost use Rattle.clap.specs.Words.{FailsBy, found_of, rows_of, subcommand_rows_of};
-ghost use Rattle.vrepl.specs.Arguments.{flag_rule, is_given, operand_rule, operands_rule, option_rule, text_given, texts_given};
-ghost use Rattle.vrepl.specs.Built.{HasApp, HasRule, IsSubcommand};
-ghost use Rattle.vrepl.specs.Meant.{Asks, show_value, step_value, value_of, vdiff_value};
-ghost use Rattle.vrepl.specs.Words.{asked_by, asks_save, asks_step, faults_of, program_app, save_subcommand, show_given, show_subcommand, step_given, step_subcommand, vdiff_given, vdiff_subcommand, words_of};
+ghost use Rattle.vrepl.specs.Arguments.{is_given, portion_given, portion_of, text_given, texts_given};
+ghost use Rattle.vrepl.specs.Meant.{Asks, portions_of, show_value, step_value, value_of, vdiff_value};
+ghost use Rattle.vrepl.specs.Words.{asked_by, asks_resume, asks_run, asks_save, asks_step, faults_of, portions_given, resume_given, run_given, run_subcommand, show_given, step_given, vdiff_given, words_of};
 
+use crate::commands::program;
 use clap::error::ErrorKind;
-use clap::{Arg, ArgAction, ArgMatches, Command, Error};
+use clap::{ArgMatches, Error};
 use std::alloc::{AllocError, Global};
+use stream_worker::Policy;
 use vrepl_main::input_list::VdiffFiles;
+use vrepl_main::script::number_of;
 use vrepl_main::source::Source;
+
+/// What is said of a portion that is none.
+const PORTIONS: &str = "--rows, --ahead and --chunks are numbers of 1 to 1000000";
 
 /// What the words ask for.
 #[derive(Drop)]
@@ -20,10 +25,38 @@ pub enum Words<'w> {
     Show(Show<'w>),
     /// `step`: take the steps of a script on a board over a workflow and its feeds.
     Step(Step<'w>),
+    /// `run`: run the streams of a workflow over its feeds to their ends.
+    Run(Run<'w>),
     /// `save`: write the checkpoint of the board behind a script.
     Save(Step<'w>),
+    /// `resume`: take the steps of a script on the board of a checkpoint.
+    Resume(Resume<'w>),
     /// `vdiff`: compare two dumps.
     Vdiff(VdiffFiles<'w>),
+}
+
+/// The words of `run`.
+#[derive(Drop)]
+pub struct Run<'w> {
+    /// Whether the feeds are hexadecimal text.
+    pub hex: bool,
+    /// Whether the streams run one after another.
+    pub alone: bool,
+    /// In what portions a stream is run.
+    pub policy: Policy,
+    /// The workflow's file.
+    pub workflow: &'w str,
+    /// The feeds' files, in the order of the streams.
+    pub feeds: Vec<&'w str>,
+}
+
+/// The words of `resume`.
+#[derive(Drop)]
+pub struct Resume<'w> {
+    /// The checkpoint's file.
+    pub checkpoint: &'w str,
+    /// The other words, which are those of `step`.
+    pub step: Step<'w>,
 }
 
 /// The words of `step`, and of `save`, which has the same.
@@ -70,7 +103,7 @@ pub fn read<'w>(alloc: Global, words: &'w [String]) -> Result<Words<'w>, Error>
     let matches = command.try_get_matches_from_mut(words)?;
     match asked(alloc, &matches) {
         Some(words) => Ok(words?),
-        None => Err(command.error(ErrorKind::MissingSubcommand, "no subcommand was given")?),
+        None => Err(command.error(ErrorKind::ValueValidation, PORTIONS)?),
     }
 }
 
@@ -82,152 +115,12 @@ fn asked<'w>(alloc: Global, matches: &ArgMatches<'w>) -> Option<Result<Words<'w>
     match name {
         "show" => Some(Ok(Words::Show(show_words(given)))),
         "step" => Some(step_words(alloc, given)),
+        "run" => run_words(alloc, given),
         "save" => Some(save_words(alloc, given)),
+        "resume" => Some(resume_words(alloc, given)),
         "vdiff" => Some(Ok(Words::Vdiff(vdiff_words(given)))),
         _ => None,
     }
-}
-
-/// A call of `show` and what it prints.
-const SHOW_EXAMPLE: &str = "\
-Example:
-  $ vrepl show --hex examples/one_insert.hex
-  group 1 3e11fa47-71ca-11e1-9e33-c80aa9429562:1
-  + t\tx31\tx6162";
-
-/// A call of `step` and what it prints.
-const STEP_EXAMPLE: &str = "\
-Example:
-  $ vrepl step --hex examples/workflows/one_shard.json examples/one_insert.hex \\
-      < examples/copy_one.script
-  read 1
-  applied 1
-  snapshot 1
-  copied 1 done
-  table t
-  x31\tx6162";
-
-/// A call of `save`.
-const SAVE_EXAMPLE: &str = "\
-Example:
-  $ vrepl save --hex examples/workflows/one_shard.json examples/one_insert.hex \\
-      < examples/copy_one.script > one_row.checkpoint
-
-The replies to the script aren't printed.";
-
-/// A call of `vdiff`, what it prints, and its status.
-const VDIFF_EXAMPLE: &str = "\
-Example:
-  $ vrepl vdiff examples/workflows/one_shard.json \\
-      examples/dumps/source.dump examples/dumps/target.dump
-  processed 4
-  matching 1
-  mismatched 1
-  extra source 1
-  extra target 1
-  first table t key x32
-
-The status is 0 where the dumps are of the same rows, and 3 where they differ.";
-
-/// The program: its words are those of a subcommand.
-fn program<'w>(alloc: Global) -> Result<Command<'w>, AllocError>
-    ensures { IfOk result (HasApp program_app) }
-{
-    Command::new(alloc, "vrepl")
-        .bin_name("vrepl")?
-        .about("The target side of VReplication over recorded VStream feeds")
-        .no_binary_name(true)
-        .subcommand_required(true)
-        .disable_help_subcommand(true)
-        .subcommand(show_command(alloc)?)?
-        .subcommand(step_command(alloc)?)?
-        .subcommand(vdiff_command(alloc)?)?
-        .subcommand(save_command(alloc)?)
-}
-
-fn show_command<'w>(alloc: Global) -> Result<Command<'w>, AllocError>
-    ensures { IfOk result (IsSubcommand show_subcommand) }
-{
-    let feed_help = "The feed's file, or - for standard input";
-    Command::new(alloc, "show")
-        .about("Prints the transactions of a feed with their positions")
-        .after_help(SHOW_EXAMPLE)
-        .arg(flag(alloc, "hex", "Reads feeds as hexadecimal text"))?
-        .arg(option(alloc, "keyspace", "K", "The feed's keyspace"))?
-        .arg(option(alloc, "shard", "S", "The feed's shard, as --shard=-80"))?
-        .arg(operand(alloc, "feed", "FEED", feed_help))
-}
-
-fn step_command<'w>(alloc: Global) -> Result<Command<'w>, AllocError>
-    ensures { IfOk result (IsSubcommand step_subcommand) }
-{
-    let feed_help = "A feed's file for each stream, in their order";
-    Command::new(alloc, "step")
-        .about("Takes the steps of a script on standard input over a workflow and its feeds")
-        .after_help(STEP_EXAMPLE)
-        .arg(flag(alloc, "hex", "Reads feeds as hexadecimal text"))?
-        .arg(operand(alloc, "workflow", "WORKFLOW", "The workflow's file"))?
-        .arg(operands(alloc, "feed", "FEED", feed_help))
-}
-
-fn save_command<'w>(alloc: Global) -> Result<Command<'w>, AllocError>
-    ensures { IfOk result (IsSubcommand save_subcommand) }
-{
-    let feed_help = "A feed's file for each stream, in their order";
-    Command::new(alloc, "save")
-        .about("Writes the checkpoint of the board behind a script on standard input")
-        .after_help(SAVE_EXAMPLE)
-        .arg(flag(alloc, "hex", "Reads feeds as hexadecimal text"))?
-        .arg(operand(alloc, "workflow", "WORKFLOW", "The workflow's file"))?
-        .arg(operands(alloc, "feed", "FEED", feed_help))
-}
-
-fn vdiff_command<'w>(alloc: Global) -> Result<Command<'w>, AllocError>
-    ensures { IfOk result (IsSubcommand vdiff_subcommand) }
-{
-    Command::new(alloc, "vdiff")
-        .about("Compares two dumps of a workflow's tables")
-        .after_help(VDIFF_EXAMPLE)
-        .arg(operand(alloc, "workflow", "WORKFLOW", "The workflow's file"))?
-        .arg(operand(alloc, "source", "SOURCE", "The source's dump"))?
-        .arg(operand(alloc, "target", "TARGET", "The target's dump"))
-}
-
-/// `--name`.
-fn flag<'w>(alloc: Global, name: &'w str, help: &'w str) -> Arg<'w>
-    ensures { HasRule (flag_rule name.entry.now) result }
-{
-    Arg::new(alloc, name)
-        .long(name)
-        .action(ArgAction::SetTrue)
-        .help(help)
-}
-
-/// `--name TEXT`, which may be left out.
-fn option<'w>(alloc: Global, name: &'w str, value: &'w str, help: &'w str) -> Arg<'w>
-    ensures { HasRule (option_rule name.entry.now) result }
-{
-    Arg::new(alloc, name)
-        .long(name)
-        .value_name(value)
-        .help(help)
-}
-
-/// `TEXT` in its place, which has to be there.
-fn operand<'w>(alloc: Global, name: &'w str, value: &'w str, help: &'w str) -> Arg<'w>
-    ensures { HasRule (operand_rule name.entry.now) result }
-{
-    Arg::new(alloc, name)
-        .value_name(value)
-        .required(true)
-        .help(help)
-}
-
-/// `TEXT..` in its place, once or more often.
-fn operands<'w>(alloc: Global, name: &'w str, value: &'w str, help: &'w str) -> Arg<'w>
-    ensures { HasRule (operands_rule name.entry.now) result }
-{
-    operand(alloc, name, value, help).num_args(1..)
 }
 
 fn show_words<'w>(given: &ArgMatches<'w>) -> Show<'w>
@@ -266,6 +159,77 @@ fn save_words<'w>(alloc: Global, given: &ArgMatches<'w>) -> Result<Words<'w>, Al
 {
     let words = script_words(alloc, given)?;
     Ok(Words::Save(words))
+}
+
+fn resume_words<'w>(alloc: Global, given: &ArgMatches<'w>) -> Result<Words<'w>, AllocError>
+    ensures { IfOk result (λ words. value_of words ≡ asks_resume (resume_given (rows_of (found_of given.now)))) }
+{
+    let step = script_words(alloc, given)?;
+    Ok(Words::Resume(Resume {
+        checkpoint: text(given, "checkpoint"),
+        step,
+    }))
+}
+
+/// None where a portion that was given is none.
+fn run_words<'w>(alloc: Global, given: &ArgMatches<'w>) -> Option<Result<Words<'w>, AllocError>>
+    ensures { Asks result (run_subcommand.meaning (rows_of (found_of given.now))) }
+{
+    let policy = policy(given)?;
+    Some(run_words_by(alloc, given, policy))
+}
+
+/// The same with these portions. An error is want of memory.
+fn run_words_by<'w>(
+    alloc: Global,
+    given: &ArgMatches<'w>,
+    policy: Policy,
+) -> Result<Words<'w>, AllocError>
+    ensures { IfOk result (λ words. value_of words ≡ asks_run (run_given (rows_of (found_of given.now)) (portions_of policy))) }
+{
+    let feeds = texts(alloc, given, "feed")?;
+    Ok(Words::Run(Run {
+        hex: has_flag(given, "hex"),
+        alone: has_flag(given, "alone"),
+        policy,
+        workflow: text(given, "workflow"),
+        feeds,
+    }))
+}
+
+/// The portions that were given, or the usual ones.
+fn policy(given: &ArgMatches<'_>) -> Option<Policy>
+    ensures { option_map portions_of result ≡ portions_given (rows_of (found_of given.now)) }
+{
+    let rows = portion(given, "rows", 1000)?;
+    let ahead = portion(given, "ahead", 100)?;
+    let chunks = portion(given, "chunks", 4)?;
+    Policy::new(rows, ahead, chunks)
+}
+
+/// The portion that was given, or the usual one.
+fn portion(given: &ArgMatches<'_>, name: &str, usual: u32) -> Option<u32>
+    requires { 1 ≤ usual }
+    ensures given { result ≡ portion_given usual name.now (rows_of (found_of given.now)) }
+    ensures some { IfSome result (λ portion. 1 ≤ portion) }
+{
+    match given.get_str(name) {
+        None => Some(usual),
+        Some(text) => portion_of(text),
+    }
+}
+
+/// The number of 1 to 1,000,000 that digits spell.
+fn portion_of(text: &str) -> Option<u32>
+    ensures portion { result ≡ portion_of text.now }
+    ensures some { IfSome result (λ portion. 1 ≤ portion) }
+{
+    let number = number_of(text.as_bytes())?;
+    if number >= 1 && number <= 1_000_000 {
+        Some(number)
+    } else {
+        None
+    }
 }
 
 fn vdiff_words<'w>(given: &ArgMatches<'w>) -> VdiffFiles<'w>

@@ -1,8 +1,10 @@
 -- The inputs of a command by their places, as the command is given them.
-use Rattle.std.proofs.Common.{arith, ◌≡◌, ◌∙◌, ap, sym, subst, ℕ, ◌-◌, ◌≤◌, ◌<◌, Bool, List, [], length, take, drop, get_or, map}
-use Rattle.std.proofs.lemmas.List.{drop-map, get_or-map, length-map, take-map}
-use Rattle.vrepl_main.specs.ScriptRun.{script_given}
-use Rattle.vrepl_main.specs.InputList.{feeds_of, script_asked, script_of, source_of, target_of, workflow_of}
+use Rattle.std.proofs.Common.{arith, ◌≡◌, ◌∙◌, ap, sym, subst, ℕ, suc, ◌-◌, ◌≤◌, ◌<◌, Bool, List, [], ◌∷◌, Result, length, take, drop, get_or, map}
+use Rattle.std.proofs.lemmas.List.{drop-map, get_or-map, length-drop, length-map, take_all, take-map}
+use Rattle.vrepl_main.specs.Opening.{opened}
+use Rattle.vrepl_main.specs.Reasons.{Reason}
+use Rattle.vrepl_main.specs.ScriptRun.{ScriptGiven, script_given}
+use Rattle.vrepl_main.specs.InputList.{checkpoint_of, feeds_of, opened_by, resume_asked, script_asked, script_of, source_of, target_of, workflow_of}
 
 -- what stands at a place
 at_place : {X : Type 0} (f : X → List ℕ) (inputs : List X) (n : ℕ) (x : X) (bytes : List ℕ) → n < length inputs → x ≡ get_or inputs n x → bytes ≡ f x
@@ -23,6 +25,35 @@ asked_is f hex inputs first last workflow script some at_front at_end front end 
     ap (λ x. script_given hex x (map f (take (length inputs - 1 - 1) (drop 1 inputs))) script) w
     ∙ ap (λ x. script_given hex (workflow_of (map f inputs)) x script) between
     ∙ ap (λ x. script_given hex (workflow_of (map f inputs)) (feeds_of (map f inputs)) x) s
+
+pub opened_is : {X : Type 0} (f : X → List ℕ) (hex : Bool) (inputs : List X) (first : X) (workflow : List ℕ) → 1 ≤ length inputs
+    → first ≡ get_or inputs 0 first → workflow ≡ f first → opened hex workflow (map f (take (length inputs - 1) (drop 1 inputs))) ≡ opened_by hex (map f inputs)
+opened_is {X} f hex inputs first workflow some at_front front =
+    let all : take (length inputs - 1) (drop 1 inputs) ≡ drop 1 inputs = take_all (length inputs - 1) (drop 1 inputs) (omega (arith, length-drop 1 inputs)) in
+    ap (λ (l : List X). opened hex workflow (map f l)) all
+    ∙ ap (λ x. opened hex x (map f (drop 1 inputs))) (at_place f inputs 0 first workflow (omega (arith, some)) at_front front)
+    ∙ ap (opened hex (workflow_of (map f inputs))) (sym (drop-map f 1 inputs))
+
+resumed_is : {X : Type 0} (f : X → List ℕ) (hex : Bool) (inputs : List X) (second last : X) (workflow script : List ℕ) → 3 ≤ length inputs
+    → second ≡ get_or inputs 1 second → last ≡ get_or inputs (length inputs - 1) last → workflow ≡ f second → script ≡ f last
+    → script_given hex workflow (map f (take (length inputs - 1 - 2) (drop 2 inputs))) script ≡ resume_asked hex (map f inputs)
+resumed_is f hex [] second last workflow script some at_front at_end front end = absurd (omega (arith, some))
+resumed_is f hex (x ∷ rest) second last workflow script some at_front at_end front end =
+    let whole : 3 ≤ suc (length rest) = some in
+    let long : 2 ≤ length rest = omega (arith, whole) in
+    let place : suc (length rest) - 1 ≡ suc (length rest - 1) = omega (arith, long) in
+    let count : suc (length rest) - 1 - 2 ≡ length rest - 1 - 1 = omega (arith, long) in
+    ap (λ n. script_given hex workflow (map f (take n (drop 1 rest))) script) count
+    ∙ asked_is f hex rest second last workflow script long at_front (at_end ∙ ap (λ n. get_or (x ∷ rest) n last) place) front end
+
+-- what holds of the files of `resume` holds of its inputs
+pub of_resume : {X : Type 0} (f : X → List ℕ) (P : Result ScriptGiven Reason → List ℕ → Type 0) (hex : Bool) (inputs : List X) (first second last : X) (checkpoint workflow script : List ℕ)
+    → 3 ≤ length inputs → first ≡ get_or inputs 0 first → second ≡ get_or inputs 1 second → last ≡ get_or inputs (length inputs - 1) last
+    → checkpoint ≡ f first → workflow ≡ f second → script ≡ f last
+    → P (script_given hex workflow (map f (take (length inputs - 1 - 2) (drop 2 inputs))) script) checkpoint → P (resume_asked hex (map f inputs)) (checkpoint_of (map f inputs))
+of_resume f P hex inputs first second last checkpoint workflow script some at_first at_second at_end is_first is_second is_last holds =
+    subst (λ bytes. P (resume_asked hex (map f inputs)) bytes) (at_place f inputs 0 first checkpoint (omega (arith, some)) at_first is_first)
+    (subst (λ given. P given checkpoint) (resumed_is f hex inputs second last workflow script some at_second at_end is_second is_last) holds)
 
 -- what holds of the files of `vdiff` holds of its inputs
 pub of_files : {X : Type 0} (f : X → List ℕ) (P : List ℕ → List ℕ → List ℕ → Type 0) (inputs : List X) (first second third : X) (workflow source target : List ℕ)

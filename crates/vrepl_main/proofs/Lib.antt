@@ -2,6 +2,7 @@ pub mod HexLaws
 pub mod InputLaws
 pub mod PrintLaws
 pub mod AddLaws
+mod NumberLaws
 pub mod CommandLaws
 mod LineLaws
 mod KeyTextLaws
@@ -10,4 +11,7 @@ mod ScriptRunLaws
 mod StepLaws
 mod VdiffLaws
 mod SaveLaws
+mod ResumeLaws
 mod InputListLaws
+mod RunLaws
+mod AtOnceLaws

@@ -29,7 +29,7 @@ abbrev pub in_front : List FeedValue → Result (List FeedValue) Reason → Resu
 in_front front (Ok feeds) = Ok (front ++ feeds)
 in_front front (Err reason) = Err reason
 
-in_front-none : (feeds : Result (List FeedValue) Reason) → feeds ≡ in_front [] feeds
+pub in_front-none : (feeds : Result (List FeedValue) Reason) → feeds ≡ in_front [] feeds
 in_front-none (Ok feeds) = refl
 in_front-none (Err reason) = refl
 
@@ -44,7 +44,7 @@ at_place {A} {B} f g plans given i d e lt less =
     ap (λ (ps : List A). opened_feeds (map f ps) (map g (drop i given))) (drop_more plans i d lt)
     ∙ ap (λ (gs : List B). opened_feeds (f (get_or plans i d) ∷ map f (drop (i + 1) plans)) (map g gs)) (drop_more given i e less)
 
-one_more : (front : List FeedValue) (feed : FeedValue) (plan : PlanValue) (given : Option (List ℕ)) (plans : List PlanValue) (others : List (Option (List ℕ))) → opened_feed plan given ≡ Ok feed
+pub one_more : (front : List FeedValue) (feed : FeedValue) (plan : PlanValue) (given : Option (List ℕ)) (plans : List PlanValue) (others : List (Option (List ℕ))) → opened_feed plan given ≡ Ok feed
     → in_front front (opened_feeds (plan ∷ plans) (given ∷ others)) ≡ in_front (front ++ feed ∷ []) (opened_feeds plans others)
 one_more front feed plan given plans others is = rw is (behind (opened_feeds plans others))
   where
@@ -52,7 +52,7 @@ one_more front feed plan given plans others is = rw is (behind (opened_feeds pla
     behind (Ok feeds) = ap Ok (sym (append_assoc front (feed ∷ []) feeds))
     behind (Err reason) = refl
 
-none_more : (front : List FeedValue) (reason : Reason) (plan : PlanValue) (given : Option (List ℕ)) (plans : List PlanValue) (others : List (Option (List ℕ))) → opened_feed plan given ≡ Err reason
+pub none_more : (front : List FeedValue) (reason : Reason) (plan : PlanValue) (given : Option (List ℕ)) (plans : List PlanValue) (others : List (Option (List ℕ))) → opened_feed plan given ≡ Err reason
     → in_front front (opened_feeds (plan ∷ plans) (given ∷ others)) ≡ Err reason
 none_more front reason plan given plans others is = rw is refl
 

@@ -27,7 +27,7 @@ use Rattle.vrepl_main.proofs.OpenLaws.{RefusesInputs-whole}
 -- ---- refusals
 
 -- a refusal of the inputs is one of the command
-refuses : {X : Type 0} (refusal : Refusal) (reading : Result X Reason) → RefusesInputs refusal reading → Refuses refusal reading
+pub refuses : {X : Type 0} (refusal : Refusal) (reading : Result X Reason) → RefusesInputs refusal reading → Refuses refusal reading
 refuses Memory reading is = tt
 refuses (Workflow fault) reading is = is
 refuses FeedCount reading is = is
@@ -66,7 +66,7 @@ pub given_is : (opening : Result OpenedValue Reason) (found : OpenedValue) (scri
     → (opening >>= given_with script) ≡ Ok (record { opened = found; steps = steps })
 given_is opening found script steps is said = ap (λ (r : Result OpenedValue Reason). r >>= given_with script) is ∙ ap (with_steps found) said
 
-map-map : {A B C : Type 0} (f : B → C) (g : A → B) (xs : List A) → map f (map g xs) ≡ map (λ x. f (g x)) xs
+pub map-map : {A B C : Type 0} (f : B → C) (g : A → B) (xs : List A) → map f (map g xs) ≡ map (λ x. f (g x)) xs
 map-map f g [] = refl
 map-map {A} {B} {C} f g (x ∷ xs) = ap (λ (l : List C). f (g x) ∷ l) (map-map f g xs)
 

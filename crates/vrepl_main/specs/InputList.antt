@@ -1,6 +1,7 @@
 -- The inputs of a command that has several, one behind the other (this profile).
 use Rattle.std.specs.Prelude.{ℕ, ◌-◌, Bool, List, [], length, map, take, drop, get_or, Result}
 use Rattle.std.specs.Global.{Vec}
+use Rattle.vrepl_main.specs.Opening.{OpenedValue, opened}
 use Rattle.vrepl_main.specs.Reasons.{Reason}
 use Rattle.vrepl_main.specs.ScriptRun.{ScriptGiven, script_given}
 
@@ -25,6 +26,22 @@ feeds_of inputs = take (length inputs - 2) (drop 1 inputs)
 -- what the inputs give to `step`, or why they are refused
 abbrev pub script_asked : Bool → List (List ℕ) → Result ScriptGiven Reason
 script_asked hex inputs = script_given hex (workflow_of inputs) (feeds_of inputs) (script_of inputs)
+
+-- ---- `run`
+
+-- the workflow with the feeds behind it, or why they are refused
+abbrev pub opened_by : Bool → List (List ℕ) → Result OpenedValue Reason
+opened_by hex inputs = opened hex (workflow_of inputs) (drop 1 inputs)
+
+-- ---- `resume`
+
+-- the checkpoint stands first
+abbrev pub checkpoint_of : List (List ℕ) → List ℕ
+checkpoint_of inputs = get_or inputs 0 []
+
+-- and what `step` is given behind it
+abbrev pub resume_asked : Bool → List (List ℕ) → Result ScriptGiven Reason
+resume_asked hex inputs = script_asked hex (drop 1 inputs)
 
 -- ---- `vdiff`
 

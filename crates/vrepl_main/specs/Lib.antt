@@ -12,6 +12,7 @@ pub mod ScriptLines
 pub mod ScriptRefusal
 pub mod AnswerText
 pub mod RefusedText
+pub mod ResumedText
 pub mod Opening
 pub mod Given
 pub mod OpenedFeeds
@@ -20,4 +21,6 @@ pub mod ScriptPrinting
 pub mod Replied
 pub mod Comparison
 pub mod SavedBoard
+pub mod ResumedRun
 pub mod InputList
+pub mod Running

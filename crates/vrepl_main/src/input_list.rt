@@ -2,17 +2,22 @@
 //! of them, by their places.
 
 ghost use Rattle.std.specs.Prelude.{◌≡◌, ◌≢◌, ◌≤◌, ◌⊎◌, ◌∷◌, ◌++◌, [], length, map, IfOk};
-ghost use Rattle.vrepl_main.specs.InputList.{bytes_of, script_asked, source_of, target_of, workflow_of};
+ghost use Rattle.vrepl_main.specs.InputList.{bytes_of, checkpoint_of, opened_by, resume_asked, script_asked, source_of, target_of, workflow_of};
 ghost use Rattle.vrepl_main.specs.Command.{PrintsRefusal};
 ghost use Rattle.vrepl_main.specs.Comparison.{IsComparedAs, PrintsDumpRefusal, PrintsSomeComparison};
 ghost use Rattle.vrepl_main.specs.Replied.{PrintsReplies, PrintsSomeReplies};
+ghost use Rattle.vrepl_main.specs.Running.{PrintsDump, PrintsSomeDump, PrintsRunRefusal};
+ghost use Rattle.vrepl_main.specs.ResumedRun.{PrintsResumed, PrintsSomeResumed, PrintsResumeRefusal};
 ghost use Rattle.vrepl_main.specs.SavedBoard.{PrintsCheckpoint, PrintsSomeCheckpoint};
 ghost use Rattle.vrepl_main.specs.declared.input.InputName.TheVariants.{File, Standard};
 ghost use Rattle.vrepl_main.specs.declared.vdiff.Verdict.TheVariants.{Same, Differ};
 
 use crate::input::InputName;
-use crate::{save, step, vdiff};
+use crate::{resume, run, save, step, vdiff};
 use std::alloc::{AllocError, Global};
+use std::sync::Wait;
+use std::thread::Threads;
+use stream_worker::Policy;
 use vdiff_core::Out;
 
 /// The files of `vdiff`.
@@ -91,6 +96,86 @@ pub fn save_on<W: Out, E: Out>(
     let last = inputs.len() - 1;
     let between = &inputs[1..last];
     save::save(alloc, hex, &inputs[0], between, &inputs[last], out, err)
+}
+
+/// The inputs of `resume`: the checkpoint, the workflow, the feeds in their order, and the script.
+pub fn resume_inputs<'w>(
+    alloc: Global,
+    checkpoint: &'w str,
+    workflow: &'w str,
+    feeds: &[&'w str],
+) -> Result<Vec<InputName<'w>>, AllocError>
+    ensures { IfOk result (λ names. names.items ≡ File checkpoint.entry ∷ File workflow.entry ∷ (map File feeds.now ++ Standard ∷ [])) }
+{
+    let mut names = step_inputs(alloc, workflow, feeds)?;
+    names.insert(0, InputName::File(checkpoint))?;
+    Ok(names)
+}
+
+/// Takes the steps of the script, which is the last input, on the board of the checkpoint, the first one, over
+/// the workflow, the second, and its feeds, those between them.
+pub fn resume_on<W: Out, E: Out>(
+    alloc: Global,
+    hex: bool,
+    inputs: &[Vec<u8>],
+    out: &mut W,
+    err: &mut E,
+) -> u8
+    requires { 3 ≤ length inputs.now }
+    ensures status { (result ≡ 0) ⊎ (result ≡ 1) }
+    ensures printed { result ≡ 0 → PrintsResumed (resume_asked hex (bytes_of inputs.now)) (checkpoint_of (bytes_of inputs.now)) (W.written out.old).bytes (W.written out.new).bytes }
+    ensures begun { PrintsSomeResumed (resume_asked hex (bytes_of inputs.now)) (checkpoint_of (bytes_of inputs.now)) (W.written out.old).bytes (W.written out.new).bytes }
+    ensures quiet { result ≡ 0 → err.new ≡ err.old }
+    ensures refused { result ≡ 1 → PrintsResumeRefusal (resume_asked hex (bytes_of inputs.now)) (checkpoint_of (bytes_of inputs.now)) (E.written err.old).bytes (E.written err.new).bytes }
+{
+    let last = inputs.len() - 1;
+    let feeds = &inputs[2..last];
+    resume::resume(
+        alloc,
+        hex,
+        &inputs[0],
+        &inputs[1],
+        feeds,
+        &inputs[last],
+        out,
+        err,
+    )
+}
+
+/// The inputs of `run`: the workflow, and the feeds in their order.
+pub fn run_inputs<'w>(
+    alloc: Global,
+    workflow: &'w str,
+    feeds: &[&'w str],
+) -> Result<Vec<InputName<'w>>, AllocError>
+    ensures { IfOk result (λ names. names.items ≡ File workflow.entry ∷ map File feeds.now) }
+{
+    let mut names = file_names(alloc, feeds)?;
+    names.insert(0, InputName::File(workflow))?;
+    Ok(names)
+}
+
+/// Runs the streams of the workflow, which is the first input, over their feeds, those behind it, to their ends:
+/// one after another where `alone` is set, and else in threads. Where `hex` is set feeds are hexadecimal text.
+pub fn run_on<R: Threads + Wait + Sync, W: Out, E: Out>(
+    rt: &R,
+    alloc: Global,
+    hex: bool,
+    alone: bool,
+    policy: &Policy,
+    inputs: &[Vec<u8>],
+    out: &mut W,
+    err: &mut E,
+) -> u8
+    requires { 1 ≤ length inputs.now }
+    ensures status { (result ≡ 0) ⊎ (result ≡ 1) }
+    ensures printed { result ≡ 0 → PrintsDump (opened_by hex (bytes_of inputs.now)) (W.written out.old).bytes (W.written out.new).bytes }
+    ensures begun { PrintsSomeDump (opened_by hex (bytes_of inputs.now)) (W.written out.old).bytes (W.written out.new).bytes }
+    ensures quiet { result ≡ 0 → err.new ≡ err.old }
+    ensures refused { result ≡ 1 → PrintsRunRefusal (opened_by hex (bytes_of inputs.now)) (E.written err.old).bytes (E.written err.new).bytes }
+{
+    let feeds = &inputs[1..];
+    run::run(rt, alloc, hex, alone, policy, &inputs[0], feeds, out, err)
 }
 
 /// The inputs of `vdiff`: the workflow, the source's dump, and the target's.

@@ -2,6 +2,7 @@
 #![tactic(auto)]
 
 pub mod answer_text;
+pub mod at_once;
 pub mod given;
 pub mod hex_text;
 pub mod input;
@@ -13,6 +14,9 @@ pub mod opened;
 pub mod output;
 pub mod refusal;
 pub mod refused_text;
+pub mod resume;
+pub mod resumed_text;
+pub mod run;
 pub mod save;
 pub mod script;
 pub mod show;

@@ -1,6 +1,6 @@
 //! Text behind text that waits for a writer: the whole of it, or after a fault a beginning.
 
-ghost use Rattle.std.specs.Prelude.{◌≡◌, IfSome};
+ghost use Rattle.std.specs.Prelude.{◌≡◌, decimal, IfSome};
 ghost use Rattle.row_view.specs.ColumnValue.{column_value};
 ghost use Rattle.vdiff_core.specs.Cells.{cell, cells};
 ghost use Rattle.vrepl_main.specs.Adding.{Adds, at};
@@ -25,6 +25,14 @@ pub fn put_str<W: Out>(out: &mut W, text: &mut Gathered, piece: &str) -> Result<
     ensures { Adds result (at (W.written out.old) text.old) (at (W.written out.new) text.new) piece.now }
 {
     put_all(out, text, piece.as_bytes())
+}
+
+/// Adds a number in decimal digits.
+pub fn put_number<W: Out>(out: &mut W, text: &mut Gathered, number: u64) -> Result<(), OutFailed>
+    ensures { Adds result (at (W.written out.old) text.old) (at (W.written out.new) text.new) (decimal number) }
+{
+    let mut digits = itoa::Buffer::new();
+    put_str(out, text, digits.format(number))
 }
 
 /// Adds each column as a cell behind a tab.

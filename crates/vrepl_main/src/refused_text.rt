@@ -52,7 +52,7 @@ fn print_step_details<W: Out>(
 }
 
 /// Adds why a group can't be prepared.
-fn print_unprepared<W: Out>(
+pub(crate) fn print_unprepared<W: Out>(
     out: &mut W,
     text: &mut Gathered,
     tables: &[Table],
@@ -88,7 +88,7 @@ fn print_bad_row<W: Out>(
 }
 
 /// Adds at which key a row of another stream stands.
-fn print_clash<W: Out>(
+pub(crate) fn print_clash<W: Out>(
     out: &mut W,
     text: &mut Gathered,
     tables: &[Table],

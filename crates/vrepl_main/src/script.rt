@@ -56,7 +56,7 @@ impl<T: Drop> From<AllocFailed<T>> for ScriptFault {
 }
 
 /// The number that a word of digits spells, at most 2^32 - 1.
-fn number_of(word: &[u8]) -> Option<u32>
+pub fn number_of(word: &[u8]) -> Option<u32>
     ensures { result ≡ number_of word.now }
 {
     if word.is_empty() {

@@ -1,12 +1,13 @@
 //! The text of a feed's groups.
 
-ghost use Rattle.gtid_set.specs.Printed.{printed_position};
+ghost use Rattle.std.specs.Prelude.{◌∷◌, ◌++◌};
+ghost use Rattle.gtid_set.specs.Printed.{interval_text, numbers_text, printed_position, uuid_text};
 ghost use Rattle.vrepl_main.specs.Adding.{Adds, at};
 ghost use Rattle.vrepl_main.specs.Shown.{row_line, row_lines, change_text, changes_text, group_line, group_text, shown};
 
-use crate::output::{print_cells, put_all, put_str, put_text};
-use gtid_set::{GtidSet, IntervalText};
-use row_view::{Columns, RowView};
+use crate::output::{print_cells, put_all, put_number, put_str};
+use gtid_set::{GtidSet, Interval, uuid_text};
+use row_view::{Columns, RowBytes};
 use source_feed::{Change, Group};
 use vdiff_core::{Gathered, Out, OutFailed};
 
@@ -43,7 +44,7 @@ fn print_group_line<W: Out>(
     ensures { Adds result (at (W.written out.old) text.old) (at (W.written out.new) text.new) (group_line group.now) }
 {
     put_all(out, text, b"group ")?;
-    put_text(out, text, group.number())?;
+    put_number(out, text, u64::from(group.number()))?;
     put_all(out, text, b" ")?;
     print_position(out, text, group.position())?;
     put_all(out, text, b"\n")
@@ -59,10 +60,63 @@ pub fn print_position<W: Out>(
 {
     let mut before = None;
     for interval in position.intervals() {
-        put_text(out, text, IntervalText { interval, before })?;
+        print_interval(out, text, before, interval)?;
         before = Some(interval.uuid);
     }
     Ok(())
+}
+
+/// Prints an interval behind one of this uuid, if there is one.
+#[inline(always)]
+fn print_interval<W: Out>(
+    out: &mut W,
+    text: &mut Gathered,
+    before: Option<u128>,
+    interval: &Interval,
+) -> Result<(), OutFailed>
+    ensures { Adds result (at (W.written out.old) text.old) (at (W.written out.new) text.new) (interval_text before interval.now) }
+{
+    match before {
+        None => print_named(out, text, interval),
+        Some(uuid) if uuid == interval.uuid => {
+            put_all(out, text, b":")?;
+            print_numbers(out, text, interval)
+        }
+        Some(_) => {
+            put_all(out, text, b",")?;
+            print_named(out, text, interval)
+        }
+    }
+}
+
+/// Prints an interval behind its uuid.
+#[inline(always)]
+fn print_named<W: Out>(
+    out: &mut W,
+    text: &mut Gathered,
+    interval: &Interval,
+) -> Result<(), OutFailed>
+    ensures { Adds result (at (W.written out.old) text.old) (at (W.written out.new) text.new) (uuid_text interval.now.uuid ++ 58 ∷ numbers_text interval.now) }
+{
+    put_all(out, text, &uuid_text(interval.uuid))?;
+    put_all(out, text, b":")?;
+    print_numbers(out, text, interval)
+}
+
+/// Prints the numbers of an interval: the only one, or the first and the last.
+fn print_numbers<W: Out>(
+    out: &mut W,
+    text: &mut Gathered,
+    interval: &Interval,
+) -> Result<(), OutFailed>
+    ensures { Adds result (at (W.written out.old) text.old) (at (W.written out.new) text.new) (numbers_text interval.now) }
+{
+    put_number(out, text, interval.first)?;
+    if interval.first == interval.last {
+        return Ok(());
+    }
+    put_all(out, text, b"-")?;
+    put_number(out, text, interval.last)
 }
 
 /// Prints the lines of changes.
@@ -87,17 +141,18 @@ fn print_change<W: Out>(
 ) -> Result<(), OutFailed>
     ensures { Adds result (at (W.written out.old) text.old) (at (W.written out.new) text.new) (change_text change.now) }
 {
-    print_row_if(out, text, "- ", change.table(), change.before())?;
-    print_row_if(out, text, "+ ", change.table(), change.after())
+    print_row_if(out, text, "- ", change.table(), change.before_bytes())?;
+    print_row_if(out, text, "+ ", change.table(), change.after_bytes())
 }
 
 /// Prints the line of a row, if there is one.
+#[inline(always)]
 fn print_row_if<W: Out>(
     out: &mut W,
     text: &mut Gathered,
     mark: &str,
     table: &str,
-    row: Option<RowView<'_>>,
+    row: Option<RowBytes<'_>>,
 ) -> Result<(), OutFailed>
     ensures { Adds result (at (W.written out.old) text.old) (at (W.written out.new) text.new) (row_lines mark.now table.now row.entry) }
 {

@@ -97,7 +97,7 @@ pub(crate) fn steps_of(alloc: Global, script: &[u8]) -> Result<Vec<ScriptStep>, 
 }
 
 /// The first plan, shared. A workflow has one, so that an error is want of memory.
-fn first_plan(plans: &[Arc<Plan>]) -> Result<Arc<Plan>, AllocError>
+pub(crate) fn first_plan(plans: &[Arc<Plan>]) -> Result<Arc<Plan>, AllocError>
     ensures { IfOk result (λ plan. slice_get (map arc_value plans.now) 0 ≡ Some (arc_value plan)) }
 {
     let Some(first) = plans.first() else {
@@ -142,7 +142,7 @@ fn print_run<'h, W: Out>(
 }
 
 /// Takes the steps on a board, and prints their replies.
-fn print_taken<'h, W: Out>(
+pub(crate) fn print_taken<'h, W: Out>(
     alloc: Global,
     board: &mut Board<'h>,
     feeds: &[Feed<'h>],

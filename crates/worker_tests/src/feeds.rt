@@ -5,7 +5,7 @@ use std::alloc::{AllocError, Global};
 use std::sync::Arc;
 
 /// The table `t` of `id` (INT64) and `v` (VARCHAR), read by two streams, all of whose rows pass.
-const WORKFLOW: &str =
+pub(crate) const WORKFLOW: &str =
     "{\"keyspace\":\"ks\",\"tables\":[{\"name\":\"t\",\"columns\":[[\"id\",\"INT64\"],[\"v\",\"VARCHAR\"]],\"key\":[\"id\"]}],\"streams\":[{\"shard\":\"-80\",\"filter\":{\"rules\":[{\"match\":\"/.*\",\"filter\":\"\"}]}},{\"shard\":\"80-\",\"filter\":{\"rules\":[{\"match\":\"/.*\",\"filter\":\"\"}]}}]}";
 
 /// A FIELD event of the table.
@@ -25,28 +25,44 @@ fn push_event(feed: &mut Vec<u8>, event: &[u8]) -> Result<(), AllocError> {
     feed.extend_from_slice(event)
 }
 
-/// A group: a row whose number has two digits, the second of which is that of the group, at the position
-/// from 1 to that digit.
-fn push_group(alloc: Global, feed: &mut Vec<u8>, first: u8, digit: u8) -> Result<(), AllocError> {
-    let row = [
-        8, 12, 42, 16, 10, 1, 116, 18, 11, 18, 9, 10, 2, 4, 2, 18, 3, first, digit, 97,
-    ];
+/// A group: a new row of a short number and a value of one byte, at the position from 1 to a digit.
+fn push_group(
+    alloc: Global,
+    feed: &mut Vec<u8>,
+    line: (&[u8], u8),
+    digit: u8,
+) -> Result<(), AllocError> {
+    let (number, value) = line;
+    let k = (number.len() % 60) as u8;
+    let mut row = Vec::new(alloc);
+    row.extend_from_slice(&[8, 12, 42, k + 14, 10, 1, 116, 18, k + 9])?;
+    row.extend_from_slice(&[18, k + 7, 10, 2, 2 * k, 2, 18, k + 1])?;
+    row.extend_from_slice(number)?;
+    row.push(value)?;
     let mut position = Vec::new(alloc);
     position.extend_from_slice(&[8, 1, 26, 40])?;
     position.extend_from_slice(b"3e11fa47-71ca-11e1-9e33-c80aa9429562")?;
     position.extend_from_slice(&[b':', b'1', b'-', digit])?;
     push_event(feed, &[8, 2])?;
     push_event(feed, &FIELDS)?;
-    push_event(feed, &row)?;
+    push_event(feed, row.as_slice())?;
     push_event(feed, &position)?;
     push_event(feed, &[8, 3])
 }
 
+/// A feed of up to nine groups, of a new row each: its number's text and its value.
+pub(crate) fn feed_of(alloc: Global, lines: &[(&[u8], u8)]) -> Result<Vec<u8>, AllocError> {
+    let mut feed = Vec::new(alloc);
+    let mut digit = b'1';
+    for line in lines {
+        push_group(alloc, &mut feed, *line, digit)?;
+        digit = digit.wrapping_add(1);
+    }
+    Ok(feed)
+}
+
 /// A feed of three groups, of the rows whose numbers have this first digit.
 pub(crate) fn feed(alloc: Global, first: u8) -> Result<Vec<u8>, AllocError> {
-    let mut feed = Vec::new(alloc);
-    push_group(alloc, &mut feed, first, b'1')?;
-    push_group(alloc, &mut feed, first, b'2')?;
-    push_group(alloc, &mut feed, first, b'3')?;
-    Ok(feed)
+    let (one, two, three) = ([first, b'1'], [first, b'2'], [first, b'3']);
+    feed_of(alloc, &[(&one, b'a'), (&two, b'a'), (&three, b'a')])
 }

@@ -4,4 +4,8 @@
 #[cfg(test)]
 mod feeds;
 #[cfg(test)]
+mod gates;
+#[cfg(test)]
+mod runs;
+#[cfg(test)]
 mod seats;

@@ -7,8 +7,8 @@ pub overflow_mul-number : goal.overflow_mul-number
 overflow_mul-number c =
     let left = length c.args.text.now - c.loop-byte.byte-index in
     let lt = c.loop-byte-test.true in
-    let next = room-next c.loop-byte.number 0 left (2 ^ 128) (omega arith) (omega arith) (omega (arith, c.requires, c.loop-byte.invariant.room)) in
-    let fits = room-value (c.loop-byte.number * 16 + 0) (left - 1) (2 ^ 128) next in
+    let next = room-next c.loop-byte.number 0 left (2 ^ 64) (omega arith) (omega arith) (omega (arith, c.requires, c.loop-byte.invariant.room)) in
+    let fits = room-value (c.loop-byte.number * 16 + 0) (left - 1) (2 ^ 64) next in
     omega arith
 
 pub overflow_add-number : goal.overflow_add-number
@@ -16,8 +16,8 @@ overflow_add-number c =
     let left = length c.args.text.now - c.loop-byte.byte-index in
     let lt = c.loop-byte-test.true in
     let small : c.from.result < 16 = omega (arith, c.from.ensures, c.in_ok-hex_digit.ensures.small) in
-    let next = room-next c.loop-byte.number c.from.result left (2 ^ 128) small (omega arith) (omega (arith, c.requires, c.loop-byte.invariant.room)) in
-    let fits = room-value (c.loop-byte.number * 16 + c.from.result) (left - 1) (2 ^ 128) next in
+    let next = room-next c.loop-byte.number c.from.result left (2 ^ 64) small (omega arith) (omega (arith, c.requires, c.loop-byte.invariant.room)) in
+    let fits = room-value (c.loop-byte.number * 16 + c.from.result) (left - 1) (2 ^ 64) next in
     omega arith
 
 pub loop-byte-preserved : goal.loop-byte-preserved

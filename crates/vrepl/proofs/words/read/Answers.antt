@@ -1,11 +1,11 @@
-use Rattle.std.proofs.Common.{◌≡◌, ◌∙◌, ap, sym, subst, rules, [], map, string_bytes, Option, Some, Result, Ok, Err}
+use Rattle.std.proofs.Common.{◌≡◌, ◌∙◌, ap, ap₂, sym, subst, rules, inl, inr, [], map, string_bytes, Option, None, Some, Result, Ok, Err}
 use Rattle.std.proofs.lemmas.Result.{err_from_is_err_and}
-use Rattle.clap.specs.Words.{app_of, fault_of, is_simple, is_simple_and_free}
-use Rattle.clap.specs.Kinds.{HasKind, Kinds}
+use Rattle.clap.specs.Words.{fault_of, is_simple, is_simple_and_free}
+use Rattle.clap.specs.Kinds.{HasKind, Kinds, or_else}
 use Rattle.vrepl.specs.Meant.{Asks, value_of}
 use Rattle.vrepl.specs.declared.words.Words.{Words}
-use Rattle.vrepl.specs.Words.{WordsValue, asked_by, faults_of, words_of}
-use Rattle.vrepl.proofs.TakenWords.{faults_are, no_word, no_words_asked, no_words_taken, simple, simple_and_free, spelled_is, unasked, words_are, words_ask}
+use Rattle.vrepl.specs.Words.{WordsValue, asked_by, faults_of, program_app, range_fault, spelled, words_of}
+use Rattle.vrepl.proofs.TakenWords.{faults_are, first_has, no_word, no_words_asked, no_words_taken, simple, simple_and_free, spelled_is, words_are}
 use Rattle.vrepl.proofs.words.read.Goals as goal
 
 -- what was read is what was asked for
@@ -23,10 +23,8 @@ pub returns-in_err-matches-clause-refused : goal.returns-in_err-matches-clause-r
 returns-in_err-matches-clause-refused c =
     let is = c.in_ok-command.ensures.0 in
     let same = spelled_is string_bytes c.args.words.now c.if-is_empty.ensures in
-    let kinds : fault_of (app_of c.in_ok-command.command) (map string_bytes c.args.words.now) ≡ faults_of (map string_bytes c.args.words.now) =
-    faults_are _ _ is same in
     let p = err_from_is_err_and c.from_residual-in_err-matches.result c.from_residual-in_err-matches.ensures.1 in
-    rw (p.1, p.2) (subst (λ (ks : Kinds). HasKind ks c.in_err-matches.field-0.0) kinds (c.in_err-matches.ensures.kinds (ap is_simple_and_free is ∙ simple_and_free)))
+    rw (p.1, p.2) (first_has _ (range_fault (words_of (map string_bytes c.args.words.now))) c.in_err-matches.field-0.0 (subst (λ (ks : Kinds). HasKind ks c.in_err-matches.field-0.0) (faults_are _ _ is same) (c.in_err-matches.ensures.kinds (ap is_simple_and_free is ∙ simple_and_free))))
 
 pub returns-in-Some-clause-read : goal.returns-in-Some-clause-read
 returns-in-Some-clause-read c =
@@ -39,12 +37,14 @@ pub returns-in-Some-clause-refused : goal.returns-in-Some-clause-refused
 returns-in-Some-clause-refused c =
     let is = c.in_ok-command.ensures.0 in
     let same = spelled_is string_bytes c.args.words.now c.if-is_empty.ensures in
-    sym (faults_are _ _ is same) ∙ c.in_ok-matches.ensures.kinds (ap is_simple_and_free is ∙ simple_and_free)
+    let taken : fault_of program_app (spelled (map string_bytes c.args.words.now)) ≡ [] = sym (faults_are _ _ is same) ∙ c.in_ok-matches.ensures.kinds (ap is_simple_and_free is ∙ simple_and_free) in
+    ap₂ or_else taken (ap range_fault (returns-in-Some-clause-read c))
 
 pub returns-clause-refused : goal.returns-clause-refused
 returns-clause-refused c =
     let is = c.in_ok-command.ensures.0 in
     let same = spelled_is string_bytes c.args.words.now c.if-is_empty.ensures in
     let given = (c.in_ok-matches.ensures.ok.2 (ap is_simple is ∙ simple)).1 in
-    let taken : faults_of (map string_bytes c.args.words.now) ≡ [] = sym (faults_are _ _ is same) ∙ c.in_ok-matches.ensures.kinds (ap is_simple_and_free is ∙ simple_and_free) in
-    absurd (unasked _ (words_ask (map string_bytes c.args.words.now) taken) (sym (words_are _ _ is same) ∙ ap asked_by (sym given) ∙ c.in-None.ensures))
+    let taken : fault_of program_app (spelled (map string_bytes c.args.words.now)) ≡ [] = sym (faults_are _ _ is same) ∙ c.in_ok-matches.ensures.kinds (ap is_simple_and_free is ∙ simple_and_free) in
+    let none : words_of (map string_bytes c.args.words.now) ≡ None = sym (words_are _ _ is same) ∙ ap asked_by (sym given) ∙ c.in-None.ensures in
+    rw (taken, none) (inr (inl (search rules)))

@@ -17,13 +17,13 @@ nowhere = record { uuid = 0; first = 0; last = 0 }
 pub loop-interval-preserved : goal.loop-interval-preserved
 loop-interval-preserved g c =
     let parts = first_interval c.loop-interval.before c.intervals-interval-items.result.now c.loop-interval.interval-index nowhere c.loop-interval-test.true in
-    moves _ _ _ _ _ _ _ parts c.loop-interval.invariant c.in_ok-put_text.ensures
+    moves _ _ _ _ _ _ _ parts c.loop-interval.invariant c.in_ok-print_interval.ensures
 
-pub returns-in_err-put_text : goal.returns-in_err-put_text
-returns-in_err-put_text g c =
+pub returns-in_err-print_interval : goal.returns-in_err-print_interval
+returns-in_err-print_interval g c =
     let parts = first_interval c.loop-interval.before c.intervals-interval-items.result.now c.loop-interval.interval-index nowhere c.loop-interval-test.true in
     let p = err_from_is_err_and c.from_residual.result c.from_residual.ensures.1 in
-    rw p.1 (stops _ _ _ _ _ _ _ parts c.loop-interval.invariant c.in_err-put_text.ensures)
+    rw p.1 (stops _ _ _ _ _ _ _ parts c.loop-interval.invariant c.in_err-print_interval.ensures)
 
 pub returns : goal.returns
 returns g c = ends _ _ _ _ (ap (printed_behind c.loop-interval.before) (drop_all c.loop-interval.interval-index c.intervals-interval-items.result.now c.loop-interval-test.false)) c.loop-interval.invariant

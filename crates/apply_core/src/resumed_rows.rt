@@ -1,0 +1,202 @@
+//! The rows of a checkpoint beside those that the feeds leave, and put together over one target.
+
+ghost use Rattle.std.specs.Prelude.{◌≡◌, ◌≤◌, ◌<◌, ◌+◌, List, length, map, take, MatchOption, IfOk, IfErr, OnOk};
+ghost use Rattle.std.specs.List.{filter};
+ghost use Rattle.pk_copy.specs.KeyOrder.{key_cmp};
+ghost use Rattle.pk_copy.specs.Marks.{is_inside};
+ghost use Rattle.target_tables.specs.Rising.{IsRising};
+ghost use Rattle.source_feed.specs.Image.{lent_row};
+ghost use Rattle.vdiff_core.specs.Report.{IsFirstDifference};
+ghost use Rattle.checkpoint_laws.specs.Resumed.{AgreesWith, AtEachPlace};
+ghost use Rattle.checkpoint_laws.specs.Refused.{IsLeastDifference};
+ghost use Rattle.apply_core.specs.Private.Changes.{put_row};
+ghost use Rattle.apply_core.specs.Private.Resuming.{AreOthers, HaveClash, AllRise};
+ghost use Rattle.apply_core.specs.Private.Together.{AreTogether};
+
+use crate::bringing::bring;
+use crate::stream::Stream;
+use crate::together::put_stream;
+use board_laws::kept_rows_are_one_list;
+use checkpoint_core::ReadStream;
+use checkpoint_laws::ResumeFault;
+use join_laws::JoinFault;
+use pk_copy::{CopyState, Key, LentKey, keys_tie_where_they_are_equal};
+use row_view::{RowBuf, RowBytes};
+use source_feed::Image;
+use std::alloc::{AllocError, Global};
+use std::cmp::Ordering;
+use target_tables::Tables;
+
+/// The rows of an image whose keys are copied, by rising key. An error is want of memory.
+fn rows_inside<'i, 'h>(
+    alloc: Global,
+    image: &'i Image<'h>,
+    marks: &CopyState,
+) -> Result<Vec<(&'i LentKey<'h>, &'i RowBytes<'h>)>, AllocError>
+    ensures { IfOk result (λ rows. map lent_row rows.items ≡ filter (λ row. is_inside marks.now row.0) image.now) }
+{
+    let all = image.rows(alloc)?;
+    let mut rows = Vec::new(alloc);
+    for i in 0..all.len() {
+        let row = &all[i];
+        if marks.inside(&row.0.view()) {
+            rows.push((row.0, row.1))?;
+        }
+    }
+    Ok(rows)
+}
+
+/// The least key at which two lists of rows by rising key differ, if any. One walk over what is the same. An
+/// error is want of memory.
+fn first_difference(
+    alloc: Global,
+    saved: &[(Key, RowBytes<'_>)],
+    found: &[(&LentKey<'_>, &RowBytes<'_>)],
+) -> Result<Option<Key>, AllocError>
+    requires saved { IsRising key_cmp saved.now }
+    requires found { IsRising key_cmp (map lent_row found.now) }
+    ensures { IfOk result (λ key. MatchOption key (saved.now ≡ map lent_row found.now) (IsFirstDifference saved.now (map lent_row found.now))) }
+{
+    keys_tie_where_they_are_equal();
+    for i in 0..saved.len() {
+        if i >= found.len() {
+            return Ok(Some(saved[i].0.try_clone(alloc)?));
+        }
+        match order_of(&saved[i].0, found[i].0) {
+            Ordering::Less => return Ok(Some(saved[i].0.try_clone(alloc)?)),
+            Ordering::Greater => return Ok(Some(Key::from_view(alloc, &found[i].0.view())?)),
+            Ordering::Equal => {
+                if !saved[i].1.same(found[i].1) {
+                    return Ok(Some(saved[i].0.try_clone(alloc)?));
+                }
+            }
+        }
+    }
+    if saved.len() < found.len() {
+        return Ok(Some(Key::from_view(alloc, &found[saved.len()].0.view())?));
+    }
+    Ok(None)
+}
+
+/// How two keys are ordered. Takes no memory.
+fn order_of(ours: &Key, theirs: &LentKey<'_>) -> Ordering
+    ensures { result ≡ key_cmp ours.now theirs.now }
+{
+    ours.view().cmp(&theirs.view())
+}
+
+/// The least key at which the rows that a checkpoint says of a stream aren't those that its applied groups
+/// leave within its marks, if any. The image of these groups is built for it. An error is want of memory.
+fn difference(
+    alloc: Global,
+    stream: &Stream<'_>,
+    saved: &ReadStream<'_>,
+) -> Result<Option<Key>, AllocError>
+    requires { IsRising key_cmp saved.now.rows }
+    ensures { IfOk result (λ found. MatchOption found (AgreesWith saved.now stream.now) (IsLeastDifference saved.now stream.now)) }
+{
+    keys_tie_where_they_are_equal();
+    kept_rows_are_one_list();
+    stream.is_sound();
+    let mut image = Image::new(alloc);
+    let mut imaged = 0;
+    bring(
+        alloc,
+        &mut image,
+        &mut imaged,
+        stream.list(),
+        stream.applied,
+    )?;
+    let rows = rows_inside(alloc, &image, &stream.marks)?;
+    first_difference(alloc, saved.rows(), &rows)
+}
+
+/// Refused 117 where the rows that a checkpoint says of a stream aren't those that its applied groups leave
+/// within its marks: for the least such stream, with the least key. Any other error is want of memory.
+pub(crate) fn compare_rows(
+    alloc: Global,
+    streams: &[Stream<'_>],
+    saved: &[ReadStream<'_>],
+) -> Result<(), ResumeFault>
+    requires count { length saved.now ≡ length streams.now }
+    requires few { length streams.now ≤ 64 }
+    requires rising { AllRise saved.now }
+    ensures ok { OnOk result (AtEachPlace AgreesWith saved.now streams.now) }
+    ensures err { IfErr result (AreOthers saved.now streams.now) }
+{
+    keys_tie_where_they_are_equal();
+    for s in 0..streams.len() {
+        match difference(alloc, &streams[s], &saved[s])? {
+            None => {}
+            Some(key) => return Err(ResumeFault::Differs {
+                stream: s as u8,
+                key,
+            }),
+        }
+    }
+    Ok(())
+}
+
+/// Rows as they are put, copied. An error is want of memory.
+fn puts_of(
+    alloc: Global,
+    rows: &[(Key, RowBytes<'_>)],
+) -> Result<Vec<(Key, Option<RowBuf>)>, AllocError>
+    ensures { IfOk result (λ puts. puts.items ≡ map put_row rows.now) }
+{
+    let mut puts = Vec::with_capacity(alloc, rows.len())?;
+    for (key, row) in rows {
+        puts.push((key.try_clone(alloc)?, Some(RowBuf::from_bytes(alloc, row)?)))?;
+    }
+    Ok(puts)
+}
+
+/// Stream `s` is put to the lower ones with the rows that a checkpoint says of it.
+fn put_saved(
+    alloc: Global,
+    rows: &mut Tables<Key, RowBuf>,
+    streams: &[Stream<'_>],
+    saved: &[ReadStream<'_>],
+    s: u8,
+) -> Result<(), ResumeFault>
+    requires here { s < length streams.now }
+    requires there { s < length saved.now }
+    requires agree { AtEachPlace AgreesWith saved.now streams.now }
+    requires rising { AllRise saved.now }
+    requires lower { AreTogether (take s streams.now) rows.old.entries }
+    ensures ok { OnOk result (AreTogether (take (s + 1) streams.now) rows.new.entries) }
+    ensures err { IfErr result (HaveClash streams.now) }
+{
+    keys_tie_where_they_are_equal();
+    let puts = puts_of(alloc, saved[s as usize].rows())?;
+    match put_stream(alloc, rows, s, puts) {
+        Ok(()) => Ok(()),
+        Err(JoinFault::OwnedByOther { key, owner }) => Err(ResumeFault::OwnedByOther {
+            key,
+            owner,
+        }),
+        Err(_) => Err(ResumeFault::Memory),
+    }
+}
+
+/// The rows that a checkpoint says of the streams, put together in order. Refused 71 where two streams have a
+/// row at one key: for the first stream that meets a lower one, with its least such key and the lower stream.
+/// Any other error is want of memory.
+pub(crate) fn rows_together(
+    alloc: Global,
+    streams: &[Stream<'_>],
+    saved: &[ReadStream<'_>],
+) -> Result<Tables<Key, RowBuf>, ResumeFault>
+    requires count { length saved.now ≡ length streams.now }
+    requires few { length streams.now ≤ 64 }
+    requires agree { AtEachPlace AgreesWith saved.now streams.now }
+    requires rising { AllRise saved.now }
+    ensures ok { IfOk result (λ rows. AreTogether streams.now rows.entries) }
+    ensures err { IfErr result (HaveClash streams.now) }
+{
+    let mut rows = Tables::new(alloc);
+    for s in 0..saved.len() {
+        put_saved(alloc, &mut rows, streams, saved, s as u8)?;
+    }
+    Ok(rows)
+}

@@ -1,0 +1,15 @@
+use Rattle.std.proofs.Common.{refl, codes}
+use Rattle.std.proofs.lemmas.Result.{IfOk-weaker}
+use Rattle.clap.specs.Words.{App, new_app}
+use Rattle.vrepl.specs.Built.{HasApp}
+use Rattle.vrepl.proofs.Builders.{adds_rule, sets}
+use Rattle.vrepl.proofs.commands.step_command.Goals as goal
+
+pub returns : goal.returns
+returns c =
+    let new : HasApp (new_app (codes "step")) c.new.result = (c.new.ensures.app, c.new.ensures.local) in
+    let about = sets (λ (a : App). a) _ c.new.result c.about.result _ c.about.ensures refl refl new in
+    let after_help = sets (λ (a : App). a) _ c.about.result c.after_help.result _ c.after_help.ensures refl refl about in
+    let hex = adds_rule _ _ c.after_help.result c.in_ok-arg.field-0 c.flag.result c.in_ok-arg.ensures after_help c.flag.ensures in
+    let workflow = adds_rule _ _ c.in_ok-arg.field-0 c.in_ok-arg-2.field-0 c.operand.result c.in_ok-arg-2.ensures hex c.operand.ensures in
+    IfOk-weaker c.arg-3.result _ _ (λ made adds. adds_rule _ _ c.in_ok-arg-2.field-0 made c.operands.result adds workflow c.operands.ensures) c.arg-3.ensures

@@ -1,0 +1,35 @@
+-- What the command `run` prints, and why it is refused, by what its inputs say.
+use Rattle.std.proofs.Common.{◌≡◌, ◌∙◌, ap, sym, subst, ℕ, Bool, List, map, refl, Option, Some, Result, Ok, Err}
+use Rattle.std.specs.Prelude.{slice_get}
+use Rattle.filter_rule.specs.PlanValue.{PlanValue}
+use Rattle.vdiff_core.specs.RowsValue.{RowsValue}
+use Rattle.stream_worker.specs.Ended.{IsRowsUnion}
+use Rattle.stream_worker.specs.RunRefused.{IsRefusedRun}
+use Rattle.stream_worker.specs.declared.run_refusal.RunRefusal.{RunRefusal}
+use Rattle.vrepl_main.specs.declared.refusal.Refusal.{Refusal}
+use Rattle.vrepl_main.specs.Command.{Refuses, IsUnwritten}
+use Rattle.vrepl_main.specs.HexText.{feed_bytes}
+use Rattle.vrepl_main.specs.Opening.{OpenedValue, opened, opened_bytes}
+use Rattle.vrepl_main.specs.Reasons.{Reason}
+use Rattle.vrepl_main.specs.Running.{Filled, IsFilled, RefusesStream}
+use Rattle.vrepl_main.proofs.CommandLaws.{Refuses-unwritten}
+use Rattle.vrepl_main.proofs.StepLaws.{map-map}
+
+-- the bytes of the feeds, decoded where they are given as hexadecimal text
+pub opened_as : {A : Type 0} (feeds : List A) (view : A → List ℕ) (hex : Bool) (workflow : List ℕ) (given : List (Option (List ℕ))) → given ≡ map (λ feed. feed_bytes hex (view feed)) feeds
+    → opened_bytes workflow given ≡ opened hex workflow (map view feeds)
+opened_as feeds view hex workflow given is = ap (λ (bytes : List (Option (List ℕ))). opened_bytes workflow bytes) (is ∙ sym (map-map (feed_bytes hex) view feeds))
+
+module _ (reading : Result OpenedValue Reason) (found : OpenedValue) (plan : PlanValue) (is : reading ≡ Ok found) (first : slice_get found.plans 0 ≡ Some plan) where
+  -- a run over what is opened is refused
+  pub refused_run : (refusal : RunRefusal) → IsRefusedRun found.plans found.feeds refusal → RefusesStream plan refusal reading
+  refused_run refusal refused = subst (RefusesStream plan refusal) (sym is) (record { first = first; refused = refused })
+
+  -- it has filled the target
+  pub filled_run : (rows : RowsValue) → IsRowsUnion found.feeds rows → IsFilled reading (record { plan = plan; rows = rows })
+  filled_run rows union = subst (λ (r : Result OpenedValue Reason). IsFilled r (record { plan = plan; rows = rows })) (sym is) (record { first = first; union = union })
+
+-- the dump can't be written
+pub unwritten_run : (refusal : Refusal) (reading : Result OpenedValue Reason) (filled : Filled) → IsFilled reading filled → IsUnwritten refusal → Refuses {X = OpenedValue} refusal reading
+unwritten_run refusal (Ok given) filled is unwritten = Refuses-unwritten {X = OpenedValue} refusal (Ok given) given refl unwritten
+unwritten_run refusal (Err reason) filled is unwritten = absurd is

@@ -1,0 +1,68 @@
+-- What the command `resume` leaves on its writers (this profile).
+use Rattle.std.specs.Prelude.{◌≡◌, ◌⊎◌, ℕ, List, take, Option, Some, Result, Ok, Err, slice_get}
+use Rattle.std.specs.Arc.{arc_value}
+use Rattle.std.specs.Io.KnownBytes.{Appends}
+use Rattle.filter_rule.specs.PlanValue.{PlanValue}
+use Rattle.board_laws.specs.Meaning.{Meaning}
+use Rattle.checkpoint_laws.specs.declared.fault.ResumeFault.{ResumeFault}
+use Rattle.apply_core.specs.Resuming.{IsResumed, IsRefusedResume}
+use Rattle.vrepl_main.specs.declared.resume.ResumeRefusal.{ResumeRefusal}
+use Rattle.vrepl_main.specs.declared.resume.ResumeRefusal.TheVariants.{Given, Checkpoint}
+use Rattle.vrepl_main.specs.declared.script.ScriptStep.{ScriptStep}
+use Rattle.vrepl_main.specs.Command.{Refuses}
+use Rattle.vrepl_main.specs.Opening.{OpenedValue}
+use Rattle.vrepl_main.specs.Printing.{PrintsBeginning}
+use Rattle.vrepl_main.specs.Reasons.{Reason}
+use Rattle.vrepl_main.specs.Refusals.{refusal_line}
+use Rattle.vrepl_main.specs.ResumedText.{resume_line}
+use Rattle.vrepl_main.specs.ScriptRun.{ScriptReply, ScriptGiven, IsScriptRun, replies_text}
+
+-- ---- the replies
+
+-- the text is that of the replies to these steps, on the board that the checkpoint makes with the feeds
+pub record IsRepliedBehind (given : OpenedValue) (checkpoint : List ℕ) (steps : List ScriptStep) (text : List ℕ) : Type 0 where
+  pub plan : PlanValue
+  pub first : slice_get given.plans 0 ≡ Some plan
+  pub start : Meaning
+  pub resumed : IsResumed given.feeds checkpoint start
+  pub replies : List ScriptReply
+  pub board : Meaning
+  pub run : IsScriptRun given.feeds start steps replies board
+  pub is_text : text ≡ replies_text plan replies
+
+-- there is something to resume, and the replies to all steps were printed
+abbrev pub PrintsResumed : Result ScriptGiven Reason → List ℕ → Option (List ℕ) → Option (List ℕ) → Type 0
+PrintsResumed (Ok given) checkpoint old new = (text : List ℕ) × IsRepliedBehind given.opened checkpoint given.steps text × Appends old new text
+PrintsResumed (Err reason) checkpoint old new = ⊥
+
+-- nothing was printed, or a beginning of the replies to the first steps; nothing where there is nothing to resume
+abbrev pub PrintsSomeResumed : Result ScriptGiven Reason → List ℕ → Option (List ℕ) → Option (List ℕ) → Type 0
+PrintsSomeResumed (Ok given) checkpoint old new =
+    (new ≡ old) ⊎ ((n : ℕ) × (text : List ℕ) × IsRepliedBehind given.opened checkpoint (take n given.steps) text × PrintsBeginning old new text)
+PrintsSomeResumed (Err reason) checkpoint old new = new ≡ old
+
+-- ---- refusals
+
+-- the checkpoint isn't resumed over these feeds; the line names the tables of the first plan
+pub record IsRefusedOver (given : OpenedValue) (checkpoint : List ℕ) (plan : PlanValue) (fault : ResumeFault) : Type 0 where
+  pub first : slice_get given.plans 0 ≡ Some plan
+  pub refused : IsRefusedResume given.plans given.feeds checkpoint fault
+
+abbrev pub RefusesCheckpoint : PlanValue → ResumeFault → Result ScriptGiven Reason → List ℕ → Type 0
+RefusesCheckpoint plan fault (Ok given) checkpoint = IsRefusedOver given.opened checkpoint plan fault
+RefusesCheckpoint plan fault (Err reason) checkpoint = ⊥
+
+-- a refusal says just why the other inputs are refused, or else why the checkpoint is, unless memory ran out or the replies
+-- can't be written on standard output
+abbrev pub RefusesResume : ResumeRefusal → Result ScriptGiven Reason → List ℕ → Type 0
+RefusesResume (Given refusal) reading checkpoint = Refuses refusal reading
+RefusesResume (Checkpoint plan fault) reading checkpoint = RefusesCheckpoint (arc_value plan) fault reading checkpoint
+
+-- the line of a refusal
+abbrev pub line_of : ResumeRefusal → List ℕ
+line_of (Given refusal) = refusal_line refusal
+line_of (Checkpoint plan fault) = resume_line (arc_value plan).tables fault
+
+-- the line of such a refusal was printed, or a beginning of it
+abbrev pub PrintsResumeRefusal : Result ScriptGiven Reason → List ℕ → Option (List ℕ) → Option (List ℕ) → Type 0
+PrintsResumeRefusal reading checkpoint old new = (refusal : ResumeRefusal) × RefusesResume refusal reading checkpoint × PrintsBeginning old new (line_of refusal)

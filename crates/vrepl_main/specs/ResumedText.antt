@@ -1,0 +1,24 @@
+-- The lines of checkpoints that aren't resumed (this profile).
+use Rattle.std.specs.Prelude.{ℕ, List, [], ◌∷◌, ◌++◌, codes, decimal}
+use Rattle.filter_rule.specs.PlanTable.{TableValue}
+use Rattle.pk_copy.specs.KeyValue.{KeyValue}
+use Rattle.checkpoint_laws.specs.Faults.{number_of}
+use Rattle.checkpoint_laws.specs.declared.fault.ResumeFault.{ResumeFault}
+use Rattle.checkpoint_laws.specs.declared.fault.ResumeFault.TheVariants.{PositionUnknown, Unsound, Differs, OwnedByOther}
+use Rattle.vrepl_main.specs.RefusedText.{name_of_table, key_text, clash_text, unprepared_text}
+
+-- the rows of a stream differ from its feed's at a key
+abbrev pub differs_text : List TableValue → ℕ → KeyValue → List ℕ
+differs_text tables stream key = codes " stream " ++ decimal stream ++ codes " table " ++ name_of_table tables key.table ++ codes " key " ++ key_text key
+
+-- what stands behind the number
+abbrev pub resume_details : List TableValue → ResumeFault → List ℕ
+resume_details tables (PositionUnknown stream) = codes " stream " ++ decimal stream
+resume_details tables (Unsound fault) = unprepared_text tables fault
+resume_details tables (Differs stream key) = differs_text tables stream key
+resume_details tables (OwnedByOther key owner) = clash_text tables key owner
+resume_details tables fault = []
+
+-- the line, with its LF
+abbrev pub resume_line : List TableValue → ResumeFault → List ℕ
+resume_line tables fault = codes "refused " ++ decimal (number_of fault) ++ resume_details tables fault ++ 10 ∷ []

@@ -1,0 +1,81 @@
+-- What `run` prints of a workflow with its feeds, and why it refuses (this profile).
+use Rattle.std.specs.Prelude.{◌≡◌, ◌⊎◌, ℕ, List, Option, Some, Result, Ok, Err, slice_get}
+use Rattle.std.specs.Arc.{arc_value}
+use Rattle.std.specs.Io.KnownBytes.{Appends}
+use Rattle.filter_rule.specs.PlanValue.{PlanValue}
+use Rattle.vdiff_core.specs.Dump.{dump_of}
+use Rattle.vdiff_core.specs.RowsValue.{RowsValue}
+use Rattle.board_laws.specs.declared.refusal.Refusal.TheVariants as refusals
+use Rattle.board_laws.specs.declared.step_refusal.StepRefusal.{StepRefusal}
+use Rattle.board_laws.specs.declared.step_refusal.StepRefusal.TheVariants.{Unprepared, Refused}
+use Rattle.stream_worker.specs.Ended.{IsRowsUnion}
+use Rattle.stream_worker.specs.RunRefused.{IsRefusedRun}
+use Rattle.stream_worker.specs.declared.run_refusal.RunRefusal.{RunRefusal}
+use Rattle.stream_worker.specs.declared.run_refusal.RunRefusal.TheVariants.{FeedCount, WrongPlan, Unsound, OwnedByOther, Memory}
+use Rattle.vrepl_main.specs.Command.{Refuses}
+use Rattle.vrepl_main.specs.Opening.{OpenedValue}
+use Rattle.vrepl_main.specs.Printing.{PrintsBeginning}
+use Rattle.vrepl_main.specs.Reasons.{Reason}
+use Rattle.vrepl_main.specs.RefusedText.{refused_text}
+use Rattle.vrepl_main.specs.Refusals.{refusal_line}
+use Rattle.vrepl_main.specs.declared.run.RunFault.{RunFault}
+use Rattle.vrepl_main.specs.declared.run.RunFault.TheVariants.{Given, Stream}
+
+-- ---- the dump
+
+-- rows, and the plan whose tables they are of
+pub record Filled : Type 0 where
+  pub plan : PlanValue
+  pub rows : RowsValue
+
+-- just the rows that the feeds keep, under the first plan
+pub record IsFilledBy (given : OpenedValue) (filled : Filled) : Type 0 where
+  pub first : slice_get given.plans 0 ≡ Some filled.plan
+  pub union : IsRowsUnion given.feeds filled.rows
+
+-- there is something to run, and these are the rows
+abbrev pub IsFilled : Result OpenedValue Reason → Filled → Type 0
+IsFilled (Ok given) filled = IsFilledBy given filled
+IsFilled (Err reason) filled = ⊥
+
+-- their dump was printed
+abbrev pub PrintsDump : Result OpenedValue Reason → Option (List ℕ) → Option (List ℕ) → Type 0
+PrintsDump reading old new = (filled : Filled) × IsFilled reading filled × Appends old new (dump_of filled.plan filled.rows)
+
+-- nothing was printed, or a beginning of their dump; nothing where there is nothing to run
+abbrev pub PrintsSomeDump : Result OpenedValue Reason → Option (List ℕ) → Option (List ℕ) → Type 0
+PrintsSomeDump reading old new = (new ≡ old) ⊎ ((filled : Filled) × IsFilled reading filled × PrintsBeginning old new (dump_of filled.plan filled.rows))
+
+-- ---- refusals
+
+-- the refusal of a run, as that of a step: their lines are the same
+abbrev pub as_step : RunRefusal → StepRefusal
+as_step FeedCount = Refused refusals.FeedCount
+as_step WrongPlan = Refused refusals.WrongPlan
+as_step (Unsound stream fault) = Unprepared fault
+as_step (OwnedByOther stream key owner) = Refused (refusals.OwnedByOther key owner)
+as_step Memory = Refused refusals.Memory
+
+-- the line of a refusal
+abbrev pub fault_line : RunFault → List ℕ
+fault_line (Given refusal) = refusal_line refusal
+fault_line (Stream plan refusal) = refused_text (arc_value plan).tables (as_step refusal)
+
+-- a run of these feeds is refused so; its line names the tables of the first plan
+pub record IsRefusedStream (plan : PlanValue) (refusal : RunRefusal) (given : OpenedValue) : Type 0 where
+  pub first : slice_get given.plans 0 ≡ Some plan
+  pub refused : IsRefusedRun given.plans given.feeds refusal
+
+abbrev pub RefusesStream : PlanValue → RunRefusal → Result OpenedValue Reason → Type 0
+RefusesStream plan refusal (Ok given) = IsRefusedStream plan refusal given
+RefusesStream plan refusal (Err reason) = ⊥
+
+-- a refusal says just why there is nothing to run, or why the run was refused, unless memory ran out or the dump can't
+-- be written on standard output
+abbrev pub RefusesRun : RunFault → Result OpenedValue Reason → Type 0
+RefusesRun (Given refusal) reading = Refuses refusal reading
+RefusesRun (Stream plan refusal) reading = RefusesStream (arc_value plan) refusal reading
+
+-- the line of such a refusal was printed, or a beginning of it
+abbrev pub PrintsRunRefusal : Result OpenedValue Reason → Option (List ℕ) → Option (List ℕ) → Type 0
+PrintsRunRefusal reading old new = (fault : RunFault) × RefusesRun fault reading × PrintsBeginning old new (fault_line fault)

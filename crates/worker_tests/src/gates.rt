@@ -1,0 +1,96 @@
+//! Gates of the tests.
+
+use std::hint::spin_loop;
+use std::sync::Wait;
+use std::sync::atomic::{AtomicBool, AtomicU64, Ordering};
+use stream_worker::Gate;
+
+/// How often a call looks for the other stream.
+const TURNS: u64 = 100_000_000;
+
+/// A gate that does nothing.
+#[derive(Drop)]
+pub(crate) struct Open;
+
+impl Gate for Open {
+    fn passed<R: Wait>(&self, _rt: &R, _stream: u8, _number: u32) {}
+}
+
+/// A gate at which each of two streams is held with its group 1 until the other is there with its own, or until
+/// it has looked for it too often.
+#[derive(Drop)]
+pub(crate) struct Meeting {
+    first: AtomicBool,
+    second: AtomicBool,
+    missed: AtomicBool,
+}
+
+impl Meeting {
+    pub(crate) fn new() -> Meeting {
+        Meeting {
+            first: AtomicBool::new(false),
+            second: AtomicBool::new(false),
+            missed: AtomicBool::new(false),
+        }
+    }
+
+    /// Whether both streams came, and neither missed the other.
+    pub(crate) fn has_met(&self) -> bool {
+        self.first.load(Ordering::SeqCst)
+            && self.second.load(Ordering::SeqCst)
+            && !self.missed.load(Ordering::SeqCst)
+    }
+
+    /// Waits for a flag.
+    fn wait_for(&self, other: &AtomicBool) {
+        for _ in 0..TURNS {
+            if other.load(Ordering::SeqCst) {
+                return;
+            }
+            spin_loop();
+        }
+        self.missed.store(true, Ordering::SeqCst);
+    }
+}
+
+impl Gate for Meeting {
+    fn passed<R: Wait>(&self, _rt: &R, stream: u8, number: u32) {
+        if number != 1 {
+            return;
+        }
+        let (mine, other) = if stream == 0 {
+            (&self.first, &self.second)
+        } else {
+            (&self.second, &self.first)
+        };
+        mine.store(true, Ordering::SeqCst);
+        self.wait_for(other);
+    }
+}
+
+/// A gate that counts its calls, and adds up the numbers of the groups: 1,000,000 for each group of stream 1,
+/// 1,000 for each of stream 0, and its number.
+#[derive(Drop)]
+pub(crate) struct Counting {
+    total: AtomicU64,
+}
+
+impl Counting {
+    pub(crate) fn new() -> Counting {
+        Counting {
+            total: AtomicU64::new(0),
+        }
+    }
+
+    pub(crate) fn total(&self) -> u64 {
+        self.total.load(Ordering::SeqCst)
+    }
+}
+
+impl Gate for Counting {
+    fn passed<R: Wait>(&self, _rt: &R, stream: u8, number: u32) {
+        let of_stream = if stream == 0 { 1_000 } else { 1_000_000 };
+        self.total
+            .fetch_add(of_stream + u64::from(number), Ordering::SeqCst);
+    }
+}
