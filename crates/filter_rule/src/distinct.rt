@@ -5,8 +5,8 @@ ghost use Rattle.filter_rule.specs.Faults.{Gives};
 ghost use Rattle.filter_rule.specs.Document.{distinct};
 
 use crate::fault::PlanFault;
-use indexmap::IndexSet;
 use std::alloc::Global;
+use std::collections::HashSet;
 
 /// What goes by a text that no other may have.
 pub(crate) trait HasName {
@@ -23,9 +23,9 @@ pub(crate) trait HasName {
 pub(crate) fn check_distinct<T: HasName>(alloc: Global, items: &[T]) -> Result<(), PlanFault>
     ensures { Gives (λ _. map T.name items.now) result (distinct (map T.name items.now)) }
 {
-    let mut seen: IndexSet<&str> = IndexSet::new(alloc);
+    let mut seen: HashSet<&str> = HashSet::new(alloc);
     for item in items {
-        let (_, is_new) = seen.insert_full(item.name())?;
+        let is_new = seen.insert(item.name())?;
         if !is_new {
             return Err(PlanFault::Shape);
         }

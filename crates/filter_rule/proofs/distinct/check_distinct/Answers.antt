@@ -11,5 +11,5 @@ returns-then-not-is_new g c =
 
 pub loop-item-preserved : goal.loop-item-preserved
 loop-item-preserved g c =
-    name_turn g.T.HasName.name c.args.items.now c.loop-item.item-index c.item-item.result c.loop-item.seen.keys c.insert_full.new.self.keys c.name.result c.in_ok-is_new.is_new (has_twice (map g.T.HasName.name c.args.items.now))
-    c.loop-item-test.true c.item-item.is c.name.ensures c.in_ok-is_new.ensures.added c.if-not-is_new.false c.in_ok-is_new.ensures.keys c.loop-item.invariant
+    name_turn g.T.HasName.name c.args.items.now c.loop-item.item-index c.item-item.result c.loop-item.seen.keys c.insert.new.self.keys c.name.result c.in_ok-is_new.is_new (has_twice (map g.T.HasName.name c.args.items.now))
+    c.loop-item-test.true c.item-item.is c.name.ensures c.in_ok-is_new.ensures.added c.if-not-is_new.false c.in_ok-is_new.ensures.updates.0 c.loop-item.invariant
