@@ -1,5 +1,4 @@
-//! Tests of the board and of the crates that it stands on: keys and copy marks, the step table, the staged
-//! map, and lists of steps on several streams.
+//! Tests of the board: the step table, its steps, joins, and lists of steps on several streams.
 #![tactic(auto)]
 
 #[cfg(test)]
@@ -11,15 +10,7 @@ mod feeds;
 #[cfg(test)]
 mod follow;
 #[cfg(test)]
-mod groups_of_touches;
-#[cfg(test)]
 mod joins;
-#[cfg(test)]
-mod keys;
-#[cfg(test)]
-mod lastpk;
-#[cfg(test)]
-mod marks;
 #[cfg(test)]
 mod random_steps;
 #[cfg(test)]
@@ -34,5 +25,3 @@ mod schedules;
 mod slow;
 #[cfg(test)]
 mod steps;
-#[cfg(test)]
-mod tables;

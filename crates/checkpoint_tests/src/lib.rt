@@ -1,6 +1,8 @@
-//! Tests of boards that are resumed from checkpoints.
+//! Tests of checkpoints: what their bytes say, and boards that are resumed from them.
 #![tactic(auto)]
 
+#[cfg(test)]
+mod checkpoints;
 #[cfg(test)]
 mod damaged;
 #[cfg(test)]

@@ -1,16 +1,12 @@
-//! Tests of the crates that read a feed: positions and groups.
+//! Tests of the crates that read a feed: groups, what is prepared of them, and the image of their rows.
 #![tactic(auto)]
 
-#[cfg(test)]
-mod checkpoints;
 #[cfg(test)]
 mod feeds;
 #[cfg(test)]
 mod groups;
 #[cfg(test)]
 mod image;
-#[cfg(test)]
-mod positions;
 #[cfg(test)]
 mod prepared;
 #[cfg(test)]

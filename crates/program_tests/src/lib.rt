@@ -1,5 +1,5 @@
-//! Tests of the program's library: its commands over bytes and writers, and the parts that they are
-//! made of.
+//! Tests of the program's library: the commands that show a feed and compare two dumps, and what all
+//! commands read and print by.
 #![tactic(auto)]
 
 #[cfg(test)]
@@ -9,18 +9,6 @@ mod inputs;
 #[cfg(test)]
 mod outputs;
 #[cfg(test)]
-mod resume;
-#[cfg(test)]
-mod run;
-#[cfg(test)]
-mod save;
-#[cfg(test)]
-mod scripts;
-#[cfg(test)]
 mod show;
-#[cfg(test)]
-mod step;
-#[cfg(test)]
-mod step_feeds;
 #[cfg(test)]
 mod vdiff;
