@@ -10,9 +10,9 @@ do what the case wants, or to print nothing, say `refused 72` and end with statu
 line of a refused step is its reply: there `refused 72` may stand in place of a reply, behind which the
 script goes on from another state.
 
-The tests of the crates in SWEPT run by the toolchain's `rt try --test --fail-alloc N`, N from 1 on,
-until none fails, but at most to the number beside the crate, since each N builds the crate anew. A
-test may fail only with want of memory: as the error that it ends with, or as what it compared.
+The tests of the crates in SWEPT, as the gate (or `rt test`) has built them, run in the same way, each test
+once or twice for each growth that it asks for. A test may fail only with want of memory: as the error that
+it ends with, or as what it compared.
 The last line is 'N passed, M failed': one check a case, and one a crate.
 """
 import functools
@@ -25,20 +25,26 @@ import tempfile
 
 import run_cases
 
-# The crates whose tests allocate, each with the last growth that is refused.
-SWEPT = {"program_tests": 3}
+# The crates whose tests are swept.
+SWEPT = ["table_tests", "program_tests", "command_tests"]
 
 TESTS = os.path.dirname(os.path.abspath(__file__))
 ROOT = os.path.dirname(TESTS)
 REFUSED = (1, b"", b"refused 72\n")
+PASSED_TEST = re.compile(r"^test (\S+) \.\.\. ok$", re.M)
 FAILED_TEST = re.compile(r"^test (\S+) \.\.\. FAILED\n((?:    .*\n)*)", re.M)
-IS_MEMORY = re.compile(r"^ +(?:error|left): .*\b(?:Memory|OutOfMemory|AllocError)\b", re.M)
+IS_MEMORY = re.compile(r"^ +(?:error|left): .*\b(?:Memory|OutOfMemory|AllocError|AllocFailed)\b", re.M)
+
+
+def toolchain(path):
+    """A file of the toolchain, by its path from the folder of `rt`."""
+    rt = subprocess.run(["sh", "-c", "command -v rt"], stdout=subprocess.PIPE, text=True).stdout.strip()
+    return os.path.join(os.path.dirname(os.path.realpath(rt)), path)
 
 
 def refusing_library(room):
     """Compiles refuse_growth.c by the toolchain's clang, or by the machine's where that is not found."""
-    rt = subprocess.run(["sh", "-c", "command -v rt"], stdout=subprocess.PIPE, text=True).stdout.strip()
-    clang = os.path.join(os.path.dirname(os.path.realpath(rt)), "..", "toolchain", "bin", "clang")
+    clang = toolchain("../toolchain/bin/clang")
     compiler = clang if os.path.exists(clang) else "cc"
     made = os.path.join(room, "refuse_growth.so")
     words = ["-O1", "-shared", "-fPIC", "-nostdlib", *["-fuse-ld=lld"] * (compiler == clang)]
@@ -72,34 +78,59 @@ def sweep_case(program, library, name):
     return None
 
 
-def sweep_crate(name, last):
-    """Answers why the crate's tests fail under some refused growth, or nothing."""
-    folder = os.path.join(ROOT, "crates", name)
-    for at in range(1, last + 1):
-        words = ["rt", "try", "--test", "--fail-alloc", str(at)]
-        how = {"stdin": subprocess.DEVNULL, "stdout": subprocess.PIPE, "stderr": subprocess.STDOUT}
-        ran = subprocess.run(words, cwd=folder, text=True, errors="replace", **how)
-        if ran.returncode == 0:
-            return None
-        failed = FAILED_TEST.findall(ran.stdout)
-        wrong = [test for test, said in failed if not IS_MEMORY.search(said)]
-        if wrong or not failed:
-            return f"growth {at} refused: {' '.join(wrong)}\n{ran.stdout}"
+def runs_tests(tests, name, told):
+    """Runs the built tests whose names contain a name, with told beside the environment, and answers the status and what was printed."""
+    how = {"stdin": subprocess.DEVNULL, "stdout": subprocess.PIPE, "stderr": subprocess.STDOUT}
+    words = [toolchain("rattle-test"), "--seconds", "60", "--filter", name, tests]
+    ran = subprocess.run(words, env={**os.environ, **told}, text=True, errors="replace", **how)
+    return ran.returncode, ran.stdout
+
+
+def sweep_test(tests, name):
+    """Answers why the test fails under some refused growth, or nothing."""
+    with tempfile.NamedTemporaryFile("r", encoding="ascii") as count:
+        status, said = runs_tests(tests, name, {"GROWTHS": count.name})
+        growths = int(count.read())
+    if status:
+        return f"{name} fails with no growth refused\n{said}"
+    for at in range(1, growths + 1):
+        for refused in (f"{at}", f"{at}+"):
+            status, said = runs_tests(tests, name, {"REFUSE_GROWTH": refused})
+            failed = FAILED_TEST.findall(said)
+            if status and not (failed and all(IS_MEMORY.search(why) for _, why in failed)):
+                return f"growth {refused} of {growths} refused\n{said}"
     return None
+
+
+def sweep_crate(pool, room, library, name):
+    """Answers why the crate's tests fail under some refused growth, or nothing."""
+    built = os.path.join(ROOT, "crates", name, "out", f"{name}_tests")
+    if not os.path.isfile(built):
+        return "its tests are not built: `rt test` builds them"
+    # the runner of the tests itself is to have all its memory
+    tests = os.path.join(room, f"{name}_tests")
+    with open(tests, "w", encoding="utf-8") as it:
+        it.write(f'#!/bin/sh\nLD_PRELOAD={library} exec {built} "$@"\n')
+    os.chmod(tests, 0o755)
+    status, said = runs_tests(tests, "", {})
+    names = PASSED_TEST.findall(said)
+    if status or not names:
+        return f"fails with no growth refused\n{said}"
+    said = pool.map(functools.partial(sweep_test, tests), names, chunksize=1)
+    return next((why for why in said if why is not None), None)
 
 
 def main(program):
     program = os.path.abspath(program)
     names = run_cases.names()
     with tempfile.TemporaryDirectory(prefix="vrepl-sweep-") as room, multiprocessing.Pool() as pool:
-        sweep = functools.partial(sweep_case, program, refusing_library(room))
-        said = pool.map(sweep, names, chunksize=1)
-    faults = [f"case {name}: {why}" for name, why in zip(names, said) if why is not None]
-    checks = len(names)
-    for name, last in SWEPT.items():
-        checks += 1
-        why = sweep_crate(name, last)
-        faults += [f"crate {name}: {why}"] * (why is not None)
+        library = refusing_library(room)
+        sweep = functools.partial(sweep_case, program, library)
+        of_cases = [f"case {name}" for name in names], pool.map(sweep, names, chunksize=1)
+        of_crates = [f"crate {name}" for name in SWEPT], [sweep_crate(pool, room, library, it) for it in SWEPT]
+    swept = [*zip(*of_cases), *zip(*of_crates)]
+    faults = [f"{name}: {why}" for name, why in swept if why is not None]
+    checks = len(swept)
     for it in faults:
         print(f"sweep: {it}")
     print(f"{checks - len(faults)} passed, {len(faults)} failed")
