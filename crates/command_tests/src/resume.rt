@@ -1,4 +1,4 @@
-//! Scripts on the boards of checkpoints: the replies, and refusals. No step of theirs takes memory.
+//! Scripts on the boards of checkpoints: the replies, and refusals.
 
 use crate::save::{ONE_ROW, SAVED};
 use crate::step::bytes_of;
