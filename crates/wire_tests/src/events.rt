@@ -1,38 +1,238 @@
-//! Events as bytes, by hand from `binlogdata.proto`, `query.proto` and the protobuf encoding guide,
-//! and as Google's library writes them.
+//! Events as bytes, by hand from `binlogdata.proto`, `query.proto` and the protobuf encoding guide.
 
-use crate::samples::RESPONSE;
 use proto_wire::WireFault;
-use row_view::{Column, RowFault, RowView};
-use std::alloc::{AllocError, Global};
-use std::process::Abort;
-use std::test::Fail;
+use row_view::{RowFault, RowView};
 use vevent::*;
 
-const GROUP: EventFault = EventFault::Wire(WireFault::GroupWireType);
+pub(crate) const GROUP: EventFault = EventFault::Wire(WireFault::GroupWireType);
 
-const BROKEN_ROW: EventFault = EventFault::Row(RowFault::Wire(WireFault::GroupWireType));
+pub(crate) const BROKEN_ROW: EventFault = EventFault::Row(RowFault::Wire(WireFault::GroupWireType));
 
-/// Why the bytes are no event.
-fn fault_of(bytes: &[u8]) -> Option<EventFault> {
-    Event::read(bytes).err()
+const PAST: EventFault = EventFault::Row(RowFault::LengthsPastValues);
+
+/// Bytes, and why they are no event.
+const REFUSED: &[(&[u8], EventFault)] = &[
+    // event_is_no_list: the event, and under any type a broken row event, row change, field event, column,
+    // VGTID and entry. The one further left counts, inside a message or behind it, and in a second message too.
+    (b"\x0b", GROUP),
+    (b"\x08\x0c\x2a\x01\x0b", GROUP),
+    (b"\x08\x0c\x2a\x03\x12\x01\x0b", GROUP),
+    (b"\x08\x0d\x32\x01\x0b", GROUP),
+    (b"\x08\x0d\x32\x03\x12\x01\x0b", GROUP),
+    (b"\x08\x0f\x3a\x01\x0b", GROUP),
+    (b"\x08\x02\x3a\x03\x0a\x01\x0b", GROUP),
+    (b"\x2a\x01\x0b\x08", GROUP),
+    (b"\x32\x01\x0b\x2a\x01\x08", GROUP),
+    (b"\x3a\x00\x3a\x01\x0b", GROUP),
+    (b"\x08\x80", EventFault::Wire(WireFault::Truncated)),
+    // single_message_twice
+    (b"\x08\x04\x3a\x00\x3a\x00", EventFault::RepeatedMessage),
+    (b"\x08\x04\x2a\x00\x2a\x00", EventFault::RepeatedMessage),
+    (b"\x08\x04\x32\x00\x32\x00", EventFault::RepeatedMessage),
+    (
+        b"\x08\x0c\x2a\x06\x12\x04\x0a\x00\x0a\x00",
+        EventFault::RepeatedMessage,
+    ),
+    (
+        b"\x08\x0c\x2a\x06\x12\x04\x12\x00\x12\x00",
+        EventFault::RepeatedMessage,
+    ),
+    // event_type_refused
+    (b"\x08\x06", EventFault::BadType(6)),
+    (b"", EventFault::BadType(0)),
+    // type_is_whole_varint
+    (
+        b"\x08\x82\x80\x80\x80\x10",
+        EventFault::BadType(4_294_967_298),
+    ),
+    // used_text_not_utf8
+    (b"\x08\x01\x1a\x01\xff", EventFault::NotUtf8),
+    (b"\x08\x0c\x2a\x03\x0a\x01\xff", EventFault::NotUtf8),
+    (b"\x08\x0d\x32\x03\x0a\x01\xff", EventFault::NotUtf8),
+    (b"\x08\x0d\x32\x05\x12\x03\x0a\x01\xff", EventFault::NotUtf8),
+    (b"\x08\x0f\x3a\x05\x0a\x03\x0a\x01\xff", EventFault::NotUtf8),
+    (b"\x08\x0f\x3a\x05\x0a\x03\x12\x01\xff", EventFault::NotUtf8),
+    (
+        b"\x08\x0f\x3a\x07\x0a\x00\x0a\x03\x1a\x01\xff",
+        EventFault::NotUtf8,
+    ),
+    // partial_row_image
+    (
+        b"\x08\x0c\x2a\x07\x0a\x01t\x12\x02\x18\x01",
+        EventFault::PartialRow,
+    ),
+    (b"\x08\x02\x2a\x04\x12\x02\x18\x01", EventFault::PartialRow),
+    // other_wire_type_in_change: beside one that counts
+    (
+        b"\x08\x0c\x2a\x06\x12\x04\x08\x05\x18\x05",
+        EventFault::PartialRow,
+    ),
+    // fields_any_order_last_counts: a type of another wire type is skipped, and an absent one is 0
+    (b"\x0d\x02\x00\x00\x00", EventFault::BadType(0)),
+    // empty_position_text: the last text must be UTF-8
+    (b"\x08\x01\x1a\x00\x1a\x01\xff", EventFault::NotUtf8),
+    // event_faults_in_order: an event with a fault of each number, from which one after another is taken
+    (
+        b"\x2a\x0c\x0a\x01\xff\x12\x03\x0a\x01\x0b\x12\x02\x18\x01\x08\x06\x3a\x00\x3a\x00\x0b",
+        GROUP,
+    ),
+    (
+        b"\x2a\x0c\x0a\x01\xff\x12\x03\x0a\x01\x0b\x12\x02\x18\x01\x08\x06\x3a\x00\x3a\x00",
+        EventFault::RepeatedMessage,
+    ),
+    (
+        b"\x2a\x0c\x0a\x01\xff\x12\x03\x0a\x01\x0b\x12\x02\x18\x01\x08\x06\x3a\x00",
+        EventFault::BadType(6),
+    ),
+    (
+        b"\x2a\x0c\x0a\x01\xff\x12\x03\x0a\x01\x0b\x12\x02\x18\x01\x08\x0c",
+        EventFault::NotUtf8,
+    ),
+    (
+        b"\x2a\x0c\x0a\x01t\x12\x03\x0a\x01\x0b\x12\x02\x18\x01\x08\x0c",
+        EventFault::PartialRow,
+    ),
+    (b"\x2a\x08\x0a\x01t\x12\x03\x0a\x01\x0b\x08\x0c", BROKEN_ROW),
+    // first_row_fault_in_order: rows are read whatever the type, and the first from the left counts, also
+    // where it is the row after the change
+    (
+        b"\x08\x02\x2a\x0a\x12\x08\x12\x01\x0b\x0a\x03\x0a\x01\x0a",
+        BROKEN_ROW,
+    ),
+    (
+        b"\x08\x02\x2a\x0a\x12\x08\x12\x03\x0a\x01\x0a\x0a\x01\x0b",
+        PAST,
+    ),
+];
+
+/// Whether each of the bytes are refused by the fault beside them.
+fn are_refused(rows: &[(&[u8], EventFault)]) -> bool {
+    for (bytes, fault) in rows {
+        if Event::read(bytes).err() != Some(*fault) {
+            return false;
+        }
+    }
+    true
 }
 
-/// The position of a GTID event.
-fn position_of(bytes: &[u8]) -> Option<&str> {
+#[test]
+fn refused_events(rt: HostRuntime) {
+    assert!(rt; are_refused(REFUSED));
+}
+
+/// Bytes that are an event.
+const READ: &[&[u8]] = &[
+    // single_message_twice: one of another wire type doesn't count
+    b"\x08\x04\x3a\x00\x38\x00",
+    // used_text_not_utf8: a text that the type doesn't use may be any bytes
+    b"\x08\x02\x1a\x01\xff",
+    b"\x08\x02\x2a\x03\x0a\x01\xff",
+    b"\x08\x01\x3a\x05\x0a\x03\x0a\x01\xff",
+    // absent_row_is_none: a row event that is absent
+    b"\x08\x0c",
+];
+
+/// Whether each of the bytes are an event.
+fn are_read(rows: &[&[u8]]) -> bool {
+    for bytes in rows {
+        if Event::read(bytes).is_err() {
+            return false;
+        }
+    }
+    true
+}
+
+#[test]
+fn events_of_what_is_not_used(rt: HostRuntime) {
+    assert!(rt; are_read(READ));
+}
+
+/// Faults with their own number and that of the innermost fault.
+const NUMBERS: &[(EventFault, u8, u8)] = &[
+    (GROUP, 21, 3),
+    (EventFault::RepeatedMessage, 22, 22),
+    (EventFault::BadType(6), 23, 23),
+    (EventFault::NotUtf8, 24, 24),
+    (EventFault::PartialRow, 25, 25),
+    (BROKEN_ROW, 11, 3),
+    (PAST, 12, 12),
+];
+
+/// Whether each fault has the numbers beside it.
+fn have_numbers(rows: &[(EventFault, u8, u8)]) -> bool {
+    for (fault, number, cause) in rows {
+        if fault.number() != *number || fault.cause() != *cause {
+            return false;
+        }
+    }
+    true
+}
+
+#[test]
+fn numbers_of_event_faults(rt: HostRuntime) {
+    assert!(rt; have_numbers(NUMBERS));
+}
+
+/// Whether an event of each type alone is refused by its type, or read.
+fn are_types(numbers: &[u8], are_refused: bool) -> bool {
+    for number in numbers {
+        let wanted = EventFault::BadType(u64::from(*number));
+        let fault = Event::read(&[8, *number]).err();
+        if fault.is_some() != are_refused || are_refused && fault != Some(wanted) {
+            return false;
+        }
+    }
+    true
+}
+
+#[test]
+fn refused_event_types(rt: HostRuntime) {
+    assert!(rt;
+        are_types(&[0, 6, 7, 8, 9, 10, 16, 18, 20, 21, 127], true)
+            && are_types(&[1, 2, 3, 4, 5, 11, 12, 13, 14, 15, 17, 19], false)
+    );
+}
+
+/// GTID events and their positions.
+const POSITIONS: &[(&[u8], &str)] = &[
+    // fields_any_order_last_counts
+    (b"\x1a\x01a\x10\x05\x1a\x01b\x08\x01", "b"),
+    (b"\x18\x05\x08\x01", ""),
+    // empty_position_text: only the last text must be UTF-8
+    (b"\x08\x01", ""),
+    (b"\x08\x01\x1a\x01\xff\x1a\x00", ""),
+];
+
+/// The bytes are a GTID event of this position.
+fn has_position(bytes: &[u8], wanted: &str) -> bool {
     match Event::read(bytes) {
-        Ok(Event::Gtid(position)) => Some(position),
-        _ => None,
+        Ok(Event::Gtid(position)) => position == wanted,
+        _ => false,
     }
 }
 
-/// The bytes are refused so, or an event where nothing is wanted.
-fn check_fault(rt: &impl Abort, bytes: &[u8], wanted: Option<EventFault>) {
-    assert_eq!(rt; fault_of(bytes), wanted);
+/// Whether each of the bytes are a GTID event of the position beside them.
+fn have_positions(rows: &[(&[u8], &str)]) -> bool {
+    for (bytes, wanted) in rows {
+        if !has_position(bytes, wanted) {
+            return false;
+        }
+    }
+    true
 }
 
-fn check_position(rt: &impl Abort, bytes: &[u8], wanted: &str) {
-    assert_eq!(rt; position_of(bytes), Some(wanted));
+/// Known fields of another wire type are skipped, here a type.
+fn last_type_counts() -> bool {
+    matches!(Event::read(b"\x08\x02\x08\x03"), Ok(Event::Commit))
+        && matches!(
+            Event::read(b"\x08\x02\x0d\x00\x00\x00\x00"),
+            Ok(Event::Begin)
+        )
+}
+
+#[test]
+fn fields_any_order_last_counts(rt: HostRuntime) {
+    assert!(rt; last_type_counts() && have_positions(POSITIONS));
 }
 
 /// How many columns a row has, if there is one.
@@ -43,443 +243,153 @@ fn width_of(row: Option<RowView<'_>>) -> Option<usize> {
     }
 }
 
-/// How many columns the rows before and after the first change of a row event have.
-fn widths_of(bytes: &[u8]) -> Option<(Option<usize>, Option<usize>)> {
+/// The rows before and after the first change of a row event have so many columns, if they are there.
+fn has_widths(bytes: &[u8], before: Option<usize>, after: Option<usize>) -> bool {
+    let Ok(Event::Row(event)) = Event::read(bytes) else {
+        return false;
+    };
+    match event.changes().next() {
+        Some(change) => width_of(change.before()) == before && width_of(change.after()) == after,
+        None => false,
+    }
+}
+
+/// A row event that is absent has no changes.
+fn has_no_change(bytes: &[u8]) -> bool {
     match Event::read(bytes) {
-        Ok(Event::Row(event)) => {
-            let change = event.changes().next()?;
-            Some((width_of(change.before()), width_of(change.after())))
+        Ok(Event::Row(event)) => event.table_name() == "" && event.changes().next().is_none(),
+        _ => false,
+    }
+}
+
+/// Row events, and how many columns the rows before and after their first change have.
+const WIDTHS: &[(&[u8], Option<usize>, Option<usize>)] = &[
+    // other_wire_type_in_change
+    (b"\x08\x0c\x2a\x06\x12\x04\x08\x05\x10\x05", None, None),
+    // absent_row_is_none
+    (b"\x08\x0c\x2a\x04\x12\x02\x12\x00", None, Some(0)),
+    (b"\x08\x0c\x2a\x06\x12\x04\x0a\x02\x08\x01", Some(1), None),
+    (b"\x08\x0c\x2a\x02\x12\x00", None, None),
+];
+
+/// Whether the first change of each row event has rows of so many columns.
+fn have_widths(rows: &[(&[u8], Option<usize>, Option<usize>)]) -> bool {
+    for (bytes, before, after) in rows {
+        if !has_widths(bytes, *before, *after) {
+            return false;
         }
-        _ => None,
     }
+    true
 }
 
-fn check_widths(rt: &impl Abort, bytes: &[u8], wanted: Option<(Option<usize>, Option<usize>)>) {
-    assert!(rt; widths_of(bytes) == wanted);
+#[test]
+fn absent_row_is_none(rt: HostRuntime) {
+    assert!(rt; have_widths(WIDTHS) && has_no_change(b"\x08\x0c"));
 }
 
-/// The first column of a field event.
-fn column_of(bytes: &[u8]) -> Option<ColumnField<'_>> {
-    match Event::read(bytes) {
-        Ok(Event::Field(event)) => event.fields().next(),
-        _ => None,
+/// Row events, and whether all of their rows have so many columns.
+const COLUMNS_OF_ALL: &[(&[u8], usize, bool)] = &[
+    // rows of one NULL
+    (
+        b"\x08\x0c\x2a\x0c\x12\x0a\x0a\x03\x0a\x01\x01\x12\x03\x0a\x01\x01",
+        1,
+        true,
+    ),
+    (
+        b"\x08\x0c\x2a\x0c\x12\x0a\x0a\x03\x0a\x01\x01\x12\x03\x0a\x01\x01",
+        2,
+        false,
+    ),
+    (
+        b"\x08\x0c\x2a\x0e\x12\x05\x12\x03\x0a\x01\x01\x12\x05\x12\x03\x0a\x01\x01",
+        1,
+        true,
+    ),
+    // and at last one of two
+    (
+        b"\x08\x0c\x2a\x0f\x12\x05\x12\x03\x0a\x01\x01\x12\x06\x0a\x04\x0a\x02\x01\x01",
+        1,
+        false,
+    ),
+    (
+        b"\x08\x0c\x2a\x0f\x12\x05\x12\x03\x0a\x01\x01\x12\x06\x0a\x04\x0a\x02\x01\x01",
+        2,
+        false,
+    ),
+    // without a row any count is that of all
+    (b"\x08\x0c\x2a\x02\x12\x00", 7, true),
+];
+
+/// Whether it is so of each row event that all of its rows have so many columns.
+fn are_columns_of_all(rows: &[(&[u8], usize, bool)]) -> bool {
+    for (bytes, columns, wanted) in rows {
+        match Event::read(bytes) {
+            Ok(Event::Row(event)) if event.all_have(*columns) == *wanted => {}
+            _ => return false,
+        }
     }
+    true
 }
 
-/// The first column of a field event has this name and this type.
-fn has_column(bytes: &[u8], name: &str, type_number: u64) -> bool {
-    is_column(column_of(bytes), name, type_number)
+#[test]
+fn columns_of_all_rows(rt: HostRuntime) {
+    assert!(rt; are_columns_of_all(COLUMNS_OF_ALL));
 }
 
 /// The column is there, with this name and this type.
-pub(crate) fn is_column(column: Option<ColumnField<'_>>, name: &str, type_number: u64) -> bool {
+fn is_column(column: Option<ColumnField<'_>>, name: &str, type_number: u64) -> bool {
     match column {
         None => false,
         Some(column) => column.name == name && column.type_number == type_number,
     }
 }
 
-/// The first entry of a VGTID.
-fn entry_of(bytes: &[u8]) -> Option<ShardGtid<'_>> {
+/// The columns have these names and types, and there is no other.
+pub(crate) fn are_columns(mut columns: ColumnFields<'_>, wanted: &[(&str, u64)]) -> bool {
+    for (name, type_number) in wanted {
+        if !is_column(columns.next(), name, *type_number) {
+            return false;
+        }
+    }
+    columns.next().is_none()
+}
+
+/// The bytes are a field event whose first column has this name and this type.
+fn has_column(bytes: &[u8], name: &str, type_number: u64) -> bool {
     match Event::read(bytes) {
-        Ok(Event::Vgtid(event)) => event.entries().next(),
-        _ => None,
+        Ok(Event::Field(event)) => is_column(event.fields().next(), name, type_number),
+        _ => false,
     }
 }
 
 /// The entry is there, of this source and with this position.
-fn is_entry(entry: Option<ShardGtid<'_>>, keyspace: &str, shard: &str, gtid: &str) -> bool {
+pub(crate) fn is_entry(
+    entry: Option<ShardGtid<'_>>,
+    keyspace: &str,
+    shard: &str,
+    gtid: &str,
+) -> bool {
     match entry {
         None => false,
         Some(entry) => entry.keyspace == keyspace && entry.shard == shard && entry.gtid == gtid,
     }
 }
 
-/// Each of the bytes is refused so.
-fn check_refused(rt: &impl Abort, all: &[&[u8]], wanted: EventFault) {
-    for bytes in all {
-        check_fault(rt, bytes, Some(wanted));
+/// The bytes are a VGTID event whose first entry is of `b` in `a` at `c`.
+fn has_entry(bytes: &[u8]) -> bool {
+    match Event::read(bytes) {
+        Ok(Event::Vgtid(event)) => is_entry(event.entries().next(), "a", "b", "c"),
+        _ => false,
     }
-}
-
-/// Each of the bytes is an event.
-fn check_read(rt: &impl Abort, all: &[&[u8]]) {
-    for bytes in all {
-        assert!(rt; fault_of(bytes).is_none());
-    }
-}
-
-/// The fault has these numbers, its own and that of the innermost fault.
-fn check_numbers(rt: &impl Abort, fault: EventFault, number: u8, cause: u8) {
-    assert_eq!(rt; (fault.number(), fault.cause()), (number, cause));
-}
-
-#[test]
-fn event_is_no_list(rt: HostRuntime) {
-    // The event, and under any type a broken row event, row change, field event, column, VGTID and
-    // entry. The one further left counts, inside a message or behind it, and in a second message too.
-    let broken: [&[u8]; 10] = [
-        b"\x0b",
-        b"\x08\x0c\x2a\x01\x0b",
-        b"\x08\x0c\x2a\x03\x12\x01\x0b",
-        b"\x08\x0d\x32\x01\x0b",
-        b"\x08\x0d\x32\x03\x12\x01\x0b",
-        b"\x08\x0f\x3a\x01\x0b",
-        b"\x08\x02\x3a\x03\x0a\x01\x0b",
-        b"\x2a\x01\x0b\x08",
-        b"\x32\x01\x0b\x2a\x01\x08",
-        b"\x3a\x00\x3a\x01\x0b",
-    ];
-    check_refused(&rt, &broken, GROUP);
-    check_fault(
-        &rt,
-        b"\x08\x80",
-        Some(EventFault::Wire(WireFault::Truncated)),
-    );
-    check_numbers(&rt, GROUP, 21, 3);
-}
-
-#[test]
-fn single_message_twice(rt: HostRuntime) {
-    let twice: [&[u8]; 5] = [
-        b"\x08\x04\x3a\x00\x3a\x00",
-        b"\x08\x04\x2a\x00\x2a\x00",
-        b"\x08\x04\x32\x00\x32\x00",
-        b"\x08\x0c\x2a\x06\x12\x04\x0a\x00\x0a\x00",
-        b"\x08\x0c\x2a\x06\x12\x04\x12\x00\x12\x00",
-    ];
-    check_refused(&rt, &twice, EventFault::RepeatedMessage);
-    // One of another wire type doesn't count.
-    check_fault(&rt, b"\x08\x04\x3a\x00\x38\x00", None);
-    check_numbers(&rt, EventFault::RepeatedMessage, 22, 22);
-}
-
-#[test]
-fn event_type_refused(rt: HostRuntime) {
-    check_fault(&rt, b"\x08\x06", Some(EventFault::BadType(6)));
-    check_fault(&rt, b"", Some(EventFault::BadType(0)));
-    check_numbers(&rt, EventFault::BadType(6), 23, 23);
-}
-
-#[test]
-fn refused_event_types(rt: HostRuntime) {
-    for number in [0, 6, 7, 8, 9, 10, 16, 18, 20, 21, 127] {
-        check_fault(
-            &rt,
-            &[8, number],
-            Some(EventFault::BadType(u64::from(number))),
-        );
-    }
-    for number in [1, 2, 3, 4, 5, 11, 12, 13, 14, 15, 17, 19] {
-        check_fault(&rt, &[8, number], None);
-    }
-}
-
-#[test]
-fn type_is_whole_varint(rt: HostRuntime) {
-    let far = Some(EventFault::BadType(4_294_967_298));
-    check_fault(&rt, b"\x08\x82\x80\x80\x80\x10", far);
-    let column = b"\x08\x0d\x32\x08\x12\x06\x10\x82\x80\x80\x80\x10";
-    assert!(rt; has_column(column, "", 4_294_967_298));
-}
-
-#[test]
-fn used_text_not_utf8(rt: HostRuntime) {
-    let used: [&[u8]; 7] = [
-        b"\x08\x01\x1a\x01\xff",
-        b"\x08\x0c\x2a\x03\x0a\x01\xff",
-        b"\x08\x0d\x32\x03\x0a\x01\xff",
-        b"\x08\x0d\x32\x05\x12\x03\x0a\x01\xff",
-        b"\x08\x0f\x3a\x05\x0a\x03\x0a\x01\xff",
-        b"\x08\x0f\x3a\x05\x0a\x03\x12\x01\xff",
-        b"\x08\x0f\x3a\x07\x0a\x00\x0a\x03\x1a\x01\xff",
-    ];
-    check_refused(&rt, &used, EventFault::NotUtf8);
-    // A text that the type doesn't use may be any bytes.
-    let unused: [&[u8]; 3] = [
-        b"\x08\x02\x1a\x01\xff",
-        b"\x08\x02\x2a\x03\x0a\x01\xff",
-        b"\x08\x01\x3a\x05\x0a\x03\x0a\x01\xff",
-    ];
-    check_read(&rt, &unused);
-    check_numbers(&rt, EventFault::NotUtf8, 24, 24);
-}
-
-#[test]
-fn partial_row_image(rt: HostRuntime) {
-    let partial: [&[u8]; 2] = [
-        b"\x08\x0c\x2a\x07\x0a\x01t\x12\x02\x18\x01",
-        b"\x08\x02\x2a\x04\x12\x02\x18\x01",
-    ];
-    check_refused(&rt, &partial, EventFault::PartialRow);
-    check_numbers(&rt, EventFault::PartialRow, 25, 25);
-}
-
-#[test]
-fn other_wire_type_in_change(rt: HostRuntime) {
-    let change = b"\x08\x0c\x2a\x06\x12\x04\x08\x05\x10\x05";
-    check_widths(&rt, change, Some((None, None)));
-    let partial = Some(EventFault::PartialRow);
-    check_fault(&rt, b"\x08\x0c\x2a\x06\x12\x04\x08\x05\x18\x05", partial);
-}
-
-#[test]
-fn fields_any_order_last_counts(rt: HostRuntime) {
-    assert!(rt; matches!(Event::read(b"\x08\x02\x08\x03"), Ok(Event::Commit)));
-    // Known fields of another wire type are skipped, and an absent type is 0.
-    assert!(rt;
-        matches!(
-            Event::read(b"\x08\x02\x0d\x00\x00\x00\x00"),
-            Ok(Event::Begin)
-        )
-    );
-    check_fault(&rt, b"\x0d\x02\x00\x00\x00", Some(EventFault::BadType(0)));
-    check_position(&rt, b"\x1a\x01a\x10\x05\x1a\x01b\x08\x01", "b");
-    check_position(&rt, b"\x18\x05\x08\x01", "");
 }
 
 #[test]
 fn last_text_and_number_of_a_column(rt: HostRuntime) {
     let column = b"\x08\x0d\x32\x0c\x12\x0a\x0a\x01a\x10\x05\x0a\x01b\x10\x07";
-    assert!(rt; has_column(column, "b", 7));
-    let entry = entry_of(b"\x08\x0f\x3a\x0b\x0a\x09\x1a\x01c\x12\x01b\x0a\x01a");
-    assert!(rt; is_entry(entry, "a", "b", "c"));
-}
-
-#[test]
-fn empty_position_text(rt: HostRuntime) {
-    check_position(&rt, b"\x08\x01", "");
-    // Only the last text must be UTF-8.
-    check_position(&rt, b"\x08\x01\x1a\x01\xff\x1a\x00", "");
-    check_fault(
-        &rt,
-        b"\x08\x01\x1a\x00\x1a\x01\xff",
-        Some(EventFault::NotUtf8),
+    // type_is_whole_varint
+    let whole = b"\x08\x0d\x32\x08\x12\x06\x10\x82\x80\x80\x80\x10";
+    let entry = b"\x08\x0f\x3a\x0b\x0a\x09\x1a\x01c\x12\x01b\x0a\x01a";
+    assert!(rt;
+        has_column(column, "b", 7) && has_column(whole, "", 4_294_967_298) && has_entry(entry)
     );
-}
-
-#[test]
-fn absent_row_is_none(rt: HostRuntime) {
-    check_widths(
-        &rt,
-        b"\x08\x0c\x2a\x04\x12\x02\x12\x00",
-        Some((None, Some(0))),
-    );
-    check_widths(
-        &rt,
-        b"\x08\x0c\x2a\x06\x12\x04\x0a\x02\x08\x01",
-        Some((Some(1), None)),
-    );
-    check_widths(&rt, b"\x08\x0c\x2a\x02\x12\x00", Some((None, None)));
-    // A row event that is absent has no changes, and no name.
-    check_widths(&rt, b"\x08\x0c", None);
-    check_fault(&rt, b"\x08\x0c", None);
-}
-
-/// One event with a fault of each number, from which one fault after another is taken.
-#[test]
-fn event_faults_in_order(rt: HostRuntime) {
-    let all =
-        b"\x2a\x0c\x0a\x01\xff\x12\x03\x0a\x01\x0b\x12\x02\x18\x01\x08\x06\x3a\x00\x3a\x00\x0b";
-    check_fault(&rt, all, Some(GROUP));
-    check_fault(&rt, &all[..20], Some(EventFault::RepeatedMessage));
-    check_fault(&rt, &all[..18], Some(EventFault::BadType(6)));
-    let typed = b"\x2a\x0c\x0a\x01\xff\x12\x03\x0a\x01\x0b\x12\x02\x18\x01\x08\x0c";
-    check_fault(&rt, typed, Some(EventFault::NotUtf8));
-    let named = b"\x2a\x0c\x0a\x01t\x12\x03\x0a\x01\x0b\x12\x02\x18\x01\x08\x0c";
-    check_fault(&rt, named, Some(EventFault::PartialRow));
-    let whole = b"\x2a\x08\x0a\x01t\x12\x03\x0a\x01\x0b\x08\x0c";
-    check_fault(&rt, whole, Some(BROKEN_ROW));
-    check_numbers(&rt, BROKEN_ROW, 11, 3);
-}
-
-/// Rows are read whatever the type, and the first from the left counts, also where it is the row
-/// after the change.
-#[test]
-fn first_row_fault_in_order(rt: HostRuntime) {
-    let past = EventFault::Row(RowFault::LengthsPastValues);
-    let changes = b"\x08\x02\x2a\x0a\x12\x08\x12\x01\x0b\x0a\x03\x0a\x01\x0a";
-    check_fault(&rt, changes, Some(BROKEN_ROW));
-    let changes = b"\x08\x02\x2a\x0a\x12\x08\x12\x03\x0a\x01\x0a\x0a\x01\x0b";
-    check_fault(&rt, changes, Some(past));
-    check_numbers(&rt, past, 12, 12);
-}
-
-/// Whether all rows of a row event have so many columns.
-fn all_have(bytes: &[u8], columns: usize) -> Option<bool> {
-    match Event::read(bytes) {
-        Ok(Event::Row(event)) => Some(event.all_have(columns)),
-        _ => None,
-    }
-}
-
-fn check_all_have(rt: &impl Abort, bytes: &[u8], columns: usize, wanted: Option<bool>) {
-    assert_eq!(rt; all_have(bytes, columns), wanted);
-}
-
-#[test]
-fn columns_of_all_rows(rt: HostRuntime) {
-    // Rows of one NULL, and at last one of two.
-    let update = b"\x08\x0c\x2a\x0c\x12\x0a\x0a\x03\x0a\x01\x01\x12\x03\x0a\x01\x01";
-    check_all_have(&rt, update, 1, Some(true));
-    check_all_have(&rt, update, 2, Some(false));
-    let two = b"\x08\x0c\x2a\x0e\x12\x05\x12\x03\x0a\x01\x01\x12\x05\x12\x03\x0a\x01\x01";
-    check_all_have(&rt, two, 1, Some(true));
-    let mixed = b"\x08\x0c\x2a\x0f\x12\x05\x12\x03\x0a\x01\x01\x12\x06\x0a\x04\x0a\x02\x01\x01";
-    check_all_have(&rt, mixed, 1, Some(false));
-    check_all_have(&rt, mixed, 2, Some(false));
-    // Without a row any count is that of all.
-    check_all_have(&rt, b"\x08\x0c\x2a\x02\x12\x00", 7, Some(true));
-}
-
-/// The fault prints this text.
-fn has_text(alloc: Global, fault: EventFault, wanted: &str) -> Result<bool, AllocError> {
-    Ok(format!(in alloc; "{fault}")?.as_str() == wanted)
-}
-
-#[test]
-fn texts_of_event_faults(rt: HostRuntime) -> Result<(), Fail> {
-    for (fault, text) in [
-        (
-            GROUP,
-            "an event isn't a list of fields: a field has the wire type of a group",
-        ),
-        (
-            EventFault::RepeatedMessage,
-            "an embedded message occurs twice",
-        ),
-        (
-            EventFault::BadType(6),
-            "an event has the type 6, which is not read",
-        ),
-        (EventFault::NotUtf8, "a text isn't UTF-8"),
-        (EventFault::PartialRow, "a row image is partial"),
-        (
-            EventFault::Row(RowFault::TooManyColumns),
-            "a row is at fault: a row has more than 256 columns",
-        ),
-    ] {
-        assert!(rt; has_text(rt.alloc(), fault, text)?, "{text}");
-    }
-    Ok(())
-}
-
-/// The response is BEGIN and then this fault, again and again.
-fn begins_and_fails(bytes: &[u8], fault: EventFault) -> bool {
-    let mut response = Response::new(bytes);
-    matches!(response.next_event(), Ok(Some(Event::Begin)))
-        && response.next_event().err() == Some(fault)
-        && response.next_event().err() == Some(fault)
-}
-
-#[test]
-fn response_ends_at_its_fault(rt: HostRuntime) {
-    // BEGIN, a field that isn't known, a bad event, COMMIT.
-    let bytes = b"\x0a\x02\x08\x02\x10\x05\x0a\x02\x08\x06\x0a\x02\x08\x03";
-    assert!(rt; begins_and_fails(bytes, EventFault::BadType(6)));
-    // The response's own bad field.
-    assert!(rt; begins_and_fails(b"\x0a\x02\x08\x02\x0b", GROUP));
-}
-
-const POSITION: &str = "MySQL56/3e11fa47-71ca-11e1-9e33-c80aa9429562:1-5";
-
-/// The columns that the library wrote.
-fn are_columns(event: &FieldEvent<'_>) -> bool {
-    let mut columns = event.fields();
-    event.table_name() == "ks.t"
-        && is_column(columns.next(), "id", 265)
-        && is_column(columns.next(), "v", 6165)
-        && columns.next().is_none()
-}
-
-fn is_cell(column: Option<Column<'_>>, wanted: Column<'_>) -> bool {
-    match column {
-        None => false,
-        Some(column) => column == wanted,
-    }
-}
-
-/// A row of 1 and this second column, or none.
-fn is_row(row: Option<RowView<'_>>, second: Option<Column<'_>>) -> bool {
-    let Some(row) = row else {
-        return second.is_none();
-    };
-    let Some(second) = second else {
-        return false;
-    };
-    let mut columns = row.columns();
-    is_cell(columns.next(), Column::Bytes(b"1"))
-        && is_cell(columns.next(), second)
-        && columns.next().is_none()
-}
-
-/// The change has rows of 1 and these second columns.
-fn is_change(
-    change: Option<RowChange<'_>>,
-    before: Option<Column<'_>>,
-    after: Option<Column<'_>>,
-) -> bool {
-    let Some(change) = change else {
-        return false;
-    };
-    change.has_before() == before.is_some()
-        && change.has_after() == after.is_some()
-        && is_row(change.before(), before)
-        && is_row(change.after(), after)
-}
-
-/// The insert, update and delete that the library wrote.
-fn are_changes(event: &RowEvent<'_>) -> bool {
-    let mut changes = event.changes();
-    let text = Some(Column::Bytes(b"ab"));
-    event.table_name() == "ks.t"
-        && is_change(changes.next(), None, Some(Column::Null))
-        && is_change(changes.next(), Some(Column::Null), text)
-        && is_change(changes.next(), text, None)
-        && changes.next().is_none()
-}
-
-/// The positions that the library wrote.
-fn are_entries(event: &VGtid<'_>) -> bool {
-    let mut entries = event.entries();
-    is_entry(entries.next(), "ks", "-80", POSITION)
-        && is_entry(entries.next(), "ks", "80-", "")
-        && entries.next().is_none()
-}
-
-/// The type of an event that is as the library wrote it; 0 where it isn't.
-fn type_of(event: &Event<'_>) -> u8 {
-    match event {
-        Event::Gtid(position) if *position == POSITION => 1,
-        Event::Begin => 2,
-        Event::Commit => 3,
-        Event::Rollback => 4,
-        Event::Row(event) if are_changes(event) => 12,
-        Event::Field(event) if are_columns(event) => 13,
-        Event::Vgtid(event) if are_entries(event) => 15,
-        Event::Ignored(IgnoredEvent::Ddl) => 5,
-        Event::Ignored(IgnoredEvent::Other) => 11,
-        Event::Ignored(IgnoredEvent::Heartbeat) => 14,
-        Event::Ignored(IgnoredEvent::Version) => 17,
-        Event::Ignored(IgnoredEvent::Savepoint) => 19,
-        _ => 0,
-    }
-}
-
-/// The type of a response's next event, as the library wrote it.
-fn next_type(response: &mut Response<'_>) -> u8 {
-    match response.next_event() {
-        Ok(Some(event)) => type_of(&event),
-        _ => 0,
-    }
-}
-
-#[test]
-fn response_of_googles_library(rt: HostRuntime) {
-    let mut response = Response::new(&RESPONSE);
-    for number in [2, 13, 12, 15, 1, 5, 3, 4, 11, 14, 17, 19] {
-        assert_eq!(rt; next_type(&mut response), number);
-    }
-    assert!(rt; matches!(response.next_event(), Ok(None)));
-    assert!(rt; matches!(response.next_event(), Ok(None)));
 }

@@ -1,7 +1,7 @@
+//! Positions as texts, by the MySQL manual on sets of GTIDs and the Vitess documents.
+
 use gtid_set::*;
 use std::alloc::{AllocError, Global};
-use std::process::Abort;
-use std::test::*;
 
 const U: &str = "3e11fa47-71ca-11e1-9e33-c80aa9429562";
 
@@ -11,6 +11,7 @@ const U_BYTES: [u8; 16] = [
     0x3e, 0x11, 0xfa, 0x47, 0x71, 0xca, 0x11, 0xe1, 0x9e, 0x33, 0xc8, 0x0a, 0xa9, 0x42, 0x95, 0x62,
 ];
 
+/// Why a text is no position, or nothing.
 fn refusal(alloc: Global, text: &str) -> Option<u8> {
     match GtidSet::parse(alloc, text) {
         Ok(_) => None,
@@ -18,20 +19,80 @@ fn refusal(alloc: Global, text: &str) -> Option<u8> {
     }
 }
 
-fn check_refusal(rt: &impl Abort, alloc: Global, text: &str, wanted: Option<u8>) {
-    assert_eq!(rt; refusal(alloc, text), wanted, "at {text}");
-}
+/// Texts, and why they are no positions.
+const REFUSED: &[(&str, u8)] = &[
+    // other_flavour
+    ("MariaDB/0-1-2", 31),
+    ("FilePos/a", 31),
+    ("/", 31),
+    ("mysql56/", 31),
+    ("MySQL56 /", 31),
+    ("3e11fa47-71ca-11e1-9e33-c80aa9429562:1/2", 31),
+    // bad_uuid
+    ("x", 32),
+    ("3e11fa47-71ca-11e1-9e33-c80aa942956", 32),
+    ("3e11fa47-71ca-11e1-9e33-c80aa942956g:1", 32),
+    ("3e11fa47071ca-11e1-9e33-c80aa9429562:1", 32),
+    ("3e11fa4771ca11e19e33c80aa9429562:1", 32),
+    ("3e11fa47-71ca-11e1-9e33-c80aa9429562:1,x:y", 32),
+    // no_colon_after_uuid
+    (U, 35),
+    ("3e11fa47-71ca-11e1-9e33-c80aa9429562 :1", 35),
+];
 
-/// Why the position of one part, `U` and these intervals, is refused.
-fn refusal_of(alloc: Global, intervals: &str) -> Option<u8> {
-    match format!(in alloc; "{U}:{intervals}") {
-        Ok(text) => refusal(alloc, text.as_str()),
-        Err(_) => Some(72),
+/// Whether each text is refused by the number beside it.
+fn are_refused(alloc: Global, rows: &[(&str, u8)]) -> bool {
+    for (text, number) in rows {
+        if refusal(alloc, text) != Some(*number) {
+            return false;
+        }
     }
+    true
 }
 
-fn check_interval(rt: &impl Abort, alloc: Global, interval: &str, wanted: Option<u8>) {
-    assert_eq!(rt; refusal_of(alloc, interval), wanted, "at {interval}");
+#[test]
+fn refused_positions(rt: HostRuntime) {
+    assert!(rt; are_refused(rt.alloc(), REFUSED));
+}
+
+/// Intervals, and why they are refused behind `U`, or nothing.
+const INTERVALS: &[(&str, Option<u8>)] = &[
+    // bad_interval_number
+    ("", Some(33)),
+    ("a", Some(33)),
+    ("+1", Some(33)),
+    ("1-", Some(33)),
+    ("-1", Some(33)),
+    ("1-2-3", Some(33)),
+    ("1 -2", Some(33)),
+    ("1:", Some(33)),
+    ("tag:1", Some(33)),
+    // interval_limit
+    ("1", None),
+    ("9223372036854775806", None),
+    ("1-0", None),
+    ("1-9223372036854775806", None),
+    ("00000000000000000000000000000001", None),
+    ("0", Some(33)),
+    ("9223372036854775807", Some(33)),
+    ("18446744073709551617", Some(33)),
+    ("1-9223372036854775807", Some(33)),
+];
+
+/// Whether each text of intervals behind `U` is refused so.
+fn are_intervals(alloc: Global, rows: &[(&str, Option<u8>)]) -> Result<bool, AllocError> {
+    for (intervals, wanted) in rows {
+        let text = format!(in alloc; "{U}:{intervals}")?;
+        if refusal(alloc, text.as_str()) != *wanted {
+            return Ok(false);
+        }
+    }
+    Ok(true)
+}
+
+#[test]
+fn interval_limit(rt: HostRuntime) {
+    assert!(rt; matches!(are_intervals(rt.alloc(), INTERVALS), Ok(true)));
 }
 
 /// The set prints this text.
@@ -41,337 +102,224 @@ fn prints(alloc: Global, set: &GtidSet, wanted: &str) -> Result<bool, AllocError
 }
 
 /// The text is read as a set that prints this one.
-fn reads_as(alloc: Global, text: &str, wanted: &str) -> Result<bool, Fail> {
+fn reads_as(alloc: Global, text: &str, wanted: &str) -> Result<bool, GtidFault> {
     let set = GtidSet::parse(alloc, text)?;
     Ok(prints(alloc, &set, wanted)?)
 }
 
-#[test]
-fn position_texts(rt: HostRuntime) -> Result<(), Fail> {
-    for (text, wanted) in [
-        (
-            "3E11FA47-71CA-11E1-9E33-C80AA9429562:47-49:1-3:11",
-            "3e11fa47-71ca-11e1-9e33-c80aa9429562:1-3:11:47-49",
-        ),
-        (
-            " MySQL56/3e11fa47-71ca-11e1-9e33-c80aa9429563:2 ,, 3e11fa47-71ca-11e1-9e33-c80aa9429562:4:1-3\t,3e11fa47-71ca-11e1-9e33-c80aa9429563:1\n",
-            "3e11fa47-71ca-11e1-9e33-c80aa9429562:1-4,3e11fa47-71ca-11e1-9e33-c80aa9429563:1-2",
-        ),
-        ("", ""),
-        (" \t\r\n", ""),
-        ("MySQL56/", ""),
-        (",,", ""),
-    ] {
-        assert!(rt; reads_as(rt.alloc(), text, wanted)?, "at {text}");
+/// Texts, and what the positions that they are print.
+const READ: &[(&str, &str)] = &[
+    (
+        "3E11FA47-71CA-11E1-9E33-C80AA9429562:47-49:1-3:11",
+        "3e11fa47-71ca-11e1-9e33-c80aa9429562:1-3:11:47-49",
+    ),
+    (
+        " MySQL56/3e11fa47-71ca-11e1-9e33-c80aa9429563:2 ,, 3e11fa47-71ca-11e1-9e33-c80aa9429562:4:1-3\t,3e11fa47-71ca-11e1-9e33-c80aa9429563:1\n",
+        "3e11fa47-71ca-11e1-9e33-c80aa9429562:1-4,3e11fa47-71ca-11e1-9e33-c80aa9429563:1-2",
+    ),
+    ("", ""),
+    (" \t\r\n", ""),
+    ("MySQL56/", ""),
+    (",,", ""),
+];
+
+/// Whether each text is read as a set that prints the one beside it.
+fn are_read(alloc: Global, rows: &[(&str, &str)]) -> Result<bool, GtidFault> {
+    for (text, wanted) in rows {
+        if !reads_as(alloc, text, wanted)? {
+            return Ok(false);
+        }
     }
-    Ok(())
-}
-
-/// A set of which 4 is the last number of `U`, and of which another has fewer numbers.
-fn ends_at_four(set: &GtidSet, other: &GtidSet) -> bool {
-    set.contains(&U_BYTES, 4) && !set.contains(&U_BYTES, 5) && set != other
+    Ok(true)
 }
 
 #[test]
-fn numbers_of_a_position(rt: HostRuntime) -> Result<(), Fail> {
-    let set = GtidSet::parse(rt.alloc(), "3e11fa47-71ca-11e1-9e33-c80aa9429562:4:1-3")?;
-    let other = GtidSet::parse(rt.alloc(), "3e11fa47-71ca-11e1-9e33-c80aa9429562:1-3")?;
-    assert!(rt; ends_at_four(&set, &other));
-    Ok(())
+fn position_texts(rt: HostRuntime) {
+    assert!(rt; matches!(are_read(rt.alloc(), READ), Ok(true)));
 }
 
-/// The text is read as the empty set.
-fn is_read_as_empty(alloc: Global, text: &str) -> Result<bool, GtidFault> {
-    let set = GtidSet::parse(alloc, text)?;
-    Ok(set.is_empty() && set == GtidSet::new())
-}
-
-#[test]
-fn empty_positions(rt: HostRuntime) -> Result<(), Fail> {
-    for text in [
-        "",
-        " \t\r\n",
-        "MySQL56/",
-        ",,",
-        "3e11fa47-71ca-11e1-9e33-c80aa9429562:5-3",
-        "3e11fa47-71ca-11e1-9e33-c80aa9429562:5-0",
-    ] {
-        assert!(rt; is_read_as_empty(rt.alloc(), text)?, "at {text}");
-    }
-    Ok(())
-}
+/// Intervals of two parts, and what they are printed as.
+const MERGED: &[(&str, &str)] = &[
+    ("7:7:7", "7"),
+    ("20:1-2:3:5-9", "1-3:5-9:20"),
+    ("10-12:1-30:14:31", "1-31"),
+    ("5-3:8:2-1", "8"),
+    ("5:3:1", "1:3:5"),
+    ("1-4:2-3:4-6:6-5:9", "1-6:9"),
+];
 
 /// The intervals of `V` and of `U` are read as these.
-fn are_read_as(alloc: Global, intervals: &str, wanted: &str) -> Result<bool, Fail> {
+fn is_merged(alloc: Global, intervals: &str, wanted: &str) -> Result<bool, GtidFault> {
     let text = format!(in alloc; "{V}:{intervals},{U}:{intervals}")?;
     let wanted = format!(in alloc; "{U}:{wanted},{V}:{wanted}")?;
     reads_as(alloc, text.as_str(), wanted.as_str())
 }
 
-#[test]
-fn intervals_that_overlap_or_touch(rt: HostRuntime) -> Result<(), Fail> {
-    for (intervals, wanted) in [
-        ("7:7:7", "7"),
-        ("20:1-2:3:5-9", "1-3:5-9:20"),
-        ("10-12:1-30:14:31", "1-31"),
-        ("5-3:8:2-1", "8"),
-        ("5:3:1", "1:3:5"),
-        ("1-4:2-3:4-6:6-5:9", "1-6:9"),
-    ] {
-        assert!(rt;
-            are_read_as(rt.alloc(), intervals, wanted)?,
-            "at {intervals}"
-        );
+/// Whether the intervals of two parts are each printed so.
+fn are_merged(alloc: Global, rows: &[(&str, &str)]) -> Result<bool, GtidFault> {
+    for (intervals, wanted) in rows {
+        if !is_merged(alloc, intervals, wanted)? {
+            return Ok(false);
+        }
     }
-    Ok(())
-}
-
-/// A union prints this text, and has the first set within it but not the other way round.
-fn is_union(
-    alloc: Global,
-    one: &GtidSet,
-    both: &GtidSet,
-    wanted: &str,
-) -> Result<bool, AllocError> {
-    Ok(one.is_within(both) && !both.is_within(one) && prints(alloc, both, wanted)?)
+    Ok(true)
 }
 
 #[test]
-fn union_of_two_positions(rt: HostRuntime) -> Result<(), Fail> {
-    let alloc = rt.alloc();
-    let one = GtidSet::parse(alloc, "3e11fa47-71ca-11e1-9e33-c80aa9429562:1-2")?;
-    let other = GtidSet::parse(
-        alloc,
-        "3e11fa47-71ca-11e1-9e33-c80aa9429562:3,3e11fa47-71ca-11e1-9e33-c80aa9429563:1",
-    )?;
-    let both = one.union(alloc, &other)?;
-    let wanted = "3e11fa47-71ca-11e1-9e33-c80aa9429562:1-3,3e11fa47-71ca-11e1-9e33-c80aa9429563:1";
-    assert!(rt; is_union(alloc, &one, &both, wanted)?);
-    Ok(())
+fn intervals_that_overlap_or_touch(rt: HostRuntime) {
+    assert!(rt; matches!(are_merged(rt.alloc(), MERGED), Ok(true)));
 }
 
-/// The set and a copy of it print this text.
-fn is_copied(alloc: Global, set: &GtidSet, wanted: &str) -> Result<bool, GtidFault> {
+const EMPTY: &[&str] = &[
+    "",
+    " \t\r\n",
+    "MySQL56/",
+    ",,",
+    "3e11fa47-71ca-11e1-9e33-c80aa9429562:5-3",
+    "3e11fa47-71ca-11e1-9e33-c80aa9429562:5-0",
+];
+
+/// Whether each text is read as the empty set.
+fn are_empty(alloc: Global, texts: &[&str]) -> bool {
+    for text in texts {
+        match GtidSet::parse(alloc, text) {
+            Ok(set) if set.is_empty() && set == GtidSet::new() => {}
+            _ => return false,
+        }
+    }
+    true
+}
+
+#[test]
+fn empty_positions(rt: HostRuntime) {
+    assert!(rt; are_empty(rt.alloc(), EMPTY));
+}
+
+/// Whether 4 is the last number of `U` in a set, and another that lacks it is another set.
+fn are_told_apart(alloc: Global) -> Result<bool, GtidFault> {
+    let set = GtidSet::parse(alloc, "3e11fa47-71ca-11e1-9e33-c80aa9429562:4:1-3")?;
+    let other = GtidSet::parse(alloc, "3e11fa47-71ca-11e1-9e33-c80aa9429562:1-3")?;
+    Ok(set.contains(&U_BYTES, 4) && !set.contains(&U_BYTES, 5) && set != other)
+}
+
+#[test]
+fn numbers_of_a_position(rt: HostRuntime) {
+    assert!(rt; matches!(are_told_apart(rt.alloc()), Ok(true)));
+}
+
+/// The union of the positions of two texts.
+fn union_of(alloc: Global, one: &str, other: &str) -> Result<GtidSet, GtidFault> {
+    let one = GtidSet::parse(alloc, one)?;
+    let other = GtidSet::parse(alloc, other)?;
+    one.union(alloc, &other)
+}
+
+/// Whether a union prints this text, and has the first set within it but not the other way round.
+fn is_union(alloc: Global, one: &str, other: &str, wanted: &str) -> Result<bool, GtidFault> {
+    let both = union_of(alloc, one, other)?;
+    let one = GtidSet::parse(alloc, one)?;
+    Ok(one.is_within(&both) && !both.is_within(&one) && prints(alloc, &both, wanted)?)
+}
+
+#[test]
+fn union_of_two_positions(rt: HostRuntime) {
+    let one = "3e11fa47-71ca-11e1-9e33-c80aa9429562:1-2";
+    let other = "3e11fa47-71ca-11e1-9e33-c80aa9429562:3,3e11fa47-71ca-11e1-9e33-c80aa9429563:1";
+    let wanted = "3e11fa47-71ca-11e1-9e33-c80aa9429562:1-3,3e11fa47-71ca-11e1-9e33-c80aa9429563:1";
+    assert!(rt; matches!(is_union(rt.alloc(), one, other, wanted), Ok(true)));
+}
+
+/// Whether the set, with the number behind this one of `U`, and a copy of it print this text.
+fn grows_to(alloc: Global, set: &mut GtidSet, number: u8, wanted: &str) -> Result<bool, GtidFault> {
+    set.add(alloc, &U_BYTES, u64::from(number) + 1)?;
     let copy = set.try_clone(alloc)?;
     Ok(prints(alloc, set, wanted)? && prints(alloc, &copy, wanted)?)
 }
 
-#[test]
-fn union_add_and_clone(rt: HostRuntime) -> Result<(), Fail> {
-    let alloc = rt.alloc();
-    let one = GtidSet::parse(alloc, "3e11fa47-71ca-11e1-9e33-c80aa9429562:1-2")?;
-    let mut set = one.union(
-        alloc,
-        &GtidSet::parse(alloc, "3e11fa47-71ca-11e1-9e33-c80aa9429562:3")?,
-    )?;
-    set.add(alloc, &U_BYTES, 5)?;
-    assert!(rt; is_copied(alloc, &set, "3e11fa47-71ca-11e1-9e33-c80aa9429562:1-3:5")?);
-    set.add(alloc, &U_BYTES, 4)?;
-    assert!(rt; is_copied(alloc, &set, "3e11fa47-71ca-11e1-9e33-c80aa9429562:1-5")?);
-    assert_eq!(rt; set.intervals().len(), 1);
-    Ok(())
+/// Whether a union grows by 5, a number of its own, and by 4, which joins its intervals.
+fn union_grows(alloc: Global) -> Result<bool, GtidFault> {
+    let one = "3e11fa47-71ca-11e1-9e33-c80aa9429562:1-2";
+    let mut set = union_of(alloc, one, "3e11fa47-71ca-11e1-9e33-c80aa9429562:3")?;
+    let apart = "3e11fa47-71ca-11e1-9e33-c80aa9429562:1-3:5";
+    let joined = "3e11fa47-71ca-11e1-9e33-c80aa9429562:1-5";
+    Ok(
+        grows_to(alloc, &mut set, 4, apart)?
+            && grows_to(alloc, &mut set, 3, joined)?
+            && set.intervals().len() == 1,
+    )
 }
 
 #[test]
-fn other_flavour(rt: HostRuntime) {
-    check_refusal(&rt, rt.alloc(), "MariaDB/0-1-2", Some(31));
-    check_refusal(&rt, rt.alloc(), "FilePos/a", Some(31));
-    check_refusal(&rt, rt.alloc(), "/", Some(31));
-    check_refusal(&rt, rt.alloc(), "mysql56/", Some(31));
-    check_refusal(&rt, rt.alloc(), "MySQL56 /", Some(31));
-    check_refusal(
-        &rt,
-        rt.alloc(),
-        "3e11fa47-71ca-11e1-9e33-c80aa9429562:1/2",
-        Some(31),
-    );
+fn union_add_and_clone(rt: HostRuntime) {
+    assert!(rt; matches!(union_grows(rt.alloc()), Ok(true)));
 }
 
-#[test]
-fn bad_uuid(rt: HostRuntime) {
-    check_refusal(&rt, rt.alloc(), "x", Some(32));
-    check_refusal(
-        &rt,
-        rt.alloc(),
-        "3e11fa47-71ca-11e1-9e33-c80aa942956",
-        Some(32),
-    );
-    check_refusal(
-        &rt,
-        rt.alloc(),
-        "3e11fa47-71ca-11e1-9e33-c80aa942956g:1",
-        Some(32),
-    );
-    check_refusal(
-        &rt,
-        rt.alloc(),
-        "3e11fa47071ca-11e1-9e33-c80aa9429562:1",
-        Some(32),
-    );
-    check_refusal(
-        &rt,
-        rt.alloc(),
-        "3e11fa4771ca11e19e33c80aa9429562:1",
-        Some(32),
-    );
-    check_refusal(
-        &rt,
-        rt.alloc(),
-        "3e11fa47-71ca-11e1-9e33-c80aa9429562:1,x:y",
-        Some(32),
-    );
-}
-
-#[test]
-fn bad_interval_number(rt: HostRuntime) {
-    for interval in ["", "a", "+1", "1-", "-1", "1-2-3", "1 -2", "1:", "tag:1"] {
-        check_interval(&rt, rt.alloc(), interval, Some(33));
-    }
-}
-
-#[test]
-fn no_colon_after_uuid(rt: HostRuntime) {
-    check_refusal(&rt, rt.alloc(), U, Some(35));
-    check_refusal(
-        &rt,
-        rt.alloc(),
-        "3e11fa47-71ca-11e1-9e33-c80aa9429562 :1",
-        Some(35),
-    );
-}
-
-#[test]
-fn interval_limit(rt: HostRuntime) {
-    for accepted in [
-        "1",
-        "9223372036854775806",
-        "1-0",
-        "1-9223372036854775806",
-        "00000000000000000000000000000001",
-    ] {
-        check_interval(&rt, rt.alloc(), accepted, None);
-    }
-    for refused in [
-        "0",
-        "9223372036854775807",
-        "18446744073709551617",
-        "1-9223372036854775807",
-    ] {
-        check_interval(&rt, rt.alloc(), refused, Some(33));
-    }
-}
-
-/// A text of so many times eight blanks.
-fn blanks(alloc: Global, eights: u32) -> Result<String, AllocError> {
+/// Whether 1,048,576 blanks are a position, with one more none, and with another flavour behind them none
+/// for their size.
+fn is_limit_of_bytes(alloc: Global) -> Result<bool, AllocError> {
     let mut text = String::new(alloc);
-    for _ in 0..eights {
+    for _ in 0..131_072 {
         text.push_str("        ")?;
     }
-    Ok(text)
-}
-
-#[test]
-fn position_bytes_limit(rt: HostRuntime) -> Result<(), Fail> {
-    let mut text = blanks(rt.alloc(), 131_072)?;
-    assert_eq!(rt; text.len(), 1_048_576);
-    assert_eq!(rt; refusal(rt.alloc(), text.as_str()), None);
+    let longest = text.len() == 1_048_576 && refusal(alloc, text.as_str()).is_none();
     text.push_str(" ")?;
-    assert_eq!(rt; refusal(rt.alloc(), text.as_str()), Some(36));
-    Ok(())
+    let longer = refusal(alloc, text.as_str());
+    text.push_str("MariaDB/x")?;
+    Ok(longest && longer == Some(36) && refusal(alloc, text.as_str()) == Some(36))
 }
 
+/// And position_text_too_large.
 #[test]
-fn position_text_too_large(rt: HostRuntime) -> Result<(), Fail> {
-    let mut text = blanks(rt.alloc(), 131_072)?;
-    text.push_str("MariaDB/x")?;
-    assert_eq!(rt; refusal(rt.alloc(), text.as_str()), Some(36));
-    Ok(())
+fn position_bytes_limit(rt: HostRuntime) {
+    assert!(rt; matches!(is_limit_of_bytes(rt.alloc()), Ok(true)));
+}
+
+/// Appends an interval of one number to a text.
+fn put_number(alloc: Global, text: &mut String, number: u64) -> Result<(), AllocError> {
+    let interval = format!(in alloc; ":{number}")?;
+    text.push_str(interval.as_str())
 }
 
 /// The text of the even numbers from 2 on, each an interval of its own.
 fn even_numbers(alloc: Global, count: u32) -> Result<String, AllocError> {
-    let mut text = format!(in alloc; "{U}")?;
+    let mut text = String::from_str(alloc, U)?;
     for number in 0..count {
-        text.push_str(format!(in alloc; ":{}", 2 * u64::from(number) + 2)?.as_str())?;
+        put_number(alloc, &mut text, 2 * u64::from(number) + 2)?;
     }
     Ok(text)
 }
 
-/// The set has 70,000 intervals, and of the last numbers 140,000 alone.
-fn has_many_intervals(set: &GtidSet) -> bool {
-    set.intervals().len() == 70_000
-        && set.contains(&U_BYTES, 140_000)
-        && !set.contains(&U_BYTES, 139_999)
-}
-
-#[test]
-fn more_intervals_than_sixteen_bits_count(rt: HostRuntime) -> Result<(), Fail> {
-    let alloc = rt.alloc();
-    let text = even_numbers(alloc, 70_000)?;
-    let set = GtidSet::parse(alloc, text.as_str())?;
-    assert!(rt; has_many_intervals(&set));
-    assert!(rt; prints(alloc, &set, text.as_str())?);
+/// Whether a set has 70,000 intervals and of the last numbers 140,000 alone, prints its text, and is its
+/// copy.
+fn stands(alloc: Global, set: &GtidSet, text: &str) -> Result<bool, GtidFault> {
     let copy = set.try_clone(alloc)?;
-    assert!(rt; copy == set);
-    Ok(())
+    let is_whole = set.intervals().len() == 70_000
+        && set.contains(&U_BYTES, 140_000)
+        && !set.contains(&U_BYTES, 139_999);
+    Ok(is_whole && copy == *set && prints(alloc, set, text)?)
 }
 
-/// A union with the number behind the last has no interval more, and more numbers.
-fn is_grown(set: &GtidSet, behind: &GtidSet, both: &GtidSet) -> bool {
-    both.intervals().len() == 70_000
-        && set.is_within(both)
-        && behind.is_within(both)
-        && !both.is_within(set)
-}
-
-#[test]
-fn union_of_many_intervals(rt: HostRuntime) -> Result<(), Fail> {
-    let alloc = rt.alloc();
-    let text = even_numbers(alloc, 70_000)?;
-    let set = GtidSet::parse(alloc, text.as_str())?;
+/// Whether a union with the number behind the last has no interval more, and more numbers.
+fn grows_behind(alloc: Global, set: &GtidSet) -> Result<bool, GtidFault> {
     let behind = GtidSet::parse(alloc, "3e11fa47-71ca-11e1-9e33-c80aa9429562:140001-140002")?;
     let both = set.union(alloc, &behind)?;
-    assert!(rt; is_grown(&set, &behind, &both));
-    Ok(())
+    Ok(
+        both.intervals().len() == 70_000
+            && set.is_within(&both)
+            && behind.is_within(&both)
+            && !both.is_within(set),
+    )
 }
 
-/// The fault has this number and prints this text.
-fn is_told(alloc: Global, fault: GtidFault, number: u8, wanted: &str) -> Result<bool, AllocError> {
-    let text = format!(in alloc; "{fault}")?;
-    Ok(fault.number() == number && text.as_str() == wanted)
+/// Whether 70,000 intervals are a set, and a union of it.
+fn are_many_intervals(alloc: Global) -> Result<bool, GtidFault> {
+    let text = even_numbers(alloc, 70_000)?;
+    let set = GtidSet::parse(alloc, text.as_str())?;
+    Ok(stands(alloc, &set, text.as_str())? && grows_behind(alloc, &set)?)
 }
 
+/// And union_of_many_intervals.
 #[test]
-fn texts_of_position_faults(rt: HostRuntime) -> Result<(), Fail> {
-    for (fault, number, text) in [
-        (
-            GtidFault::TooLarge,
-            36,
-            "the position text has more than 1,048,576 bytes",
-        ),
-        (
-            GtidFault::Flavor,
-            31,
-            "the position is of another flavor than MySQL56",
-        ),
-        (
-            GtidFault::BadUuid,
-            32,
-            "a part of the position doesn't begin with a uuid",
-        ),
-        (
-            GtidFault::Syntax,
-            35,
-            "no colon follows a uuid of the position",
-        ),
-        (
-            GtidFault::BadNumber,
-            33,
-            "a number of the position is malformed or out of range",
-        ),
-        (GtidFault::Memory, 72, "out of memory"),
-    ] {
-        assert!(rt; is_told(rt.alloc(), fault, number, text)?, "{text}");
-    }
-    Ok(())
+fn more_intervals_than_sixteen_bits_count(rt: HostRuntime) {
+    assert!(rt; matches!(are_many_intervals(rt.alloc()), Ok(true)));
 }

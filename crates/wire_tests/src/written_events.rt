@@ -1,72 +1,83 @@
 //! Events, answers and parts of a checkpoint as they are written. The events are those of a feed with
 //! one inserted row.
 
-use crate::events::is_column;
+use crate::events::{BROKEN_ROW, GROUP, are_columns};
+use crate::rows::has_columns;
 use crate::samples::{READ_RESPONSE, RESPONSE, SAMPLE_ANSWER, SAMPLE_PART};
 use proto_wire::put_bytes_head;
 use row_view::*;
 use std::alloc::{AllocError, Global};
-use std::test::Fail;
 use vevent::*;
 
-/// The event of these bytes as it is written; no bytes where it is none.
-fn rewritten(alloc: Global, event: &[u8]) -> Result<Vec<u8>, AllocError> {
-    let mut out = Vec::new(alloc);
-    if let Ok(event) = Event::read(event) {
-        write_event(&mut out, &event)?;
-    }
-    Ok(out)
-}
-
-/// Whether an event is written so.
+/// The event of these bytes is written so.
 fn is_rewritten(alloc: Global, event: &[u8], wanted: &[u8]) -> Result<bool, AllocError> {
-    Ok(rewritten(alloc, event)?.as_slice() == wanted)
+    let Ok(event) = Event::read(event) else {
+        return Ok(false);
+    };
+    let mut out = Vec::new(alloc);
+    write_event(&mut out, &event)?;
+    Ok(out.as_slice() == wanted)
 }
 
-/// Whether an event is written as it stands.
-fn is_kept(alloc: Global, event: &[u8]) -> Result<bool, AllocError> {
-    is_rewritten(alloc, event, event)
-}
+/// Events that are written as they stand.
+const KEPT: &[&[u8]] = &[
+    // events_of_a_feed
+    b"\x08\x02",
+    b"\x08\x0d\x32\x14\x0a\x01t\x12\x07\x0a\x02id\x10\x89\x02\x12\x06\x0a\x01v\x10\x95\x30",
+    b"\x08\x0c\x2a\x10\x0a\x01t\x12\x0b\x12\x09\x0a\x02\x02\x04\x12\x031ab",
+    b"\x08\x01\x1a\x0bMySQL56/U:1",
+    b"\x08\x03",
+    // every_kind_of_change: an insert, an update, a delete and no change; NULL, the empty value and a row
+    // of no columns
+    b"\x08\x0c\x2a\x24\x12\x06\x12\x04\x0a\x02\x01\x00\x12\x10\x0a\x06\x0a\x01\x02\x12\x01a\x12\x06\x0a\x01\x02\x12\x01b\x12\x02\x0a\x00\x12\x00\x12\x02\x12\x00",
+];
 
-#[test]
-fn events_of_a_feed(rt: HostRuntime) -> Result<(), Fail> {
-    for event in [
-        b"\x08\x02".as_slice(),
-        b"\x08\x0d\x32\x14\x0a\x01t\x12\x07\x0a\x02id\x10\x89\x02\x12\x06\x0a\x01v\x10\x95\x30".as_slice(),
-        b"\x08\x0c\x2a\x10\x0a\x01t\x12\x0b\x12\x09\x0a\x02\x02\x04\x12\x031ab".as_slice(),
-        b"\x08\x01\x1a\x0bMySQL56/U:1".as_slice(),
-        b"\x08\x03".as_slice(),
-    ] {
-        assert!(rt; is_kept(rt.alloc(), event)?);
+/// Whether each event is written as it stands.
+fn are_kept(alloc: Global, events: &[&[u8]]) -> Result<bool, AllocError> {
+    for event in events {
+        if !is_rewritten(alloc, event, event)? {
+            return Ok(false);
+        }
     }
-    Ok(())
+    Ok(true)
 }
 
 #[test]
-fn every_kind_of_change(rt: HostRuntime) -> Result<(), Fail> {
-    // an insert, an update, a delete and no change; NULL, the empty value and a row of no columns
-    let row =
-        b"\x08\x0c\x2a\x24\x12\x06\x12\x04\x0a\x02\x01\x00\x12\x10\x0a\x06\x0a\x01\x02\x12\x01a\x12\x06\x0a\x01\x02\x12\x01b\x12\x02\x0a\x00\x12\x00\x12\x02\x12\x00";
-    assert!(rt; is_kept(rt.alloc(), row)?);
-    Ok(())
+fn events_of_a_feed(rt: HostRuntime) {
+    assert!(rt; matches!(are_kept(rt.alloc(), KEPT), Ok(true)));
 }
 
-#[test]
-fn entries_of_two_shards(rt: HostRuntime) -> Result<(), Fail> {
-    let entries = b"\x08\x0f\x3a\x12\x0a\x08\x0a\x02ks\x12\x02-8\x0a\x06\x12\x028-\x1a\x00";
-    let written = b"\x08\x0f\x3a\x10\x0a\x08\x0a\x02ks\x12\x02-8\x0a\x04\x12\x028-";
-    assert!(rt; is_rewritten(rt.alloc(), entries, written)?);
-    Ok(())
-}
-
-#[test]
-fn fields_that_are_not_read_are_left_out(rt: HostRuntime) -> Result<(), Fail> {
+/// Events, and the bytes that are written of them.
+const CHANGED: &[(&[u8], &[u8])] = &[
+    // entries_of_two_shards: an empty position is left out
+    (
+        b"\x08\x0f\x3a\x12\x0a\x08\x0a\x02ks\x12\x02-8\x0a\x06\x12\x028-\x1a\x00",
+        b"\x08\x0f\x3a\x10\x0a\x08\x0a\x02ks\x12\x02-8\x0a\x04\x12\x028-",
+    ),
     // a timestamp, a type and a text that come twice, unknown fields of a column
-    let event = b"\x10\x07\x08\x03\x1a\x01x\x08\x01\x1a\x01y";
-    assert!(rt; is_rewritten(rt.alloc(), event, b"\x08\x01\x1a\x01y")?);
-    let field = b"\x08\x0d\x32\x08\x12\x06\x0a\x01v\x1a\x01t";
-    assert!(rt; is_rewritten(rt.alloc(), field, b"\x08\x0d\x32\x05\x12\x03\x0a\x01v")?);
-    Ok(())
+    (
+        b"\x10\x07\x08\x03\x1a\x01x\x08\x01\x1a\x01y",
+        b"\x08\x01\x1a\x01y",
+    ),
+    (
+        b"\x08\x0d\x32\x08\x12\x06\x0a\x01v\x1a\x01t",
+        b"\x08\x0d\x32\x05\x12\x03\x0a\x01v",
+    ),
+];
+
+/// Whether each event is written as the bytes beside it.
+fn are_rewritten(alloc: Global, rows: &[(&[u8], &[u8])]) -> Result<bool, AllocError> {
+    for (event, wanted) in rows {
+        if !is_rewritten(alloc, event, wanted)? {
+            return Ok(false);
+        }
+    }
+    Ok(true)
+}
+
+#[test]
+fn fields_that_are_not_read_are_left_out(rt: HostRuntime) {
+    assert!(rt; matches!(are_rewritten(rt.alloc(), CHANGED), Ok(true)));
 }
 
 /// Appends an event as a part of a response.
@@ -75,27 +86,33 @@ fn put_event(out: &mut Vec<u8>, event: &Event<'_>) -> Result<(), AllocError> {
     write_event(out, event)
 }
 
-/// The events of a response as they are written, a response again.
-fn rewritten_response(alloc: Global, response: &mut Response<'_>) -> Result<Vec<u8>, AllocError> {
+/// The events of a response as they are written, a response again, up to its end.
+fn rewritten_response(alloc: Global, bytes: &[u8]) -> Result<Option<Vec<u8>>, AllocError> {
+    let mut response = Response::new(bytes);
     let mut out = Vec::new(alloc);
     for _ in 0..100 {
         match response.next_event() {
             Ok(Some(event)) => put_event(&mut out, &event)?,
-            _ => return Ok(out),
+            Ok(None) => return Ok(Some(out)),
+            Err(_) => return Ok(None),
         }
     }
-    Ok(out)
+    Ok(None)
+}
+
+/// Whether a response is written so.
+fn is_response(alloc: Global, bytes: &[u8], wanted: &[u8]) -> Result<bool, AllocError> {
+    match rewritten_response(alloc, bytes)? {
+        Some(written) => Ok(written.as_slice() == wanted),
+        None => Ok(false),
+    }
 }
 
 /// What is written of a response by Google's library is what that library writes where it leaves out
 /// the fields that aren't read.
 #[test]
-fn events_of_another_library(rt: HostRuntime) -> Result<(), Fail> {
-    let mut response = Response::new(&RESPONSE);
-    let written = rewritten_response(rt.alloc(), &mut response)?;
-    assert_eq!(rt; written.as_slice(), READ_RESPONSE.as_slice());
-    assert!(rt; matches!(response.next_event(), Ok(None)));
-    Ok(())
+fn events_of_another_library(rt: HostRuntime) {
+    assert!(rt; matches!(is_response(rt.alloc(), &RESPONSE, &READ_RESPONSE), Ok(true)));
 }
 
 const COLUMNS: [ColumnField<'static>; 2] = [
@@ -113,16 +130,9 @@ const ROW: &[u8] = b"\x0a\x02\x02\x04\x12\x031ab";
 
 const KEY: &[u8] = b"\x0a\x01\x02\x12\x011";
 
-/// An answer of one row, the part of its table, which is copied up to a key, and that of its stream,
-/// each as it is written alone.
-#[derive(Drop)]
-struct Written {
-    answer: Vec<u8>,
-    table: Vec<u8>,
-    stream: Vec<u8>,
-}
-
-fn write_each(out: &mut Written, row: RowBytes<'_>, key: RowBytes<'_>) -> Result<(), AllocError> {
+/// Writes an answer of one row, the part of its table, which is copied up to a key, and that of its
+/// stream, one behind the other.
+fn write_each(out: &mut Vec<u8>, row: RowBytes<'_>, key: RowBytes<'_>) -> Result<(), AllocError> {
     let rows = [row];
     let answer = AnswerContent {
         fields: &COLUMNS,
@@ -131,71 +141,59 @@ fn write_each(out: &mut Written, row: RowBytes<'_>, key: RowBytes<'_>) -> Result
         rows: &rows,
         lastpk: Some(key),
     };
-    write_answer(&mut out.answer, &answer)?;
+    write_answer(out, &answer)?;
     let table = TableContent {
         mark: TableMark::Upto,
         answer,
     };
-    write_table_part(&mut out.table, &table)?;
+    write_table_part(out, &table)?;
     let tables = [table];
     let part = StreamContent {
         shard: "-80",
         tables: &tables,
     };
-    write_stream_part(&mut out.stream, &part)
+    write_stream_part(out, &part)
 }
 
-/// The row above, up to its key.
-fn written_parts(alloc: Global) -> Result<Written, Fail> {
-    let row = RowBytes::read(ROW).ok().ok_or("a row")?;
-    let key = RowBytes::read(KEY).ok().ok_or("a key")?;
-    let mut out = Written {
-        answer: Vec::new(alloc),
-        table: Vec::new(alloc),
-        stream: Vec::new(alloc),
+/// The bytes are the parts as Google's library writes them, the table's behind the stream's own fields.
+fn are_sample_parts(bytes: &[u8]) -> bool {
+    bytes.get(..50) == Some(SAMPLE_ANSWER.as_slice())
+        && bytes.get(50..104) == SAMPLE_PART.get(7..)
+        && bytes.get(104..) == Some(SAMPLE_PART.as_slice())
+}
+
+/// Whether the row above, up to its key, is written as the sample parts.
+fn are_written(alloc: Global) -> Result<bool, AllocError> {
+    let (Ok(row), Ok(key)) = (RowBytes::read(ROW), RowBytes::read(KEY)) else {
+        return Ok(false);
     };
+    let mut out = Vec::new(alloc);
     write_each(&mut out, row, key)?;
-    Ok(out)
-}
-
-/// The parts are as Google's library writes them, the table's behind the stream's own fields.
-fn are_sample_parts(parts: &Written) -> bool {
-    parts.answer.as_slice() == SAMPLE_ANSWER.as_slice()
-        && parts.stream.as_slice() == SAMPLE_PART.as_slice()
-        && parts.stream.get(7..) == Some(parts.table.as_slice())
+    Ok(are_sample_parts(&out))
 }
 
 #[test]
-fn an_answer_and_parts_alone(rt: HostRuntime) -> Result<(), Fail> {
-    let parts = written_parts(rt.alloc())?;
-    assert!(rt; are_sample_parts(&parts));
-    Ok(())
+fn an_answer_and_parts_alone(rt: HostRuntime) {
+    assert!(rt; matches!(are_written(rt.alloc()), Ok(true)));
 }
 
-fn is_row_of(row: Option<RowBytes<'_>>, bytes: &[u8]) -> bool {
-    let Some(row) = row else {
-        return false;
-    };
-    let Ok(wanted) = RowBytes::read(bytes) else {
-        return false;
-    };
-    row.same(&wanted)
+/// The row is there, of these columns.
+fn is_row_of(row: Option<RowBytes<'_>>, columns: &[Column<'_>]) -> bool {
+    match row {
+        Some(row) => has_columns(&row.view(), columns),
+        None => false,
+    }
 }
 
 /// The answer says what was written.
 fn is_sample_answer(answer: &RowsAnswer<'_>) -> bool {
-    let mut fields = answer.fields();
-    let mut keys = answer.pkfields();
     let mut rows = answer.rows();
     answer.gtid() == "U:1"
-        && is_column(fields.next(), "id", 265)
-        && is_column(fields.next(), "v", 6165)
-        && fields.next().is_none()
-        && is_column(keys.next(), "id", 265)
-        && keys.next().is_none()
-        && is_row_of(rows.next(), ROW)
+        && are_columns(answer.fields(), &[("id", 265), ("v", 6165)])
+        && are_columns(answer.pkfields(), &[("id", 265)])
+        && is_row_of(rows.next(), &[Column::Bytes(b"1"), Column::Bytes(b"ab")])
         && rows.next().is_none()
-        && is_row_of(answer.lastpk(), KEY)
+        && is_row_of(answer.lastpk(), &[Column::Bytes(b"1")])
 }
 
 fn is_sample_table(table: &TablePart<'_>) -> bool {
@@ -229,45 +227,40 @@ fn reads_stream(bytes: &[u8]) -> bool {
     }
 }
 
+/// What was written is read as that again.
 #[test]
-fn an_answer_and_parts_read_again(rt: HostRuntime) -> Result<(), Fail> {
-    let parts = written_parts(rt.alloc())?;
-    assert!(rt; reads_answer(&parts.answer));
-    assert!(rt; reads_table(&parts.table));
-    assert!(rt; reads_stream(&parts.stream));
-    Ok(())
+fn an_answer_and_parts_read_again(rt: HostRuntime) {
+    assert!(rt;
+        reads_answer(&SAMPLE_ANSWER) && reads_table(&SAMPLE_PART[7..]) && reads_stream(&SAMPLE_PART)
+    );
 }
 
-/// Why the bytes are no answer.
-fn answer_fault(bytes: &[u8]) -> Option<EventFault> {
-    RowsAnswer::read(bytes).err()
+/// Bytes, and why they are no answer, in the order of the faults.
+const FAULTS: &[(&[u8], Option<EventFault>)] = &[
+    (b"\x0a\x01\x0b\x2a\x00\x2a\x00", Some(GROUP)),
+    (
+        b"\x2a\x00\x2a\x00\x1a\x01\xff",
+        Some(EventFault::RepeatedMessage),
+    ),
+    (
+        b"\x22\x01\x0b\x12\x03\x0a\x01\xff",
+        Some(EventFault::NotUtf8),
+    ),
+    (b"\x22\x00\x2a\x01\x0b", Some(BROKEN_ROW)),
+    (b"", None),
+];
+
+/// Whether each of the bytes are no answer for the fault beside them.
+fn have_faults(rows: &[(&[u8], Option<EventFault>)]) -> bool {
+    for (bytes, fault) in rows {
+        if RowsAnswer::read(bytes).err() != *fault {
+            return false;
+        }
+    }
+    true
 }
 
 #[test]
 fn faults_of_an_answer_in_order(rt: HostRuntime) {
-    assert!(rt;
-        matches!(
-            answer_fault(b"\x0a\x01\x0b\x2a\x00\x2a\x00"),
-            Some(EventFault::Wire(_))
-        )
-    );
-    assert!(rt;
-        matches!(
-            answer_fault(b"\x2a\x00\x2a\x00\x1a\x01\xff"),
-            Some(EventFault::RepeatedMessage)
-        )
-    );
-    assert!(rt;
-        matches!(
-            answer_fault(b"\x22\x01\x0b\x12\x03\x0a\x01\xff"),
-            Some(EventFault::NotUtf8)
-        )
-    );
-    assert!(rt;
-        matches!(
-            answer_fault(b"\x22\x00\x2a\x01\x0b"),
-            Some(EventFault::Row(_))
-        )
-    );
-    assert!(rt; answer_fault(b"").is_none());
+    assert!(rt; have_faults(FAULTS));
 }
