@@ -10,6 +10,8 @@ mod lastpk;
 #[cfg(test)]
 mod marks;
 #[cfg(test)]
+mod rows;
+#[cfg(test)]
 mod tables;
 #[cfg(test)]
 mod touching;

@@ -1,24 +1,14 @@
 //! Marks of three tables, of which the second is copied up to a key.
 
+use crate::rows::key;
 use filter_rule::Plan;
 use pk_copy::*;
-use row_view::RowView;
 use std::alloc::{AllocError, Global};
 use std::sync::Arc;
 use std::test::Fail;
 
 const WORKFLOW: &str =
     "{\"keyspace\":\"ks\",\"tables\":[{\"name\":\"a\",\"columns\":[[\"id\",\"INT64\"]],\"key\":[\"id\"]},{\"name\":\"b\",\"columns\":[[\"id\",\"INT64\"]],\"key\":[\"id\"]},{\"name\":\"c\",\"columns\":[[\"id\",\"INT64\"]],\"key\":[\"id\"]}],\"streams\":[{\"shard\":\"-80\",\"filter\":{\"rules\":[{\"match\":\"/.*\",\"filter\":\"\"}]}}]}";
-
-/// The key of a row of table `t`, if these are the bytes of one.
-fn key<'b>(plans: &[Arc<Plan>], t: u8, bytes: &'b [u8]) -> Option<KeyView<'b>> {
-    let plan = plans.first()?;
-    let row = RowView::read(bytes).ok()?;
-    if usize::from(t) >= plan.tables().len() || row.len() != plan.columns(t).len() {
-        return None;
-    }
-    key_of(plan, t, &row).ok()
-}
 
 /// The number of a mark's kind.
 fn kind(mark: Mark<'_>) -> u8 {
@@ -47,7 +37,7 @@ fn says(
     inside: bool,
     past: bool,
 ) -> bool {
-    let Some(view) = key(plans, row.0, row.1) else {
+    let Some(Ok(view)) = key(plans, row.0, row.1) else {
         return false;
     };
     marks.inside(&view) == inside && marks.past(&view) == past
@@ -61,7 +51,7 @@ fn move_to(
     row: (u8, &[u8]),
 ) -> Result<(), AllocError> {
     match key(plans, row.0, row.1) {
-        Some(view) if marks.past(&view) => marks.move_to(Key::from_view(alloc, &view)?),
+        Some(Ok(view)) if marks.past(&view) => marks.move_to(Key::from_view(alloc, &view)?),
         _ => {}
     }
     Ok(())

@@ -1,154 +1,184 @@
-//! Rows by their keys, of several streams: what is staged, what is replaced, pages, scans, and two maps as one.
+//! Maps as they grow and shrink: keys that are slices, scans, copies, pages, what is replaced, and two maps as one.
 
-use crate::touching::{holds, listed, touch};
+use crate::touching::{Group, are_keys, follow, holds, leaves, touch};
 use std::alloc::{AllocError, Global};
 use std::sync::Arc;
 use std::test::*;
 use target_tables::*;
 
-/// Stages a stream's touches and gives them up again; the key and the owner of the row that is in the way, if
-/// one is.
-fn staged(
-    alloc: Global,
-    tables: &mut Tables<u64, u32>,
-    stream: u8,
-    touches: &[(u64, Option<u32>)],
-) -> Result<Option<(u64, u8)>, AllocError> {
-    let list = listed(alloc, touches)?;
-    match tables.stage(alloc, stream, list) {
-        Ok(_) => Ok(None),
-        Err(TableFault::OwnedByOther { key, owner }) => Ok(Some((key, owner))),
-        Err(TableFault::Memory) => Err(AllocError),
-    }
-}
-
-/// Whether stream 1 can put no row at a key where stream 0 has one, takes away none there, and may put one that
-/// it takes away again; stream 0 may take its row away and put another.
-fn is_foreign(alloc: Global) -> Result<bool, AllocError> {
-    let mut tables: Tables<u64, u32> = Tables::new(alloc);
-    let own = touch(alloc, &mut tables, 0, &[(1, Some(10))])?;
-    let put = staged(alloc, &mut tables, 1, &[(2, Some(26)), (1, Some(26))])?;
-    let removal = touch(alloc, &mut tables, 1, &[(1, None)])?;
-    let kept = holds(&tables, &[(1, 0, 10)]);
-    let both = touch(alloc, &mut tables, 1, &[(1, Some(26)), (1, None)])?;
-    let kept = kept && holds(&tables, &[(1, 0, 10)]);
-    let anew = touch(alloc, &mut tables, 0, &[(1, None), (1, Some(11))])?;
-    let none = own.is_none() && removal.is_none() && both.is_none() && anew.is_none();
-    Ok(none && put == Some((1, 0)) && kept && holds(&tables, &[(1, 0, 11)]))
-}
-
-#[test]
-fn stage_beside_foreign_row(rt: HostRuntime) -> Result<(), Fail> {
-    assert!(rt; is_foreign(rt.alloc())?);
-    Ok(())
-}
-
-/// Whether a row of another stream stays where the keys and the rows are slices, equal where their bytes are.
-fn is_foreign_by_bytes(alloc: Global) -> Result<bool, AllocError> {
-    let mut tables: Tables<&[u8], &[u8]> = Tables::new(alloc);
-    let (a, b) = (b"a".as_slice(), b"b".as_slice());
-    let puts = [(b, Some(b"1".as_slice())), (a, Some(b"2".as_slice()))];
-    let own = touch(alloc, &mut tables, 0, &puts)?;
-    let over = touch(alloc, &mut tables, 1, &[(a, Some(b"3".as_slice()))])?;
-    let removal = touch(alloc, &mut tables, 0, &[(b, None)])?;
-    let stays = match tables.get(&a) {
-        Some((0, row)) => *row == b"2".as_slice(),
-        _ => false,
-    };
-    let gone = own.is_none() && removal.is_none() && tables.get(&b).is_none();
-    Ok(gone && stays && over.is_some())
-}
+/// Two rows of stream 0, a row of stream 1 at the key of one of them, and that the other is taken away.
+const SLICES: &[Group<&[u8], &[u8]>] = &[
+    Group {
+        stream: 0,
+        touches: &[(b"b", Some(b"1")), (b"a", Some(b"2"))],
+        refused: None,
+        left: &[(b"a", 0, b"2"), (b"b", 0, b"1")],
+    },
+    Group {
+        stream: 1,
+        touches: &[(b"a", Some(b"3"))],
+        refused: Some((b"a", 0)),
+        left: &[(b"a", 0, b"2"), (b"b", 0, b"1")],
+    },
+    Group {
+        stream: 0,
+        touches: &[(b"b", None)],
+        refused: None,
+        left: &[(b"a", 0, b"2")],
+    },
+];
 
 /// The keys and the rows are slices, equal where their bytes are.
 #[test]
 fn stage_beside_foreign_row_with_borrowed_keys(rt: HostRuntime) -> Result<(), Fail> {
-    assert!(rt; is_foreign_by_bytes(rt.alloc())?);
+    assert!(rt; follow(rt.alloc(), SLICES)?);
     Ok(())
 }
 
-/// Even keys from 2 to 80.
-fn even_keys(alloc: Global) -> Result<Tables<u64, u32>, Fail> {
+const FILLED: Group<&[u8], &[u8]> = Group {
+    stream: 0,
+    touches: &[
+        (b"k3", Some(b"k1")),
+        (b"k1", Some(b"k3")),
+        (b"k2", Some(b"k2")),
+    ],
+    refused: None,
+    left: &[(b"k1", 0, b"k3"), (b"k2", 0, b"k2"), (b"k3", 0, b"k1")],
+};
+
+const FILLED_AGAIN: Group<&[u8], &[u8]> = Group {
+    stream: 0,
+    touches: &[(b"k2", None), (b"k1", Some(b"k2"))],
+    refused: None,
+    left: &[(b"k1", 0, b"k2")],
+};
+
+/// Whether a map of slices has what it was filled with, and these keys past the first.
+fn is_filled(
+    alloc: Global,
+    image: &mut Tables<&'static [u8], &'static [u8]>,
+    group: &Group<&'static [u8], &'static [u8]>,
+    past: &[&'static [u8]],
+) -> Result<bool, AllocError> {
+    let left = leaves(alloc, image, group)?;
+    Ok(left && are_keys(image.scan_past(&b"k1".as_slice()), past))
+}
+
+/// Whether a map of slices, emptied and filled again, has what it was filled with each time.
+fn is_filled_again(alloc: Global) -> Result<bool, AllocError> {
+    let mut image = Tables::new(alloc);
+    let filled = is_filled(alloc, &mut image, &FILLED, &[b"k2", b"k3"])?;
+    image.clear();
+    let emptied = image.len() == 0;
+    Ok(filled && emptied && is_filled(alloc, &mut image, &FILLED_AGAIN, &[])?)
+}
+
+/// The keys and the rows are slices of what is read: an image is emptied and filled again.
+#[test]
+fn a_cleared_map_of_slices_is_filled_again(rt: HostRuntime) -> Result<(), Fail> {
+    assert!(rt; is_filled_again(rt.alloc())?);
+    Ok(())
+}
+
+/// Stream 0 has rows at 2 and 4.
+fn two_rows(alloc: Global) -> Result<Tables<u64, u32>, AllocError> {
+    let mut tables = Tables::new(alloc);
+    touch(alloc, &mut tables, 0, &[(4, Some(40)), (2, Some(20))])?;
+    Ok(tables)
+}
+
+/// Whether scans past a key leave it out.
+fn leave_out(tables: &Tables<u64, u32>) -> bool {
+    are_keys(tables.scan_past(&2), &[4])
+        && are_keys(tables.scan_past(&1), &[2, 4])
+        && are_keys(tables.scan_past(&4), &[])
+}
+
+#[test]
+fn a_scan_past_a_key_leaves_it_out(rt: HostRuntime) -> Result<(), Fail> {
+    assert!(rt; leave_out(&two_rows(rt.alloc())?));
+    Ok(())
+}
+
+/// Whether a copy has the rows that its original gives up.
+fn copy_stays(alloc: Global) -> Result<bool, AllocError> {
+    let mut tables = two_rows(alloc)?;
+    let copy = tables.try_clone(alloc)?;
+    tables.clear();
+    Ok(tables.is_empty() && holds(&tables, &[]) && holds(&copy, &[(2, 0, 20), (4, 0, 40)]))
+}
+
+#[test]
+fn a_copy_stands_by_itself(rt: HostRuntime) -> Result<(), Fail> {
+    assert!(rt; copy_stays(rt.alloc())?);
+    Ok(())
+}
+
+/// Whether the keys from one on are those of even keys from 2 to 80.
+fn scans_even_keys(alloc: Global) -> Result<bool, AllocError> {
     let mut tables: Tables<u64, u32> = Tables::new(alloc);
     for key in 0..40 {
         touch(alloc, &mut tables, 3, &[(80 - 2 * key, Some(0))])?;
     }
-    Ok(tables)
-}
-
-/// Whether these are the keys from one on, in order.
-fn are_from(tables: &Tables<u64, u32>, key: u64, wanted: &[u64]) -> bool {
-    let mut left = wanted.iter();
-    for (next, _, _) in tables.scan(&key) {
-        if left.next() != Some(next) {
-            return false;
-        }
-    }
-    left.next().is_none()
+    Ok(are_keys(tables.scan(&76), &[76, 78, 80]) && are_keys(tables.scan(&77), &[78, 80]))
 }
 
 #[test]
 fn scans_from_a_key_on(rt: HostRuntime) -> Result<(), Fail> {
-    let tables = even_keys(rt.alloc())?;
-    assert!(rt; are_from(&tables, 76, &[76, 78, 80]) && are_from(&tables, 77, &[78, 80]));
+    assert!(rt; scans_even_keys(rt.alloc())?);
     Ok(())
 }
 
-/// What is staged isn't there before it is committed.
-fn waits_for_its_commit(alloc: Global) -> Result<bool, AllocError> {
-    let mut tables: Tables<u64, u32> = Tables::new(alloc);
-    let list = listed(alloc, &[(7, Some(70)), (5, Some(50))])?;
-    match tables.stage(alloc, 2, list) {
+/// Puts a row at key 1, or takes it away. Whether the row is held twice until what was replaced is dropped, and
+/// then so often.
+fn is_freed_late(
+    alloc: Global,
+    tables: &mut Tables<u64, Arc<u32>>,
+    row: &Arc<u32>,
+    put: Option<Arc<u32>>,
+    then: usize,
+) -> Result<bool, AllocError> {
+    match tables.apply(alloc, 0, vec![in alloc; (1, put)]?) {
         Err(_) => Err(AllocError),
-        Ok(staged) => {
-            let waits = tables.is_empty();
-            drop(tables.commit(staged));
-            Ok(waits && holds(&tables, &[(5, 2, 50), (7, 2, 70)]))
+        Ok(freed) => {
+            let held = Arc::strong_count(row);
+            drop(freed);
+            Ok(held == 2 && Arc::strong_count(row) == then)
         }
     }
 }
 
-#[test]
-fn staged_touches_wait_for_their_commit(rt: HostRuntime) -> Result<(), Fail> {
-    assert!(rt; waits_for_its_commit(rt.alloc())?);
-    Ok(())
+/// Whether a row that is taken away is there until whoever took it away drops it.
+fn is_freed_by_the_caller(alloc: Global) -> Result<bool, AllocError> {
+    let row = Arc::new(alloc, 7)?;
+    let mut tables = Tables::new(alloc);
+    let put = is_freed_late(alloc, &mut tables, &row, Some(Arc::clone(&row)?), 2)?;
+    let taken = is_freed_late(alloc, &mut tables, &row, None, 1)?;
+    Ok(put && taken && tables.is_empty())
 }
 
-/// Puts a row at key 1, or takes it away; what that replaced.
-fn replaced(
-    alloc: Global,
-    tables: &mut Tables<u64, Arc<u32>>,
-    row: Option<Arc<u32>>,
-) -> Result<Freed<u64, Arc<u32>>, AllocError> {
-    match tables.apply(alloc, 0, vec![in alloc; (1, row)]?) {
-        Ok(freed) => Ok(freed),
-        Err(_) => Err(AllocError),
-    }
-}
-
-/// A row that is taken away is there until whoever took it away drops it.
 #[test]
 fn what_is_replaced_is_freed_by_the_caller(rt: HostRuntime) -> Result<(), Fail> {
-    let alloc = rt.alloc();
-    let mut tables: Tables<u64, Arc<u32>> = Tables::new(alloc);
-    let row = Arc::new(alloc, 7)?;
-    drop(replaced(alloc, &mut tables, Some(Arc::clone(&row)?))?);
-    let freed = replaced(alloc, &mut tables, None)?;
-    let held = Arc::strong_count(&row);
-    drop(freed);
-    assert!(rt; tables.is_empty() && held == 2 && Arc::strong_count(&row) == 1);
+    assert!(rt; is_freed_by_the_caller(rt.alloc())?);
     Ok(())
 }
 
-/// Touches the keys from one up to another, one at a time.
-fn touch_each(
+/// Touches of a stream at so many keys from the first on, one key at a time, with a row or with nothing.
+struct KeyRun {
+    stream: u8,
+    first: u64,
+    count: u64,
+    row: Option<u32>,
+}
+
+/// Makes the touches.
+fn touch_keys(
     alloc: Global,
     tables: &mut Tables<u64, u32>,
-    from: u64,
-    to: u64,
-    row: Option<u32>,
+    run: &KeyRun,
 ) -> Result<(), AllocError> {
-    for key in from..to {
-        touch(alloc, tables, 0, &[(key, row)])?;
+    for key in run.first..run.first.saturating_add(run.count) {
+        touch(alloc, tables, run.stream, &[(key, run.row)])?;
     }
     Ok(())
 }
@@ -162,37 +192,103 @@ fn has_pages(tables: &Tables<u64, u32>, lens: &[usize]) -> bool {
     same
 }
 
-/// Whether the 129th key splits a page, and a page leaves with its last entry.
-fn splits_and_leaves(alloc: Global) -> Result<bool, AllocError> {
-    let mut tables: Tables<u64, u32> = Tables::new(alloc);
-    touch_each(alloc, &mut tables, 1, 129, Some(0))?;
-    let full = has_pages(&tables, &[128]);
-    touch_each(alloc, &mut tables, 129, 130, Some(0))?;
-    let split = has_pages(&tables, &[64, 65]);
-    touch_each(alloc, &mut tables, 1, 65, None)?;
-    let left = has_pages(&tables, &[65]);
-    touch_each(alloc, &mut tables, 65, 130, None)?;
-    Ok(full && split && left && has_pages(&tables, &[]))
+/// The first 128 keys fill a page, the next splits it, and a page leaves with its last entry.
+const PAGES: &[(KeyRun, &[usize])] = &[
+    (
+        KeyRun {
+            stream: 0,
+            first: 1,
+            count: 128,
+            row: Some(0),
+        },
+        &[128],
+    ),
+    (
+        KeyRun {
+            stream: 0,
+            first: 129,
+            count: 1,
+            row: Some(0),
+        },
+        &[64, 65],
+    ),
+    (
+        KeyRun {
+            stream: 0,
+            first: 1,
+            count: 64,
+            row: None,
+        },
+        &[65],
+    ),
+    (
+        KeyRun {
+            stream: 0,
+            first: 65,
+            count: 65,
+            row: None,
+        },
+        &[],
+    ),
+];
+
+/// Whether each run leaves pages of these lengths.
+fn split_and_leave(alloc: Global) -> Result<bool, AllocError> {
+    let mut tables = Tables::new(alloc);
+    for (keys, lens) in PAGES {
+        touch_keys(alloc, &mut tables, keys)?;
+        if !has_pages(&tables, lens) {
+            return Ok(false);
+        }
+    }
+    Ok(true)
 }
 
 #[test]
 fn pages_split_and_leave(rt: HostRuntime) -> Result<(), Fail> {
-    assert!(rt; splits_and_leaves(rt.alloc())?);
+    assert!(rt; split_and_leave(rt.alloc())?);
     Ok(())
 }
 
-/// Puts rows of a stream at so many keys from the first on.
-fn put_keys(
-    alloc: Global,
-    tables: &mut Tables<u64, u32>,
-    stream: u8,
-    first: u64,
-    count: u64,
-) -> Result<(), AllocError> {
-    for key in first..first.saturating_add(count) {
-        touch(alloc, tables, stream, &[(key, Some(7))])?;
+/// Stream 0 has 200 keys from 1 on, and stream 1 has 3 from 500 on.
+const ONE: &[KeyRun] = &[
+    KeyRun {
+        stream: 0,
+        first: 1,
+        count: 200,
+        row: Some(7),
+    },
+    KeyRun {
+        stream: 1,
+        first: 500,
+        count: 3,
+        row: Some(7),
+    },
+];
+
+/// Stream 0 has 5 keys from 2 on, and stream 1 has 150 from 190 on.
+const OTHER: &[KeyRun] = &[
+    KeyRun {
+        stream: 0,
+        first: 2,
+        count: 5,
+        row: Some(7),
+    },
+    KeyRun {
+        stream: 1,
+        first: 190,
+        count: 150,
+        row: Some(7),
+    },
+];
+
+/// A map of the rows that runs put.
+fn map_of(alloc: Global, runs: &[KeyRun]) -> Result<Tables<u64, u32>, AllocError> {
+    let mut tables = Tables::new(alloc);
+    for keys in runs {
+        touch_keys(alloc, &mut tables, keys)?;
     }
-    Ok(())
+    Ok(tables)
 }
 
 /// How many keys have a row of stream 0 in the one map and of stream 1 in the other, of the first 1000 that both have.
@@ -207,35 +303,30 @@ fn met_by_0_and_1(one: &Tables<u64, u32>, other: &Tables<u64, u32>) -> u64 {
     count
 }
 
-/// Stream 0 has 200 keys from 1 on, and stream 1 has 3 from 500 on.
-fn first_map(alloc: Global) -> Result<Tables<u64, u32>, AllocError> {
-    let mut tables: Tables<u64, u32> = Tables::new(alloc);
-    put_keys(alloc, &mut tables, 0, 1, 200)?;
-    put_keys(alloc, &mut tables, 1, 500, 3)?;
-    Ok(tables)
-}
-
-/// Stream 0 has 5 keys from 2 on, and stream 1 has 150 from 190 on.
-fn second_map(alloc: Global) -> Result<Tables<u64, u32>, AllocError> {
-    let mut tables: Tables<u64, u32> = Tables::new(alloc);
-    put_keys(alloc, &mut tables, 0, 2, 5)?;
-    put_keys(alloc, &mut tables, 1, 190, 150)?;
-    Ok(tables)
+/// Whether a map has the rows of stream 0 of the one map and those of stream 1 of the other.
+fn is_merged(
+    alloc: Global,
+    one: Tables<u64, u32>,
+    other: Tables<u64, u32>,
+) -> Result<bool, AllocError> {
+    let met = met_by_0_and_1(&one, &other);
+    match merge(alloc, one, other, &[false, true]) {
+        Err(_) => Err(AllocError),
+        Ok(both) => Ok(
+            met == 11 && both.get(&339).is_some() && both.get(&500).is_none() && both.len() == 339,
+        ),
+    }
 }
 
 /// Stream 0's rows come from the first map and stream 1's from the second, over several pages.
+fn become_one(alloc: Global) -> Result<bool, AllocError> {
+    let one = map_of(alloc, ONE)?;
+    let other = map_of(alloc, OTHER)?;
+    is_merged(alloc, one, other)
+}
+
 #[test]
 fn two_maps_become_one(rt: HostRuntime) -> Result<(), Fail> {
-    let alloc = rt.alloc();
-    let one = first_map(alloc)?;
-    let other = second_map(alloc)?;
-    let met = met_by_0_and_1(&one, &other);
-    match merge(alloc, one, other, &[false, true]) {
-        Err(_) => return Err(AllocError.into()),
-        Ok(both) => {
-            let (last, gone) = (both.get(&339).is_some(), both.get(&500).is_none());
-            assert!(rt; met == 11 && last && gone && both.len() == 339);
-        }
-    }
+    assert!(rt; become_one(rt.alloc())?);
     Ok(())
 }

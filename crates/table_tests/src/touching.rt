@@ -1,29 +1,25 @@
-//! Touches of a map, from a list of them that stands in a test.
+//! Groups of touches that stand in a test, and what they leave in a map.
 
 use std::alloc::{AllocError, Global};
 use target_tables::*;
 
-/// The touches in memory of their own.
-pub fn listed<K: Copy + Drop, R: Copy + Drop>(
-    alloc: Global,
-    touches: &[(K, Option<R>)],
-) -> Result<Vec<(K, Option<R>)>, AllocError> {
-    let mut list = Vec::with_capacity(alloc, touches.len())?;
-    for touch in touches {
-        list.push(*touch)?;
-    }
-    Ok(list)
+/// Touches of one stream, the key and the owner of the row in the way where they are refused, and all entries
+/// behind them.
+pub struct Group<K: 'static, R: 'static> {
+    pub stream: u8,
+    pub touches: &'static [(K, Option<R>)],
+    pub refused: Option<(K, u8)>,
+    pub left: &'static [(K, u8, R)],
 }
 
 /// Applies a stream's touches; the key and the owner of the row that is in the way, if one is.
-pub fn touch<K: Ord + Copy + Drop, R: Copy + Drop>(
+pub fn touch<K: Ord + Clone + Drop, R: Clone + Drop>(
     alloc: Global,
     tables: &mut Tables<K, R>,
     stream: u8,
     touches: &[(K, Option<R>)],
 ) -> Result<Option<(K, u8)>, AllocError> {
-    let list = listed(alloc, touches)?;
-    match tables.apply(alloc, stream, list) {
+    match tables.apply(alloc, stream, touches.to_vec(alloc)?) {
         Ok(_) => Ok(None),
         Err(TableFault::OwnedByOther { key, owner }) => Ok(Some((key, owner))),
         Err(TableFault::Memory) => Err(AllocError),
@@ -31,7 +27,7 @@ pub fn touch<K: Ord + Copy + Drop, R: Copy + Drop>(
 }
 
 /// Whether these are all entries, in order.
-pub fn holds(tables: &Tables<u64, u32>, wanted: &[(u64, u8, u32)]) -> bool {
+pub fn holds<K: Ord, R: PartialEq>(tables: &Tables<K, R>, wanted: &[(K, u8, R)]) -> bool {
     let mut left = wanted.iter();
     for (key, stream, row) in tables.iter() {
         match left.next() {
@@ -40,4 +36,40 @@ pub fn holds(tables: &Tables<u64, u32>, wanted: &[(u64, u8, u32)]) -> bool {
         }
     }
     left.next().is_none()
+}
+
+/// Whether these are the keys, in order.
+pub fn are_keys<K: Ord, R>(scan: Scan<'_, K, R>, wanted: &[K]) -> bool {
+    let mut left = wanted.iter();
+    for (key, _, _) in scan {
+        match left.next() {
+            Some(next) if next == key => {}
+            _ => return false,
+        }
+    }
+    left.next().is_none()
+}
+
+/// Whether the group is refused as wanted, and leaves these entries.
+pub fn leaves<K: Ord + Clone + Drop, R: PartialEq + Clone + Drop>(
+    alloc: Global,
+    tables: &mut Tables<K, R>,
+    group: &Group<K, R>,
+) -> Result<bool, AllocError> {
+    let refused = touch(alloc, tables, group.stream, group.touches)?;
+    Ok(refused == group.refused && holds(tables, group.left))
+}
+
+/// Whether the groups, on an empty map and one after another, are each refused as wanted and leave these entries.
+pub fn follow<K: Ord + Clone + Drop, R: PartialEq + Clone + Drop>(
+    alloc: Global,
+    groups: &[Group<K, R>],
+) -> Result<bool, AllocError> {
+    let mut tables = Tables::new(alloc);
+    for group in groups {
+        if !leaves(alloc, &mut tables, group)? {
+            return Ok(false);
+        }
+    }
+    Ok(true)
 }
