@@ -8,6 +8,8 @@ mod groups;
 #[cfg(test)]
 mod image;
 #[cfg(test)]
+mod opening;
+#[cfg(test)]
 mod prepared;
 #[cfg(test)]
 mod random;

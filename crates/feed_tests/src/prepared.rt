@@ -1,18 +1,15 @@
 //! Groups of a feed with their touches.
 
-use filter_rule::Plan;
+use crate::groups::ONE_ROW;
+use crate::opening::{EVERY_ROW, is_row, prepared};
 use pk_copy::{KeyPart, LentKey};
-use row_view::{Column, RowView};
-use source_feed::{Feed, FeedFault, Prepared, Put, Touch};
+use source_feed::{FeedFault, Prepared, Put, Touch};
 use std::alloc::Global;
-use std::process::Abort;
-use std::sync::Arc;
-use std::test::Fail;
 
-const THREE_GROUPS: &[u8] =
+pub(crate) const THREE_GROUPS: &[u8] =
     b"\x95\x01\x0a\x02\x08\x02\x0a\x18\x08\x0d\x32\x14\x0a\x01\x74\x12\x07\x0a\x02\x69\x64\x10\x89\x02\x12\x06\x0a\x01\x76\x10\x95\x30\x0a\x13\x08\x0c\x2a\x0f\x0a\x01\x74\x12\x0a\x12\x08\x0a\x02\x02\x02\x12\x02\x33\x63\x0a\x13\x08\x0c\x2a\x0f\x0a\x01\x74\x12\x0a\x12\x08\x0a\x02\x02\x02\x12\x02\x35\x65\x0a\x13\x08\x0c\x2a\x0f\x0a\x01\x74\x12\x0a\x12\x08\x0a\x02\x02\x02\x12\x02\x37\x67\x0a\x32\x08\x01\x1a\x2e\x4d\x79\x53\x51\x4c\x35\x36\x2f\x33\x65\x31\x31\x66\x61\x34\x37\x2d\x37\x31\x63\x61\x2d\x31\x31\x65\x31\x2d\x39\x65\x33\x33\x2d\x63\x38\x30\x61\x61\x39\x34\x32\x39\x35\x36\x32\x3a\x31\x0a\x02\x08\x03\x77\x0a\x02\x08\x02\x0a\x18\x08\x0d\x32\x14\x0a\x01\x74\x12\x07\x0a\x02\x69\x64\x10\x89\x02\x12\x06\x0a\x01\x76\x10\x95\x30\x0a\x1d\x08\x0c\x2a\x19\x0a\x01\x74\x12\x14\x0a\x08\x0a\x02\x02\x02\x12\x02\x37\x67\x12\x08\x0a\x02\x02\x02\x12\x02\x34\x68\x0a\x34\x08\x01\x1a\x30\x4d\x79\x53\x51\x4c\x35\x36\x2f\x33\x65\x31\x31\x66\x61\x34\x37\x2d\x37\x31\x63\x61\x2d\x31\x31\x65\x31\x2d\x39\x65\x33\x33\x2d\x63\x38\x30\x61\x61\x39\x34\x32\x39\x35\x36\x32\x3a\x31\x2d\x32\x0a\x02\x08\x03\x77\x0a\x02\x08\x02\x0a\x18\x08\x0d\x32\x14\x0a\x01\x74\x12\x07\x0a\x02\x69\x64\x10\x89\x02\x12\x06\x0a\x01\x76\x10\x95\x30\x0a\x1d\x08\x0c\x2a\x19\x0a\x01\x74\x12\x14\x0a\x08\x0a\x02\x02\x02\x12\x02\x33\x63\x12\x08\x0a\x02\x02\x02\x12\x02\x38\x6b\x0a\x34\x08\x01\x1a\x30\x4d\x79\x53\x51\x4c\x35\x36\x2f\x33\x65\x31\x31\x66\x61\x34\x37\x2d\x37\x31\x63\x61\x2d\x31\x31\x65\x31\x2d\x39\x65\x33\x33\x2d\x63\x38\x30\x61\x61\x39\x34\x32\x39\x35\x36\x32\x3a\x31\x2d\x33\x0a\x02\x08\x03";
 
-const VALUES_OF_ONE_KEY: &[u8] =
+pub(crate) const VALUES_OF_ONE_KEY: &[u8] =
     b"\x6b\x0a\x02\x08\x02\x0a\x18\x08\x0d\x32\x14\x0a\x01\x74\x12\x07\x0a\x02\x69\x64\x10\x89\x02\x12\x06\x0a\x01\x76\x10\x95\x30\x0a\x13\x08\x0c\x2a\x0f\x0a\x01\x74\x12\x0a\x12\x08\x0a\x02\x02\x02\x12\x02\x31\x61\x0a\x32\x08\x01\x1a\x2e\x4d\x79\x53\x51\x4c\x35\x36\x2f\x33\x65\x31\x31\x66\x61\x34\x37\x2d\x37\x31\x63\x61\x2d\x31\x31\x65\x31\x2d\x39\x65\x33\x33\x2d\x63\x38\x30\x61\x61\x39\x34\x32\x39\x35\x36\x32\x3a\x31\x0a\x02\x08\x03\x79\x0a\x02\x08\x02\x0a\x18\x08\x0d\x32\x14\x0a\x01\x74\x12\x07\x0a\x02\x69\x64\x10\x89\x02\x12\x06\x0a\x01\x76\x10\x95\x30\x0a\x1f\x08\x0c\x2a\x1b\x0a\x01\x74\x12\x16\x0a\x08\x0a\x02\x02\x02\x12\x02\x31\x61\x12\x0a\x0a\x02\x02\x06\x12\x04\x31\x61\x62\x63\x0a\x34\x08\x01\x1a\x30\x4d\x79\x53\x51\x4c\x35\x36\x2f\x33\x65\x31\x31\x66\x61\x34\x37\x2d\x37\x31\x63\x61\x2d\x31\x31\x65\x31\x2d\x39\x65\x33\x33\x2d\x63\x38\x30\x61\x61\x39\x34\x32\x39\x35\x36\x32\x3a\x31\x2d\x32\x0a\x02\x08\x03\x79\x0a\x02\x08\x02\x0a\x18\x08\x0d\x32\x14\x0a\x01\x74\x12\x07\x0a\x02\x69\x64\x10\x89\x02\x12\x06\x0a\x01\x76\x10\x95\x30\x0a\x1f\x08\x0c\x2a\x1b\x0a\x01\x74\x12\x16\x0a\x0a\x0a\x02\x02\x06\x12\x04\x31\x61\x62\x63\x12\x08\x0a\x02\x02\x02\x12\x02\x31\x61\x0a\x34\x08\x01\x1a\x30\x4d\x79\x53\x51\x4c\x35\x36\x2f\x33\x65\x31\x31\x66\x61\x34\x37\x2d\x37\x31\x63\x61\x2d\x31\x31\x65\x31\x2d\x39\x65\x33\x33\x2d\x63\x38\x30\x61\x61\x39\x34\x32\x39\x35\x36\x32\x3a\x31\x2d\x33\x0a\x02\x08\x03";
 
 const REMOVAL: &[u8] =
@@ -42,11 +39,7 @@ const FILTER_OF_THE_FIRST: &[u8] =
 const NULL_BEFORE: &[u8] =
     b"\x74\x0a\x02\x08\x02\x0a\x18\x08\x0d\x32\x14\x0a\x01\x74\x12\x07\x0a\x02\x69\x64\x10\x89\x02\x12\x06\x0a\x01\x76\x10\x95\x30\x0a\x1c\x08\x0c\x2a\x18\x0a\x01\x74\x12\x13\x0a\x07\x0a\x02\x02\x01\x12\x01\x31\x12\x08\x0a\x02\x02\x02\x12\x02\x31\x61\x0a\x32\x08\x01\x1a\x2e\x4d\x79\x53\x51\x4c\x35\x36\x2f\x33\x65\x31\x31\x66\x61\x34\x37\x2d\x37\x31\x63\x61\x2d\x31\x31\x65\x31\x2d\x39\x65\x33\x33\x2d\x63\x38\x30\x61\x61\x39\x34\x32\x39\x35\x36\x32\x3a\x31\x0a\x02\x08\x03";
 
-/// The table `t` with the key `id`, all of whose rows pass.
-const EVERY_ROW: &[u8] =
-    br#"{"keyspace":"ks","tables":[{"name":"t","columns":[["id","INT64"],["v","VARCHAR"]],"key":["id"],"vindex":["id","numeric"]}],"streams":[{"shard":"-80","filter":{"rules":[{"match":"/.*","filter":""}]}}]}"#;
-
-/// The same behind another table, so that its number is 1.
+/// The table `t` behind another one, so that its number is 1.
 const SECOND_TABLE: &[u8] =
     br#"{"keyspace":"ks","tables":[{"name":"s","columns":[["id","INT64"]],"key":["id"]},{"name":"t","columns":[["id","INT64"],["v","VARCHAR"]],"key":["id"]}],"streams":[{"shard":"-80","filter":{"rules":[{"match":"/.*","filter":""}]}}]}"#;
 
@@ -58,15 +51,19 @@ const BY_VALUE: &[u8] =
 const BY_NUMBER: &[u8] =
     br#"{"keyspace":"ks","tables":[{"name":"t","columns":[["id","INT64"],["v","VARCHAR"]],"key":["id"],"vindex":["id","numeric"]}],"streams":[{"shard":"-80","filter":{"rules":[{"match":"t","filter":"select * from t where in_keyrange(id, 'numeric', '-80')"}]}}]}"#;
 
-/// The column has these bytes.
-fn has_cell(row: &RowView<'_>, place: usize, wanted: &[u8]) -> bool {
-    if place >= row.len() {
-        return false;
-    }
-    match row.column(place) {
-        Column::Null => false,
-        Column::Bytes(bytes) => bytes == wanted,
-    }
+/// A touch of a key of the first table: the row that it puts there, as a message, and what the filter answers of it; or
+/// nothing.
+struct Left {
+    key: i128,
+    put: Option<(&'static [u8], bool)>,
+}
+
+/// A group of a feed under a workflow's plan, and its touches.
+struct Touched {
+    workflow: &'static [u8],
+    feed: &'static [u8],
+    group: u32,
+    touches: &'static [Left],
 }
 
 /// The touch is of this number in the first table.
@@ -78,139 +75,236 @@ fn has_key(touch: &Touch<'_>, wanted: i128) -> bool {
     }
 }
 
-/// The touch leaves nothing at this key.
-fn removes(touch: Option<&Touch<'_>>, key: i128) -> bool {
-    match touch {
-        None => false,
-        Some(touch) => has_key(touch, key) && touch.put().is_none(),
-    }
+/// The touch leaves this row at its key.
+fn is_left(touch: &Touch<'_>, wanted: &Left) -> bool {
+    let same = match (touch.put(), wanted.put) {
+        (None, None) => true,
+        (Some(put), Some((row, passes))) => put.passes() == passes && is_row(&put.row(), row),
+        _ => false,
+    };
+    same && has_key(touch, wanted.key)
 }
 
-/// The touch puts a row with this value at this key, and the filter answers this of it.
-fn puts(touch: Option<&Touch<'_>>, key: i128, value: &[u8], passes: bool) -> bool {
-    let Some(touch) = touch else {
-        return false;
-    };
-    match touch.put() {
-        None => false,
-        Some(put) => {
-            has_key(touch, key) && has_cell(&put.row(), 1, value) && put.passes() == passes
+/// These are the touches, in order.
+fn are_left(touches: &[Touch<'_>], wanted: &[Left]) -> bool {
+    let mut left = wanted.iter();
+    for touch in touches {
+        match left.next() {
+            Some(next) if is_left(touch, next) => {}
+            _ => return false,
         }
     }
+    left.next().is_none()
 }
 
-/// A group of a feed under the first plan of a workflow.
-pub(crate) fn prepared<'h>(
-    alloc: Global,
-    workflow: &[u8],
-    feed: &'h [u8],
-    number: u32,
-) -> Result<Arc<Prepared<'h>>, FeedFault> {
-    let Ok(plans) = Plan::read_all(alloc, workflow) else {
-        return Err(FeedFault::FieldsDiffer);
-    };
-    let Some(plan) = plans.first() else {
-        return Err(FeedFault::FieldsDiffer);
-    };
-    let feed = Feed::open(alloc, feed, plan)?;
-    feed.prepare(alloc, number)
+/// Each group has its touches.
+fn are_touched(alloc: Global, groups: &[Touched]) -> bool {
+    for wanted in groups {
+        match prepared(alloc, wanted.workflow, wanted.feed, wanted.group) {
+            Ok(group)
+                if group.number() == wanted.group && are_left(group.touches(), wanted.touches) => {}
+            _ => return false,
+        }
+    }
+    true
 }
 
-/// Why a group isn't prepared.
-fn refused(alloc: Global, workflow: &[u8], feed: &[u8], number: u32) -> Option<FeedFault> {
-    prepared(alloc, workflow, feed, number).err()
-}
-
-fn check_refused(
-    rt: &impl Abort,
-    alloc: Global,
-    (workflow, feed): (&[u8], &[u8]),
-    number: u32,
-    wanted: Option<FeedFault>,
-) {
-    assert_eq!(rt; refused(alloc, workflow, feed, number), wanted);
-}
-
-/// The touches leave nothing at the first key, and put a row with this value at the second, of which
-/// the filter answers this.
-fn removes_and_puts(
-    group: &Prepared<'_>,
-    removed: i128,
-    put: i128,
-    value: &[u8],
-    passes: bool,
-) -> bool {
-    let touches = group.touches();
-    touches.len() == 2
-        && removes(touches.first(), removed)
-        && puts(touches.get(1), put, value, passes)
-}
+const UPDATES: &[Touched] = &[
+    Touched {
+        workflow: EVERY_ROW,
+        feed: THREE_GROUPS,
+        group: 2,
+        touches: &[
+            Left { key: 7, put: None },
+            Left {
+                key: 4,
+                put: Some((b"\x0a\x02\x02\x02\x12\x024h", true)),
+            },
+        ],
+    },
+    Touched {
+        workflow: BY_VALUE,
+        feed: VALUES_OF_ONE_KEY,
+        group: 2,
+        touches: &[
+            Left { key: 1, put: None },
+            Left {
+                key: 1,
+                put: Some((b"\x0a\x02\x02\x06\x12\x041abc", false)),
+            },
+        ],
+    },
+];
 
 #[test]
-fn touches_of_updates(rt: HostRuntime) -> Result<(), Fail> {
-    let moved = prepared(rt.alloc(), EVERY_ROW, THREE_GROUPS, 2)?;
-    assert!(rt; removes_and_puts(&moved, 7, 4, b"h", true) && moved.number() == 2);
-    let changed = prepared(rt.alloc(), BY_VALUE, VALUES_OF_ONE_KEY, 2)?;
-    assert!(rt; removes_and_puts(&changed, 1, 1, b"abc", false));
-    Ok(())
+fn touches_of_updates(rt: HostRuntime) {
+    assert!(rt; are_touched(rt.alloc(), UPDATES));
 }
 
-/// Three rows are put, the first and the last of which are these.
-fn puts_three(group: &Prepared<'_>) -> bool {
-    let touches = group.touches();
-    touches.len() == 3
-        && puts(touches.first(), 3, b"c", true)
-        && puts(touches.get(2), 7, b"g", true)
-}
-
-/// There is one touch, which leaves nothing at the key 1.
-fn removes_one(group: &Prepared<'_>) -> bool {
-    group.touches().len() == 1 && removes(group.touches().first(), 1)
-}
+const INSERTS_AND_A_DELETE: &[Touched] = &[
+    Touched {
+        workflow: EVERY_ROW,
+        feed: ONE_ROW,
+        group: 1,
+        touches: &[Left {
+            key: 1,
+            put: Some((b"\x0a\x02\x02\x04\x12\x031ab", true)),
+        }],
+    },
+    Touched {
+        workflow: EVERY_ROW,
+        feed: THREE_GROUPS,
+        group: 1,
+        touches: &[
+            Left {
+                key: 3,
+                put: Some((b"\x0a\x02\x02\x02\x12\x023c", true)),
+            },
+            Left {
+                key: 5,
+                put: Some((b"\x0a\x02\x02\x02\x12\x025e", true)),
+            },
+            Left {
+                key: 7,
+                put: Some((b"\x0a\x02\x02\x02\x12\x027g", true)),
+            },
+        ],
+    },
+    Touched {
+        workflow: BY_VALUE,
+        feed: REMOVAL,
+        group: 1,
+        touches: &[Left { key: 1, put: None }],
+    },
+];
 
 #[test]
-fn touches_of_inserts_and_a_delete(rt: HostRuntime) -> Result<(), Fail> {
-    let inserted = prepared(rt.alloc(), EVERY_ROW, THREE_GROUPS, 1)?;
-    assert!(rt; puts_three(&inserted));
-    let deleted = prepared(rt.alloc(), BY_VALUE, REMOVAL, 1)?;
-    assert!(rt; removes_one(&deleted));
-    Ok(())
+fn touches_of_inserts_and_a_delete(rt: HostRuntime) {
+    assert!(rt; are_touched(rt.alloc(), INSERTS_AND_A_DELETE));
 }
+
+/// A row before a change gives its key alone.
+const NO_FILTER_BEFORE: &[Touched] = &[Touched {
+    workflow: BY_VALUE,
+    feed: NULL_BEFORE,
+    group: 1,
+    touches: &[
+        Left { key: 1, put: None },
+        Left {
+            key: 1,
+            put: Some((b"\x0a\x02\x02\x02\x12\x021a", true)),
+        },
+    ],
+}];
+
+#[test]
+fn before_row_filter_unasked(rt: HostRuntime) {
+    assert!(rt; are_touched(rt.alloc(), NO_FILTER_BEFORE));
+}
+
+/// A group of a feed under a workflow's plan, and why it isn't prepared, or that it is.
+struct Asked {
+    workflow: &'static [u8],
+    feed: &'static [u8],
+    group: u32,
+    refused: Option<FeedFault>,
+}
+
+/// Each group is refused as wanted.
+fn are_refused(alloc: Global, groups: &[Asked]) -> bool {
+    for asked in groups {
+        if prepared(alloc, asked.workflow, asked.feed, asked.group).err() != asked.refused {
+            return false;
+        }
+    }
+    true
+}
+
+const NO_SUCH_GROUPS: &[Asked] = &[
+    Asked {
+        workflow: EVERY_ROW,
+        feed: THREE_GROUPS,
+        group: 0,
+        refused: Some(FeedFault::NoGroup { groups: 3 }),
+    },
+    Asked {
+        workflow: EVERY_ROW,
+        feed: THREE_GROUPS,
+        group: 4,
+        refused: Some(FeedFault::NoGroup { groups: 3 }),
+    },
+    Asked {
+        workflow: EVERY_ROW,
+        feed: THREE_GROUPS,
+        group: u32::MAX,
+        refused: Some(FeedFault::NoGroup { groups: 3 }),
+    },
+    Asked {
+        workflow: EVERY_ROW,
+        feed: b"",
+        group: 1,
+        refused: Some(FeedFault::NoGroup { groups: 0 }),
+    },
+];
 
 #[test]
 fn no_such_group(rt: HostRuntime) {
-    let fault = FeedFault::NoGroup { groups: 3 };
-    for number in [0, 4, u32::MAX] {
-        check_refused(
-            &rt,
-            rt.alloc(),
-            (EVERY_ROW, THREE_GROUPS),
-            number,
-            Some(fault),
-        );
-    }
-    assert_eq!(rt; fault.number(), 91);
-    let empty = Some(FeedFault::NoGroup { groups: 0 });
-    check_refused(&rt, rt.alloc(), (EVERY_ROW, b""), 1, empty);
+    let number = FeedFault::NoGroup { groups: 3 }.number();
+    assert!(rt; number == 91 && are_refused(rt.alloc(), NO_SUCH_GROUPS));
 }
 
-/// A row's refusal.
-fn bad_row(group: u32, table: u8, cause: u8) -> Option<FeedFault> {
-    Some(FeedFault::BadRow {
-        group,
-        table,
-        cause,
-    })
-}
+const UNSOUND_ROWS: &[Asked] = &[
+    Asked {
+        workflow: SECOND_TABLE,
+        feed: NULL_KEY,
+        group: 2,
+        refused: Some(FeedFault::BadRow {
+            group: 2,
+            table: 1,
+            cause: 61,
+        }),
+    },
+    Asked {
+        workflow: SECOND_TABLE,
+        feed: NULL_KEY,
+        group: 1,
+        refused: None,
+    },
+    Asked {
+        workflow: EVERY_ROW,
+        feed: WORD_AS_KEY,
+        group: 1,
+        refused: Some(FeedFault::BadRow {
+            group: 1,
+            table: 0,
+            cause: 62,
+        }),
+    },
+    Asked {
+        workflow: BY_VALUE,
+        feed: NULL_IN_FILTER,
+        group: 1,
+        refused: Some(FeedFault::BadRow {
+            group: 1,
+            table: 0,
+            cause: 43,
+        }),
+    },
+    Asked {
+        workflow: BY_NUMBER,
+        feed: NEGATIVE_ID,
+        group: 1,
+        refused: Some(FeedFault::BadRow {
+            group: 1,
+            table: 0,
+            cause: 44,
+        }),
+    },
+];
 
 #[test]
 fn row_unsound(rt: HostRuntime) {
-    let alloc = rt.alloc();
-    check_refused(&rt, alloc, (SECOND_TABLE, NULL_KEY), 2, bad_row(2, 1, 61));
-    check_refused(&rt, alloc, (SECOND_TABLE, NULL_KEY), 1, None);
-    check_refused(&rt, alloc, (EVERY_ROW, WORD_AS_KEY), 1, bad_row(1, 0, 62));
-    check_refused(&rt, alloc, (BY_VALUE, NULL_IN_FILTER), 1, bad_row(1, 0, 43));
-    check_refused(&rt, alloc, (BY_NUMBER, NEGATIVE_ID), 1, bad_row(1, 0, 44));
+    assert!(rt; are_refused(rt.alloc(), UNSOUND_ROWS));
 }
 
 #[test]
@@ -220,49 +314,55 @@ fn numbers_of_an_unsound_row(rt: HostRuntime) {
         table: 1,
         cause: 61,
     };
-    assert_eq!(rt; (fault.number(), fault.cause()), (90, Some(61)));
+    assert!(rt; fault.number() == 90 && fault.cause() == Some(61));
 }
 
 /// The key before, the key after, the filter after; and of two changes the first.
+const FIRST_CAUSES: &[Asked] = &[
+    Asked {
+        workflow: EVERY_ROW,
+        feed: BEFORE_KEY_FIRST,
+        group: 1,
+        refused: Some(FeedFault::BadRow {
+            group: 1,
+            table: 0,
+            cause: 62,
+        }),
+    },
+    Asked {
+        workflow: BY_NUMBER,
+        feed: AFTER_KEY_BEFORE_FILTER,
+        group: 1,
+        refused: Some(FeedFault::BadRow {
+            group: 1,
+            table: 0,
+            cause: 61,
+        }),
+    },
+    Asked {
+        workflow: BY_NUMBER,
+        feed: FILTER_OF_THE_FIRST,
+        group: 1,
+        refused: Some(FeedFault::BadRow {
+            group: 1,
+            table: 0,
+            cause: 44,
+        }),
+    },
+];
+
 #[test]
 fn first_cause_of_a_group(rt: HostRuntime) {
-    let alloc = rt.alloc();
-    check_refused(
-        &rt,
-        alloc,
-        (EVERY_ROW, BEFORE_KEY_FIRST),
-        1,
-        bad_row(1, 0, 62),
-    );
-    check_refused(
-        &rt,
-        alloc,
-        (BY_NUMBER, AFTER_KEY_BEFORE_FILTER),
-        1,
-        bad_row(1, 0, 61),
-    );
-    check_refused(
-        &rt,
-        alloc,
-        (BY_NUMBER, FILTER_OF_THE_FIRST),
-        1,
-        bad_row(1, 0, 44),
-    );
-}
-
-/// A row before a change gives its key alone.
-#[test]
-fn before_row_filter_unasked(rt: HostRuntime) -> Result<(), Fail> {
-    let prepared = prepared(rt.alloc(), BY_VALUE, NULL_BEFORE, 1)?;
-    assert!(rt; prepared.touches().len() == 2 && removes(prepared.touches().first(), 1));
-    Ok(())
+    assert!(rt; are_refused(rt.alloc(), FIRST_CAUSES));
 }
 
 /// A board keeps every group that it has read.
 #[test]
 fn touches_are_small(rt: HostRuntime) {
-    assert!(rt; size_of::<LentKey<'static>>() <= 40);
-    assert!(rt; size_of::<Put<'static>>() <= 24);
-    assert!(rt; size_of::<Touch<'static>>() <= 64);
-    assert!(rt; size_of::<Prepared<'static>>() <= 48);
+    assert!(rt;
+        size_of::<LentKey<'static>>() <= 40
+            && size_of::<Put<'static>>() <= 24
+            && size_of::<Touch<'static>>() <= 64
+            && size_of::<Prepared<'static>>() <= 48
+    );
 }

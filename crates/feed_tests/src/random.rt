@@ -2,9 +2,10 @@
 //! and against one whose contract is the definition.
 
 use crate::feeds::{Step, push_group};
-use crate::image::by_value;
+use crate::image::{BY_VALUE, number_of};
+use crate::opening::opened;
 use crate::slow::slow_row;
-use pk_copy::{KeyPart, LentKey};
+use pk_copy::LentKey;
 use row_view::{Column, RowBytes, RowView};
 use source_feed::{Change, Feed, FeedFault, Group, Image, Prepared, read_groups};
 use std::alloc::{AllocError, Global};
@@ -46,7 +47,7 @@ fn random_feed(alloc: Global, seed: u32) -> Result<Vec<u8>, AllocError> {
         let second = next(next(first));
         let third = next(next(second));
         let steps = [random_step(first), random_step(second), random_step(third)];
-        push_group(alloc, &mut feed, digit, &steps)?;
+        push_group(&mut feed, digit, &steps)?;
         first = next(next(third));
     }
     Ok(feed)
@@ -100,123 +101,126 @@ fn slow_value(groups: &[Group<'_>], digit: u8) -> u8 {
 }
 
 /// The value of the image's row at a digit; 0 where it has none.
-fn image_value(alloc: Global, image: &Image<'_>, digit: u8) -> Result<u8, AllocError> {
+fn image_value(rows: &[(&LentKey<'_>, &RowBytes<'_>)], digit: u8) -> u8 {
     let number = i128::from(digit) - 48;
-    for (key, row) in image.chunk(alloc, 1, None, 9)? {
-        if let [KeyPart::Number(found)] = key.view().parts() {
-            if *found == number {
-                return Ok(byte_at(&row.view(), 1));
-            }
+    for (key, row) in rows {
+        if number_of(key) == number {
+            return byte_at(&row.view(), 1);
         }
     }
-    Ok(0)
+    0
 }
 
-/// The image and the changes say the same of every digit.
-fn agree(alloc: Global, image: &Image<'_>, groups: &[Group<'_>]) -> Result<bool, AllocError> {
+/// The image's rows and the changes say the same of every digit.
+fn agree(rows: &[(&LentKey<'_>, &RowBytes<'_>)], groups: &[Group<'_>]) -> bool {
     for digit in b'1'..=b'5' {
-        if image_value(alloc, image, digit)? != slow_value(groups, digit) {
-            return Ok(false);
+        if image_value(rows, digit) != slow_value(groups, digit) {
+            return false;
         }
     }
-    Ok(true)
+    true
 }
 
-/// The image's row at a key.
-fn image_row<'h>(
-    alloc: Global,
-    image: &Image<'h>,
+/// The image's row at a key is this one, or none.
+fn is_row_at<'h>(
+    rows: &[(&LentKey<'h>, &RowBytes<'h>)],
     key: &LentKey<'h>,
-) -> Result<Option<RowBytes<'h>>, AllocError> {
-    for (found, row) in image.chunk(alloc, key.table(), None, 9)? {
-        if found == key {
-            return Ok(Some(row.copy()));
+    wanted: Option<RowBytes<'h>>,
+) -> bool {
+    for (found, row) in rows {
+        if *found == key {
+            return match wanted {
+                None => false,
+                Some(wanted) => row.same(&wanted),
+            };
         }
     }
-    Ok(None)
-}
-
-fn are_same(one: Option<RowBytes<'_>>, other: Option<RowBytes<'_>>) -> bool {
-    match (one, other) {
-        (None, None) => true,
-        (Some(one), Some(other)) => one.same(&other),
-        _ => false,
-    }
+    wanted.is_none()
 }
 
 /// The image has the rows of the definition at the keys of a group's touches.
 fn has_rows_at<'h>(
-    alloc: Global,
-    image: &Image<'h>,
+    rows: &[(&LentKey<'h>, &RowBytes<'h>)],
     earlier: &[Arc<Prepared<'h>>],
     group: &Prepared<'h>,
-) -> Result<bool, AllocError> {
+) -> bool {
     for touch in group.touches() {
-        let row = image_row(alloc, image, touch.key())?;
-        if !are_same(row, slow_row(earlier, touch.key())) {
-            return Ok(false);
+        if !is_row_at(rows, touch.key(), slow_row(earlier, touch.key())) {
+            return false;
         }
     }
-    Ok(true)
+    true
 }
 
 /// The image has the rows of the definition at every key that the groups touch.
-fn is_kept<'h>(
+fn is_kept<'h>(rows: &[(&LentKey<'h>, &RowBytes<'h>)], groups: &[Arc<Prepared<'h>>]) -> bool {
+    for group in groups {
+        if !has_rows_at(rows, groups, group) {
+            return false;
+        }
+    }
+    true
+}
+
+/// The image says what the changes and the definition say of so many groups.
+fn is_image<'h>(
     alloc: Global,
     image: &Image<'h>,
-    groups: &[Arc<Prepared<'h>>],
+    number: usize,
+    prepared: &[Arc<Prepared<'h>>],
+    groups: &[Group<'_>],
 ) -> Result<bool, AllocError> {
-    for group in groups {
-        if !has_rows_at(alloc, image, groups, group)? {
+    let (Some(prepared), Some(groups)) = (prepared.get(..number), groups.get(..number)) else {
+        return Ok(false);
+    };
+    let rows = image.chunk(alloc, 1, None, 9)?;
+    Ok(agree(&rows, groups) && is_kept(&rows, prepared))
+}
+
+/// Nine groups of a feed with their touches.
+fn nine_groups<'h>(alloc: Global, feed: &Feed<'h>) -> Result<Vec<Arc<Prepared<'h>>>, FeedFault> {
+    let mut groups = Vec::new(alloc);
+    for number in 1..=9 {
+        groups.push(feed.prepare(alloc, number)?)?;
+    }
+    Ok(groups)
+}
+
+/// The image says what the changes and the definition say after each group.
+fn agrees<'h>(
+    alloc: Global,
+    prepared: &[Arc<Prepared<'h>>],
+    groups: &[Group<'_>],
+) -> Result<bool, AllocError> {
+    let mut image = Image::new(alloc);
+    let mut number = 0usize;
+    for group in prepared {
+        image.advance(alloc, group)?;
+        number = number.saturating_add(1);
+        if !is_image(alloc, &image, number, prepared, groups)? {
             return Ok(false);
         }
     }
-    Ok(true)
+    Ok(number == 9)
 }
 
-/// The image goes on by a group, and then says what the changes and the definition say.
-fn goes_on<'h>(
-    alloc: Global,
-    image: &mut Image<'h>,
-    prepared: &[Arc<Prepared<'h>>],
-    groups: &[Group<'_>],
-) -> Result<bool, FeedFault> {
-    let Some(group) = prepared.last() else {
-        return Ok(false);
-    };
-    image.advance(alloc, group)?;
-    let Some(earlier) = groups.get(..prepared.len()) else {
-        return Ok(false);
-    };
-    Ok(agree(alloc, image, earlier)? && is_kept(alloc, image, prepared)?)
-}
-
-/// After how many groups of a feed the image no longer says what the changes and the definition
-/// say; 10 if it always does.
-fn agreed(alloc: Global, feed: &Feed<'_>, groups: &[Group<'_>]) -> Result<u32, FeedFault> {
-    let mut prepared = Vec::new(alloc);
-    let mut image = Image::new(alloc);
-    for number in 1..=9u32 {
-        prepared.push(feed.prepare(alloc, number)?)?;
-        if !goes_on(alloc, &mut image, &prepared, groups)? {
-            return Ok(number);
-        }
-    }
-    Ok(10)
+/// The same of a feed's bytes.
+fn agrees_on(alloc: Global, bytes: &[u8]) -> Result<bool, FeedFault> {
+    let prepared = nine_groups(alloc, &opened(alloc, BY_VALUE, bytes)?)?;
+    let groups = read_groups(alloc, bytes, "ks", "-80")?;
+    Ok(agrees(alloc, &prepared, &groups)?)
 }
 
 /// The same of a random feed.
-fn agreed_at(alloc: Global, seed: u32) -> Result<u32, FeedFault> {
+fn agrees_at(alloc: Global, seed: u32) -> Result<bool, FeedFault> {
     let bytes = random_feed(alloc, seed)?;
-    let feed = Feed::open(alloc, &bytes, &by_value(alloc)?)?;
-    let groups = read_groups(alloc, &bytes, "ks", "-80")?;
-    agreed(alloc, &feed, &groups)
+    agrees_on(alloc, &bytes)
 }
 
 #[test]
 fn random_changes(rt: HostRuntime) -> Result<(), Fail> {
     for seed in [1, 77, 2_026] {
-        assert_eq!(rt; agreed_at(rt.alloc(), seed)?, 10);
+        assert!(rt; agrees_at(rt.alloc(), seed)?);
     }
     Ok(())
 }
