@@ -4,9 +4,8 @@
 use apply_core::{Board, ResumeFault, resume};
 use filter_rule::Plan;
 use source_feed::Feed;
-use std::alloc::{AllocError, Global};
+use std::alloc::Global;
 use std::sync::Arc;
-use std::test::Fail;
 
 /// One stream, all of whose rows pass.
 pub(crate) const ONE: &[u8] =
@@ -44,32 +43,60 @@ pub(crate) const UPPER: &[u8] =
 pub(crate) const UNSOUND: &[u8] =
     b"k\n\x02\x08\x02\n\x18\x08\x0d2\x14\n\x01t\x12\x07\n\x02id\x10\x89\x02\x12\x06\n\x01v\x10\x950\n\x13\x08\x0c*\x0f\n\x01t\x12\n\x12\x08\n\x02\x02\x02\x12\x022b\n2\x08\x01\x1a.MySQL56/3e11fa47-71ca-11e1-9e33-c80aa9429563:1\n\x02\x08\x03m\n\x02\x08\x02\n\x18\x08\x0d2\x14\n\x01t\x12\x07\n\x02id\x10\x89\x02\x12\x06\n\x01v\x10\x950\n\x13\x08\x0c*\x0f\n\x01t\x12\n\x12\x08\n\x02\x02\x02\x12\x02xc\n4\x08\x01\x1a0MySQL56/3e11fa47-71ca-11e1-9e33-c80aa9429563:1-2\n\x02\x08\x03";
 
-/// The plans of a workflow, and the feeds of its streams, of which there are at most two.
-pub(crate) fn opened<'h>(
-    alloc: Global,
-    workflow: &[u8],
-    (one, other): (&'h [u8], &'h [u8]),
-) -> Result<(Vec<Arc<Plan>>, Vec<Feed<'h>>), Fail> {
-    let plans = Plan::read_all(alloc, workflow)?;
-    let mut feeds = Vec::new(alloc);
-    for (plan, bytes) in plans.iter().zip([one, other]) {
-        feeds.push(Feed::open(alloc, bytes, plan)?)?;
+/// The bytes of at most two feeds, the first stream's and the second one's.
+pub(crate) type Feeds<'h> = (&'h [u8], &'h [u8]);
+
+/// The plans of a workflow, if they can be read.
+pub(crate) fn plans_of(alloc: Global, workflow: &[u8]) -> Option<Vec<Arc<Plan>>> {
+    match Plan::read_all(alloc, workflow) {
+        Ok(plans) => Some(plans),
+        Err(_) => None,
     }
-    Ok((plans, feeds))
 }
 
-/// What a checkpoint makes with feeds, under the plans of a workflow.
+/// The bytes as a feed under a plan, if they are one.
+fn opened<'h>(alloc: Global, bytes: &'h [u8], plan: &Arc<Plan>) -> Option<Feed<'h>> {
+    match Feed::open(alloc, bytes, plan) {
+        Ok(feed) => Some(feed),
+        Err(_) => None,
+    }
+}
+
+/// The bytes as feeds, each under the plan of its number.
+pub(crate) fn opened_under<'h>(
+    alloc: Global,
+    plans: &[Arc<Plan>],
+    (one, other): Feeds<'h>,
+) -> Option<Vec<Feed<'h>>> {
+    let mut feeds = Vec::new(alloc);
+    for (plan, bytes) in plans.iter().zip([one, other]) {
+        let feed = opened(alloc, bytes, plan)?;
+        if feeds.push(feed).is_err() {
+            return None;
+        }
+    }
+    Some(feeds)
+}
+
+/// The feeds of a workflow's streams.
+pub(crate) fn feeds_of<'h>(
+    alloc: Global,
+    workflow: &[u8],
+    bytes: Feeds<'h>,
+) -> Option<Vec<Feed<'h>>> {
+    let plans = plans_of(alloc, workflow)?;
+    opened_under(alloc, &plans, bytes)
+}
+
+/// What a checkpoint makes with feeds, under plans.
 pub(crate) fn resumed<'h>(
     alloc: Global,
     plans: &[Arc<Plan>],
     feeds: &[Feed<'h>],
     bytes: &[u8],
-) -> Result<Result<Board<'h>, ResumeFault>, Fail> {
+) -> Option<Result<Board<'h>, ResumeFault>> {
     if plans.is_empty() || plans.len() > 64 {
-        return Err("1 to 64 plans".into());
+        return None;
     }
-    match resume(alloc, plans, feeds, bytes) {
-        Err(ResumeFault::Memory) => Err(AllocError.into()),
-        ended => Ok(ended),
-    }
+    Some(resume(alloc, plans, feeds, bytes))
 }
