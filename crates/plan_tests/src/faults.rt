@@ -1,107 +1,117 @@
+//! The texts and numbers of the faults of ranges, filters and workflow files.
+
 use filter_rule::PlanFault;
 use filter_text::FilterFault;
 use std::alloc::{AllocError, Global};
-use std::test::Fail;
+use std::fmt::Display;
 use vindex::VindexFault;
 
+/// Whether each value prints the text beside it.
+fn print<T: Display>(alloc: Global, rows: &[(T, &str)]) -> Result<bool, AllocError> {
+    for (value, wanted) in rows {
+        let text = format!(in alloc; "{value}")?;
+        if text.as_str() != *wanted {
+            return Ok(false);
+        }
+    }
+    Ok(true)
+}
+
+const VINDEX: &[(VindexFault, &str)] = &[
+    (VindexFault::BadRange, "not a key range"),
+    (VindexFault::UnknownVindex, "no vindex has this name"),
+    (VindexFault::NullValue, "NULL has no keyspace id"),
+    (
+        VindexFault::NotANumber,
+        "the value is no number from 0 to 2^64 - 1",
+    ),
+    (VindexFault::Memory, "out of memory"),
+];
+
+const VINDEX_NUMBERS: &[(VindexFault, u8)] = &[
+    (VindexFault::BadRange, 41),
+    (VindexFault::UnknownVindex, 42),
+    (VindexFault::NullValue, 43),
+    (VindexFault::NotANumber, 44),
+    (VindexFault::Memory, 72),
+];
+
+/// Whether each fault has the number beside it.
+fn have_numbers(rows: &[(VindexFault, u8)]) -> bool {
+    for (fault, number) in rows {
+        if fault.number() != *number {
+            return false;
+        }
+    }
+    true
+}
+
+#[test]
+fn texts_of_vindex_faults(rt: HostRuntime) {
+    assert!(rt; have_numbers(VINDEX_NUMBERS) && matches!(print(rt.alloc(), VINDEX), Ok(true)));
+}
+
+const FILTER: &[(FilterFault, &str)] = &[
+    (FilterFault::BadForm, "the filter has no lawful form"),
+    (FilterFault::Memory, "out of memory"),
+];
+
+#[test]
+fn texts_of_filter_faults(rt: HostRuntime) {
+    assert!(rt; matches!(print(rt.alloc(), FILTER), Ok(true)));
+}
+
 /// The fault has this number and prints this text.
-fn is_vindex_fault(
-    alloc: Global,
-    fault: VindexFault,
-    number: u8,
-    wanted: &str,
-) -> Result<bool, AllocError> {
+fn is_told(alloc: Global, fault: &PlanFault, number: u8, wanted: &str) -> Result<bool, AllocError> {
     let text = format!(in alloc; "{fault}")?;
     Ok(fault.number() == number && text.as_str() == wanted)
 }
 
-#[test]
-fn texts_of_vindex_faults(rt: HostRuntime) -> Result<(), Fail> {
-    for (fault, number, text) in [
-        (VindexFault::BadRange, 41, "not a key range"),
-        (VindexFault::UnknownVindex, 42, "no vindex has this name"),
-        (VindexFault::NullValue, 43, "NULL has no keyspace id"),
-        (
-            VindexFault::NotANumber,
-            44,
-            "the value is no number from 0 to 2^64 - 1",
-        ),
-        (VindexFault::Memory, 72, "out of memory"),
-    ] {
-        assert!(rt; is_vindex_fault(rt.alloc(), fault, number, text)?, "{text}");
+/// Whether each fault has the number and prints the text beside it.
+fn are_told(alloc: Global, rows: &[(PlanFault, u8, &str)]) -> Result<bool, AllocError> {
+    for (fault, number, wanted) in rows {
+        if !is_told(alloc, fault, *number, wanted)? {
+            return Ok(false);
+        }
     }
-    Ok(())
+    Ok(true)
 }
 
 #[test]
-fn texts_of_filter_faults(rt: HostRuntime) -> Result<(), Fail> {
-    for (fault, text) in [
-        (FilterFault::BadForm, "the filter has no lawful form"),
-        (FilterFault::Memory, "out of memory"),
-    ] {
-        assert_eq!(rt; format!(in rt.alloc(); "{fault}")?.as_str(), text);
-    }
-    Ok(())
-}
-
-/// The fault has this number and prints this text.
-fn is_plan_fault(
-    alloc: Global,
-    fault: &PlanFault,
-    number: u8,
-    wanted: &str,
-) -> Result<bool, AllocError> {
-    let text = format!(in alloc; "{fault}")?;
-    Ok(fault.number() == number && text.as_str() == wanted)
-}
-
-#[test]
-fn texts_of_plan_faults(rt: HostRuntime) -> Result<(), Fail> {
-    let alloc = rt.alloc();
+fn texts_of_plan_faults(rt: HostRuntime) {
     let rule = PlanFault::BadRule { stream: 1, rule: 2 };
-    assert!(rt; is_plan_fault(alloc, &PlanFault::Json, 51, "the workflow file isn't JSON")?);
-    assert!(rt;
-        is_plan_fault(
-            alloc,
-            &PlanFault::Shape,
-            52,
-            "the workflow file has another shape"
-        )?
-    );
-    assert!(rt; is_plan_fault(alloc, &rule, 55, "rule 2 of stream 1 is bad")?);
-    assert!(rt;
-        is_plan_fault(
-            alloc,
-            &PlanFault::Limit,
-            56,
-            "the workflow file is past a limit"
-        )?
-    );
-    assert!(rt; is_plan_fault(alloc, &PlanFault::Memory, 72, "out of memory")?);
-    Ok(())
+    let rows = [
+        (PlanFault::Json, 51, "the workflow file isn't JSON"),
+        (PlanFault::Shape, 52, "the workflow file has another shape"),
+        (rule, 55, "rule 2 of stream 1 is bad"),
+        (PlanFault::Limit, 56, "the workflow file is past a limit"),
+        (PlanFault::Memory, 72, "out of memory"),
+    ];
+    assert!(rt; matches!(are_told(rt.alloc(), &rows), Ok(true)));
 }
 
-#[test]
-fn text_of_an_absent_column(rt: HostRuntime) -> Result<(), Fail> {
-    let table = String::from_str(rt.alloc(), "t")?;
-    let column = String::from_str(rt.alloc(), "x")?;
+/// Whether an absent column of a table is told.
+fn tells_absent(alloc: Global) -> Result<bool, AllocError> {
+    let table = String::from_str(alloc, "t")?;
+    let column = String::from_str(alloc, "x")?;
     let fault = PlanFault::NoSuchColumn { table, column };
-    assert!(rt; is_plan_fault(rt.alloc(), &fault, 53, "table t has no column x")?);
-    Ok(())
+    is_told(alloc, &fault, 53, "table t has no column x")
 }
 
 #[test]
-fn text_of_an_unfit_column(rt: HostRuntime) -> Result<(), Fail> {
-    let table = String::from_str(rt.alloc(), "t")?;
-    let column = String::from_str(rt.alloc(), "v")?;
+fn text_of_an_absent_column(rt: HostRuntime) {
+    assert!(rt; matches!(tells_absent(rt.alloc()), Ok(true)));
+}
+
+/// Whether a column of an unfit type is told.
+fn tells_unfit(alloc: Global) -> Result<bool, AllocError> {
+    let table = String::from_str(alloc, "t")?;
+    let column = String::from_str(alloc, "v")?;
     let fault = PlanFault::KeyType { table, column };
-    assert!(rt;
-        is_plan_fault(
-            rt.alloc(),
-            &fault,
-            54,
-            "table t: column v has an unfit type"
-        )?
-    );
-    Ok(())
+    is_told(alloc, &fault, 54, "table t: column v has an unfit type")
+}
+
+#[test]
+fn text_of_an_unfit_column(rt: HostRuntime) {
+    assert!(rt; matches!(tells_unfit(rt.alloc()), Ok(true)));
 }

@@ -1,8 +1,11 @@
 //! Tests of the crates that read a workflow: key ranges, ids and plans.
+//! Most are tables, walked by one helper; a row's comment begins with the name of its case.
 #![tactic(auto)]
 
 #[cfg(test)]
 mod faults;
+#[cfg(test)]
+mod files;
 #[cfg(test)]
 mod filters;
 #[cfg(test)]

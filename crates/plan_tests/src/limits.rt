@@ -1,15 +1,26 @@
-use crate::workflows::{EVERY_ROW, KEY, number_of, workflow};
-use std::alloc::Global;
-use std::process::Abort;
-use std::test::Fail;
+//! The limits of a workflow file: counts, and the lengths of names.
+
+use crate::workflows::{EVERY_ROW, number_of, workflow};
+use std::alloc::{AllocError, Global};
+
+/// Appends a numbered name between `open` and `close`, behind a comma if it isn't the first.
+fn put_item(
+    alloc: Global,
+    text: &mut String,
+    number: usize,
+    open: &str,
+    close: &str,
+) -> Result<(), AllocError> {
+    let comma = if number == 0 { "" } else { "," };
+    let item = format!(in alloc; "{comma}{open}c{number}{close}")?;
+    text.push_str(item.as_str())
+}
 
 /// Numbered names, each between `open` and `close`, parted by commas.
-fn listed(alloc: Global, count: usize, open: &str, close: &str) -> Result<String, Fail> {
+fn listed(alloc: Global, count: usize, open: &str, close: &str) -> Result<String, AllocError> {
     let mut text = String::new(alloc);
     for number in 0..count {
-        let comma = if number == 0 { "" } else { "," };
-        let item = format!(in alloc; "{comma}{open}c{number}{close}")?;
-        text.push_str(item.as_str())?;
+        put_item(alloc, &mut text, number, open, close)?;
     }
     Ok(text)
 }
@@ -20,7 +31,7 @@ fn listed_tables(
     tables: usize,
     columns: usize,
     keys: usize,
-) -> Result<String, Fail> {
+) -> Result<String, AllocError> {
     let columns = listed(alloc, columns, "[\"", "\",265]")?;
     let keys = listed(alloc, keys, "\"", "\"")?;
     let close = format!(in alloc; "\",\"columns\":[{columns}],\"key\":[{keys}]}}")?;
@@ -28,7 +39,7 @@ fn listed_tables(
 }
 
 /// So many streams, without rules.
-fn listed_streams(alloc: Global, streams: usize) -> Result<String, Fail> {
+fn listed_streams(alloc: Global, streams: usize) -> Result<String, AllocError> {
     listed(
         alloc,
         streams,
@@ -38,139 +49,77 @@ fn listed_streams(alloc: Global, streams: usize) -> Result<String, Fail> {
 }
 
 /// The refusal's number of a file with so many streams, tables, columns and key columns.
-fn number_of_counts(alloc: Global, counts: [usize; 4]) -> Result<u8, Fail> {
+fn number_of_counts(alloc: Global, counts: [usize; 4]) -> Result<u8, AllocError> {
     let [streams, tables, columns, keys] = counts;
     let tables = listed_tables(alloc, tables, columns, keys)?;
     let streams = listed_streams(alloc, streams)?;
     let text = format!(in alloc;
         "{{\"keyspace\":\"\",\"tables\":[{tables}],\"streams\":[{streams}]}}"
     )?;
-    Ok(number_of(alloc, text.as_str()))
+    Ok(number_of(alloc, text.as_bytes()))
 }
 
-/// Each count is accepted, or refused with 56, as wanted.
-fn check_counts(rt: &(impl Abort + AllocGlobal), counts: &[([usize; 4], u8)]) -> Result<(), Fail> {
-    for (counts, number) in counts {
-        assert_eq!(rt; number_of_counts(rt.alloc(), *counts)?, *number);
+/// Counts of streams, tables, columns and key columns, and the refusal's number, or 0.
+const COUNTS: &[([usize; 4], u8)] = &[
+    // count_out_of_limits: each count above its limit, and none of them, whatever the others are
+    ([64, 64, 8, 8], 0),
+    ([65, 65, 1, 1], 56),
+    ([0, 0, 0, 0], 56),
+    ([65, 1, 1, 9], 56),
+    // streams_limit
+    ([1, 1, 1, 1], 0),
+    ([64, 1, 1, 1], 0),
+    ([0, 1, 1, 1], 56),
+    ([65, 1, 1, 1], 56),
+    // tables_limit
+    ([1, 64, 1, 1], 0),
+    ([1, 0, 1, 1], 56),
+    ([1, 65, 1, 1], 56),
+    // columns_limit
+    ([1, 1, 256, 1], 0),
+    ([1, 1, 0, 1], 56),
+    ([1, 1, 257, 1], 56),
+    // key_columns_limit
+    ([1, 1, 9, 8], 0),
+    ([1, 1, 9, 0], 56),
+    ([1, 1, 9, 9], 56),
+];
+
+/// Whether a file of each of the counts is read, or refused by the number beside them.
+fn are_counts(alloc: Global, rows: &[([usize; 4], u8)]) -> Result<bool, AllocError> {
+    for (counts, number) in rows {
+        if number_of_counts(alloc, *counts)? != *number {
+            return Ok(false);
+        }
     }
-    Ok(())
-}
-
-/// Each count above its limit, and none of them, is refused with 56, whatever the others are.
-#[test]
-fn count_out_of_limits(rt: HostRuntime) -> Result<(), Fail> {
-    check_counts(
-        &rt,
-        &[
-            ([64, 64, 8, 8], 0),
-            ([65, 65, 1, 1], 56),
-            ([0, 0, 0, 0], 56),
-            ([65, 1, 1, 9], 56),
-        ],
-    )
+    Ok(true)
 }
 
 #[test]
-fn streams_limit(rt: HostRuntime) -> Result<(), Fail> {
-    check_counts(
-        &rt,
-        &[
-            ([1, 1, 1, 1], 0),
-            ([64, 1, 1, 1], 0),
-            ([0, 1, 1, 1], 56),
-            ([65, 1, 1, 1], 56),
-        ],
-    )
-}
-
-#[test]
-fn tables_limit(rt: HostRuntime) -> Result<(), Fail> {
-    check_counts(
-        &rt,
-        &[([1, 64, 1, 1], 0), ([1, 0, 1, 1], 56), ([1, 65, 1, 1], 56)],
-    )
-}
-
-#[test]
-fn columns_limit(rt: HostRuntime) -> Result<(), Fail> {
-    check_counts(
-        &rt,
-        &[
-            ([1, 1, 256, 1], 0),
-            ([1, 1, 0, 1], 56),
-            ([1, 1, 257, 1], 56),
-        ],
-    )
-}
-
-#[test]
-fn key_columns_limit(rt: HostRuntime) -> Result<(), Fail> {
-    check_counts(
-        &rt,
-        &[([1, 1, 9, 8], 0), ([1, 1, 9, 0], 56), ([1, 1, 9, 9], 56)],
-    )
+fn count_out_of_limits(rt: HostRuntime) {
+    assert!(rt; matches!(are_counts(rt.alloc(), COUNTS), Ok(true)));
 }
 
 /// The refusal's number of a file whose one column has this name.
-fn number_of_name(alloc: Global, name: &str) -> Result<u8, Fail> {
+fn number_of_name(alloc: Global, name: &str) -> Result<u8, AllocError> {
     let columns = format!(in alloc; "[[\"{name}\",265]]")?;
     let key = format!(in alloc; "[\"{name}\"]")?;
     let text = workflow(alloc, columns.as_str(), key.as_str(), "", EVERY_ROW)?;
-    Ok(number_of(alloc, text.as_str()))
+    Ok(number_of(alloc, text.as_bytes()))
 }
 
-/// A name of so many times four letters.
-fn long_name(alloc: Global, fours: u32) -> Result<String, Fail> {
+/// Whether a name of 256 letters is read, and one of a letter more isn't.
+fn is_longest_name(alloc: Global) -> Result<bool, AllocError> {
     let mut name = String::new(alloc);
-    for _ in 0..fours {
+    for _ in 0..64 {
         name.push_str("name")?;
     }
-    Ok(name)
-}
-
-#[test]
-fn name_limit(rt: HostRuntime) -> Result<(), Fail> {
-    for (name, number) in [
-        ("n", 0),
-        (" ", 0),
-        ("", 52),
-        ("\\u001f", 52),
-        ("\\u007f", 52),
-    ] {
-        assert_eq!(rt; number_of_name(rt.alloc(), name)?, number, "{name}");
-    }
-    Ok(())
-}
-
-#[test]
-fn name_length_limit(rt: HostRuntime) -> Result<(), Fail> {
-    let mut name = long_name(rt.alloc(), 64)?;
-    assert_eq!(rt; number_of_name(rt.alloc(), name.as_str())?, 0);
+    let longest = number_of_name(alloc, name.as_str())?;
     name.push_str("n")?;
-    assert_eq!(rt; number_of_name(rt.alloc(), name.as_str())?, 52);
-    Ok(())
-}
-
-/// The refusal's number of a file whose one column has this type.
-fn number_of_type(alloc: Global, number: &str) -> Result<u8, Fail> {
-    let columns = format!(in alloc; "[[\"id\",{number}]]")?;
-    let text = workflow(alloc, columns.as_str(), KEY, "", EVERY_ROW)?;
-    Ok(number_of(alloc, text.as_str()))
+    Ok(longest == 0 && number_of_name(alloc, name.as_str())? == 52)
 }
 
 #[test]
-fn type_number_limit(rt: HostRuntime) -> Result<(), Fail> {
-    for (number, fault) in [
-        ("265", 0),
-        ("4294967295", 54),
-        ("0", 54),
-        ("4294967296", 52),
-        ("-1", 52),
-        ("-0", 52),
-        ("265.0", 52),
-        ("2.65e2", 52),
-    ] {
-        assert_eq!(rt; number_of_type(rt.alloc(), number)?, fault, "{number}");
-    }
-    Ok(())
+fn name_length_limit(rt: HostRuntime) {
+    assert!(rt; matches!(is_longest_name(rt.alloc()), Ok(true)));
 }

@@ -1,246 +1,329 @@
+//! Key ranges, vindexes and the numbers that are the values of columns.
+
 use row_view::Column;
 use std::alloc::{AllocError, Global};
-use std::process::Abort;
-use std::test::Fail;
 use vindex::*;
 
-/// Whether an id lies in the lower half and in the upper half of all ids.
-fn halves_of(alloc: Global, id: &[u8]) -> Result<(bool, bool), VindexFault> {
+/// Values under a vindex, their ids, and whether these lie in the lower half of all ids.
+///
+/// The digests and bytes stand in RFC 1321 and the Vitess documents on vindexes.
+const IDS: &[(Vindex, &[u8], &[u8], bool)] = &[
+    (
+        Vindex::BinaryMd5,
+        b"a",
+        b"\x0c\xc1\x75\xb9\xc0\xf1\xb6\xa8\x31\xc3\x99\xe2\x69\x77\x26\x61",
+        true,
+    ),
+    (
+        Vindex::BinaryMd5,
+        b"abc",
+        b"\x90\x01\x50\x98\x3c\xd2\x4f\xb0\xd6\x96\x3f\x7d\x28\xe1\x7f\x72",
+        false,
+    ),
+    (
+        Vindex::Numeric,
+        b"9223372036854775808",
+        b"\x80\0\0\0\0\0\0\0",
+        false,
+    ),
+    (
+        Vindex::Numeric,
+        b"9223372036854775807",
+        b"\x7f\xff\xff\xff\xff\xff\xff\xff",
+        true,
+    ),
+    (Vindex::ReverseBits, b"1", b"\x80\0\0\0\0\0\0\0", false),
+    (Vindex::Numeric, b"258", b"\0\0\0\0\0\0\x01\x02", true),
+    (Vindex::Binary, b"\x80\0", b"\x80\0", false),
+    // vindex_number_limit
+    (Vindex::Numeric, b"0", b"\0\0\0\0\0\0\0\0", true),
+    (
+        Vindex::Numeric,
+        b"18446744073709551615",
+        b"\xff\xff\xff\xff\xff\xff\xff\xff",
+        false,
+    ),
+    // minus_zero_and_zeros
+    (Vindex::Numeric, b"-0", b"\0\0\0\0\0\0\0\0", true),
+    (Vindex::Numeric, b"-000", b"\0\0\0\0\0\0\0\0", true),
+    (
+        Vindex::Numeric,
+        b"00000000000000000000000000000000000000",
+        b"\0\0\0\0\0\0\0\0",
+        true,
+    ),
+];
+
+/// Whether the id lies in the lower half of all ids and not in the upper one, or the other way round.
+fn lies_in(alloc: Global, id: &[u8], in_low: bool) -> Result<bool, VindexFault> {
     let low = KeyRange::parse(alloc, "-80")?;
     let high = KeyRange::parse(alloc, "80-")?;
-    Ok((low.holds(id), high.holds(id)))
+    Ok(low.holds(id) == in_low && high.holds(id) != in_low)
 }
 
-fn is_id(
-    alloc: Global,
-    vindex: Vindex,
-    value: &[u8],
-    wanted: &[u8],
-    in_low: bool,
-) -> Result<bool, VindexFault> {
-    let id = vindex.id(Column::Bytes(value))?;
-    let (low, high) = halves_of(alloc, id.bytes())?;
-    Ok(id.bytes() == wanted && low == in_low && high != in_low)
-}
-
-/// The value has this id, which lies in the lower half or in the upper one.
-fn check_id(
-    rt: &(impl Abort + AllocGlobal),
-    vindex: Vindex,
-    value: &[u8],
-    wanted: &[u8],
-    in_low: bool,
-) -> Result<(), Fail> {
-    assert!(rt; is_id(rt.alloc(), vindex, value, wanted, in_low)?);
-    Ok(())
-}
-
-/// The digests and bytes stand in RFC 1321 and the Vitess documents on vindexes.
-#[test]
-fn digests_and_ids(rt: HostRuntime) -> Result<(), Fail> {
-    let digest = b"\x0c\xc1\x75\xb9\xc0\xf1\xb6\xa8\x31\xc3\x99\xe2\x69\x77\x26\x61";
-    check_id(&rt, Vindex::BinaryMd5, b"a", digest, true)?;
-    let digest = b"\x90\x01\x50\x98\x3c\xd2\x4f\xb0\xd6\x96\x3f\x7d\x28\xe1\x7f\x72";
-    check_id(&rt, Vindex::BinaryMd5, b"abc", digest, false)?;
-    let half = b"\x80\0\0\0\0\0\0\0";
-    check_id(&rt, Vindex::Numeric, b"9223372036854775808", half, false)?;
-    let below = b"\x7f\xff\xff\xff\xff\xff\xff\xff";
-    check_id(&rt, Vindex::Numeric, b"9223372036854775807", below, true)?;
-    check_id(&rt, Vindex::ReverseBits, b"1", half, false)?;
-    check_id(&rt, Vindex::Numeric, b"258", b"\0\0\0\0\0\0\x01\x02", true)?;
-    check_id(&rt, Vindex::Binary, b"\x80\0", b"\x80\0", false)
-}
-
-/// The range begins at 40 and ends before 80.
-fn is_middle(range: &KeyRange) -> bool {
-    range.holds(&[0x40]) && range.holds(&[0x7f, 0xff]) && !range.holds(&[0x80])
-}
-
-/// Whether two texts are the same range.
-fn are_same(alloc: Global, one: &str, other: &str) -> Result<bool, VindexFault> {
-    let one = KeyRange::parse(alloc, one)?;
-    let other = KeyRange::parse(alloc, other)?;
-    Ok(one.same(&other))
-}
-
-fn are_tiles(alloc: Global, texts: &[&str]) -> Result<bool, Fail> {
-    let mut ranges = Vec::new(alloc);
-    for text in texts {
-        ranges.push(KeyRange::parse(alloc, text)?)?;
-    }
-    Ok(tiles(&ranges))
-}
-
-#[test]
-fn ranges_and_tiles(rt: HostRuntime) -> Result<(), Fail> {
-    let middle = KeyRange::parse(rt.alloc(), "4000-80")?;
-    assert!(rt; is_middle(&middle));
-    assert!(rt; are_same(rt.alloc(), "00-80", "-80")?);
-    let tilings: [(&[&str], bool); 5] = [
-        (&["-40", "4000-80", "80-"], true),
-        (&["-80", "40-"], false),
-        (&["-40", "80-"], false),
-        (&["-", "-"], false),
-        (&[], false),
-    ];
-    for (texts, wanted) in tilings {
-        assert_eq!(rt; are_tiles(rt.alloc(), texts)?, wanted);
-    }
-    Ok(())
-}
-
-fn check_bad_range(rt: &impl Abort, alloc: Global, text: &str) {
-    assert!(rt;
-        matches!(KeyRange::parse(alloc, text), Err(VindexFault::BadRange)),
-        "of {text}"
-    );
-}
-
-#[test]
-fn bad_range(rt: HostRuntime) {
-    for text in [
-        "40-4000", "8-", "80-40", "", "00", "8", "-8", "80", "-80-", "4g-", "00-00-", "80-80",
-    ] {
-        check_bad_range(&rt, rt.alloc(), text);
-    }
-    assert_eq!(rt; VindexFault::BadRange.number(), 41);
-    assert_eq!(rt; VindexFault::Memory.number(), 72);
-}
-
-#[test]
-fn zero_end_is_open(rt: HostRuntime) -> Result<(), Fail> {
-    for (text, wanted) in [
-        ("80-00", "80-"),
-        ("-00", "-"),
-        ("0", "-"),
-        ("00-", "-"),
-        ("aB-Cd00", "AB-cD"),
-    ] {
-        assert!(rt; are_same(rt.alloc(), text, wanted)?, "of {text}");
-    }
-    Ok(())
-}
-
-fn check_vindex(rt: &impl Abort, name: &str, wanted: Vindex) {
-    assert!(rt; Vindex::parse(name) == Ok(wanted), "of {name}");
-}
-
-fn check_unknown(rt: &impl Abort, name: &str) {
-    assert!(rt;
-        Vindex::parse(name) == Err(VindexFault::UnknownVindex),
-        "of {name}"
-    );
-}
-
-#[test]
-fn unknown_vindex(rt: HostRuntime) {
-    check_vindex(&rt, "numeric", Vindex::Numeric);
-    check_vindex(&rt, "reverse_bits", Vindex::ReverseBits);
-    check_vindex(&rt, "binary", Vindex::Binary);
-    check_vindex(&rt, "binary_md5", Vindex::BinaryMd5);
-    check_unknown(&rt, "hash");
-    check_unknown(&rt, "");
-    check_unknown(&rt, "Numeric");
-    check_unknown(&rt, "numeric ");
-    check_unknown(&rt, "xxhash");
-    assert_eq!(rt; VindexFault::UnknownVindex.number(), 42);
-}
-
-#[test]
-fn null_under_vindex(rt: HostRuntime) {
-    for vindex in [
-        Vindex::Numeric,
-        Vindex::ReverseBits,
-        Vindex::Binary,
-        Vindex::BinaryMd5,
-    ] {
-        assert_eq!(rt; vindex.id(Column::Null).err(), Some(VindexFault::NullValue));
-    }
-    assert_eq!(rt; VindexFault::NullValue.number(), 43);
-}
-
-#[test]
-fn no_number_under_vindex(rt: HostRuntime) {
-    let values: [&[u8]; 8] = [b"-1", b"", b"-", b"+1", b"1x", b" 1", b"1.0", b"--1"];
-    for value in values {
-        for vindex in [Vindex::Numeric, Vindex::ReverseBits] {
-            assert_eq!(rt;
-                vindex.id(Column::Bytes(value)).err(),
-                Some(VindexFault::NotANumber)
-            );
+/// Whether each value has the id beside it.
+fn are_ids(alloc: Global, rows: &[(Vindex, &[u8], &[u8], bool)]) -> Result<bool, VindexFault> {
+    for (vindex, value, wanted, in_low) in rows {
+        let id = vindex.id(Column::Bytes(value))?;
+        if id.bytes() != *wanted || !lies_in(alloc, wanted, *in_low)? {
+            return Ok(false);
         }
     }
-    assert_eq!(rt; VindexFault::NotANumber.number(), 44);
+    Ok(true)
 }
 
-/// The number has this id under the vindex of numbers.
-fn is_number_id(value: &[u8], wanted: &[u8]) -> bool {
-    match Vindex::Numeric.id(Column::Bytes(value)) {
-        Ok(id) => id.bytes() == wanted,
+#[test]
+fn digests_and_ids(rt: HostRuntime) {
+    assert!(rt; matches!(are_ids(rt.alloc(), IDS), Ok(true)));
+}
+
+/// Whether a range begins at 40 and ends before 80.
+fn is_middle(alloc: Global, text: &str) -> bool {
+    match KeyRange::parse(alloc, text) {
+        Ok(range) => { range.holds(&[0x40]) && range.holds(&[0x7f, 0xff]) && !range.holds(&[0x80]) }
         Err(_) => false,
     }
 }
 
-#[test]
-fn vindex_number_limit(rt: HostRuntime) {
-    assert!(rt; is_number_id(b"0", &[0u8; 8]));
-    assert!(rt; is_number_id(b"18446744073709551615", &[0xffu8; 8]));
-    let outside: [&[u8]; 3] = [b"-1", b"18446744073709551616", b"184467440737095516150"];
-    for value in outside {
-        let fault = Vindex::Numeric.id(Column::Bytes(value)).err();
-        assert_eq!(rt; fault, Some(VindexFault::NotANumber));
+/// Texts of ranges, and whether these tile all ids.
+const TILINGS: &[(&[&str], bool)] = &[
+    (&["-40", "4000-80", "80-"], true),
+    (&["-80", "40-"], false),
+    (&["-40", "80-"], false),
+    (&["-", "-"], false),
+    (&[], false),
+];
+
+fn are_tiles(alloc: Global, texts: &[&str]) -> Result<bool, VindexFault> {
+    let mut ranges = Vec::new(alloc);
+    for text in texts {
+        let range = KeyRange::parse(alloc, text)?;
+        match ranges.push(range) {
+            Ok(()) => {}
+            Err(e) => return Err(AllocError::from(e).into()),
+        }
     }
+    Ok(tiles(&ranges))
 }
 
-fn check_value(rt: &impl Abort, text: &[u8], wanted: Option<i128>) {
-    assert_eq!(rt; value_of(text), wanted);
+/// Whether the ranges of each row tile all ids as it says.
+fn are_tilings(alloc: Global, rows: &[(&[&str], bool)]) -> Result<bool, VindexFault> {
+    for (texts, wanted) in rows {
+        if are_tiles(alloc, texts)? != *wanted {
+            return Ok(false);
+        }
+    }
+    Ok(true)
 }
 
 #[test]
-fn minus_zero_and_zeros(rt: HostRuntime) {
-    let zeros: [&[u8]; 4] = [
-        b"0",
-        b"-0",
-        b"-000",
-        b"00000000000000000000000000000000000000",
-    ];
-    for value in zeros {
-        check_value(&rt, value, Some(0));
-        assert!(rt; is_number_id(value, &[0u8; 8]));
+fn ranges_and_tiles(rt: HostRuntime) {
+    assert!(rt;
+        is_middle(rt.alloc(), "4000-80") && matches!(are_tilings(rt.alloc(), TILINGS), Ok(true))
+    );
+}
+
+const BAD: &[&str] = &[
+    "40-4000", "8-", "80-40", "", "00", "8", "-8", "80", "-80-", "4g-", "00-00-", "80-80",
+];
+
+/// Whether none of the texts is a range.
+fn are_bad(alloc: Global, texts: &[&str]) -> bool {
+    for text in texts {
+        if !matches!(KeyRange::parse(alloc, text), Err(VindexFault::BadRange)) {
+            return false;
+        }
     }
-    assert!(rt; number_of(b"-0") == number_of(b"0"));
-    check_value(
-        &rt,
+    true
+}
+
+#[test]
+fn bad_range(rt: HostRuntime) {
+    assert!(rt; are_bad(rt.alloc(), BAD));
+}
+
+/// Texts of the same range.
+const SAME: &[(&str, &str)] = &[
+    ("00-80", "-80"),
+    ("80-00", "80-"),
+    ("-00", "-"),
+    ("0", "-"),
+    ("00-", "-"),
+    ("aB-Cd00", "AB-cD"),
+];
+
+/// Whether the texts of each row are the same range.
+fn are_same(alloc: Global, rows: &[(&str, &str)]) -> Result<bool, VindexFault> {
+    for (one, other) in rows {
+        let one = KeyRange::parse(alloc, one)?;
+        let other = KeyRange::parse(alloc, other)?;
+        if !one.same(&other) {
+            return Ok(false);
+        }
+    }
+    Ok(true)
+}
+
+#[test]
+fn zero_end_is_open(rt: HostRuntime) {
+    assert!(rt; matches!(are_same(rt.alloc(), SAME), Ok(true)));
+}
+
+const NAMES: &[(&str, Result<Vindex, VindexFault>)] = &[
+    ("numeric", Ok(Vindex::Numeric)),
+    ("reverse_bits", Ok(Vindex::ReverseBits)),
+    ("binary", Ok(Vindex::Binary)),
+    ("binary_md5", Ok(Vindex::BinaryMd5)),
+    ("hash", Err(VindexFault::UnknownVindex)),
+    ("", Err(VindexFault::UnknownVindex)),
+    ("Numeric", Err(VindexFault::UnknownVindex)),
+    ("numeric ", Err(VindexFault::UnknownVindex)),
+    ("xxhash", Err(VindexFault::UnknownVindex)),
+];
+
+/// Whether each name is that of the vindex beside it.
+fn are_names(rows: &[(&str, Result<Vindex, VindexFault>)]) -> bool {
+    for (name, wanted) in rows {
+        if Vindex::parse(name) != *wanted {
+            return false;
+        }
+    }
+    true
+}
+
+#[test]
+fn unknown_vindex(rt: HostRuntime) {
+    assert!(rt; are_names(NAMES));
+}
+
+/// Values without an id.
+const WITHOUT_ID: &[(Vindex, Column<'static>, VindexFault)] = &[
+    // null_under_vindex
+    (Vindex::Numeric, Column::Null, VindexFault::NullValue),
+    (Vindex::ReverseBits, Column::Null, VindexFault::NullValue),
+    (Vindex::Binary, Column::Null, VindexFault::NullValue),
+    (Vindex::BinaryMd5, Column::Null, VindexFault::NullValue),
+];
+
+/// Whether no value has an id, for the fault beside it.
+fn are_without_id(rows: &[(Vindex, Column<'_>, VindexFault)]) -> bool {
+    for (vindex, value, fault) in rows {
+        if vindex.id(*value).err() != Some(*fault) {
+            return false;
+        }
+    }
+    true
+}
+
+/// Texts that are no number under a vindex of numbers.
+const NO_NUMBERS: &[&[u8]] = &[
+    // no_number_under_vindex
+    b"-1",
+    b"",
+    b"-",
+    b"+1",
+    b"1x",
+    b" 1",
+    b"1.0",
+    b"--1",
+    // vindex_number_limit
+    b"18446744073709551616",
+    b"184467440737095516150",
+];
+
+/// Whether no text has an id under the vindexes of numbers.
+fn are_no_numbers(texts: &[&[u8]]) -> bool {
+    let fault = VindexFault::NotANumber;
+    for text in texts {
+        let value = Column::Bytes(text);
+        if !are_without_id(&[
+            (Vindex::Numeric, value, fault),
+            (Vindex::ReverseBits, value, fault),
+        ]) {
+            return false;
+        }
+    }
+    true
+}
+
+/// And null_under_vindex.
+#[test]
+fn no_number_under_vindex(rt: HostRuntime) {
+    assert!(rt; are_without_id(WITHOUT_ID) && are_no_numbers(NO_NUMBERS));
+}
+
+/// Texts, and the values of the numbers that they write.
+const VALUES: &[(&[u8], Option<i128>)] = &[
+    // minus_zero_and_zeros
+    (b"0", Some(0)),
+    (b"-0", Some(0)),
+    (b"-000", Some(0)),
+    (b"00000000000000000000000000000000000000", Some(0)),
+    (
         b"0000000000000000000000000000000000000000000000000000007",
         Some(7),
-    );
-    check_value(&rt, b"-0010", Some(-10));
-}
+    ),
+    (b"-0010", Some(-10)),
+    // number_limits
+    (b"-9223372036854775808", Some(-9223372036854775808)),
+    (b"18446744073709551615", Some(18446744073709551615)),
+    (b"-9223372036854775809", None),
+    (b"18446744073709551616", None),
+];
 
 /// The value of the number that a text writes.
 fn value_of(text: &[u8]) -> Option<i128> {
     Some(number_of(text)?.value())
 }
 
+/// Whether each text writes the value beside it.
+fn are_values(rows: &[(&[u8], Option<i128>)]) -> bool {
+    for (text, wanted) in rows {
+        if value_of(text) != *wanted {
+            return false;
+        }
+    }
+    true
+}
+
+/// And minus_zero_and_zeros.
 #[test]
 fn number_limits(rt: HostRuntime) {
-    check_value(&rt, b"-9223372036854775808", Some(-9223372036854775808));
-    check_value(&rt, b"18446744073709551615", Some(18446744073709551615));
-    check_value(&rt, b"-9223372036854775809", None);
-    check_value(&rt, b"18446744073709551616", None);
-    assert_eq!(rt; natural_of(b"0018446744073709551615"), Some(u64::MAX));
-    assert_eq!(rt; natural_of(b"-1"), None);
+    assert!(rt;
+        are_values(VALUES)
+            && natural_of(b"0018446744073709551615") == Some(u64::MAX)
+            && natural_of(b"-1").is_none()
+    );
+}
+
+/// Whether each number is less than the next.
+fn rise(texts: &[&[u8]]) -> bool {
+    for i in 1..texts.len() {
+        if number_of(texts[i - 1]) >= number_of(texts[i]) {
+            return false;
+        }
+    }
+    true
 }
 
 /// Numbers are ordered and equal by value, whatever their texts.
 #[test]
 fn numbers_by_value(rt: HostRuntime) {
-    let rising: [&[u8]; 5] = [b"-10", b"-2", b"-0", b"02", b"10"];
-    for i in 1..rising.len() {
-        assert!(rt; number_of(rising[i - 1]) < number_of(rising[i]));
-    }
-    assert!(rt; number_of(b"-007") == number_of(b"-7"));
+    assert!(rt;
+        rise(&[b"-10", b"-2", b"-0", b"02", b"10"])
+            && number_of(b"-007") == number_of(b"-7")
+            && number_of(b"-0") == number_of(b"0")
+    );
 }
+
+/// Texts, and the shortest ones of the same numbers.
+const SHORTEST: &[(&[u8], &str)] = &[
+    (b"-0", "0"),
+    (b"0010", "10"),
+    (b"-0010", "-10"),
+    (b"18446744073709551615", "18446744073709551615"),
+    (b"-9223372036854775808", "-9223372036854775808"),
+];
 
 /// The number's shortest text, as it is written and as it is printed.
 fn has_shortest_text(alloc: Global, text: &[u8], wanted: &str) -> Result<bool, AllocError> {
@@ -252,20 +335,17 @@ fn has_shortest_text(alloc: Global, text: &[u8], wanted: &str) -> Result<bool, A
     Ok(number.text(&mut buffer) == wanted && printed.as_str() == wanted)
 }
 
-#[test]
-fn shortest_text_of_a_number(rt: HostRuntime) -> Result<(), Fail> {
-    let texts: [(&[u8], &str); 5] = [
-        (b"-0", "0"),
-        (b"0010", "10"),
-        (b"-0010", "-10"),
-        (b"18446744073709551615", "18446744073709551615"),
-        (b"-9223372036854775808", "-9223372036854775808"),
-    ];
-    for (text, shortest) in texts {
-        assert!(rt;
-            has_shortest_text(rt.alloc(), text, shortest)?,
-            "{shortest}"
-        );
+/// Whether each number has the shortest text beside it.
+fn are_shortest(alloc: Global, rows: &[(&[u8], &str)]) -> Result<bool, AllocError> {
+    for (text, wanted) in rows {
+        if !has_shortest_text(alloc, text, wanted)? {
+            return Ok(false);
+        }
     }
-    Ok(())
+    Ok(true)
+}
+
+#[test]
+fn shortest_text_of_a_number(rt: HostRuntime) {
+    assert!(rt; matches!(are_shortest(rt.alloc(), SHORTEST), Ok(true)));
 }
