@@ -1,68 +1,162 @@
-//! Feeds of groups of one new row each, and the plans that they are read under.
+//! Feeds of groups of one new row each, each read under its plan.
 
 use filter_rule::Plan;
+use source_feed::Feed;
 use std::alloc::{AllocError, Global};
 use std::sync::Arc;
 
 /// The table `t` of `id` (INT64) and `v` (VARCHAR), read by two streams, all of whose rows pass.
-pub(crate) const WORKFLOW: &str =
-    "{\"keyspace\":\"ks\",\"tables\":[{\"name\":\"t\",\"columns\":[[\"id\",\"INT64\"],[\"v\",\"VARCHAR\"]],\"key\":[\"id\"]}],\"streams\":[{\"shard\":\"-80\",\"filter\":{\"rules\":[{\"match\":\"/.*\",\"filter\":\"\"}]}},{\"shard\":\"80-\",\"filter\":{\"rules\":[{\"match\":\"/.*\",\"filter\":\"\"}]}}]}";
+pub(crate) const WORKFLOW: &[u8] =
+    br#"{"keyspace":"ks","tables":[{"name":"t","columns":[["id","INT64"],["v","VARCHAR"]],"key":["id"]}],"streams":[{"shard":"-80","filter":{"rules":[{"match":"/.*","filter":""}]}},{"shard":"80-","filter":{"rules":[{"match":"/.*","filter":""}]}}]}"#;
 
-/// A FIELD event of the table.
-const FIELDS: [u8; 24] = [
-    8, 13, 50, 20, 10, 1, 116, 18, 7, 10, 2, 105, 100, 16, 137, 2, 18, 6, 10, 1, 118, 16, 149, 48,
-];
+/// Rows 1 `a` and 2 `b`.
+pub(crate) const LOWER: &[u8] = b"\
+    \x04\n\x02\x08\x02\x1a\n\x18\x08\r2\x14\n\x01t\x12\x07\n\x02id\x10\x89\x02\x12\x06\n\x01v\x10\x950\
+    \x15\n\x13\x08\x0c*\x0f\n\x01t\x12\n\x12\x08\n\x02\x02\x02\x12\x021a\
+    .\n,\x08\x01\x1a(3e11fa47-71ca-11e1-9e33-c80aa9429562:1-1\x04\n\x02\x08\x03\
+    \x04\n\x02\x08\x02\x1a\n\x18\x08\r2\x14\n\x01t\x12\x07\n\x02id\x10\x89\x02\x12\x06\n\x01v\x10\x950\
+    \x15\n\x13\x08\x0c*\x0f\n\x01t\x12\n\x12\x08\n\x02\x02\x02\x12\x022b\
+    .\n,\x08\x01\x1a(3e11fa47-71ca-11e1-9e33-c80aa9429562:1-2\x04\n\x02\x08\x03";
 
-/// The workflow's plans.
-pub(crate) fn plans(alloc: Global) -> Option<Vec<Arc<Plan>>> {
-    Plan::read_all(alloc, WORKFLOW.as_bytes()).ok()
-}
+/// Rows 11 `k` and 12 `l`.
+pub(crate) const UPPER: &[u8] = b"\
+    \x04\n\x02\x08\x02\x1a\n\x18\x08\r2\x14\n\x01t\x12\x07\n\x02id\x10\x89\x02\x12\x06\n\x01v\x10\x950\
+    \x16\n\x14\x08\x0c*\x10\n\x01t\x12\x0b\x12\t\n\x02\x04\x02\x12\x0311k\
+    .\n,\x08\x01\x1a(3e11fa47-71ca-11e1-9e33-c80aa9429562:1-1\x04\n\x02\x08\x03\
+    \x04\n\x02\x08\x02\x1a\n\x18\x08\r2\x14\n\x01t\x12\x07\n\x02id\x10\x89\x02\x12\x06\n\x01v\x10\x950\
+    \x16\n\x14\x08\x0c*\x10\n\x01t\x12\x0b\x12\t\n\x02\x04\x02\x12\x0312l\
+    .\n,\x08\x01\x1a(3e11fa47-71ca-11e1-9e33-c80aa9429562:1-2\x04\n\x02\x08\x03";
 
-/// A message of one event of fewer than 120 bytes.
-fn push_event(feed: &mut Vec<u8>, event: &[u8]) -> Result<(), AllocError> {
-    let length = (event.len() % 120) as u8;
-    feed.extend_from_slice(&[length + 2, 10, length])?;
-    feed.extend_from_slice(event)
-}
+/// Rows 11, 12 and 13, all `a`.
+pub(crate) const TENS: &[u8] = b"\
+    \x04\n\x02\x08\x02\x1a\n\x18\x08\r2\x14\n\x01t\x12\x07\n\x02id\x10\x89\x02\x12\x06\n\x01v\x10\x950\
+    \x16\n\x14\x08\x0c*\x10\n\x01t\x12\x0b\x12\t\n\x02\x04\x02\x12\x0311a\
+    .\n,\x08\x01\x1a(3e11fa47-71ca-11e1-9e33-c80aa9429562:1-1\x04\n\x02\x08\x03\
+    \x04\n\x02\x08\x02\x1a\n\x18\x08\r2\x14\n\x01t\x12\x07\n\x02id\x10\x89\x02\x12\x06\n\x01v\x10\x950\
+    \x16\n\x14\x08\x0c*\x10\n\x01t\x12\x0b\x12\t\n\x02\x04\x02\x12\x0312a\
+    .\n,\x08\x01\x1a(3e11fa47-71ca-11e1-9e33-c80aa9429562:1-2\x04\n\x02\x08\x03\
+    \x04\n\x02\x08\x02\x1a\n\x18\x08\r2\x14\n\x01t\x12\x07\n\x02id\x10\x89\x02\x12\x06\n\x01v\x10\x950\
+    \x16\n\x14\x08\x0c*\x10\n\x01t\x12\x0b\x12\t\n\x02\x04\x02\x12\x0313a\
+    .\n,\x08\x01\x1a(3e11fa47-71ca-11e1-9e33-c80aa9429562:1-3\x04\n\x02\x08\x03";
 
-/// A group: a new row of a short number and a value of one byte, at the position from 1 to a digit.
-fn push_group(
+/// Rows 21, 22 and 23, all `a`.
+pub(crate) const TWENTIES: &[u8] = b"\
+    \x04\n\x02\x08\x02\x1a\n\x18\x08\r2\x14\n\x01t\x12\x07\n\x02id\x10\x89\x02\x12\x06\n\x01v\x10\x950\
+    \x16\n\x14\x08\x0c*\x10\n\x01t\x12\x0b\x12\t\n\x02\x04\x02\x12\x0321a\
+    .\n,\x08\x01\x1a(3e11fa47-71ca-11e1-9e33-c80aa9429562:1-1\x04\n\x02\x08\x03\
+    \x04\n\x02\x08\x02\x1a\n\x18\x08\r2\x14\n\x01t\x12\x07\n\x02id\x10\x89\x02\x12\x06\n\x01v\x10\x950\
+    \x16\n\x14\x08\x0c*\x10\n\x01t\x12\x0b\x12\t\n\x02\x04\x02\x12\x0322a\
+    .\n,\x08\x01\x1a(3e11fa47-71ca-11e1-9e33-c80aa9429562:1-2\x04\n\x02\x08\x03\
+    \x04\n\x02\x08\x02\x1a\n\x18\x08\r2\x14\n\x01t\x12\x07\n\x02id\x10\x89\x02\x12\x06\n\x01v\x10\x950\
+    \x16\n\x14\x08\x0c*\x10\n\x01t\x12\x0b\x12\t\n\x02\x04\x02\x12\x0323a\
+    .\n,\x08\x01\x1a(3e11fa47-71ca-11e1-9e33-c80aa9429562:1-3\x04\n\x02\x08\x03";
+
+/// Rows whose numbers are none: x1, x2 and x3.
+pub(crate) const XS: &[u8] = b"\
+    \x04\n\x02\x08\x02\x1a\n\x18\x08\r2\x14\n\x01t\x12\x07\n\x02id\x10\x89\x02\x12\x06\n\x01v\x10\x950\
+    \x16\n\x14\x08\x0c*\x10\n\x01t\x12\x0b\x12\t\n\x02\x04\x02\x12\x03x1a\
+    .\n,\x08\x01\x1a(3e11fa47-71ca-11e1-9e33-c80aa9429562:1-1\x04\n\x02\x08\x03\
+    \x04\n\x02\x08\x02\x1a\n\x18\x08\r2\x14\n\x01t\x12\x07\n\x02id\x10\x89\x02\x12\x06\n\x01v\x10\x950\
+    \x16\n\x14\x08\x0c*\x10\n\x01t\x12\x0b\x12\t\n\x02\x04\x02\x12\x03x2a\
+    .\n,\x08\x01\x1a(3e11fa47-71ca-11e1-9e33-c80aa9429562:1-2\x04\n\x02\x08\x03\
+    \x04\n\x02\x08\x02\x1a\n\x18\x08\r2\x14\n\x01t\x12\x07\n\x02id\x10\x89\x02\x12\x06\n\x01v\x10\x950\
+    \x16\n\x14\x08\x0c*\x10\n\x01t\x12\x0b\x12\t\n\x02\x04\x02\x12\x03x3a\
+    .\n,\x08\x01\x1a(3e11fa47-71ca-11e1-9e33-c80aa9429562:1-3\x04\n\x02\x08\x03";
+
+/// Rows whose numbers are none: y1, y2 and y3.
+pub(crate) const YS: &[u8] = b"\
+    \x04\n\x02\x08\x02\x1a\n\x18\x08\r2\x14\n\x01t\x12\x07\n\x02id\x10\x89\x02\x12\x06\n\x01v\x10\x950\
+    \x16\n\x14\x08\x0c*\x10\n\x01t\x12\x0b\x12\t\n\x02\x04\x02\x12\x03y1a\
+    .\n,\x08\x01\x1a(3e11fa47-71ca-11e1-9e33-c80aa9429562:1-1\x04\n\x02\x08\x03\
+    \x04\n\x02\x08\x02\x1a\n\x18\x08\r2\x14\n\x01t\x12\x07\n\x02id\x10\x89\x02\x12\x06\n\x01v\x10\x950\
+    \x16\n\x14\x08\x0c*\x10\n\x01t\x12\x0b\x12\t\n\x02\x04\x02\x12\x03y2a\
+    .\n,\x08\x01\x1a(3e11fa47-71ca-11e1-9e33-c80aa9429562:1-2\x04\n\x02\x08\x03\
+    \x04\n\x02\x08\x02\x1a\n\x18\x08\r2\x14\n\x01t\x12\x07\n\x02id\x10\x89\x02\x12\x06\n\x01v\x10\x950\
+    \x16\n\x14\x08\x0c*\x10\n\x01t\x12\x0b\x12\t\n\x02\x04\x02\x12\x03y3a\
+    .\n,\x08\x01\x1a(3e11fa47-71ca-11e1-9e33-c80aa9429562:1-3\x04\n\x02\x08\x03";
+
+/// The plans' feeds over these bytes.
+pub(crate) fn open_feeds<'h>(
     alloc: Global,
-    feed: &mut Vec<u8>,
-    line: (&[u8], u8),
-    digit: u8,
-) -> Result<(), AllocError> {
-    let (number, value) = line;
-    let k = (number.len() % 60) as u8;
-    let mut row = Vec::new(alloc);
-    row.extend_from_slice(&[8, 12, 42, k + 14, 10, 1, 116, 18, k + 9])?;
-    row.extend_from_slice(&[18, k + 7, 10, 2, 2 * k, 2, 18, k + 1])?;
-    row.extend_from_slice(number)?;
-    row.push(value)?;
-    let mut position = Vec::new(alloc);
-    position.extend_from_slice(&[8, 1, 26, 40])?;
-    position.extend_from_slice(b"3e11fa47-71ca-11e1-9e33-c80aa9429562")?;
-    position.extend_from_slice(&[b':', b'1', b'-', digit])?;
-    push_event(feed, &[8, 2])?;
-    push_event(feed, &FIELDS)?;
-    push_event(feed, row.as_slice())?;
-    push_event(feed, &position)?;
-    push_event(feed, &[8, 3])
-}
-
-/// A feed of up to nine groups, of a new row each: its number's text and its value.
-pub(crate) fn feed_of(alloc: Global, lines: &[(&[u8], u8)]) -> Result<Vec<u8>, AllocError> {
-    let mut feed = Vec::new(alloc);
-    let mut digit = b'1';
-    for line in lines {
-        push_group(alloc, &mut feed, *line, digit)?;
-        digit = digit.wrapping_add(1);
+    plans: &[Arc<Plan>],
+    bytes: &[&'h [u8]],
+) -> Option<Vec<Feed<'h>>> {
+    let mut feeds = Vec::new(alloc);
+    for (plan, feed) in plans.iter().zip(bytes) {
+        let Ok(feed) = Feed::open(alloc, *feed, plan) else {
+            return None;
+        };
+        if feeds.push(feed).is_err() {
+            return None;
+        }
     }
-    Ok(feed)
+    Some(feeds)
 }
 
-/// A feed of three groups, of the rows whose numbers have this first digit.
-pub(crate) fn feed(alloc: Global, first: u8) -> Result<Vec<u8>, AllocError> {
-    let (one, two, three) = ([first, b'1'], [first, b'2'], [first, b'3']);
-    feed_of(alloc, &[(&one, b'a'), (&two, b'a'), (&three, b'a')])
+/// The streams of the second workflow.
+const STREAMS: u8 = 64;
+
+/// A stream's name of two letters.
+fn name_of(stream: u8) -> [u8; 2] {
+    [b'1' + (stream / 8) % 8, b'1' + stream % 8]
+}
+
+/// The stream of a number, behind others.
+fn push_stream(text: &mut Vec<u8>, stream: u8) -> Result<(), AllocError> {
+    text.extend_from_slice(br#",{"shard":""#)?;
+    text.extend_from_slice(&name_of(stream))?;
+    text.extend_from_slice(br#"","filter":{"rules":[{"match":"/.*","filter":""}]}}"#)
+}
+
+/// A workflow of 64 streams over the table.
+pub(crate) fn many_streams(alloc: Global) -> Result<Vec<u8>, AllocError> {
+    let mut text = Vec::from_slice(
+        alloc,
+        br#"{"keyspace":"ks","tables":[{"name":"t","columns":[["id","INT64"],["v","VARCHAR"]],"key":["id"]}],"streams":[{"shard":"11","filter":{"rules":[{"match":"/.*","filter":""}]}}"#,
+    )?;
+    for stream in 1..STREAMS {
+        push_stream(&mut text, stream)?;
+    }
+    text.extend_from_slice(b"]}")?;
+    Ok(text)
+}
+
+/// What stands in a group before the number of its row, which has three digits.
+const BEFORE_ITS_ROW: &[u8] = b"\
+    \x04\n\x02\x08\x02\x1a\n\x18\x08\r2\x14\n\x01t\x12\x07\n\x02id\x10\x89\x02\x12\x06\n\x01v\x10\x950\
+    \x17\n\x15\x08\x0c*\x11\n\x01t\x12\x0c\x12\n\n\x02\x06\x02\x12\x04";
+
+/// What stands between the row and the last digit of the position.
+const BEFORE_ITS_DIGIT: &[u8] = b".\n,\x08\x01\x1a(3e11fa47-71ca-11e1-9e33-c80aa9429562:1-";
+
+/// The length of a feed of three such groups.
+pub(crate) const MANY_BYTES: usize = 324;
+
+/// A group: a row of this number and value, and the end of its position.
+fn push_group(
+    feeds: &mut Vec<u8>,
+    [high, low]: [u8; 2],
+    digit: u8,
+    value: u8,
+) -> Result<(), AllocError> {
+    feeds.extend_from_slice(BEFORE_ITS_ROW)?;
+    feeds.extend_from_slice(&[high, low, digit, value])?;
+    feeds.extend_from_slice(BEFORE_ITS_DIGIT)?;
+    feeds.extend_from_slice(&[digit, 4, b'\n', 2, 8, 3])
+}
+
+/// A stream's feed of three groups.
+fn push_feed(feeds: &mut Vec<u8>, stream: u8) -> Result<(), AllocError> {
+    push_group(feeds, name_of(stream), b'1', b'a')?;
+    push_group(feeds, name_of(stream), b'2', b'b')?;
+    push_group(feeds, name_of(stream), b'3', b'c')
+}
+
+/// The feeds of all 64 streams, one behind the other.
+pub(crate) fn many_feeds(alloc: Global) -> Result<Vec<u8>, AllocError> {
+    let mut feeds = Vec::new(alloc);
+    for stream in 0..STREAMS {
+        push_feed(&mut feeds, stream)?;
+    }
+    Ok(feeds)
 }

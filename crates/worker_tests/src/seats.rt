@@ -3,12 +3,14 @@
 ghost use Rattle.std.specs.Prelude.{◌≡◌, IfSome};
 ghost use Rattle.stream_worker.specs.SeatOf.{IsSeatOf, AreSeatsOf};
 
-use crate::feeds::{feed, plans};
+use crate::feeds::{TENS, TWENTIES, WORKFLOW, open_feeds};
 use apply_core::Board;
+use filter_rule::Plan;
 use pk_copy::Key;
-use source_feed::Feed;
+use row_view::RowBuf;
+use source_feed::{Feed, Prepared};
 use std::alloc::Global;
-use std::sync::Wait;
+use std::sync::{Arc, Wait};
 use std::test::*;
 use std::thread;
 use std::thread::Threads;
@@ -16,6 +18,24 @@ use stream_worker::{Offered, Receipt, Seat, Shared};
 
 /// What can go to another thread.
 fn is_send<T: Send>(_: &T) {}
+
+/// Whether a group is read by its number.
+fn is_read<'h, R: Wait>(
+    alloc: Global,
+    rt: &R,
+    shared: &Shared<'h>,
+    seat: &mut Seat<'h>,
+    group: Arc<Prepared<'h>>,
+    n: u32,
+) -> bool
+    requires { IsSeatOf shared.now seat.old }
+    ensures { IsSeatOf shared.now seat.new × (seat.new.stream ≡ seat.old.stream) }
+{
+    match shared.offer(alloc, rt, seat, group) {
+        Ok(Offered::Read(number)) => number == n && seat.read() == n,
+        _ => false,
+    }
+}
 
 /// Offers a group of the feed and applies it.
 fn applied<'h, R: Wait>(
@@ -29,28 +49,53 @@ fn applied<'h, R: Wait>(
     requires { IsSeatOf shared.now seat.old }
     ensures { IsSeatOf shared.now seat.new × (seat.new.stream ≡ seat.old.stream) }
 {
-    let group = feed.prepare(alloc, n).ok()?;
-    let Ok(Offered::Read(number)) = shared.offer(alloc, rt, seat, group) else {
+    let Ok(group) = feed.prepare(alloc, n) else {
         return None;
     };
-    if number != n || seat.read() != n {
+    if !is_read(alloc, rt, shared, seat, group, n) {
         return None;
     }
     shared.advance(alloc, rt, seat).ok()
 }
 
-/// Whether the table is copied out of the snapshot at group 1, a row and all at once.
+/// Whether a snapshot is opened at group 1.
+fn is_opened<'h, R: Wait>(alloc: Global, rt: &R, shared: &Shared<'h>, seat: &mut Seat<'h>) -> bool
+    requires { IsSeatOf shared.now seat.old }
+    ensures { IsSeatOf shared.now seat.new × (seat.new.stream ≡ seat.old.stream) }
+{
+    shared.open_snapshot(alloc, rt, seat, 1).is_ok() && seat.snapshot() == Some(1)
+}
+
+/// Whether the table is copied out of the snapshot, a row and all at once.
 fn is_copied<'h, R: Wait>(alloc: Global, rt: &R, shared: &Shared<'h>, seat: &mut Seat<'h>) -> bool
     requires { IsSeatOf shared.now seat.old }
     ensures { IsSeatOf shared.now seat.new × (seat.new.stream ≡ seat.old.stream) }
 {
-    if shared.open_snapshot(alloc, rt, seat, 1).is_err() || seat.snapshot() != Some(1) {
-        return false;
+    match shared.copy_chunk(alloc, rt, seat, 5) {
+        Ok(copied) => {
+            copied.rows == 1 && copied.done && seat.done() == 1 && seat.snapshot().is_none()
+        }
+        Err(_) => false,
     }
-    let Ok(copied) = shared.copy_chunk(alloc, rt, seat, 5) else {
-        return false;
-    };
-    copied.rows == 1 && copied.done && seat.done() == 1 && seat.snapshot().is_none()
+}
+
+/// The key that a group touches first.
+fn key_of(alloc: Global, group: &Prepared<'_>) -> Option<Key> {
+    match group.touches().first() {
+        Some(touch) => Key::from_view(alloc, &touch.key_view()).ok(),
+        None => None,
+    }
+}
+
+/// Whether a row is the one that a group puts first.
+fn is_put_by(group: &Prepared<'_>, row: &RowBuf) -> bool {
+    match group.touches().first() {
+        Some(touch) => match touch.put() {
+            Some(put) => row.bytes().same(&put.bytes()),
+            None => false,
+        },
+        None => false,
+    }
 }
 
 /// Whether the seat finds the row of the group that it has just applied, at its number.
@@ -60,17 +105,20 @@ fn is_found<'h, R: Wait>(
     shared: &Shared<'h>,
     seat: &mut Seat<'h>,
     receipt: &Receipt<'h>,
-) -> Option<bool>
+) -> bool
     requires { IsSeatOf shared.now seat.old }
     ensures { IsSeatOf shared.now seat.new × (seat.new.stream ≡ seat.old.stream) }
 {
-    let touch = receipt.group.touches().first()?;
-    let key = Key::from_view(alloc, &touch.key_view()).ok()?;
-    let (number, row) = shared.look(alloc, rt, seat, &key).ok()?;
-    Some(number == receipt.number && row?.bytes().same(&touch.put()?.bytes()))
+    let Some(key) = key_of(alloc, &receipt.group) else {
+        return false;
+    };
+    match shared.look(alloc, rt, seat, &key) {
+        Ok((number, Some(row))) => number == receipt.number && is_put_by(&receipt.group, &row),
+        _ => false,
+    }
 }
 
-/// Whether a group of the feed is applied, and its row then found.
+/// Whether a group of the feed is applied, and its row then found where the table is copied.
 fn reads_back<'h, R: Wait>(
     alloc: Global,
     rt: &R,
@@ -82,12 +130,33 @@ fn reads_back<'h, R: Wait>(
     requires { IsSeatOf shared.now seat.old }
     ensures { IsSeatOf shared.now seat.new × (seat.new.stream ≡ seat.old.stream) }
 {
-    let Some(receipt) = applied(alloc, rt, shared, seat, feed, n) else {
-        return false;
-    };
-    receipt.stream == seat.stream()
-        && receipt.number == n
-        && is_found(alloc, rt, shared, seat, &receipt) == Some(true)
+    match applied(alloc, rt, shared, seat, feed, n) {
+        Some(receipt) => {
+            receipt.stream == seat.stream()
+                && receipt.number == n
+                && (n == 1 || is_found(alloc, rt, shared, seat, &receipt))
+        }
+        None => false,
+    }
+}
+
+/// Whether a feed of three groups is read back: the first is applied, the table copied, the others applied and
+/// the row of each looked up.
+fn follows<'h, R: Wait>(
+    alloc: Global,
+    rt: &R,
+    shared: &Shared<'h>,
+    seat: &mut Seat<'h>,
+    feed: &Feed<'h>,
+) -> bool
+    requires { IsSeatOf shared.now seat.old }
+    ensures { IsSeatOf shared.now seat.new × (seat.new.stream ≡ seat.old.stream) }
+{
+    reads_back(alloc, rt, shared, seat, feed, 1)
+        && is_opened(alloc, rt, shared, seat)
+        && is_copied(alloc, rt, shared, seat)
+        && reads_back(alloc, rt, shared, seat, feed, 2)
+        && reads_back(alloc, rt, shared, seat, feed, 3)
 }
 
 /// What a thread works with: a seat, and the feed that it follows.
@@ -100,8 +169,7 @@ struct Follower<'a, 'h, R> {
     feed: &'a Feed<'h>,
 }
 
-/// Reads a feed of three groups: applies the first, copies the table, applies the others and looks up the
-/// row of each.
+/// The seat, where it follows its feed.
 fn follow<'a, 'h, R: Wait>(follower: Follower<'a, 'h, R>) -> Option<Seat<'h>>
     requires { IsSeatOf follower.shared.now follower.seat }
     ensures { IfSome result (λ back. IsSeatOf follower.entry.shared.now back × (back.stream ≡ follower.entry.seat.stream)) }
@@ -113,12 +181,7 @@ fn follow<'a, 'h, R: Wait>(follower: Follower<'a, 'h, R>) -> Option<Seat<'h>>
         mut seat,
         feed,
     } = follower;
-    let first = applied(alloc, rt, shared, &mut seat, feed, 1)?;
-    if first.number == 1
-        && is_copied(alloc, rt, shared, &mut seat)
-        && reads_back(alloc, rt, shared, &mut seat, feed, 2)
-        && reads_back(alloc, rt, shared, &mut seat, feed, 3)
-    {
+    if follows(alloc, rt, shared, &mut seat, feed) {
         Some(seat)
     } else {
         None
@@ -183,47 +246,94 @@ fn follow_both<'h, R: Threads + Wait + Sync>(
     Some((one?, two?))
 }
 
-/// A board of the workflow's plans.
-fn board<'h>(alloc: Global) -> Option<Board<'h>> {
-    let plans = plans(alloc)?;
+/// A board of plans.
+fn board_of<'h>(alloc: Global, plans: Vec<Arc<Plan>>) -> Option<Board<'h>> {
     if plans.is_empty() || plans.len() > 64 {
         return None;
     }
     Board::new(alloc, plans).ok()
 }
 
-/// The groups that both streams of a board have applied, where two threads have followed two feeds and
-/// found each row.
+/// A shared board of the workflow's two streams, and their seats.
+fn seated<'h, R: Wait>(alloc: Global, rt: &R) -> Option<(Shared<'h>, (Seat<'h>, Seat<'h>))>
+    ensures { IfSome result (λ all. (IsSeatOf all.0 all.1.0 × (all.1.0.stream ≡ 0)) × (IsSeatOf all.0 all.1.1 × (all.1.1.stream ≡ 1))) }
+{
+    let Ok(plans) = Plan::read_all(alloc, WORKFLOW) else {
+        return None;
+    };
+    let board = board_of(alloc, plans)?;
+    match Shared::open(alloc, rt, board) {
+        Ok((shared, seats)) => {
+            let two = two_of(&shared, seats)?;
+            Some((shared, two))
+        }
+        Err(_) => None,
+    }
+}
+
+/// The board that two seats give up.
 #[tactic(auto, using(crate::proofs::Pairs::two_seats))]
-fn read_back<R: Threads + Wait + Sync>(
+fn ended<'h, R: Wait>(
     alloc: Global,
     rt: &R,
-    a: &[u8],
-    b: &[u8],
-) -> Option<(u32, u32)> {
-    let mut plans = plans(alloc)?;
-    let second = plans.pop()?;
-    let first = plans.pop()?;
-    let first = Feed::open(alloc, a, &first).ok()?;
-    let second = Feed::open(alloc, b, &second).ok()?;
-    let Ok((shared, seats)) = Shared::open(alloc, rt, board(alloc)?) else {
-        return None;
+    shared: Shared<'h>,
+    one: Seat<'h>,
+    two: Seat<'h>,
+) -> Option<Board<'h>>
+    requires one { IsSeatOf shared one × (one.stream ≡ 0) }
+    requires two { IsSeatOf shared two × (two.stream ≡ 1) }
+{
+    match vec![in alloc; one, two] {
+        Ok(seats) => {
+            let board = shared.end(rt, seats);
+            Some(board)
+        }
+        Err(_) => None,
+    }
+}
+
+/// Whether two streams of a board have each applied three groups.
+fn have_applied(board: &Board<'_>) -> bool {
+    match (board.state(0), board.state(1)) {
+        (Ok(one), Ok(two)) => one.applied() == 3 && two.applied() == 3,
+        _ => false,
+    }
+}
+
+/// Whether two threads follow two feeds on a board, which has then applied them.
+fn are_followed<'h, R: Threads + Wait + Sync>(
+    alloc: Global,
+    rt: &R,
+    first: &Feed<'h>,
+    second: &Feed<'h>,
+) -> bool {
+    let Some((shared, (one, two))) = seated(alloc, rt) else {
+        return false;
     };
-    let (one, two) = two_of(&shared, seats)?;
-    let (one, two) = follow_both(alloc, rt, &shared, one, two, &first, &second)?;
-    let seats = vec![in alloc; one, two].ok()?;
-    let board = shared.end(rt, seats);
-    let (Ok(one), Ok(two)) = (board.state(0), board.state(1)) else {
-        return None;
+    let Some((one, two)) = follow_both(alloc, rt, &shared, one, two, first, second) else {
+        return false;
     };
-    Some((one.applied(), two.applied()))
+    match ended(alloc, rt, shared, one, two) {
+        Some(board) => have_applied(&board),
+        None => false,
+    }
+}
+
+/// Whether two threads that follow two feeds find each row.
+fn read_back<R: Threads + Wait + Sync>(alloc: Global, rt: &R) -> bool {
+    let Ok(plans) = Plan::read_all(alloc, WORKFLOW) else {
+        return false;
+    };
+    let Some(feeds) = open_feeds(alloc, &plans, &[TENS, TWENTIES]) else {
+        return false;
+    };
+    match feeds.as_slice() {
+        [first, second] => are_followed(alloc, rt, first, second),
+        _ => false,
+    }
 }
 
 #[test]
-fn look_reads_back(rt: HostRuntime) -> Result<(), Fail> {
-    let alloc = rt.alloc();
-    let a = feed(alloc, b'1')?;
-    let b = feed(alloc, b'2')?;
-    assert!(rt; read_back(alloc, &rt, &a, &b) == Some((3, 3)));
-    Ok(())
+fn look_reads_back(rt: HostRuntime) {
+    assert!(rt; read_back(rt.alloc(), &rt));
 }
