@@ -1,5 +1,1 @@
-pub mod Arguments
-pub mod Words
-pub mod Built
-pub mod Meant
-pub mod Usage
+pub mod Asked

@@ -1,4 +1,0 @@
-pub mod Builders
-pub mod MetSubcommand
-pub mod TakenWords
-mod PolicyLaws

@@ -1,5 +1,0 @@
-use Rattle.std.proofs.Common.{refl}
-use Rattle.vrepl.proofs.words.run_words_by.Goals as goal
-
-pub returns : goal.returns
-returns c = rw (c.has_flag.ensures, c.has_flag-2.ensures, c.text.ensures, c.in_ok-feeds.ensures) refl

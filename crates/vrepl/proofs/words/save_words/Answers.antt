@@ -1,6 +1,0 @@
-use Rattle.std.proofs.Common.{ap}
-use Rattle.vrepl.specs.Words.{asks_save}
-use Rattle.vrepl.proofs.words.save_words.Goals as goal
-
-pub returns : goal.returns
-returns c = ap asks_save c.in_ok-words.ensures

@@ -1,0 +1,12 @@
+use Rattle.vrepl_words.specs.Words.{program_app}
+use Rattle.vrepl_words.proofs.commands.program.Goals as goal
+
+pub returns : goal.returns
+unfolding program_app
+returns c =
+    let show = c.with_subcommand-command.ensures _ _ c.bare_program-command.ensures c.show_command.ensures in
+    let step = c.with_subcommand-command-2.ensures _ _ show c.step_command.ensures in
+    let run = c.with_subcommand-command-3.ensures _ _ step c.run_command.ensures in
+    let vdiff = c.with_subcommand-command-4.ensures _ _ run c.vdiff_command.ensures in
+    let save = c.with_subcommand-command-5.ensures _ _ vdiff c.save_command.ensures in
+    c.with_subcommand.ensures _ _ save c.resume_command.ensures

@@ -1,0 +1,9 @@
+use Rattle.std.proofs.Common.{codes}
+use Rattle.clap.specs.Words.{new_app}
+use Rattle.vrepl_words.proofs.commands.vdiff_command.Goals as goal
+
+pub returns : goal.returns
+returns c =
+    let workflow = c.with_arg-command.ensures (new_app (codes "vdiff")) _ c.bare.ensures c.workflow.ensures in
+    let source = c.with_arg-command-2.ensures _ _ workflow c.operand-source.ensures in
+    c.with_arg.ensures _ _ source c.operand.ensures

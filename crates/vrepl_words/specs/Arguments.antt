@@ -1,0 +1,51 @@
+-- The arguments of a subcommand, as `clap` reads them, and what was given to one.
+use Rattle.std.specs.Prelude.{ℕ, ◌^◌, ◌&&◌, nat_le, if◌then◌else◌, Bool, true, false, List, [], Option, None, Some, codes, unwrap_or, option_and_then}
+use Rattle.std.specs.Option.{option_map_or}
+use Rattle.std.specs.Str.{bytes_eq}
+use Rattle.clap.specs.Lexer.{usize_max}
+use Rattle.clap.specs.Words.{Row, Rule, Text, all_of, first_of, one_of, new_rule}
+use Rattle.vindex.specs.NumberText.{decimal_below}
+use Rattle.clap.specs.declared.builder.action.ArgAction.TheVariants.{SetTrue}
+
+-- `--name`
+abbrev pub flag_rule : Text → Rule
+flag_rule name = record (new_rule name) { long = Some name; action = Some SetTrue }
+
+-- `--name TEXT`, which may be left out
+abbrev pub option_rule : Text → Rule
+option_rule name = record (new_rule name) { long = Some name; value_names = 1 }
+
+-- `--name TEXT`, which has to be there
+abbrev pub needed_rule : Text → Rule
+needed_rule name = record (option_rule name) { required = true }
+
+-- `TEXT` in its place, which has to be there
+abbrev pub operand_rule : Text → Rule
+operand_rule name = record (new_rule name) { required = true; value_names = 1 }
+
+-- `TEXT..` in its place, once or more often
+abbrev pub operands_rule : Text → Rule
+operands_rule name = record (operand_rule name) { range = Some (record { start_inclusive = 1; end_inclusive = usize_max }) }
+
+-- a flag was given
+abbrev pub is_given : Text → List Row → Bool
+is_given name rows = option_map_or (bytes_eq (codes "true")) (one_of name rows) false
+
+-- the text that was given, or the empty one
+abbrev pub text_given : Text → List Row → Text
+text_given name rows = unwrap_or (first_of name rows) []
+
+-- the texts that were given
+abbrev pub texts_given : Text → List Row → List Text
+texts_given name rows = unwrap_or (all_of name rows) []
+
+-- a portion is a number of 1 to 1,000,000, in digits
+abbrev pub within_range : ℕ → Option ℕ
+within_range number = if nat_le 1 number && nat_le number 1000000 then Some number else None
+
+abbrev pub portion_of : Text → Option ℕ
+portion_of text = option_and_then within_range (decimal_below (2 ^ 64) text)
+
+-- the portion that was given, or the usual one; none where what was given is no portion
+abbrev pub portion_given : ℕ → Text → List Row → Option ℕ
+portion_given usual name rows = option_map_or portion_of (first_of name rows) (Some usual)

@@ -1,0 +1,5 @@
+pub mod Arguments
+pub mod Built
+pub mod Meant
+pub mod Usage
+pub mod Words

@@ -1,0 +1,56 @@
+-- What the words that were read ask for.
+use Rattle.vrepl_words.specs.Words.{PortionsValue, ResumeValue, RunValue, ShowValue, StepValue, VdiffValue, WordsValue, asks_run, asks_show, asks_step, asks_save, asks_resume, asks_vdiff}
+use Rattle.std.specs.Prelude.{◌≡◌, map, Option, None, Some, Result, Ok, Err}
+use Rattle.vrepl_words.specs.declared.portions.Portions.{Portions}
+use Rattle.vrepl_words.specs.declared.words.Resume.{Resume}
+use Rattle.vrepl_words.specs.declared.words.Run.{Run}
+use Rattle.vrepl_words.specs.declared.words.Show.{Show}
+use Rattle.vrepl_words.specs.declared.words.Step.{Step}
+use Rattle.vrepl_words.specs.declared.words.Vdiff.{Vdiff}
+use Rattle.vrepl_words.specs.declared.words.Words.{Words}
+use Rattle.vrepl_words.specs.declared.words.Words.TheVariants as words
+
+-- each value without its reference
+abbrev pub show_value : Show → ShowValue
+show_value show = record {
+  hex = show.hex;
+  keyspace = show.keyspace.now;
+  shard = show.shard.now;
+  feed = show.feed.now;
+}
+
+abbrev pub step_value : Step → StepValue
+step_value step = record { hex = step.hex; workflow = step.workflow.now; feeds = map (λ feed. feed.now) step.feeds.items }
+
+abbrev pub resume_value : Resume → ResumeValue
+resume_value resume = record { checkpoint = resume.checkpoint.now; step = step_value resume.step }
+
+abbrev pub portions_value : Portions → PortionsValue
+portions_value portions = record { rows = portions.rows; ahead = portions.ahead; chunks = portions.chunks }
+
+abbrev pub run_value : Run → RunValue
+run_value run = record {
+  hex = run.hex;
+  alone = run.alone;
+  portions = portions_value run.portions;
+  workflow = run.workflow.now;
+  feeds = map (λ feed. feed.now) run.feeds.items;
+}
+
+abbrev pub vdiff_value : Vdiff → VdiffValue
+vdiff_value files = record { workflow = files.workflow.now; source = files.source.now; target = files.target.now }
+
+-- what was read of the words, as a plain value
+abbrev pub value_of : Words → WordsValue
+value_of (words.Show show) = asks_show (show_value show)
+value_of (words.Step step) = asks_step (step_value step)
+value_of (words.Run run) = asks_run (run_value run)
+value_of (words.Save save) = asks_save (step_value save)
+value_of (words.Resume resume) = asks_resume (resume_value resume)
+value_of (words.Vdiff files) = asks_vdiff (vdiff_value files)
+
+-- what was met asks for this, if for anything, unless a fault kept it from being read
+abbrev pub Asks : {E : Type 0} → Option (Result Words E) → Option WordsValue → Type 0
+Asks None asked = asked ≡ None
+Asks (Some (Ok words)) asked = asked ≡ Some (value_of words)
+Asks (Some (Err fault)) asked = Unit {0}

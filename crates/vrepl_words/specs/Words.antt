@@ -1,0 +1,192 @@
+-- What the words of the command line ask for. `clap` reads words by its own rules; here are the program's
+-- command and what words mean under it (this profile).
+use Rattle.std.specs.Prelude.{ℕ, Bool, true, false, List, [], ◌∷◌, map, find, Option, None, Some, codes, option_map, option_and_then}
+use Rattle.std.specs.Str.{bytes_eq}
+use Rattle.clap.specs.Words.{App, Row, Rule, Shape, Text, fault_of, subcommand_of}
+use Rattle.clap.specs.Simple.{new_shape}
+use Rattle.clap.specs.Kinds.{Kinds, or_else}
+use Rattle.clap.specs.declared.error.kind.ErrorKind.TheVariants.{ValueValidation}
+use Rattle.vrepl_words.specs.Arguments.{flag_rule, is_given, needed_rule, operand_rule, operands_rule, option_rule, portion_given, text_given, texts_given}
+
+-- `show`: a feed, whose it is, and whether it is hexadecimal text
+pub record ShowValue : Type 0 where
+  pub hex : Bool
+  pub keyspace : Text
+  pub shard : Text
+  pub feed : Text
+
+-- `step` and `save`: a workflow, a feed for each of its streams, and whether feeds are hexadecimal text
+pub record StepValue : Type 0 where
+  pub hex : Bool
+  pub workflow : Text
+  pub feeds : List Text
+
+-- in what portions a stream is run
+pub record PortionsValue : Type 0 where
+  pub rows : ℕ
+  pub ahead : ℕ
+  pub chunks : ℕ
+
+-- `run`: a workflow, a feed for each of its streams, whether feeds are hexadecimal text, whether the streams run
+-- one after another, and in what portions
+pub record RunValue : Type 0 where
+  pub hex : Bool
+  pub alone : Bool
+  pub portions : PortionsValue
+  pub workflow : Text
+  pub feeds : List Text
+
+-- `resume`: a checkpoint, and what `step` is given
+pub record ResumeValue : Type 0 where
+  pub checkpoint : Text
+  pub step : StepValue
+
+-- `vdiff`: a workflow, and the dumps of a source and of a target
+pub record VdiffValue : Type 0 where
+  pub workflow : Text
+  pub source : Text
+  pub target : Text
+
+-- what words ask for
+pub data WordsValue : Type 0 where
+  asks_show : ShowValue → WordsValue
+  asks_step : StepValue → WordsValue
+  asks_run : RunValue → WordsValue
+  asks_save : StepValue → WordsValue
+  asks_resume : ResumeValue → WordsValue
+  asks_vdiff : VdiffValue → WordsValue
+
+-- a subcommand: its name, its arguments in their order, and what it asks for, by what is given to them; nothing
+-- where a number that is given is out of its range
+pub record Subcommand : Type 0 where
+  pub name : Text
+  pub rules : List Rule
+  pub meaning : List Row → Option WordsValue
+
+-- what is given to the arguments of `show`
+abbrev pub show_given : List Row → ShowValue
+show_given given = record {
+  hex = is_given (codes "hex") given;
+  keyspace = text_given (codes "keyspace") given;
+  shard = text_given (codes "shard") given;
+  feed = text_given (codes "feed") given;
+}
+
+-- `show [--hex] [--keyspace TEXT] [--shard TEXT] FEED`
+abbrev pub show_subcommand : Subcommand
+show_subcommand = record {
+  name = codes "show";
+  rules = flag_rule (codes "hex") ∷ option_rule (codes "keyspace") ∷ option_rule (codes "shard") ∷ operand_rule (codes "feed") ∷ [];
+  meaning = λ given. Some (asks_show (show_given given));
+}
+
+-- what is given to the arguments of `step`, and to those of `save`
+abbrev pub step_given : List Row → StepValue
+step_given given = record { hex = is_given (codes "hex") given; workflow = text_given (codes "workflow") given; feeds = texts_given (codes "feed") given }
+
+-- `step [--hex] WORKFLOW FEED..`
+abbrev pub step_subcommand : Subcommand
+step_subcommand = record {
+  name = codes "step";
+  rules = flag_rule (codes "hex") ∷ operand_rule (codes "workflow") ∷ operands_rule (codes "feed") ∷ [];
+  meaning = λ given. Some (asks_step (step_given given));
+}
+
+-- the portions that are given to `run`; 1000 rows, 100 groups ahead and 4 chunks for those that aren't
+abbrev pub portions_given : List Row → Option PortionsValue
+portions_given given =
+    option_and_then (λ rows. option_and_then (λ ahead. option_map (λ chunks. record { rows = rows; ahead = ahead; chunks = chunks })
+    (portion_given 4 (codes "chunks") given)) (portion_given 100 (codes "ahead") given)) (portion_given 1000 (codes "rows") given)
+
+-- what is given to the arguments of `run`
+abbrev pub run_given : List Row → PortionsValue → RunValue
+run_given given portions = record {
+  hex = is_given (codes "hex") given;
+  alone = is_given (codes "alone") given;
+  portions = portions;
+  workflow = text_given (codes "workflow") given;
+  feeds = texts_given (codes "feed") given;
+}
+
+-- `run [--hex] [--alone] [--rows N] [--ahead N] [--chunks N] WORKFLOW FEED..`
+abbrev pub run_subcommand : Subcommand
+run_subcommand = record {
+  name = codes "run";
+  rules = flag_rule (codes "hex") ∷ flag_rule (codes "alone") ∷ option_rule (codes "rows") ∷ option_rule (codes "ahead") ∷ option_rule (codes "chunks") ∷ operand_rule (codes "workflow") ∷ operands_rule (codes "feed") ∷ [];
+  meaning = λ given. option_map (λ portions. asks_run (run_given given portions)) (portions_given given);
+}
+
+-- `save [--hex] WORKFLOW FEED..`
+abbrev pub save_subcommand : Subcommand
+save_subcommand = record {
+  name = codes "save";
+  rules = flag_rule (codes "hex") ∷ operand_rule (codes "workflow") ∷ operands_rule (codes "feed") ∷ [];
+  meaning = λ given. Some (asks_save (step_given given));
+}
+
+-- what is given to the arguments of `resume`
+abbrev pub resume_given : List Row → ResumeValue
+resume_given given = record { checkpoint = text_given (codes "checkpoint") given; step = step_given given }
+
+-- `resume [--hex] --checkpoint TEXT WORKFLOW FEED..`
+abbrev pub resume_subcommand : Subcommand
+resume_subcommand = record {
+  name = codes "resume";
+  rules = flag_rule (codes "hex") ∷ needed_rule (codes "checkpoint") ∷ operand_rule (codes "workflow") ∷ operands_rule (codes "feed") ∷ [];
+  meaning = λ given. Some (asks_resume (resume_given given));
+}
+
+-- what is given to the arguments of `vdiff`
+abbrev pub vdiff_given : List Row → VdiffValue
+vdiff_given given = record { workflow = text_given (codes "workflow") given; source = text_given (codes "source") given; target = text_given (codes "target") given }
+
+-- `vdiff WORKFLOW SOURCE TARGET`
+abbrev pub vdiff_subcommand : Subcommand
+vdiff_subcommand = record {
+  name = codes "vdiff";
+  rules = operand_rule (codes "workflow") ∷ operand_rule (codes "source") ∷ operand_rule (codes "target") ∷ [];
+  meaning = λ given. Some (asks_vdiff (vdiff_given given));
+}
+
+-- the subcommands, in the order of the help
+abbrev pub subcommands : List Subcommand
+subcommands = show_subcommand ∷ step_subcommand ∷ run_subcommand ∷ vdiff_subcommand ∷ save_subcommand ∷ resume_subcommand ∷ []
+
+-- a subcommand as `clap` sees it
+abbrev pub shape_of_subcommand : Subcommand → Shape
+shape_of_subcommand sub = record (new_shape sub.name) { rules = sub.rules }
+
+-- the program's command: the words behind its name are a subcommand's, and there is none called `help`
+unfoldable pub program_app : App
+program_app = record {
+  top = record (new_shape (codes "vrepl")) {
+    is_leaf = false;
+    no_binary_name = true;
+    subcommand_required = true;
+    disable_help_subcommand = true;
+  };
+  subs = map shape_of_subcommand subcommands;
+}
+
+-- what is asked for by the name of a subcommand and what is given to its arguments, if something is
+unfoldable pub asked_by : Option (Text × List Row) → Option WordsValue
+asked_by met = option_and_then (λ m. option_and_then (λ sub. sub.meaning m.1) (find (λ sub. bytes_eq m.0 sub.name) subcommands)) met
+
+-- no words are `show --hex -`: hexadecimal text on standard input
+abbrev pub spelled : List Text → List Text
+spelled [] = codes "show" ∷ codes "--hex" ∷ codes "-" ∷ []
+spelled (word ∷ words) = word ∷ words
+
+-- what the words ask for, where they are taken
+abbrev pub words_of : List Text → Option WordsValue
+words_of words = asked_by (subcommand_of program_app (spelled words))
+
+-- words that `clap` takes and that ask for nothing have a number out of its range
+abbrev pub range_fault : Option WordsValue → Kinds
+range_fault None = ValueValidation ∷ []
+range_fault (Some asked) = []
+
+-- the faults that `clap` finds in the words, one of which the error has, or else that of a number; none where they
+-- are taken
+abbrev pub faults_of : List Text → Kinds
+faults_of words = or_else (fault_of program_app (spelled words)) (range_fault (words_of words))

@@ -1,0 +1,280 @@
+//! The program's command, as `clap` is given it.
+
+ghost use Rattle.std.specs.Prelude.{IfOk, codes};
+ghost use Rattle.clap.specs.Words.{App, Rule, new_app, with_rule, with_subcommand};
+ghost use Rattle.vrepl_words.specs.Arguments.{flag_rule, needed_rule, operand_rule, operands_rule, option_rule};
+ghost use Rattle.vrepl_words.specs.Built.{HasApp, HasRule, IsSubcommand, bare_app};
+ghost use Rattle.vrepl_words.specs.Words.{program_app, resume_subcommand, run_subcommand, save_subcommand, show_subcommand, step_subcommand, vdiff_subcommand};
+
+use clap::{Arg, ArgAction, Command};
+use std::alloc::{AllocError, Global};
+
+/// A call of `show` and what it prints.
+const SHOW_EXAMPLE: &str = "\
+Example:
+  $ vrepl show --hex examples/one_insert.hex
+  group 1 3e11fa47-71ca-11e1-9e33-c80aa9429562:1
+  + t\tx31\tx6162";
+
+/// A call of `step` and what it prints.
+const STEP_EXAMPLE: &str = "\
+Example:
+  $ vrepl step --hex examples/workflows/one_shard.json examples/one_insert.hex \\
+      < examples/copy_one.script
+  read 1
+  applied 1
+  snapshot 1
+  copied 1 done
+  table t
+  x31\tx6162";
+
+/// A call of `run` and what it prints.
+const RUN_EXAMPLE: &str = "\
+Example:
+  $ vrepl run --hex examples/workflows/two_shards.json \\
+      examples/two_shards/lower.hex examples/two_shards/upper.hex
+  table t
+  x31\tx61
+  x32\tx62
+  x3131\tx6b
+  x3132\tx6c";
+
+/// A call of `save`.
+const SAVE_EXAMPLE: &str = "\
+Example:
+  $ vrepl save --hex examples/workflows/one_shard.json examples/one_insert.hex \\
+      < examples/copy_one.script > one_row.checkpoint
+
+The replies to the script aren't printed.";
+
+/// A call of `resume` and what it prints.
+const RESUME_EXAMPLE: &str = "\
+Example:
+  $ vrepl resume --hex --checkpoint examples/checkpoints/two_rows.checkpoint \\
+      examples/workflows/one_shard.json examples/feeds/four_groups.hex \\
+      < examples/go_on.script
+  state 0 Running read 2 applied 2 snapshot none done 1 of 1 at 3e11fa47-71ca-11e1-9e33-c80aa9429562:1-2
+  read 3
+  applied 3
+  table t
+  x31\tx61
+  x32\tx62
+  x33\tx63
+
+The rows of the checkpoint are compared with those that the feeds leave.";
+
+/// A call of `vdiff`, what it prints, and its status.
+const VDIFF_EXAMPLE: &str = "\
+Example:
+  $ vrepl vdiff examples/workflows/one_shard.json \\
+      examples/dumps/source.dump examples/dumps/target.dump
+  processed 4
+  matching 1
+  mismatched 1
+  extra source 1
+  extra target 1
+  first table t key x32
+
+The status is 0 where the dumps are of the same rows, and 3 where they differ.";
+
+/// The program: its words are those of a subcommand.
+pub(crate) fn program<'w>(alloc: Global) -> Result<Command<'w>, AllocError>
+    ensures { IfOk result (HasApp program_app) }
+{
+    let command = bare_program(alloc);
+    let command = with_subcommand(command, show_command(alloc));
+    let command = with_subcommand(command, step_command(alloc));
+    let command = with_subcommand(command, run_command(alloc));
+    let command = with_subcommand(command, vdiff_command(alloc));
+    let command = with_subcommand(command, save_command(alloc));
+    with_subcommand(command, resume_command(alloc))
+}
+
+/// The program without its subcommands.
+fn bare_program<'w>(alloc: Global) -> Result<Command<'w>, AllocError>
+    ensures { IfOk result (HasApp bare_app) }
+{
+    let command = Command::new(alloc, "vrepl").bin_name("vrepl")?;
+    Ok(
+        command
+            .about("The target side of VReplication over recorded VStream feeds")
+            .no_binary_name(true)
+            .subcommand_required(true)
+            .disable_help_subcommand(true),
+    )
+}
+
+/// The command with one more subcommand, unless memory ran out for one of the two.
+fn with_subcommand<'w>(
+    command: Result<Command<'w>, AllocError>,
+    sub: Result<Command<'w>, AllocError>,
+) -> Result<Command<'w>, AllocError>
+    ensures { (app leaf : App) → IfOk command.entry (HasApp app) → IfOk sub.entry (HasApp leaf) → IfOk result (HasApp (with_subcommand app leaf.top)) }
+{
+    let command = command?;
+    let sub = sub?;
+    command.subcommand(sub)
+}
+
+fn show_command<'w>(alloc: Global) -> Result<Command<'w>, AllocError>
+    ensures { IfOk result (IsSubcommand show_subcommand) }
+{
+    let feed_help = "The feed's file, or - for standard input";
+    let about = "Prints the transactions of a feed with their positions";
+    let command = Ok(bare(alloc, "show", about, SHOW_EXAMPLE));
+    let command = with_arg(command, hex(alloc));
+    let command = with_arg(
+        command,
+        option(alloc, "keyspace", "K", "The feed's keyspace"),
+    );
+    let shard_help = "The feed's shard, as --shard=-80";
+    let command = with_arg(command, option(alloc, "shard", "S", shard_help));
+    with_arg(command, operand(alloc, "feed", "FEED", feed_help))
+}
+
+fn step_command<'w>(alloc: Global) -> Result<Command<'w>, AllocError>
+    ensures { IfOk result (IsSubcommand step_subcommand) }
+{
+    let about = "Takes the steps of a script on standard input over a workflow and its feeds";
+    let command = Ok(bare(alloc, "step", about, STEP_EXAMPLE));
+    with_streams(alloc, with_arg(command, hex(alloc)))
+}
+
+fn run_command<'w>(alloc: Global) -> Result<Command<'w>, AllocError>
+    ensures { IfOk result (IsSubcommand run_subcommand) }
+{
+    let alone_help = "Runs the streams one after another, without threads";
+    let rows_help = "The rows that are copied at a time, 1000 unless given";
+    let ahead_help = "The groups that are read before a snapshot is opened, 100 unless given";
+    let chunks_help = "The chunks that are copied of a snapshot, 4 unless given";
+    let about = "Runs the streams of a workflow to their feeds' ends, and prints the target's rows";
+    let command = Ok(bare(alloc, "run", about, RUN_EXAMPLE));
+    let command = with_arg(command, hex(alloc));
+    let command = with_arg(command, flag(alloc, "alone", alone_help));
+    let command = with_arg(command, option(alloc, "rows", "N", rows_help));
+    let command = with_arg(command, option(alloc, "ahead", "N", ahead_help));
+    with_streams(
+        alloc,
+        with_arg(command, option(alloc, "chunks", "N", chunks_help)),
+    )
+}
+
+fn save_command<'w>(alloc: Global) -> Result<Command<'w>, AllocError>
+    ensures { IfOk result (IsSubcommand save_subcommand) }
+{
+    let about = "Writes the checkpoint of the board behind a script on standard input";
+    let command = Ok(bare(alloc, "save", about, SAVE_EXAMPLE));
+    with_streams(alloc, with_arg(command, hex(alloc)))
+}
+
+fn resume_command<'w>(alloc: Global) -> Result<Command<'w>, AllocError>
+    ensures { IfOk result (IsSubcommand resume_subcommand) }
+{
+    let about = "Takes the steps of a script on standard input on the board of a checkpoint";
+    let command = Ok(bare(alloc, "resume", about, RESUME_EXAMPLE));
+    let command = with_arg(command, hex(alloc));
+    let checkpoint = needed(alloc, "checkpoint", "FILE", "The checkpoint's file");
+    with_streams(alloc, with_arg(command, checkpoint))
+}
+
+fn vdiff_command<'w>(alloc: Global) -> Result<Command<'w>, AllocError>
+    ensures { IfOk result (IsSubcommand vdiff_subcommand) }
+{
+    let about = "Compares two dumps of a workflow's tables";
+    let command = Ok(bare(alloc, "vdiff", about, VDIFF_EXAMPLE));
+    let command = with_arg(command, workflow(alloc));
+    let source = operand(alloc, "source", "SOURCE", "The source's dump");
+    let command = with_arg(command, source);
+    with_arg(
+        command,
+        operand(alloc, "target", "TARGET", "The target's dump"),
+    )
+}
+
+/// A subcommand without its arguments.
+fn bare<'w>(alloc: Global, name: &'w str, about: &'w str, example: &'w str) -> Command<'w>
+    ensures { HasApp (new_app name.entry.now) result }
+{
+    Command::new(alloc, name).about(about).after_help(example)
+}
+
+/// The command with one more argument, unless memory ran out.
+fn with_arg<'w>(
+    command: Result<Command<'w>, AllocError>,
+    arg: Arg<'w>,
+) -> Result<Command<'w>, AllocError>
+    ensures { (app : App) (rule : Rule) → IfOk command.entry (HasApp app) → HasRule rule arg.entry → IfOk result (HasApp (with_rule app rule)) }
+{
+    let command = command?;
+    command.arg(arg)
+}
+
+/// The command with a workflow and the feeds of its streams, unless memory ran out.
+fn with_streams<'w>(
+    alloc: Global,
+    command: Result<Command<'w>, AllocError>,
+) -> Result<Command<'w>, AllocError>
+    ensures { (app : App) → IfOk command.entry (HasApp app) → IfOk result (HasApp (with_rule (with_rule app (operand_rule (codes "workflow"))) (operands_rule (codes "feed")))) }
+{
+    let feed_help = "A feed's file for each stream, in their order";
+    let command = with_arg(command, workflow(alloc));
+    with_arg(command, operands(alloc, "feed", "FEED", feed_help))
+}
+
+/// Whether feeds are hexadecimal text.
+fn hex<'w>(alloc: Global) -> Arg<'w>
+    ensures { HasRule (flag_rule (codes "hex")) result }
+{
+    flag(alloc, "hex", "Reads feeds as hexadecimal text")
+}
+
+/// The workflow's file.
+fn workflow<'w>(alloc: Global) -> Arg<'w>
+    ensures { HasRule (operand_rule (codes "workflow")) result }
+{
+    operand(alloc, "workflow", "WORKFLOW", "The workflow's file")
+}
+
+/// `--name`.
+fn flag<'w>(alloc: Global, name: &'w str, help: &'w str) -> Arg<'w>
+    ensures { HasRule (flag_rule name.entry.now) result }
+{
+    Arg::new(alloc, name)
+        .long(name)
+        .action(ArgAction::SetTrue)
+        .help(help)
+}
+
+/// `--name TEXT`, which may be left out.
+fn option<'w>(alloc: Global, name: &'w str, value: &'w str, help: &'w str) -> Arg<'w>
+    ensures { HasRule (option_rule name.entry.now) result }
+{
+    Arg::new(alloc, name)
+        .long(name)
+        .value_name(value)
+        .help(help)
+}
+
+/// `--name TEXT`, which has to be there.
+fn needed<'w>(alloc: Global, name: &'w str, value: &'w str, help: &'w str) -> Arg<'w>
+    ensures { HasRule (needed_rule name.entry.now) result }
+{
+    option(alloc, name, value, help).required(true)
+}
+
+/// `TEXT` in its place, which has to be there.
+fn operand<'w>(alloc: Global, name: &'w str, value: &'w str, help: &'w str) -> Arg<'w>
+    ensures { HasRule (operand_rule name.entry.now) result }
+{
+    Arg::new(alloc, name)
+        .value_name(value)
+        .required(true)
+        .help(help)
+}
+
+/// `TEXT..` in its place, once or more often.
+fn operands<'w>(alloc: Global, name: &'w str, value: &'w str, help: &'w str) -> Arg<'w>
+    ensures { HasRule (operands_rule name.entry.now) result }
+{
+    operand(alloc, name, value, help).num_args(1..)
+}

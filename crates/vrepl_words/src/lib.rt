@@ -1,0 +1,9 @@
+//! The words of the program `vrepl`: `clap` reads them, and here is what they ask for.
+#![tactic(auto)]
+
+mod commands;
+pub mod portions;
+pub mod usage;
+pub mod words;
+
+pub use clap::Error;
