@@ -1,5 +1,6 @@
 //! Positions as texts, by the MySQL manual on sets of GTIDs and the Vitess documents.
 
+use crate::texts::prints;
 use gtid_set::*;
 use std::alloc::{AllocError, Global};
 
@@ -93,12 +94,6 @@ fn are_intervals(alloc: Global, rows: &[(&str, Option<u8>)]) -> Result<bool, All
 #[test]
 fn interval_limit(rt: HostRuntime) {
     assert!(rt; matches!(are_intervals(rt.alloc(), INTERVALS), Ok(true)));
-}
-
-/// The set prints this text.
-fn prints(alloc: Global, set: &GtidSet, wanted: &str) -> Result<bool, AllocError> {
-    let text = format!(in alloc; "{set}")?;
-    Ok(text.as_str() == wanted)
 }
 
 /// The text is read as a set that prints this one.
@@ -214,11 +209,31 @@ fn union_of(alloc: Global, one: &str, other: &str) -> Result<GtidSet, GtidFault>
     one.union(alloc, &other)
 }
 
-/// Whether a union prints this text, and has the first set within it but not the other way round.
+/// The position of a text is within the set.
+fn is_within(alloc: Global, text: &str, set: &GtidSet) -> bool {
+    match GtidSet::parse(alloc, text) {
+        Ok(one) => one.is_within(set),
+        Err(_) => false,
+    }
+}
+
+/// The set is within the position of a text.
+fn lies_within(alloc: Global, set: &GtidSet, text: &str) -> bool {
+    match GtidSet::parse(alloc, text) {
+        Ok(one) => set.is_within(&one),
+        Err(_) => true,
+    }
+}
+
+/// Whether a union prints this text, and has both sets within it but not the other way round.
 fn is_union(alloc: Global, one: &str, other: &str, wanted: &str) -> Result<bool, GtidFault> {
     let both = union_of(alloc, one, other)?;
-    let one = GtidSet::parse(alloc, one)?;
-    Ok(one.is_within(&both) && !both.is_within(&one) && prints(alloc, &both, wanted)?)
+    Ok(
+        is_within(alloc, one, &both)
+            && is_within(alloc, other, &both)
+            && !lies_within(alloc, &both, one)
+            && prints(alloc, &both, wanted)?,
+    )
 }
 
 #[test]
@@ -289,33 +304,23 @@ fn even_numbers(alloc: Global, count: u32) -> Result<String, AllocError> {
     Ok(text)
 }
 
-/// Whether a set has 70,000 intervals and of the last numbers 140,000 alone, prints its text, and is its
-/// copy.
-fn stands(alloc: Global, set: &GtidSet, text: &str) -> Result<bool, GtidFault> {
+/// Whether a text is a set of 70,000 intervals that has of the last numbers 140,000 alone, prints the text,
+/// and is its copy.
+fn stands(alloc: Global, text: &str) -> Result<bool, GtidFault> {
+    let set = GtidSet::parse(alloc, text)?;
     let copy = set.try_clone(alloc)?;
     let is_whole = set.intervals().len() == 70_000
         && set.contains(&U_BYTES, 140_000)
         && !set.contains(&U_BYTES, 139_999);
-    Ok(is_whole && copy == *set && prints(alloc, set, text)?)
+    Ok(is_whole && copy == set && prints(alloc, &set, text)?)
 }
 
-/// Whether a union with the number behind the last has no interval more, and more numbers.
-fn grows_behind(alloc: Global, set: &GtidSet) -> Result<bool, GtidFault> {
-    let behind = GtidSet::parse(alloc, "3e11fa47-71ca-11e1-9e33-c80aa9429562:140001-140002")?;
-    let both = set.union(alloc, &behind)?;
-    Ok(
-        both.intervals().len() == 70_000
-            && set.is_within(&both)
-            && behind.is_within(&both)
-            && !both.is_within(set),
-    )
-}
-
-/// Whether 70,000 intervals are a set, and a union of it.
+/// Whether 70,000 intervals are a set, and a union with the numbers behind the last has no interval more.
 fn are_many_intervals(alloc: Global) -> Result<bool, GtidFault> {
     let text = even_numbers(alloc, 70_000)?;
-    let set = GtidSet::parse(alloc, text.as_str())?;
-    Ok(stands(alloc, &set, text.as_str())? && grows_behind(alloc, &set)?)
+    let behind = "3e11fa47-71ca-11e1-9e33-c80aa9429562:140001-140002";
+    let wanted = format!(in alloc; "{text}-140002")?;
+    Ok(stands(alloc, text.as_str())? && is_union(alloc, text.as_str(), behind, wanted.as_str())?)
 }
 
 /// And union_of_many_intervals.

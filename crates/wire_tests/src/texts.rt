@@ -7,11 +7,20 @@ use std::alloc::{AllocError, Global};
 use std::fmt::Display;
 use vevent::EventFault;
 
+/// The value prints this text.
+pub(crate) fn prints<T: Display>(
+    alloc: Global,
+    value: &T,
+    wanted: &str,
+) -> Result<bool, AllocError> {
+    let text = format!(in alloc; "{value}")?;
+    Ok(text.as_str() == wanted)
+}
+
 /// Whether each value prints the text beside it.
 fn print<T: Display>(alloc: Global, rows: &[(T, &str)]) -> Result<bool, AllocError> {
     for (value, wanted) in rows {
-        let text = format!(in alloc; "{value}")?;
-        if text.as_str() != *wanted {
+        if !prints(alloc, value, wanted)? {
             return Ok(false);
         }
     }

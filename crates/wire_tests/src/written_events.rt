@@ -4,19 +4,20 @@
 use crate::events::{BROKEN_ROW, GROUP, are_columns};
 use crate::rows::has_columns;
 use crate::samples::{READ_RESPONSE, RESPONSE, SAMPLE_ANSWER, SAMPLE_PART};
-use proto_wire::put_bytes_head;
+use proto_wire::Parts;
 use row_view::*;
 use std::alloc::{AllocError, Global};
 use vevent::*;
 
-/// The event of these bytes is written so.
+/// The event of these bytes is written so, in as many bytes as were reckoned.
 fn is_rewritten(alloc: Global, event: &[u8], wanted: &[u8]) -> Result<bool, AllocError> {
     let Ok(event) = Event::read(event) else {
         return Ok(false);
     };
+    let size = event_size(&event)?;
     let mut out = Vec::new(alloc);
     write_event(&mut out, &event)?;
-    Ok(out.as_slice() == wanted)
+    Ok(size == wanted.len() && out.as_slice() == wanted)
 }
 
 /// Events that are written as they stand.
@@ -80,32 +81,16 @@ fn fields_that_are_not_read_are_left_out(rt: HostRuntime) {
     assert!(rt; matches!(are_rewritten(rt.alloc(), CHANGED), Ok(true)));
 }
 
-/// Appends an event as a part of a response.
-fn put_event(out: &mut Vec<u8>, event: &Event<'_>) -> Result<(), AllocError> {
-    put_bytes_head(out, 1, event_size(event)?)?;
-    write_event(out, event)
-}
-
-/// The events of a response as they are written, a response again, up to its end.
-fn rewritten_response(alloc: Global, bytes: &[u8]) -> Result<Option<Vec<u8>>, AllocError> {
-    let mut response = Response::new(bytes);
-    let mut out = Vec::new(alloc);
-    for _ in 0..100 {
-        match response.next_event() {
-            Ok(Some(event)) => put_event(&mut out, &event)?,
-            Ok(None) => return Ok(Some(out)),
-            Err(_) => return Ok(None),
+/// Whether each event of a response is written as the part of another beside it.
+fn is_response(alloc: Global, bytes: &[u8], wanted: &[u8]) -> Result<bool, AllocError> {
+    let mut others = Parts::new(wanted, 1);
+    for event in Parts::new(bytes, 1) {
+        match others.next() {
+            Some(other) if is_rewritten(alloc, event, other)? => {}
+            _ => return Ok(false),
         }
     }
-    Ok(None)
-}
-
-/// Whether a response is written so.
-fn is_response(alloc: Global, bytes: &[u8], wanted: &[u8]) -> Result<bool, AllocError> {
-    match rewritten_response(alloc, bytes)? {
-        Some(written) => Ok(written.as_slice() == wanted),
-        None => Ok(false),
-    }
+    Ok(others.next().is_none())
 }
 
 /// What is written of a response by Google's library is what that library writes where it leaves out
