@@ -1,26 +1,26 @@
-//! Tests of the board: the step table, its steps, joins, and lists of steps on several streams.
+//! Tests of the board: the step table, its calls, joins, runs, and lists of steps on several streams.
 #![tactic(auto)]
 
 #[cfg(test)]
 mod boards;
 #[cfg(test)]
-mod copies;
-#[cfg(test)]
 mod feeds;
 #[cfg(test)]
-mod follow;
-#[cfg(test)]
 mod joins;
+#[cfg(test)]
+mod own_rows;
 #[cfg(test)]
 mod random_steps;
 #[cfg(test)]
 mod runs;
 #[cfg(test)]
-mod saves;
-#[cfg(test)]
-mod schedule_feeds;
-#[cfg(test)]
 mod schedules;
+#[cfg(test)]
+mod setup;
+#[cfg(test)]
+mod shown;
+#[cfg(test)]
+mod sides;
 #[cfg(test)]
 mod slow;
 #[cfg(test)]

@@ -1,12 +1,12 @@
 //! Random steps on three streams, one by one and as one list.
 
-use crate::schedule_feeds::{Cells, Change, push_group};
-use crate::schedules::{OF_THREE, all_have_rows, open, prepared, run, show_alike};
+use crate::feeds::{Change, Row, push_group};
+use crate::own_rows::{Groups, all_have_rows, all_prepared, show_alike};
+use crate::setup::{THREE, board_of, feeds_of, run};
 use apply_core::*;
-use source_feed::{Feed, Prepared};
+use source_feed::Feed;
 use std::alloc::{AllocError, Global};
-use std::sync::Arc;
-use std::test::Fail;
+use std::test::*;
 use stream_core::{Cursor, Step};
 
 /// The next of some numbers that look random.
@@ -15,7 +15,7 @@ fn next(seed: u32) -> u32 {
 }
 
 /// A row of stream `s`: one of four numbers, of which it shares two with each neighbour.
-fn cells(seed: u32, s: u8) -> Cells {
+fn row(seed: u32, s: u8) -> Row {
     (
         s % 3 * 2 + ((seed >> 20) % 4) as u8,
         b'a' + ((seed >> 26) % 3) as u8,
@@ -24,14 +24,10 @@ fn cells(seed: u32, s: u8) -> Cells {
 
 /// An insert, an update or a delete.
 fn random_change(seed: u32, s: u8) -> Change {
-    let kind = (seed >> 12) % 4;
-    Change {
-        before: if kind < 2 { None } else { Some(cells(seed, s)) },
-        after: if kind == 2 {
-            None
-        } else {
-            Some(cells(next(seed), s))
-        },
+    match (seed >> 12) % 4 {
+        0 | 1 => (None, Some(row(next(seed), s))),
+        2 => (Some(row(seed, s)), None),
+        _ => (Some(row(seed, s)), Some(row(next(seed), s))),
     }
 }
 
@@ -53,6 +49,15 @@ fn random_feed(alloc: Global, seed: u32, s: u8) -> Result<Vec<u8>, AllocError> {
     Ok(feed)
 }
 
+/// The feeds of three streams.
+fn random_feeds(alloc: Global) -> Result<Vec<Vec<u8>>, AllocError> {
+    let mut feeds = Vec::new(alloc);
+    for (seed, s) in [(1, 0), (77, 1), (4_711, 2)] {
+        feeds.push(random_feed(alloc, seed, s)?)?;
+    }
+    Ok(feeds)
+}
+
 /// A step that a stream may take where it stands, or that it may not.
 fn random_step(seed: u32, cursor: &Cursor) -> Step {
     match (seed >> 13) % 16 {
@@ -67,6 +72,9 @@ fn random_step(seed: u32, cursor: &Cursor) -> Step {
     }
 }
 
+/// A step that was taken: its stream, the step, and the number of its refusal, 0 where it wasn't refused.
+type Taken = (u8, Step, u8);
+
 /// The number of a step's refusal; 0 where it isn't refused.
 fn number(reply: &Result<Answer, StepRefusal>) -> u8 {
     match reply {
@@ -75,84 +83,131 @@ fn number(reply: &Result<Answer, StepRefusal>) -> u8 {
     }
 }
 
-/// Takes random steps, one by one, on a board of three streams. The answer is the steps with the number of
-/// each refusal, up to the first behind which a stream hasn't the rows of the definition.
+/// Takes the random step of a seed.
+fn random_taken<'h>(
+    alloc: Global,
+    board: &mut Board<'h>,
+    feeds: &[Feed<'h>],
+    seed: u32,
+) -> Option<Taken> {
+    let s = ((seed >> 28) % 3) as u8;
+    let Ok(cursor) = board.state(s) else {
+        return None;
+    };
+    let step = random_step(next(seed), &cursor);
+    let refused = number(&board.take_step(alloc, feeds, s, step));
+    Some((s, step, refused))
+}
+
+/// Takes 400 random steps, one by one, on a board of three streams. The answer is these steps; none, where
+/// behind one of them a stream hasn't the rows of the definition.
 fn wander<'h>(
     alloc: Global,
     board: &mut Board<'h>,
     feeds: &[Feed<'h>],
-    lists: &[Vec<Arc<Prepared<'h>>>],
-) -> Result<Vec<(u8, Step, u8)>, Fail> {
-    let mut taken = Vec::new(alloc);
+    lists: &[Groups<'h>],
+) -> Option<Vec<Taken>> {
+    let mut all = Vec::new(alloc);
     let mut seed = 2_026;
     for _ in 0..400 {
         seed = next(seed);
-        let s = ((seed >> 28) % 3) as u8;
-        let step = random_step(next(seed), &board.state(s)?);
-        let reply = board.take_step(alloc, feeds, s, step);
-        taken.push((s, step, number(&reply)))?;
-        if !all_have_rows(alloc, board, lists)? {
-            break;
+        let taken = random_taken(alloc, board, feeds, seed)?;
+        if all.push(taken).is_err() || !all_have_rows(alloc, board, lists) {
+            return None;
         }
     }
-    Ok(taken)
+    Some(all)
+}
+
+/// The steps without their refusals.
+fn steps_of(alloc: Global, taken: &[Taken]) -> Option<Vec<(u8, Step)>> {
+    let mut steps = Vec::new(alloc);
+    for (s, step, _) in taken {
+        if steps.push((*s, *step)).is_err() {
+            return None;
+        }
+    }
+    Some(steps)
+}
+
+/// Whether these replies have the refusals of the steps.
+fn are_replies(replies: &[Result<Answer, StepRefusal>], taken: &[Taken]) -> bool {
+    for (reply, (_, _, refused)) in replies.iter().zip(taken) {
+        if number(reply) != *refused {
+            return false;
+        }
+    }
+    replies.len() == taken.len()
 }
 
 /// Whether the steps, as one list, have the same refusals and leave the same board.
-fn again<'h>(
-    alloc: Global,
-    board: &Board<'h>,
-    feeds: &[Feed<'h>],
-    taken: &[(u8, Step, u8)],
-) -> Result<bool, Fail> {
-    let mut steps = Vec::new(alloc);
-    for (s, step, _) in taken {
-        steps.push((*s, *step))?;
+fn again<'h>(alloc: Global, board: &Board<'h>, feeds: &[Feed<'h>], taken: &[Taken]) -> bool {
+    let Some(steps) = steps_of(alloc, taken) else {
+        return false;
+    };
+    match run(alloc, THREE, feeds, &steps) {
+        Ok((other, replies)) => are_replies(&replies, taken) && show_alike(alloc, board, &other),
+        Err(_) => false,
     }
-    let (other, replies) = run(alloc, OF_THREE, feeds, &steps)?;
-    let mut same = replies.len() == taken.len();
-    for (reply, (_, _, refused)) in replies.iter().zip(taken) {
-        same &= number(reply) == *refused;
+}
+
+/// Whether a step was refused by a number.
+fn was_refused(taken: &[Taken], number: u8) -> bool {
+    for step in taken {
+        if step.2 == number {
+            return true;
+        }
     }
-    Ok(same && show_alike(alloc, board, &other)?)
+    false
 }
 
 /// Whether steps were made, and others refused by each of these numbers.
-fn were_of_each_kind(taken: &[(u8, Step, u8)]) -> bool {
-    [0u8, 71, 91, 101, 102, 103, 104, 105, 108, 109]
-        .iter()
-        .all(|number| taken.iter().any(|step| step.2 == *number))
-}
-
-/// All groups of each feed, prepared.
-fn all_prepared<'h>(
-    alloc: Global,
-    feeds: &[Feed<'h>],
-) -> Result<Vec<Vec<Arc<Prepared<'h>>>>, Fail> {
-    let mut lists = Vec::new(alloc);
-    for feed in feeds {
-        lists.push(prepared(alloc, feed)?)?;
+fn were_of_each_kind(taken: &[Taken]) -> bool {
+    for number in [0u8, 71, 91, 101, 102, 103, 104, 105, 108, 109] {
+        if !was_refused(taken, number) {
+            return false;
+        }
     }
-    Ok(lists)
+    true
 }
 
 /// Whether every stream has the definition's rows behind each of 400 random steps, and the same steps, as
 /// one list, are answered the same.
-fn follow_random_steps<'h>(alloc: Global, feeds: &[Feed<'h>]) -> Result<bool, Fail> {
-    let lists = all_prepared(alloc, feeds)?;
-    let (mut board, _) = run(alloc, OF_THREE, feeds, &[])?;
-    let taken = wander(alloc, &mut board, feeds, &lists)?;
-    let whole = taken.len() == 400 && were_of_each_kind(&taken);
-    let have_rows = all_have_rows(alloc, &board, &lists)?;
-    Ok(whole && have_rows && again(alloc, &board, feeds, &taken)?)
+fn follows_random_steps<'h>(
+    alloc: Global,
+    board: &mut Board<'h>,
+    feeds: &[Feed<'h>],
+    lists: &[Groups<'h>],
+) -> bool {
+    match wander(alloc, board, feeds, lists) {
+        Some(taken) => were_of_each_kind(&taken) && again(alloc, board, feeds, &taken),
+        None => false,
+    }
+}
+
+/// The same of a board of three streams over these feeds.
+fn board_follows<'h>(alloc: Global, feeds: &[Feed<'h>]) -> bool {
+    let Some(lists) = all_prepared(alloc, feeds) else {
+        return false;
+    };
+    match board_of(alloc, THREE) {
+        Some(mut board) => follows_random_steps(alloc, &mut board, feeds, &lists),
+        None => false,
+    }
+}
+
+/// The same over the random feeds.
+fn random_feeds_are_followed(alloc: Global) -> bool {
+    let Ok(bytes) = random_feeds(alloc) else {
+        return false;
+    };
+    match feeds_of(alloc, THREE, &bytes) {
+        Some(feeds) => board_follows(alloc, &feeds),
+        None => false,
+    }
 }
 
 #[test]
-fn random_steps_on_three_streams(rt: HostRuntime) -> Result<(), Fail> {
-    let first = random_feed(rt.alloc(), 1, 0)?;
-    let second = random_feed(rt.alloc(), 77, 1)?;
-    let third = random_feed(rt.alloc(), 4_711, 2)?;
-    let feeds = open(rt.alloc(), OF_THREE, &[&first, &second, &third])?;
-    assert!(rt; follow_random_steps(rt.alloc(), &feeds)?);
-    Ok(())
+fn random_steps_on_three_streams(rt: HostRuntime) {
+    assert!(rt; random_feeds_are_followed(rt.alloc()));
 }

@@ -1,137 +1,172 @@
 //! Runs of all streams to their feeds' ends, one after another.
 
-use crate::feeds::{Change, ONE, OTHER_TABLE, TWO, feed_of, feeds_of, plans_of};
-use crate::follow::{shows, stands};
+use crate::feeds::{Change, NO_NUMBER, Source};
+use crate::setup::{ONE, OTHER_TABLE, TWO, feeds_of, made, plans_of};
+use crate::shown::{Stand, shows, stands};
 use apply_core::Board;
+use source_feed::Feed;
 use std::alloc::Global;
-use std::test::Fail;
+use std::test::*;
 use stream_core::Phase;
 use stream_worker::{Policy, RunRefusal, run_alone};
 
 /// Three groups: two new rows; one changed and one new; one that goes.
 const ROWS: &[&[Change]] = &[
-    &[(None, Some((b"1", b"a"))), (None, Some((b"4", b"d")))],
-    &[
-        (Some((b"1", b"a")), Some((b"1", b"b"))),
-        (None, Some((b"2", b"c"))),
-    ],
-    &[(Some((b"4", b"d")), None)],
+    &[(None, Some((1, b'a'))), (None, Some((4, b'd')))],
+    &[(Some((1, b'a')), Some((1, b'b'))), (None, Some((2, b'c')))],
+    &[(Some((4, b'd')), None)],
 ];
 
 /// Two groups of one new row each.
-const OTHERS: &[&[Change]] = &[
-    &[(None, Some((b"11", b"k")))],
-    &[(None, Some((b"12", b"l")))],
-];
+const OTHERS: &[&[Change]] = &[&[(None, Some((11, b'k')))], &[(None, Some((12, b'l')))]];
 
 /// A group of a row that the first feed has too.
-const FOREIGN: &[&[Change]] = &[&[(None, Some((b"1", b"z")))]];
+const FOREIGN: &[&[Change]] = &[&[(None, Some((1, b'z')))]];
 
 /// A sound group, and one whose row's key is no number.
 const UNSOUND: &[&[Change]] = &[
-    &[(None, Some((b"11", b"k")))],
-    &[(None, Some((b"x", b"l")))],
+    &[(None, Some((11, b'k')))],
+    &[(None, Some((NO_NUMBER, b'l')))],
 ];
 
-/// A policy of so many rows, groups and chunks.
-fn policy_of(portions: (u32, u32, u32)) -> Result<Policy, Fail> {
-    match Policy::new(portions.0, portions.1, portions.2) {
-        Some(policy) => Ok(policy),
-        None => Err("a policy".into()),
-    }
-}
+/// How many rows, groups and chunks are taken at once.
+type Portions = (u32, u32, u32);
 
-/// The board behind a run of the plans of a workflow over the feeds of another one.
-fn run_of<'h>(
+/// The board behind a run of a workflow's plans over feeds.
+fn run_over<'h>(
     alloc: Global,
-    workflows: (&[u8], &[u8]),
-    one: &'h [u8],
-    other: &'h [u8],
-    portions: (u32, u32, u32),
-) -> Result<Result<Board<'h>, RunRefusal>, Fail> {
-    let policy = policy_of(portions)?;
-    let plans = plans_of(alloc, workflows.0)?;
-    let feeds = feeds_of(alloc, workflows.1, one, other)?;
+    workflow: &[u8],
+    feeds: &[Feed<'h>],
+    portions: Portions,
+) -> Option<Result<Board<'h>, RunRefusal>> {
+    let policy = Policy::new(portions.0, portions.1, portions.2)?;
+    let plans = plans_of(alloc, workflow)?;
     if plans.is_empty() || plans.len() > 64 {
-        return Err("1 to 64 plans".into());
+        return None;
     }
-    Ok(run_alone(alloc, plans, &feeds, &policy))
+    Some(run_alone(alloc, plans, feeds, &policy))
 }
 
-/// Whether a run of two streams ends with both Running at their feeds' ends, and with these rows.
-fn ends_with(alloc: Global, portions: (u32, u32, u32), wanted: &[u8]) -> Result<bool, Fail> {
-    let one = feed_of(alloc, b'2', ROWS)?;
-    let other = feed_of(alloc, b'3', OTHERS)?;
-    let Ok(board) = run_of(alloc, (TWO, TWO), &one, &other, portions)? else {
-        return Ok(false);
+/// Whether a run of two streams by these portions ends with both Running at their feeds' ends, and with the rows.
+fn ends_by(alloc: Global, feeds: &[Feed<'_>], portions: Portions) -> bool {
+    match run_over(alloc, TWO, feeds, portions) {
+        Some(Ok(board)) => {
+            stands(&board, 0, (Phase::Running, 3, 3, None, 1))
+                && stands(&board, 1, (Phase::Running, 2, 2, None, 1))
+                && shows(alloc, &board, b"1b;2c;11k;12l;")
+        }
+        _ => false,
+    }
+}
+
+/// The same by each of these portions.
+fn ends_by_all(alloc: Global, bytes: &[Vec<u8>], all: &[Portions]) -> bool {
+    let Some(feeds) = feeds_of(alloc, TWO, bytes) else {
+        return false;
     };
-    Ok(
-        stands(&board, 0, (Phase::Running, 3, 3, None, 1))
-            && stands(&board, 1, (Phase::Running, 2, 2, None, 1))
-            && shows(alloc, &board, wanted)?,
-    )
+    for portions in all {
+        if !ends_by(alloc, &feeds, *portions) {
+            return false;
+        }
+    }
+    true
+}
+
+/// From the least to the greatest.
+const POLICIES: [Portions; 5] = [
+    (1, 1, 1),
+    (1, 2, 2),
+    (2, 1, 1),
+    (1000, 100, 4),
+    (1_000_000, 1_000_000, 1_000_000),
+];
+
+/// The same of the two sources' feeds.
+fn ends_by_any_policy(alloc: Global) -> bool {
+    match made(alloc, &[(b'2', ROWS), (b'3', OTHERS)]) {
+        Some(bytes) => ends_by_all(alloc, &bytes, &POLICIES),
+        None => false,
+    }
 }
 
 #[test]
-fn run_alone_has_the_same_rows_by_any_policy(rt: HostRuntime) -> Result<(), Fail> {
-    for portions in [
-        (1, 1, 1),
-        (1, 2, 2),
-        (2, 1, 1),
-        (1000, 100, 4),
-        (1_000_000, 1_000_000, 1_000_000),
-    ] {
-        assert!(rt; ends_with(rt.alloc(), portions, b"1b;2c;11k;12l;")?);
+fn run_alone_has_the_same_rows_by_any_policy(rt: HostRuntime) {
+    assert!(rt; ends_by_any_policy(rt.alloc()));
+}
+
+/// Whether a run of one stream over a feed ends so, without a row.
+fn ends_without_rows(alloc: Global, bytes: &[Vec<u8>], stand: Stand) -> bool {
+    let Some(feeds) = feeds_of(alloc, ONE, bytes) else {
+        return false;
+    };
+    match run_over(alloc, ONE, &feeds, (1, 1, 1)) {
+        Some(Ok(board)) => stands(&board, 0, stand) && shows(alloc, &board, b""),
+        _ => false,
     }
-    Ok(())
 }
 
 /// Whether a run of one stream over an empty feed ends at once.
-fn ends_at_once(alloc: Global) -> Result<bool, Fail> {
-    let Ok(board) = run_of(alloc, (ONE, ONE), b"", b"", (1, 1, 1))? else {
-        return Ok(false);
+fn ends_at_once(alloc: Global) -> bool {
+    match made(alloc, &[(b'2', &[])]) {
+        Some(bytes) => ends_without_rows(alloc, &bytes, (Phase::Running, 0, 0, None, 1)),
+        None => false,
+    }
+}
+
+#[test]
+fn run_alone_over_an_empty_feed(rt: HostRuntime) {
+    assert!(rt; ends_at_once(rt.alloc()));
+}
+
+/// A run that is refused: the workflow of its plans and the one that its feeds are opened under, its second
+/// source's groups, and the refusal's number with the owner of the row in the way, if one is.
+type Refused<'c> = (&'c [u8], &'c [u8], &'c [&'c [Change]], u8, u8);
+
+/// A row in the way, an unsound group, a feed too few and a feed of another plan.
+const REFUSED: [Refused<'static>; 4] = [
+    (TWO, TWO, FOREIGN, 71, 0),
+    (TWO, TWO, UNSOUND, 90, 0),
+    (TWO, ONE, OTHERS, 119, 0),
+    (OTHER_TABLE, ONE, OTHERS, 111, 0),
+];
+
+/// Whether a run over these bytes is refused so.
+fn is_refused(alloc: Global, bytes: &[Vec<u8>], run: Refused<'_>) -> bool {
+    let Some(feeds) = feeds_of(alloc, run.1, bytes) else {
+        return false;
     };
-    Ok(stands(&board, 0, (Phase::Running, 0, 0, None, 1)) && shows(alloc, &board, b"")?)
+    match run_over(alloc, run.0, &feeds, (1000, 100, 4)) {
+        Some(Err(RunRefusal::OwnedByOther { owner, .. })) => run.3 == 71 && owner == run.4,
+        Some(Err(refusal)) => refusal.number() == run.3,
+        _ => false,
+    }
+}
+
+/// Whether each run is refused so.
+fn are_refused(alloc: Global, runs: &[Refused<'_>]) -> bool {
+    for run in runs {
+        let sources: [Source<'_>; 2] = [(b'2', ROWS), (b'3', run.2)];
+        let Some(bytes) = made(alloc, &sources) else {
+            return false;
+        };
+        if !is_refused(alloc, &bytes, *run) {
+            return false;
+        }
+    }
+    true
 }
 
 #[test]
-fn run_alone_over_an_empty_feed(rt: HostRuntime) -> Result<(), Fail> {
-    assert!(rt; ends_at_once(rt.alloc())?);
-    Ok(())
-}
-
-/// The number by which a run is refused, and the owner of the row in the way; 0 where it isn't.
-fn refused(
-    alloc: Global,
-    workflows: (&[u8], &[u8]),
-    second: &[&[Change]],
-) -> Result<(u8, u8), Fail> {
-    let one = feed_of(alloc, b'2', ROWS)?;
-    let other = feed_of(alloc, b'3', second)?;
-    Ok(
-        match run_of(alloc, workflows, &one, &other, (1000, 100, 4))? {
-            Ok(_) => (0, 0),
-            Err(RunRefusal::OwnedByOther { owner, .. }) => (71, owner),
-            Err(refusal) => (refusal.number(), 0),
-        },
-    )
+fn run_alone_is_refused(rt: HostRuntime) {
+    assert!(rt; are_refused(rt.alloc(), &REFUSED));
 }
 
 #[test]
-fn run_alone_is_refused(rt: HostRuntime) -> Result<(), Fail> {
-    let alloc = rt.alloc();
-    assert!(rt; refused(alloc, (TWO, TWO), FOREIGN)? == (71, 0));
-    assert!(rt; refused(alloc, (TWO, TWO), UNSOUND)? == (90, 0));
-    assert!(rt; refused(alloc, (TWO, ONE), OTHERS)? == (119, 0));
-    assert!(rt; refused(alloc, (OTHER_TABLE, ONE), OTHERS)? == (111, 0));
-    Ok(())
-}
-
-#[test]
-fn portions_of_a_policy_are_from_one(rt: HostRuntime) -> Result<(), Fail> {
-    assert!(rt; Policy::new(1, 1, 1).is_some());
-    assert!(rt; Policy::new(0, 1, 1).is_none());
-    assert!(rt; Policy::new(1, 0, 1).is_none());
-    assert!(rt; Policy::new(1, 1, 0).is_none());
-    Ok(())
+fn portions_of_a_policy_are_from_one(rt: HostRuntime) {
+    assert!(rt;
+        Policy::new(1, 1, 1).is_some()
+            && Policy::new(0, 1, 1).is_none()
+            && Policy::new(1, 0, 1).is_none()
+            && Policy::new(1, 1, 0).is_none()
+    );
 }

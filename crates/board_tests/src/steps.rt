@@ -1,8 +1,16 @@
+//! The step table: what a step of one stream of one table answers, or is refused with.
+
 use std::test::*;
 use stream_core::*;
 
+/// The groups of a stream that are read and applied, and its open snapshot.
+type Stand = (u32, u32, Option<u32>);
+
+/// What a step answers and where the stream then stands, or the number that it is refused with.
+type Wanted = Result<(Answer, Stand), u8>;
+
 /// A stream of one table, of which nothing is copied.
-fn copying(read: u32, applied: u32, snapshot: Option<u32>) -> Option<Cursor> {
+fn copying((read, applied, snapshot): Stand) -> Option<Cursor> {
     match snapshot {
         Some(group) if group < applied || group > read => None,
         _ if applied > read => None,
@@ -10,111 +18,113 @@ fn copying(read: u32, applied: u32, snapshot: Option<u32>) -> Option<Cursor> {
     }
 }
 
-/// What a step of such a stream is refused with.
-fn refusal(cursor: Option<Cursor>, step: Step) -> Option<u8> {
-    match decide(&cursor?, step) {
-        Ok(_) => None,
-        Err(refusal) => Some(refusal.number()),
+/// Whether a stream stands so.
+fn stands(cursor: &Cursor, wanted: Stand) -> bool {
+    cursor.read() == wanted.0 && cursor.applied() == wanted.1 && cursor.snapshot() == wanted.2
+}
+
+/// Whether a step of a stream ends so.
+fn is_decided(cursor: &Cursor, step: Step, wanted: Wanted) -> bool {
+    match (decide(cursor, step), wanted) {
+        (Ok(made), Ok((answer, then))) => made.answer == answer && stands(&made.cursor, then),
+        (Err(refusal), Err(number)) => refusal.number() == number,
+        _ => false,
     }
 }
 
-/// What a step of such a stream answers, and the groups that are then read and applied, and the
-/// open snapshot.
-fn answer(cursor: Option<Cursor>, step: Step) -> Option<(Answer, u32, u32, Option<u32>)> {
-    match decide(&cursor?, step) {
-        Ok(made) => Some((
-            made.answer,
-            made.cursor.read(),
-            made.cursor.applied(),
-            made.cursor.snapshot(),
-        )),
-        Err(_) => None,
+/// Whether each step ends as is wanted.
+fn are_decided(table: &[(Stand, Step, Wanted)]) -> bool {
+    for (stand, step, wanted) in table {
+        let Some(cursor) = copying(*stand) else {
+            return false;
+        };
+        if !is_decided(&cursor, *step, *wanted) {
+            return false;
+        }
     }
+    true
 }
+
+/// Each step that may be refused of a stream that copies, and beside it one that isn't.
+const TABLE: [(Stand, Step, Wanted); 16] = [
+    // An offer that leaves a gap.
+    ((2, 1, None), Step::Offer(4), Err(101)),
+    (
+        (2, 1, None),
+        Step::Offer(3),
+        Ok((Answer::Read(3), (3, 1, None))),
+    ),
+    (
+        (2, 1, None),
+        Step::Offer(2),
+        Ok((Answer::Repeat(2), (2, 1, None))),
+    ),
+    // Nothing is read, or the snapshot is reached.
+    ((2, 2, None), Step::Advance, Err(102)),
+    (
+        (2, 1, None),
+        Step::Advance,
+        Ok((Answer::Applied(2), (2, 2, None))),
+    ),
+    ((2, 2, Some(2)), Step::Advance, Err(103)),
+    // A second snapshot, one behind what is applied, and one past what is read.
+    ((2, 1, Some(1)), Step::OpenAt(0), Err(105)),
+    ((2, 1, None), Step::OpenAt(0), Err(106)),
+    (
+        (2, 1, None),
+        Step::OpenAt(1),
+        Ok((Answer::Opened(1), (2, 1, Some(1)))),
+    ),
+    ((2, 1, None), Step::OpenAt(3), Err(107)),
+    // No snapshot is open, or it isn't reached.
+    ((2, 1, None), Step::CopyRows(5), Err(108)),
+    ((2, 1, None), Step::Close, Err(108)),
+    ((2, 1, Some(2)), Step::CopyRows(5), Err(109)),
+    (
+        (2, 2, Some(2)),
+        Step::CopyRows(5),
+        Ok((Answer::MayCopy(5), (2, 2, Some(2)))),
+    ),
+    // What is read ahead and the snapshot are forgotten.
+    (
+        (4, 1, Some(4)),
+        Step::Restart,
+        Ok((Answer::Restarted(1), (1, 1, None))),
+    ),
+    (
+        (2, 1, Some(2)),
+        Step::Close,
+        Ok((Answer::Closed, (2, 1, None))),
+    ),
+];
 
 #[test]
-fn offer_leaves_gap(rt: HostRuntime) {
-    assert_eq!(rt; refusal(copying(2, 1, None), Step::Offer(4)), Some(101));
-    assert_eq!(rt;
-        answer(copying(2, 1, None), Step::Offer(3)),
-        Some((Answer::Read(3), 3, 1, None))
-    );
-    assert_eq!(rt;
-        answer(copying(2, 1, None), Step::Offer(2)),
-        Some((Answer::Repeat(2), 2, 1, None))
-    );
+fn steps_of_a_stream_that_copies(rt: HostRuntime) {
+    assert!(rt; are_decided(&TABLE));
 }
 
-#[test]
-fn nothing_read(rt: HostRuntime) {
-    assert_eq!(rt; refusal(copying(2, 2, None), Step::Advance), Some(102));
-    assert_eq!(rt;
-        answer(copying(2, 1, None), Step::Advance),
-        Some((Answer::Applied(2), 2, 2, None))
-    );
-}
-
-#[test]
-fn advance_at_snapshot(rt: HostRuntime) {
-    assert_eq!(rt; refusal(copying(2, 2, Some(2)), Step::Advance), Some(103));
-}
-
+/// Of a stream whose one table is copied.
 #[test]
 fn open_when_all_copied(rt: HostRuntime) {
-    let running = Some(Cursor::new(2, 1, 1, 1, None));
-    assert_eq!(rt; refusal(running, Step::OpenAt(1)), Some(104));
-}
-
-#[test]
-fn second_open(rt: HostRuntime) {
-    assert_eq!(rt; refusal(copying(2, 1, Some(1)), Step::OpenAt(0)), Some(105));
-}
-
-#[test]
-fn open_behind_applied(rt: HostRuntime) {
-    assert_eq!(rt; refusal(copying(2, 1, None), Step::OpenAt(0)), Some(106));
-    assert_eq!(rt;
-        answer(copying(2, 1, None), Step::OpenAt(1)),
-        Some((Answer::Opened(1), 2, 1, Some(1)))
+    let running = Cursor::new(2, 1, 1, 1, None);
+    assert!(rt;
+        is_decided(&running, Step::OpenAt(1), Err(104)) && running.phase() == Phase::Running
     );
 }
 
-#[test]
-fn open_past_read(rt: HostRuntime) {
-    assert_eq!(rt; refusal(copying(2, 1, None), Step::OpenAt(3)), Some(107));
+/// Whether a stream that copies is in this phase.
+fn is_in(stand: Stand, phase: Phase) -> bool {
+    match copying(stand) {
+        Some(cursor) => cursor.phase() == phase,
+        None => false,
+    }
 }
 
 #[test]
-fn no_snapshot_open(rt: HostRuntime) {
-    assert_eq!(rt; refusal(copying(2, 1, None), Step::CopyRows(5)), Some(108));
-    assert_eq!(rt; refusal(copying(2, 1, None), Step::Close), Some(108));
-}
-
-#[test]
-fn copy_before_reached(rt: HostRuntime) {
-    assert_eq!(rt;
-        refusal(copying(2, 1, Some(2)), Step::CopyRows(5)),
-        Some(109)
+fn phases_of_a_stream_that_copies(rt: HostRuntime) {
+    assert!(rt;
+        is_in((2, 1, None), Phase::CatchUp)
+            && is_in((2, 1, Some(2)), Phase::FastForward)
+            && is_in((2, 2, Some(2)), Phase::Copy)
     );
-    assert_eq!(rt;
-        answer(copying(2, 2, Some(2)), Step::CopyRows(5)),
-        Some((Answer::MayCopy(5), 2, 2, Some(2)))
-    );
-}
-
-#[test]
-fn restart_forgets_what_is_read_ahead(rt: HostRuntime) {
-    assert_eq!(rt;
-        answer(copying(4, 1, Some(4)), Step::Restart),
-        Some((Answer::Restarted(1), 1, 1, None))
-    );
-}
-
-#[test]
-fn phases(rt: HostRuntime) {
-    let phase = |cursor: Option<Cursor>| Some(cursor?.phase());
-    assert_eq!(rt; Cursor::new(2, 1, 1, 1, None).phase(), Phase::Running);
-    assert_eq!(rt; phase(copying(2, 1, None)), Some(Phase::CatchUp));
-    assert_eq!(rt; phase(copying(2, 1, Some(2))), Some(Phase::FastForward));
-    assert_eq!(rt; phase(copying(2, 2, Some(2))), Some(Phase::Copy));
 }
