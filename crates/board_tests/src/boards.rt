@@ -4,7 +4,7 @@ use crate::feeds::{Change, Source};
 use crate::setup::{
     BY_VALUE, ONE, OTHER_TABLE, TWO, board_behind, board_of, feeds_of, group_of, made, plans_of,
 };
-use crate::shown::{shows, shows_of, stands};
+use crate::shown::{Stand, shows, shows_of, stands};
 use apply_core::{Board, Refusal};
 use gtid_set::GtidSet;
 use pk_copy::{Key, Mark};
@@ -161,6 +161,72 @@ fn streams_do_meet(alloc: Global) -> bool {
 #[test]
 fn streams_meet_in_a_key(rt: HostRuntime) {
     assert!(rt; streams_do_meet(rt.alloc()));
+}
+
+// ---- copies
+
+/// Steps on a board of one stream, where it then stands, and its rows.
+type Copied<'c> = (&'c [(u8, Step)], Stand, &'c [u8]);
+
+/// With an open snapshot before what is read last, and within a table.
+const COPIED: [Copied<'static>; 2] = [
+    (
+        &[
+            (0, Step::Offer(1)),
+            (0, Step::Offer(2)),
+            (0, Step::Advance),
+            (0, Step::OpenAt(2)),
+        ],
+        (Phase::FastForward, 2, 1, Some(2), 0),
+        b"",
+    ),
+    (
+        &[
+            (0, Step::Offer(1)),
+            (0, Step::Offer(2)),
+            (0, Step::Advance),
+            (0, Step::Advance),
+            (0, Step::OpenAt(2)),
+            (0, Step::CopyRows(1)),
+        ],
+        (Phase::Copy, 2, 2, Some(2), 0),
+        b"1a;",
+    ),
+];
+
+/// Whether a board and a copy of it show this.
+fn copy_shows(alloc: Global, board: &Board<'_>, wanted: &Copied<'_>) -> bool {
+    let Ok(copy) = board.try_clone(alloc) else {
+        return false;
+    };
+    stands(board, 0, wanted.1)
+        && stands(&copy, 0, wanted.1)
+        && shows(alloc, board, wanted.2)
+        && shows(alloc, &copy, wanted.2)
+}
+
+/// Whether each board, and its copy, shows what is wanted.
+fn copies_show(alloc: Global, bytes: &[Vec<u8>], all: &[Copied<'_>]) -> bool {
+    for wanted in all {
+        match board_behind(alloc, ONE, bytes, wanted.0) {
+            Some(board) if copy_shows(alloc, &board, wanted) => {}
+            _ => return false,
+        }
+    }
+    true
+}
+
+/// The same over the feed of four groups.
+fn four_groups_show(alloc: Global, all: &[Copied<'_>]) -> bool {
+    match made(alloc, &[(b'2', FOUR)]) {
+        Some(bytes) => copies_show(alloc, &bytes, all),
+        None => false,
+    }
+}
+
+#[test]
+fn copy_of_a_board_that_copies(rt: HostRuntime) {
+    assert!(rt; four_groups_show(rt.alloc(), &COPIED));
 }
 
 // ---- refusals

@@ -122,9 +122,9 @@ fn join_either_way_round(rt: HostRuntime) {
     assert!(rt;
         joins_both_ways(
             rt.alloc(),
-            &FIVE_TWO,
-            &THREE_FOUR,
-            Wanted::Joined(&FIVE_FOUR)
+            &five_two(),
+            &three_four(),
+            Wanted::Joined(&five_four())
         )
     );
 }
@@ -150,20 +150,14 @@ fn side_joins_with_its_copy(alloc: Global, side: &Side<'_>) -> bool {
 
 #[test]
 fn join_with_a_copy(rt: HostRuntime) {
-    assert!(rt; side_joins_with_its_copy(rt.alloc(), &THREE_FOUR));
+    assert!(rt; side_joins_with_its_copy(rt.alloc(), &three_four()));
 }
 
 /// One board is further on in both streams, and of as many applied groups the longer list counts.
 #[test]
 fn join_with_a_board_behind(rt: HostRuntime) {
-    assert!(rt;
-        joins_both_ways(
-            rt.alloc(),
-            &BEHIND,
-            &THREE_FOUR,
-            Wanted::Joined(&THREE_FOUR)
-        )
-    );
+    let further = three_four();
+    assert!(rt; joins_both_ways(rt.alloc(), &behind(), &further, Wanted::Joined(&further)));
 }
 
 /// The lists of stream 0 part at group 2.
@@ -172,8 +166,8 @@ fn boards_of_other_histories(rt: HostRuntime) {
     assert!(rt;
         joins(
             rt.alloc(),
-            &FIVE_TWO,
-            &OF_ANOTHER_HISTORY,
+            &five_two(),
+            &of_another_history(),
             Wanted::Refused(113, 0)
         )
     );
@@ -182,7 +176,7 @@ fn boards_of_other_histories(rt: HostRuntime) {
 /// A stream that isn't copied is told before another one's other history.
 #[test]
 fn boards_that_still_copy(rt: HostRuntime) {
-    assert!(rt; joins_both_ways(rt.alloc(), &FIVE_TWO, &COPYING, Wanted::Refused(114, 1)));
+    assert!(rt; joins_both_ways(rt.alloc(), &five_two(), &copying(), Wanted::Refused(114, 1)));
 }
 
 /// Whether boards of these plans, of which nothing is read, aren't joined.
@@ -201,9 +195,9 @@ fn boards_of_other_plans(rt: HostRuntime) {
 /// Both streams have rows at the keys 2 and 3 where they are further on: the least key, and the lower stream.
 #[test]
 fn streams_that_meet_in_a_join(rt: HostRuntime) {
-    let (first, second) = (&FIRST_AHEAD, &SECOND_AHEAD);
+    let (first, second) = (first_ahead(), second_ahead());
     assert!(rt;
-        joins(rt.alloc(), first, second, Wanted::Clash(0, b"2", b"b"))
-            && joins(rt.alloc(), second, first, Wanted::Clash(0, b"2", b"x"))
+        joins(rt.alloc(), &first, &second, Wanted::Clash(0, b"2", b"b"))
+            && joins(rt.alloc(), &second, &first, Wanted::Clash(0, b"2", b"x"))
     );
 }

@@ -45,7 +45,7 @@ const HIGH_GROUPS: &[&[Change]] = &[
     &[(None, Some((16, b'p')))],
 ];
 
-pub(crate) const LOW: Source<'static> = (b'2', LOW_GROUPS);
+const LOW: Source<'static> = (b'2', LOW_GROUPS);
 
 const HIGH: Source<'static> = (b'3', HIGH_GROUPS);
 
@@ -65,165 +65,90 @@ const MEETING: Source<'static> = (
     ],
 );
 
+/// A stream of a source, copied, of which so many groups are read and applied.
+fn running(source: Source<'static>, read: u32, applied: u32) -> Stream<'static> {
+    Stream {
+        source,
+        read,
+        applied,
+        copies: true,
+    }
+}
+
+/// A board of two streams.
+fn two(one: Stream<'static>, other: Stream<'static>, text: &'static [u8]) -> Side<'static> {
+    Side {
+        workflow: TWO,
+        streams: [one, other],
+        text,
+    }
+}
+
 /// A board at (5, 2), which has read as much.
-pub(crate) const FIVE_TWO: Side<'static> = Side {
-    workflow: TWO,
-    streams: [
-        Stream {
-            source: LOW,
-            read: 5,
-            applied: 5,
-            copies: true,
-        },
-        Stream {
-            source: HIGH,
-            read: 2,
-            applied: 2,
-            copies: true,
-        },
-    ],
-    text: b"1a;2b;3c;4d;5e;11k;12l;",
-};
+pub(crate) fn five_two() -> Side<'static> {
+    two(
+        running(LOW, 5, 5),
+        running(HIGH, 2, 2),
+        b"1a;2b;3c;4d;5e;11k;12l;",
+    )
+}
 
 /// A board at (3, 4), which has read more.
-pub(crate) const THREE_FOUR: Side<'static> = Side {
-    workflow: TWO,
-    streams: [
-        Stream {
-            source: LOW,
-            read: 6,
-            applied: 3,
-            copies: true,
-        },
-        Stream {
-            source: HIGH,
-            read: 5,
-            applied: 4,
-            copies: true,
-        },
-    ],
-    text: b"1a;2b;3c;11k;12l;13m;14n;",
-};
+pub(crate) fn three_four() -> Side<'static> {
+    two(
+        running(LOW, 6, 3),
+        running(HIGH, 5, 4),
+        b"1a;2b;3c;11k;12l;13m;14n;",
+    )
+}
 
 /// Of each stream of these two the state that is further on.
-pub(crate) const FIVE_FOUR: Side<'static> = Side {
-    workflow: TWO,
-    streams: [
-        Stream {
-            source: LOW,
-            read: 5,
-            applied: 5,
-            copies: true,
-        },
-        Stream {
-            source: HIGH,
-            read: 5,
-            applied: 4,
-            copies: true,
-        },
-    ],
-    text: b"1a;2b;3c;4d;5e;11k;12l;13m;14n;",
-};
+pub(crate) fn five_four() -> Side<'static> {
+    two(
+        running(LOW, 5, 5),
+        running(HIGH, 5, 4),
+        b"1a;2b;3c;4d;5e;11k;12l;13m;14n;",
+    )
+}
 
 /// A board that has applied as much as the second one or less.
-pub(crate) const BEHIND: Side<'static> = Side {
-    workflow: TWO,
-    streams: [
-        Stream {
-            source: LOW,
-            read: 3,
-            applied: 3,
-            copies: true,
-        },
-        Stream {
-            source: HIGH,
-            read: 5,
-            applied: 2,
-            copies: true,
-        },
-    ],
-    text: b"1a;2b;3c;11k;12l;",
-};
+pub(crate) fn behind() -> Side<'static> {
+    two(
+        running(LOW, 3, 3),
+        running(HIGH, 5, 2),
+        b"1a;2b;3c;11k;12l;",
+    )
+}
 
 /// A board whose first stream has read another second group.
-pub(crate) const OF_ANOTHER_HISTORY: Side<'static> = Side {
-    workflow: TWO,
-    streams: [
-        Stream {
-            source: PARTED,
-            read: 2,
-            applied: 1,
-            copies: true,
-        },
-        Stream {
-            source: HIGH,
-            read: 4,
-            applied: 4,
-            copies: true,
-        },
-    ],
-    text: b"1a;11k;12l;13m;14n;",
-};
+pub(crate) fn of_another_history() -> Side<'static> {
+    two(
+        running(PARTED, 2, 1),
+        running(HIGH, 4, 4),
+        b"1a;11k;12l;13m;14n;",
+    )
+}
 
 /// Such a board, of which the second stream isn't copied.
-pub(crate) const COPYING: Side<'static> = Side {
-    workflow: TWO,
-    streams: [
-        Stream {
-            source: PARTED,
-            read: 2,
-            applied: 1,
-            copies: true,
-        },
-        Stream {
-            source: HIGH,
-            read: 2,
-            applied: 1,
-            copies: false,
-        },
-    ],
-    text: b"1a;",
-};
+pub(crate) fn copying() -> Side<'static> {
+    let second = Stream {
+        source: HIGH,
+        read: 2,
+        applied: 1,
+        copies: false,
+    };
+    two(running(PARTED, 2, 1), second, b"1a;")
+}
 
 /// A board whose first stream has the keys 2 and 3.
-pub(crate) const FIRST_AHEAD: Side<'static> = Side {
-    workflow: TWO,
-    streams: [
-        Stream {
-            source: LOW,
-            read: 3,
-            applied: 3,
-            copies: true,
-        },
-        Stream {
-            source: MEETING,
-            read: 1,
-            applied: 1,
-            copies: true,
-        },
-    ],
-    text: b"1a;2b;3c;11k;",
-};
+pub(crate) fn first_ahead() -> Side<'static> {
+    two(running(LOW, 3, 3), running(MEETING, 1, 1), b"1a;2b;3c;11k;")
+}
 
 /// A board whose second stream has the keys 2 and 3.
-pub(crate) const SECOND_AHEAD: Side<'static> = Side {
-    workflow: TWO,
-    streams: [
-        Stream {
-            source: LOW,
-            read: 1,
-            applied: 1,
-            copies: true,
-        },
-        Stream {
-            source: MEETING,
-            read: 3,
-            applied: 3,
-            copies: true,
-        },
-    ],
-    text: b"1a;2x;3y;11k;",
-};
+pub(crate) fn second_ahead() -> Side<'static> {
+    two(running(LOW, 1, 1), running(MEETING, 3, 3), b"1a;2x;3y;11k;")
+}
 
 /// A board of which nothing is read.
 pub(crate) fn fresh(workflow: &[u8]) -> Side<'_> {
