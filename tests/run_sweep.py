@@ -25,9 +25,9 @@ import tempfile
 
 import run_cases
 
-# The crates whose tests are swept, each with the last growth that is refused, or none: behind it a step of a
-# script is refused, which the tests of scripts take for a wrong reply, and the cases don't.
-SWEPT = {"table_tests": None, "program_tests": None, "command_tests": 3}
+# The crates whose tests are swept, each with a word of some tests' names and the last growth that is refused
+# of them: behind it a step of a script is refused, which these tests take for a wrong reply, and the cases don't.
+SWEPT = {"table_tests": {}, "program_tests": {"replies::": 3}}
 
 TESTS = os.path.dirname(os.path.abspath(__file__))
 ROOT = os.path.dirname(TESTS)
@@ -87,8 +87,9 @@ def runs_tests(tests, name, told):
     return ran.returncode, ran.stdout
 
 
-def sweep_test(tests, last, name):
+def sweep_test(tests, lasts, name):
     """Answers why the test fails under some refused growth, or nothing."""
+    last = next((growth for word, growth in lasts.items() if word in name), None)
     with tempfile.NamedTemporaryFile("r", encoding="ascii") as count:
         status, said = runs_tests(tests, name, {"GROWTHS": count.name})
         growths = int(count.read())
@@ -103,7 +104,7 @@ def sweep_test(tests, last, name):
     return None
 
 
-def sweep_crate(pool, room, library, name, last):
+def sweep_crate(pool, room, library, name, lasts):
     """Answers why the crate's tests fail under some refused growth, or nothing."""
     built = os.path.join(ROOT, "crates", name, "out", f"{name}_tests")
     if not os.path.isfile(built):
@@ -117,7 +118,7 @@ def sweep_crate(pool, room, library, name, last):
     names = PASSED_TEST.findall(said)
     if status or not names:
         return f"fails with no growth refused\n{said}"
-    said = pool.map(functools.partial(sweep_test, tests, last), names, chunksize=1)
+    said = pool.map(functools.partial(sweep_test, tests, lasts), names, chunksize=1)
     return next((why for why in said if why is not None), None)
 
 

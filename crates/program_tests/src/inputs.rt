@@ -1,30 +1,47 @@
 //! Inputs, read to their end.
 
+use std::alloc::{AllocError, Global};
 use std::io;
 use std::io::Read;
 use std::test::Fail;
 use vrepl_main::input::{InputFault, read_whole, read_within};
 
+/// Whether there were bytes in place of a fault; an error where memory was wanting.
+fn is_there(read: Result<Vec<u8>, InputFault>) -> Result<bool, AllocError> {
+    match read {
+        Ok(_) => Ok(true),
+        Err(InputFault::CannotRead) => Ok(false),
+        Err(InputFault::Memory) => Err(AllocError),
+    }
+}
+
+/// Three bytes are read whole.
+fn reads_abc(alloc: Global) -> Result<bool, AllocError> {
+    match read_whole(alloc, &mut b"abc".as_slice()) {
+        Ok(bytes) => Ok(bytes.as_slice() == b"abc".as_slice()),
+        Err(fault) => is_there(Err(fault)),
+    }
+}
+
 #[test]
 fn reads_an_input_to_its_end(rt: HostRuntime) -> Result<(), Fail> {
-    let bytes = read_whole(rt.alloc(), &mut b"abc".as_slice())?;
-    assert_eq!(rt; bytes.as_slice(), b"abc".as_slice());
+    assert!(rt; reads_abc(rt.alloc())?);
     Ok(())
 }
 
 #[test]
-fn gives_up_an_input_without_end(rt: HostRuntime) {
-    let fault = read_within(rt.alloc(), &mut io::repeat(7), 3).err();
-    assert_eq!(rt; fault, Some(InputFault::CannotRead));
+fn gives_up_an_input_without_end(rt: HostRuntime) -> Result<(), Fail> {
+    assert!(rt; !is_there(read_within(rt.alloc(), &mut io::repeat(7), 3))?);
+    Ok(())
 }
 
 #[test]
-fn the_end_counts_as_a_read(rt: HostRuntime) {
-    let given_up = Some(InputFault::CannotRead);
-    for (reads, wanted) in [(0, given_up), (1, given_up), (2, None)] {
-        let fault = read_within(rt.alloc(), &mut b"abc".as_slice(), reads).err();
-        assert_eq!(rt; fault, wanted, "{reads} reads");
+fn the_end_counts_as_a_read(rt: HostRuntime) -> Result<(), Fail> {
+    for reads in 0..3 {
+        let is_read = is_there(read_within(rt.alloc(), &mut b"abc".as_slice(), reads))?;
+        assert!(rt; is_read == (reads == 2), "{reads} reads");
     }
+    Ok(())
 }
 
 /// A reader whose second read fails, and which then goes on as if nothing had happened.
@@ -47,10 +64,15 @@ impl Read for Failing {
     }
 }
 
-#[test]
-fn stops_at_a_failed_read(rt: HostRuntime) {
+/// Such a reader is given up at its second read.
+fn stops_at_the_failed_read(alloc: Global) -> Result<bool, AllocError> {
     let mut input = Failing { reads: 0 };
-    let fault = read_whole(rt.alloc(), &mut input).err();
-    assert_eq!(rt; fault, Some(InputFault::CannotRead));
-    assert_eq!(rt; input.reads, 2);
+    let is_read = is_there(read_whole(alloc, &mut input))?;
+    Ok(!is_read && input.reads == 2)
+}
+
+#[test]
+fn stops_at_a_failed_read(rt: HostRuntime) -> Result<(), Fail> {
+    assert!(rt; stops_at_the_failed_read(rt.alloc())?);
+    Ok(())
 }

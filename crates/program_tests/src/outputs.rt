@@ -1,18 +1,23 @@
 //! What is printed into writers.
 
+use crate::printed::is_printed;
 use row_view::Column;
-use std::alloc::AllocError;
+use std::alloc::{AllocError, Global};
 use std::io::Cursor;
 use std::test::Fail;
-use vdiff_core::{Gathered, OutFailed, Writer, add_cell, put_all};
+use vdiff_core::{Gathered, Writer, add_cell, put_all};
 use vrepl_main::output::put_text;
+
+/// Whether three bytes are put into this room.
+fn puts_abc(room: &mut [u8]) -> bool {
+    put_all(&mut Writer::new(Cursor::new(room)), b"abc").is_ok()
+}
 
 #[test]
 fn faults_where_room_ends(rt: HostRuntime) {
-    for (room, is_written) in [(2, false), (3, true), (4, true)] {
+    for room in 2..5 {
         let mut bytes = [0u8; 4];
-        let mut out = Writer::new(Cursor::new(&mut bytes[..room]));
-        assert_eq!(rt; put_all(&mut out, b"abc").is_ok(), is_written, "{room}");
+        assert!(rt; puts_abc(&mut bytes[..room]) == (room > 2), "{room}");
     }
 }
 
@@ -20,37 +25,39 @@ fn faults_where_room_ends(rt: HostRuntime) {
 #[test]
 fn leaves_a_beginning_where_room_ends(rt: HostRuntime) {
     let mut bytes = [b'.'; 4];
-    let mut out = Writer::new(Cursor::new(&mut bytes[..2]));
-    assert_eq!(rt; put_all(&mut out, b"abc").err(), Some(OutFailed));
-    assert_eq!(rt; bytes.as_slice(), b"ab..".as_slice());
+    let is_put = puts_abc(&mut bytes[..2]);
+    assert!(rt; !is_put && bytes.as_slice() == b"ab..".as_slice());
+}
+
+/// A text of 128 bytes is printed whole.
+fn prints_long_text(alloc: Global) -> Result<bool, AllocError> {
+    let long = format!(in alloc; "{:128}", 7)?;
+    let mut bytes = [0u8; 129];
+    let mut out = Writer::new(Cursor::new(&mut bytes[..]));
+    let mut text = Gathered::new();
+    let is_put = put_text(&mut out, &mut text, long.as_str()).is_ok();
+    let is_put = is_put && text.finish(&mut out).is_ok();
+    Ok(is_put && is_printed(&bytes, long.as_bytes()))
 }
 
 #[test]
 fn prints_a_text_of_128_bytes(rt: HostRuntime) -> Result<(), Fail> {
-    let long = format!(in rt.alloc(); "{:128}", 7)?;
-    let mut bytes = Vec::with_capacity(rt.alloc(), 128)?;
-    let mut out = Writer::new(&mut bytes);
-    let mut text = Gathered::new();
-    assert!(rt; put_text(&mut out, &mut text, long.as_str()).is_ok());
-    assert!(rt; text.finish(&mut out).is_ok());
-    assert_eq!(rt; bytes.as_slice(), long.as_bytes());
+    assert!(rt; prints_long_text(rt.alloc())?);
     Ok(())
 }
 
-/// A value is spelled 64 bytes at a time.
-#[test]
-fn prints_a_value_of_two_pieces(rt: HostRuntime) -> Result<(), Fail> {
+/// A value of 65 bytes is printed in 131; it is spelled 64 bytes at a time.
+fn prints_value() -> bool {
     let value = [0xa7u8; 65];
-    let mut bytes = Vec::with_capacity(rt.alloc(), 192)?;
-    let mut out = Writer::new(&mut bytes);
+    let mut bytes = [0u8; 132];
+    let mut out = Writer::new(Cursor::new(&mut bytes[..]));
     let mut text = Gathered::new();
-    if add_cell(&mut out, &mut text, &Column::Bytes(&value)).is_err()
-        || text.finish(&mut out).is_err()
-    {
-        return Err(AllocError.into());
-    }
-    assert_eq!(rt; bytes.len(), 131);
-    assert!(rt; bytes.as_slice().starts_with(b"xa7a7"));
-    assert!(rt; bytes.as_slice().ends_with(b"a7a7"));
-    Ok(())
+    let is_put = add_cell(&mut out, &mut text, &Column::Bytes(&value)).is_ok();
+    let is_put = is_put && text.finish(&mut out).is_ok();
+    is_put && bytes.starts_with(b"xa7a7") && bytes.ends_with(b"a7a7\x00")
+}
+
+#[test]
+fn prints_a_value_of_two_pieces(rt: HostRuntime) {
+    assert!(rt; prints_value());
 }

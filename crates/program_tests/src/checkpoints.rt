@@ -1,0 +1,31 @@
+//! The checkpoint of the board behind a script.
+
+use crate::feeds::{ONE, ONE_ROW, feeds_of};
+use crate::printed::is_done;
+use std::alloc::{AllocError, Global};
+use std::io::Cursor;
+use std::test::Fail;
+use vdiff_core::Writer;
+use vrepl_main::save::save;
+
+/// The checkpoint of the board that has copied and applied the group of one row.
+pub const SAVED: &[u8] =
+    b"VREPLCP1`\n\x03-80\x12Y\x08\x02\x12U\n\x07\n\x02id\x10\x89\x02\n\x06\n\x01v\x10\x950\x12\x07\n\x02id\x10\x89\x02\x1a.MySQL56/3e11fa47-71ca-11e1-9e33-c80aa9429562:1\"\x09\n\x02\x02\x04\x12\x031ab";
+
+/// `save` prints its 105 bytes: the replies aren't among them.
+fn is_saved(alloc: Global) -> Result<bool, AllocError> {
+    let feeds = feeds_of(alloc, &[ONE_ROW])?;
+    let script = b"offer 0 1\nadvance 0\nopen 0 1\ncopy 0 1\nadvance 0\ndump\n";
+    let (mut out, mut err) = ([0u8; 128], [0u8; 64]);
+    let mut bytes = Writer::new(Cursor::new(&mut out[..]));
+    let mut line = Writer::new(Cursor::new(&mut err[..]));
+    let workflow = ONE.as_bytes();
+    let status = save(alloc, true, workflow, &feeds, script, &mut bytes, &mut line);
+    is_done(status, &out, &err, SAVED)
+}
+
+#[test]
+fn checkpoint_of_one_row(rt: HostRuntime) -> Result<(), Fail> {
+    assert!(rt; is_saved(rt.alloc())?);
+    Ok(())
+}
