@@ -68,7 +68,11 @@ fn counts_of(report: &Report) -> [usize; 5] {
 
 /// The two differ first at the key of the only row of these, or nowhere where there is none.
 fn differ_first_at(source: &Rows, target: &Rows, only: &Rows) -> bool {
-    first_difference(source, target) == only.as_slice().first().map(|row| &row.0)
+    match (first_difference(source, target), only.as_slice()) {
+        (Some(key), [row]) => *key == row.0,
+        (None, []) => true,
+        _ => false,
+    }
 }
 
 /// The rows of the first dump, compared with those of the second, give these counts, and differ first at the

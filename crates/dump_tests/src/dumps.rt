@@ -105,7 +105,10 @@ fn columns_at(plan: &Plan, rows: &Rows, bytes: &[u8]) -> Option<usize> {
         return None;
     };
     match key(plan, 0, &row) {
-        Some(key) => rows.get(&key).map(|row| row.view().len()),
+        Some(key) => match rows.get(&key) {
+            Some(row) => Some(row.view().len()),
+            None => None,
+        },
         None => None,
     }
 }
@@ -221,7 +224,12 @@ fn dump_is_read_as_its_rows_and_cut_anywhere(rt: HostRuntime) {
 
 /// Whether only the digits ab stand here.
 fn are_ab(digits: &[u8]) -> bool {
-    digits.chunks(2).all(|digits| digits == b"ab".as_slice())
+    for pair in digits.chunks(2) {
+        if pair != b"ab".as_slice() {
+            return false;
+        }
+    }
+    true
 }
 
 /// More text than waits at once: pieces of many sizes, and one that is longer than all that waits.
