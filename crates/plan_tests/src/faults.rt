@@ -67,10 +67,30 @@ fn is_told(alloc: Global, fault: &PlanFault, number: u8, wanted: &str) -> Result
     Ok(fault.number() == number && text.as_str() == wanted)
 }
 
-/// Whether each fault has the number and prints the text beside it.
-fn are_told(alloc: Global, rows: &[(PlanFault, u8, &str)]) -> Result<bool, AllocError> {
-    for (fault, number, wanted) in rows {
-        if !is_told(alloc, fault, *number, wanted)? {
+/// The numbers and the texts of the faults that name no column.
+const PLAN: &[(u8, &str)] = &[
+    (51, "the workflow file isn't JSON"),
+    (52, "the workflow file has another shape"),
+    (55, "rule 2 of stream 1 is bad"),
+    (56, "the workflow file is past a limit"),
+    (72, "out of memory"),
+];
+
+/// The fault that each of these numbers is for.
+fn fault_of(number: u8) -> PlanFault {
+    match number {
+        51 => PlanFault::Json,
+        52 => PlanFault::Shape,
+        55 => PlanFault::BadRule { stream: 1, rule: 2 },
+        56 => PlanFault::Limit,
+        _ => PlanFault::Memory,
+    }
+}
+
+/// Whether the fault of each number has that number and prints the text beside it.
+fn are_told(alloc: Global, rows: &[(u8, &str)]) -> Result<bool, AllocError> {
+    for (number, wanted) in rows {
+        if !is_told(alloc, &fault_of(*number), *number, wanted)? {
             return Ok(false);
         }
     }
@@ -79,15 +99,7 @@ fn are_told(alloc: Global, rows: &[(PlanFault, u8, &str)]) -> Result<bool, Alloc
 
 #[test]
 fn texts_of_plan_faults(rt: HostRuntime) {
-    let rule = PlanFault::BadRule { stream: 1, rule: 2 };
-    let rows = [
-        (PlanFault::Json, 51, "the workflow file isn't JSON"),
-        (PlanFault::Shape, 52, "the workflow file has another shape"),
-        (rule, 55, "rule 2 of stream 1 is bad"),
-        (PlanFault::Limit, 56, "the workflow file is past a limit"),
-        (PlanFault::Memory, 72, "out of memory"),
-    ];
-    assert!(rt; matches!(are_told(rt.alloc(), &rows), Ok(true)));
+    assert!(rt; matches!(are_told(rt.alloc(), PLAN), Ok(true)));
 }
 
 /// Whether an absent column of a table is told.
