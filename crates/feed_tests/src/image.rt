@@ -108,10 +108,12 @@ fn are_chunks(alloc: Global, image: &Image<'_>, rows: &Rows) -> Result<bool, All
     Ok(chunk_past(alloc, image, rows, past)?.is_empty())
 }
 
-/// These are rows of the feed's image.
+/// These are rows of the feed's image, which has none once it is cleared.
 fn are_rows(alloc: Global, feed: &Feed<'_>, rows: &Rows) -> Result<bool, FeedFault> {
-    let image = image_at(alloc, feed, rows.groups)?;
-    Ok(image.len() == rows.len && are_chunks(alloc, &image, rows)?)
+    let mut image = image_at(alloc, feed, rows.groups)?;
+    let same = image.len() == rows.len && are_chunks(alloc, &image, rows)?;
+    image.clear();
+    Ok(same && image.len() == 0)
 }
 
 /// All these are rows of the image of a feed under a workflow's plan.
@@ -256,18 +258,18 @@ fn row_leaves_and_returns(rt: HostRuntime) -> Result<(), Fail> {
     Ok(())
 }
 
-/// The image has three rows after the first group, and none when it is cleared.
-fn is_cleared(alloc: Global) -> Result<bool, FeedFault> {
-    let feed = opened(alloc, TWO_TABLES, THREE_GROUPS)?;
-    let mut image = image_at(alloc, &feed, 1)?;
-    let before = image.len();
-    image.clear();
-    Ok(before == 3 && image.len() == 0)
-}
+/// Three rows, until they are cleared.
+const OF_THE_FIRST_GROUP: &[Rows] = &[Rows {
+    groups: 1,
+    len: 3,
+    table: 1,
+    most: 3,
+    chunks: &[&[3, 5, 7]],
+}];
 
 #[test]
 fn cleared_image_is_empty(rt: HostRuntime) -> Result<(), Fail> {
-    assert!(rt; is_cleared(rt.alloc())?);
+    assert!(rt; are_images(rt.alloc(), TWO_TABLES, THREE_GROUPS, OF_THE_FIRST_GROUP)?);
     Ok(())
 }
 

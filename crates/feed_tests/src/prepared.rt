@@ -1,8 +1,9 @@
 //! Groups of a feed with their touches.
 
 use crate::groups::ONE_ROW;
+use crate::image::number_of;
 use crate::opening::{EVERY_ROW, is_row, prepared};
-use pk_copy::{KeyPart, LentKey};
+use pk_copy::LentKey;
 use source_feed::{FeedFault, Prepared, Put, Touch};
 use std::alloc::Global;
 
@@ -66,15 +67,6 @@ struct Touched {
     touches: &'static [Left],
 }
 
-/// The touch is of this number in the first table.
-fn has_key(touch: &Touch<'_>, wanted: i128) -> bool {
-    let key = touch.key_view();
-    match key.parts() {
-        [KeyPart::Number(number)] => key.table() == 0 && *number == wanted,
-        _ => false,
-    }
-}
-
 /// The touch leaves this row at its key.
 fn is_left(touch: &Touch<'_>, wanted: &Left) -> bool {
     let same = match (touch.put(), wanted.put) {
@@ -82,7 +74,7 @@ fn is_left(touch: &Touch<'_>, wanted: &Left) -> bool {
         (Some(put), Some((row, passes))) => put.passes() == passes && is_row(&put.row(), row),
         _ => false,
     };
-    same && has_key(touch, wanted.key)
+    same && touch.key().table() == 0 && number_of(touch.key()) == wanted.key
 }
 
 /// These are the touches, in order.

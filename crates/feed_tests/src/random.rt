@@ -177,11 +177,23 @@ fn is_image<'h>(
     Ok(agree(&rows, groups) && is_kept(&rows, prepared))
 }
 
+/// Adds a group of a feed with its touches.
+fn push_prepared<'h>(
+    alloc: Global,
+    feed: &Feed<'h>,
+    number: u32,
+    groups: &mut Vec<Arc<Prepared<'h>>>,
+) -> Result<(), FeedFault> {
+    let group = feed.prepare(alloc, number)?;
+    groups.push(group)?;
+    Ok(())
+}
+
 /// Nine groups of a feed with their touches.
 fn nine_groups<'h>(alloc: Global, feed: &Feed<'h>) -> Result<Vec<Arc<Prepared<'h>>>, FeedFault> {
     let mut groups = Vec::new(alloc);
     for number in 1..=9 {
-        groups.push(feed.prepare(alloc, number)?)?;
+        push_prepared(alloc, feed, number, &mut groups)?;
     }
     Ok(groups)
 }
