@@ -1,0 +1,262 @@
+#!/usr/bin/env python3
+"""Shows which program ./vrepl runs, and that the gate holds dist/ to the sources.
+
+usage: tests/run_dist.py
+
+Each check runs in copies of the checkout, most of them with no toolchain in the path: what dist/ has
+answers at once, from a read-only folder and through a link too; a program in dist/ that was cut or
+changed is never run, nor is one of other sources; and scripts/is_released, which ./test calls, refuses
+both. How ./build goes about its work is tried with a stand-in for the toolchain.
+The last line is 'N passed, M failed': one a check.
+"""
+import contextlib
+import os
+import shutil
+import subprocess
+import sys
+import tempfile
+import time
+
+ROOT = os.path.dirname(os.path.dirname(os.path.abspath(__file__)))
+CARRIED = "dist/vrepl-x86_64-linux"
+NOBODY = 65534
+SHOW = ["show", "--hex", "examples/one_insert.hex"]
+SHOWN = b"group 1 3e11fa47-71ca-11e1-9e33-c80aa9429562:1\n+ t\tx31\tx6162\n"
+SOURCE = "crates/vrepl/src/main.rt"
+NOT_THE_NAMED = f"{CARRIED} isn't the program that dist/SOURCES names"
+NO_TOOLCHAIN = "rt, which builds one, isn't installed"
+
+# A stand-in for the toolchain: a library takes a moment, the program is a text.
+STAND_IN = """#!/bin/sh
+case $1 in
+    lib) mkdir -p out/rlib out/incremental; pwd >out/rlib/stamp ;;
+    run) [ -z "$RT_FAILS" ] || exit 1; mkdir -p out; printf '#!/bin/sh\\necho built' >out/vrepl; chmod +x out/vrepl ;;
+esac
+"""
+
+
+def write(path, text):
+    with open(path, "w", encoding="utf-8") as file:
+        file.write(text)
+
+
+def change(path, at):
+    """Changes one byte of a file in place."""
+    with open(path, "r+b") as file:
+        file.seek(at)
+        byte = file.read(1)
+        file.seek(at)
+        file.write(bytes([byte[0] ^ 1]))
+
+
+class Room:
+    """A folder with copies of the checkout, and paths of commands without the toolchain and with its stand-in."""
+
+    def __init__(self, folder):
+        self.folder, self.without, self.stand_in = folder, os.path.join(folder, "without"), os.path.join(folder, "stand_in")
+        os.chmod(folder, 0o755)
+        for path in (self.without, self.stand_in):
+            os.mkdir(path)
+        for place in os.environ["PATH"].split(":"):
+            for name in os.listdir(place) if os.path.isdir(place) else ():
+                if name != "rt" and not os.path.lexists(os.path.join(self.without, name)):
+                    os.symlink(os.path.join(place, name), os.path.join(self.without, name))
+        write(os.path.join(self.stand_in, "rt"), STAND_IN)
+        os.chmod(os.path.join(self.stand_in, "rt"), 0o755)
+        # every check leaves this copy as it was, but for what ./vrepl notes in out/
+        self.plain = self.copy("a checkout")
+
+    def copy(self, name):
+        """Answers a new copy of the checkout."""
+        place = os.path.join(self.folder, name)
+        left_out = shutil.ignore_patterns("out", ".git", "must-fail", "bench", "cases", "drafts", "__pycache__")
+        shutil.copytree(ROOT, place, ignore=left_out)
+        return place
+
+    def start(self, place, *words, command="./vrepl", user=None, builds=False, **told):
+        path = f"{self.stand_in}:{self.without}" if builds else self.without
+        told = {"PATH": path, "HOME": os.path.join(self.folder, "home") if user is None else "/nonexistent", **told}
+        how = {"cwd": place, "env": told, "stdin": subprocess.DEVNULL, "stdout": subprocess.PIPE, "stderr": subprocess.PIPE}
+        return subprocess.Popen([command, *words], user=user, **how)
+
+    def run(self, place, *words, **how):
+        """Answers the status, standard output and standard error of a command in a copy."""
+        process = self.start(place, *words, **how)
+        out, error = process.communicate(timeout=60)
+        return process.returncode, out, error.decode()
+
+
+@contextlib.contextmanager
+def changed(path, at):
+    """Changes one byte of a file, for a while."""
+    change(path, at)
+    try:
+        yield
+    finally:
+        change(path, at)
+
+
+@contextlib.contextmanager
+def longer(path):
+    """Puts a comment behind a source, for a while."""
+    size = os.path.getsize(path)
+    with open(path, "a", encoding="utf-8") as file:
+        file.write("// a change\n")
+    try:
+        yield
+    finally:
+        os.truncate(path, size)
+
+
+def wanted(ran, status=0, out=SHOWN, said=""):
+    """Answers what isn't as wanted, or nothing."""
+    is_said = said in ran[2] if said else not ran[2]
+    return None if ran[:2] == (status, out) and is_said else f"status {ran[0]}, output {ran[1]!r}, error {ran[2]!r}"
+
+
+def refused(ran, said):
+    return wanted(ran, 125, b"", said)
+
+
+def answers_at_once(room):
+    begun = time.monotonic()
+    fault = wanted(room.run(room.plain, *SHOW))
+    took = time.monotonic() - begun
+    return fault or wanted(room.run(room.plain, *SHOW)) or (None if took < 1 else f"the first answer took {took:.1f} seconds")
+
+
+def answers_through_a_link(room):
+    link = os.path.join(room.folder, "link")
+    os.symlink(os.path.join(room.plain, "vrepl"), link)
+    words = ["show", "--hex", os.path.join(room.plain, "examples/one_insert.hex")]
+    return wanted(room.run(room.folder, *words, command=link)) or wanted(room.run(room.folder, *words, command=link))
+
+
+def answers_many_at_a_time(room):
+    shutil.rmtree(os.path.join(room.plain, "out"), ignore_errors=True)
+    users = [NOBODY, None] if os.geteuid() == 0 else [None, None]
+    started = [room.start(room.plain, *SHOW, user=users[at % 2]) for at in range(16)]
+    ended = [(it.communicate(timeout=60), it.returncode) for it in started]
+    return next((why for why in (wanted((status, out, error.decode())) for (out, error), status in ended) if why), None)
+
+
+def words_and_status_are_the_programs(room):
+    fault = wanted(room.run(room.plain, "show", "--hex", "none.hex"), 1, b"", "refused 131 file none.hex\n")
+    return fault or wanted(room.run(room.plain, "no such word"), 2, b"", "no such word")
+
+
+def changed_program_is_never_run(room):
+    carried = os.path.join(room.plain, CARRIED)
+    size = os.path.getsize(carried)
+    fault = wanted(room.run(room.plain, *SHOW))
+    with changed(carried, size // 2):
+        fault = fault or refused(room.run(room.plain, *SHOW), NOT_THE_NAMED)
+    with open(carried, "rb") as file:
+        whole = file.read()
+    os.truncate(carried, size - 1)
+    fault = fault or refused(room.run(room.plain, *SHOW), NOT_THE_NAMED)
+    with open(carried, "r+b") as file:
+        file.write(whole)
+    return fault or wanted(room.run(room.plain, *SHOW))
+
+
+def program_of_other_sources_is_not_run(room):
+    fault = wanted(room.run(room.plain, *SHOW))
+    with longer(os.path.join(room.plain, SOURCE)):
+        fault = fault or refused(room.run(room.plain, *SHOW), NO_TOOLCHAIN)
+    fault = fault or wanted(room.run(room.plain, *SHOW))
+    moved = os.path.join(room.folder, "moved")
+    os.rename(os.path.join(room.plain, SOURCE), moved)
+    fault = fault or refused(room.run(room.plain, *SHOW), NO_TOOLCHAIN)
+    os.rename(moved, os.path.join(room.plain, SOURCE))
+    return fault or wanted(room.run(room.plain, *SHOW))
+
+
+def tests_and_documents_do_not_count(room):
+    edits = os.path.join(room.plain, "crates/vrepl/must-fail")
+    os.mkdir(edits)
+    write(os.path.join(edits, "other.edit"), "")
+    moved = os.path.join(room.folder, "wire_tests")
+    os.rename(os.path.join(room.plain, "crates/wire_tests"), moved)
+    with longer(os.path.join(room.plain, "README.md")):
+        fault = wanted(room.run(room.plain, *SHOW))
+    shutil.rmtree(edits)
+    os.rename(moved, os.path.join(room.plain, "crates/wire_tests"))
+    return fault
+
+
+def gate_refuses_a_changed_program(room):
+    carried, check = os.path.join(room.plain, CARRIED), "scripts/is_released"
+    fault = wanted(room.run(room.plain, CARRIED, command=check), 0, b"")
+    with changed(carried, 4096):
+        ran = room.run(room.plain, command=check)
+        fault = fault or (None if ran[0] == 1 and b"./release" in ran[1] else f"status {ran[0]}, output {ran[1]!r}")
+    other = os.path.join(room.folder, "other")
+    shutil.copy(carried, other)
+    change(other, 4096)
+    ran = room.run(room.plain, other, command=check)
+    return fault or (None if ran[0] == 1 and b"./release" in ran[1] else f"status {ran[0]}, output {ran[1]!r}")
+
+
+def gate_refuses_changed_sources(room):
+    with longer(os.path.join(room.plain, SOURCE)):
+        ran = room.run(room.plain, CARRIED, command="scripts/is_released")
+    return None if ran[0] == 1 and b"./release" in ran[1] else f"status {ran[0]}, output {ran[1]!r}"
+
+
+def answers_from_a_read_only_folder(room):
+    place = room.copy("read only")
+    subprocess.run(["chmod", "-R", "a-w,a+rX", place], check=True)
+    user = NOBODY if os.geteuid() == 0 else None
+    fault = wanted(room.run(place, *SHOW, user=user)) or wanted(room.run(place, *SHOW, user=user))
+    return fault or ("it wrote into the folder" if os.path.exists(os.path.join(place, "out")) else None)
+
+
+def checkout_without_dist_builds(room):
+    place = room.copy("built")
+    shutil.rmtree(os.path.join(place, "dist"))
+    fault = refused(room.run(place, *SHOW), NO_TOOLCHAIN)
+    fault = fault or wanted(room.run(place, *SHOW, builds=True), 0, b"built\n", "the program is built")
+    return fault or wanted(room.run(place, *SHOW, builds=True), 0, b"built\n")
+
+
+def build_that_fails_leaves_what_was_there(room):
+    place = os.path.join(room.folder, "built")
+    fault = wanted(room.run(place, *SHOW, builds=True), 0, b"built\n")
+    with longer(os.path.join(place, SOURCE)):
+        fault = fault or refused(room.run(place, command="./build", builds=True, RT_FAILS="1"), "vrepl isn't proved")
+    fault = fault or wanted(room.run(place, *SHOW, builds=True), 0, b"built\n")
+    # a file of at most 16 KiB stands for a full disk
+    words = ["-c", 'ulimit -f 16; exec scripts/keep "$1" "$2"', "keep", os.path.join(ROOT, CARRIED), "sources"]
+    status = room.run(place, *words, command="bash")[0]
+    fault = fault or (None if status else "a program was kept that doesn't fit")
+    return fault or wanted(room.run(place, *SHOW, builds=True), 0, b"built\n")
+
+
+CHECKS = [
+    answers_at_once, answers_through_a_link, answers_many_at_a_time, words_and_status_are_the_programs,
+    changed_program_is_never_run, program_of_other_sources_is_not_run, tests_and_documents_do_not_count,
+    gate_refuses_a_changed_program, gate_refuses_changed_sources, answers_from_a_read_only_folder,
+    checkout_without_dist_builds, build_that_fails_leaves_what_was_there,
+]  # fmt: skip
+
+
+def main():
+    failed = 0
+    with tempfile.TemporaryDirectory(prefix="vrepl-dist-") as folder:
+        room = Room(folder)
+        for check in CHECKS:
+            try:
+                why = check(room)
+            except (OSError, subprocess.SubprocessError) as fault:
+                why = str(fault)
+            if why:
+                print(f"dist {check.__name__}: {why}")
+            failed += bool(why)
+        subprocess.run(["chmod", "-R", "u+w", folder], check=False)
+    print(f"{len(CHECKS) - failed} passed, {failed} failed")
+    return 1 if failed else 0
+
+
+if __name__ == "__main__":
+    sys.exit(main())
