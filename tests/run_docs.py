@@ -1,0 +1,102 @@
+#!/usr/bin/env python3
+"""Holds the documents to the tree.
+
+usage: tests/run_docs.py
+
+docs/MAP.md names every source file of every crate under the crate's heading, docs/DEFINITIONS.md every
+file of definitions that public contracts cite, docs/PROMISES.md every must-fail edit, and no file or edit
+that isn't there. A path that a document names is there. Crates of tests and private definitions have no
+rows. The last line is 'N passed, M failed': one a document, and one for the paths.
+"""
+import os
+import re
+import sys
+
+ROOT = os.path.dirname(os.path.dirname(os.path.abspath(__file__)))
+CRATES = os.path.join(ROOT, "crates")
+PAGES = ["README.md", "tests/README.md", "examples/README.md", *sorted(f"docs/{it}" for it in os.listdir(os.path.join(ROOT, "docs")))]
+PATH = re.compile(r"(?<![\w/.])((?:docs|tests|examples|bench|scripts|dist|crates)/[\w./-]*\w)")
+
+
+def text_of(*path):
+    with open(os.path.join(ROOT, *path), encoding="utf-8") as file:
+        return file.read()
+
+
+def crates():
+    """The crates of the product, without those of tests."""
+    return sorted(it for it in os.listdir(CRATES) if os.path.isdir(os.path.join(CRATES, it, "src")) and not it.endswith("_tests"))
+
+
+def files_below(crate, part, ending):
+    """The files of one part of a crate, as that part's pages name them."""
+    top = os.path.join(CRATES, crate, part)
+    found = [os.path.relpath(os.path.join(at, name), top) for at, _, names in os.walk(top) for name in names if name.endswith(ending)]
+    return {it for it in found if not it.startswith("Private") and it not in ("lib.rt", "Lib.antt")}
+
+
+def sections(page):
+    """The text under each heading of a page, by the crate that the heading names."""
+    found, name = {}, None
+    for line in text_of("docs", page).splitlines():
+        heading = re.fullmatch(r"## (\w+).*", line)
+        if heading or line.startswith("## "):
+            name = heading and heading[1]
+        found[name] = found.get(name, "") + line + "\n"
+    return found
+
+
+def map_faults():
+    found = sections("MAP.md")
+    for crate in crates():
+        text = found.get(crate, "")
+        rows = "".join(line for line in text.splitlines(True) if line.startswith("|"))
+        said, listed = (set(re.findall(r"src/([\w/]+\.rt)", it)) for it in (text, rows))
+        there = files_below(crate, "src", ".rt")
+        yield from (f"{crate}/src/{it} isn't named" for it in sorted(there - said))
+        yield from (f"{crate}/src/{it} isn't there" for it in sorted(listed - there))
+
+
+def definition_faults():
+    found = sections("DEFINITIONS.md")
+    for crate in crates():
+        said = set(re.findall(r"(?<![\w/])([\w/]+\.antt)", found.get(crate, "")))
+        there = files_below(crate, "specs", ".antt")
+        yield from (f"{crate}/specs/{it} isn't named" for it in sorted(there - said))
+        yield from (f"{crate}/specs/{it} isn't there" for it in sorted(said - there) if not os.path.exists(os.path.join(CRATES, crate, "specs", it)))
+
+
+def promise_faults():
+    found = sections("PROMISES.md")
+    for crate in crates():
+        edits = os.path.join(CRATES, crate, "must-fail")
+        there = {it.removesuffix(".edit") for it in os.listdir(edits)} if os.path.isdir(edits) else set()
+        rows = [line.split("|") for line in found.get(crate, "").splitlines() if line.startswith("|")]
+        said = set(re.findall(r"\w+", " ".join(row[-2] for row in rows if len(row) > 3)))
+        yield from (f"{crate}: the edit {it} isn't named" for it in sorted(there - said))
+        named = {it for it in said if "_" in it and it not in crates()}
+        every = {name.removesuffix(".edit") for at, _, names in os.walk(CRATES) if at.endswith("must-fail") for name in names}
+        yield from (f"{crate}: no edit is called {it}" for it in sorted(named - every))
+
+
+def path_faults():
+    for page in PAGES:
+        for path in sorted(set(PATH.findall(text_of(page)))):
+            if "NAME" not in path and "CRATE" not in path and not os.path.exists(os.path.join(ROOT, path)):
+                yield f"{page}: {path} isn't there"
+
+
+def main():
+    failed = 0
+    checks = {"docs/MAP.md": map_faults, "docs/DEFINITIONS.md": definition_faults, "docs/PROMISES.md": promise_faults, "paths": path_faults}
+    for name, check in checks.items():
+        faults = list(check())
+        for it in faults:
+            print(f"{name}: {it}")
+        failed += bool(faults)
+    print(f"{len(checks) - failed} passed, {failed} failed")
+    return 1 if failed else 0
+
+
+if __name__ == "__main__":
+    sys.exit(main())
