@@ -1,0 +1,207 @@
+"""A column's value in a row event, to the bytes that the server prints for it.
+
+Sources: MariaDB's sql/log_event.cc (`log_event_print_value`) and sql/field.cc (`pack`, `val_str`), and
+"Rows_event" of MariaDB's replication protocol. TIMESTAMP is printed in UTC.
+"""
+import struct
+from collections.abc import Callable
+from dataclasses import dataclass
+from datetime import UTC, datetime
+
+from .kinds import Kind
+from .numbers import decimal_size, decimal_text, fixed_text, float_text
+
+Reader = Callable[[bytes, int], tuple[bytes, int]]
+"""Reads a value that isn't NULL: answers what the server prints, and where the value ends.
+IndexError or struct.error where the bytes end inside the value."""
+
+
+class UnknownType(Exception):
+    """The log has a type that this column's kind isn't read from; the text says which."""
+
+
+@dataclass(frozen=True)
+class LogType:
+    """A column's type in a table map: its number (field types of MySQL's protocol) and its metadata bytes."""
+
+    number: int
+    meta: bytes
+
+
+@dataclass(frozen=True)
+class Printing:
+    """What the log doesn't say of a column, from the catalogue."""
+
+    kind: Kind
+    width: int = 0
+    """Of ZEROFILL the digits at least, of BINARY the bytes, of a FLOAT or DOUBLE with places these."""
+    labels: tuple[bytes, ...] = ()
+    """Of ENUM and SET."""
+
+
+INTEGERS = {1: 1, 2: 2, 9: 3, 3: 4, 8: 8}
+SIGNED_KINDS = (Kind.INT8, Kind.INT16, Kind.INT24, Kind.INT32, Kind.INT64)
+UNSIGNED_KINDS = (Kind.UINT8, Kind.UINT16, Kind.UINT24, Kind.UINT32, Kind.UINT64)
+
+
+def _integer(size: int, signed: bool, width: int) -> Reader:
+    def read(data: bytes, at: int) -> tuple[bytes, int]:
+        end = at + size
+        number = int.from_bytes(data[at:end], "little", signed=signed)
+        return b"%0*d" % (width, number) if width else b"%d" % number, end
+
+    return read
+
+
+def _counted(size: int, least: int = 0, strip: bool = False) -> Reader:
+    """Bytes behind their count, which has `size` bytes; made up with 00 to `least`."""
+
+    def read(data: bytes, at: int) -> tuple[bytes, int]:
+        start = at + size
+        end = start + int.from_bytes(data[at:start], "little")
+        if end > len(data):
+            raise IndexError("a value is cut short")
+        value = data[start:end]
+        return (value.rstrip(b" ") if strip else value.ljust(least, b"\0")), end
+
+    return read
+
+
+def _fraction_bytes(digits: int) -> int:
+    return (digits + 1) // 2
+
+
+def _fraction(value: int, digits: int) -> str:
+    """The digits behind the point, of a value whose unit is that of the stored bytes."""
+    return "." + f"{value:0{_fraction_bytes(digits) * 2}d}"[:digits] if digits else ""
+
+
+def _date(data: bytes, at: int) -> tuple[bytes, int]:
+    bits = int.from_bytes(data[at:at + 3], "little")
+    return b"%04d-%02d-%02d" % (bits >> 9, bits >> 5 & 15, bits & 31), at + 3
+
+
+def _year(data: bytes, at: int) -> tuple[bytes, int]:
+    return (b"%04d" % (1900 + data[at]) if data[at] else b"0000"), at + 1
+
+
+def _time(digits: int) -> Reader:
+    size, more = 3 + _fraction_bytes(digits), 8 * _fraction_bytes(digits)
+
+    def read(data: bytes, at: int) -> tuple[bytes, int]:
+        value = int.from_bytes(data[at:at + size], "big") - (0x800000 << more)
+        sign, value = ("-", -value) if value < 0 else ("", value)
+        whole = value >> more
+        text = f"{sign}{whole >> 12 & 0x3FF:02d}:{whole >> 6 & 63:02d}:{whole & 63:02d}{_fraction(value & (1 << more) - 1, digits)}"
+        return text.encode(), at + size
+
+    return read
+
+
+def _datetime(digits: int) -> Reader:
+    more = _fraction_bytes(digits)
+
+    def read(data: bytes, at: int) -> tuple[bytes, int]:
+        value = int.from_bytes(data[at:at + 5], "big") - 0x8000000000
+        end = at + 5 + more
+        months, day = value >> 22, value >> 17 & 31
+        text = f"{months // 13:04d}-{months % 13:02d}-{day:02d} {value >> 12 & 31:02d}:{value >> 6 & 63:02d}:{value & 63:02d}"
+        return (text + _fraction(int.from_bytes(data[at + 5:end], "big"), digits)).encode(), end
+
+    return read
+
+
+def _timestamp(digits: int) -> Reader:
+    more = _fraction_bytes(digits)
+
+    def read(data: bytes, at: int) -> tuple[bytes, int]:
+        seconds = int.from_bytes(data[at:at + 4], "big")
+        end = at + 4 + more
+        text = f"{datetime.fromtimestamp(seconds, UTC):%Y-%m-%d %H:%M:%S}" if seconds else "0000-00-00 00:00:00"
+        return (text + _fraction(int.from_bytes(data[at + 4:end], "big"), digits)).encode(), end
+
+    return read
+
+
+def _float(pattern: str, digits: int, places: int | None) -> Reader:
+    form = struct.Struct(pattern)
+
+    def read(data: bytes, at: int) -> tuple[bytes, int]:
+        (number,) = form.unpack_from(data, at)
+        return (float_text(number, digits) if places is None else fixed_text(number, places)), at + form.size
+
+    return read
+
+
+def _decimal(precision: int, scale: int) -> Reader:
+    size = decimal_size(precision, scale)
+    return lambda data, at: (decimal_text(data[at:at + size], precision, scale), at + size)
+
+
+def _label(size: int, labels: tuple[bytes, ...]) -> Reader:
+    def read(data: bytes, at: int) -> tuple[bytes, int]:
+        number = int.from_bytes(data[at:at + size], "little")
+        return (labels[number - 1] if number else b""), at + size
+
+    return read
+
+
+def _labels(size: int, labels: tuple[bytes, ...]) -> Reader:
+    def read(data: bytes, at: int) -> tuple[bytes, int]:
+        bits = int.from_bytes(data[at:at + size], "little")
+        return b",".join(label for bit, label in enumerate(labels) if bits >> bit & 1), at + size
+
+    return read
+
+
+def real_type(log: LogType) -> tuple[int, int]:
+    """The type that stands behind STRING (254), and its length: CHAR, BINARY, ENUM or SET."""
+    first, length = log.meta
+    if first & 0x30 != 0x30:
+        return first | 0x30, length | ((first & 0x30) ^ 0x30) << 4
+    return first, length
+
+
+def reader(log: LogType, printing: Printing) -> Reader:
+    """How values of this log type and kind are read. UnknownType where the two don't fit."""
+    kind, meta = printing.kind, log.meta
+    match log.number:
+        case 1 | 2 | 9 | 3 | 8 if kind in SIGNED_KINDS + UNSIGNED_KINDS:
+            size, signed = INTEGERS[log.number], kind in SIGNED_KINDS
+            if kind == (SIGNED_KINDS if signed else UNSIGNED_KINDS)[list(INTEGERS).index(log.number)]:
+                return _integer(size, signed, printing.width)
+        case 15 if kind in (Kind.VARCHAR, Kind.VARBINARY):
+            return _counted(2 if int.from_bytes(meta, "little") > 255 else 1)
+        case 252 if kind in (Kind.TEXT, Kind.BLOB):
+            return _counted(meta[0])
+        case 255 if kind == Kind.GEOMETRY:
+            return _counted(meta[0])
+        case 254:
+            real, length = real_type(log)
+            if real == 254 and kind in (Kind.CHAR, Kind.BINARY):
+                size = 2 if length > 255 else 1
+                return _counted(size, printing.width) if kind == Kind.BINARY else _counted(size, strip=True)
+            if real == 247 and kind == Kind.ENUM:
+                return _label(length, printing.labels)
+            if real == 248 and kind == Kind.SET:
+                return _labels(length, printing.labels)
+        case 246 if kind == Kind.DECIMAL:
+            return _decimal(*meta)
+        case 4 if kind == Kind.FLOAT32:
+            return _float("<f", 6, printing.width if printing.width >= 0 else None)
+        case 5 if kind == Kind.FLOAT64:
+            return _float("<d", 17, printing.width if printing.width >= 0 else None)
+        case 10 if kind == Kind.DATE:
+            return _date
+        case 13 if kind == Kind.YEAR:
+            return _year
+        case 16 if kind == Kind.BIT:
+            size = meta[1] + (meta[0] > 0)
+            return lambda data, at: (data[at:at + size], at + size)
+        case 19 if kind == Kind.TIME:
+            return _time(meta[0])
+        case 18 if kind == Kind.DATETIME:
+            return _datetime(meta[0])
+        case 17 if kind == Kind.TIMESTAMP:
+            return _timestamp(meta[0])
+    raise UnknownType(f"type {log.number} of the log for {kind.name}")

@@ -1,0 +1,118 @@
+"""A workflow's filters as conditions of SQL, and its tables as the query that prints their dump.
+
+The filters are those of docs/FORMATS.md, 'Workflow file'. The workflow is taken to be one that the program
+accepts: a filter that isn't read here is a ValueError.
+"""
+import re
+from dataclasses import dataclass
+
+from .catalogue import quoted
+from .kinds import BYTES, NAMED, TEXTS, WHOLE, Kind
+
+BY_NAME = {kind.name: kind for kind in NAMED}
+_BLANKS = r"[ \t\r\n]*"
+_NAME = r"(`[^`]+`|[\w$]+)"
+_QUOTED = r"'([^']*)'"
+_SELECT = re.compile(
+    rf"{_BLANKS}select\s+\*\s+from\s+{_NAME}(?:\s+where\s+in_keyrange{_BLANKS}\({_BLANKS}"
+    rf"(?:{_NAME}{_BLANKS},{_BLANKS}{_QUOTED}{_BLANKS},{_BLANKS})?{_QUOTED}{_BLANKS}\))?{_BLANKS}", re.I)  # fmt: skip
+
+
+@dataclass(frozen=True)
+class Planned:
+    """A table of a workflow file."""
+
+    name: str
+    kinds: dict[str, int]
+    key: list[str]
+    vindex: tuple[str, str] | None
+
+    @classmethod
+    def read(cls, said: dict) -> "Planned":
+        kinds = {name: BY_NAME[kind].value if isinstance(kind, str) else kind for name, kind in said["columns"]}
+        return cls(said["name"], kinds, said["key"], tuple(said["vindex"]) if "vindex" in said else None)
+
+    def _text(self, column: str) -> str:
+        """The hexadecimal digits of a column as it is printed."""
+        kind, name = self.kinds[column], quoted(column)
+        if kind in (*TEXTS, *BYTES, Kind.ENUM, Kind.SET, Kind.GEOMETRY):
+            return f"HEX({name})"
+        return f"HEX(CONCAT({name}))" if kind == Kind.BIT else f"HEX(CAST({name} AS CHAR))"
+
+    def cells(self) -> str:
+        parts = [f"IF({quoted(name)} IS NULL, 'N', CONCAT('x', LOWER({self._text(name)})))" for name in self.kinds]
+        return f"CONCAT_WS(CHAR(9), {', '.join(parts)})"
+
+    def order(self) -> list[str]:
+        """What each key column is ordered by: numbers by value, others by their bytes."""
+        return [quoted(name) if self.kinds[name] in WHOLE else f"CAST({quoted(name)} AS BINARY)" for name in self.key]
+
+    def _id(self, column: str, vindex: str) -> str:
+        """The hexadecimal digits of a row's id."""
+        name = quoted(column)
+        match vindex:
+            case "numeric":
+                return f"LPAD(HEX({name}), 16, '0')"
+            case "reverse_bits":
+                return f"LPAD(CONV(REVERSE(LPAD(BIN({name}), 64, '0')), 2, 16), 16, '0')"
+            case "binary":
+                return self._text(column)
+            case "binary_md5":
+                return f"UPPER(MD5({name}))"
+        raise ValueError(f"no vindex {vindex}")
+
+    def condition(self, filtered: str) -> str:
+        """A filter as a condition."""
+        if not filtered:
+            return "TRUE"
+        found = _SELECT.fullmatch(filtered)
+        if not found:
+            return self._in_range(self.vindex, filtered)
+        _, column, vindex, place = found.groups()
+        if place is None:
+            return "TRUE"
+        return self._in_range((column.strip("`"), vindex) if column else self.vindex, place)
+
+    def _in_range(self, vindex: tuple[str, str] | None, place: str) -> str:
+        if vindex is None:
+            raise ValueError(f"table {self.name} has no vindex for {place}")
+        if place in ("0", "-"):
+            return "TRUE"
+        if not re.fullmatch(r"([0-9a-fA-F]{2})*-([0-9a-fA-F]{2})*", place):
+            raise ValueError(f"no key range: {place}")
+        row_id = f"CAST({self._id(*vindex)} AS BINARY)"
+        start, end = (re.sub("(00)+$", "", bound.upper()) if len(bound) % 2 == 0 else bound for bound in place.split("-"))
+        return f"({row_id} >= '{start}'" + (f" AND {row_id} < '{end}')" if end else ")")
+
+
+def _literal(text: str) -> str:
+    return "'" + text.replace("'", "''") + "'"
+
+
+def dump_query(workflow: dict, schemas: list[str]) -> str:
+    """The statements that print the dump of a workflow's target, from one schema a stream. For
+    `mariadb --batch --raw --skip-column-names`. ValueError where there aren't as many schemas as streams."""
+    streams = workflow["streams"]
+    if len(streams) != len(schemas):
+        raise ValueError(f"{len(streams)} streams and {len(schemas)} schemas")
+    lines = ["SET NAMES utf8mb4, sql_mode='NO_BACKSLASH_ESCAPES', time_zone='+00:00', max_sort_length=16384;"]
+    for table in map(Planned.read, workflow["tables"]):
+        parts, order = [], [f"k{at}" for at in range(len(table.key))]
+        keys = ", ".join(f"{what} AS {name}" for what, name in zip(table.order(), order))
+        for stream, schema in zip(streams, schemas):
+            filtered = _rule_of(stream, table.name)
+            if filtered is not None:
+                parts.append(f"SELECT {table.cells()} AS line, {keys} FROM {quoted(schema)}.{quoted(table.name)} WHERE {table.condition(filtered)}")
+        lines.append(f"SELECT {_literal('table ' + table.name)};")
+        if parts:
+            union = "\n  UNION ALL ".join(parts)
+            lines.append(f"SELECT line FROM (\n  {union}\n) AS dumped ORDER BY {', '.join(order)};")
+    return "\n".join(lines) + "\n"
+
+
+def _rule_of(stream: dict, table: str) -> str | None:
+    """The filter of the first rule that matches a table, None where none does."""
+    for rule in stream["filter"]["rules"]:
+        if rule["match"] in ("/.*", table):
+            return rule.get("filter", "")
+    return None

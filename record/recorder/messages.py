@@ -1,0 +1,90 @@
+"""The messages of a feed (docs/FORMATS.md, 'Messages'), as classes of Google's protobuf library that are
+made as the module is read: there is no generated file. Numbers are those of binlogdata.proto and
+query.proto of Vitess."""
+from collections.abc import Iterator
+from enum import IntEnum
+
+from google.protobuf import descriptor_pb2, descriptor_pool, message_factory
+from google.protobuf.message import DecodeError as DecodeError
+
+_F = descriptor_pb2.FieldDescriptorProto
+_ONE, _MANY = _F.LABEL_OPTIONAL, _F.LABEL_REPEATED
+
+_MESSAGES = {
+    "Row": [("lengths", 1, _MANY, _F.TYPE_SINT64), ("values", 2, _ONE, _F.TYPE_BYTES)],
+    "Field": [("name", 1, _ONE, _F.TYPE_STRING), ("type", 2, _ONE, _F.TYPE_INT32)],
+    "RowChange": [("before", 1, _ONE, "Row"), ("after", 2, _ONE, "Row")],
+    "RowEvent": [("table_name", 1, _ONE, _F.TYPE_STRING), ("row_changes", 2, _MANY, "RowChange")],
+    "FieldEvent": [("table_name", 1, _ONE, _F.TYPE_STRING), ("fields", 2, _MANY, "Field")],
+    "VEvent": [("type", 1, _ONE, _F.TYPE_INT32), ("timestamp", 2, _ONE, _F.TYPE_INT64), ("gtid", 3, _ONE, _F.TYPE_STRING),
+               ("row_event", 5, _ONE, "RowEvent"), ("field_event", 6, _ONE, "FieldEvent")],
+    "VStreamResponse": [("events", 1, _MANY, "VEvent")],
+}  # fmt: skip
+
+
+def _classes() -> dict[str, type]:
+    file = descriptor_pb2.FileDescriptorProto(name="recorder.proto", package="recorder", syntax="proto3")
+    for name, fields in _MESSAGES.items():
+        message = file.message_type.add(name=name)
+        for field, number, label, kind in fields:
+            one = message.field.add(name=field, number=number, label=label)
+            if isinstance(kind, str):
+                one.type, one.type_name = _F.TYPE_MESSAGE, ".recorder." + kind
+            else:
+                one.type = kind
+    pool = descriptor_pool.DescriptorPool()
+    pool.Add(file)
+    factory = message_factory.MessageFactory(pool)
+    return {name: factory.GetPrototype(pool.FindMessageTypeByName("recorder." + name)) for name in _MESSAGES}
+
+
+Response = _classes()["VStreamResponse"]
+
+Row = tuple[bytes | None, ...]
+"""A row: the bytes of each column, None for NULL."""
+
+
+class EventType(IntEnum):
+    GTID = 1
+    BEGIN = 2
+    COMMIT = 3
+    ROW = 12
+    FIELD = 13
+
+
+def set_row(message, row: Row) -> None:
+    """Fills a Row message, which is there from then on also where it has no column's bytes."""
+    message.SetInParent()
+    message.lengths.extend(-1 if cell is None else len(cell) for cell in row)
+    message.values = b"".join(cell for cell in row if cell is not None)
+
+
+def framed(response) -> bytes:
+    """A message behind its length as a varint."""
+    body = response.SerializeToString(deterministic=True)
+    length, head = len(body), bytearray()
+    while length > 0x7F:
+        head.append(length & 0x7F | 0x80)
+        length >>= 7
+    head.append(length)
+    return bytes(head) + body
+
+
+def frames(feed: bytes) -> Iterator[tuple[int, int]]:
+    """Start and end of each message of a feed, without its length. ValueError where one is cut short."""
+    at = 0
+    while at < len(feed):
+        length = shift = 0
+        while True:
+            if at == len(feed) or shift > 63:
+                raise ValueError(f"no length of a message before byte {at}")
+            byte = feed[at]
+            at += 1
+            length |= (byte & 0x7F) << shift
+            shift += 7
+            if byte < 0x80:
+                break
+        if at + length > len(feed):
+            raise ValueError(f"a message is cut short at byte {at}")
+        yield at, at + length
+        at += length

@@ -1,0 +1,243 @@
+"""Events to whole transactions of the recorded tables.
+
+A transaction stands where it commits: MariaDB writes each one to the log as one run of events behind its
+GTID, in the order of commits; one of XA in two, of which the second decides. What was rolled back isn't in
+the log, or is dropped here.
+"""
+import struct
+from collections.abc import Iterable, Iterator
+from dataclasses import dataclass, field
+
+from .catalogue import Table
+from .cells import Reader, UnknownType, reader
+from .events import DELETES, IGNORABLE, UPDATES, WRITES, Event, GtidEvent, LogEvent, QueryEvent, TableMap, read_rows_head, read_table_map
+from .messages import Row
+from .position import Gtid, Position
+from .server import Place
+from .statements import Does, Name, Statement, read_statement
+from .stop import ANEW, Stop
+
+RowChange = tuple[Row | None, Row | None]
+"""A row before and after: an insert, an update or a delete."""
+
+
+@dataclass(frozen=True)
+class Change:
+    """The rows of one table that one event changes."""
+
+    table: Table
+    rows: list[RowChange]
+
+
+@dataclass(frozen=True)
+class Transaction:
+    """A transaction with what it changes in the recorded tables, perhaps nothing; `end` is where it ends in the log."""
+
+    gtid: Gtid
+    time: int
+    changes: list[Change]
+    end: Place
+
+
+@dataclass
+class _Open:
+    """What has been read of the transaction that is read."""
+
+    gtid: Gtid
+    alone: bool
+    xa: bytes
+    changes: list[Change] = field(default_factory=list)
+    savepoints: dict[str, int] = field(default_factory=dict)
+
+
+@dataclass(frozen=True)
+class _Layout:
+    table: Table
+    readers: tuple[Reader, ...]
+
+
+STATEMENTS = {LogEvent.LOAD, LogEvent.APPEND_BLOCK, LogEvent.DELETE_FILE, LogEvent.BEGIN_LOAD_QUERY, LogEvent.EXECUTE_LOAD_QUERY}
+SKIPPED = {LogEvent.STOP, LogEvent.ROTATE, LogEvent.INTVAR, LogEvent.RAND, LogEvent.USER_VAR, LogEvent.HEARTBEAT, LogEvent.ANNOTATE_ROWS,
+           LogEvent.BINLOG_CHECKPOINT, LogEvent.GTID_LIST, LogEvent.START_ENCRYPTION}  # fmt: skip
+
+
+class Transactions:
+    """Reads a log's transactions. `position` is moved on by each; `filled` are the tables that have had rows,
+    `prepared` the changes of XA transactions that are neither committed nor rolled back."""
+
+    def __init__(self, tables: list[Table], position: Position, filled: set[Name], prepared: dict[bytes, list[Change]]) -> None:
+        self.tables = {table.full: table for table in tables}
+        self.position, self.filled, self.prepared = position, filled, prepared
+        self.begun = 0
+        self._maps: dict[int, tuple[TableMap, _Layout | None]] = {}
+        self._open: _Open | None = None
+        self._place = Place("", 0)
+
+    def read(self, events: Iterable[tuple[str, Event]], end: Place) -> Iterator[Transaction]:
+        """The transactions up to a place. Stops where the log can't be told as rows."""
+        for log, event in events:
+            self._place = Place(log, event.end)
+            try:
+                changes = self._changes(event)
+            except (IndexError, struct.error, KeyError, UnicodeDecodeError) as fault:
+                raise Stop(f"an event of type {event.kind} that can't be read ({fault!r})", self._where(), "report it, with this event of mariadb-binlog --hexdump") from None
+            if changes is not None:
+                gtid, self._open = self._open.gtid, None
+                self.position.add(gtid)
+                self.filled.update(change.table.full for change in changes)
+                yield Transaction(gtid, event.time, changes, self._place)
+            if log == end.log and event.end >= end.offset and not self._open:
+                break
+        self._check_ended()
+
+    def _where(self) -> str:
+        return (f"in transaction {self._open.gtid}, " if self._open else "") + f"before {self._place}"
+
+    def _check_ended(self) -> None:
+        if self._open:
+            raise Stop("a transaction without an end", self._where(), "the log was cut there; record again when the server has written it")
+        for xa, changes in self.prepared.items():
+            if changes:
+                raise Stop(f"XA transaction {xa[6:].hex()} is prepared", f"at {self._place}", "XA COMMIT or XA ROLLBACK it (XA RECOVER lists it), and record again")
+
+    def _changes(self, event: Event) -> list[Change] | None:
+        """Takes an event; answers the changes of the transaction that it ends, None where it ends none."""
+        kind = event.kind
+        if kind == LogEvent.TABLE_MAP:
+            self._map(read_table_map(event.body))
+        elif kind in WRITES or kind in UPDATES or kind in DELETES:
+            self._rows(kind, event.body)
+        elif kind == LogEvent.GTID:
+            self._begin(GtidEvent.read(event.body), event.server)
+        elif kind == LogEvent.XID and self._open:
+            return self._open.changes
+        elif kind in (LogEvent.QUERY, LogEvent.QUERY_COMPRESSED):
+            query = QueryEvent.read(kind, event.body)
+            return self._statement(read_statement(query.text, query.schema), query.text)
+        elif kind == LogEvent.XA_PREPARE and self._open:
+            self.prepared[self._open.xa] = self._open.changes
+            return []
+        elif kind == LogEvent.FORMAT_DESCRIPTION:
+            self.begun = event.time
+            self._maps.clear()
+        elif kind == LogEvent.INCIDENT:
+            raise Stop("an incident: the server lost events", self._where(), ANEW)
+        elif kind in STATEMENTS:
+            raise Stop("a LOAD DATA in statement format", self._where(), f"SET GLOBAL binlog_format=ROW, let clients connect anew, and {ANEW}")
+        elif kind not in SKIPPED and not event.flags & IGNORABLE:
+            raise Stop(f"an event of type {kind}, which isn't known,", self._where(), ANEW)
+        return None
+
+    def _begin(self, event: GtidEvent, server: int) -> None:
+        gtid = Gtid(event.domain, server, event.sequence)
+        if self._open:
+            raise Stop("a transaction without an end", self._where(), ANEW)
+        if self.position.goes_back(gtid):
+            raise Stop(f"a position that goes back, from {self.position.last[gtid.domain]} to {gtid},", self._where(),
+                       f"numbers of a domain have to rise (gtid_strict_mode=1); {ANEW}")  # fmt: skip
+        self._open = _Open(gtid, event.alone, event.xa)
+
+    def _statement(self, statement: Statement, text: str) -> list[Change] | None:
+        now = self._open
+        if now is None:
+            raise Stop("a statement without a GTID", self._where(), ANEW)
+        match statement.does:
+            case Does.COMMIT:
+                return now.changes
+            case Does.ROLLBACK:
+                return []
+            case Does.SAVEPOINT:
+                now.savepoints[statement.savepoint] = len(now.changes)
+            case Does.ROLLBACK_TO:
+                if statement.savepoint not in now.savepoints:
+                    raise Stop(f"no savepoint {statement.savepoint}", self._where(), ANEW)
+                del now.changes[now.savepoints[statement.savepoint]:]
+            case Does.XA_COMMIT | Does.XA_ROLLBACK if now.xa:
+                if now.xa not in self.prepared:
+                    raise Stop("the end of an XA transaction that was prepared before this recording", self._where(), ANEW)
+                changes = self.prepared.pop(now.xa)
+                return changes if statement.does == Does.XA_COMMIT else []
+            case Does.XA_COMMIT:
+                return now.changes
+            case Does.XA_ROLLBACK:
+                return []
+            case Does.ROWS:
+                raise Stop(f"statement or mixed format ({_cut(text)})", self._where(),
+                           f"SET GLOBAL binlog_format=ROW, let clients connect anew, and {ANEW}")  # fmt: skip
+            case Does.LAYOUT | Does.TRUNCATE | Does.DROP_SCHEMA:
+                self._check_layout(statement, text)
+        return [] if now.alone else None
+
+    def _check_layout(self, statement: Statement, text: str) -> None:
+        """A recorded table may change as a whole as long as no row of it was recorded."""
+        what = "TRUNCATE" if statement.does == Does.TRUNCATE else "DDL"
+        for schema, name in statement.names:
+            for full in self.filled | {change.table.full for change in self._open.changes}:
+                if full[0].lower() == schema.lower() and (not name or full[1].lower() == name.lower()):
+                    raise Stop(f"{what} of a recorded table, {'.'.join(full)} ({_cut(text)}),", self._where(), ANEW)
+
+    def _map(self, found: TableMap) -> None:
+        table = self.tables.get((found.schema, found.table))
+        self._maps[found.number] = (found, self._layout(found, table) if table else None)
+
+    def _layout(self, found: TableMap, table: Table) -> _Layout:
+        where, todo = f"of {table.schema}.{table.name} {self._where()}", f"the table was altered behind it; {ANEW}"
+        if len(found.types) != len(table.columns):
+            raise Stop(f"{len(found.types)} columns in the log and {len(table.columns)} in the catalogue", where, todo)
+        if found.names is not None and found.names != tuple(column.name for column in table.columns):
+            raise Stop("other names of columns in the log than in the catalogue", where, todo)
+        try:
+            return _Layout(table, tuple(reader(log, column.printing) for log, column in zip(found.types, table.columns)))
+        except UnknownType as fault:
+            raise Stop(str(fault), where, todo + ", or leave the table out where it has such a column") from None
+
+    def _rows(self, kind: int, body: bytes) -> None:
+        found, layout = self._maps[int.from_bytes(body[:6], "little")]
+        if layout is None:
+            return
+        head = read_rows_head(kind, body)
+        if not head.whole or head.columns != len(layout.readers):
+            raise Stop(f"a row image of {found.schema}.{found.table} that isn't FULL", self._where(),
+                       f"SET GLOBAL binlog_row_image=FULL, let clients connect anew, and {ANEW}")  # fmt: skip
+        rows, at = [], 0
+        while at < len(head.rows):
+            before = after = None
+            if kind not in WRITES:
+                before, at = _image(layout.readers, head.rows, at)
+            if kind not in DELETES:
+                after, at = _image(layout.readers, head.rows, at)
+                check_key(layout.table, after, self._where())
+            rows.append((before, after))
+        self._open.changes.append(Change(layout.table, rows))
+
+
+def check_key(table: Table, row: Row, where: str) -> None:
+    """Stops at a key that a collation which ignores blanks at the end orders or compares otherwise than bytes."""
+    for at in table.key:
+        value = row[at]
+        if table.columns[at].pads and value and (value[-1:] == b" " or min(value) < 0x20):
+            raise Stop(f"a key of {table.schema}.{table.name} with a blank at its end or a control character, {value[:40]!r},", where,
+                       f"make the collation of column {table.columns[at].name} a _nopad_bin one, or VARBINARY, and {ANEW}")  # fmt: skip
+
+
+def _image(readers: tuple[Reader, ...], data: bytes, at: int) -> tuple[Row, int]:
+    size = (len(readers) + 7) // 8
+    nulls = int.from_bytes(data[at:at + size], "little")
+    at += size
+    row = []
+    for read in readers:
+        if nulls & 1:
+            row.append(None)
+        else:
+            value, at = read(data, at)
+            row.append(value)
+        nulls >>= 1
+    if at > len(data):
+        raise IndexError("a row is cut short")
+    return tuple(row), at
+
+
+def _cut(text: str) -> str:
+    """A statement on one line, at most 120 characters."""
+    line = " ".join("".join(sign if sign.isprintable() else " " for sign in text).split())
+    return line if len(line) <= 120 else line[:117] + "..."
