@@ -204,4 +204,4 @@ def reader(log: LogType, printing: Printing) -> Reader:
             return _datetime(meta[0])
         case 17 if kind == Kind.TIMESTAMP:
             return _timestamp(meta[0])
-    raise UnknownType(f"type {log.number} of the log for {kind.name}")
+    raise UnknownType(f"type {log.number} where a {kind.name} was expected")

@@ -17,6 +17,9 @@ from .statements import Name
 from .stop import ANEW, Stop
 from .transactions import Change, Transactions
 
+NO_GTIDS = b"\0\0\0\0"
+"""How a GTID list begins that has none: it stands at a log's beginning, and lists what is before it."""
+
 
 @dataclass(frozen=True)
 class Wanted:
@@ -117,7 +120,7 @@ def _write(wanted: Wanted, connection: Connection, version: str, tables: list[Ta
         reading = Transactions(tables, position, start.filled, start.prepared)
         progress, groups, place = Progress(log_sizes(connection), start.place, end), 0, start.place
         with closing(wanted.login.connect()) as stream:
-            checked = _checked(events(stream, start.place), start, reading)
+            checked = _checked(events(stream, start.place), start)
             for transaction in reading.read(checked, end):
                 place = transaction.end
                 if transaction.changes:
@@ -149,13 +152,15 @@ def _write_snapshot(feed: FeedFile, snapshot: Snapshot, tables: list[Table], sta
     return position.text() if position.snapshot else ""
 
 
-def _checked(read: Iterator[tuple[str, Event]], start: _Start, reading: Transactions) -> Iterator[tuple[str, Event]]:
+def _checked(read: Iterator[tuple[str, Event]], start: _Start) -> Iterator[tuple[str, Event]]:
     """The events, as long as the log is the one that was meant: the feed's own, or one that begins with nothing before it."""
-    fresh = True
+    begun, behind = start.begun, start.position.last
+    unseen = {LogEvent.FORMAT_DESCRIPTION, LogEvent.GTID_LIST, LogEvent.GTID}
     for log, event in read:
-        if fresh and event.kind == LogEvent.FORMAT_DESCRIPTION and start.begun not in (None, event.time):
-            raise Stop("another log than the feed's", f"in {log}, which was begun anew", ANEW)
-        if fresh and event.kind == LogEvent.GTID_LIST and not reading.position.last and event.body[:4] != b"\0\0\0\0":
-            raise Stop("the first log was purged", f"before {log}", ANEW)
-        fresh = fresh and event.kind not in (LogEvent.GTID, LogEvent.GTID_LIST)
+        if event.kind in unseen:
+            if event.kind == LogEvent.FORMAT_DESCRIPTION and begun not in (None, event.time):
+                raise Stop("another log than the feed's", f"in {log}, which was begun anew", ANEW)
+            if event.kind == LogEvent.GTID_LIST and LogEvent.GTID in unseen and not behind and event.body[:4] != NO_GTIDS:
+                raise Stop("the first log was purged", f"before {log}", ANEW)
+            unseen.discard(event.kind)
         yield log, event

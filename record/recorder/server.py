@@ -18,6 +18,7 @@ from .stop import ANEW, Stop
 
 WITHOUT_WAITING = 1
 CRC32 = 1
+HEADER_KIND = 4
 
 
 @dataclass(frozen=True)
@@ -111,18 +112,21 @@ def events(connection: pymysql.Connection, start: Place) -> Iterator[tuple[str, 
         if packet.is_eof_packet():
             return
         data = packet.get_all_data()[1:]
-        kind = data[4]
+        kind = data[HEADER_KIND]
         if kind == LogEvent.FORMAT_DESCRIPTION:
             checksums = data[-5] == CRC32
         elif kind == LogEvent.ROTATE:
             # the server makes some of these up, with or without a checksum
             data = data[:-4] if _is_whole(data) else data
-            log = data[HEADER.size + 8:].decode()
         elif checksums:
             if not _is_whole(data):
                 raise Stop("an event whose checksum is another", f"in {log}", f"the log is damaged there; {ANEW}")
             data = data[:-4]
-        yield log, Event.read(data)
+        event = Event.read(data)
+        yield log, event
+        if kind == LogEvent.ROTATE:
+            # it stands at the old log's end
+            log = event.body[8:].decode()
 
 
 def _is_whole(data: bytes) -> bool:

@@ -181,15 +181,16 @@ class Transactions:
         self._maps[found.number] = (found, self._layout(found, table) if table else None)
 
     def _layout(self, found: TableMap, table: Table) -> _Layout:
-        where, todo = f"of {table.schema}.{table.name} {self._where()}", f"the table was altered behind it; {ANEW}"
-        if len(found.types) != len(table.columns):
-            raise Stop(f"{len(found.types)} columns in the log and {len(table.columns)} in the catalogue", where, todo)
-        if found.names is not None and found.names != tuple(column.name for column in table.columns):
-            raise Stop("other names of columns in the log than in the catalogue", where, todo)
+        if len(found.types) != len(table.columns) or found.names not in (None, tuple(column.name for column in table.columns)):
+            raise self._altered(table, "has other columns there than the catalogue has now")
         try:
             return _Layout(table, tuple(reader(log, column.printing) for log, column in zip(found.types, table.columns)))
         except UnknownType as fault:
-            raise Stop(str(fault), where, todo + ", or leave the table out where it has such a column") from None
+            raise self._altered(table, f"has {fault}") from None
+
+    def _altered(self, table: Table, what: str) -> Stop:
+        """The catalogue is read before the log: where they differ, the table was altered between."""
+        return Stop(f"DDL of a recorded table, {table.schema}.{table.name}: the log {what},", self._where(), f"{ANEW}, or leave the table out where that says the same")
 
     def _rows(self, kind: int, body: bytes) -> None:
         found, layout = self._maps[int.from_bytes(body[:6], "little")]

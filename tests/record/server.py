@@ -1,0 +1,105 @@
+"""A private MariaDB server in a temporary folder: its own socket, no network, its binary log on."""
+import ctypes
+import os
+import pwd
+import shutil
+import signal
+import subprocess
+import tempfile
+import time
+
+PLACES = os.environ.get("PATH", "") + ":/usr/sbin:/usr/local/sbin:/sbin"
+SETTINGS = ["--skip-networking", "--server-id=7", "--log-bin=binlog", "--binlog-format=ROW", "--binlog-row-image=FULL",
+            "--binlog-row-metadata=FULL", "--max-binlog-size=256K", "--innodb-buffer-pool-size=32M", "--innodb-log-file-size=16M",
+            "--innodb-flush-log-at-trx-commit=0", "--sync-binlog=0", "--innodb-lock-wait-timeout=5", "--performance-schema=OFF",
+            "--innodb-print-all-deadlocks=OFF", "--character-set-server=utf8mb4"]  # fmt: skip
+DIE_WITH_PARENT = 1
+
+
+def command(name: str) -> str | None:
+    return shutil.which(name, path=PLACES)
+
+
+def is_installed() -> bool:
+    return all(command(name) for name in ("mariadbd", "mariadb-install-db", "mariadb"))
+
+
+def _unprivileged() -> str | None:
+    """As whom the server runs where this is root, which it refuses to run as."""
+    if os.geteuid():
+        return None
+    names = {one.pw_name for one in pwd.getpwall()}
+    return next(name for name in ("mysql", "nobody") if name in names)
+
+
+def _die_with_parent() -> None:
+    ctypes.CDLL(None).prctl(DIE_WITH_PARENT, signal.SIGKILL)
+
+
+class Server:
+    """Use it with `with`: the server and its folder are gone afterwards, the server also where the test is killed."""
+
+    def __enter__(self) -> "Server":
+        self.folder = tempfile.mkdtemp(prefix="vrepl-record-")
+        self.socket = os.path.join(self.folder, "s")
+        self._process = None
+        try:
+            self._start()
+        except BaseException:
+            self.__exit__()
+            raise
+        return self
+
+    def _start(self) -> None:
+        user = _unprivileged()
+        data = os.path.join(self.folder, "data")
+        os.mkdir(data)
+        if user:
+            os.chmod(self.folder, 0o755)
+            for path in (self.folder, data):
+                shutil.chown(path, user)
+        made = subprocess.run([command("mariadb-install-db"), "--no-defaults", f"--datadir={data}", "--auth-root-authentication-method=normal",
+                               "--skip-test-db", *([f"--user={user}"] if user else [])], stdin=subprocess.DEVNULL, capture_output=True, text=True, timeout=60)  # fmt: skip
+        if made.returncode:
+            raise RuntimeError(f"mariadb-install-db: {made.stdout[-500:]}{made.stderr[-500:]}")
+        self._log = open(os.path.join(self.folder, "log"), "wb")  # noqa: SIM115
+        how = {"user": user, "group": pwd.getpwnam(user).pw_gid, "extra_groups": []} if user else {}
+        self._process = subprocess.Popen(
+            [command("mariadbd"), "--no-defaults", f"--datadir={data}", f"--socket={self.socket}", f"--pid-file={self.folder}/pid", *SETTINGS],
+            stdin=subprocess.DEVNULL, stdout=self._log, stderr=self._log, preexec_fn=_die_with_parent, **how)  # fmt: skip
+        for _ in range(600):
+            if self.sql("SELECT 1", check=False).returncode == 0:
+                return
+            if self._process.poll() is not None:
+                break
+            time.sleep(0.05)
+        with open(self._log.name, encoding="utf-8", errors="replace") as log:
+            raise RuntimeError(f"mariadbd doesn't answer: {log.read()[-800:]}")
+
+    def sql(self, text: str, check: bool = True) -> subprocess.CompletedProcess:
+        """Runs statements with the client, as `record/select` wants it; stdout is bytes."""
+        done = subprocess.run([command("mariadb"), "--no-defaults", f"--socket={self.socket}", "--user=root", "--batch", "--raw", "--skip-column-names"],
+                              input=text.encode(), capture_output=True, timeout=60)  # fmt: skip
+        if check and done.returncode:
+            raise RuntimeError(f"{text[:200]}: {done.stderr.decode()}")
+        return done
+
+    def purge(self, log: str) -> None:
+        """Begins another log and purges those before the named one, which the server does only some time after they were last needed."""
+        self.sql("FLUSH BINARY LOGS")
+        for _ in range(200):
+            if self.sql(f"PURGE BINARY LOGS TO '{log}'; SHOW BINARY LOGS").stdout.startswith(log.encode()):
+                return
+            time.sleep(0.1)
+        raise RuntimeError(f"the logs before {log} aren't purged")
+
+    def __exit__(self, *_: object) -> None:
+        if self._process:
+            self._process.terminate()
+            try:
+                self._process.wait(timeout=10)
+            except subprocess.TimeoutExpired:
+                self._process.kill()
+                self._process.wait()
+            self._log.close()
+        shutil.rmtree(self.folder, ignore_errors=True)

@@ -1,0 +1,79 @@
+"""What record/feed stops at: for each the statements that lead there, and what its line has to say.
+
+They run one behind the other on one server. A stop that ends every recording of a log that has it is
+followed by RESET MASTER, as a server is given a new log.
+"""
+from dataclasses import dataclass
+
+
+@dataclass(frozen=True)
+class Case:
+    name: str
+    made: str
+    """Statements that run first."""
+    line: str
+    """What the line has to have in it; without one a feed has to be written."""
+    tables: str = "s.t"
+    behind: str = ""
+    """Statements that run afterwards."""
+    words: tuple[str, ...] = ()
+    purge: str = ""
+    """The log before which all are purged."""
+
+
+MAKE = "CREATE OR REPLACE TABLE s.t (id INT PRIMARY KEY, v VARCHAR(10)); "
+ROWS = MAKE + "INSERT INTO s.t VALUES (1, 'a'), (2, 'b'); "
+RESET = "RESET MASTER; "
+DROP = "DROP TABLE s.t; " + RESET
+
+CASES = [
+    Case("no_such_table", "CREATE DATABASE s; ", "no such table as s.nothing: ", "s.nothing"),
+    Case("no_primary_key", "CREATE TABLE s.bare (v INT); ", "no primary key in s.bare: ", "s.bare"),
+    Case("view", "CREATE VIEW s.seen AS SELECT 1 AS id; ", "a view in s.seen: ", "s.seen"),
+    Case("another_engine", "CREATE TABLE s.isam (id INT PRIMARY KEY) ENGINE=MyISAM; ", "engine MyISAM in s.isam: ", "s.isam"),
+    Case("system_versioning", "CREATE TABLE s.past (id INT PRIMARY KEY) WITH SYSTEM VERSIONING; ", "system versioning in s.past: ", "s.past"),
+    Case("key_that_ignores_case", "CREATE TABLE s.k1 (k VARCHAR(9) COLLATE utf8mb4_general_ci PRIMARY KEY); ",
+         "key column k of collation utf8mb4_general_ci, whose equality or order isn't that of bytes, in s.k1: ", "s.k1"),
+    Case("key_of_a_date", "CREATE TABLE s.k2 (k DATE PRIMARY KEY); ", "key column k of type DATE in s.k2: ", "s.k2"),
+    Case("key_by_its_beginning", "CREATE TABLE s.k3 (k VARBINARY(90), PRIMARY KEY (k(3))); ", "key column k by its first 3 characters in s.k3: ", "s.k3"),
+    Case("type_without_a_number", "CREATE TABLE s.u (id INT PRIMARY KEY, v UUID); ", "type uuid of column v, which Vitess has no number for, in s.u: ", "s.u"),
+    Case("cascade", "CREATE TABLE s.up (id INT PRIMARY KEY); CREATE TABLE s.f1 (id INT PRIMARY KEY, up INT REFERENCES s.up (id) ON DELETE CASCADE); ",
+         "ON DELETE CASCADE in s.f1: ", "s.f1"),
+    Case("set_null", "CREATE TABLE s.f2 (id INT PRIMARY KEY, up INT REFERENCES s.up (id) ON UPDATE SET NULL); ", "ON UPDATE SET NULL in s.f2: ", "s.f2"),
+    Case("restrict_is_recorded", "CREATE TABLE s.f3 (id INT PRIMARY KEY, up INT REFERENCES s.up (id)); ", "", "s.f3", RESET),
+    Case("two_tables_of_a_name", MAKE + "CREATE DATABASE s2; CREATE TABLE s2.t LIKE s.t; ", "two tables t of several schemas: ", "s.t s2.t", RESET),
+    Case("settings", "SET GLOBAL binlog_format=MIXED; ", "binlog_format is MIXED: SET GLOBAL binlog_format=ROW", behind="SET GLOBAL binlog_format=ROW; "),
+    Case("settings_of_images", "SET GLOBAL binlog_row_image=MINIMAL; ", "binlog_row_image is MINIMAL: SET GLOBAL", behind="SET GLOBAL binlog_row_image=FULL; "),
+    Case("ddl_without_rows", MAKE + "ALTER TABLE s.t ADD w INT FIRST; TRUNCATE s.t; INSERT INTO s.t VALUES (1, 2, 'c'); ALTER TABLE s2.t ADD w INT; ", ""),
+    Case("alter", ROWS + "ALTER TABLE s.t ADD w INT; ", "DDL of a recorded table, s.t: the log has other columns there than the catalogue has now, in transaction 0-7-", behind=DROP),
+    Case("alter_in_a_schema", ROWS + "USE s; ALTER ONLINE TABLE `t` /* why */ COMMENT 'x'; ", "DDL of a recorded table, s.t (", behind=DROP),
+    Case("index", ROWS + "CREATE INDEX i ON s.t (v); ", "DDL of a recorded table, s.t (CREATE INDEX", behind=DROP),
+    Case("rename", ROWS + "CREATE TABLE s.n LIKE s.t; RENAME TABLE s.t TO s.o, s.n TO s.t; ", "DDL of a recorded table, s.t (RENAME", behind="DROP TABLE s.o; " + DROP),
+    Case("drop", ROWS + "USE s; DROP TABLE IF EXISTS nothing, t; " + MAKE, "DDL of a recorded table, s.t (DROP", behind=DROP),
+    Case("drop_schema", "CREATE DATABASE d; CREATE TABLE d.t (id INT PRIMARY KEY); INSERT INTO d.t VALUES (1); DROP DATABASE d;"
+         " CREATE DATABASE d; CREATE TABLE d.t (id INT PRIMARY KEY); ", "DDL of a recorded table, d.t (DROP DATABASE d)", "d.t", RESET),
+    Case("truncate", ROWS + "TRUNCATE TABLE s.t; ", "TRUNCATE of a recorded table, s.t (TRUNCATE TABLE s.t), in transaction 0-7-", behind=DROP),
+    Case("row_image", ROWS + "SET binlog_row_image=MINIMAL; UPDATE s.t SET v='c'; ", "a row image of s.t that isn't FULL in transaction 0-7-", behind=DROP),
+    Case("blank_in_a_padded_key", "CREATE TABLE s.pad (k VARCHAR(9) COLLATE utf8mb4_bin PRIMARY KEY); INSERT INTO s.pad VALUES ('a'), ('b '); ",
+         "a key of s.pad with a blank at its end or a control character, b'b ', in transaction 0-7-", "s.pad", RESET),
+    Case("blank_in_a_snapshot", "", "b'b ', in the snapshot: ", "s.pad", "DROP TABLE s.pad; " + RESET, ("--from-snapshot",)),
+    Case("statement_format", ROWS + "SET binlog_format=STATEMENT; UPDATE s.t SET v='c' WHERE id=1; ",
+         "statement or mixed format (UPDATE s.t SET v='c' WHERE id=1) in transaction 0-7-", behind=DROP),
+    Case("prepared_xa", ROWS + "XA START 'x'; DELETE FROM s.t; XA END 'x'; XA PREPARE 'x'; ", "XA transaction 78 is prepared at binlog.000001:"),
+    Case("committed_xa", "XA COMMIT 'x'; ", "", behind=DROP),
+    Case("position_that_goes_back", ROWS + "SET gtid_domain_id=3, gtid_seq_no=9; DELETE FROM s.t WHERE id=1; SET gtid_seq_no=4; DELETE FROM s.t; ",
+         "a position that goes back, from 3-7-9 to 3-7-4, before binlog.000001:", behind=DROP),
+    Case("purged_log", ROWS, "the first log was purged before binlog.000002: ", purge="binlog.000002"),
+    Case("purged_log_with_a_snapshot", "INSERT INTO s.t VALUES (3, 'c'); ", "", words=("--from-snapshot",)),
+    Case("purged_log_behind_a_feed", "", "the log was purged at binlog.000002:", words=("--append",), purge="binlog.000003"),
+    Case("empty_feed", RESET, ""),
+    Case("columns_changed_behind_a_feed", "INSERT INTO s.t VALUES (4, 'd'); ", "", words=("--append",)),
+    Case("layout_changed_behind_a_feed", "ALTER TABLE s.t ADD w INT; ", "another table, or other columns, than the feed has in s.t: ", words=("--append",)),
+    Case("feed_over_two_logs", MAKE + RESET + "FLUSH BINARY LOGS; " + ROWS, ""),
+    Case("nothing_new", "FLUSH BINARY LOGS; FLUSH BINARY LOGS; ", "", words=("--append",)),
+    Case("fewer_transactions_than_the_feed", RESET + MAKE, "the log was purged at binlog.000002:", words=("--append",)),
+    Case("other_transactions_than_the_feed", RESET + MAKE + "FLUSH BINARY LOGS; " + ROWS + "INSERT INTO s.t VALUES (5, 'e'); ",
+         "another log than the feed's", words=("--append",)),
+    Case("log_begun_anew", MAKE + RESET + "FLUSH BINARY LOGS; DO SLEEP(1.1); " + ROWS, "another log than the feed's in binlog.000002, which was begun anew",
+         words=("--append",)),
+]  # fmt: skip

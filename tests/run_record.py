@@ -1,0 +1,263 @@
+#!/usr/bin/env python3
+"""Records feeds from a private MariaDB server, and holds what the program makes of them to what the server has.
+
+usage: tests/run_record.py
+
+A server is started in a temporary folder (its own socket, no network), clients change the tables of two
+source shards, and record/feed writes their feeds. The dumps of merges and splits have to be what the
+statements of record/select print, byte for byte; a checkpoint is resumed over a feed that --append made
+longer, and each stop of the recorder is shown. Where mariadb-server, python3-pymysql and python3-protobuf
+of the system aren't installed nothing is tried, and the script says so and counts nothing.
+The last line is 'N passed, M failed': one a check.
+"""
+import importlib.util
+import json
+import os
+import signal
+import subprocess
+import sys
+import time
+from collections.abc import Callable
+
+ROOT = os.path.dirname(os.path.dirname(os.path.abspath(__file__)))
+OWN = "/usr/bin/python3"
+MODULES = ("pymysql", "google.protobuf")
+RANGES = ["-40", "40-80", "80-c0", "c0-", "-1080", "33-e1"]
+sys.dont_write_bytecode = True
+
+
+def has_modules() -> bool:
+    try:
+        return all(importlib.util.find_spec(name) for name in MODULES)
+    except ModuleNotFoundError:
+        return False
+
+
+class Trial:
+    """The server, a folder for files, and the count of what was seen."""
+
+    def __init__(self, server) -> None:
+        self.server, self.passed, self.failed = server, 0, 0
+        self.begun = time.monotonic()
+
+    def path(self, name: str) -> str:
+        return os.path.join(self.server.folder, name)
+
+    def check(self, name: str, why: str | None) -> None:
+        """Counts a check: it failed if there is a reason."""
+        if why:
+            print(f"record {name}: {why}", flush=True)
+        self.passed, self.failed = self.passed + (not why), self.failed + bool(why)
+
+    def run(self, *words: str, stdin: str = "") -> subprocess.CompletedProcess:
+        told = {**os.environ, "PYTHONDONTWRITEBYTECODE": "1"}
+        return subprocess.run(words, cwd=ROOT, input=stdin.encode(), capture_output=True, timeout=100, env=told)
+
+    def record(self, *words: str) -> subprocess.CompletedProcess:
+        return self.run("record/feed", "--socket", self.server.socket, "--user", "root", *words)
+
+    def made(self, *words: str) -> bytes:
+        """The output of a command that has to succeed. RuntimeError where it doesn't."""
+        done = self.run(*words)
+        if done.returncode or done.stderr:
+            raise RuntimeError(f"{' '.join(words[:2])}: status {done.returncode}, {done.stderr.decode(errors='replace')[:300]}")
+        return done.stdout
+
+    def recorded(self, *words: str) -> None:
+        self.made("record/feed", "--socket", self.server.socket, "--user", "root", *words)
+
+    def workflow(self, name: str, shards: list[str], tables: list[str], *words: str) -> str:
+        """Writes a workflow file; answers its path."""
+        said = ["--socket", self.server.socket, "--user", "root", "--keyspace", "ks", f"--shards={','.join(shards)}"]
+        with open(self.path(name), "wb") as file:
+            file.write(self.made("record/workflow", *said, *words, *tables))
+        return file.name
+
+    def selected(self, workflow: str, *schemas: str) -> bytes:
+        """What the server's own tables print as the dump of a workflow."""
+        return self.server.sql(self.made("record/select", workflow, *schemas).decode()).stdout
+
+    def same(self, name: str, dump: bytes, wanted: bytes, least: int = 0) -> None:
+        """Checks that two dumps are one, of so many lines at least."""
+        have, want = dump.splitlines(), wanted.splitlines()
+        at = next((at for at, (one, other) in enumerate(zip(have, want)) if one != other), min(len(have), len(want)))
+        told = f"line {at + 1} of {len(have)} and {len(want)}: {have[at:at + 1]!r:.200} and not {want[at:at + 1]!r:.200}"
+        self.check(name, (told if dump != wanted else None) or (f"only {len(have)} lines" if len(have) < least else None))
+
+
+def read_file(path: str) -> bytes | None:
+    if not os.path.exists(path):
+        return None
+    with open(path, "rb") as file:
+        return file.read()
+
+
+def stops(trial: Trial) -> None:
+    """Each stop has its line and status 1, and leaves the feed and its note as they were."""
+    from record.stops import CASES
+
+    out = trial.path("stop.feed")
+    for case in CASES:
+        trial.server.sql(case.made)
+        if case.purge:
+            trial.server.purge(case.purge)
+        before = read_file(out), read_file(out + ".json")
+        done = trial.record("--shard", "-", "--out", out, *case.words, *case.tables.split())
+        said = done.stderr.decode()
+        left = [name for name in os.listdir(trial.server.folder) if ".part" in name]
+        if not case.line:
+            why = said if done.returncode or said else None
+        elif done.returncode != 1 or not said.startswith("feed: ") or case.line not in said or said.count("\n") != 1:
+            why = f"status {done.returncode}, {said!r}"
+        else:
+            why = "the feed was changed" if (read_file(out), read_file(out + ".json")) != before else None
+        trial.check(f"stop {case.name}", why or (f"{left} was left" if left else None))
+        trial.server.sql(case.behind)
+    with open(out, "ab") as file:
+        file.truncate(file.tell() - 1)
+    done = trial.record("--shard", "-", "--out", out, "--append", "s.t")
+    trial.check("stop cut_feed", None if done.returncode == 1 and b"in " + out.encode() in done.stderr else repr(done.stderr))
+    trial.server.sql("DROP DATABASE s; DROP DATABASE s2; RESET MASTER")
+
+
+def merged_and_split(trial: Trial) -> None:
+    """Both shards' feeds into one target, and into one of each key range."""
+    from record.load import SCHEMAS, SHARDS, VINDEXES, Load, creation, deadlock, tables_of
+
+    trial.server.sql(creation() + "CREATE DATABASE aside; CREATE TABLE aside.t (v TEXT); ")
+    load = Load(trial.server.socket, 1, clients=6, transactions=200, xa=True)
+    trial.server.sql("INSERT INTO aside.t VALUES ('not recorded'); CREATE TABLE aside.t2 AS SELECT * FROM aside.t; DROP TABLE aside.t; ")
+    done = load.wait()
+    done["deadlock"] += deadlock(trial.server.socket)
+    missing = {"commit", "rollback", "xa", "deadlock", "_again", "_move", "_replace", "_upsert", "_undone", "_many"} - (+done).keys()
+    trial.check("load", f"no {missing}" if missing else None)
+    feeds = [trial.path(f"{schema}.feed") for schema in SCHEMAS]
+    for schema, shard, feed in zip(SCHEMAS, SHARDS, feeds):
+        trial.recorded("--shard", shard, "--out", feed, *tables_of(schema))
+    whole = trial.workflow("whole.json", SHARDS, tables_of(SCHEMAS[0]), *VINDEXES)
+    wanted = trial.selected(whole, *SCHEMAS)
+    trial.same("merged", trial.made("./vrepl", "run", whole, *feeds), wanted, 100)
+    trial.same("merged, one stream behind the other", trial.made("./vrepl", "run", "--alone", "--rows", "7", whole, *feeds), wanted)
+    for at, place in enumerate(RANGES):
+        part = trial.workflow(f"part{at}.json", SHARDS, tables_of(SCHEMAS[0]), *VINDEXES, f"--filter={place}")
+        trial.same(f"split {place}", trial.made("./vrepl", "run", part, *feeds), trial.selected(part, *SCHEMAS), 10)
+    by_rule = trial.workflow("rule.json", SHARDS, tables_of(SCHEMAS[0]), *VINDEXES,
+                             "--rule=blobs=select * from blobs where in_keyrange(k, 'binary_md5', '70-')", "--rule=pairs=80-")  # fmt: skip
+    trial.same("split by rules", trial.made("./vrepl", "run", by_rule, *feeds), trial.selected(by_rule, *SCHEMAS), 10)
+    library_reads(trial, feeds[0])
+
+
+def library_reads(trial: Trial, feed: str) -> None:
+    """Google's library reads the feed's messages as groups in the order of `show`, each with its FIELDs first."""
+    sys.path.insert(0, os.path.join(ROOT, "record"))
+    from recorder.messages import EventType, Response, frames
+
+    data, told, groups, faults = read_file(feed), set(), [], 0
+    for start, end in frames(data):
+        events = Response.FromString(data[start:end]).events
+        kinds = [event.type for event in events]
+        faults += kinds[:1] not in ([EventType.BEGIN], [EventType.GTID]) or kinds.count(EventType.GTID) != 1
+        groups += [event.gtid.removeprefix("MySQL56/") for event in events if event.type == EventType.GTID]
+        for event in events:
+            if event.type == EventType.FIELD:
+                faults += event.field_event.table_name in told
+                told.add(event.field_event.table_name)
+            faults += event.type == EventType.ROW and event.row_event.table_name not in told
+    shown = [line.split()[2].decode() for line in trial.made("./vrepl", "show", feed).splitlines() if line.startswith(b"group ")]
+    trial.check("messages", None if not faults and groups == shown else f"{faults} faults, {len(groups)} groups and {len(shown)} shown")
+
+
+def kinds(trial: Trial) -> None:
+    """Columns of every other type, from the log and from a snapshot, with the log packed and not."""
+    trial.server.sql("CREATE DATABASE k; CREATE TABLE k.t (id BIGINT PRIMARY KEY, d DECIMAL(10,3), e DECIMAL(65,30), f FLOAT, g DOUBLE, h DOUBLE(9,2),"
+                     " dt DATETIME(3), d0 DATETIME, ts TIMESTAMP(6) NULL, tm TIME(1), da DATE, y YEAR, en ENUM('x','y''z','ä'), se SET('p','q','r'),"
+                     " b BIT(10), p POINT, z INT(6) UNSIGNED ZEROFILL, v INT AS (id + 1) VIRTUAL, w INT AS (id + 2) STORED, l CHAR(9) CHARACTER SET latin1); ")  # fmt: skip
+    rows = [
+        "(1, -12.5, 1e-30, 1.5, 1e20, 1.005, '2020-01-02 03:04:05.678', '1999-12-31 23:59:59', '2020-01-02 03:04:05.6', '-10:11:12.1', '2024-02-29',"
+        " 2001, 'y''z', 'p,r', b'1010101010', POINT(1, 2), 42, 'ä ')",
+        "(-2, 0, -99999999999999999999999999999999999.999, -0.1, -1e-15, -0.5, '0001-01-01', '9999-12-31 23:59:59', '1970-01-01 00:00:01', '838:59:59',"
+        " '0001-01-01', 1901, 'ä', '', b'1', NULL, 4294967295, '')",
+        "(3, 9999999.999, 0, 16777216, 123456789012345678, 1234567.89, '2000-02-29 12:00:00.001', NULL, NULL, '-00:00:00.5', '9999-12-31', 2155, 'x', 'q',"
+        " b'0', NULL, 0, NULL)",
+    ]  # fmt: skip
+    names = "id, d, e, f, g, h, dt, d0, ts, tm, da, y, en, se, b, p, z, l"
+    floats = ", ".join(f"({at}, {text}, {text})" for at, text in enumerate(
+        ["1e15", "1e16", "123456789012345", "1234567890123456", "1e-5", "0.1", "1e38", "3.4e-38", "1e-16", "33.3", "0.30000000000000004", "1e7"], 100))  # fmt: skip
+    trial.server.sql(f"SET time_zone='+00:00'; INSERT INTO k.t ({names}) VALUES {rows[0]}, {rows[1]}; INSERT INTO k.t (id, f, g) VALUES {floats};"
+                     f" SET GLOBAL log_bin_compress=1, log_bin_compress_min_len=10; INSERT INTO k.t ({names}) VALUES {rows[2]};"
+                     " UPDATE k.t SET tm='12:34:56.7', f=-f WHERE id > 0; DELETE FROM k.t WHERE id=105; SET GLOBAL log_bin_compress=0; ")  # fmt: skip
+    workflow = trial.workflow("kinds.json", ["-"], ["k.t"])
+    wanted = trial.selected(workflow, "k")
+    for words in (), ("--from-snapshot",):
+        trial.recorded("--shard", "-", "--out", trial.path("kinds.feed"), *words, "k.t")
+        trial.same(f"types {words}", trial.made("./vrepl", "run", workflow, trial.path("kinds.feed")), wanted, 15)
+
+
+def groups_of(trial: Trial, feed: str) -> int:
+    return trial.made("./vrepl", "show", feed).count(b"\ngroup ") + 1
+
+
+def apply(stream: int, first: int, last: int) -> str:
+    return "".join(f"offer {stream} {number}\nadvance {stream}\n" for number in range(first, last + 1))
+
+
+def grown(trial: Trial) -> None:
+    """A checkpoint amidst copying, then more writes; a snapshot amidst these; both feeds appended to."""
+    from record.load import SCHEMAS, SHARDS, VINDEXES, Load, tables_of
+
+    feeds, whole = [trial.path(f"{schema}.feed") for schema in SCHEMAS], trial.path("whole.json")
+    ends = [groups_of(trial, feed) for feed in feeds]
+    script = apply(0, 1, ends[0] // 2) + f"open 0 {ends[0] // 2}\ncopy 0 10\n" + apply(1, 1, ends[1]) + f"open 1 {ends[1]}\ncopy 1 1000000\n"
+    saved = trial.run("./vrepl", "save", whole, *feeds, stdin=script)
+    with open(trial.path("saved.checkpoint"), "wb") as file:
+        file.write(saved.stdout)
+    load = Load(trial.server.socket, 2, clients=4, transactions=120, xa=False)
+    trial.recorded("--shard", "-80", "--out", trial.path("snap.feed"), "--from-snapshot", *tables_of(SCHEMAS[0]))
+    taken = json.loads(read_file(trial.path("snap.feed.json")))["gtids"]
+    load.wait()
+    for schema, shard, feed in zip([*SCHEMAS, SCHEMAS[0]], [*SHARDS, "-80"], [*feeds, trial.path("snap.feed")]):
+        old = read_file(feed)
+        trial.recorded("--shard", shard, "--out", feed, "--append", *tables_of(schema))
+        trial.check(f"append to {os.path.basename(feed)}", None if len(read_file(feed)) > len(old) and read_file(feed).startswith(old) else "not longer")
+    trial.check("snapshot amidst writes", None if taken != json.loads(read_file(trial.path("snap.feed.json")))["gtids"] else "no writes behind it")
+    wanted = trial.selected(whole, *SCHEMAS)
+    trial.same("merged, appended", trial.made("./vrepl", "run", whole, *feeds), wanted, 100)
+    both = [trial.path("snap.feed"), feeds[1]]
+    trial.same("merged, a snapshot and what is behind it", trial.made("./vrepl", "run", whole, *both), wanted)
+    now = [groups_of(trial, feed) for feed in feeds]
+    script = apply(0, ends[0] // 2 + 1, now[0]) + apply(1, ends[1] + 1, now[1])
+    script += "".join(f"open {stream} {now[stream]}\ncopy {stream} 1000000\n" * count for stream, count in ((0, 4), (1, 3))) + "dump\n"
+    resumed = trial.run("./vrepl", "resume", "--checkpoint", trial.path("saved.checkpoint"), whole, *feeds, stdin=script)
+    replies, _, dump = resumed.stdout.partition(b"table ")
+    trial.check("steps behind the checkpoint", resumed.stderr.decode() or (f"{replies.count(b'refused')} refused" if b"refused" in replies else None))
+    trial.same("resumed over the appended feeds", b"table " + dump, wanted)
+
+
+STEPS: list[Callable[[Trial], None]] = [stops, merged_and_split, kinds, grown]
+
+
+def main() -> int:
+    if not has_modules() and os.access(OWN, os.X_OK) and not os.environ.get("OWN_PYTHON"):
+        return subprocess.run([OWN, os.path.abspath(__file__)], env={**os.environ, "OWN_PYTHON": "1"}).returncode
+    from record.server import Server, is_installed
+
+    if not has_modules() or not is_installed():
+        print("mariadb-server, python3-pymysql and python3-protobuf are not all installed: nothing was recorded\n0 passed, 0 failed")
+        return 0
+    for number in (signal.SIGTERM, signal.SIGHUP):
+        signal.signal(number, lambda *_: sys.exit(1))
+    with Server() as server:
+        trial = Trial(server)
+        for step in STEPS:
+            try:
+                step(trial)
+            except Exception as fault:  # noqa: BLE001
+                trial.check(step.__name__, f"{type(fault).__name__}: {str(fault)[:600]}")
+            if os.environ.get("RECORD_TIMES"):
+                print(f"{step.__name__}: {time.monotonic() - trial.begun:.0f} s", flush=True)
+    print(f"{trial.passed} passed, {trial.failed} failed")
+    return 1 if trial.failed else 0
+
+
+if __name__ == "__main__":
+    sys.exit(main())
