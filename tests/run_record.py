@@ -207,7 +207,7 @@ def grown(trial: Trial) -> None:
 
     feeds, whole = [trial.path(f"{schema}.feed") for schema in SCHEMAS], trial.path("whole.json")
     ends = [groups_of(trial, feed) for feed in feeds]
-    script = apply(0, 1, ends[0] // 2) + f"open 0 {ends[0] // 2}\ncopy 0 10\n" + apply(1, 1, ends[1]) + f"open 1 {ends[1]}\ncopy 1 1000000\n"
+    script = apply(0, 1, ends[0] // 2) + f"open 0 {ends[0] // 2}\ncopy 0 1\n" + apply(1, 1, ends[1]) + f"open 1 {ends[1]}\ncopy 1 1000000\n"
     saved = trial.run("./vrepl", "save", whole, *feeds, stdin=script)
     with open(trial.path("saved.checkpoint"), "wb") as file:
         file.write(saved.stdout)

@@ -10,6 +10,10 @@ from .server import ask
 from .statements import Name
 from .stop import ANEW, Stop
 
+_COLUMNS = """SELECT column_name, data_type, column_type, character_set_name, collation_name, numeric_scale, character_octet_length
+    FROM information_schema.columns WHERE table_schema=%s AND table_name=%s ORDER BY ordinal_position"""
+_KEY = """SELECT column_name, sub_part FROM information_schema.statistics
+    WHERE table_schema=%s AND table_name=%s AND index_name='PRIMARY' ORDER BY seq_in_index"""
 CODECS = {"ascii": "ascii", "utf8mb3": "utf-8", "utf8mb4": "utf-8", "binary": "utf-8", "latin1": "cp1252"}
 
 
@@ -79,13 +83,11 @@ def _table(connection: Connection, schema: str, name: str) -> Table:
         raise Stop(f"a {kind.lower()}", where, "only base tables have rows of their own; leave it out")
     if engine != "InnoDB":
         raise Stop(f"engine {engine}", where, f"ALTER TABLE .. ENGINE=InnoDB, and {ANEW}")
-    columns = [_column(row, where) for row in ask(
-        connection, "SELECT column_name, data_type, column_type, character_set_name, collation_name, numeric_scale, character_octet_length"
-        " FROM information_schema.columns WHERE table_schema=%s AND table_name=%s ORDER BY ordinal_position", schema, name)]  # fmt: skip
+    _check_cascades(connection, schema, name, where)
+    columns = [_column(row, where) for row in ask(connection, _COLUMNS, schema, name)]
     if len(columns) > 256:
         raise Stop(f"{len(columns)} columns", where, "a row has at most 256; leave it out")
-    _check_cascades(connection, schema, name, where)
-    key = _key(connection, schema, name, where, [column for column, _ in columns], dict((column.name, collation) for column, collation in columns))
+    key = _key(connection, schema, name, where, columns)
     padding = {at for at in key if columns[at][1] and "_nopad_" not in columns[at][1]}
     return Table(schema, name, tuple(Column(column.name, column.printing, at in padding) for at, (column, _) in enumerate(columns)), key)
 
@@ -94,7 +96,8 @@ def _column(row: tuple, where: str) -> tuple[Column, str | None]:
     name, data_type, column_type, charset, collation, scale, octets = row
     kind = kind_of(data_type, "unsigned" in column_type)
     if kind is None:
-        raise Stop(f"type {data_type} of column {name}, which Vitess has no number for,", where, f"make it BINARY or VARCHAR, and {ANEW}, or leave the table out")
+        raise Stop(f"type {data_type} of column {name}, which Vitess has no number for,", where,
+                   f"make it BINARY or VARCHAR, and {ANEW}, or leave the table out")  # fmt: skip
     if "COMPRESSED" in column_type:
         raise Stop(f"compressed column {name}", where, f"make it a plain one, and {ANEW}, or leave the table out")
     width, labels = 0, ()
@@ -119,30 +122,33 @@ def _labels(column_type: str, codec: str | None, where: str) -> tuple[bytes, ...
         raise Stop("labels of an unread character set", where, "make it utf8mb4, or leave the table out") from None
 
 
+_FOREIGN_KEY = re.compile(r"^  CONSTRAINT (`(?:[^`]|``)+`) FOREIGN KEY .*? REFERENCES .*?\)((?: ON (?:DELETE|UPDATE) [A-Z ]+?)*),?$", re.M)
+
+
 def _check_cascades(connection: Connection, schema: str, name: str, where: str) -> None:
-    for constraint, update, delete in ask(
-            connection, "SELECT constraint_name, update_rule, delete_rule FROM information_schema.referential_constraints"
-            " WHERE constraint_schema=%s AND table_name=%s", schema, name):  # fmt: skip
-        for event, rule in (("UPDATE", update), ("DELETE", delete)):
-            if rule in ("CASCADE", "SET NULL", "SET DEFAULT"):
-                raise Stop(f"foreign key {constraint} ON {event} {rule}", where,
-                           f"its changes aren't in the log; make it RESTRICT, and {ANEW}, or leave the table out")  # fmt: skip
+    """Stops at a foreign key by which rows change without the log. SHOW CREATE TABLE says them to whoever may
+    read the table, or is refused; information_schema hides them from a user who may only read it."""
+    for constraint, rules in _FOREIGN_KEY.findall(ask(connection, f"SHOW CREATE TABLE {quoted(schema)}.{quoted(name)}")[0][1]):
+        for rule in ("CASCADE", "SET NULL", "SET DEFAULT"):
+            if rule in rules:
+                raise Stop(f"foreign key {constraint}{rules}", where, f"its changes aren't in the log; make it RESTRICT, and {ANEW}, or leave the table out")
 
 
-def _key(connection: Connection, schema: str, name: str, where: str, columns: list[Column], collations: dict[str, str | None]) -> tuple[int, ...]:
-    parts = ask(connection, "SELECT column_name, sub_part FROM information_schema.statistics"
-                " WHERE table_schema=%s AND table_name=%s AND index_name='PRIMARY' ORDER BY seq_in_index", schema, name)  # fmt: skip
+def _key(connection: Connection, schema: str, name: str, where: str, columns: list[tuple[Column, str | None]]) -> tuple[int, ...]:
+    """The places of the key's columns among these, which have their collations beside them."""
+    parts = ask(connection, _KEY, schema, name)
     if not parts:
         raise Stop("no primary key", where, f"ALTER TABLE .. ADD PRIMARY KEY, and {ANEW}, or leave the table out")
     if len(parts) > 8:
         raise Stop(f"{len(parts)} key columns", where, "a key has at most 8; leave the table out")
-    places = [column.name for column in columns]
+    places = [column.name for column, _ in columns]
     for part, prefix in parts:
-        column, collation = columns[places.index(part)], collations[part] or ""
+        column, collation = columns[places.index(part)]
         if prefix:
             raise Stop(f"key column {part} by its first {prefix} characters", where, "keys are whole columns; leave the table out")
         if column.kind not in KEYS:
-            raise Stop(f"key column {part} of type {column.kind.name}", where, "keys are whole numbers, VARCHAR, CHAR, VARBINARY or BINARY; leave the table out")
+            raise Stop(f"key column {part} of type {column.kind.name}", where,
+                       "keys are whole numbers, VARCHAR, CHAR, VARBINARY or BINARY; leave the table out")  # fmt: skip
         if collation and not (collation.endswith("_bin") and collation.split("_")[0] in CODECS):
             raise Stop(f"key column {part} of collation {collation}, whose equality or order isn't that of bytes,", where,
                        f"make it {collation.split('_')[0]}_nopad_bin or VARBINARY, and {ANEW}, or leave the table out")  # fmt: skip

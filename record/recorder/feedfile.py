@@ -18,6 +18,7 @@ from .stop import ANEW, Stop
 from .transactions import Change
 
 MOST = 2**31 - 1
+MOST_OF_ROW = 2**24
 
 
 @dataclass
@@ -96,10 +97,9 @@ class FeedFile:
             rows.table_name = change.table.name
             for before, after in change.rows:
                 one = rows.row_changes.add()
-                if before is not None:
-                    messages.set_row(one.before, before)
-                if after is not None:
-                    messages.set_row(one.after, after)
+                for message, row in ((one.before, before), (one.after, after)):
+                    if row is not None and messages.set_row(message, row) > MOST_OF_ROW:
+                        raise Stop(f"a row of more than {MOST_OF_ROW} bytes", f"in {'.'.join(change.table.full)} at {position}", "leave the table out")
         add(type=EventType.GTID, timestamp=time, gtid=position)
         if changes:
             add(type=EventType.COMMIT, timestamp=time)

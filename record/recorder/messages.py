@@ -52,11 +52,12 @@ class EventType(IntEnum):
     FIELD = 13
 
 
-def set_row(message, row: Row) -> None:
-    """Fills a Row message, which is there from then on also where it has no column's bytes."""
+def set_row(message, row: Row) -> int:
+    """Fills a Row message, which is there from then on also where it has no column's bytes; answers its size."""
     message.SetInParent()
     message.lengths.extend(-1 if cell is None else len(cell) for cell in row)
     message.values = b"".join(cell for cell in row if cell is not None)
+    return message.ByteSize()
 
 
 def framed(response) -> bytes:

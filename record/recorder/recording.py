@@ -102,7 +102,7 @@ def _behind(connection: Connection, wanted: Wanted, note: Note, tables: list[Tab
             raise Stop("another table, or other columns, than the feed has", f"in {name}", ANEW)
     gtids = gtids_at(connection, note.place)
     if gtids is None:
-        raise Stop("the log was purged", f"at {note.place}, where the feed ends", ANEW)
+        raise Stop("the log was purged or begun anew", f"at {note.place}, where the feed ends", ANEW)
     if Position.read(gtids).gtids() != note.gtids:
         raise Stop("another log than the feed's", f"at {note.place}: behind {gtids or 'nothing'} and not {note.gtids or 'nothing'}", ANEW)
     filled = {table.full for table in tables if ".".join(table.full) in note.filled}

@@ -46,9 +46,13 @@ class Login:
 
 
 def ask(connection: pymysql.Connection, query: str, *values) -> list[tuple]:
-    with connection.cursor() as cursor:
-        cursor.execute(query, values or None)
-        return list(cursor.fetchall())
+    """The rows that a query answers. Stops where the server refuses it."""
+    try:
+        with connection.cursor() as cursor:
+            cursor.execute(query, values or None)
+            return list(cursor.fetchall())
+    except pymysql.err.MySQLError as fault:
+        raise Stop("the server refuses a query", f"({query})", str(fault.args[-1])) from None
 
 
 @dataclass(frozen=True, order=True)
@@ -88,10 +92,7 @@ def end_place(connection: pymysql.Connection) -> Place:
 
 def gtids_at(connection: pymysql.Connection, place: Place) -> str | None:
     """The last GTID of each domain before a place; None where the log has no such place."""
-    try:
-        return ask(connection, "SELECT BINLOG_GTID_POS(%s, %s)", place.log, place.offset)[0][0]
-    except pymysql.err.MySQLError:
-        return None
+    return ask(connection, "SELECT BINLOG_GTID_POS(%s, %s)", place.log, place.offset)[0][0]
 
 
 def log_sizes(connection: pymysql.Connection) -> dict[str, int]:

@@ -36,6 +36,8 @@ class Statement:
     names: tuple[Name, ...] = ()
     """The tables that are named; of DROP_SCHEMA the schema and an empty name."""
     savepoint: str = ""
+    moves: bool = False
+    """Rows may come into the named tables that no event has: those of a table that is renamed, exchanged or imported."""
 
 
 # executable comments count as what stands in them, others as nothing
@@ -45,6 +47,7 @@ _TOKEN = re.compile(rf"`((?:[^`]|``)*)`|\"((?:[^\"]|\"\")*)\"|({_STRING})|([\w$\
 _COMMENT_OR_STRING = re.compile(rf"(`(?:[^`]|``)*`|\"(?:[^\"]|\"\")*\"|{_STRING})|" + _COMMENT.pattern, re.S)
 
 _HARMLESS = {"GRANT", "REVOKE", "FLUSH", "ANALYZE", "OPTIMIZE", "REPAIR", "CHECK", "SET", "RESET", "PURGE", "COMMENT", "INSTALL", "UNINSTALL"}
+_MOVES = {"RENAME", "EXCHANGE", "CONVERT", "IMPORT"}
 
 
 @dataclass(frozen=True)
@@ -123,22 +126,26 @@ def _of_tables(walk: _Walk, first: str) -> Statement:
         return Statement(Does.NOTHING)
     walk.skip("IF", "NOT", "EXISTS")
     walk.skip("IF", "EXISTS")
-    names = walk.name()
+    names, moves = walk.name(), first == "RENAME"
     if first in ("DROP", "RENAME"):
         while walk.at < len(walk.words):
             names += walk.name() if walk.skip(",") or walk.skip("TO") else []
             walk.at += walk.at < len(walk.words) and walk.words[walk.at].key not in (",", "TO")
     elif first == "ALTER":
+        moves = any(word.key in _MOVES for word in walk.words[walk.at:])
         behind = walk.at
         names += walk.names_behind("RENAME")
         walk.at = behind
-        names += walk.names_behind("WITH", "TABLE")
-    return Statement(Does.LAYOUT, tuple(names))
+        names += walk.names_behind("TABLE")
+    return Statement(Does.LAYOUT, tuple(names), moves=moves)
 
 
 def read_statement(text: str, schema: str) -> Statement:
     """What a statement does that ran with this schema as its default one."""
     words = _words(text)
+    if [word.key for word in words[:2]] == ["SET", "STATEMENT"]:
+        # SET STATEMENT variable=value, .. FOR another statement
+        words = words[next((at + 1 for at, word in enumerate(words) if word.key == "FOR"), len(words)):]
     walk = _Walk(words, schema)
     first = words[0].key if words else ""
     walk.at = 1

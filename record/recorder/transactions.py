@@ -80,7 +80,8 @@ class Transactions:
             try:
                 changes = self._changes(event)
             except (IndexError, struct.error, KeyError, UnicodeDecodeError) as fault:
-                raise Stop(f"an event of type {event.kind} that can't be read ({fault!r})", self._where(), "report it, with this event of mariadb-binlog --hexdump") from None
+                raise Stop(f"an event of type {event.kind} that can't be read ({fault!r})", self._where(),
+                           "report it, with this event of mariadb-binlog --hexdump") from None  # fmt: skip
             if changes is not None:
                 gtid, self._open = self._open.gtid, None
                 self.position.add(gtid)
@@ -98,7 +99,8 @@ class Transactions:
             raise Stop("a transaction without an end", self._where(), "the log was cut there; record again when the server has written it")
         for xa, changes in self.prepared.items():
             if changes:
-                raise Stop(f"XA transaction {xa[6:].hex()} is prepared", f"at {self._place}", "XA COMMIT or XA ROLLBACK it (XA RECOVER lists it), and record again")
+                raise Stop(f"XA transaction {xa[6:].hex()} is prepared", f"at {self._place}",
+                           "XA COMMIT or XA ROLLBACK it (XA RECOVER lists it), and record again")  # fmt: skip
 
     def _changes(self, event: Event) -> list[Change] | None:
         """Takes an event; answers the changes of the transaction that it ends, None where it ends none."""
@@ -169,10 +171,11 @@ class Transactions:
         return [] if now.alone else None
 
     def _check_layout(self, statement: Statement, text: str) -> None:
-        """A recorded table may change as a whole as long as no row of it was recorded."""
+        """A recorded table may change as a whole as long as no row of it was recorded, and none comes in by it."""
         what = "TRUNCATE" if statement.does == Does.TRUNCATE else "DDL"
+        fixed = self.tables.keys() if statement.moves else self.filled | {change.table.full for change in self._open.changes}
         for schema, name in statement.names:
-            for full in self.filled | {change.table.full for change in self._open.changes}:
+            for full in fixed:
                 if full[0].lower() == schema.lower() and (not name or full[1].lower() == name.lower()):
                     raise Stop(f"{what} of a recorded table, {'.'.join(full)} ({_cut(text)}),", self._where(), ANEW)
 
@@ -190,7 +193,8 @@ class Transactions:
 
     def _altered(self, table: Table, what: str) -> Stop:
         """The catalogue is read before the log: where they differ, the table was altered between."""
-        return Stop(f"DDL of a recorded table, {table.schema}.{table.name}: the log {what},", self._where(), f"{ANEW}, or leave the table out where that says the same")
+        return Stop(f"DDL of a recorded table, {table.schema}.{table.name}: the log {what},", self._where(),
+                    f"{ANEW}, or leave the table out where that says the same")  # fmt: skip
 
     def _rows(self, kind: int, body: bytes) -> None:
         found, layout = self._maps[int.from_bytes(body[:6], "little")]
