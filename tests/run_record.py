@@ -24,6 +24,7 @@ OWN = "/usr/bin/python3"
 MODULES = ("pymysql", "google.protobuf")
 RANGES = ["-40", "40-80", "80-c0", "c0-", "-1080", "33-e1"]
 sys.dont_write_bytecode = True
+sys.path.append(os.path.join(ROOT, "record"))
 
 
 def has_modules() -> bool:
@@ -149,7 +150,6 @@ def merged_and_split(trial: Trial) -> None:
 
 def library_reads(trial: Trial, feed: str) -> None:
     """Google's library reads the feed's messages as groups in the order of `show`, each with its FIELDs first."""
-    sys.path.insert(0, os.path.join(ROOT, "record"))
     from recorder.messages import EventType, Response, frames
 
     data, told, groups, faults = read_file(feed), set(), [], 0
@@ -233,7 +233,18 @@ def grown(trial: Trial) -> None:
     trial.same("resumed over the appended feeds", b"table " + dump, wanted)
 
 
-STEPS: list[Callable[[Trial], None]] = [stops, merged_and_split, kinds, grown]
+def statements(trial: Trial) -> None:
+    """What a statement's text says that it does, and to which tables."""
+    from recorder.statements import read_statement
+    from record.statements import TEXTS
+
+    for text, does, names in TEXTS:
+        read = read_statement(text, "d")
+        found = read.does.name, [".".join(name) for name in read.names]
+        trial.check(f"statement {text!r}", None if found == (does, names) else f"{found}")
+
+
+STEPS: list[Callable[[Trial], None]] = [statements, stops, merged_and_split, kinds, grown]
 
 
 def main() -> int:

@@ -11,7 +11,7 @@ from .catalogue import Table, read_tables
 from .events import Event, LogEvent
 from .feedfile import FeedFile, Note, check_end, note_path
 from .position import SNAPSHOT_UUID, Position, domain_uuid
-from .server import Login, Place, check_settings, end_place, events, first_place, gtids_at, log_sizes
+from .server import Login, Place, check_schemas, check_settings, end_place, events, first_place, gtids_at, log_sizes
 from .snapshot import Snapshot
 from .statements import Name
 from .stop import ANEW, Stop
@@ -74,6 +74,7 @@ def record(wanted: Wanted) -> Note:
     """Writes a feed and its note. Stops, with nothing written, where the feed couldn't say what the tables are."""
     with closing(wanted.login.connect()) as connection:
         version = check_settings(connection)
+        check_schemas(connection, {schema for schema, _ in wanted.tables})
         if wanted.append:
             note = Note.read(note_path(wanted.out))
             tables = read_tables(connection, wanted.tables)
@@ -118,22 +119,21 @@ def _write(wanted: Wanted, connection: Connection, version: str, tables: list[Ta
         if snapshot:
             written = _write_snapshot(feed, snapshot, tables, start)
         reading = Transactions(tables, position, start.filled, start.prepared)
-        progress, groups, place = Progress(log_sizes(connection), start.place, end), 0, start.place
+        progress, groups = Progress(log_sizes(connection), start.place, end), 0
         with closing(wanted.login.connect()) as stream:
             checked = _checked(events(stream, start.place), start)
-            for transaction in reading.read(checked, end):
-                place = transaction.end
+            for transaction in reading.read(checked, start.place, end):
                 if transaction.changes:
                     written = position.text()
                     feed.group(transaction.changes, written, transaction.time)
                     groups += 1
-                progress.at(place, groups)
+                progress.at(transaction.end, groups)
         progress.close()
         if position.last and position.text() != written:
             # no group says what the last transactions left alone: this one says that they were read
             written = position.text()
             feed.group([], written)
-        note = Note(version, wanted.shard, place, reading.begun, position.gtids(), position.snapshot, written, 0,
+        note = Note(version, wanted.shard, end, reading.begun, position.gtids(), position.snapshot, written, 0,
                     {str(domain): domain_uuid(domain) for domain in position.last} | ({"snapshot": SNAPSHOT_UUID} if position.snapshot else {}),
                     {".".join(table.full): table.layout() for table in tables}, sorted(".".join(name) for name in start.filled),
                     [xa.hex() for xa in start.prepared])  # fmt: skip

@@ -33,7 +33,7 @@ class Login:
         return cls(socket, user or getpass.getuser())
 
     def connect(self, raw: bool = False) -> pymysql.Connection:
-        """A connection in UTC; `raw` ones answer each cell as the bytes that the server prints, unconverted."""
+        """A connection in UTC and without modes of SQL; `raw` ones answer each cell as the bytes that the server prints, unconverted."""
         how = {"use_unicode": False, "conv": {}} if raw else {}
         try:
             connection = pymysql.connect(unix_socket=self.socket, user=self.user, password=os.environ.get("MYSQL_PWD", ""),
@@ -41,7 +41,7 @@ class Login:
         except pymysql.err.MySQLError as fault:
             raise Stop("no connection", f"at {self.socket}", str(fault.args[-1])) from None
         with connection.cursor() as cursor:
-            cursor.execute("SET time_zone='+00:00'" + (", character_set_results=NULL" if raw else ""))
+            cursor.execute("SET time_zone='+00:00', sql_mode='', sql_quote_show_create=1" + (", character_set_results=NULL" if raw else ""))
         return connection
 
 
@@ -88,6 +88,14 @@ def first_place(connection: pymysql.Connection) -> Place:
 
 def end_place(connection: pymysql.Connection) -> Place:
     return Place(*ask(connection, "SHOW MASTER STATUS")[0][:2])
+
+
+def check_schemas(connection: pymysql.Connection, schemas: set[str]) -> None:
+    """Stops at a schema that the server keeps out of its log."""
+    only, without = (text.split(",") if text else [] for text in ask(connection, "SHOW MASTER STATUS")[0][2:4])
+    for schema in sorted(schemas):
+        if schema in without or only and schema not in only:
+            raise Stop(f"schema {schema} isn't in the log", "(binlog_do_db, binlog_ignore_db)", f"start the server without these, and {ANEW}")
 
 
 def gtids_at(connection: pymysql.Connection, place: Place) -> str | None:

@@ -73,8 +73,9 @@ class Transactions:
         self._open: _Open | None = None
         self._place = Place("", 0)
 
-    def read(self, events: Iterable[tuple[str, Event]], end: Place) -> Iterator[Transaction]:
-        """The transactions up to a place. Stops where the log can't be told as rows."""
+    def read(self, events: Iterable[tuple[str, Event]], start: Place, end: Place) -> Iterator[Transaction]:
+        """The transactions from a place to another one. Stops where the log can't be told as rows."""
+        self._place = start
         for log, event in events:
             self._place = Place(log, event.end)
             try:
@@ -89,6 +90,9 @@ class Transactions:
                 yield Transaction(gtid, event.time, changes, self._place)
             if log == end.log and event.end >= end.offset and not self._open:
                 break
+        else:
+            if start != end:
+                raise Stop(f"the log ends before {end}", self._where(), "record again")
         self._check_ended()
 
     def _where(self) -> str:

@@ -95,11 +95,8 @@ class Server:
 
     def __exit__(self, *_: object) -> None:
         if self._process:
-            self._process.terminate()
-            try:
-                self._process.wait(timeout=10)
-            except subprocess.TimeoutExpired:
-                self._process.kill()
-                self._process.wait()
+            # nothing of it is wanted again, so it needn't close its files
+            self._process.kill()
+            self._process.wait()
             self._log.close()
         shutil.rmtree(self.folder, ignore_errors=True)
