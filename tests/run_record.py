@@ -249,7 +249,7 @@ STEPS: list[Callable[[Trial], None]] = [statements, stops, merged_and_split, kin
 
 def main() -> int:
     if not has_modules() and os.access(OWN, os.X_OK) and not os.environ.get("OWN_PYTHON"):
-        return subprocess.run([OWN, os.path.abspath(__file__)], env={**os.environ, "OWN_PYTHON": "1"}).returncode
+        os.execve(OWN, [OWN, os.path.abspath(__file__)], {**os.environ, "OWN_PYTHON": "1"})
     from record.server import Server, is_installed
 
     if not has_modules() or not is_installed():
