@@ -118,7 +118,8 @@ def _write(wanted: Wanted, connection: Connection, version: str, tables: list[Ta
         written = start.written
         if snapshot:
             written = _write_snapshot(feed, snapshot, tables, start)
-        reading = Transactions(tables, position, start.filled, start.prepared)
+        begun_with = {table.full for table in tables} if snapshot or wanted.append else set()
+        reading = Transactions(tables, position, start.filled, start.prepared, begun_with)
         progress, groups = Progress(log_sizes(connection), start.place, end), 0
         with closing(wanted.login.connect()) as stream:
             checked = _checked(events(stream, start.place), start)

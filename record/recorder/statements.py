@@ -22,8 +22,10 @@ class Does(Enum):
     XA_ROLLBACK = auto()
     NOTHING = auto()
     """Nothing to the rows and the layout of any table."""
+    CREATE = auto()
+    """Makes a table; MariaDB logs none that was there already."""
     LAYOUT = auto()
-    """Changes, makes or drops tables."""
+    """Changes or drops tables."""
     DROP_SCHEMA = auto()
     TRUNCATE = auto()
     ROWS = auto()
@@ -127,6 +129,8 @@ def _of_tables(walk: _Walk, first: str) -> Statement:
     walk.skip("IF", "NOT", "EXISTS")
     walk.skip("IF", "EXISTS")
     names, moves = walk.name(), first == "RENAME"
+    if first == "CREATE":
+        return Statement(Does.CREATE, tuple(names))
     if first in ("DROP", "RENAME"):
         while walk.at < len(walk.words):
             names += walk.name() if walk.skip(",") or walk.skip("TO") else []

@@ -63,11 +63,12 @@ SKIPPED = {LogEvent.STOP, LogEvent.ROTATE, LogEvent.INTVAR, LogEvent.RAND, LogEv
 
 class Transactions:
     """Reads a log's transactions. `position` is moved on by each; `filled` are the tables that have had rows,
-    `prepared` the changes of XA transactions that are neither committed nor rolled back."""
+    `prepared` the changes of XA transactions that are neither committed nor rolled back. `begun_with` are the
+    tables all of whose rows are known where the reading begins; the others have to be made in the log."""
 
-    def __init__(self, tables: list[Table], position: Position, filled: set[Name], prepared: dict[bytes, list[Change]]) -> None:
+    def __init__(self, tables: list[Table], position: Position, filled: set[Name], prepared: dict[bytes, list[Change]], begun_with: set[Name]) -> None:
         self.tables = {table.full: table for table in tables}
-        self.position, self.filled, self.prepared = position, filled, prepared
+        self.position, self.filled, self.prepared, self.begun_with = position, filled, prepared, begun_with
         self.begun = 0
         self._maps: dict[int, tuple[TableMap, _Layout | None]] = {}
         self._open: _Open | None = None
@@ -98,7 +99,13 @@ class Transactions:
     def _where(self) -> str:
         return (f"in transaction {self._open.gtid}, " if self._open else "") + f"before {self._place}"
 
+    def _check_begun(self, table: Table) -> None:
+        if table.full not in self.begun_with:
+            raise Stop(f"a table that was there before the log, {table.schema}.{table.name},", self._where(), ANEW)
+
     def _check_ended(self) -> None:
+        for table in self.tables.values():
+            self._check_begun(table)
         if self._open:
             raise Stop("a transaction without an end", self._where(), "the log was cut there; record again when the server has written it")
         for xa, changes in self.prepared.items():
@@ -170,21 +177,27 @@ class Transactions:
             case Does.ROWS:
                 raise Stop(f"statement or mixed format ({_cut(text)})", self._where(),
                            f"SET GLOBAL binlog_format=ROW, let clients connect anew, and {ANEW}")  # fmt: skip
-            case Does.LAYOUT | Does.TRUNCATE | Does.DROP_SCHEMA:
+            case Does.CREATE | Does.LAYOUT | Does.TRUNCATE | Does.DROP_SCHEMA:
                 self._check_layout(statement, text)
         return [] if now.alone else None
 
     def _check_layout(self, statement: Statement, text: str) -> None:
         """A recorded table may change as a whole as long as no row of it was recorded, and none comes in by it."""
         what = "TRUNCATE" if statement.does == Does.TRUNCATE else "DDL"
-        fixed = self.tables.keys() if statement.moves else self.filled | {change.table.full for change in self._open.changes}
+        filled = self.filled | {change.table.full for change in self._open.changes}
         for schema, name in statement.names:
-            for full in fixed:
-                if full[0].lower() == schema.lower() and (not name or full[1].lower() == name.lower()):
+            for full in self.tables:
+                if full[0].lower() != schema.lower() or name and full[1].lower() != name.lower():
+                    continue
+                if statement.does == Does.CREATE and full not in filled:
+                    self.begun_with.add(full)
+                elif statement.moves or full in filled:
                     raise Stop(f"{what} of a recorded table, {'.'.join(full)} ({_cut(text)}),", self._where(), ANEW)
 
     def _map(self, found: TableMap) -> None:
         table = self.tables.get((found.schema, found.table))
+        if table:
+            self._check_begun(table)
         self._maps[found.number] = (found, self._layout(found, table) if table else None)
 
     def _layout(self, found: TableMap, table: Table) -> _Layout:
