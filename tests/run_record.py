@@ -181,8 +181,8 @@ def kinds(trial: Trial) -> None:
         " b'0', NULL, 0, NULL)",
     ]  # fmt: skip
     names = "id, d, e, f, g, h, dt, d0, ts, tm, da, y, en, se, b, p, z, l"
-    floats = ", ".join(f"({at}, {text}, {text})" for at, text in enumerate(
-        ["1e15", "1e16", "123456789012345", "1234567890123456", "1e-5", "0.1", "1e38", "3.4e-38", "1e-16", "33.3", "0.30000000000000004", "1e7"], 100))  # fmt: skip
+    texts = ["1e15", "1e16", "123456789012345", "1234567890123456", "1e-5", "0.1", "1e38", "3.4e-38", "1e-16", "33.3", "0.30000000000000004", "1e7"]
+    floats = ", ".join(f"({at}, {text}, {text})" for at, text in enumerate(texts, 100))
     trial.server.sql(f"SET time_zone='+00:00'; INSERT INTO k.t ({names}) VALUES {rows[0]}, {rows[1]}; INSERT INTO k.t (id, f, g) VALUES {floats};"
                      f" SET GLOBAL log_bin_compress=1, log_bin_compress_min_len=10; INSERT INTO k.t ({names}) VALUES {rows[2]};"
                      " UPDATE k.t SET tm='12:34:56.7', f=-f WHERE id > 0; DELETE FROM k.t WHERE id=105; SET GLOBAL log_bin_compress=0; ")  # fmt: skip

@@ -39,9 +39,14 @@ class Printing:
     """Of ENUM and SET."""
 
 
-INTEGERS = {1: 1, 2: 2, 9: 3, 3: 4, 8: 8}
-SIGNED_KINDS = (Kind.INT8, Kind.INT16, Kind.INT24, Kind.INT32, Kind.INT64)
-UNSIGNED_KINDS = (Kind.UINT8, Kind.UINT16, Kind.UINT24, Kind.UINT32, Kind.UINT64)
+INTEGERS = {
+    1: (1, Kind.INT8, Kind.UINT8),
+    2: (2, Kind.INT16, Kind.UINT16),
+    9: (3, Kind.INT24, Kind.UINT24),
+    3: (4, Kind.INT32, Kind.UINT32),
+    8: (8, Kind.INT64, Kind.UINT64),
+}
+"""By the log's type the bytes, and the kinds with a sign and without."""
 
 
 def _integer(size: int, signed: bool, width: int) -> Reader:
@@ -166,10 +171,10 @@ def reader(log: LogType, printing: Printing) -> Reader:
     """How values of this log type and kind are read. UnknownType where the two don't fit."""
     kind, meta = printing.kind, log.meta
     match log.number:
-        case 1 | 2 | 9 | 3 | 8 if kind in SIGNED_KINDS + UNSIGNED_KINDS:
-            size, signed = INTEGERS[log.number], kind in SIGNED_KINDS
-            if kind == (SIGNED_KINDS if signed else UNSIGNED_KINDS)[list(INTEGERS).index(log.number)]:
-                return _integer(size, signed, printing.width)
+        case number if number in INTEGERS:
+            size, signed, unsigned = INTEGERS[number]
+            if kind in (signed, unsigned):
+                return _integer(size, kind == signed, printing.width)
         case 15 if kind in (Kind.VARCHAR, Kind.VARBINARY):
             return _counted(2 if int.from_bytes(meta, "little") > 255 else 1)
         case 252 if kind in (Kind.TEXT, Kind.BLOB):

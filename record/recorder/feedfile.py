@@ -8,7 +8,9 @@ the length that the note gives.
 import json
 import os
 import shutil
-from dataclasses import dataclass, field
+from dataclasses import asdict, dataclass, field
+
+from google.protobuf.message import DecodeError
 
 from . import messages
 from .catalogue import Table
@@ -51,7 +53,7 @@ class Note:
 
     def write(self, path: str) -> None:
         with open(path, "w", encoding="utf-8") as file:
-            json.dump(vars(self) | {"place": self.place.as_dict()}, file, indent=1)
+            json.dump(asdict(self), file, indent=1)
             file.write("\n")
 
 
@@ -138,7 +140,7 @@ def check_end(path: str, note: Note) -> None:
         for last in messages.frames(feed):
             pass
         said = Response.FromString(feed[last[0]:last[1]]).events if last else []
-    except (OSError, ValueError, messages.DecodeError) as fault:
+    except (OSError, ValueError, DecodeError) as fault:
         raise Stop("no feed to append to", f"in {path}", f"{fault}; {ANEW}") from None
     positions = [event.gtid for event in said if event.type == EventType.GTID]
     if len(feed) != note.size or (positions or [""])[-1] != note.position:

@@ -8,12 +8,12 @@ import os
 import struct
 import zlib
 from collections.abc import Iterator
-from dataclasses import asdict, dataclass
+from dataclasses import dataclass
 
 import pymysql
 from pymysql.constants import COMMAND
 
-from .events import HEADER, Event, LogEvent
+from .events import Event, LogEvent
 from .stop import ANEW, Stop
 
 WITHOUT_WAITING = 1
@@ -55,7 +55,7 @@ def ask(connection: pymysql.Connection, query: str, *values) -> list[tuple]:
         raise Stop("the server refuses a query", f"({query})", str(fault.args[-1])) from None
 
 
-@dataclass(frozen=True, order=True)
+@dataclass(frozen=True)
 class Place:
     """A place in the log: a file's name, and a byte of it."""
 
@@ -64,9 +64,6 @@ class Place:
 
     def __str__(self) -> str:
         return f"{self.log}:{self.offset}"
-
-    def as_dict(self) -> dict:
-        return asdict(self)
 
 
 def check_settings(connection: pymysql.Connection) -> str:

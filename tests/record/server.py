@@ -58,8 +58,8 @@ class Server:
             os.chmod(self.folder, 0o755)
             for path in (self.folder, data):
                 shutil.chown(path, user)
-        made = subprocess.run([command("mariadb-install-db"), "--no-defaults", f"--datadir={data}", "--auth-root-authentication-method=normal",
-                               "--skip-test-db", *([f"--user={user}"] if user else [])], stdin=subprocess.DEVNULL, capture_output=True, text=True, timeout=60)  # fmt: skip
+        words = [command("mariadb-install-db"), "--no-defaults", f"--datadir={data}", "--auth-root-authentication-method=normal", "--skip-test-db"]
+        made = subprocess.run([*words, *([f"--user={user}"] if user else [])], stdin=subprocess.DEVNULL, capture_output=True, text=True, timeout=60)
         if made.returncode:
             raise RuntimeError(f"mariadb-install-db: {made.stdout[-500:]}{made.stderr[-500:]}")
         self._log = open(os.path.join(self.folder, "log"), "wb")  # noqa: SIM115
