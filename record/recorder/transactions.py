@@ -5,6 +5,7 @@ GTID, in the order of commits; one of XA in two, of which the second decides. Wh
 the log, or is dropped here.
 """
 import struct
+import zlib
 from collections.abc import Iterable, Iterator
 from dataclasses import dataclass, field
 
@@ -81,7 +82,7 @@ class Transactions:
             self._place = Place(log, event.end)
             try:
                 changes = self._changes(event)
-            except (IndexError, struct.error, KeyError, UnicodeDecodeError) as fault:
+            except (IndexError, KeyError, ValueError, struct.error, zlib.error) as fault:
                 raise Stop(f"an event of type {event.kind} that can't be read ({fault!r})", self._where(),
                            "report it, with this event of mariadb-binlog --hexdump") from None  # fmt: skip
             if changes is not None:
@@ -198,6 +199,8 @@ class Transactions:
         table = self.tables.get((found.schema, found.table))
         if table:
             self._check_begun(table)
+            if self._open is None:
+                raise Stop(f"rows of {found.schema}.{found.table} without a GTID", self._where(), ANEW)
         self._maps[found.number] = (found, self._layout(found, table) if table else None)
 
     def _layout(self, found: TableMap, table: Table) -> _Layout:
