@@ -193,6 +193,15 @@ def kinds(trial: Trial) -> None:
         trial.same(f"types {words}", trial.made("./vrepl", "run", workflow, trial.path("kinds.feed")), wanted, 15)
 
 
+def portions(trial: Trial) -> None:
+    """A snapshot of more rows than a group has, and nothing of the table in the log behind it."""
+    trial.server.sql("CREATE DATABASE p; USE p; CREATE TABLE p.t (id INT PRIMARY KEY, v INT); INSERT INTO p.t SELECT seq * 7, seq FROM seq_1_to_2500; ")
+    workflow, feed = trial.workflow("portions.json", ["-"], ["p.t"]), trial.path("portions.feed")
+    trial.recorded("--shard", "-", "--out", feed, "--from-snapshot", "p.t")
+    trial.same("portions of a snapshot", trial.made("./vrepl", "run", workflow, feed), trial.selected(workflow, "p"), 2501)
+    trial.check("groups of a snapshot", None if groups_of(trial, feed) == 4 else f"{groups_of(trial, feed)}")
+
+
 def groups_of(trial: Trial, feed: str) -> int:
     return trial.made("./vrepl", "show", feed).count(b"\ngroup ") + 1
 
@@ -244,7 +253,7 @@ def statements(trial: Trial) -> None:
         trial.check(f"statement {text!r}", None if found == (does, names) else f"{found}")
 
 
-STEPS: list[Callable[[Trial], None]] = [statements, stops, merged_and_split, kinds, grown]
+STEPS: list[Callable[[Trial], None]] = [statements, stops, merged_and_split, kinds, portions, grown]
 
 
 def main() -> int:
