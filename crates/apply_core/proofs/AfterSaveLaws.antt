@@ -1,5 +1,5 @@
 -- Feeds that make a board of what a checkpoint says are refused for nothing, and a board that is saved comes back.
-use Rattle.std.proofs.Common.{◌≡◌, ◌≢◌, ◌==◌, ℕ, zero, suc, ◌+◌, ◌≤◌, Bool, true, false, cond, List, [], ◌∷◌, length, take, Option, Some, None, Result, Ok, Err, IfOk, IfErr, slice_get, refl, sym, ap, subst, ◌∙◌, arith}
+use Rattle.std.proofs.Common.{◌≡◌, ◌≢◌, ◌==◌, ℕ, zero, suc, ◌+◌, ◌^◌, ◌<◌, ◌≤◌, Bool, true, false, cond, List, [], ◌∷◌, length, take, Option, Some, None, Result, Ok, Err, IfOk, IfErr, slice_get, refl, sym, ap, subst, ◌∙◌, arith}
 use Rattle.std.proofs.lemmas.Bool.{eqb-false}
 use Rattle.std.proofs.lemmas.List.{length-map}
 use Rattle.std.proofs.lemmas.Option.{same_Some, none-some, slice_get-map}
@@ -22,7 +22,7 @@ use Rattle.join_laws.specs.Joined.{rows_from}
 use Rattle.join_laws.specs.Refused.{IsFirstClash}
 use Rattle.join_laws.proofs.Rows.{value_from, IsRowOf, whose}
 use Rattle.checkpoint_laws.specs.declared.fault.ResumeFault.{ResumeFault}
-use Rattle.checkpoint_laws.specs.declared.fault.ResumeFault.TheVariants.{FeedCount, WrongPlan, BadCheckpoint, PositionUnknown, Unsound, Differs, OwnedByOther, Memory}
+use Rattle.checkpoint_laws.specs.declared.fault.ResumeFault.TheVariants.{FeedCount, WrongPlan, CheckpointBad, PositionUnknown, Unsound, CheckpointDiffers, OwnedByOther, Memory}
 use Rattle.checkpoint_laws.specs.Saved.{SavedStream, saved_of}
 use Rattle.checkpoint_laws.specs.Said.{IsCheckpoint}
 use Rattle.checkpoint_laws.specs.Resumed.{resumed_state, IsResumedAt, AreResumed, AgreesWith, AtEachPlace, IsResumedBoard}
@@ -34,7 +34,6 @@ use Rattle.apply_core.specs.Feeds.{AreWhole, AreFed}
 use Rattle.apply_core.specs.Private.Resuming.{AreOthers, HaveClash, IsUnfed}
 use Rattle.apply_core.specs.Private.Together.{AreTogether}
 use Rattle.apply_core.specs.Resuming.{IsResumed, IsRefusedResume, Gives, IsSavedOf}
-use Rattle.apply_core.proofs.KeyedLaws.{within_limits}
 
 -- ---- streams that are apart don't clash
 
@@ -91,13 +90,13 @@ module _ (ties : Ties) (feeds : List FeedValue) (whole : AreWhole feeds) (saved 
   pub not_refused : (fault : ResumeFault) → IsRefusedSaved feeds saved fault → fault ≡ Memory
   not_refused FeedCount h = absurd h
   not_refused WrongPlan h = absurd h
-  not_refused BadCheckpoint h = absurd h
+  not_refused CheckpointBad h = absurd h
   not_refused (PositionUnknown s) h = let at : Stands h.one h.other = stands s h.one h.other h.here h.there in absurd (h.fails (at.at.number, at.at.known))
   not_refused (Unsound fault) h =
       let at : Stands h.first.one h.first.other = stands h.stream h.first.one h.first.other h.first.here h.first.there in
       absurd (h.first.fails (λ number known.
       subst (λ n. n ≤ length (sound_groups h.first.one)) (one_number h.first.one (whole h.stream h.first.one h.first.here) h.first.other.position at.at.number number at.at.known known) at.at.sound))
-  not_refused (Differs s key) h =
+  not_refused (CheckpointDiffers s key) h =
       let there : slice_get board.streams s ≡ Some h.first.other = ap (λ (xs : List State). slice_get xs s) (sym (same_states h.states h.resumed)) ∙ h.first.there in
       absurd (h.first.fails (made.agree s h.first.one h.first.other h.first.here there))
   not_refused (OwnedByOther key owner) h = absurd (not_apart ties board.streams key owner (subst (λ (xs : List State). IsFirstClash xs key owner) (same_states h.states h.resumed) h.clash) made.apart)
@@ -144,12 +143,13 @@ module _ (plans : List PlanValue) (feeds : List FeedValue) (bytes : List ℕ) (b
   }
 
 module _ (ties : Ties) (said : SavedBoardsAreSaid) (one_thing : CheckpointsSayOneThing) (again : RestartedBoardsAreResumed) (plans : List PlanValue) (well : AllByRecursion IsPlan plans) (feeds : List FeedValue) (bytes : List ℕ)
-    (board : Meaning) (of : IsSavedOf plans feeds bytes board) (are : AreFeeds feeds) where
+    (long : length bytes < 2 ^ 64) (board : Meaning) (of : IsSavedOf plans feeds bytes board) (are : AreFeeds feeds) where
   -- what the bytes say is what is kept of the board
   says : IsCheckpoint plans bytes (saved_of board)
   says =
       subst (λ (ps : List PlanValue). IsCheckpoint ps bytes (saved_of board)) (sym of.planned)
-      (subst (λ (bs : List ℕ). IsCheckpoint (plans_of board) bs (saved_of board)) (sym of.written) (said board of.lawful (within_limits ties feeds are.whole board of.lawful of.begins of.writable)))
+      (subst (λ (bs : List ℕ). IsCheckpoint (plans_of board) bs (saved_of board)) (sym of.written)
+      (said board (subst (AllByRecursion IsPlan) of.planned well) of.lawful of.within (subst (λ (bs : List ℕ). length bs < 2 ^ 64) of.written long)))
 
   kept_is : (saved : List SavedStream) → IsCheckpoint (plans_of_feeds feeds) bytes saved → saved ≡ saved_of board
   kept_is saved check = one_thing plans bytes saved (saved_of board) well (subst (λ (ps : List PlanValue). IsCheckpoint ps bytes saved) (plans_are plans feeds bytes board of) check) says
@@ -162,13 +162,13 @@ module _ (ties : Ties) (said : SavedBoardsAreSaid) (one_thing : CheckpointsSayOn
       not_refused ties feeds are.whole (saved_of board) (restarted board) resumed fault (subst (λ (kept : List SavedStream). IsRefusedSaved feeds kept fault) (kept_is saved check) refused)
 
   none_refused : (fault : ResumeFault) → IsRefusedCheckpoint feeds bytes fault → fault ≡ Memory
-  none_refused BadCheckpoint h = absurd (h (saved_of board) (subst (λ (ps : List PlanValue). IsCheckpoint ps bytes (saved_of board)) (sym (plans_are plans feeds bytes board of)) says))
+  none_refused CheckpointBad h = absurd (h (saved_of board) (subst (λ (ps : List PlanValue). IsCheckpoint ps bytes (saved_of board)) (sym (plans_are plans feeds bytes board of)) says))
   none_refused Memory h = refl
   none_refused FeedCount h = of_saved FeedCount h.0 h.1 h.2
   none_refused WrongPlan h = of_saved WrongPlan h.0 h.1 h.2
   none_refused (PositionUnknown s) h = of_saved (PositionUnknown s) h.0 h.1 h.2
   none_refused (Unsound fault) h = of_saved (Unsound fault) h.0 h.1 h.2
-  none_refused (Differs s key) h = of_saved (Differs s key) h.0 h.1 h.2
+  none_refused (CheckpointDiffers s key) h = of_saved (CheckpointDiffers s key) h.0 h.1 h.2
   none_refused (OwnedByOther key owner) h = of_saved (OwnedByOther key owner) h.0 h.1 h.2
 
   pub comes_back : (result : Result Meaning ResumeFault) → IfOk result (IsResumed feeds bytes) → IfErr result (IsRefusedCheckpoint feeds bytes) → Gives (restarted board) result
@@ -193,20 +193,20 @@ are_feeds plans feeds some few fed whole =
 pub unfed_refused : (plans : List PlanValue) (feeds : List FeedValue) (bytes : List ℕ) (fault : ResumeFault) → IsUnfed plans feeds fault → IsRefusedResume plans feeds bytes fault
 unfed_refused plans feeds bytes FeedCount h = h
 unfed_refused plans feeds bytes WrongPlan h = h
-unfed_refused plans feeds bytes BadCheckpoint h = absurd h
+unfed_refused plans feeds bytes CheckpointBad h = absurd h
 unfed_refused plans feeds bytes (PositionUnknown s) h = absurd h
 unfed_refused plans feeds bytes (Unsound fault) h = absurd h
-unfed_refused plans feeds bytes (Differs s key) h = absurd h
+unfed_refused plans feeds bytes (CheckpointDiffers s key) h = absurd h
 unfed_refused plans feeds bytes (OwnedByOther key owner) h = absurd h
 unfed_refused plans feeds bytes Memory h = absurd h
 
 pub fed_taken : {P : Type 0} (plans : List PlanValue) (feeds : List FeedValue) (fault : ResumeFault) → AreFed plans feeds → IsUnfed plans feeds fault → P
 fed_taken plans feeds FeedCount fed h = absurd (h (sym (length-map feeds (λ (feed : FeedValue). feed.plan)) ∙ ap length fed.opened))
 fed_taken plans feeds WrongPlan fed h = absurd (h.1 fed)
-fed_taken plans feeds BadCheckpoint fed h = absurd h
+fed_taken plans feeds CheckpointBad fed h = absurd h
 fed_taken plans feeds (PositionUnknown s) fed h = absurd h
 fed_taken plans feeds (Unsound fault) fed h = absurd h
-fed_taken plans feeds (Differs s key) fed h = absurd h
+fed_taken plans feeds (CheckpointDiffers s key) fed h = absurd h
 fed_taken plans feeds (OwnedByOther key owner) fed h = absurd h
 fed_taken plans feeds Memory fed h = absurd h
 
@@ -214,10 +214,10 @@ fed_taken plans feeds Memory fed h = absurd h
 pub fed_refused : (plans : List PlanValue) (feeds : List FeedValue) (bytes : List ℕ) (fault : ResumeFault) → AreFed plans feeds → IsRefusedCheckpoint feeds bytes fault → IsRefusedResume plans feeds bytes fault
 fed_refused plans feeds bytes FeedCount fed h = absurd h.2
 fed_refused plans feeds bytes WrongPlan fed h = absurd h.2
-fed_refused plans feeds bytes BadCheckpoint fed h = (fed, h)
+fed_refused plans feeds bytes CheckpointBad fed h = (fed, h)
 fed_refused plans feeds bytes (PositionUnknown s) fed h = (fed, h)
 fed_refused plans feeds bytes (Unsound fault) fed h = (fed, h)
-fed_refused plans feeds bytes (Differs s key) fed h = (fed, h)
+fed_refused plans feeds bytes (CheckpointDiffers s key) fed h = (fed, h)
 fed_refused plans feeds bytes (OwnedByOther key owner) fed h = (fed, h)
 fed_refused plans feeds bytes Memory fed h = (fed, h)
 
@@ -230,10 +230,10 @@ all_refused plans feeds bytes (Err fault) fed h = fed_refused plans feeds bytes 
 pub saved_refused : (feeds : List FeedValue) (bytes : List ℕ) (saved : List SavedStream) (fault : ResumeFault) → IsCheckpoint (plans_of_feeds feeds) bytes saved → IsRefusedSaved feeds saved fault → IsRefusedCheckpoint feeds bytes fault
 saved_refused feeds bytes saved FeedCount said h = absurd h
 saved_refused feeds bytes saved WrongPlan said h = absurd h
-saved_refused feeds bytes saved BadCheckpoint said h = absurd h
+saved_refused feeds bytes saved CheckpointBad said h = absurd h
 saved_refused feeds bytes saved (PositionUnknown s) said h = (saved, said, h)
 saved_refused feeds bytes saved (Unsound fault) said h = (saved, said, h)
-saved_refused feeds bytes saved (Differs s key) said h = (saved, said, h)
+saved_refused feeds bytes saved (CheckpointDiffers s key) said h = (saved, said, h)
 saved_refused feeds bytes saved (OwnedByOther key owner) said h = (saved, said, h)
 saved_refused feeds bytes saved Memory said h = tt
 
@@ -255,11 +255,11 @@ made_board feeds saved streams rows are agree together =
     record { states = are; agree = agree; apart = together.apart; is = ap with_these together.target }
 
 pub others_refused : (feeds : List FeedValue) (saved : List SavedStream) (states : List State) (fault : ResumeFault) → AreResumed feeds saved states → AreOthers saved states fault → IsRefusedSaved feeds saved fault
-others_refused feeds saved states (Differs s key) are h = record { states = states; resumed = are; first = h.0; least = h.1 }
+others_refused feeds saved states (CheckpointDiffers s key) are h = record { states = states; resumed = are; first = h.0; least = h.1 }
 others_refused feeds saved states Memory are h = tt
 others_refused feeds saved states FeedCount are h = h
 others_refused feeds saved states WrongPlan are h = h
-others_refused feeds saved states BadCheckpoint are h = h
+others_refused feeds saved states CheckpointBad are h = h
 others_refused feeds saved states (PositionUnknown s) are h = absurd h
 others_refused feeds saved states (Unsound fault) are h = absurd h
 others_refused feeds saved states (OwnedByOther key owner) are h = absurd h
@@ -270,7 +270,7 @@ clash_refused feeds saved states (OwnedByOther key owner) are agree h = record {
 clash_refused feeds saved states Memory are agree h = tt
 clash_refused feeds saved states FeedCount are agree h = h
 clash_refused feeds saved states WrongPlan are agree h = h
-clash_refused feeds saved states BadCheckpoint are agree h = h
+clash_refused feeds saved states CheckpointBad are agree h = h
 clash_refused feeds saved states (PositionUnknown s) are agree h = absurd h
 clash_refused feeds saved states (Unsound fault) are agree h = absurd h
-clash_refused feeds saved states (Differs s key) are agree h = absurd h
+clash_refused feeds saved states (CheckpointDiffers s key) are agree h = absurd h

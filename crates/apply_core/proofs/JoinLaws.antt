@@ -16,14 +16,14 @@ use Rattle.board_laws.specs.Step.{due_at}
 use Rattle.board_laws.proofs.Lookups.{Ties}
 use Rattle.board_laws.proofs.Lists.{slice_get-set_same, slice_get-set_other}
 use Rattle.join_laws.specs.declared.fault.JoinFault.{JoinFault}
-use Rattle.join_laws.specs.declared.fault.JoinFault.TheVariants.{WrongPlan, NotRunning, HistoriesDiffer, OwnedByOther, Memory}
+use Rattle.join_laws.specs.declared.fault.JoinFault.TheVariants.{WrongPlan, HistoriesDiffer, OwnedByOther, Memory}
 use Rattle.join_laws.specs.Order.{state_cmp}
 use Rattle.join_laws.specs.Chosen.{chosen, all_chosen}
 use Rattle.join_laws.specs.Joined.{rows_from, board_of, joined}
-use Rattle.join_laws.specs.Compatible.{OfEachStream, AreRunning, AreApart, AreCompatible}
+use Rattle.join_laws.specs.Compatible.{OfEachStream, AreAlike, AreApart, AreCompatible}
 use Rattle.join_laws.proofs.States.{states_tie}
 use Rattle.join_laws.proofs.Pairs.{same_plan, chosen_plans, chosen_comm, at_chosen}
-use Rattle.apply_core.specs.Private.Beside.{plans_in, AreAlike}
+use Rattle.apply_core.specs.Private.Beside.{plans_in}
 use Rattle.apply_core.specs.Private.Together.{AreTogether, ArePutsOfCut, IsNotPut, AreNotTogether}
 
 -- ---- places
@@ -118,7 +118,6 @@ module _ (all : List State) (s : ℕ) (inside : s < length all) (old new : Targe
       }
       by Memory none = tt
       by WrongPlan none = none
-      by (NotRunning t) none = none
       by (HistoriesDiffer t) none = none
 
 pub all_together : (xs ys : List State) (n : ℕ) (rows : TargetRows) → plans_in xs ≡ plans_in ys → length xs ≤ n → AreTogether (take n (all_chosen xs ys)) rows → AreTogether (all_chosen xs ys) rows
@@ -199,12 +198,11 @@ none_further (x ∷ xs) (y ∷ ys) long h =
 pub turned : (a b : Meaning) → AreAlike a b → AreAlike b a
 turned a b alike = record {
   plans = sym alike.plans;
-  running = λ s x y p q. (let both : AreRunning y x = alike.running s y x q p in (both.1, both.0));
   histories = λ s x y p q. (elim (alike.histories s y x q p) [ inl left ↦ inr left | inr right ↦ inl right ]);
 }
 
 pub compatible : (a b : Meaning) → AreAlike a b → AreApart (all_chosen a.streams b.streams) → AreCompatible a b
-compatible a b alike apart = record { plans = alike.plans; running = alike.running; histories = alike.histories; apart = apart }
+compatible a b alike apart = record { plans = alike.plans; histories = alike.histories; apart = apart }
 
 pub all_first : (a b : Meaning) → AreApart a.streams → AreAlike a b → all_chosen a.streams b.streams ≡ a.streams → AreCompatible a b × (all_chosen a.streams b.streams ≡ a.streams)
 all_first a b apart alike is = (compatible a b alike (subst AreApart (sym is) apart), is)

@@ -13,5 +13,5 @@ pub mod JoinLaws
 pub mod SaveLaws
 pub mod MeetingLaws
 pub mod ResumeLaws
-pub mod KeyedLaws
+pub mod ReadLaws
 pub mod AfterSaveLaws

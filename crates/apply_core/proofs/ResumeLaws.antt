@@ -38,10 +38,11 @@ use Rattle.board_laws.proofs.Lookups.{Ties, none_above}
 use Rattle.join_laws.specs.Joined.{cut_rows, rows_from}
 use Rattle.join_laws.specs.Refused.{IsFirstClash}
 use Rattle.checkpoint_laws.specs.declared.fault.ResumeFault.{ResumeFault}
-use Rattle.checkpoint_laws.specs.declared.fault.ResumeFault.TheVariants.{FeedCount, WrongPlan, BadCheckpoint, PositionUnknown, Unsound, Differs, OwnedByOther, Memory}
+use Rattle.checkpoint_laws.specs.declared.fault.ResumeFault.TheVariants.{FeedCount, WrongPlan, CheckpointBad, PositionUnknown, Unsound, CheckpointDiffers, OwnedByOther, Memory}
 use Rattle.checkpoint_laws.specs.Saved.{SavedStream}
 use Rattle.checkpoint_laws.specs.Said.{IsSaved}
-use Rattle.checkpoint_laws.specs.Resumed.{IsNumberAt, IsKnown, IsResumedAt, AreResumed, AgreesWith, AtEachPlace}
+use Rattle.board_laws.specs.Sources.{IsNumberAt}
+use Rattle.checkpoint_laws.specs.Resumed.{IsKnown, IsResumedAt, AreResumed, AgreesWith, AtEachPlace}
 use Rattle.checkpoint_laws.specs.Refused.{plans_of_feeds, IsFirstOff, IsLeastDifference, IsRefusedSaved}
 use Rattle.checkpoint_laws.proofs.OwnRows.{cut-at, cut-rising}
 use Rattle.checkpoint_laws.proofs.ResumedLaws.{at_same_place, at_inside, resumed-sound}
@@ -191,9 +192,9 @@ stops_at feeds saved n numbers states feed one whole known here there h (Unsound
 stops_at feeds saved n numbers states feed one whole known here there h Memory unsound = tt
 stops_at feeds saved n numbers states feed one whole known here there h FeedCount unsound = unsound
 stops_at feeds saved n numbers states feed one whole known here there h WrongPlan unsound = unsound
-stops_at feeds saved n numbers states feed one whole known here there h BadCheckpoint unsound = unsound
+stops_at feeds saved n numbers states feed one whole known here there h CheckpointBad unsound = unsound
 stops_at feeds saved n numbers states feed one whole known here there h (PositionUnknown s) unsound = absurd unsound
-stops_at feeds saved n numbers states feed one whole known here there h (Differs s key) unsound = absurd unsound
+stops_at feeds saved n numbers states feed one whole known here there h (CheckpointDiffers s key) unsound = absurd unsound
 stops_at feeds saved n numbers states feed one whole known here there h (OwnedByOther key owner) unsound = absurd unsound
 
 -- what can be said of a stream
@@ -252,7 +253,7 @@ pub all_agree : (saved : List SavedStream) (states : List State) (n : ℕ) → l
 all_agree saved states n most h s one state p q = let inside : s < length states = slice_get_within states s state q in h s one state (omega (arith, inside, most)) p q
 
 pub differs_first : (ties : Ties) (saved : List SavedStream) (states : List State) (n : ℕ) (one : SavedStream) (state : State) (key : KeyValue) → slice_get saved n ≡ Some one → slice_get states n ≡ Some state
-    → IsLeastDifference one state key → AgreeUpTo saved states n → AreOthers saved states (Differs n key)
+    → IsLeastDifference one state key → AgreeUpTo saved states n → AreOthers saved states (CheckpointDiffers n key)
 differs_first ties saved states n one state key there here least h = (
   record {
     one = one;

@@ -4,7 +4,7 @@ use Rattle.std.proofs.Math.Nat.{eq-or-lt_of_le}
 use Rattle.std.proofs.lemmas.Bool.{true≢false}
 use Rattle.std.proofs.lemmas.List.{take_more}
 use Rattle.std.proofs.lemmas.Option.{slice_get-map, same_Some, none-some}
-use Rattle.std.specs.Prelude.{IsTrue, IfOk, MatchOption}
+use Rattle.std.specs.Prelude.{IsTrue, IfOk, OnOk, MatchOption}
 use Rattle.std.specs.Option.{option_map}
 use Rattle.filter_rule.specs.PlanValue.{PlanValue}
 use Rattle.stream_core.specs.declared.step.Step.{Step}
@@ -129,3 +129,16 @@ each-more P xs n x at fact so_far k y less here = by (eq-or-lt_of_le (omega (ari
 pub if-answered : {X E : Type 0} {P : Type 0} (r : Result X E) → P → IfOk r (λ _. P)
 if-answered (Ok x) fact = fact
 if-answered (Err e) fact = tt
+
+pub if-ok-also : {X E : Type 0} {P Q : X → Type 0} (r : Result X E) → ((x : X) → P x → Q x) → IfOk r P → IfOk r Q
+if-ok-also (Ok x) f h = f x h
+if-ok-also (Err e) f h = h
+
+pub on-ok-by : {X E : Type 0} {P : X → Type 0} {Q : Type 0} (r : Result X E) → ((x : X) → P x → Q) → IfOk r P → OnOk r Q
+on-ok-by (Ok x) f h = f x h
+on-ok-by (Err e) f h = h
+
+-- a board of which nothing is read, if there is one, reads its feeds
+pub fresh-reading : {E : Type 0} (feeds : List FeedValue) (plans : List PlanValue) (r : Result Meaning E) → plans_of feeds ≡ plans → AreWhole feeds → IfOk r (λ board. board ≡ fresh_board plans) → IfOk r (AllReadTheirFeeds feeds)
+fresh-reading feeds plans (Ok board) opened whole is = subst (λ (b : Meaning). AllReadTheirFeeds feeds b) (sym is) (fresh-reads feeds plans opened whole)
+fresh-reading feeds plans (Err e) opened whole is = is

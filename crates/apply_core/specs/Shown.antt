@@ -1,16 +1,10 @@
 -- What a board shows of its streams and of the rows of its target (this profile).
-use Rattle.std.specs.Prelude.{ℕ, take, map, ◌==◌}
+use Rattle.std.specs.Prelude.{ℕ, map, ◌==◌}
 use Rattle.std.specs.List.{filter}
 use Rattle.pk_copy.specs.KeyValue.{KeyValue}
-use Rattle.source_feed.specs.GroupValue.{Position}
 use Rattle.source_feed.specs.History.{RowValue}
 use Rattle.vdiff_core.specs.RowsValue.{RowsValue}
-use Rattle.board_laws.specs.Meaning.{State, TargetRows}
-use Rattle.board_laws.specs.Allowed.{last_position}
-
--- the position at which a stream's rows stand: that of the last applied group; at first the empty set
-abbrev pub position_of : State → Position
-position_of state = last_position (take state.applied state.list)
+use Rattle.board_laws.specs.Meaning.{TargetRows}
 
 -- a row of the target and its key, whoever owns it
 abbrev pub unowned : KeyValue × (ℕ × RowValue) → KeyValue × RowValue

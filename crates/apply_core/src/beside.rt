@@ -3,14 +3,14 @@
 ghost use Rattle.std.specs.Prelude.{◌≡◌, ◌↔◌, ◌≤◌, length, map, IsTrue, MatchOption};
 ghost use Rattle.std.specs.Ordering.{is_lt};
 ghost use Rattle.std.specs.Arc.{arc_value};
-ghost use Rattle.join_laws.specs.Order.{state_cmp, IsRunning};
-ghost use Rattle.join_laws.specs.Compatible.{OfEachStream, AreRunning, AreOfOneHistory};
+ghost use Rattle.join_laws.specs.Order.{state_cmp};
+ghost use Rattle.join_laws.specs.Compatible.{OfEachStream, AreOfOneHistory};
 ghost use Rattle.join_laws.specs.Refused.{IsFirstNot};
 ghost use Rattle.apply_core.specs.Private.Beside.{AreSameGroups, Premise, Passes};
 
 use crate::stream::Stream;
-use join_laws::states_are_ordered;
 use source_feed::Prepared;
+use std::cmp::Ordering;
 use std::sync::Arc;
 
 /// What is asked of the two states of each stream.
@@ -18,8 +18,6 @@ use std::sync::Arc;
 pub(crate) enum Test {
     /// They are of one plan.
     OnePlan,
-    /// All tables are copied in both.
-    Running,
     /// One read list is a beginning of the other.
     OneHistory,
     /// The second isn't further on than the first.
@@ -51,25 +49,28 @@ impl<'h> Stream<'h> {
         self.plan.same(&other.plan)
     }
 
-    /// All tables are copied. Takes no memory.
-    fn is_running(&self) -> bool
-        ensures { IsTrue result ↔ IsRunning self.now }
+    /// How far on the stream is beside another state of it. Takes no memory.
+    fn cmp_progress(&self, other: &Stream<'_>) -> Ordering
+        requires { self.now.plan ≡ other.now.plan }
+        ensures { result ≡ state_cmp self.now other.now }
     {
-        self.marks.done() == self.marks.tables()
-    }
-
-    /// The other state of this stream is further on: more groups are applied, or as many and more are read.
-    /// Takes no memory.
-    pub(crate) fn is_behind(&self, other: &Stream<'_>) -> bool
-        requires plan { self.now.plan ≡ other.now.plan }
-        requires running { AreRunning self.now other.now }
-        ensures { result ≡ is_lt (state_cmp self.now other.now) }
-    {
-        states_are_ordered();
         self.is_sound();
         other.is_sound();
-        self.applied < other.applied
-            || (self.applied == other.applied && self.list.len() < other.list.len())
+        let copied = self.marks.further(&other.marks);
+        let read = self.list.len().cmp(&other.list.len());
+        let open = self.snapshot.cmp(&other.snapshot);
+        self.applied
+            .cmp(&other.applied)
+            .then(copied.then(read.then(open)))
+    }
+
+    /// The other state of this stream is further on: by the groups that are applied, then by what is copied,
+    /// then by the groups that are read, then by the open snapshot. Takes no memory.
+    pub(crate) fn is_behind(&self, other: &Stream<'_>) -> bool
+        requires { self.now.plan ≡ other.now.plan }
+        ensures { result ≡ is_lt (state_cmp self.now other.now) }
+    {
+        self.cmp_progress(other).is_lt()
     }
 
     /// One of the two read lists is a beginning of the other. Takes no memory.
@@ -90,7 +91,6 @@ fn passes(test: Test, x: &Stream<'_>, y: &Stream<'_>) -> bool
 {
     match test {
         Test::OnePlan => x.has_plan_of(y),
-        Test::Running => x.is_running() && y.is_running(),
         Test::OneHistory => x.shares_history_with(y),
         Test::NoFurther => !x.is_behind(y),
     }

@@ -3,7 +3,7 @@
 
 ghost use Rattle.std.specs.Prelude.{◌≡◌, ◌<◌, ◌∷◌, ◌++◌, [], List, length, IfOk, IfErr, MatchOption};
 ghost use Rattle.join_laws.specs.Chosen.{all_chosen};
-ghost use Rattle.join_laws.specs.Compatible.{OfEachStream, AreRunning, AreApart};
+ghost use Rattle.join_laws.specs.Compatible.{AreApart};
 ghost use Rattle.apply_core.specs.Private.Beside.{plans_in};
 ghost use Rattle.apply_core.specs.Private.Meeting as meetings;
 ghost use Rattle.apply_core.specs.Private.Meeting.{IsMark, AreFurtherMarks, Met, AreOrdered, NoneClash, IsFirstMet};
@@ -29,7 +29,6 @@ pub(crate) struct Meeting<'t> {
 /// Whether stream `s` is further on in the second board. Takes no memory.
 fn is_further(a: &Board<'_>, b: &Board<'_>, s: usize) -> bool
     requires plans { plans_in a.now.streams ≡ plans_in b.now.streams }
-    requires running { OfEachStream AreRunning a.now.streams b.now.streams }
     requires inside { s < length a.now.streams }
     ensures { IsMark a.now.streams b.now.streams s result }
 {
@@ -38,8 +37,7 @@ fn is_further(a: &Board<'_>, b: &Board<'_>, s: usize) -> bool
 
 /// Of each stream whether it is further on in the second board. An error is want of memory.
 fn marks_of(alloc: Global, a: &Board<'_>, b: &Board<'_>) -> Result<Vec<bool>, AllocError>
-    requires plans { plans_in a.now.streams ≡ plans_in b.now.streams }
-    requires running { OfEachStream AreRunning a.now.streams b.now.streams }
+    requires { plans_in a.now.streams ≡ plans_in b.now.streams }
     ensures { IfOk result (λ marks. AreFurtherMarks a.now.streams b.now.streams marks.items) }
 {
     let mut marks = Vec::with_capacity(alloc, a.streams.len())?;
@@ -128,8 +126,7 @@ pub(crate) fn mark_further(
     a: &Board<'_>,
     b: &Board<'_>,
 ) -> Result<Vec<bool>, JoinFault>
-    requires plans { plans_in a.now.streams ≡ plans_in b.now.streams }
-    requires running { OfEachStream AreRunning a.now.streams b.now.streams }
+    requires { plans_in a.now.streams ≡ plans_in b.now.streams }
     ensures marks { IfOk result (λ marks. AreFurtherMarks a.now.streams b.now.streams marks.items) }
     ensures apart { IfOk result (λ _. AreApart (all_chosen a.now.streams b.now.streams)) }
     ensures err { IfErr result (AreNotTogether (all_chosen a.now.streams b.now.streams)) }

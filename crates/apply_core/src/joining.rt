@@ -2,10 +2,11 @@
 
 ghost use Rattle.std.specs.Prelude.{◌≡◌, ◌↔◌, length, IfOk, IfErr, OnOk, IsTrue, MatchOption};
 ghost use Rattle.join_laws.specs.Chosen.{chosen, all_chosen};
-ghost use Rattle.join_laws.specs.Compatible.{plans_of, OfEachStream, AreRunning, AreCompatible};
+ghost use Rattle.join_laws.specs.Compatible.{plans_of, OfEachStream, AreAlike, AreCompatible};
 ghost use Rattle.join_laws.specs.Joined.{joined};
+ghost use Rattle.join_laws.specs.Laws.{JoinsCommute, JoinsWithItself, JoinsAssociate, RunningJoinsByWhatIsRead, DisjointFeedsCanBeJoined};
 ghost use Rattle.join_laws.specs.Refused.{IsFirstNot, IsRefusedJoin};
-ghost use Rattle.apply_core.specs.Private.Beside.{plans_in, Premise, Passes, AreAlike};
+ghost use Rattle.apply_core.specs.Private.Beside.{plans_in, Premise, Passes};
 ghost use Rattle.apply_core.specs.Private.Meeting.{AreFurtherMarks};
 ghost use Rattle.apply_core.specs.Private.Together.{IsSource};
 ghost use Rattle.join_laws.specs.declared.fault.JoinFault.TheVariants.{Memory};
@@ -14,7 +15,9 @@ use crate::beside::{Test, first_not};
 use crate::board::Board;
 use crate::join_rows::mark_further;
 use crate::stream::Stream;
-use join_laws::{JoinFault, joined_boards_are_lawful};
+use join_laws::{
+    JoinFault, boards_can_be_joined, joined_boards_are_lawful, joins_are_a_greatest_board,
+};
 use pk_copy::keys_tie_where_they_are_equal;
 use std::alloc::Global;
 use std::mem::swap;
@@ -61,8 +64,8 @@ fn have_same_plans(a: &Board<'_>, b: &Board<'_>) -> bool
     }
 }
 
-/// What a join asks of the streams, rows aside: their plans are the same, all tables are copied, and of each
-/// stream one read list is a beginning of the other. Takes no memory.
+/// What a join asks of the streams, rows aside: their plans are the same, and of each stream one read list is a
+/// beginning of the other. Takes no memory.
 fn judge(a: &Board<'_>, b: &Board<'_>) -> Result<(), JoinFault>
     ensures ok { OnOk result (AreAlike a.now b.now) }
     ensures err { IfErr result (IsRefusedJoin a.now b.now) }
@@ -70,12 +73,9 @@ fn judge(a: &Board<'_>, b: &Board<'_>) -> Result<(), JoinFault>
     if !have_same_plans(a, b) {
         return Err(JoinFault::WrongPlan);
     }
-    match first_stream_not(Test::Running, a, b) {
-        Some(s) => Err(JoinFault::NotRunning(s)),
-        None => match first_stream_not(Test::OneHistory, a, b) {
-            Some(s) => Err(JoinFault::HistoriesDiffer(s)),
-            None => Ok(()),
-        },
+    match first_stream_not(Test::OneHistory, a, b) {
+        Some(s) => Err(JoinFault::HistoriesDiffer(s)),
+        None => Ok(()),
     }
 }
 
@@ -119,8 +119,7 @@ fn find_source(alloc: Global, a: &Board<'_>, b: &Board<'_>) -> Result<Source, Jo
 
 /// The first state is the one of the two that is further on. Takes no memory.
 fn keep_further<'h>(x: &mut Stream<'h>, y: &mut Stream<'h>)
-    requires plan { x.old.plan ≡ y.old.plan }
-    requires running { AreRunning x.old y.old }
+    requires { x.old.plan ≡ y.old.plan }
     ensures { x.new ≡ chosen x.old y.old }
 {
     if x.is_behind(y) {
@@ -130,8 +129,7 @@ fn keep_further<'h>(x: &mut Stream<'h>, y: &mut Stream<'h>)
 
 /// The first list has of each stream the state that is further on. Takes no memory.
 fn keep_all_further<'h>(a: &mut [Stream<'h>], b: &mut [Stream<'h>])
-    requires plans { plans_in a.old ≡ plans_in b.old }
-    requires running { OfEachStream AreRunning a.old b.old }
+    requires { plans_in a.old ≡ plans_in b.old }
     ensures { a.new ≡ all_chosen a.old b.old }
 {
     let mut s = 0;
@@ -180,16 +178,12 @@ fn join_both<'h>(
     }
 }
 
-/// Two boards over the same target joined to one: each stream's read list, position and rows come from the
-/// board that has applied more of its groups, at equal numbers from the one that has read more.
-///
-/// Refused 111 where the plans differ; 114 for the least stream with a table that isn't copied; 113 for the
-/// least stream of which neither read list is a beginning of the other; 71 where two streams then have a row
-/// at one key: for the first stream that meets a lower one, its least such key and the lower stream; 72 for
-/// want of memory. A refusal hands both boards back as they were. Where all streams come from one board it
-/// is the answer as it stands; else the rows of both are moved, one by one by rising key, in time linear in
-/// the rows of both. A key is copied for a refusal alone.
-pub fn join<'h>(alloc: Global, a: Board<'h>, b: Board<'h>) -> Result<Board<'h>, JoinRefusal<'h>>
+/// Two boards joined to one: all streams come from one of them, or the rows of both are moved.
+fn join_by_source<'h>(
+    alloc: Global,
+    a: Board<'h>,
+    b: Board<'h>,
+) -> Result<Board<'h>, JoinRefusal<'h>>
     ensures joined { IfOk result (λ board. AreCompatible a.entry b.entry × (board ≡ joined a.entry b.entry)) }
     ensures refused { IfErr result (λ refusal. IsRefusedJoin a.entry b.entry refusal.why) }
     ensures handed_back { IfErr result (λ refusal. (refusal.a ≡ a.entry) × (refusal.b ≡ b.entry)) }
@@ -204,4 +198,34 @@ pub fn join<'h>(alloc: Global, a: Board<'h>, b: Board<'h>) -> Result<Board<'h>, 
         Ok(Source::Second) => Ok(b),
         Ok(Source::Both(marks)) => join_both(alloc, a, b, &marks),
     }
+}
+
+/// Two boards over the same target joined to one. Both may still copy: each stream's whole state, with its
+/// rows, comes from the board in which it is further on. That is the one which has applied more of its groups;
+/// at equal numbers the one which has copied more (more tables done above fewer, then a mark up to a key above
+/// none, by that key); then the one which has read more groups; then an open snapshot is above none, and a
+/// later one above an earlier.
+///
+/// Refused 111 where the plans differ; 113 for the least stream of which neither read list is a beginning of
+/// the other; 71 where two streams then have a row at one key: for the first stream that meets a lower one,
+/// its least such key and the lower stream; 72 for want of memory, never before 111 and 113. A refusal hands
+/// both boards back as they were. Where all streams come from one board it is the answer as it stands; else
+/// the rows of both are moved, one by one by rising key, in time linear in the rows of both. A key is copied
+/// for a refusal alone.
+pub fn join<'h>(alloc: Global, a: Board<'h>, b: Board<'h>) -> Result<Board<'h>, JoinRefusal<'h>>
+    ensures joined { IfOk result (λ board. AreCompatible a.entry b.entry × (board ≡ joined a.entry b.entry)) }
+    ensures refused { IfErr result (λ refusal. IsRefusedJoin a.entry b.entry refusal.why) }
+    ensures handed_back { IfErr result (λ refusal. (refusal.a ≡ a.entry) × (refusal.b ≡ b.entry)) }
+    // The laws of joins: either way round, with itself, in either grouping of three; by what is applied and
+    // read alone where all tables are copied; and boards that read the same feeds, which share no key, can
+    // always be joined.
+    ensures commute { JoinsCommute }
+    ensures itself { JoinsWithItself }
+    ensures associate { JoinsAssociate }
+    ensures running { RunningJoinsByWhatIsRead }
+    ensures disjoint { DisjointFeedsCanBeJoined }
+{
+    joins_are_a_greatest_board();
+    boards_can_be_joined();
+    join_by_source(alloc, a, b)
 }

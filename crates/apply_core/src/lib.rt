@@ -33,5 +33,5 @@ pub use joining::{JoinRefusal, join};
 pub use puts::Puts;
 pub use resuming::resume;
 pub use saving::save;
-pub use schedule::run_schedule;
+pub use schedule::{fed_board, run_schedule};
 pub use taking::{Chunk, Move};

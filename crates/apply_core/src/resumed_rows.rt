@@ -128,7 +128,7 @@ pub(crate) fn compare_rows(
     for s in 0..streams.len() {
         match difference(alloc, &streams[s], &saved[s])? {
             None => {}
-            Some(key) => return Err(ResumeFault::Differs {
+            Some(key) => return Err(ResumeFault::CheckpointDiffers {
                 stream: s as u8,
                 key,
             }),

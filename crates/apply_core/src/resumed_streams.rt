@@ -3,7 +3,8 @@
 ghost use Rattle.std.specs.Prelude.{◌≡◌, ◌≤◌, ◌++◌, ◌∷◌, [], length, IfOk, IfErr, OnOk};
 ghost use Rattle.checkpoint_laws.specs.declared.fault.ResumeFault.TheVariants.{Memory};
 ghost use Rattle.checkpoint_laws.specs.Said.{IsSaved};
-ghost use Rattle.checkpoint_laws.specs.Resumed.{IsNumberAt, IsResumedAt, AreResumed};
+ghost use Rattle.board_laws.specs.Sources.{IsNumberAt};
+ghost use Rattle.checkpoint_laws.specs.Resumed.{IsResumedAt, AreResumed};
 ghost use Rattle.checkpoint_laws.specs.Refused.{IsRefusedSaved};
 ghost use Rattle.apply_core.specs.Feeds.{AreWhole};
 ghost use Rattle.apply_core.specs.Private.Resuming.{AreNumbers, AreSaid, IsUnsoundAt, refusal_of_feed};

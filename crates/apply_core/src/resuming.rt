@@ -1,11 +1,12 @@
 //! A board from the bytes of a checkpoint.
 
-ghost use Rattle.std.specs.Prelude.{◌≡◌, ◌≤◌, ℕ, List, length, map, IfOk, IfErr, OnOk};
+ghost use Rattle.std.specs.Prelude.{◌≡◌, ◌^◌, ◌<◌, ◌≤◌, ℕ, List, length, map, IfOk, IfErr, OnOk};
 ghost use Rattle.std.specs.Arc.{arc_value};
 ghost use Rattle.std.specs.List.{AllByRecursion};
 ghost use Rattle.filter_rule.specs.WellFormed.{IsPlan};
 ghost use Rattle.board_laws.specs.Lawful.{IsLawful};
 ghost use Rattle.board_laws.specs.Meaning.{Meaning};
+ghost use Rattle.board_laws.specs.Reading.{AllReadTheirFeeds};
 ghost use Rattle.checkpoint_laws.specs.Laws.{AreFeeds, restarted};
 ghost use Rattle.checkpoint_laws.specs.Resumed.{IsResumedBoard};
 ghost use Rattle.checkpoint_laws.specs.Refused.{plans_of_feeds, IsRefusedSaved, IsRefusedCheckpoint};
@@ -59,6 +60,13 @@ fn know_plans(plans: &[Arc<Plan>])
     }
 }
 
+/// The length of a slice has 64 bits: a fact for contracts. Takes no memory.
+fn know_length(bytes: &[u8])
+    ensures { length bytes.now < 2 ^ 64 }
+{
+    bytes.len();
+}
+
 /// What the bytes say of the streams: refused 116 where they are no checkpoint for these plans. Any other
 /// error is want of memory.
 fn read_streams<'b>(
@@ -71,7 +79,7 @@ fn read_streams<'b>(
 {
     match read_checkpoint(alloc, plans, bytes) {
         Ok(saved) => Ok(saved),
-        Err(ReadFault::Broken) => Err(ResumeFault::BadCheckpoint),
+        Err(ReadFault::Broken) => Err(ResumeFault::CheckpointBad),
         Err(ReadFault::Memory) => Err(ResumeFault::Memory),
     }
 }
@@ -107,6 +115,7 @@ fn resumed_over<'h>(
     requires feeds { AreFeeds feeds.now }
     ensures resumed { IfOk result (IsResumed feeds.now bytes.now) }
     ensures lawful { IfOk result IsLawful }
+    ensures reads { IfOk result (AllReadTheirFeeds feeds.now) }
     ensures refused { IfErr result (IsRefusedCheckpoint feeds.now bytes.now) }
 {
     resumed_boards_are_lawful();
@@ -139,8 +148,11 @@ pub fn resume<'h>(
     ensures fed { IfOk result (λ _. AreFed (map arc_value plans.now) feeds.now) }
     ensures resumed { IfOk result (IsResumed feeds.now bytes.now) }
     ensures lawful { IfOk result IsLawful }
+    // Each read list is a beginning of its feed's groups.
+    ensures reads { IfOk result (AllReadTheirFeeds feeds.now) }
     ensures refused { IfErr result (IsRefusedResume (map arc_value plans.now) feeds.now bytes.now) }
-    // A board that was saved comes back as it was after a restart of each stream.
+    // A board whose rows, keys and positions are within the limits and that was saved comes back as it was after a
+    // restart of each stream.
     ensures after_save { (board : Meaning) → IsSavedOf (map arc_value plans.now) feeds.now bytes.now board → Gives (restarted board) result }
 {
     keys_tie_where_they_are_equal();
@@ -148,6 +160,7 @@ pub fn resume<'h>(
     checkpoints_say_one_thing();
     restarted_boards_are_resumed();
     know_plans(plans);
+    know_length(bytes);
     judge_feeds(plans, feeds)?;
     resumed_over(alloc, plans, feeds, bytes)
 }

@@ -1,19 +1,23 @@
 //! A list of steps on the streams of a fresh board.
 
-ghost use Rattle.std.specs.Prelude.{◌≡◌, ◌↔◌, ◌≤◌, IsTrue, IfOk, IfErr, length, map};
+ghost use Rattle.std.specs.Prelude.{◌≡◌, ◌↔◌, ◌≤◌, IsTrue, IfOk, IfErr, OnOk, OnErr, length, map};
 ghost use Rattle.std.specs.Arc.{arc_value};
 ghost use Rattle.source_feed.specs.Planned.{FeedValue};
+ghost use Rattle.board_laws.specs.Agreement.{SameStepsSameBoard, LoneRunsShowAlike, DisjointRunsShowAlike};
 ghost use Rattle.board_laws.specs.Lawful.{IsLawful};
 ghost use Rattle.board_laws.specs.Reading.{AllReadTheirFeeds};
+ghost use Rattle.board_laws.specs.RunLaws.{DisjointFeedsNeverClash};
 ghost use Rattle.board_laws.specs.Schedule.{IsRun};
+ghost use Rattle.board_laws.specs.Sources.{AllShowTheirSources};
 ghost use Rattle.apply_core.specs.Fresh.{fresh_board};
 ghost use Rattle.apply_core.specs.Feeds.{AreWhole, AreFed, IsRefusedInput};
-ghost use Rattle.apply_core.specs.Schedules.{AllAreTaken, RowsAreReplays};
+ghost use Rattle.apply_core.specs.Schedules.{AllAreTaken, AllFollow, RowsAreReplays};
 
 use crate::board::Board;
 use board_laws::{
-    Answer, Refusal, StepRefusal, fresh_boards_are_lawful, rows_are_replayed,
-    streams_follow_their_own_steps, streams_read_their_feeds,
+    Answer, Refusal, StepRefusal, agreeing_runs_show_alike, boards_show_their_sources,
+    fresh_boards_are_lawful, rows_are_replayed, streams_follow_their_own_steps,
+    streams_read_their_feeds,
 };
 use filter_rule::Plan;
 use source_feed::Feed;
@@ -35,11 +39,12 @@ pub(crate) fn are_opened_under(feeds: &[Feed<'_>], plans: &[Arc<Plan>]) -> bool
     true
 }
 
-/// A board of plans with their feeds, of which nothing is read.
+/// A board of 1 to 64 plans with their feeds, of which nothing is read. The feeds stand in the order of the
+/// plans; `Board::take_steps` takes steps on it.
 ///
 /// Refused 119 where there aren't as many feeds as plans, else 111 where two plans differ in their tables
 /// or a feed wasn't opened under its plan. Any other error is want of memory.
-pub(crate) fn fed_board<'h>(
+pub fn fed_board<'h>(
     alloc: Global,
     plans: Vec<Arc<Plan>>,
     feeds: &[Feed<'h>],
@@ -48,7 +53,8 @@ pub(crate) fn fed_board<'h>(
     requires few { length plans.items ≤ 64 }
     ensures fresh { IfOk result (λ board. board ≡ fresh_board (map arc_value plans.items)) }
     ensures fed { IfOk result (λ _. AreFed (map arc_value plans.items) feeds.now) }
-    ensures whole { IfOk result (λ _. AreWhole feeds.now) }
+    // Each stream reads its feed: nothing is a beginning of it.
+    ensures reads { IfOk result (AllReadTheirFeeds feeds.now) }
     ensures refused { IfErr result (IsRefusedInput (map arc_value plans.items) feeds.now) }
 {
     if feeds.len() != plans.len() {
@@ -61,25 +67,65 @@ pub(crate) fn fed_board<'h>(
 }
 
 /// The steps are taken one after another; a refusal doesn't end them. Room for all replies is taken before
-/// the first step. An error is want of memory.
-fn take_steps<'h>(
+/// the first step: an error is want of memory for it, and nothing is done.
+fn replies_to<'h>(
     alloc: Global,
     board: &mut Board<'h>,
     feeds: &[Feed<'h>],
     steps: &[(u8, Step)],
 ) -> Result<Vec<Result<Answer, StepRefusal>>, AllocError>
-    ensures { IfOk result (λ replies. IsRun feeds.now board.old steps.now replies.items board.new) }
+    ensures run { IfOk result (λ replies. IsRun feeds.now board.old steps.now replies.items board.new) }
+    ensures kept { OnErr result (board.new ≡ board.old) }
 {
     let mut replies = Vec::with_capacity(alloc, steps.len())?;
     for (s, step) in steps {
-        replies.push(board.take_step(alloc, feeds, *s, *step))?;
+        replies.push_reserved(board.take_step(alloc, feeds, *s, *step));
     }
     Ok(replies)
 }
 
+impl<'h> Board<'h> {
+    /// Takes a list of steps, each on a stream of the board, in order; the feeds stand in the order of the
+    /// streams. The answer is for each step what it answered or why it was refused; after a refusal the list
+    /// goes on.
+    ///
+    /// Room for all replies is taken before the first step. An error is want of memory for it, and the board is
+    /// as it was.
+    pub fn take_steps(
+        &mut self,
+        alloc: Global,
+        feeds: &[Feed<'h>],
+        steps: &[(u8, Step)],
+    ) -> Result<Vec<Result<Answer, StepRefusal>>, AllocError>
+        // Each reply and what it leaves is the step's, one after another.
+        ensures run { IfOk result (λ replies. IsRun feeds.now self.old steps.now replies.items self.new) }
+        ensures kept { OnErr result (self.new ≡ self.old) }
+        // Each stream's state is that of its own steps alone.
+        ensures own { IfOk result (λ replies. AllFollow feeds.now steps.now replies.items self.old self.new) }
+        // Streams that read their feeds still do, and each shows its source.
+        ensures reads { OnOk result (AllReadTheirFeeds feeds.now self.old → AllReadTheirFeeds feeds.now self.new) }
+        ensures shows { OnOk result (AllReadTheirFeeds feeds.now self.old → AllShowTheirSources feeds.now self.new) }
+        // Laws of lists of steps: in which each stream took the same steps they end in the same board; a
+        // stream doesn't notice the others; over feeds that share no key no step is refused 71, and a stream
+        // is shown alike in two runs.
+        ensures same { SameStepsSameBoard }
+        ensures lone { LoneRunsShowAlike }
+        ensures never { DisjointFeedsNeverClash }
+        ensures alike { DisjointRunsShowAlike }
+    {
+        streams_follow_their_own_steps();
+        streams_read_their_feeds();
+        boards_show_their_sources();
+        agreeing_runs_show_alike();
+        self.is_lawful();
+        replies_to(alloc, self, feeds, steps)
+    }
+}
+
 /// Takes a list of steps, each on a stream of the board, in order, from a board of 1 to 64 plans of which
-/// nothing is read. The feeds stand in the order of the plans. The answer is the board behind the steps and
-/// for each step what it answered or why it was refused; after a refusal the list goes on.
+/// nothing is read: `Board::new` and `Board::take_steps`. The feeds stand in the order of the plans. The
+/// answer is the board behind the steps and for each step what it answered or why it was refused; after a
+/// refusal the list goes on.
 ///
 /// Refused 119 where there aren't as many feeds as plans, else 111 where two plans differ in their tables
 /// or a feed wasn't opened under its plan. Any other error is want of memory.
@@ -91,6 +137,9 @@ pub fn run_schedule<'h>(
 ) -> Result<(Board<'h>, Vec<Result<Answer, StepRefusal>>), Refusal>
     requires some { 1 ≤ length plans.items }
     requires few { length plans.items ≤ 64 }
+    // The headline: a row stands for a stream at a key exactly where the groups of its feed up to its recorded
+    // position leave it there, it passes the filter, and its key is copied.
+    ensures shows { IfOk result (λ ran. AllShowTheirSources feeds.now ran.0) }
     // Each reply and what it leaves is the step's, one after another.
     ensures run { IfOk result (λ ran. IsRun feeds.now (fresh_board (map arc_value plans.items)) steps.now ran.1.items ran.0) }
     ensures lawful { IfOk result (λ ran. IsLawful ran.0) }
@@ -107,9 +156,10 @@ pub fn run_schedule<'h>(
     streams_follow_their_own_steps();
     streams_read_their_feeds();
     rows_are_replayed();
+    boards_show_their_sources();
     match fed_board(alloc, plans, feeds) {
         Err(refusal) => Err(refusal),
-        Ok(mut board) => match take_steps(alloc, &mut board, feeds, steps) {
+        Ok(mut board) => match board.take_steps(alloc, feeds, steps) {
             Err(_) => Err(Refusal::Memory),
             Ok(replies) => Ok((board, replies)),
         },

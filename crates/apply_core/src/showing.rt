@@ -5,7 +5,8 @@ ghost use Rattle.std.specs.Option.{option_map_or};
 ghost use Rattle.pk_copy.specs.Marks.{mark_of};
 ghost use Rattle.pk_copy.specs.MarkView.{mark_value};
 ghost use Rattle.board_laws.specs.declared.refusal.Refusal.TheVariants.{NoStream, Memory};
-ghost use Rattle.apply_core.specs.Shown.{position_of, all_rows, rows_of};
+ghost use Rattle.board_laws.specs.Sources.{applied_position};
+ghost use Rattle.apply_core.specs.Shown.{all_rows, rows_of};
 
 use crate::board::Board;
 use crate::stream::Stream;
@@ -45,7 +46,7 @@ fn copies_of_own(alloc: Global, rows: &Tables<Key, RowBuf>, s: u8) -> Result<Row
 impl<'h> Stream<'h> {
     /// The position of the last applied group; none where no group is applied.
     pub(crate) fn position(&self) -> Option<&GtidSet>
-        ensures { option_map_or (λ set. set.now) result [] ≡ position_of self.now }
+        ensures { option_map_or (λ set. set.now) result [] ≡ applied_position self.now }
     {
         self.is_sound();
         if self.applied == 0 {
@@ -66,7 +67,7 @@ impl<'h> Board<'h> {
     /// The source's position at which the rows of stream `s` stand: that of its last applied group. None is
     /// the empty set, before the first group is applied. Refused 115 alone. Takes no memory.
     pub fn position(&self, s: u8) -> Result<Option<&GtidSet>, Refusal>
-        ensures position { IfOk result (λ position. IsSomeAnd (slice_get self.now.streams s) (λ state. option_map_or (λ set. set.now) position [] ≡ position_of state)) }
+        ensures position { IfOk result (λ position. IsSomeAnd (slice_get self.now.streams s) (λ state. option_map_or (λ set. set.now) position [] ≡ applied_position state)) }
         ensures no_stream { IfErr result (λ refusal. (refusal ≡ NoStream) × (slice_get self.now.streams s ≡ None)) }
     {
         match self.stream(s) {

@@ -1,5 +1,6 @@
 -- Two runs that agree: in what each stream took, or in all steps of one stream.
 use Rattle.std.proofs.Common.{◌≡◌, ◌≢◌, ◌==◌, ◌&&◌, ℕ, suc, ◌≤◌, inl, inr, Bool, true, false, not, cond, List, [], ◌∷◌, length, Option, Some, Ok, Err, slice_get, refl, sym, ap, subst, ◌∙◌, arith}
+use Rattle.std.proofs.lemmas.Bool.{true≢false}
 use Rattle.std.proofs.lemmas.List.{length-set}
 use Rattle.std.proofs.lemmas.Option.{same_Some, none-some, slice_get_past, slice_get_cases}
 use borrow.Author.Tests.{eqb-true}
@@ -17,9 +18,9 @@ use Rattle.board_laws.specs.Lawful.{IsLawful}
 use Rattle.board_laws.specs.StateAfter.{state_after}
 use Rattle.board_laws.specs.Runs.{taken}
 use Rattle.board_laws.specs.Schedule.{Reply, IsEventStep, IsReplyBy, IsReply, IsRun}
-use Rattle.board_laws.specs.Lone.{is_hindered, lone_steps, lone_replies, IsAloneAs}
+use Rattle.board_laws.specs.Lone.{is_hindered, is_lone, lone_steps, lone_replies, IsAloneAs}
 use Rattle.board_laws.specs.RunLaws.{NoneWantsMemory, IsClashReply, NoneClashes}
-use Rattle.board_laws.specs.Agreement.{TookTheSame, steps_on, replies_on, DisjointRunsShowAlike}
+use Rattle.board_laws.specs.Agreement.{TookTheSame, steps_on, replies_on, DisjointRunsShowAlike, LoneRunsShowAlike}
 use Rattle.board_laws.proofs.Lookups.{Ties}
 use Rattle.board_laws.proofs.Following.{refused_by, unchanged, answered_by, follows, run-lawful, same-board}
 use Rattle.board_laws.proofs.Isolated.{isolated, same-rows_alone}
@@ -167,5 +168,40 @@ disjoint-alike ties feeds others old new start end steps later replies answers o
             sym (same-rows_alone s new first.0 (run-lawful feeds old new steps replies one.run one.lawful) first.2 key)
             ∙ ap (λ (b : Meaning). own_row s (value_at key_cmp b.rows key)) done.1
             ∙ same-rows_alone s end second.0 (run-lawful others start end later answers other.run other.lawful) second.2 key;
+      },
+    )
+
+-- ---- a stream by itself
+
+unhindered : (b h : Bool) → (b && not h) ≡ true → h ≡ false
+unhindered true true e = absurd (true≢false (sym e))
+unhindered true false e = refl
+unhindered false h e = absurd (true≢false (sym e))
+
+not_memory : (reply : Reply) → is_hindered reply ≡ false → reply ≢ refused_by (Refused Memory)
+not_memory reply free is = true≢false (sym (ap is_hindered is) ∙ free)
+
+-- among the replies that count alone none is want of memory
+lone-wants_none : (s : ℕ) (steps : List (ℕ × Step)) (replies : List Reply) → NoneWantsMemory (lone_replies s steps replies)
+lone-wants_none s [] replies = tt
+lone-wants_none s (step ∷ steps) [] = tt
+lone-wants_none s (step ∷ steps) (reply ∷ replies) = by (lone-wants_none s steps replies) (is_lone s step reply) refl
+  where
+    by : NoneWantsMemory (lone_replies s steps replies) → (b : Bool) → is_lone s step reply ≡ b → NoneWantsMemory (cond b (reply ∷ lone_replies s steps replies) (lone_replies s steps replies))
+    by rest true e = (not_memory reply (unhindered (step.0 == s) (is_hindered reply) e), rest)
+    by rest false e = rest
+
+pub lone-alike : Ties → LoneRunsShowAlike
+lone-alike ties feeds old new alone left steps replies others lawful run s is again wants =
+    let first : (then : Meaning) × IsRun feeds alone (lone_steps s steps replies) (lone_replies s steps replies) then × IsAloneAs s new then
+    = isolated feeds old new steps replies run s alone is in
+    let done : (others ≡ lone_replies s steps replies) × (left ≡ first.0)
+    = one_run ties feeds alone left first.0 (lone_steps s steps replies) others (lone_replies s steps replies) is.lawful again first.1 wants (lone-wants_none s steps replies) in (
+      done.0,
+      record {
+        state = sym first.2.state ∙ ap (λ (b : Meaning). slice_get b.streams s) (sym done.1);
+        rows = λ key.
+            sym (same-rows_alone s new first.0 (run-lawful feeds old new steps replies run lawful) first.2 key)
+            ∙ ap (λ (b : Meaning). own_row s (value_at key_cmp b.rows key)) (sym done.1);
       },
     )

@@ -40,6 +40,7 @@ start-sound plan = record {
   standing = record { applied = omega arith; done = omega arith; snapshot = tt };
   marks = record { within = omega arith; current = tt };
   tables = refl;
+  upto = tt;
 }
 
 -- nothing is kept of no group

@@ -4,6 +4,7 @@ pub mod Owning
 pub mod KeptList
 pub mod Chunks
 pub mod History
+pub mod RowsUnder
 pub mod Sound
 pub mod CutAfter
 pub mod Making
@@ -14,4 +15,6 @@ pub mod Isolated
 pub mod Determined
 pub mod FeedLaws
 pub mod Replays
+pub mod FeedGroups
+pub mod Sources
 pub mod Agreeing

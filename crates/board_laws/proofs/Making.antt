@@ -8,6 +8,7 @@ use Rattle.std.specs.Option.{option_map, option_and_then}
 use Rattle.filter_rule.specs.PlanValue.{PlanValue}
 use Rattle.pk_copy.specs.KeyOrder.{key_cmp}
 use Rattle.pk_copy.specs.KeyValue.{KeyValue}
+use Rattle.pk_copy.specs.Lastpk.{KeysOfRowsAreTableKeys}
 use Rattle.pk_copy.specs.Marks.{next_table}
 use Rattle.source_feed.specs.Prepared.{IsPrepared}
 use Rattle.source_feed.specs.History.{RowValue}
@@ -75,7 +76,7 @@ module _ (ties : Ties) (old : Meaning) (lawful : IsLawful old) (s : ℕ) (state 
     };
   }
 
-  module _ (rows : TargetRows) (prepared : OnOffer IsPrepared event) (clear : NoneInTheWay key_cmp old.rows s (touch_of state event))
+  module _ (of_rows : KeysOfRowsAreTableKeys) (rows : TargetRows) (prepared : OnOffer IsPrepared event) (clear : NoneInTheWay key_cmp old.rows s (touch_of state event))
       (made : IsTouched key_cmp old.rows s (touch_of state event) rows) (rising : IsRising key_cmp rows) where
     abbrev new : Meaning
     new = record { streams = set old.streams s (state_after state event); rows = rows }
@@ -107,7 +108,7 @@ module _ (ties : Ties) (old : Meaning) (lawful : IsLawful old) (s : ℕ) (state 
       some = subst (λ n. 1 ≤ n) (sym (length-set old.streams s (state_after state event))) lawful.some;
       few = subst (λ n. n ≤ 64) (sym (length-set old.streams s (state_after state event))) lawful.few;
       sound = λ t x e. elim (slice_get-set old.streams s (state_after state event) x t e) [
-        | inl same ↦ subst (λ (z : State). IsSoundState z) same.1 (sound-after ties state event sound allowed prepared)
+        | inl same ↦ subst (λ (z : State). IsSoundState z) same.1 (sound-after ties of_rows state event sound allowed prepared)
         | inr other ↦ lawful.sound t x other.1
       ];
       tables = λ t u x y e f.

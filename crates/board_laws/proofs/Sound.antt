@@ -4,11 +4,13 @@ use Rattle.std.proofs.lemmas.Bool.{false≢true, true≢false, eqb-false}
 use Rattle.std.proofs.lemmas.List.{length-append, length-take-le}
 use borrow.Author.Tests.{eqb-true, ltb-false, leb-false}
 use Rattle.std.specs.Prelude.{nat_lt, nat_le, IfSome, IsOk}
+use Rattle.std.specs.List.{AllByRecursion}
 use Rattle.std.specs.Option.{option_map_or}
 use Rattle.stream_core.specs.Standing.{Standing, IsSound, IsOpenAt, is_open_at}
 use Rattle.stream_core.specs.Rows.{first_of, NoneStands}
 use Rattle.stream_core.specs.StepTable.{row_of, decided}
 use Rattle.pk_copy.specs.KeyValue.{KeyValue}
+use Rattle.pk_copy.specs.Lastpk.{IsTableKey, KeysOfRowsAreTableKeys}
 use Rattle.pk_copy.specs.Marks.{Marks, AreMarks, is_beyond, is_past, moved_to, next_table}
 use Rattle.source_feed.specs.Prepared.{IsPrepared}
 use Rattle.source_feed.specs.Touches.{PreparedValue}
@@ -16,10 +18,13 @@ use Rattle.source_feed.specs.History.{RowValue}
 use Rattle.board_laws.specs.Meaning.{State}
 use Rattle.board_laws.specs.Lawful.{standing_of, IsSoundState}
 use Rattle.board_laws.specs.Event.{Event, offer, advance, open_at, copy_rows, close, restart, step_of, OnOffer}
-use Rattle.board_laws.specs.Chunk.{rows_taken, takes_all, marks_behind, copied_state}
+use Rattle.board_laws.specs.KeptRows.{kept_rows}
+use Rattle.board_laws.specs.Chunk.{rows_left, rows_taken, takes_all, marks_behind, copied_state}
 use Rattle.board_laws.specs.StateAfter.{state_after}
 use Rattle.board_laws.specs.Allowed.{IsAllowed, IsNext}
-use Rattle.board_laws.proofs.Lookups.{Ties}
+use Rattle.board_laws.proofs.Lists.{slice_get-take}
+use Rattle.board_laws.proofs.Lookups.{Ties, all-filter, all-at}
+use Rattle.board_laws.proofs.RowsUnder.{IsRowUnder, key-under, kept-under}
 use Rattle.board_laws.proofs.History.{read-next, read-cut}
 use Rattle.board_laws.proofs.Chunks.{and-left, and-right, last-past}
 
@@ -91,30 +96,37 @@ marks-moved marks last h copying past = record {
 }
 
 module _ (state : State) (sound : IsSoundState state) where
-  with_marks : (marks : Marks) (snapshot : Option ℕ) → AreMarks marks → marks.tables ≡ state.marks.tables
+  with_marks : (marks : Marks) (snapshot : Option ℕ) → AreMarks marks → marks.tables ≡ state.marks.tables → IfSome marks.upto (IsTableKey state.plan)
       → IfSome snapshot (IsOpenAt (record { read = length state.list; applied = state.applied; tables = marks.tables; done = marks.done; snapshot = snapshot }))
       → IsSoundState (record { plan = state.plan; list = state.list; applied = state.applied; marks = marks; snapshot = snapshot })
-  with_marks marks snapshot are same opened = record {
+  with_marks marks snapshot are same key opened = record {
     list = sound.list;
     standing = record { applied = sound.standing.applied; done = are.within; snapshot = opened };
     marks = are;
     tables = same ∙ sound.tables;
+    upto = key;
   }
 
   -- the state behind a chunk
-  sound-copied : Ties → (c : ℕ) → state.marks.done < state.marks.tables → IsSoundState (copied_state state c)
-  sound-copied ties c copying = by (takes_all state c)
+  sound-copied : Ties → KeysOfRowsAreTableKeys → (c : ℕ) → state.marks.done < state.marks.tables → IsSoundState (copied_state state c)
+  sound-copied ties of_rows c copying = by (takes_all state c)
     where
+      last-key : (last : KeyValue × RowValue) → slice_get (rows_taken state c) (length (rows_taken state c) - 1) ≡ Some last → IsTableKey state.plan last.0
+      last-key last e =
+          let under : AllByRecursion (IsRowUnder state.plan) (rows_left state) =
+          all-filter (IsRowUnder state.plan) (λ row. is_past state.marks row.0) (kept_rows state.list state.applied) (kept-under ties state.plan state.list state.applied sound.list) in
+          key-under of_rows state.plan last (all-at (IsRowUnder state.plan) (rows_left state) (length (rows_taken state c) - 1) last under (slice_get-take c (rows_left state) (length (rows_taken state c) - 1) last e))
+
       moved : (o : Option (KeyValue × RowValue)) → slice_get (rows_taken state c) (length (rows_taken state c) - 1) ≡ o
           → IsSoundState (record { plan = state.plan; list = state.list; applied = state.applied; marks = option_map_or (λ row. moved_to row.0 state.marks) o state.marks; snapshot = state.snapshot })
       moved None e = sound
       moved (Some last) e =
-          with_marks (moved_to last.0 state.marks) state.snapshot (marks-moved state.marks last.0 sound.marks copying (last-past ties state c last e)) refl
+          with_marks (moved_to last.0 state.marks) state.snapshot (marks-moved state.marks last.0 sound.marks copying (last-past ties state c last e)) refl (last-key last e)
           (same_while (standing_of state) (record { read = length state.list; applied = state.applied; tables = state.marks.tables; done = state.marks.done; snapshot = state.snapshot }) refl (omega arith) refl refl state.snapshot sound.standing.snapshot)
 
       by : (b : Bool) → IsSoundState (cond b (record { plan = state.plan; list = state.list; applied = state.applied; marks = next_table state.marks; snapshot = None })
           (record { plan = state.plan; list = state.list; applied = state.applied; marks = marks_behind (rows_taken state c) state.marks; snapshot = state.snapshot }))
-      by true = with_marks (next_table state.marks) None (marks-next state.marks sound.marks copying) refl tt
+      by true = with_marks (next_table state.marks) None (marks-next state.marks sound.marks copying) refl tt tt
       by false = moved (slice_get (rows_taken state c) (length (rows_taken state c) - 1)) refl
 
   -- the state behind an offer
@@ -139,12 +151,13 @@ module _ (state : State) (sound : IsSoundState state) where
             };
             marks = sound.marks;
             tables = sound.tables;
+            upto = sound.upto;
           }
 
 -- the state behind any step
-pub sound-after : (ties : Ties) (state : State) (event : Event) → IsSoundState state → IsAllowed state event → OnOffer IsPrepared event → IsSoundState (state_after state event)
-sound-after ties state (offer group) sound allowed prepared = sound-offered state sound group allowed prepared
-sound-after ties state advance sound allowed prepared = record {
+pub sound-after : (ties : Ties) (of_rows : KeysOfRowsAreTableKeys) (state : State) (event : Event) → IsSoundState state → IsAllowed state event → OnOffer IsPrepared event → IsSoundState (state_after state event)
+sound-after ties of_rows state (offer group) sound allowed prepared = sound-offered state sound group allowed prepared
+sound-after ties of_rows state advance sound allowed prepared = record {
   list = sound.list;
   standing = record {
     applied = let more : state.applied < length state.list = one_more state sound.standing allowed.table in omega arith;
@@ -153,8 +166,9 @@ sound-after ties state advance sound allowed prepared = record {
   };
   marks = sound.marks;
   tables = sound.tables;
+  upto = sound.upto;
 }
-sound-after ties state (open_at m) sound allowed prepared =
+sound-after ties of_rows state (open_at m) sound allowed prepared =
     let none : NoneStands (row_of (standing_of state) (step_of (open_at m))).refusals = none_against state (open_at m) allowed.table in
     let left : state.marks.done ≢ state.marks.tables = eqb-false state.marks.done state.marks.tables none.0 in
     let most : state.marks.done ≤ state.marks.tables = sound.standing.done in
@@ -167,15 +181,17 @@ sound-after ties state (open_at m) sound allowed prepared =
       };
       marks = sound.marks;
       tables = sound.tables;
+      upto = sound.upto;
     }
-sound-after ties state (copy_rows c) sound allowed prepared = sound-copied state sound ties c (copying state c sound.standing allowed.table)
-sound-after ties state close sound allowed prepared = record {
+sound-after ties of_rows state (copy_rows c) sound allowed prepared = sound-copied state sound ties of_rows c (copying state c sound.standing allowed.table)
+sound-after ties of_rows state close sound allowed prepared = record {
   list = sound.list;
   standing = record { applied = sound.standing.applied; done = sound.standing.done; snapshot = tt };
   marks = sound.marks;
   tables = sound.tables;
+  upto = sound.upto;
 }
-sound-after ties state restart sound allowed prepared =
+sound-after ties of_rows state restart sound allowed prepared =
     let most : state.applied ≤ length state.list = sound.standing.applied in
     let cut : length (take state.applied state.list) ≡ state.applied = length-take-le state.applied state.list most in
     record {
@@ -183,4 +199,5 @@ sound-after ties state restart sound allowed prepared =
       standing = record { applied = omega (arith, cut); done = sound.standing.done; snapshot = tt };
       marks = sound.marks;
       tables = sound.tables;
+      upto = sound.upto;
     }

@@ -9,6 +9,7 @@ use Rattle.source_feed.specs.Planned.{FeedValue}
 use Rattle.board_laws.specs.Meaning.{State, Meaning}
 use Rattle.board_laws.specs.Cut.{own_row}
 use Rattle.board_laws.specs.Lawful.{IsLawful}
+use Rattle.board_laws.specs.Lone.{lone_steps, lone_replies, IsAloneAs}
 use Rattle.board_laws.specs.Runs.{own, AreDisjoint}
 use Rattle.board_laws.specs.Schedule.{Reply, IsRun}
 use Rattle.board_laws.specs.Reading.{AllReadTheirFeeds}
@@ -61,3 +62,12 @@ DisjointRunsShowAlike =
     → (s : ℕ) (state : State) → slice_get feeds s ≡ slice_get others s → slice_get old.streams s ≡ Some state → slice_get start.streams s ≡ Some state
     → steps_on s steps ≡ steps_on s later → NoneWantsMemory (replies_on s steps replies) → NoneWantsMemory (replies_on s later answers)
     → (replies_on s steps replies ≡ replies_on s later answers) × IsShownAlike s new end
+
+-- A stream doesn't notice the others: where its own steps, those aside that another stream's row or want of memory
+-- hindered, are taken on a board where no other stream has a row, they have the same replies and the stream is shown
+-- alike, if none of them wants memory there.
+abbrev pub LoneRunsShowAlike : Type 0
+LoneRunsShowAlike =
+    (feeds : List FeedValue) (old new alone left : Meaning) (steps : List (ℕ × Step)) (replies others : List Reply) → IsLawful old → IsRun feeds old steps replies new
+    → (s : ℕ) → IsAloneAs s old alone → IsRun feeds alone (lone_steps s steps replies) others left → NoneWantsMemory others
+    → (others ≡ lone_replies s steps replies) × IsShownAlike s new left

@@ -1,8 +1,9 @@
 -- What is true of every board: the headline of a target (this profile).
-use Rattle.std.specs.Prelude.{◌≡◌, ℕ, ◌≤◌, List, [], length, Some, None, slice_get}
+use Rattle.std.specs.Prelude.{◌≡◌, ℕ, ◌≤◌, List, [], length, Some, None, IfSome, slice_get}
 use Rattle.filter_rule.specs.PlanValue.{PlanValue}
 use Rattle.pk_copy.specs.KeyOrder.{key_cmp}
 use Rattle.pk_copy.specs.KeyValue.{KeyValue}
+use Rattle.pk_copy.specs.Lastpk.{IsTableKey}
 use Rattle.pk_copy.specs.Marks.{AreMarks}
 use Rattle.stream_core.specs.Standing.{Standing, IsSound}
 use Rattle.target_tables.specs.Contents.{value_at}
@@ -42,12 +43,13 @@ pub record IsReadList (plan : PlanValue) (list : List PreparedValue) : Type 0 wh
   pub planned : (i : ℕ) (group : PreparedValue) → slice_get list i ≡ Some group → group.plan ≡ plan
   pub order : AreInOrder (λ (group : PreparedValue). group.number) (λ (group : PreparedValue). group.position) list
 
--- what is true of every stream's state
+-- what is true of every stream's state; the key up to which a table is copied is one of its table
 pub record IsSoundState (state : State) : Type 0 where
   pub list : IsReadList state.plan state.list
   pub standing : IsSound (standing_of state)
   pub marks : AreMarks state.marks
   pub tables : state.marks.tables ≡ length state.plan.tables
+  pub upto : IfSome state.marks.upto (IsTableKey state.plan)
 
 -- ---- a board
 

@@ -14,5 +14,6 @@ pub mod Laws
 pub mod Schedule
 pub mod Lone
 pub mod Reading
+pub mod Sources
 pub mod RunLaws
 pub mod Agreement

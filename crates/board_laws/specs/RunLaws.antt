@@ -15,6 +15,7 @@ use Rattle.board_laws.specs.Cut.{own_row}
 use Rattle.board_laws.specs.Lone.{lone_steps, lone_replies, IsAloneAs}
 use Rattle.board_laws.specs.Runs.{own, taken, AreDisjoint}
 use Rattle.board_laws.specs.Reading.{AllReadTheirFeeds, IsReplayed}
+use Rattle.board_laws.specs.Sources.{AllShowTheirSources}
 use Rattle.board_laws.specs.Schedule.{Reply, IsRun}
 
 -- each stream's state is the one behind its own steps that weren't refused, by its feed alone
@@ -92,3 +93,7 @@ DisjointFeedsNeverClash =
 abbrev pub RowsAreReplayed : Type 0
 RowsAreReplayed =
     (board : Meaning) → IsLawful board → (s : ℕ) (key : KeyValue) (row : RowValue) → (value_at key_cmp board.rows key ≡ Some (s, row)) ↔ IsReplayed board s key row
+
+-- the streams of a lawful board that read their feeds show their sources
+abbrev pub BoardsShowTheirSources : Type 0
+BoardsShowTheirSources = (feeds : List FeedValue) (board : Meaning) → IsLawful board → AllReadTheirFeeds feeds board → AllShowTheirSources feeds board

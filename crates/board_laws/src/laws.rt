@@ -3,7 +3,7 @@
 
 ghost use Rattle.board_laws.specs.Laws.{TouchesAreSteps, StillSteps, ClashesAreOfTheCut, StatesStaySound, ReadListsAreShort, KeptRowsAreOneList, FirstGroupsKeep, ChunksAreLeft, OneMoreTells, FreshBoardsAreLawful};
 
-use pk_copy::keys_tie_where_they_are_equal;
+use pk_copy::{keys_read_are_table_keys, keys_tie_where_they_are_equal};
 
 /// A step that nothing in the stream's own state is against keeps the board lawful where its touches are
 /// made; whoever is in the way of its touches is in the way of the stream's new cut.
@@ -15,6 +15,7 @@ pub fn steps_keep_boards_lawful()
     ensures short { ReadListsAreShort }
 {
     keys_tie_where_they_are_equal();
+    keys_read_are_table_keys();
 }
 
 /// The rows that some groups keep are one list, and the first groups of a history say it.

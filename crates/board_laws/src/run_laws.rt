@@ -1,6 +1,6 @@
 //! Laws of schedules, each the contract of a function without a body.
 
-ghost use Rattle.board_laws.specs.RunLaws.{StreamsFollowTheirOwnSteps, RunsStayLawful, StatesSayTheRows, RunsAreDetermined, StreamsAreIsolated, AloneWithTheSameRows, AloneBoardsExist, StreamsReadTheirFeeds, DisjointFeedsNeverClash, RowsAreReplayed};
+ghost use Rattle.board_laws.specs.RunLaws.{StreamsFollowTheirOwnSteps, RunsStayLawful, StatesSayTheRows, RunsAreDetermined, StreamsAreIsolated, AloneWithTheSameRows, AloneBoardsExist, StreamsReadTheirFeeds, DisjointFeedsNeverClash, RowsAreReplayed, BoardsShowTheirSources};
 
 use pk_copy::keys_tie_where_they_are_equal;
 
@@ -43,4 +43,10 @@ pub fn streams_read_their_feeds()
 /// leaves, that pass its filter and lie within its copied keys.
 pub fn rows_are_replayed()
     ensures { RowsAreReplayed }
+{}
+
+/// Each stream of a board that reads its feed shows its source: a row stands for it at a key exactly where the
+/// groups of its feed up to its recorded position leave it there, it passes the filter, and its key is copied.
+pub fn boards_show_their_sources()
+    ensures { BoardsShowTheirSources }
 {}

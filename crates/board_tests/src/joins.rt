@@ -43,7 +43,6 @@ fn has_row(board: &Board<'_>, key: &Key, wanted: &[&[u8]]) -> bool {
 fn is_cause(a: &Board<'_>, why: &JoinFault, wanted: Wanted<'_>) -> bool {
     match (why, wanted) {
         (JoinFault::WrongPlan, Wanted::Refused(n, 0)) => n == why.number(),
-        (JoinFault::NotRunning(s), Wanted::Refused(n, stream)) => n == why.number() && *s == stream,
         (JoinFault::HistoriesDiffer(s), Wanted::Refused(n, stream)) => {
             n == why.number() && *s == stream
         }
@@ -173,10 +172,29 @@ fn boards_of_other_histories(rt: HostRuntime) {
     );
 }
 
-/// A stream that isn't copied is told before another one's other history.
+/// A board whose second stream isn't copied: of another history; behind in both streams; and further on in
+/// this one, whose rows then go.
 #[test]
 fn boards_that_still_copy(rt: HostRuntime) {
-    assert!(rt; joins_both_ways(rt.alloc(), &five_two(), &copying(), Wanted::Refused(114, 1)));
+    let copied = five_two();
+    assert!(rt;
+        joins_both_ways(
+            rt.alloc(),
+            &copied,
+            &copying(PARTED, 1),
+            Wanted::Refused(113, 0)
+        ) && joins_both_ways(
+            rt.alloc(),
+            &copied,
+            &copying(LOW, 1),
+            Wanted::Joined(&copied)
+        ) && joins_both_ways(
+            rt.alloc(),
+            &copied,
+            &copying(LOW, 4),
+            Wanted::Joined(&copied_and_copying())
+        )
+    );
 }
 
 /// Whether boards of these plans, of which nothing is read, aren't joined.

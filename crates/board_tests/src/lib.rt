@@ -2,13 +2,25 @@
 #![tactic(auto)]
 
 #[cfg(test)]
+mod alike;
+#[cfg(test)]
 mod boards;
+#[cfg(test)]
+mod chunks;
+#[cfg(test)]
+mod copying_joins;
 #[cfg(test)]
 mod feeds;
 #[cfg(test)]
+mod joined_images;
+#[cfg(test)]
 mod joins;
 #[cfg(test)]
+mod memory;
+#[cfg(test)]
 mod own_rows;
+#[cfg(test)]
+mod random_joins;
 #[cfg(test)]
 mod random_steps;
 #[cfg(test)]

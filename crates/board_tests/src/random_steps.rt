@@ -10,7 +10,7 @@ use std::test::*;
 use stream_core::{Cursor, Step};
 
 /// The next of some numbers that look random.
-fn next(seed: u32) -> u32 {
+pub(crate) fn next(seed: u32) -> u32 {
     seed.wrapping_mul(1_664_525).wrapping_add(1_013_904_223)
 }
 
@@ -59,7 +59,7 @@ fn random_feeds(alloc: Global) -> Result<Vec<Vec<u8>>, AllocError> {
 }
 
 /// A step that a stream may take where it stands, or that it may not.
-fn random_step(seed: u32, cursor: &Cursor) -> Step {
+pub(crate) fn random_step(seed: u32, cursor: &Cursor) -> Step {
     match (seed >> 13) % 16 {
         0..=4 => Step::Offer(cursor.read() % 9 + 1),
         5..=8 => Step::Advance,
@@ -140,14 +140,45 @@ fn are_replies(replies: &[Result<Answer, StepRefusal>], taken: &[Taken]) -> bool
     replies.len() == taken.len()
 }
 
-/// Whether the steps, as one list, have the same refusals and leave the same board.
-fn again<'h>(alloc: Global, board: &Board<'h>, feeds: &[Feed<'h>], taken: &[Taken]) -> bool {
-    let Some(steps) = steps_of(alloc, taken) else {
-        return false;
-    };
-    match run(alloc, THREE, feeds, &steps) {
+/// Whether the steps, as one list from a board of plans and feeds, have the same refusals and leave the same board.
+fn runs_alike<'h>(
+    alloc: Global,
+    board: &Board<'h>,
+    feeds: &[Feed<'h>],
+    steps: &[(u8, Step)],
+    taken: &[Taken],
+) -> bool {
+    match run(alloc, THREE, feeds, steps) {
         Ok((other, replies)) => are_replies(&replies, taken) && show_alike(alloc, board, &other),
         Err(_) => false,
+    }
+}
+
+/// The same of the list on another board of which nothing is read.
+fn goes_on_alike<'h>(
+    alloc: Global,
+    board: &Board<'h>,
+    feeds: &[Feed<'h>],
+    steps: &[(u8, Step)],
+    taken: &[Taken],
+) -> bool {
+    let Some(mut other) = board_of(alloc, THREE) else {
+        return false;
+    };
+    match other.take_steps(alloc, feeds, steps) {
+        Ok(replies) => are_replies(&replies, taken) && show_alike(alloc, board, &other),
+        Err(_) => false,
+    }
+}
+
+/// Whether the steps, as one list, have the same refusals and leave the same board.
+fn again<'h>(alloc: Global, board: &Board<'h>, feeds: &[Feed<'h>], taken: &[Taken]) -> bool {
+    match steps_of(alloc, taken) {
+        Some(steps) => {
+            runs_alike(alloc, board, feeds, &steps, taken)
+                && goes_on_alike(alloc, board, feeds, &steps, taken)
+        }
+        None => false,
     }
 }
 

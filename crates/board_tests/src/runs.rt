@@ -161,6 +161,77 @@ fn run_alone_is_refused(rt: HostRuntime) {
     assert!(rt; are_refused(rt.alloc(), &REFUSED));
 }
 
+/// A row at a key that the other source comes to and leaves again.
+const STANDING: &[&[Change]] = &[&[(None, Some((5, b'a')))]];
+
+/// Three groups: four new rows, the last at this key; one more; and that row goes.
+const PASSING: &[&[Change]] = &[
+    &[
+        (None, Some((1, b'x'))),
+        (None, Some((2, b'y'))),
+        (None, Some((3, b'z'))),
+        (None, Some((5, b'q'))),
+    ],
+    &[(None, Some((11, b'k')))],
+    &[(Some((5, b'q')), None)],
+];
+
+/// Portions, and whether the row in the way is met: where a snapshot that still has it is copied so far.
+const MET: [(Portions, bool); 12] = [
+    // A row at each group: the fourth is left for the third snapshot, which doesn't have it.
+    ((1, 1, 1), false),
+    // Two at the first and the second group.
+    ((2, 1, 1), true),
+    ((1, 1, 2), true),
+    // From the second group two or three rows, and the rest from the third; or four.
+    ((2, 2, 1), false),
+    ((3, 2, 1), false),
+    ((4, 2, 1), true),
+    ((1, 2, 3), false),
+    ((1, 2, 4), true),
+    ((2, 2, 2), true),
+    // All from one snapshot: at the first, the second and the third group.
+    ((1000, 1, 4), true),
+    ((1000, 2, 4), true),
+    ((1000, 3, 4), false),
+];
+
+/// Whether a run of both streams by these portions meets the row in the way, or ends with all rows.
+fn meets(alloc: Global, feeds: &[Feed<'_>], portions: Portions, met: bool) -> bool {
+    match run_over(alloc, TWO, feeds, portions) {
+        Some(Ok(board)) => !met && shows(alloc, &board, b"1x;2y;3z;5a;11k;"),
+        Some(Err(refusal)) => met && refusal.number() == 71,
+        None => false,
+    }
+}
+
+/// The same by each of these portions.
+fn all_meet(alloc: Global, bytes: &[Vec<u8>], all: &[(Portions, bool)]) -> bool {
+    let Some(feeds) = feeds_of(alloc, TWO, bytes) else {
+        return false;
+    };
+    for (portions, met) in all {
+        if !meets(alloc, &feeds, *portions, *met) {
+            return false;
+        }
+    }
+    true
+}
+
+/// The same of these two sources' feeds.
+fn portions_are_followed(alloc: Global) -> bool {
+    match made(alloc, &[(b'2', STANDING), (b'3', PASSING)]) {
+        Some(bytes) => all_meet(alloc, &bytes, &MET),
+        None => false,
+    }
+}
+
+/// Each portion of a policy is followed: it says which groups' snapshots are copied, and how far.
+#[test]
+fn run_alone_follows_its_portions(rt: HostRuntime) {
+    assert!(rt; portions_are_followed(rt.alloc()));
+}
+
 #[test]
 fn portions_of_a_policy_are_from_one(rt: HostRuntime) {
     assert!(rt;

@@ -1,10 +1,13 @@
 //! What a board shows: where a stream stands, and its rows.
 
+ghost use Rattle.std.specs.Prelude.{Some};
+
 use apply_core::Board;
 use row_view::Column;
+use source_feed::Feed;
 use std::alloc::{AllocError, Global};
 use stream_core::{Cursor, Phase};
-use vdiff_core::Rows;
+use vdiff_core::{Out, OutFailed, Rows, write_dump};
 
 /// A stream's phase, how many groups are read and applied, the open snapshot and how many tables are done.
 pub(crate) type Stand = (Phase, u32, u32, Option<u32>, u8);
@@ -60,6 +63,48 @@ pub(crate) fn shows(alloc: Global, board: &Board<'_>, wanted: &[u8]) -> bool {
 pub(crate) fn shows_of(alloc: Global, board: &Board<'_>, s: u8, wanted: &[u8]) -> bool {
     match board.rows_of(alloc, s) {
         Ok(rows) => is_text_of(alloc, &rows, wanted),
+        Err(_) => false,
+    }
+}
+
+/// A writer that keeps all bytes, where there is memory for them.
+#[derive(Drop)]
+struct Page {
+    bytes: Vec<u8>,
+    failures: u64,
+}
+
+impl Out for Page {
+    ghost written = { λ w. record { bytes = Some w.bytes.items; failures = w.failures } };
+
+    fn write(&mut self, piece: &[u8]) -> Result<usize, OutFailed> {
+        if self.bytes.extend_from_slice(piece).is_err() {
+            self.failures = self.failures.wrapping_add(1);
+            return Err(OutFailed);
+        }
+        Ok(piece.len())
+    }
+}
+
+/// Whether this is the dump of rows under the plan of the first of these feeds.
+fn is_dump_of(alloc: Global, rows: &Rows, feeds: &[Feed<'_>], wanted: &[u8]) -> bool {
+    let Some(feed) = feeds.first() else {
+        return false;
+    };
+    let mut page = Page {
+        bytes: Vec::new(alloc),
+        failures: 0,
+    };
+    match write_dump(&mut page, feed.plan(), rows) {
+        Ok(()) => page.bytes.as_slice() == wanted,
+        Err(_) => false,
+    }
+}
+
+/// Whether this is the dump of the target under the plan of the first of these feeds.
+pub(crate) fn dumps(alloc: Global, board: &Board<'_>, feeds: &[Feed<'_>], wanted: &[u8]) -> bool {
+    match board.rows(alloc) {
+        Ok(rows) => is_dump_of(alloc, &rows, feeds, wanted),
         Err(_) => false,
     }
 }

@@ -45,12 +45,12 @@ const HIGH_GROUPS: &[&[Change]] = &[
     &[(None, Some((16, b'p')))],
 ];
 
-const LOW: Source<'static> = (b'2', LOW_GROUPS);
+pub(crate) const LOW: Source<'static> = (b'2', LOW_GROUPS);
 
 const HIGH: Source<'static> = (b'3', HIGH_GROUPS);
 
 /// Groups that part from the six at the second.
-const PARTED: Source<'static> = (
+pub(crate) const PARTED: Source<'static> = (
     b'2',
     &[&[(None, Some((1, b'a')))], &[(None, Some((2, b'z')))]],
 );
@@ -129,15 +129,24 @@ pub(crate) fn of_another_history() -> Side<'static> {
     )
 }
 
-/// Such a board, of which the second stream isn't copied.
-pub(crate) fn copying() -> Side<'static> {
-    let second = Stream {
+/// A stream of the second source that isn't copied, of which so many groups are read and applied.
+fn waiting(applied: u32) -> Stream<'static> {
+    Stream {
         source: HIGH,
-        read: 2,
-        applied: 1,
+        read: applied,
+        applied,
         copies: false,
-    };
-    two(running(PARTED, 2, 1), second, b"1a;")
+    }
+}
+
+/// A board of which the second stream isn't copied, and so many of its groups are applied.
+pub(crate) fn copying(source: Source<'static>, applied: u32) -> Side<'static> {
+    two(running(source, 2, 1), waiting(applied), b"1a;")
+}
+
+/// The first stream at five groups, and the second at four, not copied.
+pub(crate) fn copied_and_copying() -> Side<'static> {
+    two(running(LOW, 5, 5), waiting(4), b"1a;2b;3c;4d;5e;")
 }
 
 /// A board whose first stream has the keys 2 and 3.

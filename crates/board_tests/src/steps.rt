@@ -20,7 +20,7 @@ fn copying((read, applied, snapshot): Stand) -> Option<Cursor> {
 
 /// Whether a stream stands so.
 fn stands(cursor: &Cursor, wanted: Stand) -> bool {
-    cursor.read() == wanted.0 && cursor.applied() == wanted.1 && cursor.snapshot() == wanted.2
+    cursor.read == wanted.0 && cursor.applied == wanted.1 && cursor.snapshot == wanted.2
 }
 
 /// Whether a step of a stream ends so.
@@ -109,6 +109,18 @@ fn open_when_all_copied(rt: HostRuntime) {
     let running = Cursor::new(2, 1, 1, 1, None);
     assert!(rt;
         is_decided(&running, Step::OpenAt(1), Err(104)) && running.phase() == Phase::Running
+    );
+}
+
+/// A stream whose one table is copied gets a second one: it stands where it stood, and copies again.
+#[test]
+fn more_tables(rt: HostRuntime) {
+    let grown = Cursor::new(2, 1, 1, 1, None).with_tables(2);
+    assert!(rt;
+        grown.phase() == Phase::CatchUp
+            && grown.tables == 2
+            && grown.done == 1
+            && stands(&grown, (2, 1, None))
     );
 }
 

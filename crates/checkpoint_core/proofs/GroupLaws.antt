@@ -11,7 +11,7 @@ use Rattle.source_feed.specs.GroupValue.{Position}
 use Rattle.source_feed.specs.Planned.{PlannedGroupValue, FeedValue}
 use Rattle.source_feed.specs.Touches.{PreparedValue, group_at, prepared, prepared_if, prepared_at}
 use Rattle.board_laws.specs.Runs.{sound_groups}
-use Rattle.checkpoint_laws.specs.Resumed.{HasGroupAt, IsNumberAt}
+use Rattle.board_laws.specs.Sources.{HasGroupAt, IsNumberAt}
 use Rattle.checkpoint_core.specs.Groups.{AreFirst, StopsBefore}
 
 -- ---- positions

@@ -1,21 +1,23 @@
 -- How far tables are copied, by the parts of a checkpoint.
-use Rattle.std.proofs.Common.{◌≡◌, ◌≢◌, ◌==◌, ◌&&◌, ℕ, ◌+◌, ◌<◌, ◌≤◌, inl, inr, Bool, true, false, cond, le_refl, List, length, Option, Some, None, Ok, slice_get, refl, sym, ap, subst, ◌∙◌, arith}
+use Rattle.std.proofs.Common.{◌≡◌, ◌≢◌, ◌==◌, ◌&&◌, ℕ, ◌+◌, ◌<◌, ◌≤◌, ◌⊎◌, inl, inr, Bool, true, false, cond, List, length, Option, Some, None, slice_get, refl, sym, ap, subst, ◌∙◌, arith}
 use Rattle.std.proofs.lemmas.Bool.{eqb-true, ne_eqb, cases_lt, lt-ltb, le-ltb}
 use Rattle.std.proofs.lemmas.Option.{same_Some, none-some}
 use borrow.Author.Tests.{eq-eqb}
-use Rattle.std.specs.Prelude.{IsTrue, nat_lt}
+use Rattle.std.specs.Prelude.{IsTrue, IfSome, nat_lt}
 use Rattle.filter_rule.specs.PlanValue.{PlanValue}
 use Rattle.pk_copy.specs.KeyValue.{KeyValue}
-use Rattle.pk_copy.specs.Marks.{MarkValue, waiting, up_to, copied, Marks, AreMarks, current_mark, mark_of, is_past, is_beyond, moved_to, next_table}
+use Rattle.pk_copy.specs.Lastpk.{IsTableKey}
+use Rattle.pk_copy.specs.Marks.{MarkValue, waiting, up_to, copied, Marks, current_mark, mark_of, is_past, is_beyond, moved_to, next_table}
 use Rattle.source_feed.specs.History.{RowValue}
 use Rattle.vevent.specs.declared.checkpoint_part.TableMark.{TableMark}
 use Rattle.vevent.specs.declared.checkpoint_part.TableMark.TheVariants as kinds
 use Rattle.vevent.specs.CheckpointPart.{TablePartValue, mark_number, mark_of_number}
-use Rattle.checkpoint_laws.specs.Said.{SaysLast}
 use Rattle.checkpoint_laws.specs.Written.{number_of_mark}
 use Rattle.std.proofs.lemmas.Option.{slice_get_within}
 use Rattle.checkpoint_laws.proofs.ResumedLaws.{at_inside}
-use Rattle.checkpoint_core.specs.Private.Reading.{OfEachTable, IsLast, IsMarked, SaysMark, IsOpenAt, IsMarkedMore, AreMarksBefore, AreMarksOf}
+use Rattle.checkpoint_core.specs.declared.marks.MarkRead.{MarkRead}
+use Rattle.checkpoint_core.specs.declared.marks.MarkRead.TheVariants.{Waiting, Upto, Done}
+use Rattle.checkpoint_core.specs.Private.Reading.{mark_read, IsOfPlan, IsLast, IsMarked, SaysMark, IsOpenAt, IsMarkedMore, AreMarksBefore, AreMarksOf}
 
 -- ---- the mark of one table
 
@@ -93,6 +95,7 @@ more_waiting t m at =
       count = refl;
       before = λ i less. refl;
       here = open_at m t at;
+      key = λ last e. inl e;
       behind = record { are = at.are; within = omega (arith, within); unmarked = λ e. absurd (omega (arith, within, e)) };
     }
 
@@ -104,6 +107,7 @@ more_copied t m inside at most =
       count = refl;
       before = λ i less. done_at (next_table m) i (omega (arith, less, most)) ∙ sym (done_at m i (omega (arith, less, most)));
       here = done_at (next_table m) t (omega (arith, most));
+      key = λ last e. absurd (none-some last e);
       behind = record {
         are = record { within = omega (arith, inside, within); current = tt };
         within = omega (arith, within);
@@ -120,6 +124,7 @@ more_up_to t m key inside at most table =
       count = refl;
       before = λ i less. done_at (moved_to key m) i (omega (arith, less, most)) ∙ sym (done_at m i (omega (arith, less, most)));
       here = current_at (moved_to key m) t is;
+      key = λ last e. inr (ap up_to (same_Some key last e));
       behind = record {
         are = record { within = at.are.within; current = record { copying = omega (arith, inside, is); table = table ∙ is } };
         within = omega (arith, within);
@@ -142,14 +147,31 @@ past_open t m key inside at most table =
 pub none_yet : (plan : PlanValue) (tables : List TablePartValue) (m : Marks) → m ≡ record { tables = length plan.tables; done = 0; upto = None } → AreMarksBefore plan tables 0 m
 none_yet plan tables m is = record {
   count = ap (λ (m : Marks). m.tables) is;
+  upto = subst (λ (m : Marks). IfSome m.upto (IsTableKey plan)) (sym is) tt;
   behind = subst (IsOpenAt 0) (sym is) (record { are = record { within = omega arith; current = tt }; within = omega arith; unmarked = λ e. refl });
   each_table = λ t part there less. absurd (omega (arith, less));
 }
 
+key_more : (plan : PlanValue) (mark : MarkValue) (old new : Option KeyValue) → IfSome old (IsTableKey plan) → ((last : KeyValue) → mark ≡ up_to last → IsTableKey plan last)
+    → ((last : KeyValue) → new ≡ Some last → (old ≡ Some last) ⊎ (mark ≡ up_to last)) → IfSome new (IsTableKey plan)
+key_more plan mark old None kept keyed key = tt
+key_more plan mark old (Some last) kept keyed key = elim (key last refl) [
+  | inl same ↦ subst (λ (o : Option KeyValue). IfSome o (IsTableKey plan)) same kept
+  | inr its ↦ keyed last its
+]
+
+-- the key of a mark that is read is one of its table
+pub key_read : (plan : PlanValue) (mark : MarkRead) → IsOfPlan plan mark → (last : KeyValue) → mark_read mark ≡ up_to last → IsTableKey plan last
+key_read plan Waiting h last e = let n : 0 ≡ 1 = ap number_of_mark e in absurd (omega (arith, n))
+key_read plan (Upto key) h last e = let same : key ≡ last = cc in subst (IsTableKey plan) same h
+key_read plan Done h last e = let n : 2 ≡ 1 = ap number_of_mark e in absurd (omega (arith, n))
+
 pub one_more : (plan : PlanValue) (tables : List TablePartValue) (t : ℕ) (part : TablePartValue) (mark : MarkValue) (old new : Marks) → slice_get tables t ≡ Some part → SaysMark plan t mark part
+    → ((last : KeyValue) → mark ≡ up_to last → IsTableKey plan last)
     → AreMarksBefore plan tables t old → IsMarkedMore t mark old new → AreMarksBefore plan tables (t + 1) new
-one_more plan tables t part mark old new there says before more = record {
+one_more plan tables t part mark old new there says keyed before more = record {
   count = more.count ∙ before.count;
+  upto = key_more plan mark old.upto new.upto before.upto keyed more.key;
   behind = more.behind;
   each_table = λ i other here less. elim (cases_lt i t) [
     | inl earlier ↦ subst (λ (m : MarkValue). SaysMark plan i m other) (sym (more.before i earlier)) (before.each_table i other here earlier)
@@ -166,6 +188,7 @@ pub all_marked : (plan : PlanValue) (tables : List TablePartValue) (t : ℕ) (m 
 all_marked plan tables t m inside before = record {
   count = before.count;
   are = before.behind.are;
+  upto = before.upto;
   each_table = λ i part there. before.each_table i part there (inside i part there);
 }
 

@@ -126,7 +126,7 @@ parts_framed bytes rest count parts opened h = record {
 pub tables_said : (plan : PlanValue) (tables : List TablePartValue) (saved : SavedStream) → OfEachTable (HasHead plan saved.position) tables → AreMarksOf plan tables saved.marks
     → AreRows plan (rows_from 0 tables) saved.rows → SayTables plan tables saved
 tables_said plan tables saved heads marks rows = record {
-  sound = record { tables = marks.count; marks = marks.are; rising = rows.rising; keyed = rows.keyed };
+  sound = record { tables = marks.count; marks = marks.are; upto = marks.upto; rising = rows.rising; keyed = rows.keyed };
   each_table = λ t part there.
       let head : HasHead plan saved.position t part = heads t part there in
       let mark : SaysMark plan t _ part = marks.each_table t part there in
@@ -155,6 +155,7 @@ module _ (plan : PlanValue) (tables : List TablePartValue) (saved : SavedStream)
   marks_of = record {
     count = says.sound.tables;
     are = says.sound.marks;
+    upto = says.sound.upto;
     each_table = λ t part there. let one : SaysTable plan saved t part = says.each_table t part there in record { number = one.mark; last = one.answer.last };
   }
 

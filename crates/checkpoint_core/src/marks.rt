@@ -2,13 +2,14 @@
 
 ghost use Rattle.std.specs.Prelude.{◌≡◌, ◌<◌, ◌≤◌, ◌+◌, ◌≢◌, ◌↔◌, ℕ, Some, None, length, slice_get, IsTrue, IfOk, IfErr};
 ghost use Rattle.pk_copy.specs.KeyValue.{KeyValue};
+ghost use Rattle.pk_copy.specs.Lastpk.{IsTableKey};
 ghost use Rattle.pk_copy.specs.Marks.{MarkValue, waiting, mark_of};
 ghost use Rattle.checkpoint_core.specs.Fault.{IsNothing};
-ghost use Rattle.checkpoint_core.specs.Private.Reading.{IsLast, SaysMark, AreMarksOf, IsMarked, IsOfTable, IsOpenAt, IsMarkedMore, mark_read};
+ghost use Rattle.checkpoint_core.specs.Private.Reading.{IsLast, SaysMark, AreMarksOf, IsMarked, IsOfTable, IsOfPlan, IsOpenAt, IsMarkedMore, mark_read};
 
 use crate::fault::ReadFault;
 use filter_rule::Plan;
-use pk_copy::{CopyState, Key, key_of_lastpk};
+use pk_copy::{CopyState, Key, key_of_lastpk, keys_read_are_table_keys};
 use row_view::{RowBytes, RowView};
 use std::alloc::Global;
 use vevent::{TableMark, TablePart};
@@ -27,15 +28,19 @@ pub(crate) enum MarkRead {
 /// The key of table `t` that a row of its key columns is.
 fn last_key(alloc: Global, plan: &Plan, t: u8, row: &RowView<'_>) -> Result<Key, ReadFault>
     requires { t < length plan.now.tables }
-    ensures ok { IfOk result (λ key. IsLast plan.now t row.now key × (key.table ≡ t)) }
+    ensures ok { IfOk result (λ key. IsLast plan.now t row.now key × (key.table ≡ t) × IsTableKey plan.now key) }
     ensures err { IfErr result (IsNothing (IsLast plan.now t row.now)) }
 {
+    keys_read_are_table_keys();
     if row.len() != plan.key_columns(t).len() {
         return Err(ReadFault::Broken);
     }
     match key_of_lastpk(plan, t, row) {
         Err(_) => Err(ReadFault::Broken),
-        Ok(key) => Ok(Key::from_view(alloc, &key)?),
+        Ok(key) => {
+            let _parts = key.parts();
+            Ok(Key::from_view(alloc, &key)?)
+        }
     }
 }
 
@@ -48,7 +53,7 @@ fn mark_by(
     last: Option<RowBytes<'_>>,
 ) -> Result<MarkRead, ReadFault>
     requires { t < length plan.now.tables }
-    ensures ok { IfOk result (λ mark. IsMarked plan.now t (mark_read mark) kind last.entry × IsOfTable t mark) }
+    ensures ok { IfOk result (λ mark. IsMarked plan.now t (mark_read mark) kind last.entry × IsOfTable t mark × IsOfPlan plan.now mark) }
     ensures err { IfErr result (IsNothing (λ (mark : MarkValue). IsMarked plan.now t mark kind last.entry)) }
 {
     match kind {
@@ -70,7 +75,7 @@ fn mark_by(
 /// The mark of table `t` by its part.
 fn read_mark(alloc: Global, plan: &Plan, t: u8, part: &TablePart<'_>) -> Result<MarkRead, ReadFault>
     requires { t < length plan.now.tables }
-    ensures ok { IfOk result (λ mark. SaysMark plan.now t (mark_read mark) part.now × IsOfTable t mark) }
+    ensures ok { IfOk result (λ mark. SaysMark plan.now t (mark_read mark) part.now × IsOfTable t mark × IsOfPlan plan.now mark) }
     ensures err { IfErr result (IsNothing (λ (mark : MarkValue). SaysMark plan.now t mark part.now)) }
 {
     match part.mark() {

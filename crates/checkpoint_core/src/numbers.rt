@@ -3,7 +3,7 @@
 ghost use Rattle.std.specs.Prelude.{◌≡◌, ◌≤◌, ◌↔◌, ℕ, length, map, IsTrue, MatchOption, IfOk, IfErr, IfSome};
 ghost use Rattle.std.specs.Arc.{arc_value};
 ghost use Rattle.source_feed.specs.FaultNumber.{meant_of};
-ghost use Rattle.checkpoint_laws.specs.Resumed.{HasGroupAt, IsNumberAt};
+ghost use Rattle.board_laws.specs.Sources.{HasGroupAt, IsNumberAt};
 ghost use Rattle.checkpoint_core.specs.Groups.{AreFirst, StopsBefore};
 
 use gtid_set::{GtidSet, same_set_is_equality};

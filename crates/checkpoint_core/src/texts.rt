@@ -50,6 +50,7 @@ pub(crate) fn content_of<'c>(text: &'c TableText<'_>, position: &'c str) -> Tabl
             rows: text.rows.as_slice(),
             lastpk: bytes_of(&text.last),
         },
+        name: &[],
     }
 }
 

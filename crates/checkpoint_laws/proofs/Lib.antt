@@ -1,7 +1,7 @@
 pub mod PartLaws
-pub mod FeedGroups
 pub mod OwnRows
 pub mod ResumedLaws
 pub mod RestartedLaws
 pub mod OneThing
+pub mod PositionText
 pub mod SaidLaws

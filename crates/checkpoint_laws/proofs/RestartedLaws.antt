@@ -22,19 +22,20 @@ use Rattle.board_laws.specs.KeptRows.{touched_keys}
 use Rattle.board_laws.specs.Lawful.{IsLawful}
 use Rattle.board_laws.specs.Meaning.{State, TargetRows, Meaning}
 use Rattle.board_laws.specs.Runs.{sound_groups}
+use Rattle.board_laws.specs.Sources.{HasGroupAt, IsNumberAt}
 use Rattle.board_laws.specs.StateAfter.{state_after}
 use Rattle.board_laws.proofs.History.{kept_at-take}
 use Rattle.board_laws.proofs.Lists.{take-take}
 use Rattle.board_laws.proofs.Lookups.{Ties}
+use Rattle.board_laws.proofs.Sources.{known_at}
 use Rattle.join_laws.specs.Compatible.{AreApart}
 use Rattle.join_laws.specs.Joined.{cut_rows, with_rows, rows_from, board_of}
 use Rattle.join_laws.proofs.Boards.{of_its_states}
 use Rattle.checkpoint_laws.specs.Saved.{SavedStream, saved_stream, saved_from, saved_of}
-use Rattle.checkpoint_laws.specs.Resumed.{HasGroupAt, IsNumberAt, resumed_state, IsResumedAt, AreResumed, IsResumedBoard}
+use Rattle.checkpoint_laws.specs.Resumed.{resumed_state, IsResumedAt, AreResumed, IsResumedBoard}
 use Rattle.checkpoint_laws.specs.Laws.{AreFeeds, restarted, BeginsWithApplied, BeginWithApplied, RestartedBoardsAreResumed}
-use Rattle.checkpoint_laws.proofs.FeedGroups.{IsGroupOf, group_of, last_of}
 use Rattle.checkpoint_laws.proofs.OwnRows.{own-is_cut}
-use Rattle.checkpoint_laws.proofs.ResumedLaws.{at_same_place, at_inside}
+use Rattle.checkpoint_laws.proofs.ResumedLaws.{at_same_place}
 
 no_place : {A P : Type 0} (i : ℕ) (x : A) → slice_get [] i ≡ Some x → P
 no_place i x e = cc
@@ -152,17 +153,10 @@ module _ (ties : Ties) (feeds : List FeedValue) (board : Meaning) (are : AreFeed
         let same : length (take state.applied state.list) ≡ length (take state.applied (sound_groups feed)) = ap length begin.applied in
         omega (arith, front, other, same)
 
-    known_at : (n : ℕ) → n ≤ length (sound_groups feed) → IsNumberAt feed (last_position (take n (sound_groups feed))) n
-    known_at zero le = inl (refl, refl)
-    known_at (suc i) le =
-        let there : (group : PreparedValue) × (slice_get (sound_groups feed) i ≡ Some group) = at_inside (sound_groups feed) i (omega (arith, le)) in
-        let of : IsGroupOf feed i there.0 = group_of feed i there.0 there.1 in
-        inr (record { group = of.planned; there = of.there; at = ap (λ (g : PreparedValue). g.position) of.is ∙ sym (last_of (sound_groups feed) i there.0 there.1) })
-
     resumed_at : IsResumedAt feed (saved_stream s state board.rows) (again state)
     resumed_at = record {
       number = state.applied;
-      known = subst (λ p. IsNumberAt feed p state.applied) (ap last_position (sym begin.applied)) (known_at state.applied fits);
+      known = subst (λ p. IsNumberAt feed p state.applied) (ap last_position (sym begin.applied)) (known_at feed state.applied fits);
       sound = fits;
       state_is = λ i. record { plan = begin.plan i; list = begin.applied i; applied = state.applied; marks = state.marks; snapshot = None };
     }

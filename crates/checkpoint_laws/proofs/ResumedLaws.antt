@@ -14,12 +14,13 @@ use Rattle.board_laws.proofs.History.{read-cut}
 use Rattle.board_laws.proofs.Lists.{take-take}
 use Rattle.board_laws.proofs.Lookups.{Ties}
 use Rattle.join_laws.proofs.Rows.{states-lawful}
-use Rattle.checkpoint_laws.specs.Saved.{SavedStream, applied_position, own_rows, saved_stream, saved_from, saved_of}
+use Rattle.board_laws.specs.Sources.{applied_position, IsNumberAt}
+use Rattle.checkpoint_laws.specs.Saved.{SavedStream, own_rows, saved_stream, saved_from, saved_of}
 use Rattle.checkpoint_laws.specs.Said.{IsSaved, IsCheckpoint}
-use Rattle.checkpoint_laws.specs.Resumed.{IsNumberAt, IsResumedAt, IsResumedBoard}
+use Rattle.checkpoint_laws.specs.Resumed.{IsResumedAt, IsResumedBoard}
 use Rattle.checkpoint_laws.specs.Refused.{plans_of_feeds}
 use Rattle.checkpoint_laws.specs.Laws.{AreFeeds, ResumedBoardsAreLawful}
-use Rattle.checkpoint_laws.proofs.FeedGroups.{IsGroupOf, group_of, last_of, sound-is_read}
+use Rattle.board_laws.proofs.FeedGroups.{IsGroupOf, group_of, last_of, sound-is_read}
 use Rattle.checkpoint_laws.proofs.OwnRows.{own-is_cut}
 
 no_place : {A P : Type 0} (i : ℕ) (x : A) → slice_get [] i ≡ Some x → P
@@ -50,6 +51,7 @@ module _ (feed : FeedValue) (whole : IsFeed feed) (saved : SavedStream) (sound :
     standing = record { applied = omega (arith, long); done = sound.marks.within; snapshot = tt };
     marks = sound.marks;
     tables = sound.tables;
+    upto = sound.upto;
   })
 
   -- the position of the last applied group is the one at which the stream stands

@@ -1,22 +1,20 @@
 -- What is kept of a board is said by its checkpoint.
-use Rattle.std.proofs.Common.{◌≡◌, ◌==◌, ◌||◌, ℕ, zero, suc, ◌+◌, ◌-◌, ◌^◌, ◌<◌, ◌≤◌, inl, inr, Bool, true, false, cond, List, [], ◌∷◌, length, map, take, Option, Some, None, Ok, Err, slice_get, refl, sym, ap, subst, ◌∙◌, arith}
-use Rattle.std.proofs.lemmas.Bool.{eqb-true, true≢false}
+use Rattle.std.proofs.Common.{◌≡◌, ◌==◌, ℕ, zero, suc, ◌+◌, ◌-◌, ◌^◌, ◌<◌, ◌≤◌, inl, inr, Bool, true, false, cond, List, [], ◌∷◌, length, map, take, Option, Some, None, Ok, slice_get, refl, sym, ap, subst, ◌∙◌, arith}
+use Rattle.std.proofs.lemmas.Bool.{eqb-true}
 use Rattle.std.proofs.lemmas.List.{length-map, length-append}
 use Rattle.std.proofs.lemmas.Option.{same_Some, none-some, slice_get-map}
-use Rattle.std.specs.Prelude.{IfSome, is_none, nat_lt}
-use Rattle.std.specs.List.{AllByRecursion, filter_map, list_any}
+use Rattle.std.specs.Prelude.{IfSome, nat_lt}
+use Rattle.std.specs.List.{AllByRecursion, filter_map}
 use Rattle.std.specs.Option.{option_map, option_map_or}
-use Rattle.std.specs.Result.{result_ok}
-use Rattle.filter_rule.specs.PlanTable.{ColumnValue}
+use Rattle.filter_rule.specs.PlanTable.{ColumnValue, TableValue}
 use Rattle.filter_rule.specs.PlanValue.{PlanValue, columns_of, key_columns_of}
+use Rattle.filter_rule.specs.WellFormed.{IsColumnDef, IsTable, IsPlan}
 use Rattle.gtid_set.specs.declared.interval.Interval.{Interval}
 use Rattle.gtid_set.specs.Position.{IsCanonical}
 use Rattle.gtid_set.specs.Text.{position_of_text, text_limit}
-use Rattle.pk_copy.specs.declared.fault.KeyFault.TheVariants.{NullKey, BadKey}
-use Rattle.pk_copy.specs.KeyOf.{KeyCell, key_cells, cell_at, part_of, is_null, has_no_part, key_of}
 use Rattle.pk_copy.specs.KeyValue.{Part, KeyValue}
-use Rattle.pk_copy.specs.Lastpk.{lastpk_of, part_text, LastpksAreReadAgain}
-use Rattle.pk_copy.specs.Marks.{MarkValue, waiting, up_to, copied, Marks, AreMarks, IsOfCurrent, current_mark, mark_of}
+use Rattle.pk_copy.specs.Lastpk.{lastpk_of, part_text, key_of_lastpk, IsTableKey}
+use Rattle.pk_copy.specs.Marks.{MarkValue, waiting, up_to, copied, Marks, AreMarks, IsOfCurrent, current_mark, mark_of, is_inside}
 use Rattle.row_view.specs.WrittenRow.{IsWithinLimits}
 use Rattle.source_feed.specs.History.{RowValue}
 use Rattle.source_feed.specs.Image.{ImageRows}
@@ -26,18 +24,23 @@ use Rattle.vevent.specs.EventValue.{FieldValue}
 use Rattle.vevent.specs.WrittenEvent.{IsColumn}
 use Rattle.vevent.specs.WrittenPart.{IsSoundTable, IsSoundStream, StreamPartsAreReadAgain}
 use Rattle.board_laws.specs.Allowed.{last_position}
+use Rattle.board_laws.specs.KeptRows.{kept_rows}
 use Rattle.board_laws.specs.Lawful.{IsReadList, IsSoundState, IsLawful}
 use Rattle.board_laws.specs.Meaning.{State, Meaning}
 use Rattle.board_laws.proofs.History.{read-cut}
 use Rattle.board_laws.proofs.Lists.{slice_get-push}
-use Rattle.board_laws.proofs.Lookups.{all-filter}
+use Rattle.board_laws.proofs.Lookups.{Ties, each, all-at, all-filter}
+use Rattle.board_laws.proofs.RowsUnder.{IsRowUnder, kept-under}
 use Rattle.join_laws.specs.Compatible.{plans_of}
-use Rattle.checkpoint_laws.specs.Saved.{SavedStream, applied_position, own_rows, saved_stream, saved_of}
-use Rattle.checkpoint_laws.specs.Written.{field_of, position_text, number_of_mark, last_row_of, rows_of_table, table_part, numbers_below, table_parts, stream_part, stream_parts}
+use Rattle.join_laws.specs.Joined.{cut_rows}
+use Rattle.board_laws.specs.Sources.{applied_position}
+use Rattle.checkpoint_laws.specs.Saved.{SavedStream, own_rows, saved_stream, saved_of}
+use Rattle.checkpoint_laws.specs.Written.{field_of, fields_of_table, position_text, number_of_mark, last_row_of, rows_of_table, table_part, numbers_below, table_parts, stream_part, stream_parts}
 use Rattle.checkpoint_laws.specs.Said.{SaysLast, SaysTable, IsKeyed, IsSaved, SaysStream}
-use Rattle.checkpoint_laws.specs.Laws.{IsTableKey, IsWithin, SavedBoardsAreSaid, AreWithin}
+use Rattle.checkpoint_laws.specs.Laws.{IsWithin, SavedBoardsAreSaid, AreWithin}
 use Rattle.checkpoint_laws.proofs.PartLaws.{checkpoints_read_again}
-use Rattle.checkpoint_laws.proofs.OwnRows.{own-rising}
+use Rattle.checkpoint_laws.proofs.OwnRows.{own-rising, own-is_cut}
+use Rattle.checkpoint_laws.proofs.PositionText.{position_utf8}
 use Rattle.checkpoint_laws.proofs.ResumedLaws.{at_same_place}
 use Rattle.checkpoint_laws.proofs.RestartedLaws.{saved_at, saved_long}
 
@@ -74,38 +77,26 @@ of_mark P m t are h = by (nat_lt t m.done) (t == m.done) refl m.upto are.current
     by false true e None current h = tt
     by false true e (Some key) current h = (h, current.table ∙ sym (eqb-true t m.done e))
 
+-- ---- the columns of a plan
+
+columns_are : (columns : List ColumnValue) → ((i : ℕ) (column : ColumnValue) → slice_get columns i ≡ Some column → IsColumnDef column) → AllByRecursion IsColumn (map field_of columns)
+columns_are [] h = tt
+columns_are (column ∷ columns) h = let is : IsColumnDef column = h 0 column refl in (record { name = is.name_text; number = omega (arith, is.type_bits) }, columns_are columns (λ i. h (suc i)))
+
+plan_columns : (plan : PlanValue) → IsPlan plan → (t : ℕ) → AllByRecursion IsColumn (fields_of_table plan t)
+plan_columns plan is t = by (slice_get plan.tables t) refl
+  where
+    by : (o : Option TableValue) → slice_get plan.tables t ≡ o → AllByRecursion IsColumn (map field_of (option_map_or (λ (table : TableValue). table.columns) o []))
+    by None here = tt
+    by (Some table) here = let of : IsTable table = is.tables.each_table t table here in columns_are table.columns of.each_column
+
+-- ---- parts within the limits
+
 filter_more : {A B : Type 0} (f : A → Option B) (x : A) (xs : List A) (y : B) → f x ≡ Some y → filter_map f (x ∷ xs) ≡ y ∷ filter_map f xs
 filter_more f x xs y e = rw e refl
 
 filter_none : {A B : Type 0} (f : A → Option B) (x : A) (xs : List A) → f x ≡ None → filter_map f (x ∷ xs) ≡ filter_map f xs
 filter_none f x xs e = rw e refl
-
-all_parts : (cells : List KeyCell) → list_any has_no_part cells ≡ false → length (filter_map part_of cells) ≡ length cells
-all_parts [] e = refl
-all_parts (cell ∷ cells) e = by (λ others. all_parts cells others) (part_of cell) refl
-  where
-    by : (list_any has_no_part cells ≡ false → length (filter_map part_of cells) ≡ length cells) → (o : Option Part) → part_of cell ≡ o → length (filter_map part_of (cell ∷ cells)) ≡ suc (length cells)
-    by others None is = absurd (true≢false (sym (ap (λ (o : Option Part). is_none o || list_any has_no_part cells) is) ∙ e))
-    by others (Some part) is =
-        ap length (filter_more part_of cell cells part is)
-        ∙ ap suc (others (sym (ap (λ (o : Option Part). is_none o || list_any has_no_part cells) is) ∙ e))
-
-abbrev key_made : PlanValue → ℕ → RowValue → KeyValue
-key_made plan t row = record { table = t; parts = filter_map part_of (key_cells plan t row) }
-
--- a key of a row has as many parts as its table has key columns
-key_long : (plan : PlanValue) (t : ℕ) (row : RowValue) (key : KeyValue) → key_of plan t row ≡ Ok key → length key.parts ≡ length (key_columns_of plan t)
-key_long plan t row key e = by (list_any is_null (key_cells plan t row)) (list_any has_no_part (key_cells plan t row)) refl e
-  where
-    by : (a b : Bool) → list_any has_no_part (key_cells plan t row) ≡ b → cond a (Err NullKey) (cond b (Err BadKey) (Ok (key_made plan t row))) ≡ Ok key → length key.parts ≡ length (key_columns_of plan t)
-    by true b is e = absurd (none-some key (ap result_ok e))
-    by false true is e = absurd (none-some key (ap result_ok e))
-    by false false is e =
-        ap (λ (k : KeyValue). length k.parts) (sym (same_Some (key_made plan t row) key (ap result_ok e)))
-        ∙ all_parts (key_cells plan t row) is
-        ∙ length-map (key_columns_of plan t) (cell_at (columns_of plan t) row)
-
--- ---- parts within the limits
 
 column_at : (columns : List ColumnValue) (place : ℕ) (column : ColumnValue) → AllByRecursion IsColumn (map field_of columns) → slice_get columns place ≡ Some column → IsColumn (field_of column)
 column_at [] place column h e = absurd (none-some column e)
@@ -133,21 +124,21 @@ small waiting = omega arith
 small (up_to key) = omega arith
 small copied = omega arith
 
-last_within : (plan : PlanValue) (t : ℕ) (mark : MarkValue) → OfKey (λ key. (IsTableKey plan key × IsWithinLimits (lastpk_of key)) × (key.table ≡ t)) mark → IfSome (last_row_of mark) IsWithinLimits
-last_within plan t waiting h = tt
-last_within plan t (up_to key) h = h.0.1
-last_within plan t copied h = tt
+last_within : (t : ℕ) (mark : MarkValue) → OfKey (λ key. IsWithinLimits (lastpk_of key) × (key.table ≡ t)) mark → IfSome (last_row_of mark) IsWithinLimits
+last_within t waiting h = tt
+last_within t (up_to key) h = h.0
+last_within t copied h = tt
 
-module _ (plan : PlanValue) (saved : SavedStream) (within : IsWithin plan saved) (marks : AreMarks saved.marks) where
+module _ (plan : PlanValue) (well : IsPlan plan) (saved : SavedStream) (within : IsWithin saved) (marks : AreMarks saved.marks) (canonical : IsCanonical saved.position) where
   sound_table : (t : ℕ) → IsSoundTable (table_part plan saved t)
   sound_table t = record {
     mark = small (mark_of saved.marks t);
     answer = record {
-      fields = within.columns t;
-      pkfields = key_columns (columns_of plan t) (key_columns_of plan t) (within.columns t);
-      gtid = within.position;
+      fields = plan_columns plan well t;
+      pkfields = key_columns (columns_of plan t) (key_columns_of plan t) (plan_columns plan well t);
+      gtid = position_utf8 saved.position canonical;
       rows = values_within (rows_of_table t saved.rows) (all-filter (λ (row : KeyValue × RowValue). IsWithinLimits row.1) (λ row. row.0.table == t) saved.rows within.rows);
-      lastpk = last_within plan t (mark_of saved.marks t) (of_mark (λ key. IsTableKey plan key × IsWithinLimits (lastpk_of key)) saved.marks t marks within.last);
+      lastpk = last_within t (mark_of saved.marks t) (of_mark (λ key. IsWithinLimits (lastpk_of key)) saved.marks t marks within.last);
     };
   }
 
@@ -156,22 +147,25 @@ module _ (plan : PlanValue) (saved : SavedStream) (within : IsWithin plan saved)
   sound_tables (t ∷ ts) = (sound_table t, sound_tables ts)
 
   sound_stream : IsSoundStream (stream_part plan saved)
-  sound_stream = record { shard = within.shard; tables = sound_tables (numbers_below (length plan.tables)) }
+  sound_stream = record { shard = well.shard_text; tables = sound_tables (numbers_below (length plan.tables)) }
 
 -- ---- what the parts say
 
 abbrev ReadsBack : Type 0
 ReadsBack = (set : List Interval) → IsCanonical set → length (position_text set) ≤ text_limit → position_of_text (position_text set) ≡ Ok set
 
-says_last : (again : LastpksAreReadAgain) (plan : PlanValue) (t : ℕ) (mark : MarkValue) → OfKey (λ key. (IsTableKey plan key × IsWithinLimits (lastpk_of key)) × (key.table ≡ t)) mark → SaysLast plan t mark (last_row_of mark)
-says_last again plan t waiting h = refl
-says_last again plan t copied h = refl
-says_last again plan t (up_to key) h =
-    let of : IsTableKey plan key = h.0.0 in
-    let made : key_of plan t of.row ≡ Ok key = ap (λ (n : ℕ). key_of plan n of.row) (sym h.1) ∙ of.made in
-    (lastpk_of key, refl, length-map key.parts (λ (part : Part). Some (part_text part)) ∙ key_long plan t of.row key made, again plan t of.row key of.parts made)
+says_last : (plan : PlanValue) (t : ℕ) (mark : MarkValue) → OfKey (λ key. IsTableKey plan key × (key.table ≡ t)) mark → SaysLast plan t mark (last_row_of mark)
+says_last plan t waiting h = refl
+says_last plan t copied h = refl
+says_last plan t (up_to key) h =
+    let of : IsTableKey plan key = h.0 in (
+      lastpk_of key,
+      refl,
+      length-map key.parts (λ (part : Part). Some (part_text part)) ∙ of.count ∙ ap (λ (n : ℕ). length (key_columns_of plan n)) h.1,
+      subst (λ (n : ℕ). key_of_lastpk plan n (lastpk_of key) ≡ Ok key) h.1 of.read,
+    )
 
-module _ (reads : ReadsBack) (again : LastpksAreReadAgain) (plan : PlanValue) (saved : SavedStream) (sound : IsSaved plan saved) (within : IsWithin plan saved) (canonical : IsCanonical saved.position) where
+module _ (reads : ReadsBack) (plan : PlanValue) (saved : SavedStream) (sound : IsSaved plan saved) (within : IsWithin saved) (canonical : IsCanonical saved.position) where
   says_table : (t : ℕ) → SaysTable plan saved t (table_part plan saved t)
   says_table t = record {
     mark = refl;
@@ -180,7 +174,7 @@ module _ (reads : ReadsBack) (again : LastpksAreReadAgain) (plan : PlanValue) (s
       key_fields = refl;
       position = reads saved.position canonical within.short;
       rows = refl;
-      last = says_last again plan t (mark_of saved.marks t) (of_mark (λ key. IsTableKey plan key × IsWithinLimits (lastpk_of key)) saved.marks t sound.marks within.last);
+      last = says_last plan t (mark_of saved.marks t) (of_mark (IsTableKey plan) saved.marks t sound.marks sound.upto);
     };
   }
 
@@ -240,14 +234,25 @@ record Known (plan : PlanValue) (one : SavedStream) : Type 0 where
   sound : IsSaved plan one
   canonical : IsCanonical one.position
 
-module _ (board : Meaning) (lawful : IsLawful board) (within : AreWithin board) where
+-- the rows of a cut stand at their own keys
+cut_keyed : (ties : Ties) (state : State) → IsSoundState state → AllByRecursion (IsKeyed state.plan) (cut_rows state)
+cut_keyed ties state sound =
+    all-filter (IsKeyed state.plan) (λ row. is_inside state.marks row.0) (kept_rows state.list state.applied)
+    (each (IsRowUnder state.plan) (IsKeyed state.plan) (λ row under. record { table = under.table; width = under.width; key = under.key }) (kept_rows state.list state.applied)
+    (kept-under ties state.plan state.list state.applied sound.list))
+
+module _ (ties : Ties) (board : Meaning) (plans : AllByRecursion IsPlan (plans_of board)) (lawful : IsLawful board) (within : AreWithin board) where
   long : length (saved_of board) ≡ length (plans_of board)
   long = saved_long 0 board.streams board.rows ∙ sym (length-map board.streams (λ (state : State). state.plan))
 
-  of_state : (s : ℕ) (state : State) → AllByRecursion (IsKeyed state.plan) (own_rows s board.rows) → slice_get board.streams s ≡ Some state → Known state.plan (saved_stream s state board.rows)
-  of_state s state keyed here =
+  of_state : (s : ℕ) (state : State) → slice_get board.streams s ≡ Some state → Known state.plan (saved_stream s state board.rows)
+  of_state s state here =
       let sound : IsSoundState state = lawful.sound s state here in
-      record { sound = record { tables = sound.tables; marks = sound.marks; rising = own-rising s board.rows lawful.rising; keyed = keyed }; canonical = position_is state sound }
+      let keyed : AllByRecursion (IsKeyed state.plan) (own_rows s board.rows) = subst (AllByRecursion (IsKeyed state.plan)) (sym (own-is_cut ties board lawful s state here)) (cut_keyed ties state sound) in
+      record {
+        sound = record { tables = sound.tables; marks = sound.marks; upto = sound.upto; rising = own-rising s board.rows lawful.rising; keyed = keyed };
+        canonical = position_is state sound;
+      }
 
   known_at : (s : ℕ) (plan : PlanValue) (one : SavedStream) → slice_get (plans_of board) s ≡ Some plan → slice_get (saved_of board) s ≡ Some one → Known plan one
   known_at s plan one p q =
@@ -256,21 +261,27 @@ module _ (board : Meaning) (lawful : IsLawful board) (within : AreWithin board) 
       let kept : saved_stream s there.0 board.rows ≡ one
       = ap (λ n. saved_stream n there.0 board.rows) (sym none_more) ∙ same_Some (saved_stream (0 + s) there.0 board.rows) one (sym (saved_at 0 board.streams board.rows s there.0 there.1) ∙ q) in
       let planned : there.0.plan ≡ plan = same_Some there.0.plan plan (sym (slice_get-map (λ (state : State). state.plan) board.streams s ∙ ap (option_map (λ (state : State). state.plan)) there.1) ∙ p) in
-      let said : AllByRecursion (IsKeyed plan) (own_rows s board.rows) = subst (λ (x : SavedStream). AllByRecursion (IsKeyed plan) x.rows) (sym kept) (within.each_stream s plan one p q).keyed in
-      let keyed : AllByRecursion (IsKeyed there.0.plan) (own_rows s board.rows) = subst (λ (x : PlanValue). AllByRecursion (IsKeyed x) (own_rows s board.rows)) (sym planned) said in
-      subst (λ (x : PlanValue). Known x one) planned (subst (Known there.0.plan) kept (of_state s there.0 keyed there.1))
+      subst (λ (x : PlanValue). Known x one) planned (subst (Known there.0.plan) kept (of_state s there.0 there.1))
+
+  -- each of its plans is well-formed, and each stream within the limits
+  well_at : (s : ℕ) (plan : PlanValue) → slice_get (plans_of board) s ≡ Some plan → IsPlan plan
+  well_at s plan p = all-at IsPlan (plans_of board) s plan plans p
+
+  within_at : (s : ℕ) (one : SavedStream) → slice_get (saved_of board) s ≡ Some one → IsWithin one
+  within_at s one q = all-at IsWithin (saved_of board) s one within q
 
   sound_at : (s : ℕ) (plan : PlanValue) (one : SavedStream) → slice_get (plans_of board) s ≡ Some plan → slice_get (saved_of board) s ≡ Some one → IsSoundStream (stream_part plan one)
-  sound_at s plan one p q = sound_stream plan one (within.each_stream s plan one p q) (known_at s plan one p q).sound.marks
+  sound_at s plan one p q = let known : Known plan one = known_at s plan one p q in sound_stream plan (well_at s plan p) one (within_at s one q) known.sound.marks known.canonical
 
-pub saved_boards : StreamPartsAreReadAgain → ReadsBack → LastpksAreReadAgain → SavedBoardsAreSaid
-saved_boards parts_again reads again board lawful within = record {
+  says_at : ReadsBack → (s : ℕ) (plan : PlanValue) (one : SavedStream) → slice_get (plans_of board) s ≡ Some plan → slice_get (saved_of board) s ≡ Some one → SaysStream plan one (stream_part plan one)
+  says_at reads s plan one p q = let known : Known plan one = known_at s plan one p q in says_stream reads plan one known.sound (within_at s one q) known.canonical
+
+pub saved_boards : Ties → StreamPartsAreReadAgain → ReadsBack → SavedBoardsAreSaid
+saved_boards ties parts_again reads board plans lawful within short = record {
   parts = stream_parts (plans_of board) (saved_of board);
-  are = checkpoints_read_again parts_again (stream_parts (plans_of board) (saved_of board)) (all_sound (plans_of board) (saved_of board) (sound_at board lawful within)) within.short;
-  count = parts_long (plans_of board) (saved_of board) (long board lawful within);
-  same_count = long board lawful within;
+  are = checkpoints_read_again parts_again (stream_parts (plans_of board) (saved_of board)) (all_sound (plans_of board) (saved_of board) (sound_at ties board plans lawful within)) short;
+  count = parts_long (plans_of board) (saved_of board) (long ties board plans lawful within);
+  same_count = long ties board plans lawful within;
   each_stream = λ s plan one part p q r.
-      let known : Known plan one = known_at board lawful within s plan one p q in
-      subst (SaysStream plan one) (part_at (plans_of board) (saved_of board) s plan one part p q r)
-      (says_stream reads again plan one known.sound (within.each_stream s plan one p q) known.canonical);
+      subst (SaysStream plan one) (part_at (plans_of board) (saved_of board) s plan one part p q r) (says_at ties board plans lawful within reads s plan one p q);
 }

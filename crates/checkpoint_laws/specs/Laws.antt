@@ -1,18 +1,13 @@
 -- Laws of checkpoints, as statements: each is the contract of a function without a body.
-use Rattle.std.specs.Prelude.{◌≡◌, ℕ, ◌^◌, ◌<◌, ◌≤◌, true, List, length, map, take, Some, Ok, IfSome, slice_get}
+use Rattle.std.specs.Prelude.{◌≡◌, ℕ, ◌^◌, ◌<◌, ◌≤◌, List, length, map, take, Some, IfSome, slice_get}
 use Rattle.std.specs.List.{AllByRecursion}
-use Rattle.std.specs.Str.{is_utf8}
 use Rattle.filter_rule.specs.PlanValue.{PlanValue}
 use Rattle.filter_rule.specs.WellFormed.{IsPlan}
 use Rattle.gtid_set.specs.Text.{text_limit}
-use Rattle.pk_copy.specs.KeyOf.{key_of}
-use Rattle.pk_copy.specs.KeyValue.{KeyValue, AreParts}
 use Rattle.pk_copy.specs.Lastpk.{lastpk_of}
 use Rattle.row_view.specs.WrittenRow.{IsWithinLimits}
-use Rattle.source_feed.specs.History.{RowValue}
 use Rattle.source_feed.specs.Planned.{FeedValue, IsFeed}
 use Rattle.vevent.specs.CheckpointPart.{StreamPartValue}
-use Rattle.vevent.specs.WrittenEvent.{IsColumn}
 use Rattle.vevent.specs.WrittenPart.{IsSoundStream}
 use Rattle.board_laws.specs.Meaning.{State, Meaning}
 use Rattle.board_laws.specs.Lawful.{IsLawful}
@@ -21,9 +16,9 @@ use Rattle.board_laws.specs.Runs.{sound_groups}
 use Rattle.board_laws.specs.StateAfter.{state_after}
 use Rattle.join_laws.specs.Compatible.{plans_of}
 use Rattle.checkpoint_laws.specs.Saved.{SavedStream, saved_of}
-use Rattle.checkpoint_laws.specs.Written.{fields_of_table, position_text, written_checkpoint, checkpoint_of}
+use Rattle.checkpoint_laws.specs.Written.{position_text, written_checkpoint, checkpoint_of}
 use Rattle.checkpoint_laws.specs.Said as said
-use Rattle.checkpoint_laws.specs.Said.{IsKeyed, IsCheckpoint}
+use Rattle.checkpoint_laws.specs.Said.{IsCheckpoint}
 use Rattle.checkpoint_laws.specs.Resumed.{IsResumedBoard, AtEachPlace}
 use Rattle.checkpoint_laws.specs.Refused.{plans_of_feeds}
 
@@ -41,31 +36,23 @@ abbrev pub CheckpointsSayOneThing : Type 0
 CheckpointsSayOneThing =
     (plans : List PlanValue) (bytes : List ℕ) (one other : List SavedStream) → AllByRecursion IsPlan plans → IsCheckpoint plans bytes one → IsCheckpoint plans bytes other → one ≡ other
 
--- a key is that of some row of its table
-pub record IsTableKey (plan : PlanValue) (key : KeyValue) : Type 0 where
-  pub row : RowValue
-  pub made : key_of plan key.table row ≡ Ok key
-  pub parts : AreParts key.parts
-
--- what is kept of a stream is within the limits: names are texts, types have 64 bits, the position's text and the rows
--- aren't too long, each row stands at its own key, and the key of a mark is one of its table
-pub record IsWithin (plan : PlanValue) (saved : SavedStream) : Type 0 where
-  pub shard : is_utf8 plan.shard ≡ true
-  pub columns : (t : ℕ) → AllByRecursion IsColumn (fields_of_table plan t)
-  pub position : is_utf8 (position_text saved.position) ≡ true
+-- what is kept of a stream is within the limits: the position's text, the rows and the key of a mark, as a row, aren't
+-- too long
+pub record IsWithin (saved : SavedStream) : Type 0 where
   pub short : length (position_text saved.position) ≤ text_limit
-  pub keyed : AllByRecursion (IsKeyed plan) saved.rows
   pub rows : AllByRecursion (λ row. IsWithinLimits row.1) saved.rows
-  pub last : IfSome saved.marks.upto (λ key. IsTableKey plan key × IsWithinLimits (lastpk_of key))
+  pub last : IfSome saved.marks.upto (λ key. IsWithinLimits (lastpk_of key))
 
--- the same of every stream of a board, and of its checkpoint
-pub record AreWithin (board : Meaning) : Type 0 where
-  pub each_stream : AtEachPlace IsWithin (plans_of board) (saved_of board)
-  pub short : length (checkpoint_of board) < 2 ^ 64
+-- the same of every stream of a board
+abbrev pub AreWithin : Meaning → Type 0
+AreWithin board = AllByRecursion IsWithin (saved_of board)
 
--- what is kept of a board within the limits is what its checkpoint says
+-- what is kept of a board within the limits, under well-formed plans, is what its checkpoint says, whose bytes can be
+-- counted
 abbrev pub SavedBoardsAreSaid : Type 0
-SavedBoardsAreSaid = (board : Meaning) → IsLawful board → AreWithin board → IsCheckpoint (plans_of board) (checkpoint_of board) (saved_of board)
+SavedBoardsAreSaid =
+    (board : Meaning) → AllByRecursion IsPlan (plans_of board) → IsLawful board → AreWithin board → length (checkpoint_of board) < 2 ^ 64
+    → IsCheckpoint (plans_of board) (checkpoint_of board) (saved_of board)
 
 -- ---- the resumed board
 

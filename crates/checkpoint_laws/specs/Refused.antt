@@ -13,10 +13,11 @@ use Rattle.board_laws.specs.Meaning.{State}
 use Rattle.board_laws.specs.Runs.{sound_groups}
 use Rattle.join_laws.specs.Refused.{IsFirstClash}
 use Rattle.checkpoint_laws.specs.declared.fault.ResumeFault.{ResumeFault}
-use Rattle.checkpoint_laws.specs.declared.fault.ResumeFault.TheVariants.{FeedCount, WrongPlan, BadCheckpoint, PositionUnknown, Unsound, Differs, OwnedByOther, Memory}
+use Rattle.checkpoint_laws.specs.declared.fault.ResumeFault.TheVariants.{FeedCount, WrongPlan, CheckpointBad, PositionUnknown, Unsound, CheckpointDiffers, OwnedByOther, Memory}
 use Rattle.checkpoint_laws.specs.Saved.{SavedStream}
 use Rattle.checkpoint_laws.specs.Said.{IsCheckpoint}
-use Rattle.checkpoint_laws.specs.Resumed.{IsNumberAt, IsKnown, AreResumed, AgreesWith, AtEachPlace}
+use Rattle.board_laws.specs.Sources.{IsNumberAt}
+use Rattle.checkpoint_laws.specs.Resumed.{IsKnown, AreResumed, AgreesWith, AtEachPlace}
 
 -- the plans under which feeds were opened
 abbrev pub plans_of_feeds : List FeedValue → List PlanValue
@@ -71,16 +72,16 @@ pub record AreClashing (feeds : List FeedValue) (saved : List SavedStream) (key 
 abbrev pub IsRefusedSaved : List FeedValue → List SavedStream → ResumeFault → Type 0
 IsRefusedSaved feeds saved FeedCount = ⊥
 IsRefusedSaved feeds saved WrongPlan = ⊥
-IsRefusedSaved feeds saved BadCheckpoint = ⊥
+IsRefusedSaved feeds saved CheckpointBad = ⊥
 IsRefusedSaved feeds saved (PositionUnknown s) = IsFirstOff IsKnown feeds saved s
 IsRefusedSaved feeds saved (Unsound fault) = AreUnsound feeds saved fault
-IsRefusedSaved feeds saved (Differs s key) = AreDifferent feeds saved s key
+IsRefusedSaved feeds saved (CheckpointDiffers s key) = AreDifferent feeds saved s key
 IsRefusedSaved feeds saved (OwnedByOther key owner) = AreClashing feeds saved key owner
 IsRefusedSaved feeds saved Memory = Unit {0}
 
 -- what stands in bytes that aren't resumed over feeds which were opened under their plans: they are no checkpoint,
 -- or what they say is refused
 abbrev pub IsRefusedCheckpoint : List FeedValue → List ℕ → ResumeFault → Type 0
-IsRefusedCheckpoint feeds bytes BadCheckpoint = (saved : List SavedStream) → ¬ IsCheckpoint (plans_of_feeds feeds) bytes saved
+IsRefusedCheckpoint feeds bytes CheckpointBad = (saved : List SavedStream) → ¬ IsCheckpoint (plans_of_feeds feeds) bytes saved
 IsRefusedCheckpoint feeds bytes Memory = Unit {0}
 IsRefusedCheckpoint feeds bytes fault = (saved : List SavedStream) × IsCheckpoint (plans_of_feeds feeds) bytes saved × IsRefusedSaved feeds saved fault

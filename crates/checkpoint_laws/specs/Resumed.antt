@@ -1,24 +1,13 @@
 -- The board that a checkpoint and its streams' feeds make (this profile).
-use Rattle.std.specs.Prelude.{◌≡◌, ◌⊎◌, ℕ, ◌≤◌, List, [], length, take, Some, None, slice_get}
+use Rattle.std.specs.Prelude.{◌≡◌, ℕ, ◌≤◌, List, length, take, Some, None, slice_get}
 use Rattle.pk_copy.specs.Marks.{Marks}
-use Rattle.source_feed.specs.GroupValue.{Position}
-use Rattle.source_feed.specs.Planned.{PlannedGroupValue, FeedValue}
-use Rattle.source_feed.specs.Touches.{group_at}
+use Rattle.source_feed.specs.Planned.{FeedValue}
 use Rattle.board_laws.specs.Meaning.{State, Meaning}
 use Rattle.board_laws.specs.Runs.{sound_groups}
+use Rattle.board_laws.specs.Sources.{IsNumberAt}
 use Rattle.join_laws.specs.Compatible.{AreApart}
 use Rattle.join_laws.specs.Joined.{cut_rows, board_of}
 use Rattle.checkpoint_laws.specs.Saved.{SavedStream}
-
--- the feed has a group of this number and position
-pub record HasGroupAt (feed : FeedValue) (position : Position) (number : ℕ) : Type 0 where
-  pub group : PlannedGroupValue
-  pub there : group_at feed number ≡ Some group
-  pub at : group.position ≡ position
-
--- how many groups of a feed are applied at a position: none at the empty set, else those up to the group that has it
-abbrev pub IsNumberAt : FeedValue → Position → ℕ → Type 0
-IsNumberAt feed position number = ((position ≡ []) × (number ≡ 0)) ⊎ HasGroupAt feed position number
 
 -- the position is the empty set or that of a group of the feed
 abbrev pub IsKnown : FeedValue → SavedStream → Type 0

@@ -1,13 +1,13 @@
 -- What a checkpoint says, whoever wrote it: bytes of which nothing of this can be said are no checkpoint (this
 -- profile).
-use Rattle.std.specs.Prelude.{◌≡◌, ℕ, ◌<◌, List, ◌++◌, map, length, Option, None, Some, Ok, slice_get}
+use Rattle.std.specs.Prelude.{◌≡◌, ℕ, ◌<◌, List, ◌++◌, map, length, Option, None, Some, Ok, IfSome, slice_get}
 use Rattle.std.specs.List.{AllByRecursion}
 use Rattle.filter_rule.specs.PlanValue.{PlanValue, columns_of, key_columns_of}
 use Rattle.gtid_set.specs.Text.{position_of_text}
 use Rattle.pk_copy.specs.KeyOf.{key_of}
 use Rattle.pk_copy.specs.KeyOrder.{key_cmp}
 use Rattle.pk_copy.specs.KeyValue.{KeyValue}
-use Rattle.pk_copy.specs.Lastpk.{key_of_lastpk}
+use Rattle.pk_copy.specs.Lastpk.{key_of_lastpk, IsTableKey}
 use Rattle.pk_copy.specs.Marks.{MarkValue, waiting, up_to, copied, AreMarks, mark_of}
 use Rattle.proto_wire.specs.Frame.{frames_of}
 use Rattle.source_feed.specs.History.{RowValue}
@@ -58,10 +58,11 @@ pub record IsKeyed (plan : PlanValue) (row : KeyValue × RowValue) : Type 0 wher
   pub key : key_of plan row.0.table row.1 ≡ Ok row.0
 
 -- what can be said of a stream under a plan: marks of its tables, of which the first ones are done, then at most one
--- is copied up to a key, and the others wait; rows by rising key, each at its own key
+-- is copied up to a key of it, and the others wait; rows by rising key, each at its own key
 pub record IsSaved (plan : PlanValue) (saved : SavedStream) : Type 0 where
   pub tables : saved.marks.tables ≡ length plan.tables
   pub marks : AreMarks saved.marks
+  pub upto : IfSome saved.marks.upto (IsTableKey plan)
   pub rising : IsRising key_cmp saved.rows
   pub keyed : AllByRecursion (IsKeyed plan) saved.rows
 

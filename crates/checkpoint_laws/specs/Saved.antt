@@ -1,24 +1,20 @@
 -- What a checkpoint keeps of a board: of each stream its position, how far its tables are copied, and its
 -- rows (this profile).
-use Rattle.std.specs.Prelude.{ℕ, ◌+◌, ◌==◌, List, [], ◌∷◌, map, take}
+use Rattle.std.specs.Prelude.{ℕ, ◌+◌, ◌==◌, List, [], ◌∷◌, map}
 use Rattle.std.specs.List.{filter}
 use Rattle.pk_copy.specs.KeyValue.{KeyValue}
 use Rattle.pk_copy.specs.Marks.{Marks}
 use Rattle.source_feed.specs.GroupValue.{Position}
 use Rattle.source_feed.specs.History.{RowValue}
 use Rattle.source_feed.specs.Image.{ImageRows}
-use Rattle.board_laws.specs.Allowed.{last_position}
 use Rattle.board_laws.specs.Meaning.{State, TargetRows, Meaning}
+use Rattle.board_laws.specs.Sources.{applied_position}
 
 -- what is kept of a stream; rows by rising key
 pub record SavedStream : Type 0 where
   pub position : Position
   pub marks : Marks
   pub rows : ImageRows
-
--- the position at which a stream's rows stand: that of the last applied group; at first the empty set
-abbrev pub applied_position : State → Position
-applied_position state = last_position (take state.applied state.list)
 
 -- a row of the target without its owner
 abbrev pub without_owner : KeyValue × (ℕ × RowValue) → KeyValue × RowValue

@@ -63,6 +63,7 @@ table_part plan saved t = record {
     rows = map (λ row. row.1) (rows_of_table t saved.rows);
     lastpk = last_row_of (mark_of saved.marks t);
   };
+  name = [];
 }
 
 -- ---- a stream's part

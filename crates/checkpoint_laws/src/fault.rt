@@ -18,7 +18,7 @@ pub enum ResumeFault {
     WrongPlan,
     /// The bytes are no checkpoint for these plans.
     #[error("the checkpoint is broken")]
-    BadCheckpoint,
+    CheckpointBad,
     /// The least stream whose position is neither empty nor that of a group of its feed.
     #[error("the position of stream {0} is unknown")]
     PositionUnknown(u8),
@@ -28,7 +28,7 @@ pub enum ResumeFault {
     /// The rows of a stream aren't those that its feed leaves: the least such stream, and the least key at which
     /// they differ.
     #[error("a row of stream {stream} differs from its feed")]
-    Differs { stream: u8, key: Key },
+    CheckpointDiffers { stream: u8, key: Key },
     /// Two streams have a row at one key: the first stream that meets a lower one, its least such key, and
     /// the lower stream.
     #[error("a row of stream {owner} stands at a key")]
@@ -58,10 +58,10 @@ impl ResumeFault {
         match self {
             ResumeFault::FeedCount => 119,
             ResumeFault::WrongPlan => 111,
-            ResumeFault::BadCheckpoint => 116,
+            ResumeFault::CheckpointBad => 116,
             ResumeFault::PositionUnknown(_) => 118,
             ResumeFault::Unsound(fault) => fault.number(),
-            ResumeFault::Differs { .. } => 117,
+            ResumeFault::CheckpointDiffers { .. } => 117,
             ResumeFault::OwnedByOther { .. } => 71,
             ResumeFault::Memory => 72,
         }

@@ -4,7 +4,7 @@
 ghost use Rattle.checkpoint_laws.specs.Laws.{CheckpointsAreReadAgain, CheckpointsSayOneThing, ResumedBoardsAreLawful, RestartedBoardsAreResumed, SavedBoardsAreSaid};
 
 use gtid_set::printed_text_reads_back;
-use pk_copy::{keys_tie_where_they_are_equal, lastpks_are_read_again};
+use pk_copy::keys_tie_where_they_are_equal;
 use vevent::stream_parts_are_read_again;
 
 /// Parts of streams that are written as a checkpoint are read as these parts, where they are within the
@@ -22,13 +22,13 @@ pub fn checkpoints_say_one_thing()
     keys_tie_where_they_are_equal();
 }
 
-/// What is kept of a board within the limits is what its checkpoint says.
+/// What is kept of a board within the limits is what its checkpoint says, under well-formed plans.
 pub fn saved_boards_are_said()
     ensures { SavedBoardsAreSaid }
 {
     stream_parts_are_read_again();
     printed_text_reads_back();
-    lastpks_are_read_again();
+    keys_tie_where_they_are_equal();
 }
 
 /// Whatever the bytes, a board that they and the feeds make is lawful, and has the positions, marks and

@@ -8,6 +8,10 @@ mod damaged;
 #[cfg(test)]
 mod feeds;
 #[cfg(test)]
+mod memory;
+#[cfg(test)]
+mod parts;
+#[cfg(test)]
 mod refusals;
 #[cfg(test)]
 mod resumes;

@@ -24,7 +24,11 @@ fn number_of(key: &Key) -> Option<i128> {
 fn said(fault: &ResumeFault) -> Refused {
     match fault {
         ResumeFault::PositionUnknown(s) => (fault.number(), Some(*s), None),
-        ResumeFault::Differs { stream, key } => (fault.number(), Some(*stream), number_of(key)),
+        ResumeFault::CheckpointDiffers { stream, key } => (
+            fault.number(),
+            Some(*stream),
+            number_of(key),
+        ),
         ResumeFault::OwnedByOther { key, owner } => (fault.number(), Some(*owner), number_of(key)),
         _ => (fault.number(), None, None),
     }

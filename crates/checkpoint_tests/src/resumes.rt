@@ -213,6 +213,10 @@ fn takes_the_third<'h>(alloc: Global, board: &mut Board<'h>, feeds: &[Feed<'h>])
         && shows(alloc, board, b"1a;2b;3c;")
 }
 
+/// The checkpoint behind the first two of four groups.
+const TWO_SAVED: &[u8] =
+    b"VREPLCP1k\n\x03-80\x12d\x08\x02\x12`\n\x07\n\x02id\x10\x89\x02\n\x06\n\x01v\x10\x950\x12\x07\n\x02id\x10\x89\x02\x1a0MySQL56/3e11fa47-71ca-11e1-9e33-c80aa9429562:1-2\"\x08\n\x02\x02\x02\x12\x021a\"\x08\n\x02\x02\x02\x12\x022b";
+
 /// Whether the board of a checkpoint goes on with the third group.
 fn goes_on_from<'h>(alloc: Global, feeds: &[Feed<'h>], bytes: &[u8]) -> bool {
     match board_of(alloc, ONE, (FOUR_GROUPS, &[]), bytes) {
@@ -221,13 +225,13 @@ fn goes_on_from<'h>(alloc: Global, feeds: &[Feed<'h>], bytes: &[u8]) -> bool {
     }
 }
 
-/// Whether the resumed board goes on with the third group.
+/// Whether the board behind two groups is saved as these bytes, and the resumed board goes on with the third.
 fn goes_on(alloc: Global) -> bool {
     let Some(feeds) = feeds_of(alloc, ONE, (FOUR_GROUPS, &[])) else {
         return false;
     };
     match saved_behind_two_groups(alloc, &feeds) {
-        Some(bytes) => goes_on_from(alloc, &feeds, &bytes),
+        Some(bytes) => bytes.as_slice() == TWO_SAVED && goes_on_from(alloc, &feeds, &bytes),
         None => false,
     }
 }

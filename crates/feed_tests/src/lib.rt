@@ -4,11 +4,15 @@
 #[cfg(test)]
 mod feeds;
 #[cfg(test)]
+mod fitting;
+#[cfg(test)]
 mod groups;
 #[cfg(test)]
 mod image;
 #[cfg(test)]
 mod opening;
+#[cfg(test)]
+mod pieces;
 #[cfg(test)]
 mod prepared;
 #[cfg(test)]

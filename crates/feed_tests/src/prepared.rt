@@ -41,7 +41,7 @@ const NULL_BEFORE: &[u8] =
     b"\x74\x0a\x02\x08\x02\x0a\x18\x08\x0d\x32\x14\x0a\x01\x74\x12\x07\x0a\x02\x69\x64\x10\x89\x02\x12\x06\x0a\x01\x76\x10\x95\x30\x0a\x1c\x08\x0c\x2a\x18\x0a\x01\x74\x12\x13\x0a\x07\x0a\x02\x02\x01\x12\x01\x31\x12\x08\x0a\x02\x02\x02\x12\x02\x31\x61\x0a\x32\x08\x01\x1a\x2e\x4d\x79\x53\x51\x4c\x35\x36\x2f\x33\x65\x31\x31\x66\x61\x34\x37\x2d\x37\x31\x63\x61\x2d\x31\x31\x65\x31\x2d\x39\x65\x33\x33\x2d\x63\x38\x30\x61\x61\x39\x34\x32\x39\x35\x36\x32\x3a\x31\x0a\x02\x08\x03";
 
 /// The table `t` behind another one, so that its number is 1.
-const SECOND_TABLE: &[u8] =
+pub(crate) const SECOND_TABLE: &[u8] =
     br#"{"keyspace":"ks","tables":[{"name":"s","columns":[["id","INT64"]],"key":["id"]},{"name":"t","columns":[["id","INT64"],["v","VARCHAR"]],"key":["id"]}],"streams":[{"shard":"-80","filter":{"rules":[{"match":"/.*","filter":""}]}}]}"#;
 
 /// Rows pass by the MD5 of `v`.
@@ -49,7 +49,7 @@ const BY_VALUE: &[u8] =
     br#"{"keyspace":"ks","tables":[{"name":"t","columns":[["id","INT64"],["v","VARCHAR"]],"key":["id"],"vindex":["id","numeric"]}],"streams":[{"shard":"-80","filter":{"rules":[{"match":"t","filter":"select * from t where in_keyrange(v, 'binary_md5', '-80')"}]}}]}"#;
 
 /// Rows pass by the number in `id`.
-const BY_NUMBER: &[u8] =
+pub(crate) const BY_NUMBER: &[u8] =
     br#"{"keyspace":"ks","tables":[{"name":"t","columns":[["id","INT64"],["v","VARCHAR"]],"key":["id"],"vindex":["id","numeric"]}],"streams":[{"shard":"-80","filter":{"rules":[{"match":"t","filter":"select * from t where in_keyrange(id, 'numeric', '-80')"}]}}]}"#;
 
 /// A touch of a key of the first table: the row that it puts there, as a message, and what the filter answers of it; or

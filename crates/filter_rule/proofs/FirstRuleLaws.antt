@@ -5,7 +5,8 @@ use Rattle.std.specs.Str.{bytes_eq}
 use Rattle.vindex.specs.Bounds.{Bounds}
 use Rattle.vindex.specs.declared.vindexes.Vindex.{Vindex}
 use Rattle.filter_rule.specs.Document.{RuleSaid, StreamSaid, DocumentSaid, document_of}
-use Rattle.filter_rule.specs.Faults.{limit, ◌>>=◌, each}
+use Rattle.outcome.specs.Outcome.{◌>>=◌, each}
+use Rattle.filter_rule.specs.Faults.{limit}
 use Rattle.filter_text.specs.FilterText.{RowsSaid, every_row, in_own_range, in_range_of, filter_of}
 use Rattle.filter_text.specs.RuleScope.{TablesSaid, every_table, one_table, begins_with_slash, scope_of, is_for}
 use Rattle.filter_rule.specs.FirstRule.{is_match, Decides, IsByFirst, AreByFirst, FollowFirstRules}

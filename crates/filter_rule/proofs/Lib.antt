@@ -1,6 +1,7 @@
 pub mod StepLaws
 pub mod PlanShapeLaws
 pub mod DistinctNames
+pub mod TextLaws
 pub mod TableLaws
 pub mod SplitLaws
 pub mod JsonLaws

@@ -1,11 +1,14 @@
 -- What is read is a plan, and the plans of streams as far as a loop has come.
-use Rattle.std.proofs.Common.{◌≡◌, ℕ, ◌+◌, ◌<◌, ◌≤◌, List, [], ◌∷◌, ◌++◌, length, drop, get_or, map, String, Vec, Global, Result, Ok, Err, refl, sym, ap, subst, ◌∙◌, arith}
+use Rattle.std.proofs.Common.{◌≡◌, ℕ, ◌+◌, ◌<◌, ◌≤◌, List, [], ◌∷◌, ◌++◌, length, drop, get_or, map, true, String, Vec, Global, Result, Ok, Err, refl, sym, ap, subst, ◌∙◌}
 use Rattle.std.specs.Prelude.{slice_get}
+use Rattle.std.specs.Str.{is_utf8}
+use Rattle.std.proofs.lemmas.Str.{IsUtf8-string_bytes}
 use Rattle.std.specs.Arc.{arc_value}
 use Rattle.std.specs.declared.sync.Arc.{Arc}
 use Rattle.filter_rule.specs.Private.Accepted.{AreNarrow, IsAccepted}
 use Rattle.filter_rule.specs.Document.{RuleSaid, StreamSaid, TableSaid, DocumentSaid}
-use Rattle.filter_rule.specs.Faults.{Fault, ◌>>=◌, each}
+use Rattle.outcome.specs.Outcome.{◌>>=◌, each}
+use Rattle.filter_rule.specs.Faults.{Fault}
 use Rattle.filter_rule.specs.Private.PlanParts.{plan_value}
 use Rattle.filter_rule.specs.WellFormed.{AreTables, IsPlan}
 use Rattle.filter_rule.specs.PlanTable.{TableValue}
@@ -15,22 +18,23 @@ use Rattle.filter_rule.specs.declared.decision.Decision.{Decision}
 use Rattle.filter_rule.specs.declared.plan.Schema.{Schema}
 use Rattle.filter_rule.proofs.EachLaws.{with_front, front_more, append_none, drop_at}
 use Rattle.filter_rule.proofs.DecideLaws.{drop_all}
+use Rattle.filter_rule.proofs.Utf8Laws.{utf8_test}
 use Rattle.filter_rule.specs.Resolving.{resolved}
 use Rattle.filter_rule.proofs.ShapeLaws.{decisions_decided, decided_length, decided_fit}
 use Rattle.filter_rule.proofs.TableLaws.{accepted_names, accepted_within, table_counts, tables_fit}
 
-pub parts_shape : (keyspace shard : List ℕ) (tables : List TableValue) (decisions : List Decision) (n : ℕ) (rs : List RuleSaid) → AreTables tables → decisions_of n tables rs ≡ Ok decisions
+pub parts_shape : (keyspace shard : List ℕ) (tables : List TableValue) (decisions : List Decision) (n : ℕ) (rs : List RuleSaid) → is_utf8 keyspace ≡ true → is_utf8 shard ≡ true → AreTables tables → decisions_of n tables rs ≡ Ok decisions
     → IsPlan (record { keyspace = keyspace; shard = shard; tables = tables; decisions = decisions })
-parts_shape keyspace shard tables decisions n rs fit is =
+parts_shape keyspace shard tables decisions n rs key_text shard_text fit is =
     let decided = decisions_decided n tables rs decisions fit is in
-    record { tables = fit; decided = decided_length tables decisions decided; filters = decided_fit tables decisions decided }
+    record { keyspace_text = key_text; shard_text = shard_text; tables = fit; decided = decided_length tables decisions decided; filters = decided_fit tables decisions decided }
 
 pub plan_shape : (schema copy : Arc Schema Global) (shard : String Global) (decisions : Vec Decision Global) (n : ℕ) (rs : List RuleSaid) → arc_value copy ≡ arc_value schema
     → AreTables (arc_value schema).tables.items → decisions_of n (arc_value schema).tables.items rs ≡ Ok decisions.items → IsPlan (plan_value copy shard decisions)
 plan_shape schema copy shard decisions n rs same fit is =
     let P : Schema → Type 0 = λ s. AreTables s.tables.items in
     let Q : Schema → Type 0 = λ s. decisions_of n s.tables.items rs ≡ Ok decisions.items in
-    parts_shape _ _ (arc_value copy).tables.items decisions.items n rs (subst P (sym same) fit) (subst Q (sym same) is)
+    parts_shape _ _ (arc_value copy).tables.items decisions.items n rs (utf8_test _ (IsUtf8-string_bytes (arc_value copy).keyspace)) (utf8_test _ (IsUtf8-string_bytes shard)) (subst P (sym same) fit) (subst Q (sym same) is)
 
 -- ---- a plan a stream
 

@@ -1,19 +1,18 @@
 -- Steps that were refused, and the columns that they name.
-use Rattle.std.proofs.Common.{◌≡◌, ◌≢◌, ℕ, zero, suc, ◌<◌, ◌≤◌, List, [], ◌∷◌, length, get_or, Bool, true, false, cond, ltb, Option, Some, None, Result, Ok, Err, refl, sym, ap, subst, ◌∙◌, arith}
+use Rattle.std.proofs.Common.{◌≡◌, ◌≢◌, ℕ, zero, suc, ◌≤◌, List, [], ◌∷◌, length, Bool, true, false, cond, ltb, Option, Some, None, Result, Ok, Err, refl, sym, ap, subst, ◌∙◌, arith}
 use Rattle.std.specs.Prelude.{slice_get, position, find, not}
 use Rattle.std.specs.List.{position_or_len}
 use Rattle.std.specs.Option.{option_map_or, ok_or}
-use Rattle.std.specs.Str.{bytes_eq}
 use Rattle.std.proofs.lemmas.Bool.Decides.{nat_tests}
 use Rattle.std.proofs.lemmas.List.Folds.{find_at}
 use Rattle.std.proofs.lemmas.Option.{slice_get_past}
 use Rattle.std.proofs.lemmas.Slice.Eq.{bytes_eq-Decides}
-use Rattle.filter_rule.specs.Faults.{Fault, no_such_column, ◌>>=◌, each}
+use Rattle.outcome.specs.Outcome.{◌>>=◌, each}
+use Rattle.filter_rule.specs.Faults.{Fault, no_such_column}
 use Rattle.filter_rule.specs.PlanTable.{ColumnValue}
 use Rattle.filter_rule.specs.Resolving.{place_in, type_in}
 use Rattle.filter_rule.specs.Standing.{HasNoColumn, HasUnfit}
-use Rattle.filter_rule.specs.WellFormed.{type_at}
-use Rattle.filter_rule.proofs.StepLaws.{then_ok, same_ok, same_some, find_none}
+use Rattle.filter_rule.proofs.StepLaws.{then_ok, same_some, find_none}
 use Rattle.filter_rule.proofs.TableLaws.{is_named, place_found, column_found, type_in-is}
 
 abbrev pub failed : {B : Type 0} → Fault → Result B Fault

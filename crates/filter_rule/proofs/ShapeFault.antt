@@ -4,7 +4,8 @@ use Rattle.serde_json.specs.Data.{Data}
 use Rattle.serde_json.specs.Find.{get, as_str}
 use Rattle.vindex.specs.KeyspaceId.{vindex_of_name}
 use Rattle.filter_rule.specs.Document.{found, member_in, text_of, list_of, text_in, list_in, two_of, pair_of, is_name, name_of, type_by, type_of, column_of, vindex_of, vindex_if, vindex_in, filter_if, filter_in, rule_of, stream_of, has_twice, distinct, list_apart, table_of, document_of}
-use Rattle.filter_rule.specs.Faults.{Fault, shape, ◌>>=◌, each}
+use Rattle.outcome.specs.Outcome.{◌>>=◌, each}
+use Rattle.filter_rule.specs.Faults.{Fault, shape}
 use Rattle.filter_rule.proofs.RefusedSteps.{failed, same_fault}
 
 abbrev pub ShapeOnly : {A : Type 0} → Result A Fault → Type 0

@@ -6,7 +6,6 @@ use Rattle.vindex.specs.declared.vindexes.Vindex.{Vindex}
 use Rattle.filter_text.specs.FilterText.{RowsSaid, every_row, in_own_range, in_range_of}
 use Rattle.filter_text.specs.RuleScope.{is_for}
 use Rattle.filter_rule.specs.Document.{RuleSaid}
-use Rattle.filter_rule.specs.Faults.{◌>>=◌}
 use Rattle.filter_rule.specs.PlanTable.{TableValue}
 use Rattle.filter_rule.specs.Reading.{rule_over, decide_in_turn, undecided, decisions_of}
 use Rattle.filter_rule.specs.Resolving.{place_in, vindex_type}

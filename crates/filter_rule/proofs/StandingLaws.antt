@@ -1,11 +1,12 @@
 -- What stands in a refused file.
-use Rattle.std.proofs.Common.{◌≡◌, ◌≢◌, ℕ, List, Bool, true, false, cond, Option, Some, None, Result, Ok, Err, refl, sym, ap, subst, ◌∙◌}
+use Rattle.std.proofs.Common.{◌≡◌, ℕ, List, Bool, true, false, cond, Option, Ok, Err, sym, ap, subst, ◌∙◌}
 use Rattle.std.specs.Option.{ok_or}
 use Rattle.std.specs.Str.{is_utf8}
 use Rattle.serde_json.specs.Data.{Data}
 use Rattle.serde_json.specs.Read.{read}
 use Rattle.filter_rule.specs.Document.{DocumentSaid, document_of}
-use Rattle.filter_rule.specs.Faults.{Fault, json, shape, limit, no_such_column, key_type, bad_rule, ◌>>=◌, each}
+use Rattle.outcome.specs.Outcome.{◌>>=◌, each}
+use Rattle.filter_rule.specs.Faults.{Fault, json, shape, limit, no_such_column, key_type, bad_rule}
 use Rattle.filter_rule.specs.FirstRule.{document_in}
 use Rattle.filter_rule.specs.Limits.{is_within, within_limits}
 use Rattle.filter_rule.specs.Reading.{json_of, plans_of_document, plans_of}

@@ -1,26 +1,25 @@
 -- What stands in a file whose rules are refused.
-use Rattle.std.proofs.Common.{◌≡◌, ◌≢◌, ℕ, zero, suc, ◌+◌, List, [], ◌∷◌, ◌++◌, length, Bool, true, false, cond, Option, Some, None, Result, Ok, Err, refl, sym, ap, subst, ◌∙◌, append_assoc, length-append, arith}
+use Rattle.std.proofs.Common.{◌≡◌, ℕ, zero, suc, ◌+◌, List, [], ◌∷◌, ◌++◌, length, Bool, true, false, cond, Option, Some, None, Ok, Err, refl, sym, ap, subst, ◌∙◌, append_assoc, length-append, arith}
 use Rattle.std.specs.Prelude.{slice_get}
-use Rattle.std.specs.Option.{ok_or}
 use Rattle.vindex.specs.Bounds.{Bounds}
 use Rattle.vindex.specs.declared.vindexes.Vindex.{Vindex}
 use Rattle.filter_rule.specs.Document.{RuleSaid, StreamSaid, TableSaid, DocumentSaid}
-use Rattle.filter_rule.specs.Faults.{Fault, bad_rule, key_type, ◌>>=◌, each}
+use Rattle.outcome.specs.Outcome.{each}
+use Rattle.filter_rule.specs.Faults.{Fault, bad_rule, key_type}
 use Rattle.filter_text.specs.FilterText.{RowsSaid, every_row, in_own_range, in_range_of, Meaning, filter_of}
 use Rattle.filter_text.specs.RuleScope.{scope_of, is_for, agrees}
 use Rattle.filter_rule.specs.FirstRule.{is_match, first_match}
 use Rattle.filter_rule.specs.PlanTable.{TableValue}
-use Rattle.filter_rule.specs.PlanValue.{PlanValue}
 use Rattle.filter_rule.specs.Reading.{rule_over, decide_in_turn, undecided, decisions_of, plan_of, plans_from}
 use Rattle.filter_rule.specs.Resolving.{is_vindex_type, place_in, type_in, vindex_place, vindex_type, unfit_key, refuse_type, own_vindex_type, resolved}
 use Rattle.filter_rule.specs.Rules.{RuleForm, form_of, or_bad, agreeing, own_decision, decide, decide_once, decide_each}
-use Rattle.filter_rule.specs.Standing.{HasTable, IsFirstFor, HasNoColumn, by_rule, under_rule, no_form, no_vindex}
+use Rattle.filter_rule.specs.Standing.{HasTable, IsFirstFor, by_rule, under_rule, no_form, no_vindex}
 use Rattle.filter_rule.specs.declared.decision.Decision.{Decision}
 use Rattle.filter_rule.specs.declared.decision.Decision.TheVariants.{NoRule, EveryRow, InRange}
 use Rattle.filter_rule.proofs.FirstRuleLaws.{form_match, decide_decides}
 use Rattle.filter_rule.proofs.RefusedSteps.{failed, same_fault, then_err, none_from_err, absent, unfit_column}
 use Rattle.filter_rule.proofs.StandingTables.{StandsIn, refused_type}
-use Rattle.filter_rule.proofs.StepLaws.{then_ok, read_as, same_ok, same_some, each_length, ReadFrom, each_at}
+use Rattle.filter_rule.proofs.StepLaws.{then_ok, read_as, same_ok, same_some, each_at}
 use Rattle.filter_rule.proofs.TableLaws.{resolved_parts}
 
 -- ---- a rule without a form is refused as such

@@ -1,17 +1,17 @@
 -- What stands in a file whose tables are refused, or whose counts are.
-use Rattle.std.proofs.Common.{◌≡◌, ◌⊎◌, inl, inr, ℕ, zero, suc, ◌<◌, ◌≤◌, List, [], ◌∷◌, length, Bool, true, false, cond, ◌&&◌, Option, Some, None, Ok, Err, refl, sym, ap, subst, ◌∙◌, arith}
-use Rattle.std.specs.Prelude.{slice_get, find, not, nat_le}
+use Rattle.std.proofs.Common.{◌≡◌, inl, inr, ℕ, suc, List, [], ◌∷◌, length, Bool, true, false, cond, ◌&&◌, Option, Some, None, Ok, Err, refl, subst, arith}
+use Rattle.std.specs.Prelude.{slice_get, not, nat_le}
 use Rattle.std.specs.List.{list_all}
 use Rattle.std.proofs.lemmas.Bool.Decides.{nat_tests}
 use Rattle.vindex.specs.declared.vindexes.Vindex.{Vindex}
 use Rattle.filter_rule.specs.Document.{TableSaid, DocumentSaid}
-use Rattle.filter_rule.specs.Faults.{Fault, json, shape, limit, no_such_column, key_type, bad_rule, ◌>>=◌, each}
+use Rattle.outcome.specs.Outcome.{each}
+use Rattle.filter_rule.specs.Faults.{Fault, json, shape, limit, no_such_column, key_type, bad_rule}
 use Rattle.filter_rule.specs.Limits.{is_up_to, is_table_within, is_within, within_limits}
-use Rattle.filter_rule.specs.PlanTable.{ColumnValue, TableValue}
 use Rattle.filter_rule.specs.Resolving.{is_key_type, is_vindex_type, place_in, type_in, unfit_key, refuse_type, vindex_place, vindex_type, own_vindex_type, resolved}
 use Rattle.filter_rule.specs.Standing.{HasTable, LacksColumn, by_key, by_vindex, HasUnfitColumn, in_key, under_vindex, HasBadRule, IsOutside, IsPastLimit, streams_past, tables_past, columns_past, key_past}
-use Rattle.filter_rule.proofs.RefusedSteps.{failed, same_fault, then_err, each_refused, each_gives, absent, unfit_column, found, not_true}
-use Rattle.filter_rule.proofs.StepLaws.{then_ok, read_as, same_ok}
+use Rattle.filter_rule.proofs.RefusedSteps.{same_fault, then_err, each_refused, each_gives, absent, unfit_column, found, not_true}
+use Rattle.filter_rule.proofs.StepLaws.{then_ok, read_as}
 
 -- what stands in a document, by the fault
 abbrev pub StandsIn : DocumentSaid → Fault → Type 0

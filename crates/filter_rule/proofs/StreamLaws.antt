@@ -1,7 +1,8 @@
 -- The rules of a stream, as far as a loop has come.
 use Rattle.std.proofs.Common.{◌≡◌, ℕ, zero, suc, ◌+◌, ◌<◌, ◌≤◌, List, [], ◌∷◌, ◌++◌, length, take, drop, get_or, Result, Ok, Err, refl, sym, ap, ◌∙◌, arith}
 use Rattle.filter_rule.specs.Document.{RuleSaid}
-use Rattle.filter_rule.specs.Faults.{Fault, ◌>>=◌}
+use Rattle.outcome.specs.Outcome.{◌>>=◌}
+use Rattle.filter_rule.specs.Faults.{Fault}
 use Rattle.filter_rule.specs.PlanTable.{TableValue}
 use Rattle.filter_rule.specs.Reading.{rule_over, decide_in_turn, undecided}
 use Rattle.filter_rule.specs.declared.decision.Decision.{Decision}

@@ -1,9 +1,9 @@
 -- The tables of an accepted document are well formed.
-use Rattle.std.proofs.Common.{◌≡◌, ℕ, zero, suc, ◌+◌, ◌<◌, ◌≤◌, List, [], ◌∷◌, length, get_or, map, codes, Bool, true, false, cond, ◌&&◌, ltb, Option, Some, None, Result, Ok, Err, refl, sym, ap, subst, ◌∙◌, arith}
-use Rattle.std.specs.Prelude.{slice_get, position, find, not, IfSome, IsTrue}
+use Rattle.std.proofs.Common.{◌≡◌, ℕ, ◌≤◌, List, [], ◌∷◌, length, get_or, map, codes, Bool, true, false, cond, ◌&&◌, ltb, Option, Some, None, Result, Ok, Err, refl, sym, ap, subst, ◌∙◌, arith}
+use Rattle.std.specs.Prelude.{slice_get, position, find, not, IfSome}
 use Rattle.std.specs.List.{list_all, position_or_len}
-use Rattle.std.specs.Option.{option_map_or, ok_or}
-use Rattle.std.specs.Str.{bytes_eq}
+use Rattle.std.specs.Option.{option_map_or}
+use Rattle.std.specs.Str.{bytes_eq, is_utf8}
 use Rattle.std.proofs.lemmas.Bool.{and_parts}
 use Rattle.std.proofs.lemmas.Bool.Decides.{nat_tests}
 use Rattle.std.proofs.lemmas.List.Folds.{find_at}
@@ -13,14 +13,16 @@ use Rattle.std.proofs.lemmas.Slice.Eq.{bytes_eq-Decides}
 use Rattle.serde_json.specs.Data.{Data}
 use Rattle.vindex.specs.declared.vindexes.Vindex.{Vindex}
 use Rattle.filter_rule.specs.Private.Accepted.{IsAccepted}
-use Rattle.filter_rule.specs.Document.{RuleSaid, StreamSaid, TableSaid, DocumentSaid, member_in, text_in, list_in, name_of, column_of, vindex_in, stream_of, list_apart, table_of, distinct, document_of}
-use Rattle.filter_rule.specs.Faults.{Fault, key_type, limit, no_such_column, ◌>>=◌, each}
-use Rattle.filter_rule.specs.Limits.{is_up_to, is_table_within, is_within, within_limits}
+use Rattle.filter_rule.specs.Document.{StreamSaid, TableSaid, DocumentSaid, member_in, text_in, list_in, name_of, column_of, vindex_in, rule_of, stream_of, list_apart, table_of, distinct, document_of}
+use Rattle.outcome.specs.Outcome.{each}
+use Rattle.filter_rule.specs.Faults.{Fault, key_type, limit, no_such_column}
+use Rattle.filter_rule.specs.Limits.{is_up_to, is_table_within, is_within}
 use Rattle.filter_rule.specs.PlanTable.{ColumnValue, TableValue}
 use Rattle.filter_rule.specs.Resolving.{is_key_type, is_vindex_type, place_in, type_in, unfit_key, refuse_type, vindex_place, vindex_type, own_vindex_type, resolved}
-use Rattle.filter_rule.specs.WellFormed.{AreDistinct, AreUpTo, type_at, HasColumn, IsTable, AreTables}
+use Rattle.filter_rule.specs.WellFormed.{AreDistinct, AreUpTo, type_at, HasColumn, IsColumnDef, IsTable, AreTables}
 use Rattle.filter_rule.proofs.DistinctNames.{distinct_apart}
-use Rattle.filter_rule.proofs.StepLaws.{then_ok, read_as, same_ok, same_some, some_from_ok, not_false, each_length, ReadFrom, each_at, list_all_get, find_none}
+use Rattle.filter_rule.proofs.TextLaws.{text_in_is, name_text, column_def}
+use Rattle.filter_rule.proofs.StepLaws.{then_ok, read_as, same_ok, same_some, some_from_ok, not_false, each_length, each_at, list_all_get, find_none}
 
 -- ---- what the shape of a document says of names
 
@@ -59,11 +61,47 @@ table_names d t h =
       subst AreDistinct (same_names key) (list_apart-Ok (λ (n : List ℕ). n) name_of (codes "key") d key key_is).0,
     ))))))
 
--- no name stands twice in a document where it mustn't
+-- a table's name and its columns' are texts, and its types have 32 bits
+pub record HasTexts (table : TableSaid) : Type 0 where
+  pub name_text : is_utf8 table.name ≡ true
+  pub each_column : (i : ℕ) (column : ColumnValue) → slice_get table.columns i ≡ Some column → IsColumnDef column
+
+texts_of_table : (d : Data) (t : TableSaid) → table_of d ≡ Ok t → HasTexts t
+unfolding table_of
+texts_of_table d t h =
+    then_ok _ (member_in (codes "name") d) t h (λ a a_is h1.
+    then_ok _ (name_of a) t h1 (λ name name_is h2.
+    then_ok _ (vindex_in d) t h2 (λ vindex vindex_is h3.
+    then_ok _ (list_apart (λ (c : ColumnValue). c.name) column_of (codes "columns") d) t h3 (λ columns columns_is h4.
+    then_ok _ (list_apart (λ (n : List ℕ). n) name_of (codes "key") d) t h4 (λ key key_is h5.
+    let said = (list_apart-Ok (λ (c : ColumnValue). c.name) column_of (codes "columns") d columns columns_is).1 in
+    subst HasTexts (same_ok (record { name = name; columns = columns; key = key; vindex = vindex }) t h5)
+    (record {
+      name_text = name_text a name name_is;
+      each_column = λ i c c_is. let from = said i c c_is in column_def from.item c from.gives;
+    }))))))
+
+shard_text : (d : Data) (s : StreamSaid) → stream_of d ≡ Ok s → is_utf8 s.shard ≡ true
+unfolding stream_of
+shard_text d s h =
+    then_ok _ (text_in (codes "shard") d) s h (λ shard shard_is h1.
+    then_ok _ (member_in (codes "filter") d) s h1 (λ filter filter_is h2.
+    then_ok _ (list_in (codes "rules") filter) s h2 (λ values values_is h3.
+    then_ok _ (each rule_of values) s h3 (λ rules rules_is h4.
+    subst (λ (x : StreamSaid). is_utf8 x.shard ≡ true) (same_ok (record { shard = shard; rules = rules }) s h4) (text_in_is (codes "shard") d shard shard_is)))))
+
+-- the shards of streams are texts
+abbrev pub HaveTexts : List StreamSaid → Type 0
+HaveTexts streams = (i : ℕ) (s : StreamSaid) → slice_get streams i ≡ Some s → is_utf8 s.shard ≡ true
+
+-- no name stands twice in a document where it mustn't, and names are texts
 pub record HasNames (document : DocumentSaid) : Type 0 where
   pub columns : (i : ℕ) (t : TableSaid) → slice_get document.tables i ≡ Some t → HasDistinctNames t
   pub tables : AreDistinct (map (λ (t : TableSaid). t.name) document.tables)
   pub shards : AreDistinct (map (λ (s : StreamSaid). s.shard) document.streams)
+  pub keyspace_text : is_utf8 document.keyspace ≡ true
+  pub table_texts : (i : ℕ) (t : TableSaid) → slice_get document.tables i ≡ Some t → HasTexts t
+  pub shard_texts : HaveTexts document.streams
 
 pub document_names : (d : Data) (document : DocumentSaid) → document_of d ≡ Ok document → HasNames document
 unfolding document_of
@@ -72,11 +110,15 @@ document_names d document h =
     then_ok _ (list_apart (λ (t : TableSaid). t.name) table_of (codes "tables") d) document h1 (λ tables tables_is h2.
     then_ok _ (list_apart (λ (s : StreamSaid). s.shard) stream_of (codes "streams") d) document h2 (λ streams streams_is h3.
     let apart = list_apart-Ok (λ (t : TableSaid). t.name) table_of (codes "tables") d tables tables_is in
+    let sharded = list_apart-Ok (λ (s : StreamSaid). s.shard) stream_of (codes "streams") d streams streams_is in
     subst HasNames (same_ok (record { keyspace = keyspace; tables = tables; streams = streams }) document h3)
     (record {
       columns = λ i t t_is. let from = apart.1 i t t_is in table_names from.item t from.gives;
       tables = apart.0;
-      shards = (list_apart-Ok (λ (s : StreamSaid). s.shard) stream_of (codes "streams") d streams streams_is).0;
+      shards = sharded.0;
+      keyspace_text = text_in_is (codes "keyspace") d keyspace keyspace_is;
+      table_texts = λ i t t_is. let from = apart.1 i t t_is in texts_of_table from.item t from.gives;
+      shard_texts = λ i s s_is. let from = sharded.1 i s s_is in shard_text from.item s from.gives;
     }))))
 
 -- ---- what its counts say
@@ -202,14 +244,16 @@ vindex_fits table columns (Some v) vindex b h k =
 
 -- ---- a table
 
-table_made : (said : TableSaid) (key : List ℕ) (vindex : Option (ℕ × Vindex)) (a b : Option (List ℕ)) → HasDistinctNames said → AreUpTo 256 said.columns → AreUpTo 8 said.key
+table_made : (said : TableSaid) (key : List ℕ) (vindex : Option (ℕ × Vindex)) (a b : Option (List ℕ)) → HasDistinctNames said → HasTexts said → AreUpTo 256 said.columns → AreUpTo 8 said.key
     → each (place_in said.name said.columns) said.key ≡ Ok key → vindex_place said.name said.columns said.vindex ≡ Ok vindex
     → refuse_type said.name (unfit_key said.columns said.key) ≡ Ok a → own_vindex_type said.name said.columns said.vindex ≡ Ok b
     → IsTable (record { name = said.name; columns = said.columns; key = key; vindex = vindex })
-table_made said key vindex a b names columns_few key_few key_is vindex_is key_fit vindex_fit =
+table_made said key vindex a b names texts columns_few key_few key_is vindex_is key_fit vindex_fit =
     let count : length key ≡ length said.key = each_length (place_in said.name said.columns) said.key key key_is in
     record {
+      name_text = texts.name_text;
       column_count = columns_few;
+      each_column = texts.each_column;
       column_names = names.0;
       key_count = (omega arith, omega arith);
       key_places = distinct_places said.name said.columns said.key key names.1 key_is;
@@ -220,7 +264,7 @@ table_made said key vindex a b names columns_few key_few key_is vindex_is key_fi
 pub record Resolved (said : TableSaid) (t : TableValue) : Type 0 where
   pub name : t.name ≡ said.name
   pub columns : t.columns ≡ said.columns
-  pub table : HasDistinctNames said → AreUpTo 256 said.columns → AreUpTo 8 said.key → IsTable t
+  pub table : HasDistinctNames said → HasTexts said → AreUpTo 256 said.columns → AreUpTo 8 said.key → IsTable t
 
 pub resolved_parts : (said : TableSaid) (t : TableValue) → resolved said ≡ Ok t → Resolved said t
 unfolding resolved
@@ -233,7 +277,7 @@ resolved_parts said t h =
     (record {
       name = refl;
       columns = refl;
-      table = λ names columns_few key_few. table_made said key vindex a b names columns_few key_few key_is vindex_is a_is b_is;
+      table = λ names texts columns_few key_few. table_made said key vindex a b names texts columns_few key_few key_is vindex_is a_is b_is;
     })))))
 
 pub names_kept : (said : List TableSaid) (tables : List TableValue) → each resolved said ≡ Ok tables → map (λ (t : TableValue). t.name) tables ≡ map (λ (t : TableSaid). t.name) said
@@ -256,5 +300,5 @@ tables_fit d tables names within is =
       each_table = λ i t t_is.
           let from = each_at resolved d.tables tables is i t t_is in
           let counts = table_counts d i from.item within from.stands in
-          (resolved_parts from.item t from.gives).table (names.columns i from.item from.stands) counts.0 counts.1;
+          (resolved_parts from.item t from.gives).table (names.columns i from.item from.stands) (names.table_texts i from.item from.stands) counts.0 counts.1;
     }

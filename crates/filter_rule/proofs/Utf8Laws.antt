@@ -1,5 +1,5 @@
 -- Whether bytes are a text.
-use Rattle.std.proofs.Common.{◌≡◌, ℕ, List, Bool, true}
+use Rattle.std.proofs.Common.{◌≡◌, ℕ, List, true}
 use Rattle.std.specs.Prelude.{IsUtf8}
 use Rattle.std.specs.Str.{is_utf8}
 use Rattle.std.proofs.lemmas.Str.{is_utf8-from_IsUtf8}

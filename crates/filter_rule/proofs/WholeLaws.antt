@@ -1,10 +1,11 @@
 -- What is true of all plans of a text.
-use Rattle.std.proofs.Common.{◌≡◌, ℕ, zero, suc, ◌+◌, ◌≤◌, List, [], ◌∷◌, length, map, Bool, true, Option, Some, None, Result, Ok, Err, refl, sym, ap, subst, ◌∙◌, arith}
+use Rattle.std.proofs.Common.{◌≡◌, ℕ, zero, suc, ◌+◌, List, [], ◌∷◌, length, map, true, Some, Result, Ok, Err, refl, sym, ap, subst, ◌∙◌, arith}
 use Rattle.std.specs.Prelude.{slice_get, IfOk}
+use Rattle.std.specs.Str.{is_utf8}
 use Rattle.std.proofs.lemmas.List.{length-map}
-use Rattle.filter_rule.specs.Private.Accepted.{IsAccepted}
-use Rattle.filter_rule.specs.Document.{StreamSaid, TableSaid, DocumentSaid, document_of}
-use Rattle.filter_rule.specs.Faults.{Fault, ◌>>=◌, each, Gives}
+use Rattle.filter_rule.specs.Document.{StreamSaid, DocumentSaid, document_of}
+use Rattle.outcome.specs.Outcome.{◌>>=◌, each}
+use Rattle.filter_rule.specs.Faults.{Gives}
 use Rattle.filter_rule.specs.FirstRule.{document_in}
 use Rattle.filter_rule.specs.Limits.{is_within, within_limits}
 use Rattle.filter_rule.specs.PlanTable.{TableValue}
@@ -12,40 +13,47 @@ use Rattle.filter_rule.specs.PlanValue.{PlanValue}
 use Rattle.filter_rule.specs.Reading.{decisions_of, plan_of, plans_from, json_of, plans_of_document, plans_of}
 use Rattle.filter_rule.specs.Resolving.{resolved}
 use Rattle.filter_rule.specs.Streams.{AreOfStreams, FollowStreams}
-use Rattle.filter_rule.specs.WellFormed.{AreDistinct, AreUpTo, AreTables, IsPlan, ArePlans}
+use Rattle.filter_rule.specs.WellFormed.{AreDistinct, AreTables, IsPlan, ArePlans}
 use Rattle.filter_rule.specs.declared.fault.PlanFault.{PlanFault}
 use Rattle.filter_rule.proofs.PlanLaws.{parts_shape}
 use Rattle.filter_rule.proofs.ReadLaws.{Plans, values}
 use Rattle.filter_rule.proofs.StepLaws.{then_ok, same_ok, same_some}
-use Rattle.filter_rule.proofs.TableLaws.{HasNames, limits_kept, document_names, few_streams, tables_fit}
+use Rattle.filter_rule.proofs.TableLaws.{HaveTexts, HasNames, limits_kept, document_names, few_streams, tables_fit}
 
 -- a plan of one stream
 record IsOfStream (keyspace : List ℕ) (tables : List TableValue) (stream : StreamSaid) (plan : PlanValue) : Type 0 where
   keyspace_is : plan.keyspace ≡ keyspace
   tables_is : plan.tables ≡ tables
   shard_is : plan.shard ≡ stream.shard
-  is_plan : AreTables tables → IsPlan plan
+  is_plan : is_utf8 keyspace ≡ true → is_utf8 stream.shard ≡ true → AreTables tables → IsPlan plan
 
 plan_parts : (keyspace : List ℕ) (tables : List TableValue) (n : ℕ) (stream : StreamSaid) (plan : PlanValue) → plan_of keyspace tables n stream ≡ Ok plan → IsOfStream keyspace tables stream plan
 unfolding plan_of
 plan_parts keyspace tables n stream plan is =
     then_ok _ (decisions_of n tables stream.rules) plan is (λ decisions decisions_is h.
     subst (IsOfStream keyspace tables stream) (same_ok (record { keyspace = keyspace; shard = stream.shard; tables = tables; decisions = decisions }) plan h)
-    (record { keyspace_is = refl; tables_is = refl; shard_is = refl; is_plan = λ fit. parts_shape keyspace stream.shard tables decisions n stream.rules fit decisions_is }))
+    (record { keyspace_is = refl; tables_is = refl; shard_is = refl; is_plan = λ key_text shard_text fit. parts_shape keyspace stream.shard tables decisions n stream.rules key_text shard_text fit decisions_is }))
+
+-- a plan of one of these streams, where names are texts
+abbrev IsPlanUnder : List ℕ → List TableValue → List StreamSaid → PlanValue → Type 0
+IsPlanUnder keyspace tables streams plan = is_utf8 keyspace ≡ true → HaveTexts streams → AreTables tables → IsPlan plan
 
 -- the plans of some streams
 record AreOf (keyspace : List ℕ) (tables : List TableValue) (streams : List StreamSaid) (plans : List PlanValue) : Type 0 where
   shards : map (λ (p : PlanValue). p.shard) plans ≡ map (λ (s : StreamSaid). s.shard) streams
-  each_plan : (i : ℕ) (plan : PlanValue) → slice_get plans i ≡ Some plan → (plan.keyspace ≡ keyspace) × (plan.tables ≡ tables) × (AreTables tables → IsPlan plan)
+  each_plan : (i : ℕ) (plan : PlanValue) → slice_get plans i ≡ Some plan → (plan.keyspace ≡ keyspace) × (plan.tables ≡ tables) × IsPlanUnder keyspace tables streams plan
 
 no_plans : (keyspace : List ℕ) (tables : List TableValue) → AreOf keyspace tables [] []
 no_plans keyspace tables = record { shards = refl; each_plan = λ i plan is. cc }
 
 plan_first : (keyspace : List ℕ) (tables : List TableValue) (s : StreamSaid) (ss : List StreamSaid) (p : PlanValue) (ps : List PlanValue) → IsOfStream keyspace tables s p → AreOf keyspace tables ss ps
-    → (i : ℕ) (plan : PlanValue) → slice_get (p ∷ ps) i ≡ Some plan → (plan.keyspace ≡ keyspace) × (plan.tables ≡ tables) × (AreTables tables → IsPlan plan)
+    → (i : ℕ) (plan : PlanValue) → slice_get (p ∷ ps) i ≡ Some plan → (plan.keyspace ≡ keyspace) × (plan.tables ≡ tables) × IsPlanUnder keyspace tables (s ∷ ss) plan
 plan_first keyspace tables s ss p ps one rest zero plan is =
-    subst (λ (q : PlanValue). (q.keyspace ≡ keyspace) × (q.tables ≡ tables) × (AreTables tables → IsPlan q)) (same_some p plan is) (one.keyspace_is, one.tables_is, one.is_plan)
-plan_first keyspace tables s ss p ps one rest (suc i) plan is = rest.each_plan i plan is
+    subst (λ (q : PlanValue). (q.keyspace ≡ keyspace) × (q.tables ≡ tables) × IsPlanUnder keyspace tables (s ∷ ss) q) (same_some p plan is)
+    (one.keyspace_is, one.tables_is, λ key_text texts fit. one.is_plan key_text (texts 0 s refl) fit)
+plan_first keyspace tables s ss p ps one rest (suc i) plan is =
+    let there = rest.each_plan i plan is in
+    (there.0, there.1, λ key_text texts fit. there.2 key_text (λ j t t_is. texts (suc j) t t_is) fit)
 
 plans_parts : (keyspace : List ℕ) (tables : List TableValue) (n : ℕ) (ss : List StreamSaid) (ps : List PlanValue) → plans_from keyspace tables n ss ≡ Ok ps → AreOf keyspace tables ss ps
 unfolding plans_from
@@ -96,7 +104,7 @@ made_plans text plans whole =
     record {
       count = (omega arith, omega arith);
       shards = subst AreDistinct (sym all.shards) whole.names.shards;
-      each_plan = λ i plan is. (all.each_plan i plan is).2 fit;
+      each_plan = λ i plan is. (all.each_plan i plan is).2 whole.names.keyspace_text whole.names.shard_texts fit;
       same = λ i j plan other plan_is other_is.
           let first = all.each_plan i plan plan_is in
           let second = all.each_plan j other other_is in

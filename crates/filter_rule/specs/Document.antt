@@ -2,12 +2,13 @@
 use Rattle.std.specs.Prelude.{ℕ, ◌^◌, ◌==◌, ◌&&◌, ◌||◌, nat_lt, nat_le, not, List, [], ◌∷◌, ◌++◌, length, map, Bool, false, Option, Some, None, Result, Ok, Err, codes, if◌then◌else◌}
 use Rattle.std.specs.List.{list_all, list_any}
 use Rattle.std.specs.Option.{option_and_then, option_map, ok_or}
-use Rattle.std.specs.Str.{bytes_eq}
+use Rattle.std.specs.Str.{bytes_eq, is_utf8}
 use Rattle.serde_json.specs.Data.{Data, Items, no_items, item}
 use Rattle.serde_json.specs.Find.{get, as_str, as_array, as_number, as_u64}
 use Rattle.vindex.specs.KeyspaceId.{vindex_of_name}
 use Rattle.vindex.specs.declared.vindexes.Vindex.{Vindex}
-use Rattle.filter_rule.specs.Faults.{Fault, shape, ◌>>=◌, each}
+use Rattle.outcome.specs.Outcome.{◌>>=◌, each}
+use Rattle.filter_rule.specs.Faults.{Fault, shape}
 use Rattle.filter_rule.specs.PlanTable.{ColumnValue}
 use Rattle.filter_rule.specs.TypeNumbers.{type_of_name}
 
@@ -49,9 +50,13 @@ found o = ok_or o shape
 abbrev pub member_in : List ℕ → Data → Result Data Fault
 member_in key d = found (get key d)
 
+-- a text is UTF-8, as each text of a JSON value is
+abbrev pub in_utf8 : List ℕ → Option (List ℕ)
+in_utf8 s = if is_utf8 s then Some s else None
+
 -- the text that a value is
 abbrev pub text_of : Data → Result (List ℕ) Fault
-text_of d = found (as_str d)
+text_of d = found (option_and_then in_utf8 (as_str d))
 
 -- the values of the list that a value is
 abbrev pub list_of : Data → Result (List Data) Fault

@@ -22,11 +22,6 @@ meant (errors.NoSuchColumn table column) = Some (no_such_column (string_bytes ta
 meant (errors.KeyType table column) = Some (key_type (string_bytes table) (string_bytes column))
 meant (errors.BadRule stream rule) = Some (bad_rule stream rule)
 
-infixl 10 ◌>>=◌
-abbrev pub ◌>>=◌ : {A B : Type 0} → Result A Fault → (A → Result B Fault) → Result B Fault
-(Ok x) >>= f = f x
-(Err e) >>= f = Err e
-
 -- what is wrong, unless memory ran out
 abbrev pub Fails : {Y : Type 0} → PlanFault → Result Y Fault → Type 0
 Fails errors.Memory read = Unit {0}
@@ -41,11 +36,6 @@ Fails (errors.BadRule stream rule) read = read ≡ Err (bad_rule stream rule)
 abbrev pub Gives : {X Y : Type 0} → (X → Y) → Result X PlanFault → Result Y Fault → Type 0
 Gives view (Ok x) read = read ≡ Ok (view x)
 Gives view (Err e) read = Fails e read
-
--- one after another, up to the first fault
-abbrev pub each : {A B : Type 0} → (A → Result B Fault) → List A → Result (List B) Fault
-each f [] = Ok []
-each f (x ∷ xs) = f x >>= λ y. each f xs >>= λ ys. Ok (y ∷ ys)
 
 -- the number by which a refusal is known
 abbrev pub number_of : PlanFault → ℕ

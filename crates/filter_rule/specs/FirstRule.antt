@@ -2,7 +2,8 @@
 use Rattle.std.specs.Prelude.{◌≡◌, ℕ, ◌+◌, ◌||◌, List, [], ◌∷◌, Bool, Option, Some, None, Result, Ok, codes, MatchOption, slice_get, if◌then◌else◌}
 use Rattle.std.specs.Str.{bytes_eq}
 use Rattle.filter_rule.specs.Document.{RuleSaid, StreamSaid, DocumentSaid, document_of}
-use Rattle.filter_rule.specs.Faults.{Fault, ◌>>=◌}
+use Rattle.outcome.specs.Outcome.{◌>>=◌}
+use Rattle.filter_rule.specs.Faults.{Fault}
 use Rattle.filter_rule.specs.PlanTable.{TableValue}
 use Rattle.filter_rule.specs.PlanValue.{PlanValue}
 use Rattle.filter_rule.specs.Reading.{json_of}

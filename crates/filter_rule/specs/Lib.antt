@@ -9,6 +9,7 @@ pub mod FirstRule
 pub mod PlanTable
 pub mod PlanValue
 pub mod WellFormed
+pub mod Extending
 pub mod Streams
 pub mod Standing
 pub mod Splitting

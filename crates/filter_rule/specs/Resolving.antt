@@ -5,7 +5,8 @@ use Rattle.std.specs.Str.{bytes_eq}
 use Rattle.vindex.specs.declared.vindexes.Vindex.{Vindex}
 use Rattle.vindex.specs.declared.vindexes.Vindex.TheVariants.{Numeric, ReverseBits, Binary, BinaryMd5}
 use Rattle.filter_rule.specs.Document.{TableSaid}
-use Rattle.filter_rule.specs.Faults.{Fault, no_such_column, key_type, ◌>>=◌, each}
+use Rattle.outcome.specs.Outcome.{◌>>=◌, each}
+use Rattle.filter_rule.specs.Faults.{Fault, no_such_column, key_type}
 use Rattle.filter_rule.specs.PlanTable.{ColumnValue, TableValue}
 use Rattle.filter_rule.specs.TypeNumbers.{is_whole_number, is_short_text, is_long_text}
 

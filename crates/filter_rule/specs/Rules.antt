@@ -6,7 +6,8 @@ use Rattle.vindex.specs.declared.vindexes.Vindex.{Vindex}
 use Rattle.filter_text.specs.FilterText.{RowsSaid, every_row, in_own_range, in_range_of, Meaning, filter_of}
 use Rattle.filter_text.specs.RuleScope.{TablesSaid, scope_of, is_for, agrees}
 use Rattle.filter_rule.specs.Document.{RuleSaid}
-use Rattle.filter_rule.specs.Faults.{Fault, bad_rule, ◌>>=◌}
+use Rattle.outcome.specs.Outcome.{◌>>=◌}
+use Rattle.filter_rule.specs.Faults.{Fault, bad_rule}
 use Rattle.filter_rule.specs.PlanTable.{TableValue}
 use Rattle.filter_rule.specs.Resolving.{place_in, vindex_type}
 use Rattle.filter_rule.specs.declared.decision.Decision.{Decision}

@@ -1,6 +1,7 @@
 -- What is true of every plan that a workflow file says, and of all its plans together.
-use Rattle.std.specs.Prelude.{◌≡◌, ℕ, ◌<◌, ◌≤◌, List, Some, length, map, slice_get, IfSome, IsTrue, Bool}
+use Rattle.std.specs.Prelude.{◌≡◌, ℕ, ◌<◌, ◌≤◌, ◌^◌, List, Some, length, map, slice_get, IfSome, IsTrue, Bool}
 use Rattle.std.specs.Option.{option_map_or}
+use Rattle.std.specs.Str.{is_utf8}
 use Rattle.filter_rule.specs.PlanTable.{ColumnValue, TableValue}
 use Rattle.filter_rule.specs.PlanValue.{PlanValue}
 use Rattle.filter_rule.specs.Resolving.{is_key_type, is_vindex_type}
@@ -28,10 +29,17 @@ pub record HasColumn (fits : ℕ → Bool) (columns : List ColumnValue) (place :
   pub within : place < length columns
   pub fit : IsTrue (fits (type_at columns place))
 
+-- a column's name is a text, and the number of its type has 32 bits
+pub record IsColumnDef (column : ColumnValue) : Type 0 where
+  pub name_text : IsTrue (is_utf8 column.name)
+  pub type_bits : column.type_number < 2 ^ 32
+
 -- a table of a plan: its key's columns and its vindex's are there, and have types that a key and this
 -- vindex can take
 pub record IsTable (table : TableValue) : Type 0 where
+  pub name_text : IsTrue (is_utf8 table.name)
   pub column_count : AreUpTo 256 table.columns
+  pub each_column : (i : ℕ) (column : ColumnValue) → slice_get table.columns i ≡ Some column → IsColumnDef column
   pub column_names : AreDistinct (map (λ column. column.name) table.columns)
   pub key_count : AreUpTo 8 table.key
   pub key_places : AreDistinct table.key
@@ -50,8 +58,10 @@ FitsTable table NoRule = Unit {0}
 FitsTable table EveryRow = Unit {0}
 FitsTable table (InRange place vindex range) = HasColumn (is_vindex_type vindex) table.columns place
 
--- a plan: its tables, and a decision for each of them
+-- a plan: its names are texts, its tables, and a decision for each of them
 pub record IsPlan (plan : PlanValue) : Type 0 where
+  pub keyspace_text : IsTrue (is_utf8 plan.keyspace)
+  pub shard_text : IsTrue (is_utf8 plan.shard)
   pub tables : AreTables plan.tables
   pub decided : length plan.decisions ≡ length plan.tables
   pub filters : (t : ℕ) (decision : Decision) (table : TableValue) → slice_get plan.decisions t ≡ Some decision → slice_get plan.tables t ≡ Some table → FitsTable table decision

@@ -2,7 +2,8 @@
 
 ghost use Rattle.std.specs.Prelude.{◌≡◌, List, ℕ, Result, map};
 ghost use Rattle.serde_json.specs.View.{view};
-ghost use Rattle.filter_rule.specs.Faults.{Gives, each};
+ghost use Rattle.outcome.specs.Outcome.{each};
+ghost use Rattle.filter_rule.specs.Faults.{Gives};
 ghost use Rattle.filter_rule.specs.Document.{type_of, column_of, vindex_of, vindex_in, filter_in, rule_of, stream_of, list_apart, table_of, document_of};
 
 use crate::distinct::{HasName, check_distinct};

@@ -1,9 +1,9 @@
 //! Looking into a JSON value.
 
-ghost use Rattle.std.specs.Prelude.{◌≡◌, map};
+ghost use Rattle.std.specs.Prelude.{◌≡◌, Some, map};
 ghost use Rattle.serde_json.specs.View.{view};
 ghost use Rattle.filter_rule.specs.Faults.{Gives};
-ghost use Rattle.filter_rule.specs.Document.{member_in, text_of, list_of, text_in, list_in, pair_of};
+ghost use Rattle.filter_rule.specs.Document.{member_in, in_utf8, text_of, list_of, text_in, list_in, pair_of};
 
 use crate::fault::PlanFault;
 use serde_json::Value;
@@ -18,12 +18,19 @@ pub(crate) fn member<'v>(value: &'v Value, key: &str) -> Result<&'v Value, PlanF
     }
 }
 
+/// The text, which is UTF-8.
+fn in_utf8(text: &str) -> &str
+    ensures { in_utf8 text.now ≡ Some result.now }
+{
+    text
+}
+
 /// A value that is to be a text.
 pub(crate) fn text(value: &Value) -> Result<&str, PlanFault>
     ensures { Gives (λ s. s.now) result (text_of (view value.now)) }
 {
     match value.as_str() {
-        Some(text) => Ok(text),
+        Some(text) => Ok(in_utf8(text)),
         None => Err(PlanFault::Shape),
     }
 }

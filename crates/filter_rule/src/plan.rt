@@ -4,11 +4,12 @@ ghost use Rattle.std.specs.Prelude.{◌≡◌, ◌↔◌, IsTrue, ℕ, ◌<◌, 
 ghost use Rattle.std.specs.Str.{bytes_eq};
 ghost use Rattle.filter_rule.specs.Private.PlanParts.{plan_value};
 ghost use Rattle.filter_rule.specs.WellFormed.{IsPlan, ArePlaces};
+ghost use Rattle.filter_rule.specs.Extending.{IsExtended};
 ghost use Rattle.filter_rule.specs.Splitting.{SplitRow};
 ghost use Rattle.filter_rule.specs.PlanValue.{PlanValue, columns_of, key_columns_of, table_of_name, passes_of};
 
 use crate::decision::Decision;
-use crate::same::all_same;
+use crate::same::{all_same, begins_with};
 use crate::table::{ColumnDef, Table};
 use row_view::RowView;
 use std::marker::Model;
@@ -146,6 +147,19 @@ impl Plan {
         ensures { IsTrue result ↔ (self.now.tables ≡ other.now.tables) }
     {
         all_same(&self.schema.tables, &other.schema.tables)
+    }
+
+    /// Whether this plan is the other with one or more tables appended last, and all else the same for
+    /// the other's tables: keyspace, shard, and each table's columns, types, key, vindex and rule by
+    /// its meaning. Takes no memory.
+    pub fn extends(&self, other: &Plan) -> bool
+        ensures { IsTrue result ↔ IsExtended other.now self.now }
+    {
+        self.schema.keyspace == other.schema.keyspace
+            && self.shard == other.shard
+            && self.schema.tables.len() > other.schema.tables.len()
+            && begins_with(&self.schema.tables, &other.schema.tables)
+            && begins_with(&self.decisions, &other.decisions)
     }
 }
 

@@ -2,7 +2,8 @@
 
 ghost use Rattle.std.specs.Prelude.{◌≡◌, ◌⊎◌, IsErrAnd, List, Ok, Err, IfOk, IfErr, IfSome, map, string_bytes};
 ghost use Rattle.std.specs.Arc.{arc_value};
-ghost use Rattle.filter_rule.specs.Faults.{Gives, each, meant};
+ghost use Rattle.outcome.specs.Outcome.{each};
+ghost use Rattle.filter_rule.specs.Faults.{Gives, meant};
 ghost use Rattle.filter_rule.specs.FirstRule.{FollowFirstRules};
 ghost use Rattle.filter_rule.specs.Private.Accepted.{AreNarrow, IsAccepted};
 ghost use Rattle.filter_rule.specs.Standing.{Stands};

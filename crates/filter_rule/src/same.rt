@@ -1,6 +1,7 @@
 //! Equality of meaning.
 
 ghost use Rattle.std.specs.Prelude.{◌≡◌, ◌↔◌, IsTrue};
+ghost use Rattle.filter_rule.specs.Extending.{BeginsWith};
 
 /// A comparison by what values mean.
 pub(crate) trait Same {
@@ -22,4 +23,14 @@ pub(crate) fn all_same<T: Same>(left: &[T], right: &[T]) -> bool
         }
     }
     true
+}
+
+/// Whether a list begins with another, by what their items mean.
+pub(crate) fn begins_with<T: Same>(whole: &[T], front: &[T]) -> bool
+    ensures { IsTrue result ↔ BeginsWith front.now whole.now }
+{
+    if whole.len() < front.len() {
+        return false;
+    }
+    all_same(&whole[..front.len()], front)
 }

@@ -1,8 +1,9 @@
 -- Joined boards: which boards can be joined, that a joined board is lawful, and which one it is.
-use Rattle.std.proofs.Common.{◌≡◌, ◌≢◌, ◌==◌, ℕ, ◌≤◌, inl, inr, Bool, true, false, cond, le_refl, List, length, Option, Some, None, slice_get, refl, sym, ap, subst, ◌∙◌}
+use Rattle.std.proofs.Common.{◌≡◌, ◌≢◌, ◌==◌, ℕ, suc, ◌≤◌, inl, inr, Bool, true, false, cond, le_refl, List, [], ◌∷◌, length, Option, Some, None, slice_get, refl, sym, ap, subst, ◌∙◌}
 use Rattle.std.proofs.lemmas.List.{length-map, take_all}
 use Rattle.std.proofs.lemmas.Option.{same_Some}
 use borrow.Author.Tests.{eqb-true}
+use Rattle.std.specs.Ordering.{is_lt}
 use Rattle.std.specs.declared.cmp.Ordering.TheVariants.{Equal}
 use Rattle.filter_rule.specs.PlanValue.{PlanValue}
 use Rattle.pk_copy.specs.KeyOrder.{key_cmp}
@@ -13,11 +14,11 @@ use Rattle.board_laws.specs.Cut.{own_row}
 use Rattle.board_laws.specs.Lawful.{IsLawful}
 use Rattle.board_laws.proofs.Following.{same-board}
 use Rattle.board_laws.proofs.Lookups.{Ties}
-use Rattle.join_laws.specs.Order.{state_cmp}
-use Rattle.join_laws.specs.Chosen.{all_chosen}
+use Rattle.join_laws.specs.Order.{state_cmp, running_cmp}
+use Rattle.join_laws.specs.Chosen.{chosen, all_chosen, chosen_running, all_chosen_running}
 use Rattle.join_laws.specs.Joined.{board_of, joined}
 use Rattle.join_laws.specs.Compatible.{plans_of, OfEachStream, AreRunning, IsBeginning, AreOfOneHistory, AreApart, AreCompatible}
-use Rattle.join_laws.proofs.States.{states_tie}
+use Rattle.join_laws.proofs.States.{states_tie, running_states}
 use Rattle.join_laws.proofs.Pairs.{plans, same_plan, partner, one_of_two, chosen_plans, chosen_comm, chosen_itself, chosen_assoc, ChosenInTwo, chosen_in_two}
 use Rattle.join_laws.proofs.Rows.{cut_if, states-lawful}
 
@@ -61,7 +62,6 @@ commutes ties a b la lb compatible =
     let streams : all_chosen a.streams b.streams ≡ all_chosen b.streams a.streams = chosen_comm a.streams b.streams (ties_of ties a b la lb compatible.plans compatible.histories) in (
       record {
         plans = sym compatible.plans;
-        running = λ s x y p q. (let both : AreRunning y x = compatible.running s y x q p in (both.1, both.0));
         histories = λ s x y p q. turned_history y x (compatible.histories s y x q p);
         apart = subst AreApart streams compatible.apart;
       },
@@ -95,12 +95,11 @@ of_its_states ties a lawful =
 whole-begins : (state : State) → IsBeginning state.list state.list
 whole-begins state = take_all (length state.list) state.list (le_refl (length state.list))
 
-pub with_itself : (ties : Ties) (a : Meaning) → IsLawful a → OfEachStream AreRunning a.streams a.streams → AreCompatible a a × (joined a a ≡ a)
-with_itself ties a lawful running =
+pub with_itself : (ties : Ties) (a : Meaning) → IsLawful a → AreCompatible a a × (joined a a ≡ a)
+with_itself ties a lawful =
     let apart : AreApart (all_chosen a.streams a.streams) = subst AreApart (sym (chosen_itself a.streams)) (lawful-apart a lawful) in
     let compatible : AreCompatible a a = record {
       plans = refl;
-      running = running;
       histories = λ s x y p q. inl (subst (λ (z : State). IsBeginning x.list z.list) (same_Some x y (sym p ∙ q)) (whole-begins x));
       apart = apart;
     } in
@@ -137,15 +136,29 @@ associates a b c ab bc ac =
     let streams : all_chosen (all_chosen a.streams b.streams) c.streams ≡ all_chosen a.streams (all_chosen b.streams c.streams) = chosen_assoc a.streams b.streams c.streams in (
       record {
         plans = chosen_plans a.streams b.streams ab.plans ∙ ac.plans;
-        running = of_left AreRunning a.streams b.streams c.streams ac.running bc.running;
         histories = of_left AreOfOneHistory a.streams b.streams c.streams ac.histories bc.histories;
         apart = apart;
       },
       record {
         plans = ab.plans ∙ sym (chosen_plans b.streams c.streams bc.plans);
-        running = of_right AreRunning a.streams b.streams c.streams ab.running ac.running;
         histories = of_right AreOfOneHistory a.streams b.streams c.streams ab.histories ac.histories;
         apart = subst AreApart streams apart;
       },
       ap board_of streams,
     )
+
+-- ---- running boards
+
+running_chosen : (x y : State) → state_cmp x y ≡ running_cmp x y → chosen x y ≡ chosen_running x y
+running_chosen x y e = ap (λ r. cond (is_lt r) y x) e
+
+all_running : (xs ys : List State) → OfEachStream (λ x y. state_cmp x y ≡ running_cmp x y) xs ys → all_chosen xs ys ≡ all_chosen_running xs ys
+all_running [] ys same = refl
+all_running (x ∷ xs) [] same = refl
+all_running (x ∷ xs) (y ∷ ys) same =
+    ap (λ (z : State). z ∷ all_chosen xs ys) (running_chosen x y (same 0 x y refl refl)) ∙ ap (λ (zs : List State). chosen_running x y ∷ zs) (all_running xs ys (λ s. same (suc s)))
+
+pub joined_running : (a b : Meaning) → IsLawful a → IsLawful b → AreCompatible a b → OfEachStream AreRunning a.streams b.streams → joined a b ≡ board_of (all_chosen_running a.streams b.streams)
+joined_running a b la lb compatible running =
+    ap board_of
+    (all_running a.streams b.streams (λ s x y p q. running_states x y (la.sound s x p) (lb.sound s y q) (same_plan a.streams b.streams compatible.plans s x y p q) (running s x y p q)))

@@ -21,9 +21,9 @@ use Rattle.board_laws.specs.Reading.{HasFeed, AllReadTheirFeeds}
 use Rattle.board_laws.specs.Runs.{sound_groups, IsTouchedIn, AreDisjoint}
 use Rattle.board_laws.proofs.Lookups.{Ties}
 use Rattle.join_laws.specs.declared.fault.JoinFault.{JoinFault}
-use Rattle.join_laws.specs.declared.fault.JoinFault.TheVariants.{WrongPlan, NotRunning, HistoriesDiffer, OwnedByOther, Memory}
+use Rattle.join_laws.specs.declared.fault.JoinFault.TheVariants.{WrongPlan, HistoriesDiffer, OwnedByOther, Memory}
 use Rattle.join_laws.specs.Chosen.{all_chosen}
-use Rattle.join_laws.specs.Compatible.{plans_of, OfEachStream, AreRunning, IsBeginning, AreOfOneHistory, AreApart, AreCompatible}
+use Rattle.join_laws.specs.Compatible.{plans_of, OfEachStream, IsBeginning, AreOfOneHistory, AreApart, AreCompatible}
 use Rattle.join_laws.specs.Joined.{rows_from}
 use Rattle.join_laws.specs.Refused.{IsFirstNot, IsFirstClash, IsRefusedJoin}
 use Rattle.join_laws.proofs.Pairs.{one_of_two}
@@ -77,10 +77,9 @@ one_feed feeds s x y p q =
     ]
 
 pub feeds_joined : (feeds : List FeedValue) (a b : Meaning) → AllReadTheirFeeds feeds a → AllReadTheirFeeds feeds b → AreDisjoint feeds
-    → plans_of a ≡ plans_of b → OfEachStream AreRunning a.streams b.streams → AreCompatible a b
-feeds_joined feeds a b reads_a reads_b disjoint plans running = record {
+    → plans_of a ≡ plans_of b → AreCompatible a b
+feeds_joined feeds a b reads_a reads_b disjoint plans = record {
   plans = plans;
-  running = running;
   histories = λ s x y p q. one_feed feeds s x y (reads_a s x p) (reads_b s y q);
   apart = λ s t x y key p q c d.
       let one : HasFeed feeds s x = has s x p in
@@ -126,7 +125,6 @@ not_apart ties states key owner clash apart =
 
 pub none_refused : (ties : Ties) (a b : Meaning) (fault : JoinFault) → AreCompatible a b → IsRefusedJoin a b fault → fault ≡ Memory
 none_refused ties a b WrongPlan compatible refused = absurd (refused compatible.plans)
-none_refused ties a b (NotRunning s) compatible refused = absurd (not_both AreRunning a.streams b.streams s refused.first compatible.running)
 none_refused ties a b (HistoriesDiffer s) compatible refused = absurd (not_both AreOfOneHistory a.streams b.streams s refused.first compatible.histories)
 none_refused ties a b (OwnedByOther key owner) compatible refused = absurd (not_apart ties (all_chosen a.streams b.streams) key owner refused.first compatible.apart)
 none_refused ties a b Memory compatible refused = refl

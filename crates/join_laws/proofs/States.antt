@@ -11,27 +11,24 @@ use Rattle.std.specs.Option.{option_cmp}
 use Rattle.std.specs.Ordering.{nat_cmp, ordering_then, is_lt, is_gt, MatchOrdering}
 use Rattle.filter_rule.specs.PlanValue.{PlanValue}
 use Rattle.pk_copy.specs.KeyOrder.{key_cmp}
-use Rattle.pk_copy.specs.KeyOrderLaws.{key_cmp_total}
 use Rattle.pk_copy.specs.KeyValue.{KeyValue}
-use Rattle.pk_copy.specs.Marks.{Marks, AreMarks, IsOfCurrent}
+use Rattle.pk_copy.specs.Marks.{Marks, AreMarks, IsOfCurrent, marks_cmp}
+use Rattle.pk_copy.specs.MarkOrderLaws.{marks_cmp_total}
 use Rattle.stream_core.specs.Standing.{IsOpenAt}
 use Rattle.source_feed.specs.Touches.{PreparedValue}
 use Rattle.board_laws.specs.Meaning.{State}
 use Rattle.board_laws.specs.Lawful.{IsSoundState, standing_of}
 use Rattle.board_laws.proofs.Lookups.{Ties}
-use Rattle.join_laws.specs.Order.{marks_cmp, ahead_cmp, state_cmp, running_cmp, IsRunning}
+use Rattle.join_laws.specs.Order.{ahead_cmp, state_cmp, running_cmp, IsRunning}
 use Rattle.join_laws.specs.Compatible.{AreRunning, IsBeginning, AreOfOneHistory}
 
 -- ---- a total order
-
-marks_total : IsTotalOrder marks_cmp
-marks_total = then_total (on_total (λ marks. marks.done) nat_cmp_total) (on_total (λ marks. marks.upto) (options_total key_cmp_total))
 
 ahead_total : IsTotalOrder ahead_cmp
 ahead_total = then_total (on_total (λ state. length state.list) nat_cmp_total) (on_total (λ state. state.snapshot) (options_total nat_cmp_total))
 
 pub states_total : IsTotalOrder state_cmp
-states_total = then_total (on_total (λ state. state.applied) nat_cmp_total) (then_total (on_total (λ state. state.marks) marks_total) ahead_total)
+states_total = then_total (on_total (λ state. state.applied) nat_cmp_total) (then_total (on_total (λ state. state.marks) marks_cmp_total) ahead_total)
 
 -- ---- states that tie
 

@@ -28,14 +28,18 @@ IsBeginning front whole = take (length front) whole ≡ front
 abbrev pub AreOfOneHistory : State → State → Type 0
 AreOfOneHistory x y = IsBeginning x.list y.list ⊎ IsBeginning y.list x.list
 
+-- what can be asked of two boards' streams, rows aside
+pub record AreAlike (a b : Meaning) : Type 0 where
+  pub plans : plans_of a ≡ plans_of b
+  pub histories : OfEachStream AreOfOneHistory a.streams b.streams
+
 -- no key has a row in the cuts of two streams
 abbrev pub AreApart : List State → Type 0
 AreApart states =
     (s t : ℕ) (x y : State) (key : KeyValue) → slice_get states s ≡ Some x → slice_get states t ≡ Some y → cut_of x key ≢ None → cut_of y key ≢ None → s ≡ t
 
--- two boards can be joined
+-- two boards can be joined: streams may still copy
 pub record AreCompatible (a b : Meaning) : Type 0 where
   pub plans : plans_of a ≡ plans_of b
-  pub running : OfEachStream AreRunning a.streams b.streams
   pub histories : OfEachStream AreOfOneHistory a.streams b.streams
   pub apart : AreApart (all_chosen a.streams b.streams)

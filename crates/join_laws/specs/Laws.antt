@@ -10,6 +10,7 @@ use Rattle.board_laws.specs.Runs.{AreDisjoint}
 use Rattle.join_laws.specs.declared.fault.JoinFault.{JoinFault}
 use Rattle.join_laws.specs.declared.fault.JoinFault.TheVariants.{Memory}
 use Rattle.join_laws.specs.Order.{state_cmp, running_cmp}
+use Rattle.join_laws.specs.Chosen.{all_chosen_running}
 use Rattle.join_laws.specs.Joined.{board_of, joined}
 use Rattle.join_laws.specs.Compatible.{plans_of, OfEachStream, AreRunning, AreOfOneHistory, AreApart, AreCompatible}
 use Rattle.join_laws.specs.Refused.{IsRefusedJoin}
@@ -48,9 +49,14 @@ JoinsAreLawful = (a b : Meaning) → IsLawful a → IsLawful b → AreCompatible
 abbrev pub JoinsCommute : Type 0
 JoinsCommute = (a b : Meaning) → IsLawful a → IsLawful b → AreCompatible a b → AreCompatible b a × (joined b a ≡ joined a b)
 
+-- boards whose tables are all copied are joined by what is applied and read alone
+abbrev pub RunningJoinsByWhatIsRead : Type 0
+RunningJoinsByWhatIsRead =
+    (a b : Meaning) → IsLawful a → IsLawful b → AreCompatible a b → OfEachStream AreRunning a.streams b.streams → joined a b ≡ board_of (all_chosen_running a.streams b.streams)
+
 -- a board joined with itself is the board
 abbrev pub JoinsWithItself : Type 0
-JoinsWithItself = (a : Meaning) → IsLawful a → OfEachStream AreRunning a.streams a.streams → AreCompatible a a × (joined a a ≡ a)
+JoinsWithItself = (a : Meaning) → IsLawful a → AreCompatible a a × (joined a a ≡ a)
 
 -- three boards of which each two can be joined are joined to the same in either grouping, and can be
 abbrev pub JoinsAssociate : Type 0
@@ -58,11 +64,10 @@ JoinsAssociate =
     (a b c : Meaning) → IsLawful a → IsLawful b → IsLawful c → AreCompatible a b → AreCompatible b c → AreCompatible a c
     → AreCompatible (joined a b) c × AreCompatible a (joined b c) × (joined (joined a b) c ≡ joined a (joined b c))
 
--- boards whose streams read the same feeds, which share no key, and have copied all tables can be joined
+-- boards whose streams read the same feeds, which share no key, can be joined, however far their tables are copied
 abbrev pub DisjointFeedsCanBeJoined : Type 0
 DisjointFeedsCanBeJoined =
-    (feeds : List FeedValue) (a b : Meaning) → AllReadTheirFeeds feeds a → AllReadTheirFeeds feeds b → AreDisjoint feeds
-    → plans_of a ≡ plans_of b → OfEachStream AreRunning a.streams b.streams → AreCompatible a b
+    (feeds : List FeedValue) (a b : Meaning) → AllReadTheirFeeds feeds a → AllReadTheirFeeds feeds b → AreDisjoint feeds → plans_of a ≡ plans_of b → AreCompatible a b
 
 -- ---- refusals
 

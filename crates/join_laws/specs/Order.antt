@@ -3,13 +3,8 @@ use Rattle.std.specs.Prelude.{◌≡◌, length}
 use Rattle.std.specs.Option.{option_cmp}
 use Rattle.std.specs.Ordering.{nat_cmp, on, then_cmp}
 use Rattle.std.specs.declared.cmp.Ordering.{Ordering}
-use Rattle.pk_copy.specs.KeyOrder.{key_cmp}
-use Rattle.pk_copy.specs.Marks.{Marks}
+use Rattle.pk_copy.specs.Marks.{marks_cmp}
 use Rattle.board_laws.specs.Meaning.{State}
-
--- more tables done are above fewer; then a table that is copied up to a key is above one that waits, by that key
-abbrev pub marks_cmp : Marks → Marks → Ordering
-marks_cmp = then_cmp (on (λ marks. marks.done) nat_cmp) (on (λ marks. marks.upto) (option_cmp key_cmp))
 
 -- by the groups that are read; then an open snapshot is above none, by its group
 abbrev pub ahead_cmp : State → State → Ordering

@@ -1,4 +1,4 @@
--- Why two boards aren't joined: the first of four tests that fails (this profile).
+-- Why two boards aren't joined: the first of three tests that fails (this profile).
 use Rattle.std.specs.Prelude.{◌≡◌, ◌≢◌, ℕ, ◌<◌, List, take, Some, slice_get}
 use Rattle.pk_copy.specs.KeyOrder.{key_cmp}
 use Rattle.pk_copy.specs.KeyValue.{KeyValue}
@@ -6,9 +6,9 @@ use Rattle.target_tables.specs.Touches.{IsLeastClash}
 use Rattle.board_laws.specs.Meaning.{State, Meaning}
 use Rattle.board_laws.specs.Step.{due_at}
 use Rattle.join_laws.specs.declared.fault.JoinFault.{JoinFault}
-use Rattle.join_laws.specs.declared.fault.JoinFault.TheVariants.{WrongPlan, NotRunning, HistoriesDiffer, OwnedByOther, Memory}
+use Rattle.join_laws.specs.declared.fault.JoinFault.TheVariants.{WrongPlan, HistoriesDiffer, OwnedByOther, Memory}
 use Rattle.join_laws.specs.Chosen.{all_chosen}
-use Rattle.join_laws.specs.Compatible.{plans_of, OfEachStream, AreRunning, AreOfOneHistory, AreApart}
+use Rattle.join_laws.specs.Compatible.{plans_of, OfEachStream, AreOfOneHistory, AreAlike, AreApart}
 use Rattle.join_laws.specs.Joined.{rows_from}
 
 -- stream s is the first whose two states don't have the fact
@@ -29,28 +29,20 @@ pub record IsFirstClash (states : List State) (key : KeyValue) (owner : ℕ) : T
   pub lower : AreApart (take stream states)
   pub least : IsLeastClash key_cmp (rows_from 0 (take stream states)) stream (due_at state) key owner
 
--- the plans are the same, and a stream isn't running in both
-pub record IsNotRunning (a b : Meaning) (s : ℕ) : Type 0 where
-  pub plans : plans_of a ≡ plans_of b
-  pub first : IsFirstNot AreRunning a.streams b.streams s
-
--- all streams are running, and of one neither read list is a beginning of the other
+-- the plans are the same, and of a stream neither read list is a beginning of the other
 pub record AreOfOtherHistories (a b : Meaning) (s : ℕ) : Type 0 where
   pub plans : plans_of a ≡ plans_of b
-  pub running : OfEachStream AreRunning a.streams b.streams
   pub first : IsFirstNot AreOfOneHistory a.streams b.streams s
 
 -- every stream's lists are of one history, and the chosen states of two streams have rows at one key
 pub record HaveClash (a b : Meaning) (key : KeyValue) (owner : ℕ) : Type 0 where
   pub plans : plans_of a ≡ plans_of b
-  pub running : OfEachStream AreRunning a.streams b.streams
   pub histories : OfEachStream AreOfOneHistory a.streams b.streams
   pub first : IsFirstClash (all_chosen a.streams b.streams) key owner
 
--- what stands where a join is refused
+-- what stands where a join is refused; memory is asked for only where the plans and the histories are right
 abbrev pub IsRefusedJoin : Meaning → Meaning → JoinFault → Type 0
 IsRefusedJoin a b WrongPlan = plans_of a ≢ plans_of b
-IsRefusedJoin a b (NotRunning s) = IsNotRunning a b s
 IsRefusedJoin a b (HistoriesDiffer s) = AreOfOtherHistories a b s
 IsRefusedJoin a b (OwnedByOther key owner) = HaveClash a b key owner
-IsRefusedJoin a b Memory = Unit {0}
+IsRefusedJoin a b Memory = AreAlike a b

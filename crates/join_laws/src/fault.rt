@@ -11,9 +11,6 @@ pub enum JoinFault {
     /// The boards' plans differ.
     #[error("another plan")]
     WrongPlan,
-    /// The least stream that has a table in one of the boards which isn't copied.
-    #[error("stream {0} isn't running")]
-    NotRunning(u8),
     /// The least stream of which neither read list is a beginning of the other.
     #[error("other histories of stream {0}")]
     HistoriesDiffer(u8),
@@ -35,7 +32,6 @@ impl JoinFault {
     {
         match self {
             JoinFault::WrongPlan => 111,
-            JoinFault::NotRunning(_) => 114,
             JoinFault::HistoriesDiffer(_) => 113,
             JoinFault::OwnedByOther { .. } => 71,
             JoinFault::Memory => 72,

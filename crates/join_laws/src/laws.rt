@@ -1,7 +1,7 @@
 //! Laws of joins, each the contract of a function without a body: they hold of the values that contracts
 //! see boards as.
 
-ghost use Rattle.join_laws.specs.Laws.{StatesAreOrdered, StatesThatTieAreEqual, RunningStatesByWhatIsRead, StatesApartAreLawful, BoardsAreOfTheirStates, JoinsAreLawful, JoinsCommute, JoinsWithItself, JoinsAssociate, DisjointFeedsCanBeJoined, CompatibleBoardsAreJoined};
+ghost use Rattle.join_laws.specs.Laws.{StatesAreOrdered, StatesThatTieAreEqual, RunningStatesByWhatIsRead, StatesApartAreLawful, BoardsAreOfTheirStates, JoinsAreLawful, JoinsCommute, JoinsWithItself, JoinsAssociate, RunningJoinsByWhatIsRead, DisjointFeedsCanBeJoined, CompatibleBoardsAreJoined};
 
 use pk_copy::keys_tie_where_they_are_equal;
 
@@ -26,16 +26,18 @@ pub fn joined_boards_are_lawful()
 }
 
 /// Two boards are joined to the same either way round, a board with itself to itself, and three of which
-/// each two can be joined to the same in either grouping, which can be.
+/// each two can be joined to the same in either grouping, which can be. Where all tables are copied only what
+/// is applied and read decides.
 pub fn joins_are_a_greatest_board()
     ensures commute { JoinsCommute }
     ensures itself { JoinsWithItself }
     ensures associate { JoinsAssociate }
+    ensures running { RunningJoinsByWhatIsRead }
 {
     keys_tie_where_they_are_equal();
 }
 
-/// Boards that read the same feeds, which share no key, can always be joined; and boards that can be joined
+/// Boards that read the same feeds, which share no key, can always be joined, also while they copy; and boards that can be joined
 /// are refused for want of memory alone.
 pub fn boards_can_be_joined()
     ensures disjoint { DisjointFeedsCanBeJoined }

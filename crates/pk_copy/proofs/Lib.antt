@@ -5,3 +5,4 @@ mod ReadingLaws
 mod RelationLaws
 mod LeastKey
 pub mod LastpkLaws
+pub mod PartLaws

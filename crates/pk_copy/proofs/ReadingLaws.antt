@@ -1,5 +1,5 @@
 -- The key of a row, one cell after another.
-use Rattle.std.specs.Prelude.{◌≡◌, ℕ, ◌<◌, ◌||◌, Bool, true, false, List, [], ◌∷◌, ◌++◌, length, slice_get, Option, Some, None, Result, Ok, Err, if◌then◌else◌}
+use Rattle.std.specs.Prelude.{◌≡◌, ℕ, ◌<◌, ◌≤◌, ◌||◌, Bool, true, false, List, [], ◌∷◌, ◌++◌, length, slice_get, Option, Some, None, Result, Ok, Err, if◌then◌else◌}
 use Rattle.std.specs.List.{list_any, filter_map}
 use Rattle.std.specs.Option.{is_some, option_map_or}
 use Rattle.std.proofs.Common.{refl, ap, ◌∙◌, get_or}
@@ -53,6 +53,9 @@ key_columns_of-at plan t table stands = ap (λ found. option_map_or (λ (table :
 
 pub key_places : (plan : PlanValue) (t : ℕ) (table : TableValue) → IsPlan plan → slice_get plan.tables t ≡ Some table → ArePlaces table.columns table.key
 key_places plan t table sound stands i place at = ((sound.tables.each_table t table stands).key_columns i place at).within
+
+pub key_few : (plan : PlanValue) (t : ℕ) (table : TableValue) → IsPlan plan → slice_get plan.tables t ≡ Some table → length table.key ≤ 8
+key_few plan t table sound stands = (sound.tables.each_table t table stands).key_count.1
 
 pub table_at : (tables listed : List TableValue) (t i : ℕ) (table : TableValue) → listed ≡ tables → i ≡ t → t < length tables → table ≡ get_or listed i table → slice_get tables t ≡ Some table
 table_at tables listed t i table same at within read =

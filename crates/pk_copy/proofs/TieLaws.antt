@@ -1,15 +1,18 @@
--- Keys that the order doesn't tell apart are equal.
-use Rattle.std.specs.Prelude.{◌≡◌, ◌↔◌, List, [], ◌∷◌}
+-- Keys that the order doesn't tell apart are equal, and so are marks of as many tables.
+use Rattle.std.specs.Prelude.{◌≡◌, ◌↔◌, List, [], ◌∷◌, Option, Some, None}
 use Rattle.std.proofs.Common.{refl, sym, ap, subst}
 use Rattle.std.proofs.lemmas.Bool.{true≢false}
 use Rattle.std.proofs.lemmas.Cmp.{ranked, int_ranked, tied_itself}
 use Rattle.std.specs.Cmp.Lexicographic.{slice_cmp}
+use Rattle.std.specs.Option.{option_cmp}
 use Rattle.std.specs.Ordering.{ordering_then, is_lt, is_gt, nat_cmp}
 use Rattle.std.specs.declared.cmp.Ordering.{Ordering}
 use Rattle.std.specs.declared.cmp.Ordering.TheVariants.{Less, Equal, Greater}
 use Rattle.pk_copy.specs.KeyValue.{Part, number, bytes, KeyValue}
 use Rattle.pk_copy.specs.KeyOrder.{part_cmp, parts_cmp, key_cmp}
 use Rattle.pk_copy.specs.KeyOrderLaws.{key_cmp_total}
+use Rattle.pk_copy.specs.Marks.{marks_cmp, MarksTieWhereEqual}
+use Rattle.pk_copy.specs.MarkOrderLaws.{marks_cmp_total}
 
 -- two answers tie together only where each does
 both-tie : (r s : Ordering) → ordering_then r s ≡ Equal → (r ≡ Equal) × (s ≡ Equal)
@@ -42,4 +45,22 @@ keys-tie a b = (
       let parts : a.parts ≡ b.parts = lists-tie part_cmp parts-tie a.parts b.parts both.1 in
       λ i. record { table = tables i; parts = parts i },
   λ same. subst (λ key. key_cmp a key ≡ Equal) same (tied_itself key_cmp_total a),
+)
+
+-- ---- marks
+
+options-tie : {X : Type 0} (R : X → X → Ordering) → ((x y : X) → R x y ≡ Equal → x ≡ y) → (p q : Option X) → option_cmp R p q ≡ Equal → p ≡ q
+options-tie R same None None tie = refl
+options-tie R same None (Some y) tie = absurd (true≢false (ap is_lt tie))
+options-tie R same (Some x) None tie = absurd (true≢false (ap is_gt tie))
+options-tie R same (Some x) (Some y) tie = ap Some (same x y tie)
+
+pub marks-tie : MarksTieWhereEqual
+marks-tie x y tables = (
+  λ tie.
+      let both = both-tie (nat_cmp x.done y.done) (option_cmp key_cmp x.upto y.upto) tie in
+      let done : x.done ≡ y.done = ranked x.done y.done Equal (sym both.0) in
+      let upto : x.upto ≡ y.upto = options-tie key_cmp (λ a b e. (keys-tie a b).0 e) x.upto y.upto both.1 in
+      λ i. record { tables = tables i; done = done i; upto = upto i },
+  λ same. subst (λ marks. marks_cmp x marks ≡ Equal) same (tied_itself marks_cmp_total x),
 )

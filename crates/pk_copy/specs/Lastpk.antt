@@ -1,6 +1,6 @@
 -- The key of the last row that was copied, as a row of just the key columns in key order
 -- (`binlogdata.proto`, VStreamRowsResponse, lastpk).
-use Rattle.std.specs.Prelude.{◌≡◌, ℕ, List, [], ◌∷◌, map, Option, Some, Result, Ok}
+use Rattle.std.specs.Prelude.{◌≡◌, ℕ, ◌<◌, length, List, [], ◌∷◌, map, Option, Some, Result, Ok}
 use Rattle.vindex.specs.NumberText.{shortest_text}
 use Rattle.filter_rule.specs.PlanTable.{ColumnValue}
 use Rattle.filter_rule.specs.PlanValue.{PlanValue, columns_of, key_columns_of}
@@ -46,3 +46,21 @@ key_of_lastpk plan t row = key_in t (last_cells plan t row)
 abbrev pub LastpksAreReadAgain : Type 0
 LastpksAreReadAgain = (plan : PlanValue) (t : ℕ) (row : List (Option (List ℕ))) (key : KeyValue)
     → AreParts key.parts → key_of plan t row ≡ Ok key → key_of_lastpk plan t (lastpk_of key) ≡ Ok key
+
+-- ---- keys of a table
+
+-- the key is one of a table of the plan: it has a part for each key column, and its row is read as it
+pub record IsTableKey (plan : PlanValue) (key : KeyValue) : Type 0 where
+  pub table : key.table < length plan.tables
+  pub count : length key.parts ≡ length (key_columns_of plan key.table)
+  pub read : key_of_lastpk plan key.table (lastpk_of key) ≡ Ok key
+
+-- the key of a row of a table is one of the table
+abbrev pub KeysOfRowsAreTableKeys : Type 0
+KeysOfRowsAreTableKeys = (plan : PlanValue) (t : ℕ) (row : List (Option (List ℕ))) (key : KeyValue)
+    → t < length plan.tables → AreParts key.parts → key_of plan t row ≡ Ok key → IsTableKey plan key
+
+-- the key that a row of just the key columns is read as is one of the table
+abbrev pub KeysReadAreTableKeys : Type 0
+KeysReadAreTableKeys = (plan : PlanValue) (t : ℕ) (row : List (Option (List ℕ))) (key : KeyValue)
+    → t < length plan.tables → length row ≡ length (key_columns_of plan t) → AreParts key.parts → key_of_lastpk plan t row ≡ Ok key → IsTableKey plan key

@@ -6,6 +6,7 @@ pub mod PartValue
 pub mod SmallPartValue
 pub mod KeyOf
 pub mod Marks
+pub mod MarkOrderLaws
 pub mod MarkView
 pub mod Lastpk
 pub mod PartTextValue

@@ -1,6 +1,9 @@
 -- How far the tables of a stream are copied (this profile, after Vitess's `copy_state`).
-use Rattle.std.specs.Prelude.{◌≡◌, ℕ, ◌+◌, ◌<◌, ◌≤◌, ◌==◌, ◌&&◌, nat_lt, Bool, true, false, IsTrue, Option, Some, None, IfSome, if◌then◌else◌}
-use Rattle.std.specs.Ordering.{is_le, is_gt}
+use Rattle.std.specs.Prelude.{◌≡◌, ◌↔◌, ℕ, ◌+◌, ◌<◌, ◌≤◌, ◌==◌, ◌&&◌, nat_lt, Bool, true, false, IsTrue, Option, Some, None, IfSome, if◌then◌else◌}
+use Rattle.std.specs.Option.{option_cmp}
+use Rattle.std.specs.Ordering.{nat_cmp, on, then_cmp, is_le, is_gt}
+use Rattle.std.specs.declared.cmp.Ordering.{Ordering}
+use Rattle.std.specs.declared.cmp.Ordering.TheVariants.{Equal}
 use Rattle.pk_copy.specs.KeyValue.{KeyValue}
 use Rattle.pk_copy.specs.KeyOrder.{key_cmp}
 
@@ -57,6 +60,16 @@ is_beyond (Some last) key = is_gt (key_cmp key last)
 -- the key is still to be copied out of the current table
 abbrev pub is_past : Marks → KeyValue → Bool
 is_past marks key = nat_lt marks.done marks.tables && (key.table == marks.done && is_beyond marks.upto key)
+
+-- ---- how far on
+
+-- more tables done are above fewer; then a table that is copied up to a key is above one that waits, by that key
+abbrev pub marks_cmp : Marks → Marks → Ordering
+marks_cmp = then_cmp (on (λ marks. marks.done) nat_cmp) (on (λ marks. marks.upto) (option_cmp key_cmp))
+
+-- marks of as many tables tie exactly where they are equal
+abbrev pub MarksTieWhereEqual : Type 0
+MarksTieWhereEqual = (x y : Marks) → x.tables ≡ y.tables → (marks_cmp x y ≡ Equal) ↔ (x ≡ y)
 
 -- ---- moves
 

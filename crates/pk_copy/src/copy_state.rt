@@ -1,13 +1,14 @@
 //! How far the tables of a stream are copied.
 
 ghost use Rattle.std.specs.Prelude.{◌≡◌, ◌<◌, ◌↔◌, IsTrue, IfOk, None};
-ghost use Rattle.pk_copy.specs.Marks.{AreMarks, KeepsInside, mark_of, is_inside, is_past, moved_to, next_table};
+ghost use Rattle.pk_copy.specs.Marks.{AreMarks, KeepsInside, mark_of, is_inside, is_past, marks_cmp, moved_to, next_table};
 ghost use Rattle.pk_copy.specs.MarkView.{mark_value};
 
 use crate::key::Key;
 use crate::mark::Mark;
 use crate::view::KeyView;
 use std::alloc::{AllocError, Global};
+use std::cmp::Ordering;
 use std::marker::Model;
 
 /// How far the tables of a stream are copied, in the plan's order: the first ones are done, then one may
@@ -101,6 +102,16 @@ impl CopyState {
             None => true,
             Some(last) => key.cmp(&last.view()).is_gt(),
         }
+    }
+
+    /// How far on these marks are beside others of as many tables: more tables done are further on than
+    /// fewer, then a mark up to a key is further on than none, by that key. That there are as many tables is
+    /// the caller's. Takes no memory.
+    pub fn further(&self, other: &CopyState) -> Ordering
+        requires { self.now.tables ≡ other.now.tables }
+        ensures { result ≡ marks_cmp self.now other.now }
+    {
+        self.done.cmp(&other.done).then(self.upto.cmp(&other.upto))
     }
 
     /// The first table that isn't done is copied up to a key of it. That `past` holds of this

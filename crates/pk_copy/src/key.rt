@@ -1,14 +1,14 @@
 //! A key in memory of its own.
 
-ghost use Rattle.std.specs.Prelude.{◌≡◌, IfOk, map};
+ghost use Rattle.std.specs.Prelude.{◌≡◌, IfOk};
 ghost use Rattle.std.specs.Ordering.{eq_by_cmp, as_partial_cmp};
 ghost use Rattle.std.specs.Cmp.{partial_equiv_from_equiv, eq_by_cmp_equiv, partial_order_from_total};
 ghost use Rattle.pk_copy.specs.KeyOrder.{key_cmp};
 ghost use Rattle.pk_copy.specs.KeyOrderLaws.{key_cmp_total};
 
+use crate::kept::{KeptKey, compare};
 use crate::owned::OwnedPart;
 use crate::view::KeyView;
-use arrayvec::ArrayVec;
 use std::alloc::{AllocError, Global};
 use std::cmp::Ordering;
 use std::marker::Model;
@@ -17,36 +17,36 @@ use std::marker::Model;
 /// order. Keys are equal and ordered as their views.
 #[derive(Debug, Drop)]
 pub struct Key {
-    table: u8,
-    parts: Vec<OwnedPart>,
+    kept: KeptKey,
 }
 
 impl Model for Key {
-    ghost use Rattle.std.specs.Prelude.{map};
     ghost use Rattle.pk_copy.specs.KeyValue.{KeyValue, AreParts};
-    ghost use Rattle.pk_copy.specs.PartValue.{owned_value};
+    ghost use Rattle.pk_copy.specs.PartValue.{kept_key};
 
     ghost Value = { KeyValue };
 
-    ghost view = { λ k. record { table = k.table; parts = map owned_value k.parts.items } };
+    ghost view = { λ k. kept_key k.kept };
 
-    ghost invariant = { λ k. AreParts (map owned_value k.parts.items) };
+    ghost invariant = { λ k. let key = kept_key k.kept in AreParts key.parts };
 }
 
 impl Key {
-    ghost use Rattle.pk_copy.specs.PartValue.{owned_value};
-
-    /// A copy of a lent key. An error is want of memory.
+    /// A copy of a lent key. Takes no memory for a number alone; an error is want of it.
     pub fn from_view(alloc: Global, view: &KeyView<'_>) -> Result<Key, AllocError>
         ensures { IfOk result (λ key. key ≡ view.now) }
     {
+        let table = view.table();
+        if let [part] = view.parts() {
+            let kept = KeptKey::of_one(alloc, table, *part)?;
+            return Ok(Key { kept });
+        }
         let mut parts = Vec::with_capacity(alloc, view.parts().len())?;
         for part in view.parts() {
             parts.push(OwnedPart::from_part(alloc, *part)?)?;
         }
         Ok(Key {
-            table: view.table(),
-            parts,
+            kept: KeptKey::Several(table, parts),
         })
     }
 
@@ -54,14 +54,10 @@ impl Key {
     pub fn view(&self) -> KeyView<'_>
         ensures { result ≡ self.now }
     {
-        let mut parts = ArrayVec::new();
-        for part in &self.parts {
-            parts.push(part.lent());
-        }
-        KeyView::new(self.table, parts)
+        self.kept.view()
     }
 
-    /// A copy of the key. An error is want of memory.
+    /// A copy of the key. Takes no memory for a number alone; an error is want of it.
     pub fn try_clone(&self, alloc: Global) -> Result<Key, AllocError>
         ensures { IfOk result (λ key. key ≡ self.now) }
     {
@@ -72,14 +68,7 @@ impl Key {
     pub fn table(&self) -> u8
         ensures { result ≡ self.now.table }
     {
-        self.table
-    }
-
-    /// The key's parts, in key order.
-    fn parts(&self) -> &[OwnedPart]
-        ensures { map owned_value result.now ≡ self.now.parts }
-    {
-        self.parts.as_slice()
+        self.kept.table()
     }
 }
 
@@ -119,8 +108,6 @@ impl Ord for Key {
     ghost matches_eq = { λ _ _. refl };
 
     fn cmp(&self, other: &Self) -> Ordering {
-        self.table()
-            .cmp(&other.table())
-            .then(self.parts().cmp(other.parts()))
+        compare(&self.kept, &other.kept)
     }
 }

@@ -1,12 +1,21 @@
-//! Laws of keys, each the contract of a function without a body: they hold of the values that contracts
-//! see a key as.
+//! Laws of keys and of marks, each the contract of a function without a body: they hold of the values that
+//! contracts see them as.
 
 ghost use Rattle.std.specs.Prelude.{◌≡◌, ◌↔◌};
+ghost use Rattle.std.specs.Cmp.{IsTotalOrder};
 ghost use Rattle.std.specs.declared.cmp.Ordering.TheVariants.{Equal};
 ghost use Rattle.pk_copy.specs.KeyValue.{KeyValue};
 ghost use Rattle.pk_copy.specs.KeyOrder.{key_cmp};
+ghost use Rattle.pk_copy.specs.Marks.{marks_cmp, MarksTieWhereEqual};
 
 /// The order of keys holds two keys equal exactly where they have the same table and the same parts.
 pub fn keys_tie_where_they_are_equal()
     ensures { (a b : KeyValue) → (key_cmp a b ≡ Equal) ↔ (a ≡ b) }
+{}
+
+/// Of marks of as many tables the order by how far on they are is total, and holds two of them equal exactly
+/// where they are.
+pub fn marks_tie_where_they_are_equal()
+    ensures total { IsTotalOrder marks_cmp }
+    ensures ties { MarksTieWhereEqual }
 {}

@@ -4,8 +4,9 @@ ghost use Rattle.std.specs.Prelude.{◌≡◌, [], false, IfOk, map};
 ghost use Rattle.std.specs.Ordering.{eq_by_cmp, as_partial_cmp, is_lt};
 ghost use Rattle.std.specs.Cmp.{partial_equiv_from_equiv, eq_by_cmp_equiv, partial_order_from_total};
 ghost use Rattle.pk_copy.specs.KeyValue.{KeyValue, AreParts};
-ghost use Rattle.pk_copy.specs.KeyOrder.{key_cmp};
+ghost use Rattle.pk_copy.specs.KeyOrder.{key_cmp, parts_cmp};
 ghost use Rattle.pk_copy.specs.KeyOrderLaws.{key_cmp_total};
+ghost use Rattle.pk_copy.specs.SmallPartValue.{small_value, kept_parts};
 
 use crate::small_part::SmallPart;
 use crate::view::KeyView;
@@ -23,7 +24,15 @@ pub(crate) enum Parts<'b> {
 }
 
 impl<'b> Parts<'b> {
-    ghost use Rattle.pk_copy.specs.SmallPartValue.{kept_parts};
+    /// The parts, in key order.
+    fn list(&self) -> &[SmallPart<'b>]
+        ensures { map small_value result.now ≡ kept_parts self.now }
+    {
+        match self {
+            Parts::One(part) => slice::from_ref(part),
+            Parts::Several(parts) => parts.as_slice(),
+        }
+    }
 
     /// The same parts again. Takes memory for several parts alone.
     fn try_clone(&self, alloc: Global) -> Result<Parts<'b>, AllocError>
@@ -33,6 +42,16 @@ impl<'b> Parts<'b> {
             Parts::One(part) => Ok(Parts::One(*part)),
             Parts::Several(parts) => Ok(Parts::Several(Vec::from_slice(alloc, parts)?)),
         }
+    }
+}
+
+/// The order of two keys' parts: of two keys of one part each it is that of these parts.
+fn compare(one: &Parts<'_>, other: &Parts<'_>) -> Ordering
+    ensures { result ≡ parts_cmp (kept_parts one.now) (kept_parts other.now) }
+{
+    match (one, other) {
+        (Parts::One(part), Parts::One(beside)) => part.cmp(beside),
+        _ => one.list().cmp(other.list()),
     }
 }
 
@@ -57,8 +76,6 @@ impl<'b> Model for LentKey<'b> {
 }
 
 impl<'b> LentKey<'b> {
-    ghost use Rattle.pk_copy.specs.SmallPartValue.{small_value};
-
     /// The same key, kept. Takes memory for several parts alone; an error is want of it.
     pub fn from_view(alloc: Global, view: &KeyView<'b>) -> Result<LentKey<'b>, AllocError>
         ensures { IfOk result (λ key. key ≡ view.now) }
@@ -93,6 +110,9 @@ impl<'b> LentKey<'b> {
     pub fn view(&self) -> KeyView<'b>
         ensures { result ≡ self.now }
     {
+        if let [part] = self.parts() {
+            return KeyView::of_one(self.table, part.lent());
+        }
         let mut parts = ArrayVec::new();
         for part in self.parts() {
             parts.push(part.lent());
@@ -122,10 +142,7 @@ impl<'b> LentKey<'b> {
         ensures parts { map small_value result.now ≡ self.now.parts }
         ensures within { AreParts self.now.parts }
     {
-        match &self.parts {
-            Parts::One(part) => slice::from_ref(part),
-            Parts::Several(parts) => parts.as_slice(),
-        }
+        self.parts.list()
     }
 }
 
@@ -167,6 +184,6 @@ impl Ord for LentKey<'_> {
     fn cmp(&self, other: &Self) -> Ordering {
         self.table()
             .cmp(&other.table())
-            .then(self.parts().cmp(other.parts()))
+            .then(compare(&self.parts, &other.parts))
     }
 }

@@ -4,6 +4,7 @@
 
 mod copy_state;
 mod fault;
+mod kept;
 mod key;
 mod lastpk;
 mod lastpk_laws;
@@ -21,8 +22,8 @@ pub use copy_state::CopyState;
 pub use fault::KeyFault;
 pub use key::Key;
 pub use lastpk::key_of_lastpk;
-pub use lastpk_laws::lastpks_are_read_again;
-pub use laws::keys_tie_where_they_are_equal;
+pub use lastpk_laws::{keys_read_are_table_keys, lastpks_are_read_again};
+pub use laws::{keys_tie_where_they_are_equal, marks_tie_where_they_are_equal};
 pub use lent::LentKey;
 pub use mark::Mark;
 pub use part::KeyPart;

@@ -49,6 +49,12 @@ fn key_at<'b>(
     requires width { length row.now ≡ length columns.now }
     ensures { result ≡ key_in t (map (cell_at columns.now row.now) places.now) }
 {
+    if let [place] = places {
+        return match part_at(columns, row, *place) {
+            Ok(part) => Ok(KeyView::of_one(t, part)),
+            Err(fault) => Err(fault),
+        };
+    }
     let mut parts = ArrayVec::new();
     let mut is_bad = false;
     for place in places {

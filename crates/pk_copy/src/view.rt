@@ -1,10 +1,10 @@
 //! A key, lent from a row.
 
-ghost use Rattle.std.specs.Prelude.{◌≡◌, map};
+ghost use Rattle.std.specs.Prelude.{◌≡◌, [], ◌∷◌, map};
 ghost use Rattle.std.specs.Ordering.{eq_by_cmp, as_partial_cmp};
 ghost use Rattle.std.specs.Cmp.{partial_equiv_from_equiv, eq_by_cmp_equiv, partial_order_from_total};
-ghost use Rattle.pk_copy.specs.KeyValue.{AreParts};
-ghost use Rattle.pk_copy.specs.PartValue.{part_value};
+ghost use Rattle.pk_copy.specs.KeyValue.{IsPart, AreParts};
+ghost use Rattle.pk_copy.specs.PartValue.{part_value, viewed_key};
 ghost use Rattle.pk_copy.specs.KeyOrder.{key_cmp};
 ghost use Rattle.pk_copy.specs.KeyOrderLaws.{key_cmp_total};
 
@@ -12,25 +12,66 @@ use crate::part::KeyPart;
 use arrayvec::ArrayVec;
 use std::cmp::Ordering;
 use std::marker::Model;
+use std::slice;
+
+/// The number of a table and the parts of a key of it: one alone, or none or several in the room of eight.
+#[derive(Drop)]
+pub(crate) enum ViewedKey<'b> {
+    One(u8, KeyPart<'b>),
+    Several(u8, ArrayVec<KeyPart<'b>, 8>),
+}
+
+impl<'b> ViewedKey<'b> {
+    /// The number of the key's table.
+    fn table(&self) -> u8
+        ensures { let key = viewed_key self.now in result ≡ key.table }
+    {
+        match self {
+            ViewedKey::One(table, _) => *table,
+            ViewedKey::Several(table, _) => *table,
+        }
+    }
+
+    /// The key's parts, in key order.
+    fn list(&self) -> &[KeyPart<'b>]
+        ensures { let key = viewed_key self.now in map part_value result.now ≡ key.parts }
+    {
+        match self {
+            ViewedKey::One(_, part) => slice::from_ref(part),
+            ViewedKey::Several(_, parts) => parts.as_slice(),
+        }
+    }
+}
+
+/// The order of two keys.
+fn compare(one: &ViewedKey<'_>, other: &ViewedKey<'_>) -> Ordering
+    ensures { result ≡ key_cmp (viewed_key one.now) (viewed_key other.now) }
+{
+    match (one, other) {
+        (ViewedKey::One(t, x), ViewedKey::One(u, y)) => t.cmp(u).then(x.cmp(y)),
+        _ => one
+            .table()
+            .cmp(&other.table())
+            .then(one.list().cmp(other.list())),
+    }
+}
 
 /// A row's key: the number of its table in the plan and up to eight parts in key order, lent from the
 /// row. Views are equal and ordered as the keys that they show: by table, then part by part.
 #[derive(Drop)]
 pub struct KeyView<'b> {
-    table: u8,
-    parts: ArrayVec<KeyPart<'b>, 8>,
+    key: ViewedKey<'b>,
 }
 
 impl<'b> Model for KeyView<'b> {
-    ghost use Rattle.std.specs.Prelude.{map};
     ghost use Rattle.pk_copy.specs.KeyValue.{KeyValue, AreParts};
-    ghost use Rattle.pk_copy.specs.PartValue.{part_value};
+    ghost use Rattle.pk_copy.specs.PartValue.{viewed_key};
 
     ghost Value = { KeyValue };
 
-    ghost view = { λ k. record { table = k.table; parts = map part_value k.parts.items } };
+    ghost view = { λ k. viewed_key k.key };
 
-    ghost invariant = { λ k. AreParts (map part_value k.parts.items) };
+    ghost invariant = { λ k. let key = viewed_key k.key in AreParts key.parts };
 }
 
 impl<'b> KeyView<'b> {
@@ -39,14 +80,26 @@ impl<'b> KeyView<'b> {
         requires { AreParts (map part_value parts.items) }
         ensures { result ≡ record { table = table; parts = map part_value parts.entry.items } }
     {
-        KeyView { table, parts }
+        KeyView {
+            key: ViewedKey::Several(table, parts),
+        }
+    }
+
+    /// The key of a table with this part alone.
+    pub(crate) fn of_one(table: u8, part: KeyPart<'b>) -> KeyView<'b>
+        requires { IsPart (part_value part) }
+        ensures { result ≡ record { table = table; parts = part_value part.entry ∷ [] } }
+    {
+        KeyView {
+            key: ViewedKey::One(table, part),
+        }
     }
 
     /// The number of the key's table in the plan.
     pub fn table(&self) -> u8
         ensures { result ≡ self.now.table }
     {
-        self.table
+        self.key.table()
     }
 
     /// The key's parts, in key order: eight at most, their numbers from -2^63 to 2^64 - 1.
@@ -54,7 +107,7 @@ impl<'b> KeyView<'b> {
         ensures parts { map part_value result.now ≡ self.now.parts }
         ensures within { AreParts self.now.parts }
     {
-        self.parts.as_slice()
+        self.key.list()
     }
 }
 
@@ -94,8 +147,6 @@ impl Ord for KeyView<'_> {
     ghost matches_eq = { λ _ _. refl };
 
     fn cmp(&self, other: &Self) -> Ordering {
-        self.table()
-            .cmp(&other.table())
-            .then(self.parts().cmp(other.parts()))
+        compare(&self.key, &other.key)
     }
 }

@@ -152,16 +152,22 @@ const SAME: &[(&str, &str)] = &[
     ("aB-Cd00", "AB-cD"),
 ];
 
-/// Whether the texts of each row are the same range.
+/// Whether the texts of each row are the same range, and a copy of it is.
 fn are_same(alloc: Global, rows: &[(&str, &str)]) -> Result<bool, VindexFault> {
     for (one, other) in rows {
         let one = KeyRange::parse(alloc, one)?;
         let other = KeyRange::parse(alloc, other)?;
-        if !one.same(&other) {
+        if !one.same(&other) || !is_copied(alloc, &one)? {
             return Ok(false);
         }
     }
     Ok(true)
+}
+
+/// Whether a copy of a range has its bounds.
+fn is_copied(alloc: Global, range: &KeyRange) -> Result<bool, AllocError> {
+    let copy = range.try_clone(alloc)?;
+    Ok(copy.same(range) && copy.start() == range.start() && copy.end() == range.end())
 }
 
 #[test]

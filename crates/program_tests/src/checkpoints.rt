@@ -6,7 +6,7 @@ use std::alloc::{AllocError, Global};
 use std::io::Cursor;
 use std::test::Fail;
 use vdiff_core::Writer;
-use vrepl_main::save::save;
+use vrepl_main::save;
 
 /// The checkpoint of the board that has copied and applied the group of one row.
 pub const SAVED: &[u8] =

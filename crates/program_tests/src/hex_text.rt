@@ -2,7 +2,7 @@
 
 use std::alloc::{AllocError, Global};
 use std::test::Fail;
-use vrepl_main::hex_text::{HexFault, bytes_of_hex};
+use vrepl_main::{HexFault, bytes_of_hex};
 
 /// The text spells these bytes, or is none; an error where memory was wanting.
 fn spells(alloc: Global, text: &str, wanted: Option<&[u8]>) -> Result<bool, AllocError> {

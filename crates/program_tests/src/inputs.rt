@@ -4,7 +4,7 @@ use std::alloc::{AllocError, Global};
 use std::io;
 use std::io::Read;
 use std::test::Fail;
-use vrepl_main::input::{InputFault, read_whole, read_within};
+use vrepl_main::{InputFault, read_whole, read_within};
 
 /// Whether there were bytes in place of a fault; an error where memory was wanting.
 fn is_there(read: Result<Vec<u8>, InputFault>) -> Result<bool, AllocError> {

@@ -6,7 +6,7 @@ use std::alloc::{AllocError, Global};
 use std::io::Cursor;
 use std::test::Fail;
 use vdiff_core::{Gathered, Writer, add_cell, put_all};
-use vrepl_main::output::put_text;
+use vrepl_main::put_text;
 
 /// Whether three bytes are put into this room.
 fn puts_abc(room: &mut [u8]) -> bool {

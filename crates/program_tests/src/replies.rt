@@ -7,8 +7,7 @@ use std::alloc::{AllocError, Global};
 use std::io::Cursor;
 use std::test::Fail;
 use vdiff_core::Writer;
-use vrepl_main::resume::resume;
-use vrepl_main::step::step;
+use vrepl_main::{resume, step};
 
 /// The status of `step` over one feed, with its replies in `out` and its line on standard error in `err`.
 fn status_of(

@@ -6,15 +6,7 @@ use std::alloc::{AllocError, Global};
 use std::io::Cursor;
 use std::test::Fail;
 use vdiff_core::Writer;
-use vrepl_main::show::show;
-use vrepl_main::source::Source;
-use vrepl_main::vdiff::vdiff;
-
-/// Keyspace and shard where the words give none.
-const NOBODY: Source<'static> = Source {
-    keyspace: "",
-    shard: "",
-};
+use vrepl_main::{show, vdiff};
 
 /// What is shown of the feed of one row.
 const SHOWN: &[u8] = b"group 1 3e11fa47-71ca-11e1-9e33-c80aa9429562:1\n+ t\tx31\tx6162\n";
@@ -24,7 +16,7 @@ fn show_is_cut(alloc: Global, room: &mut [u8]) -> Result<bool, AllocError> {
     let mut err = [0u8; 64];
     let mut out = Writer::new(Cursor::new(&mut room[..]));
     let mut line = Writer::new(Cursor::new(&mut err[..]));
-    let status = show(alloc, true, ONE_ROW.as_bytes(), NOBODY, &mut out, &mut line);
+    let status = show(alloc, true, ONE_ROW.as_bytes(), "", "", &mut out, &mut line);
     is_cut(status, &room[..], &err, SHOWN)
 }
 

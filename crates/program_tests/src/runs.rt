@@ -9,7 +9,7 @@ use std::test::*;
 use std::thread::Threads;
 use stream_worker::Policy;
 use vdiff_core::Writer;
-use vrepl_main::run::run;
+use vrepl_main::run;
 
 /// The run was refused with this beginning of a line, and has printed nothing; an error where memory was wanting.
 fn is_refused(status: u8, out: &[u8], err: &[u8], line: &[u8]) -> Result<bool, AllocError> {

@@ -142,11 +142,12 @@ impl<'b> RowView<'b> {
         }
     }
 
-    /// Whether the other row has the same columns, NULL and empty bytes told apart. Takes no memory.
+    /// Whether the other row has the same columns, NULL and empty bytes told apart. Equal
+    /// bytes are the same row at once; else the columns are compared. Takes no memory.
     pub fn same(&self, other: &RowView<'_>) -> bool
         ensures { IsTrue result ↔ (self.now ≡ other.now) }
     {
-        are_same(self.columns(), other.columns())
+        self.message == other.message || are_same(self.columns(), other.columns())
     }
 }
 

@@ -69,12 +69,6 @@ touched-own (Some put) there own = by (option_and_then passing put) there own
     by None None own = refl
     by None (Some there) own = ap (λ n. option_map (λ (x : ℕ × RowValue). x.1) (cond (n == 0) None (Some there))) own
 
-touched-stays-own : (t : Option (Option RowValue)) (there : Option (ℕ × RowValue)) → IfSome there (λ x. x.0 ≡ 0) → IfSome (touched 0 t there) (λ x. x.0 ≡ 0)
-touched-stays-own None there own = own
-touched-stays-own (Some (Some row)) there own = refl
-touched-stays-own (Some None) None own = own
-touched-stays-own (Some None) (Some there) own = subst (λ n. IfSome (cond (n == 0) None (Some there)) (λ (x : ℕ × RowValue). x.0 ≡ 0)) (sym own) tt
-
 -- what a group's changes leave at each key
 pub row_after : (old new : Entries) (touches : List TouchValue) → AreOwn old → IsTouched key_cmp old 0 (last_at key_cmp (map change_of touches)) new
     → (k : KeyValue) → row_in (rows_of new) k ≡ kept_after (last_at key_cmp touches k) (row_in (rows_of old) k)

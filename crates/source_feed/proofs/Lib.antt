@@ -14,3 +14,5 @@ pub mod PreparedLaws
 pub mod SoundLaws
 pub mod ImageLaws
 pub mod ChunkLaws
+pub mod FrameLaws
+pub mod PiecesLaws

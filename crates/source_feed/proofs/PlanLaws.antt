@@ -10,6 +10,7 @@ use Rattle.std.specs.Str.{bytes_eq}
 use Rattle.std.specs.Cmp.Lexicographic.{as_long, same_text}
 use mathlib.Core.List.{reverse-cons}
 use Rattle.filter_rule.specs.PlanValue.{PlanValue, table_of_name, columns_of}
+use Rattle.filter_rule.specs.WellFormed.{IsPlan}
 use Rattle.vevent.specs.Columns.{has_columns, have_columns}
 use Rattle.vevent.specs.EventValue.{ChangeValue, FieldValue, EventValue, Begin, Commit, Row, Field}
 use Rattle.source_feed.specs.declared.fault.FeedFault.TheVariants.{Misplaced, ColumnCount}
@@ -238,12 +239,13 @@ length-planned : (plan : PlanValue) (all : List GroupValue) → length (map (pla
 length-planned plan [] = refl
 length-planned plan (group ∷ more) = ap suc (length-planned plan more)
 
-is_feed : (plan : PlanValue) (feed : List ℕ) (all : List GroupValue) → InOrder all → length all < 2 ^ 31 → groups feed (source_of plan) ≡ Ok all
+is_feed : (plan : PlanValue) (feed : List ℕ) (all : List GroupValue) → IsPlan plan → InOrder all → length all < 2 ^ 31 → groups feed (source_of plan) ≡ Ok all
     → list_any (differs plan) (events_of feed).items ≡ false → IsFeed (record { plan = plan; groups = map (planned_group plan) all })
-is_feed plan feed all o few e d =
+is_feed plan feed all p o few e d =
     let w : Defined (source_of plan) (events_of feed).items all = defined feed (source_of plan) all e in
     let fit : AllByRecursion (GroupFits plan) all = rw w.groups at (groups_fit plan (reverse (events_of feed).items) w.faultless (list_any-reverse (differs plan) (events_of feed).items d)) in
     record {
+      plan = p;
       order = planned_order plan all o;
       few = omega (arith, length-planned plan all, few);
       changes = λ i j group change at here.
@@ -262,8 +264,8 @@ none_differs plan given before after events g f e =
 
 -- a feed that was opened under its plan, whole
 pub opened_feed : (plan given : PlanValue) (feed : List ℕ) (all : List GroupValue) (under : List PlannedGroupValue) (checked : Option PlanValue) (before after : Bool)
-    → given ≡ plan → under ≡ map (planned_group plan) all → InOrder all → length all < 2 ^ 31 → groups feed (source_of plan) ≡ Ok all
+    → IsPlan plan → given ≡ plan → under ≡ map (planned_group plan) all → InOrder all → length all < 2 ^ 31 → groups feed (source_of plan) ≡ Ok all
     → checked ≡ Some plan → after ≡ false → after ≡ (before || list_any (differs_from checked) (events_of feed).items)
     → IsFeed (record { plan = given; groups = under })
-opened_feed plan given feed all under checked before after p u o few e c f d =
-    rw (p, u) (is_feed plan feed all o few e (none_differs plan checked before after (events_of feed).items c f d))
+opened_feed plan given feed all under checked before after w p u o few e c f d =
+    rw (p, u) (is_feed plan feed all w o few e (none_differs plan checked before after (events_of feed).items c f d))

@@ -2,13 +2,16 @@
 use Rattle.std.proofs.Common.{◌≡◌, ℕ, zero, suc, ◌+◌, ◌-◌, ◌^◌, ◌<◌, Bool, true, false, cond, List, [], ◌∷◌, ◌++◌, length, Option, Some, None, Result, Ok, Err, refl, sym, ap, subst, arith}
 use Rattle.std.proofs.lemmas.Bool.{eqb-true}
 use Rattle.std.proofs.lemmas.Option.{slice_get_within}
-use Rattle.std.specs.Prelude.{slice_get, IsTrue}
+use Rattle.std.specs.Prelude.{slice_get, IfSome, IsTrue}
 use Rattle.std.specs.List.{AllByRecursion, list_any, filter_map}
 use Rattle.outcome.specs.Outcome.{◌>>=◌}
-use Rattle.filter_rule.specs.PlanValue.{PlanValue, columns_of}
+use Rattle.vindex.specs.FaultNumber as filter
+use Rattle.filter_rule.specs.PlanValue.{PlanValue, columns_of, passes_of}
 use Rattle.pk_copy.specs.declared.fault.KeyFault.{KeyFault}
 use Rattle.pk_copy.specs.declared.fault.KeyFault.TheVariants.{NullKey, BadKey}
-use Rattle.pk_copy.specs.FaultNumber.{number_of}
+use Rattle.filter_rule.specs.WellFormed.{IsPlan}
+use Rattle.pk_copy.proofs.PartLaws.{key_parts}
+use Rattle.pk_copy.specs.FaultNumber as keys
 use Rattle.pk_copy.specs.KeyValue.{KeyValue}
 use Rattle.pk_copy.specs.KeyOf.{key_cells, is_null, has_no_part, part_of, key_of}
 use Rattle.vevent.specs.Columns.{has_columns}
@@ -16,7 +19,7 @@ use Rattle.source_feed.specs.declared.fault.FeedFault.{FeedFault}
 use Rattle.source_feed.specs.GroupValue.{Position}
 use Rattle.source_feed.specs.Planned.{FeedValue, PlannedGroupValue, PlannedChangeValue, IsFeed, IsChangeUnder}
 use Rattle.source_feed.specs.Prepared.{IsTouchUnder, IsPrepared}
-use Rattle.source_feed.specs.Touches.{TouchValue, group_at, in_group, key_in, passes_in, touches_before, touches_after, touches_of_change, touches_of}
+use Rattle.source_feed.specs.Touches.{PutValue, TouchValue, group_at, in_group, key_in, passes_in, touches_before, touches_after, touches_of_change, touches_of}
 use Rattle.source_feed.proofs.PlanLaws.{All-append}
 
 pub group_at-place : (feed : FeedValue) (number : ℕ) → 0 < number → group_at feed number ≡ slice_get feed.groups (number - 1)
@@ -42,39 +45,63 @@ key_of-table plan t row key e =
     ap (λ (k : KeyValue). k.table)
     (made-table (list_any is_null (key_cells plan t row)) (list_any has_no_part (key_cells plan t row)) (record { table = t; parts = filter_map part_of (key_cells plan t row) }) key e)
 
-key_in-table : (plan : PlanValue) (n t : ℕ) (row : List (Option (List ℕ))) (key : KeyValue) → key_in plan n t row ≡ Ok key → t ≡ key.table
-key_in-table plan n t row key e = key_of-table plan t row key (by (key_of plan t row) e)
-  where
-    by : (r : Result KeyValue KeyFault) → in_group number_of n t r ≡ Ok key → r ≡ Ok key
-    by (Ok made) e = cc
-    by (Err fault) e = cc
+-- what is answered of a group's row is answered of the row
+in_group-answer : {A F : Type 0} (number : F → ℕ) (n t : ℕ) (r : Result A F) (x : A) → in_group number n t r ≡ Ok x → r ≡ Ok x
+in_group-answer number n t (Ok y) x e = cc
+in_group-answer number n t (Err fault) x e = cc
 
-module _ (plan : PlanValue) (n t : ℕ) (within : t < length plan.tables) where
-  before_under : (row : Option (List (Option (List ℕ)))) (touches : List TouchValue) → touches_before plan n t row ≡ Ok touches → AllByRecursion (IsTouchUnder plan) touches
-  before_under None touches e = let none : [] ≡ touches = cc in subst (AllByRecursion (IsTouchUnder plan)) none tt
-  before_under (Some row) touches e = by (key_in plan n t row) refl e
+key_in-key : (plan : PlanValue) (n t : ℕ) (row : List (Option (List ℕ))) (key : KeyValue) → key_in plan n t row ≡ Ok key → key_of plan t row ≡ Ok key
+key_in-key plan n t row key e = in_group-answer keys.number_of n t (key_of plan t row) key e
+
+passes_in-answer : (plan : PlanValue) (n t : ℕ) (row : List (Option (List ℕ))) (passes : Bool) → passes_in plan n t row ≡ Ok passes → passes_of plan t row ≡ Ok passes
+passes_in-answer plan n t row passes e = in_group-answer filter.number_of_fault n t (passes_of plan t row) passes e
+
+-- the touch of a row is one under the plan
+touch_under : (plan : PlanValue) (n t : ℕ) (row : List (Option (List ℕ))) (key : KeyValue) (put : Option PutValue) → IsPlan plan → t < length plan.tables → length row ≡ length (columns_of plan t)
+    → key_in plan n t row ≡ Ok key → IfSome put (λ p. (p.row ≡ row) × (passes_in plan n t row ≡ Ok p.passes)) → IsTouchUnder plan (key, put)
+touch_under plan n t row key put whole within wide k answered =
+    let at : key_of plan t row ≡ Ok key = key_in-key plan n t row key k in
+    let same : t ≡ key.table = key_of-table plan t row key at in
+    record {
+      table = subst (λ m. m < length plan.tables) same within;
+      row = row;
+      width = subst (λ m. length row ≡ length (columns_of plan m)) same wide;
+      key = subst (λ m. key_of plan m row ≡ Ok key) same at;
+      parts = key_parts plan t row key whole within at;
+      put = by put answered same;
+    }
+  where
+    by : (o : Option PutValue) → IfSome o (λ p. (p.row ≡ row) × (passes_in plan n t row ≡ Ok p.passes)) → t ≡ key.table
+        → IfSome o (λ p. (p.row ≡ row) × (passes_of plan key.table row ≡ Ok p.passes))
+    by None h same = tt
+    by (Some p) h same = (h.0, subst (λ m. passes_of plan m row ≡ Ok p.passes) same (passes_in-answer plan n t row p.passes h.1))
+
+module _ (plan : PlanValue) (whole : IsPlan plan) (n t : ℕ) (within : t < length plan.tables) where
+  before_under : (row : Option (List (Option (List ℕ)))) (touches : List TouchValue) → IsTrue (has_columns (length (columns_of plan t)) row) → touches_before plan n t row ≡ Ok touches
+      → AllByRecursion (IsTouchUnder plan) touches
+  before_under None touches wide e = let none : [] ≡ touches = cc in subst (AllByRecursion (IsTouchUnder plan)) none tt
+  before_under (Some row) touches wide e = by (key_in plan n t row) refl e
     where
       by : (r : Result KeyValue FeedFault) → key_in plan n t row ≡ r → ((r >>= λ key. Ok (key, None)) >>= λ touch. Ok (touch ∷ [])) ≡ Ok touches → AllByRecursion (IsTouchUnder plan) touches
       by (Ok key) k e =
+          let width : length row ≡ length (columns_of plan t) = eqb-true (length row) (length (columns_of plan t)) wide in
           let one : (key, None) ∷ [] ≡ touches = cc in
-          subst (AllByRecursion (IsTouchUnder plan)) one (record { table = subst (λ m. m < length plan.tables) (key_in-table plan n t row key k) within; row = tt }, tt)
+          subst (AllByRecursion (IsTouchUnder plan)) one (touch_under plan n t row key None whole within width k tt, tt)
       by (Err fault) k e = cc
 
   after_under : (row : Option (List (Option (List ℕ)))) (touches : List TouchValue) → IsTrue (has_columns (length (columns_of plan t)) row) → touches_after plan n t row ≡ Ok touches
       → AllByRecursion (IsTouchUnder plan) touches
   after_under None touches wide e = let none : [] ≡ touches = cc in subst (AllByRecursion (IsTouchUnder plan)) none tt
-  after_under (Some row) touches wide e = by (key_in plan n t row) (passes_in plan n t row) refl e
+  after_under (Some row) touches wide e = by (key_in plan n t row) (passes_in plan n t row) refl refl e
     where
-      by : (r : Result KeyValue FeedFault) (p : Result Bool FeedFault) → key_in plan n t row ≡ r
+      by : (r : Result KeyValue FeedFault) (p : Result Bool FeedFault) → key_in plan n t row ≡ r → passes_in plan n t row ≡ p
           → ((r >>= λ key. p >>= λ passes. Ok (key, Some (record { row = row; passes = passes }))) >>= λ touch. Ok (touch ∷ [])) ≡ Ok touches → AllByRecursion (IsTouchUnder plan) touches
-      by (Ok key) (Ok passes) k e =
-          let same : t ≡ key.table = key_in-table plan n t row key k in
+      by (Ok key) (Ok passes) k a e =
           let width : length row ≡ length (columns_of plan t) = eqb-true (length row) (length (columns_of plan t)) wide in
           let one : (key, Some (record { row = row; passes = passes })) ∷ [] ≡ touches = cc in
-          subst (AllByRecursion (IsTouchUnder plan)) one
-          (record { table = subst (λ m. m < length plan.tables) same within; row = subst (λ m. length row ≡ length (columns_of plan m)) same width }, tt)
-      by (Ok key) (Err fault) k e = cc
-      by (Err fault) p k e = cc
+          subst (AllByRecursion (IsTouchUnder plan)) one (touch_under plan n t row key (Some (record { row = row; passes = passes })) whole within width k (refl, a), tt)
+      by (Ok key) (Err fault) k a e = cc
+      by (Err fault) p k a e = cc
 
 -- all of two lists of touches, one behind the other
 both_under : (P : TouchValue → Type 0) (r s : Result (List TouchValue) FeedFault) (touches : List TouchValue)
@@ -86,19 +113,19 @@ both_under P (Ok some) (Ok others) touches first then e =
 both_under P (Ok some) (Err fault) touches first then e = cc
 both_under P (Err fault) s touches first then e = cc
 
-change_under : (plan : PlanValue) (n : ℕ) (change : PlannedChangeValue) (touches : List TouchValue) → IsChangeUnder plan change → touches_of_change plan n change ≡ Ok touches
+change_under : (plan : PlanValue) (n : ℕ) (change : PlannedChangeValue) (touches : List TouchValue) → IsPlan plan → IsChangeUnder plan change → touches_of_change plan n change ≡ Ok touches
     → AllByRecursion (IsTouchUnder plan) touches
-change_under plan n change touches under e =
+change_under plan n change touches whole under e =
     both_under (IsTouchUnder plan) (touches_before plan n change.table change.before) (touches_after plan n change.table change.after) touches
-    (λ removed. before_under plan n change.table under.table change.before removed) (λ put. after_under plan n change.table under.table change.after put under.after) e
+    (λ removed. before_under plan whole n change.table under.table change.before removed under.before) (λ put. after_under plan whole n change.table under.table change.after put under.after) e
 
-touches_under : (plan : PlanValue) (n : ℕ) (changes : List PlannedChangeValue) (touches : List TouchValue)
+touches_under : (plan : PlanValue) (n : ℕ) (changes : List PlannedChangeValue) (touches : List TouchValue) → IsPlan plan
     → ((j : ℕ) (change : PlannedChangeValue) → slice_get changes j ≡ Some change → IsChangeUnder plan change) → touches_of plan n changes ≡ Ok touches
     → AllByRecursion (IsTouchUnder plan) touches
-touches_under plan n [] touches under e = let none : [] ≡ touches = cc in subst (AllByRecursion (IsTouchUnder plan)) none tt
-touches_under plan n (change ∷ later) touches under e =
-    both_under (IsTouchUnder plan) (touches_of_change plan n change) (touches_of plan n later) touches (λ some. change_under plan n change some (under 0 change refl))
-    (λ others. touches_under plan n later others (λ j. under (suc j))) e
+touches_under plan n [] touches whole under e = let none : [] ≡ touches = cc in subst (AllByRecursion (IsTouchUnder plan)) none tt
+touches_under plan n (change ∷ later) touches whole under e =
+    both_under (IsTouchUnder plan) (touches_of_change plan n change) (touches_of plan n later) touches (λ some. change_under plan n change some whole (under 0 change refl))
+    (λ others. touches_under plan n later others whole (λ j. under (suc j))) e
 
 -- a group of a feed with its touches has what every such group has
 pub group_whole : (feed : FeedValue) (number : ℕ) (group : PlannedGroupValue) (touches : List TouchValue) → IsFeed feed → Some group ≡ group_at feed number
@@ -114,7 +141,7 @@ group_whole feed (suc i) group touches whole at e =
       few = omega arith;
       canonical = whole.order.canonical i group (sym at);
       from_empty = whole.order.from_empty i group (sym at);
-      touches = touches_under feed.plan group.number group.changes touches (changes_under feed (suc i) group whole at) e;
+      touches = touches_under feed.plan group.number group.changes touches whole.plan (changes_under feed (suc i) group whole at) e;
     }
 
 pub group_number : (feed : FeedValue) (number : ℕ) (group : PlannedGroupValue) → IsFeed feed → Some group ≡ group_at feed number → group.number ≡ number

@@ -2,6 +2,7 @@ pub mod FaultNumber
 pub mod GroupValue
 pub mod SourceValue
 pub mod EventList
+pub mod Pieces
 pub mod PastEvents
 pub mod Groups
 pub mod Grammar

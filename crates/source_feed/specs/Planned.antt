@@ -7,6 +7,7 @@ use Rattle.std.specs.Str.{bytes_eq}
 use Rattle.std.specs.Cmp.Lexicographic.{pointwise}
 use Rattle.filter_rule.specs.PlanTable.{ColumnValue}
 use Rattle.filter_rule.specs.PlanValue.{PlanValue, table_of_name, columns_of}
+use Rattle.filter_rule.specs.WellFormed.{IsPlan}
 use Rattle.vevent.specs.Columns.{has_columns}
 use Rattle.vevent.specs.EventValue.{FieldValue, EventValue, Field}
 use Rattle.source_feed.specs.declared.fault.FeedFault.{FeedFault}
@@ -91,9 +92,10 @@ pub record IsChangeUnder (plan : PlanValue) (change : PlannedChangeValue) : Type
   pub before : IsTrue (has_columns (length (columns_of plan change.table)) change.before)
   pub after : IsTrue (has_columns (length (columns_of plan change.table)) change.after)
 
--- a feed under a plan, whole: its groups are in order, there are fewer than 2^31, and each change is one
--- under the plan
+-- a feed under a plan, whole: the plan is one, the feed's groups are in order, there are fewer than 2^31, and
+-- each change is one under the plan
 pub record IsFeed (feed : FeedValue) : Type 0 where
+  pub plan : IsPlan feed.plan
   pub order : AreInOrder (λ (group : PlannedGroupValue). group.number) (λ (group : PlannedGroupValue). group.position) feed.groups
   pub few : length feed.groups < 2 ^ 31
   pub changes : (i j : ℕ) (group : PlannedGroupValue) (change : PlannedChangeValue) → slice_get feed.groups i ≡ Some group → slice_get group.changes j ≡ Some change

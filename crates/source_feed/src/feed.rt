@@ -53,6 +53,8 @@ impl<'h> Feed<'h> {
         // Its groups are in order, and each change is of a table of the plan, with rows of its width.
         ensures whole { IfOk result IsFeed }
     {
+        // (for its contract: what is true of every plan)
+        plan.tables();
         let source = Source {
             keyspace: plan.keyspace(),
             shard: plan.shard(),

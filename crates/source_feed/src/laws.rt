@@ -9,6 +9,7 @@ ghost use Rattle.source_feed.specs.SourceValue.{SourceValue};
 ghost use Rattle.source_feed.specs.PastEvents.{PastEvents};
 ghost use Rattle.source_feed.specs.Grammar.{BlockGrammar};
 ghost use Rattle.source_feed.specs.KeptBlocks.{AreKeptBlocks};
+ghost use Rattle.source_feed.specs.Pieces.{WholeByBytes};
 
 /// The blocks of a feed's events are a grammar: BEGIN body COMMIT is a block with the body's last
 /// position and its changes in order, BEGIN body ROLLBACK is none, a position outside is a block
@@ -30,4 +31,10 @@ pub fn touches_are_those_of_the_changes()
 /// the number of kept blocks before it.
 pub fn groups_are_the_kept_blocks()
     ensures { (source : SourceValue) (past : PastEvents) → AreKeptBlocks source past }
+{}
+
+/// What of a feed's pieces is whole messages depends on their bytes alone, and not on where they were cut:
+/// there is one longest beginning of whole messages, and it has the messages that begin all of the bytes.
+pub fn whole_is_said_by_the_bytes()
+    ensures { (bytes : List ℕ) → WholeByBytes bytes }
 {}

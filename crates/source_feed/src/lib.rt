@@ -11,6 +11,7 @@ mod group_reader;
 mod groups;
 mod image;
 mod laws;
+mod pieces;
 mod planned;
 mod prepared;
 mod preparing;
@@ -27,6 +28,8 @@ pub use groups::{FEED_BYTES, read_groups};
 pub use image::Image;
 pub use laws::{
     blocks_are_a_grammar, groups_are_the_kept_blocks, touches_are_those_of_the_changes,
+    whole_is_said_by_the_bytes,
 };
+pub use pieces::FeedBuilder;
 pub use prepared::Prepared;
 pub use touch::{Put, Touch};

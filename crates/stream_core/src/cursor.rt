@@ -1,6 +1,6 @@
 //! Where a stream stands.
 
-ghost use Rattle.std.specs.Prelude.{◌≡◌, None};
+ghost use Rattle.std.specs.Prelude.{◌≡◌, ◌≤◌, None};
 ghost use Rattle.stream_core.specs.Standing.{IsSound, is_open_at, phase_of};
 
 use crate::phase::Phase;
@@ -12,11 +12,16 @@ use std::marker::Model;
 /// table is left to copy.
 #[derive(Clone, Copy)]
 pub struct Cursor {
-    pub(crate) read: u32,
-    pub(crate) applied: u32,
-    pub(crate) tables: u8,
-    pub(crate) done: u8,
-    pub(crate) snapshot: Option<u32>,
+    /// how many groups are read: the number of the last one, or 0
+    pub read: u32,
+    /// how many groups are applied: the number of the last one, or 0
+    pub applied: u32,
+    /// how many tables the stream has
+    pub tables: u8,
+    /// how many tables are copied: the first ones
+    pub done: u8,
+    /// the group of the open snapshot
+    pub snapshot: Option<u32>,
 }
 
 impl Model for Cursor {
@@ -79,6 +84,15 @@ impl Cursor {
         ensures { result ≡ self.now.snapshot }
     {
         self.snapshot
+    }
+
+    /// The same stream with so many tables, those of before first and none of the others copied. That they
+    /// are at least as many as before is the caller's. Takes no memory.
+    pub fn with_tables(self, tables: u8) -> Cursor
+        requires { self.tables ≤ tables }
+        ensures { result ≡ record self { tables = tables } }
+    {
+        Cursor { tables, ..self }
     }
 
     /// The open snapshot is at this group.

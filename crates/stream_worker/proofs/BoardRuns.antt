@@ -10,8 +10,9 @@ use Rattle.stream_worker.specs.declared.seat_run.Ran.{Ran}
 use Rattle.stream_worker.specs.declared.run_refusal.RunRefusal.{RunRefusal}
 use Rattle.stream_worker.specs.Ended.{IsFedBoard, AllHaveEnded}
 use Rattle.stream_worker.specs.RunRefused.{EndsRun, IsLowest}
-use Rattle.stream_worker.specs.SeatOf.{AreSeatsOf, AreStatesOf, AllGoOnFromSeen, SawAsMany, IsOpened}
+use Rattle.stream_worker.specs.SeatOf.{AreApartSeats, AreStatesOf, AllGoOnFromSeen, SawAsMany, IsOpened}
 use Rattle.stream_worker.specs.Private.SeatRuns.{AreRan, first_refusal}
+use Rattle.stream_worker.proofs.EndLaws.{apart_in_order}
 use Rattle.stream_worker.proofs.ManyRuns.{left-seats, left-fed, left-ended, left-refused, left-lowest}
 
 module _ (feeds : List FeedValue) (old : Meaning) (fed : IsFedBoard feeds old) (shared : Shared) (given : List Seat) (opened : IsOpened old.streams shared given)
@@ -19,8 +20,8 @@ module _ (feeds : List FeedValue) (old : Meaning) (fed : IsFedBoard feeds old) (
   count : length rans ≡ length feeds
   count = as_many ∙ opened.count ∙ fed.count
 
-  pub run-seats : AreSeatsOf shared seats
-  run-seats = subst (λ (l : List Seat). AreSeatsOf shared l) (sym are) (left-seats shared feeds rans ran)
+  pub run-seats : AreApartSeats shared seats
+  run-seats = subst (λ (l : List Seat). AreApartSeats shared l) (sym are) (apart_in_order shared (map (λ (r : Ran). r.seat) rans) (left-seats shared feeds rans ran))
 
   module _ (board : Meaning) (lawful : IsLawful board) (states : AreStatesOf seats board.streams) (seen : AllGoOnFromSeen seats board.streams) (many : SawAsMany seats (length board.streams)) where
     states_of : AreStatesOf (map (λ (r : Ran). r.seat) rans) board.streams

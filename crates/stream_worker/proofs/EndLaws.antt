@@ -11,7 +11,7 @@ use Rattle.stream_worker.specs.declared.seat.Seat.{Seat}
 use Rattle.stream_worker.specs.declared.shared.Shared.{Shared}
 use Rattle.stream_worker.specs.Knowing.{Laid, Knows, IsAmong, boards_of, names, with_states, states_joined, states_seen, joined, state_seen}
 use Rattle.stream_worker.specs.Rule.{IsSaid, IsTaken}
-use Rattle.stream_worker.specs.SeatOf.{known, seat_state, IsSeatOf, AreSeatsOf, AreStatesOf, AreAllKnown, AllGoOnFromSeen, SawAsMany}
+use Rattle.stream_worker.specs.SeatOf.{known, seat_state, IsSeatOf, AreSeatsOf, AreApartSeats, AreStatesOf, AreAllKnown, AllGoOnFromSeen, SawAsMany}
 use Rattle.stream_worker.proofs.Passes.{named_before, named_behind}
 use Rattle.stream_worker.proofs.ToldLaws.{among_before, among_behind, saw_among, told_among, from_boards}
 use Rattle.stream_worker.proofs.States.{take-fewer, joined_theirs, joined_ours}
@@ -39,6 +39,14 @@ seat_names seat = ap (λ (l : List ℕ). names l seat.stream) seat.own ∙ or_le
 
 seat_names_not : (seat : Seat) (s : ℕ) → s ≢ seat.stream → names (view seat.pass).streams s ≡ false
 seat_names_not seat s ne = ap (λ (l : List ℕ). names l s) seat.own ∙ or_from (seat.stream == s) false (ne_eqb seat.stream s (λ e. ne (sym e))) refl
+
+-- seats in the order of the streams are apart
+pub apart_in_order : (shared : Shared) (seats : List Seat) → AreSeatsOf shared seats → AreApartSeats shared seats
+apart_in_order shared seats all =
+    record {
+      each = λ k seat at. (all k seat at).0;
+      apart = λ j k one other at there e. sym (all j one at).1 ∙ e ∙ (all k other there).1;
+    }
 
 -- ---- the first seat
 
@@ -91,7 +99,7 @@ keeps_ours v w s state name there = by v.seen refl there
     by None e h = cc
     by (Some mine) e h = joined_state v w mine s e ∙ joined_ours w.streams 0 (states_seen w.seen) mine.board s s state (start s) name h
 
-pub joined_known : (shared : Shared) (seats : List Seat) (n : ℕ) (v : Knows) (seat : Seat) → AreSeatsOf shared seats → AreAllKnown seats (n + 1) v → slice_get seats n ≡ Some seat
+pub joined_known : (shared : Shared) (seats : List Seat) (n : ℕ) (v : Knows) (seat : Seat) → AreApartSeats shared seats → AreAllKnown seats (n + 1) v → slice_get seats n ≡ Some seat
     → AreAllKnown seats n (joined v (view seat.pass))
 joined_known shared seats n v seat all known_before there =
     record {
@@ -115,7 +123,7 @@ joined_known shared seats n v seat all known_before there =
     apart : (k : ℕ) (other : Seat) → n + 1 ≤ k → slice_get seats k ≡ Some other → names w.streams other.stream ≡ false
     apart k other le at =
         seat_names_not seat other.stream
-        (λ e. let one = (all n seat there).1 in let two = (all k other at).1 in absurd (let same : k ≡ n = sym two ∙ e ∙ one in omega arith))
+        (λ e. absurd (let same : k ≡ n = all.apart k n other seat at there e in omega arith))
 
     at_or_behind : (k : ℕ) → n ≤ k → (k ≡ n) ⊎ (n + 1 ≤ k)
     at_or_behind k le = by (k == n) refl
@@ -188,21 +196,21 @@ front-of (y ∷ ys) x zero e = absurd (omega arith)
 front-of {A} (y ∷ ys) x (suc n) e = ap (λ (zs : List A). y ∷ zs) (front-of ys x n (omega arith))
 
 -- the last of all seats, and those before it
-pub first_popped : (shared : Shared) (all rest : List Seat) (n : ℕ) (x : Seat) → AreSeatsOf shared all → all ≡ rest ++ x ∷ [] → length rest ≡ n
+pub first_popped : (shared : Shared) (all rest : List Seat) (n : ℕ) (x : Seat) → AreApartSeats shared all → all ≡ rest ++ x ∷ [] → length rest ≡ n
     → (rest ≡ take n all) × IsSeatOf shared x × AreAllKnown all n (view x.pass)
 first_popped shared all rest n x each split long =
     let there : slice_get all n ≡ Some x = ap (λ (l : List Seat). slice_get l n) split ∙ last-get rest x n long in
     let few : length all ≤ n + 1 = let sum = ap length split ∙ length-append rest (x ∷ []) in omega (arith, long) in
-    (sym (front-of rest x n long) ∙ ap (take n) (sym split), (each n x there).0, first_known all n x few there)
+    (sym (front-of rest x n long) ∙ ap (take n) (sym split), each.each n x there, first_known all n x few there)
 
 -- the last of the first seats, and those before it
-pub next_popped : (shared : Shared) (all items rest : List Seat) (m n : ℕ) (x : Seat) (v : Knows) → AreSeatsOf shared all → items ≡ take m all → items ≡ rest ++ x ∷ [] → m ≡ n + 1 → length rest ≡ n
+pub next_popped : (shared : Shared) (all items rest : List Seat) (m n : ℕ) (x : Seat) (v : Knows) → AreApartSeats shared all → items ≡ take m all → items ≡ rest ++ x ∷ [] → m ≡ n + 1 → length rest ≡ n
     → AreAllKnown all m v → IsSeatOf shared x × (rest ≡ take n all) × AreAllKnown all n (joined v (view x.pass))
 next_popped shared all items rest m n x v each front split more long all_known =
     let is : m ≡ suc n = omega (arith, more) in
     let cut : items ≡ take (suc n) all = front ∙ ap (λ (k : ℕ). take k all) is in
     let there : slice_get all n ≡ Some x = sym (front-get n all) ∙ ap (λ (l : List Seat). slice_get l n) (sym cut ∙ split) ∙ last-get rest x n long in (
-      (each n x there).0,
+      each.each n x there,
       sym (front-of rest x n long) ∙ ap (take n) (sym split ∙ cut) ∙ take-fewer n (suc n) all (omega arith),
       joined_known shared all n v x each (subst (λ (k : ℕ). AreAllKnown all k v) more all_known) there,
     )

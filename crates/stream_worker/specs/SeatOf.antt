@@ -24,6 +24,11 @@ IsSeatOf shared seat = IsSeatAt (sends_on shared.lock.sender) seat.pass
 abbrev pub AreSeatsOf : Shared → List Seat → Type 0
 AreSeatsOf shared seats = (k : ℕ) (seat : Seat) → slice_get seats k ≡ Some seat → IsSeatOf shared seat × (seat.stream ≡ k)
 
+-- seats of a shared board in any order, no two of one stream
+pub record AreApartSeats (shared : Shared) (seats : List Seat) : Type 0 where
+  pub each : (k : ℕ) (seat : Seat) → slice_get seats k ≡ Some seat → IsSeatOf shared seat
+  pub apart : (j k : ℕ) (one other : Seat) → slice_get seats j ≡ Some one → slice_get seats k ≡ Some other → one.stream ≡ other.stream → j ≡ k
+
 -- each stream has the state that its seat knows
 abbrev pub AreStatesOf : List Seat → List State → Type 0
 AreStatesOf seats board = (k : ℕ) (seat : Seat) → slice_get seats k ≡ Some seat → slice_get board seat.stream ≡ seat_state seat

@@ -11,12 +11,12 @@ use apply_core::Board;
 use std::sync::Wait;
 
 impl<'h> Shared<'h> {
-    ghost use Rattle.stream_worker.specs.SeatOf.{AreSeatsOf, AreStatesOf, AreAllKnown, AllGoOnFromSeen, SawAsMany};
+    ghost use Rattle.stream_worker.specs.SeatOf.{AreApartSeats, AreStatesOf, AreAllKnown, AllGoOnFromSeen, SawAsMany};
 
     /// One pass of all the seats' streams.
     fn joined(&self, mut seats: Vec<Seat<'h>>) -> LockPass<'h>
         requires some { 0 < vec_len seats }
-        requires seats { AreSeatsOf self.now seats.items }
+        requires seats { AreApartSeats self.now seats.items }
         ensures pass { IsSeatAt (sends_on self.now.lock.sender) result }
         ensures known { AreAllKnown seats.entry.items 0 (view result) }
     {
@@ -31,12 +31,11 @@ impl<'h> Shared<'h> {
         pass
     }
 
-    /// Takes the board out, once the threads have ended, with all seats, in the order of their streams: each
-    /// stream has the state that its seat knows, and goes on from what any other seat saw of it. Takes no
-    /// memory.
+    /// Takes the board out, once the threads have ended, with the seats in any order: each of their streams
+    /// has the state that its seat knows, and all go on from what any seat saw of them. Takes no memory.
     pub fn end<R: Wait>(self, rt: &R, seats: Vec<Seat<'h>>) -> Board<'h>
         requires some { 0 < vec_len seats }
-        requires seats { AreSeatsOf self seats.items }
+        requires seats { AreApartSeats self seats.items }
         ensures states { AreStatesOf seats.entry.items result.streams }
         ensures seen { AllGoOnFromSeen seats.entry.items result.streams }
         ensures many { SawAsMany seats.entry.items (length result.streams) }

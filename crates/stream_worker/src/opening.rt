@@ -25,6 +25,15 @@ pub struct OpenRefusal<'h> {
     pub board: Board<'h>,
 }
 
+impl OpenRefusal<'_> {
+    /// The refusal's number, of want of memory.
+    pub fn number(&self) -> u8
+        ensures { result ≡ 72 }
+    {
+        72
+    }
+}
+
 impl<'h> Shared<'h> {
     ghost use Rattle.stream_worker.specs.SeatOf.{known, seat_state, IsSeatOf, AreSeatsOf, AreStatesSeen, SawAsMany, IsOpened};
 
@@ -98,8 +107,8 @@ impl<'h> Shared<'h> {
     /// Shares a board: the answer has a seat for each stream, in the order of the streams, and each knows its
     /// stream's state. A refusal, where a growth was refused, hands the board back.
     pub fn open<R: Wait>(
-        alloc: Global,
         rt: &R,
+        alloc: Global,
         board: Board<'h>,
     ) -> Result<(Shared<'h>, Vec<Seat<'h>>), OpenRefusal<'h>>
         ensures opened { IfOk result (λ opened. IsOpened board.entry.streams opened.0 opened.1.items) }

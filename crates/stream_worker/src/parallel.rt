@@ -101,7 +101,7 @@ fn run_board<'h, R: Threads + Wait + Sync, G: Gate + Sync>(
     ensures outcome { IfOk result (λ ended. MatchOption ended.1 (AllHaveEnded feeds.now ended.0) (EndsRun feeds.now)) }
     ensures lowest { IfOk result (λ ended. IfSome ended.1 (IsLowest feeds.now)) }
 {
-    let Ok((shared, seats)) = Shared::open(alloc, rt, board) else {
+    let Ok((shared, seats)) = Shared::open(rt, alloc, board) else {
         return Err(AllocError);
     };
     let run = Run {

@@ -63,7 +63,7 @@ fn offer_of<'a, 'h, R: Wait, G: Gate>(
         Err(fault) => return Err(StepRefusal::Unprepared(fault)),
     };
     run.gate.passed(run.rt, seat.stream, number);
-    match run.shared.offer(run.alloc, run.rt, seat, group) {
+    match run.shared.offer(run.rt, run.alloc, seat, group) {
         Ok(offered) => Ok(Answer::Offered(offered)),
         Err(refusal) => Err(StepRefusal::Refused(refusal)),
     }
@@ -82,15 +82,15 @@ fn seat_step<'a, 'h, R: Wait, G: Gate>(
 {
     match step {
         Step::Offer(number) => offer_of(run, seat, feed, number),
-        Step::Advance => match run.shared.advance(run.alloc, run.rt, seat) {
+        Step::Advance => match run.shared.advance(run.rt, run.alloc, seat) {
             Ok(receipt) => Ok(Answer::Applied(receipt.number)),
             Err(refusal) => Err(StepRefusal::Refused(refusal)),
         },
-        Step::OpenAt(group) => match run.shared.open_snapshot(run.alloc, run.rt, seat, group) {
+        Step::OpenAt(group) => match run.shared.open_snapshot(run.rt, run.alloc, seat, group) {
             Ok(()) => Ok(Answer::Opened(group)),
             Err(refusal) => Err(StepRefusal::Refused(refusal)),
         },
-        Step::CopyRows(rows) => match run.shared.copy_chunk(run.alloc, run.rt, seat, rows) {
+        Step::CopyRows(rows) => match run.shared.copy_chunk(run.rt, run.alloc, seat, rows) {
             Ok(copied) => Ok(Answer::Copied(copied)),
             Err(refusal) => Err(StepRefusal::Refused(refusal)),
         },

@@ -47,8 +47,8 @@ impl<'h> Shared<'h> {
     /// call of this name, on the seat's own state.
     pub fn offer<R: Wait>(
         &self,
-        alloc: Global,
         rt: &R,
+        alloc: Global,
         seat: &mut Seat<'h>,
         group: Arc<Prepared<'h>>,
     ) -> Result<Offered, Refusal>
@@ -72,8 +72,8 @@ impl<'h> Shared<'h> {
     /// what it replaced is dropped once the board is put back.
     pub fn advance<R: Wait>(
         &self,
-        alloc: Global,
         rt: &R,
+        alloc: Global,
         seat: &mut Seat<'h>,
     ) -> Result<Receipt<'h>, Refusal>
         requires { IsSeatOf self.now seat.old }
@@ -101,8 +101,8 @@ impl<'h> Shared<'h> {
     /// An error is want of memory.
     pub fn look<R: Wait>(
         &self,
-        alloc: Global,
         rt: &R,
+        alloc: Global,
         seat: &mut Seat<'h>,
         key: &Key,
     ) -> Result<(u32, Option<RowBuf>), AllocError>
@@ -122,8 +122,8 @@ impl<'h> Shared<'h> {
     /// own state.
     pub fn open_snapshot<R: Wait>(
         &self,
-        alloc: Global,
         rt: &R,
+        alloc: Global,
         seat: &mut Seat<'h>,
         group: u32,
     ) -> Result<(), Refusal>
@@ -142,8 +142,8 @@ impl<'h> Shared<'h> {
     /// name, on the seat's own state. What they replaced is dropped once the board is put back.
     pub fn copy_chunk<R: Wait>(
         &self,
-        alloc: Global,
         rt: &R,
+        alloc: Global,
         seat: &mut Seat<'h>,
         c: u32,
     ) -> Result<Copied, Refusal>

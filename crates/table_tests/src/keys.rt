@@ -26,15 +26,28 @@ fn compare(
     Ok(equal && view.cmp(&other) == wanted && kept.cmp(&other_kept) == wanted)
 }
 
-/// Whether the kept key, and a copy of it, is that of a row with a key of two parts.
-fn is_kept(alloc: Global, plans: &[Arc<Plan>], bytes: &[u8]) -> Result<bool, AllocError> {
+/// Whether the kept key, and a copy of it, is that of a row with a key of so many parts.
+fn is_kept(
+    alloc: Global,
+    plans: &[Arc<Plan>],
+    bytes: &[u8],
+    parts: usize,
+) -> Result<bool, AllocError> {
     let Some(Ok(view)) = key(plans, 0, bytes) else {
         return Ok(false);
     };
     let kept = Key::from_view(alloc, &view)?;
     let copy = kept.try_clone(alloc)?;
-    let same = kept.view() == view && copy == kept;
-    Ok(same && kept.table() == 0 && view.table() == 0 && view.parts().len() == 2)
+    let same = kept.view() == view && copy == kept && is_lent(alloc, &view)?;
+    Ok(same && kept.table() == 0 && view.table() == 0 && view.parts().len() == parts)
+}
+
+/// Whether a key, kept as lent, and a copy of it, is this one, and not before the least of its table.
+fn is_lent(alloc: Global, view: &KeyView<'_>) -> Result<bool, AllocError> {
+    let lent = LentKey::from_view(alloc, view)?;
+    let copy = lent.try_clone(alloc)?;
+    let least = LentKey::first_of(alloc, view.table());
+    Ok(lent.view() == *view && copy == lent && least.view().cmp(view).is_le())
 }
 
 const RISING: &[&[u8]] = &[
@@ -48,11 +61,16 @@ const RISING: &[&[u8]] = &[
     b"\x0a\x02\x02\x28\x12\x15a18446744073709551615",
 ];
 
-/// Whether each row has a key that can be kept, and is less than the next row.
-fn rise(alloc: Global, plans: &[Arc<Plan>]) -> Result<bool, AllocError> {
+/// Whether each row has a key of so many parts that can be kept, and is less than the next row.
+fn rise(
+    alloc: Global,
+    plans: &[Arc<Plan>],
+    rows: &[&[u8]],
+    parts: usize,
+) -> Result<bool, AllocError> {
     let mut earlier: Option<&[u8]> = None;
-    for bytes in RISING {
-        let first = is_kept(alloc, plans, bytes)?;
+    for bytes in rows {
+        let first = is_kept(alloc, plans, bytes, parts)?;
         let second = match earlier {
             None => true,
             Some(lesser) => compare(alloc, plans, lesser, bytes, Ordering::Less)?,
@@ -68,7 +86,26 @@ fn rise(alloc: Global, plans: &[Arc<Plan>]) -> Result<bool, AllocError> {
 #[test]
 fn key_order_and_parts(rt: HostRuntime) -> Result<(), Fail> {
     let plans = Plan::read_all(rt.alloc(), WORKFLOW)?;
-    assert!(rt; rise(rt.alloc(), &plans)?);
+    assert!(rt; rise(rt.alloc(), &plans, RISING, 2)?);
+    Ok(())
+}
+
+/// A table whose key has eight parts.
+const EIGHT: &[u8] =
+    br#"{"keyspace":"ks","tables":[{"name":"t","columns":[["a","INT64"],["b","VARBINARY"],["c","INT64"],["d","VARBINARY"],["e","INT64"],["f","VARBINARY"],["g","INT64"],["h","VARBINARY"]],"key":["a","b","c","d","e","f","g","h"]}],"streams":[{"shard":"-80","filter":{"rules":[{"match":"/.*","filter":""}]}}]}"#;
+
+/// The last part decides, then the last but one, then the third.
+const RISING_EIGHT: &[&[u8]] = &[
+    b"\x0a\x08\x02\x02\x04\x00\x02\x04\x02 \x12\x181x-23yz4long as it is, w",
+    b"\x0a\x08\x02\x02\x04\x00\x02\x04\x02&\x12\x1b1x-23yz4long as it is, wide",
+    b"\x0a\x08\x02\x02\x04\x00\x02\x04\x04\x00\x12\x091x-23yz10",
+    b"\x0a\x08\x02\x02\x04\x00\x02\x02\x02\x00\x12\x071x-13y4",
+];
+
+#[test]
+fn keys_of_eight_parts(rt: HostRuntime) -> Result<(), Fail> {
+    let plans = Plan::read_all(rt.alloc(), EIGHT)?;
+    assert!(rt; rise(rt.alloc(), &plans, RISING_EIGHT, 8)?);
     Ok(())
 }
 

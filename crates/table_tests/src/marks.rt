@@ -4,6 +4,7 @@ use crate::rows::key;
 use filter_rule::Plan;
 use pk_copy::*;
 use std::alloc::{AllocError, Global};
+use std::cmp::Ordering;
 use std::sync::Arc;
 use std::test::Fail;
 
@@ -109,4 +110,76 @@ fn all_tables_done(rt: HostRuntime) {
     let begun = marks.finished();
     finish(&mut marks);
     assert!(rt; !begun && marks.finished() && marks.tables() == 1 && kind(marks.mark(0)) == 2);
+}
+
+/// How far three tables are copied, in rising order: a number of its place, how many tables are done, and the
+/// row up to whose key the next one is copied.
+const PHASES: &[(u8, u8, Option<&[u8]>)] = &[
+    (0, 0, None),
+    (1, 0, Some(FIVE)),
+    (2, 0, Some(TEN)),
+    (3, 1, None),
+    (4, 1, Some(FIVE)),
+    (5, 1, Some(NINE)),
+    (6, 2, None),
+    (7, 2, Some(FIVE)),
+    (8, 3, None),
+];
+
+/// The marks of three tables that are copied so far.
+fn copied(
+    alloc: Global,
+    plans: &[Arc<Plan>],
+    done: u8,
+    upto: Option<&[u8]>,
+) -> Result<CopyState, AllocError> {
+    let mut marks = CopyState::new(3);
+    for _ in 0..done {
+        finish(&mut marks);
+    }
+    if let Some(row) = upto {
+        move_to(alloc, &mut marks, plans, (done, row))?;
+    }
+    Ok(marks)
+}
+
+/// Whether one's marks are so far on beside the other's, and the other's beside them the other way round.
+fn is_so_far(one: &CopyState, other: &CopyState, wanted: Ordering) -> bool {
+    one.tables() == other.tables()
+        && one.further(other) == wanted
+        && other.further(one) == wanted.reverse()
+}
+
+/// Whether marks at a place among all stand above those before, and below those behind.
+fn stands_at(
+    alloc: Global,
+    plans: &[Arc<Plan>],
+    marks: &CopyState,
+    place: u8,
+) -> Result<bool, AllocError> {
+    for (other, done, upto) in PHASES {
+        let beside = copied(alloc, plans, *done, *upto)?;
+        if !is_so_far(marks, &beside, place.cmp(other)) {
+            return Ok(false);
+        }
+    }
+    Ok(true)
+}
+
+/// Whether all marks stand in their order.
+fn are_in_order(alloc: Global, plans: &[Arc<Plan>]) -> Result<bool, AllocError> {
+    for (place, done, upto) in PHASES {
+        let marks = copied(alloc, plans, *done, *upto)?;
+        if !stands_at(alloc, plans, &marks, *place)? {
+            return Ok(false);
+        }
+    }
+    Ok(true)
+}
+
+#[test]
+fn marks_further_on(rt: HostRuntime) -> Result<(), Fail> {
+    let plans = Plan::read_all(rt.alloc(), WORKFLOW.as_bytes())?;
+    assert!(rt; are_in_order(rt.alloc(), &plans)?);
+    Ok(())
 }

@@ -73,3 +73,37 @@ pub fn follow<K: Ord + Clone + Drop, R: PartialEq + Clone + Drop>(
     }
     Ok(true)
 }
+
+/// Whether these are the last touches of some keys, by falling key.
+fn are_last(
+    alloc: Global,
+    touches: &[(u64, Option<u32>)],
+    wanted: &[(u64, Option<u32>)],
+) -> Result<bool, AllocError> {
+    let last = last_touches(alloc, touches.to_vec(alloc)?)?;
+    Ok(last.as_slice() == wanted)
+}
+
+/// A key that is touched three times, one that is taken away last, and one that comes again.
+#[test]
+fn last_touches_of_each_key(rt: HostRuntime) {
+    let touches = [
+        (3, Some(1)),
+        (7, Some(2)),
+        (3, None),
+        (5, None),
+        (3, Some(4)),
+        (7, None),
+        (5, Some(6)),
+    ];
+    assert!(rt;
+        matches!(
+            are_last(
+                rt.alloc(),
+                &touches,
+                &[(7, None), (5, Some(6)), (3, Some(4))]
+            ),
+            Ok(true)
+        ) && matches!(are_last(rt.alloc(), &[], &[]), Ok(true))
+    );
+}

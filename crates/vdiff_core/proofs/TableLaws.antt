@@ -1,7 +1,7 @@
 -- Rows by rising key, table after table.
-use Rattle.std.proofs.Common.{◌≡◌, ℕ, zero, suc, ◌+◌, ◌<◌, ◌≤◌, List, [], ◌∷◌, ◌++◌, length, take, drop, cond, true, false, not, refl, sym, ap, ◌∙◌, arith, Bool, ◌⊎◌, inl, inr, Some, None, take-append-drop}
+use Rattle.std.proofs.Common.{◌≡◌, ℕ, zero, suc, ◌+◌, ◌<◌, ◌≤◌, List, [], ◌∷◌, ◌++◌, length, take, drop, cond, true, false, not, refl, sym, ap, ◌∙◌, arith, Bool, ◌⊎◌, inl, inr, Option, Some, None, slice_get, subst, take-append-drop}
 use Rattle.std.specs.Prelude.{◌==◌, nat_lt, position}
-use Rattle.std.specs.Option.{unwrap_or}
+use Rattle.std.specs.Option.{option_map_or, unwrap_or}
 use Rattle.std.specs.List.{position_or_len}
 use Rattle.std.specs.Ordering.{nat_cmp, ordering_then}
 use Rattle.std.specs.Cmp.{nat_cmp_is}
@@ -11,6 +11,8 @@ use Rattle.std.specs.declared.cmp.Ordering.TheVariants.{Less, Greater}
 use Rattle.std.proofs.lemmas.List.Elements.{filter-append}
 use Rattle.std.proofs.lemmas.Bool.Decides.{nat_tests}
 use Rattle.filter_rule.specs.PlanTable.{TableValue}
+use Rattle.filter_rule.specs.PlanValue.{PlanValue, columns_of}
+use Rattle.filter_rule.specs.WellFormed.{IsPlan}
 use Rattle.pk_copy.specs.KeyOrder.{key_cmp, parts_cmp}
 use Rattle.pk_copy.specs.KeyValue.{KeyValue}
 use Rattle.target_tables.specs.Rising.{IsRising}
@@ -110,3 +112,16 @@ first_table t n table tables rows front =
 pub from_none : (rows : RowsValue) → AreFrom 0 rows
 from_none [] = tt
 from_none (row ∷ rows) = (omega arith, from_none rows)
+
+-- ---- columns
+
+place_of : {A : Type 0} (xs : List A) (i : ℕ) → i < length xs → (x : A) × (slice_get xs i ≡ Some x)
+place_of [] i less = absurd (omega arith)
+place_of (x ∷ xs) zero less = (x, refl)
+place_of (x ∷ xs) (suc i) less = place_of xs i (omega arith)
+
+-- each table of a plan has a column
+pub columns_some : (plan : PlanValue) (t : ℕ) → t < length plan.tables → IsPlan plan → 1 ≤ length (columns_of plan t)
+columns_some plan t less is =
+    let there : (table : TableValue) × (slice_get plan.tables t ≡ Some table) = place_of plan.tables t less in
+    subst (λ (o : Option TableValue). 1 ≤ length (option_map_or (λ (table : TableValue). table.columns) o [])) (sym there.1) (is.tables.each_table t there.0 there.1).column_count.0

@@ -25,7 +25,7 @@ use Rattle.vevent.specs.CheckpointPart.{TablePartValue, StreamPartValue, table_p
 use Rattle.vevent.specs.WrittenEvent.{message_fields, row_field, written_column}
 use Rattle.vevent.specs.WrittenPart.{written_answer, written_table_part, written_stream_part, IsSoundAnswer, IsSoundTable, AnswersAreReadAgain, TablePartsAreReadAgain, StreamPartsAreReadAgain}
 use Rattle.vevent.proofs.JudgingLaws.{every_value}
-use Rattle.vevent.proofs.WrittenParts.{ArePlain, Reads, reads_back, parts_are, scalar_is, wire_is, plain_text, plain_both, own_parts, other_parts, plain_messages, messages_short, or_none, named, named_fields, named_short}
+use Rattle.vevent.proofs.WrittenParts.{ArePlain, Reads, reads_back, parts_are, text_is, scalar_is, wire_is, plain_text, plain_both, own_parts, other_parts, plain_messages, messages_short, or_none, named, named_fields, named_short}
 use Rattle.vevent.proofs.WrittenEventLaws.{columns_back, cons_is, and_both, either, neither}
 
 -- ---- fields in several parts
@@ -248,52 +248,63 @@ record IsTableOf (bytes : List ℕ) (t : TablePartValue) : Type 0 where
   pub rows : table_row_fault bytes ≡ None
   pub value : table_part_of bytes ≡ t
 
-abbrev marked : Bool → ℕ → List ℕ → List WireField
-marked default mark inner = cond default [] (record { number = 1; value = Varint mark } ∷ []) ++ message_field 2 inner ∷ []
+abbrev marked : Bool → ℕ → List ℕ → List ℕ → List WireField
+marked default mark inner name = cond default [] (record { number = 1; value = Varint mark } ∷ []) ++ message_field 2 inner ∷ text_field 3 name
 
-marked_plain : (default : Bool) (mark : ℕ) (inner : List ℕ) → mark < 2 ^ 64 → ArePlain (marked default mark inner)
-marked_plain true mark inner lt = (record { number = (omega arith, omega arith); payload = tt }, tt)
-marked_plain false mark inner lt = (record { number = (omega arith, omega arith); payload = lt }, (record { number = (omega arith, omega arith); payload = tt }, tt))
+marked_plain : (default : Bool) (mark : ℕ) (inner name : List ℕ) → mark < 2 ^ 64 → ArePlain (marked default mark inner name)
+marked_plain true mark inner name lt = (record { number = (omega arith, omega arith); payload = tt }, plain_text 3 name (omega arith, omega arith))
+marked_plain false mark inner name lt = (record { number = (omega arith, omega arith); payload = lt }, (record { number = (omega arith, omega arith); payload = tt }, plain_text 3 name (omega arith, omega arith)))
 
-marked_mark : (default : Bool) (mark : ℕ) (inner : List ℕ) → (default ≡ true → mark ≡ 0) → last_of 0 (filter_map (count_in 1) (marked default mark inner)) ≡ mark
-marked_mark true mark inner zero = sym (zero refl)
-marked_mark false mark inner zero = refl
+marked_mark : (default : Bool) (mark : ℕ) (inner name : List ℕ) → (default ≡ true → mark ≡ 0) → last_of 0 (filter_map (count_in 1) (marked default mark inner name)) ≡ mark
+marked_mark true mark inner [] zero = sym (zero refl)
+marked_mark true mark inner (b ∷ bs) zero = sym (zero refl)
+marked_mark false mark inner [] zero = refl
+marked_mark false mark inner (b ∷ bs) zero = refl
 
-marked_inner : (default : Bool) (mark : ℕ) (inner : List ℕ) → filter_map (part_in 2) (marked default mark inner) ≡ inner ∷ []
-marked_inner true mark inner = refl
-marked_inner false mark inner = refl
+marked_inner : (default : Bool) (mark : ℕ) (inner name : List ℕ) → filter_map (part_in 2) (marked default mark inner name) ≡ inner ∷ []
+marked_inner true mark inner [] = refl
+marked_inner true mark inner (b ∷ bs) = refl
+marked_inner false mark inner [] = refl
+marked_inner false mark inner (b ∷ bs) = refl
 
-marked_wire : (default : Bool) (mark : ℕ) (inner : List ℕ) → wire_fault_by in_answer inner ≡ None → first_in in_table (marked default mark inner) None ≡ None
-marked_wire true mark inner e = or_none (wire_fault_by in_answer inner) None e refl
-marked_wire false mark inner e = or_none (wire_fault_by in_answer inner) None e refl
+marked_name : (default : Bool) (mark : ℕ) (inner name : List ℕ) → last_of [] (filter_map (part_in 3) (marked default mark inner name)) ≡ name
+marked_name true mark inner [] = refl
+marked_name true mark inner (b ∷ bs) = refl
+marked_name false mark inner [] = refl
+marked_name false mark inner (b ∷ bs) = refl
 
-inner_short : (default : Bool) (mark : ℕ) (inner : List ℕ) → length (written_fields (marked default mark inner)) < 2 ^ 64 → length inner < 2 ^ 64
-inner_short default mark inner short =
-    let both = split_short (cond default [] (record { number = 1; value = Varint mark } ∷ [])) (message_field 2 inner ∷ []) short in
-    (messages_short 2 (inner ∷ []) both.1).0
+marked_wire : (default : Bool) (mark : ℕ) (inner name : List ℕ) → wire_fault_by in_answer inner ≡ None → first_in in_table (marked default mark inner name) None ≡ None
+marked_wire true mark inner name e = or_none (wire_fault_by in_answer inner) (first_in in_table (text_field 3 name) None) e (text_none in_table 3 name refl)
+marked_wire false mark inner name e = or_none (wire_fault_by in_answer inner) (first_in in_table (text_field 3 name) None) e (text_none in_table 3 name refl)
 
-abbrev table_with : ℕ → AnswerValue → TablePartValue
-table_with mark answer = record { mark = mark; answer = answer }
+inner_short : (default : Bool) (mark : ℕ) (inner name : List ℕ) → length (written_fields (marked default mark inner name)) < 2 ^ 64 → length inner < 2 ^ 64
+inner_short default mark inner name short =
+    let both = split_short (cond default [] (record { number = 1; value = Varint mark } ∷ [])) (message_field 2 inner ∷ text_field 3 name) short in
+    let front = split_short (message_field 2 inner ∷ []) (text_field 3 name) both.1 in
+    (messages_short 2 (inner ∷ []) front.0).0
 
-table_is : (m : ℕ) (a : AnswerValue) (t : TablePartValue) → m ≡ t.mark → a ≡ t.answer → table_with m a ≡ t
-table_is m a t e f = ap (λ (x : ℕ). table_with x a) e ∙ ap (λ (x : AnswerValue). table_with t.mark x) f
+abbrev table_with : ℕ → AnswerValue → List ℕ → TablePartValue
+table_with mark answer name = record { mark = mark; answer = answer; name = name }
+
+table_is : (m : ℕ) (a : AnswerValue) (n : List ℕ) (t : TablePartValue) → m ≡ t.mark → a ≡ t.answer → n ≡ t.name → table_with m a n ≡ t
+table_is m a n t e f g = ap (λ (x : ℕ). table_with x a n) e ∙ ap (λ (x : AnswerValue). table_with t.mark x n) f ∙ ap (λ (x : List ℕ). table_with t.mark t.answer x) g
 
 table_back : FieldsAreReadAgain → RowsAreReadAgain → (t : TablePartValue) → IsSoundTable t → length (written_table_part t) < 2 ^ 64 → IsTableOf (written_table_part t) t
 table_back law rows t is short =
     let default = eqb t.mark 0 in
     let inner = written_answer t.answer in
-    let list = marked default t.mark inner in
+    let list = marked default t.mark inner t.name in
     let bytes = written_fields list in
-    let read : Reads bytes list = reads_back law list (marked_plain default t.mark inner is.mark) short in
-    let h = answer_back law rows t.answer is.answer (inner_short default t.mark inner short) in
-    let under : parts 2 bytes ≡ inner ∷ [] = parts_are bytes list read 2 ∙ marked_inner default t.mark inner in
+    let read : Reads bytes list = reads_back law list (marked_plain default t.mark inner t.name is.mark) short in
+    let h = answer_back law rows t.answer is.answer (inner_short default t.mark inner t.name short) in
+    let under : parts 2 bytes ≡ inner ∷ [] = parts_are bytes list read 2 ∙ marked_inner default t.mark inner t.name in
     let held : embedded 2 bytes ≡ inner = ap (λ (ps : List (List ℕ)). unwrap_or (first_of ps) []) under in
     record {
-      wire = wire_is bytes list read in_table ∙ marked_wire default t.mark inner h.wire;
+      wire = wire_is bytes list read in_table ∙ marked_wire default t.mark inner t.name h.wire;
       once = either (is_repeated 2 bytes) (is_repeated 5 (embedded 2 bytes)) (ap (λ (ps : List (List ℕ)). nat_lt 1 (length ps)) under) (ap (λ (m : List ℕ). is_repeated 5 m) held ∙ h.once);
       texts = ap are_answer_texts held ∙ h.texts;
       rows = ap answer_row_fault held ∙ h.rows;
-      value = table_is (scalar 1 bytes) (answer_of (embedded 2 bytes)) t (scalar_is bytes list read 1 ∙ marked_mark default t.mark inner (λ e. eqb-true t.mark 0 e)) (ap answer_of held ∙ h.value);
+      value = table_is (scalar 1 bytes) (answer_of (embedded 2 bytes)) (text 3 bytes) t (scalar_is bytes list read 1 ∙ marked_mark default t.mark inner t.name (λ e. eqb-true t.mark 0 e)) (ap answer_of held ∙ h.value) (text_is bytes list read 3 ∙ marked_name default t.mark inner t.name);
     }
 
 pub table_parts_back : FieldsAreReadAgain → RowsAreReadAgain → TablePartsAreReadAgain

@@ -14,10 +14,11 @@ use Rattle.vevent.specs.Fault.{wire_fault_by}
 use Rattle.vevent.specs.Judging.{Conditions, value_by}
 use Rattle.vevent.specs.Answer.{AnswerValue, answer_of, answer_wire_fault, are_answer_texts, answer_row_fault}
 
--- how far a table is copied, as a number, and its rows
+-- how far a table is copied, as a number, its rows, and the bytes of its name, none where it has no name
 pub record TablePartValue : Type 0 where
   pub mark : ℕ
   pub answer : AnswerValue
+  pub name : List ℕ
 
 -- a stream's shard and its tables
 pub record StreamPartValue : Type 0 where
@@ -34,9 +35,9 @@ mark_number Done = 2
 abbrev pub mark_of_number : ℕ → Option TableMark
 mark_of_number n = if n == 0 then Some Waiting else if n == 1 then Some Upto else if n == 2 then Some Done else None
 
--- TablePart: mark = 1, answer = 2
+-- TablePart: mark = 1, answer = 2, name = 3
 abbrev pub table_part_of : List ℕ → TablePartValue
-table_part_of part = record { mark = scalar 1 part; answer = answer_of (embedded 2 part) }
+table_part_of part = record { mark = scalar 1 part; answer = answer_of (embedded 2 part); name = text 3 part }
 
 -- StreamPart: shard = 1, tables = 2
 abbrev pub stream_part_of : List ℕ → StreamPartValue

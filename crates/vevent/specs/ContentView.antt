@@ -19,7 +19,7 @@ answer_content c = record {
 
 -- a table's part, its mark by its number
 abbrev pub table_content : TableContent → TablePartValue
-table_content c = record { mark = mark_number c.mark; answer = answer_content c.answer }
+table_content c = record { mark = mark_number c.mark; answer = answer_content c.answer; name = c.name.now }
 
 -- a stream's part
 abbrev pub stream_content : StreamContent → StreamPartValue

@@ -20,9 +20,9 @@ written_answer answer = written_fields (
     ++ message_fields 4 (map written_row answer.rows)
     ++ row_field 5 answer.lastpk)
 
--- TablePart: mark = 1, answer = 2
+-- TablePart: mark = 1, answer = 2, name = 3
 abbrev pub written_table_part : TablePartValue → List ℕ
-written_table_part part = written_fields (number_field 1 part.mark ++ message_field 2 (written_answer part.answer) ∷ [])
+written_table_part part = written_fields (number_field 1 part.mark ++ message_field 2 (written_answer part.answer) ∷ text_field 3 part.name)
 
 -- StreamPart: shard = 1, tables = 2
 abbrev pub written_stream_part : StreamPartValue → List ℕ

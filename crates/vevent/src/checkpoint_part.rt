@@ -89,8 +89,8 @@ fn table_of_bytes(bytes: &[u8]) -> Result<TablePart<'_>, EventFault>
 }
 
 impl<'b> TablePart<'b> {
-    /// Reads a table's part: mark = 1, answer = 2. Fields come in any order, and others are skipped;
-    /// an absent answer is empty. Takes no memory.
+    /// Reads a table's part: mark = 1, answer = 2, name = 3. Fields come in any order, and others are
+    /// skipped; an absent answer is empty. Takes no memory.
     ///
     /// Refused in this order, each a condition on the whole part: `Wire`, `RepeatedMessage`,
     /// `NotUtf8`, `Row`.
@@ -121,6 +121,13 @@ impl<'b> TablePart<'b> {
         ensures { result ≡ self.now.answer }
     {
         RowsAnswer::of_answer(answer_in(self.message))
+    }
+
+    /// The bytes of the table's name, none where the part has no name. They needn't be UTF-8.
+    pub fn name(&self) -> &'b [u8]
+        ensures { result.now ≡ self.now.name }
+    {
+        last_text(self.message, 3)
     }
 }
 

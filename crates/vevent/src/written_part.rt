@@ -20,6 +20,8 @@ use std::alloc::AllocError;
 pub struct TableContent<'a> {
     pub mark: TableMark,
     pub answer: AnswerContent<'a>,
+    /// The bytes of the table's name; none, and no name is written.
+    pub name: &'a [u8],
 }
 
 /// What a stream's part is to say that is written.
@@ -35,7 +37,9 @@ pub fn table_part_size(part: &TableContent<'_>) -> Result<usize, AllocError>
     ensures { IfOk result (λ n. n ≡ length (written_table_part (table_content part.now))) }
 {
     let answer = bytes_field_size(2, answer_size(&part.answer)?)?;
-    let size = size_of_both(number_field_size(1, part.mark.number()), answer)?;
+    let name = text_field_size(3, part.name.len())?;
+    let head = size_of_both(number_field_size(1, part.mark.number()), answer)?;
+    let size = size_of_both(head, name)?;
     Ok(size)
 }
 
@@ -47,6 +51,7 @@ fn put_table_part(out: &mut Vec<u8>, part: &TableContent<'_>) -> Result<(), Allo
     put_number(out, 1, part.mark.number())?;
     put_bytes_head(out, 2, answer_size(&part.answer)?)?;
     put_answer(out, &part.answer)?;
+    put_text(out, 3, part.name)?;
     Ok(())
 }
 

@@ -8,10 +8,12 @@ mod LineLaws
 mod KeyTextLaws
 mod OpenLaws
 mod ScriptRunLaws
+mod SourceLaws
 mod StepLaws
 mod VdiffLaws
 mod SaveLaws
 mod ResumeLaws
+mod JoinedLaws
 mod InputListLaws
 mod RunLaws
 mod AtOnceLaws

@@ -7,14 +7,15 @@ use Rattle.filter_rule.specs.PlanValue.{PlanValue}
 use Rattle.source_feed.specs.Planned.{FeedValue}
 use Rattle.board_laws.specs.Meaning.{Meaning}
 use Rattle.apply_core.specs.Resuming.{IsResumed}
-use Rattle.vrepl_main.specs.declared.resume.ResumeRefusal.{ResumeRefusal}
+use Rattle.vrepl_main.specs.declared.resuming.ResumeRefusal.{ResumeRefusal}
 use Rattle.vrepl_main.specs.declared.script.ScriptStep.{ScriptStep}
 use Rattle.vrepl_main.specs.Printing.{PrintsBeginning}
 use Rattle.vrepl_main.specs.Reasons.{Reason}
 use Rattle.vrepl_main.specs.Replied.{all_given}
 use Rattle.vrepl_main.specs.ResumedRun.{IsRepliedBehind, PrintsResumed, PrintsSomeResumed, RefusesResume}
-use Rattle.vrepl_main.specs.ScriptRun.{ScriptReply, ScriptGiven, IsScriptRun, replies_text}
+use Rattle.vrepl_main.specs.ScriptRun.{ScriptReply, ScriptGiven, IsScriptRun, IsFed, replies_text}
 use Rattle.vrepl_main.proofs.PrintLaws.{whole_begins}
+use Rattle.vrepl_main.proofs.SourceLaws.{script_shows}
 
 -- ---- other words for what is given
 
@@ -36,10 +37,10 @@ prints_nothing (Ok given) checkpoint now = inl refl
 prints_nothing (Err reason) checkpoint now = refl
 
 module _ (plans : List PlanValue) (feeds : List FeedValue) (steps : List ScriptStep) (checkpoint : List ℕ) (plan : PlanValue) (start : Meaning) (old new : Option (List ℕ))
-    (first : slice_get plans 0 ≡ Some plan) (resumed : IsResumed feeds checkpoint start) where
+    (first : slice_get plans 0 ≡ Some plan) (resumed : IsResumed feeds checkpoint start) (fed : IsFed feeds start) where
   replied : (lines : List ScriptStep) (replies : List ScriptReply) (board : Meaning) → IsScriptRun feeds start lines replies board
       → IsRepliedBehind (record { plans = plans; feeds = feeds }) checkpoint lines (replies_text plan replies)
-  replied lines replies board run = record { plan = plan; first = first; start = start; resumed = resumed; replies = replies; board = board; run = run; is_text = refl }
+  replied lines replies board run = record { plan = plan; first = first; start = start; resumed = resumed; replies = replies; board = board; run = run; sources = (script_shows feeds start board lines replies run fed).1; is_text = refl }
 
   -- all replies
   pub prints_all : (board : Meaning) × (replies : List ScriptReply) × IsScriptRun feeds start steps replies board × Appends old new (replies_text plan replies)

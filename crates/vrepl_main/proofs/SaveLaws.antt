@@ -1,6 +1,7 @@
 -- What the command `save` prints, and why it is refused, by what its inputs say.
 use Rattle.std.proofs.Common.{◌≡◌, sym, subst, ℕ, ◌≤◌, List, length, take, Result, Ok, Err}
 use Rattle.std.proofs.lemmas.List.{take_all}
+use Rattle.std.specs.List.{AllByRecursion}
 use Rattle.filter_rule.specs.PlanValue.{PlanValue}
 use Rattle.source_feed.specs.Planned.{FeedValue}
 use Rattle.board_laws.specs.Meaning.{Meaning}
@@ -11,7 +12,8 @@ use Rattle.vrepl_main.specs.declared.script.ScriptStep.{ScriptStep}
 use Rattle.vrepl_main.specs.Command.{Refuses, IsUnwritten}
 use Rattle.vrepl_main.specs.Reasons.{Reason}
 use Rattle.vrepl_main.specs.SavedBoard.{IsSaved}
-use Rattle.vrepl_main.specs.ScriptRun.{ScriptReply, ScriptGiven, IsScriptRun}
+use Rattle.vrepl_main.specs.ScriptRun.{ScriptReply, ScriptGiven, IsScriptRun, IsFed, IsTold}
+use Rattle.vrepl_main.proofs.SourceLaws.{fed_shows, script_shows}
 use Rattle.vrepl_main.proofs.StepLaws.{refuses_unwritten}
 
 -- the checkpoint can't be written
@@ -23,14 +25,24 @@ unwritten refusal (Err reason) bytes saved is = absurd saved
 pub saved_as : (one other : Result ScriptGiven Reason) (bytes : List ℕ) → one ≡ other → IsSaved other bytes → IsSaved one bytes
 saved_as one other bytes is saved = subst (λ (r : Result ScriptGiven Reason). IsSaved r bytes) (sym is) saved
 
--- the board behind the steps
+-- the board behind the steps, which took each of them
 pub saved_behind : (reading : Result ScriptGiven Reason) (plans : List PlanValue) (feeds : List FeedValue) (steps : List ScriptStep) (board : Meaning) (bytes : List ℕ)
-    → reading ≡ Ok (record { opened = record { plans = plans; feeds = feeds }; steps = steps }) → (replies : List ScriptReply) × IsScriptRun feeds (fresh_board plans) steps replies board
+    → reading ≡ Ok (record { opened = record { plans = plans; feeds = feeds }; steps = steps })
+    → (replies : List ScriptReply) × IsScriptRun feeds (fresh_board plans) steps replies board × AllByRecursion IsTold replies → IsFed feeds (fresh_board plans)
     → bytes ≡ checkpoint_of board → IsSaved reading bytes
-saved_behind reading plans feeds steps board bytes is (replies, run) saved =
-    saved_as reading (Ok (record { opened = record { plans = plans; feeds = feeds }; steps = steps })) bytes is (record { replies = replies; board = board; run = run; checkpoint = saved })
+saved_behind reading plans feeds steps board bytes is (replies, run, told) fed saved =
+    saved_as reading (Ok (record { opened = record { plans = plans; feeds = feeds }; steps = steps })) bytes is
+    (record {
+      replies = replies;
+      board = board;
+      run = run;
+      told = told;
+      sources = fed_shows feeds board (script_shows feeds (fresh_board plans) board steps replies run fed).0;
+      checkpoint = saved;
+    })
 
 -- all lines are taken
-pub all_taken : (feeds : List FeedValue) (old now : Meaning) (steps : List ScriptStep) (i : ℕ) → length steps ≤ i → (replies : List ScriptReply) × IsScriptRun feeds old (take i steps) replies now
-    → (replies : List ScriptReply) × IsScriptRun feeds old steps replies now
-all_taken feeds old now steps i most (replies, run) = (replies, subst (λ (lines : List ScriptStep). IsScriptRun feeds old lines replies now) (take_all i steps most) run)
+pub all_taken : (feeds : List FeedValue) (old now : Meaning) (steps : List ScriptStep) (i : ℕ) → length steps ≤ i
+    → (replies : List ScriptReply) × IsScriptRun feeds old (take i steps) replies now × AllByRecursion IsTold replies
+    → (replies : List ScriptReply) × IsScriptRun feeds old steps replies now × AllByRecursion IsTold replies
+all_taken feeds old now steps i most (replies, run, told) = (replies, subst (λ (lines : List ScriptStep). IsScriptRun feeds old lines replies now) (take_all i steps most) run, told)

@@ -10,7 +10,7 @@ use Rattle.source_feed.specs.Planned.{FeedValue}
 use Rattle.stream_core.specs.Standing.{Standing}
 use Rattle.board_laws.specs.Lawful.{standing_of}
 use Rattle.board_laws.specs.Meaning.{State, Meaning}
-use Rattle.apply_core.specs.Shown.{position_of}
+use Rattle.board_laws.specs.Sources.{applied_position}
 use Rattle.vdiff_core.proofs.PrintLaws.{adds_none}
 use Rattle.vdiff_core.specs.Printing as strong
 use Rattle.vdiff_core.specs.Printing.{Written}
@@ -22,7 +22,7 @@ use Rattle.vrepl_main.proofs.AddLaws.{then_put, then_stops, then_finishes}
 
 -- ---- where a stream stands
 
-pub where_shown : (state : Option State) (now : Standing) (position : Position) → IsSomeAnd state (λ s. now ≡ standing_of s) → IsSomeAnd state (λ s. position ≡ position_of s)
+pub where_shown : (state : Option State) (now : Standing) (position : Position) → IsSomeAnd state (λ s. now ≡ standing_of s) → IsSomeAnd state (λ s. position ≡ applied_position s)
     → Some (now, position) ≡ option_map where_of state
 where_shown None now position is also = absurd is
 where_shown (Some s) now position is also = rw (is, also) refl

@@ -18,11 +18,12 @@ use Rattle.vrepl_main.specs.Command.{Refuses, IsUnwritten}
 use Rattle.vrepl_main.specs.Opening.{OpenedValue}
 use Rattle.vrepl_main.specs.Printing.{PrintsBeginning}
 use Rattle.vrepl_main.specs.ScriptLines.{script_steps}
-use Rattle.vrepl_main.specs.ScriptRun.{ScriptReply, ScriptGiven, IsScriptRun, IsRepliedTo, said_steps, given_with, given_bytes, script_given, replies_text}
+use Rattle.vrepl_main.specs.ScriptRun.{ScriptReply, ScriptGiven, IsScriptRun, IsFed, IsRepliedTo, said_steps, given_with, given_bytes, script_given, replies_text}
 use Rattle.vrepl_main.specs.Replied.{PrintsReplies, PrintsSomeReplies, all_given}
 use Rattle.vrepl_main.proofs.PrintLaws.{whole_begins}
 use Rattle.vrepl_main.proofs.CommandLaws.{Refuses-unwritten}
 use Rattle.vrepl_main.proofs.OpenLaws.{RefusesInputs-whole}
+use Rattle.vrepl_main.proofs.SourceLaws.{script_shows}
 
 -- ---- refusals
 
@@ -102,7 +103,7 @@ prints_no_reply (Ok given) now = inl refl
 prints_no_reply (Err reason) now = refl
 
 module _ (plans : List PlanValue) (feeds : List FeedValue) (steps : List ScriptStep) (plan : PlanValue) (start : Meaning) (old new : Option (List ℕ))
-    (first : slice_get plans 0 ≡ Some plan) (fresh : start ≡ fresh_board plans) where
+    (first : slice_get plans 0 ≡ Some plan) (fresh : start ≡ fresh_board plans) (fed : IsFed feeds start) where
   replied : (lines : List ScriptStep) (replies : List ScriptReply) (board : Meaning) → IsScriptRun feeds start lines replies board
       → IsRepliedTo (record { plans = plans; feeds = feeds }) lines (replies_text plan replies)
   replied lines replies board run = record {
@@ -111,6 +112,7 @@ module _ (plans : List PlanValue) (feeds : List FeedValue) (steps : List ScriptS
     replies = replies;
     board = board;
     run = subst (λ (b : Meaning). IsScriptRun feeds b lines replies board) fresh run;
+    sources = (script_shows feeds start board lines replies run fed).1;
     is_text = refl;
   }
 

@@ -17,7 +17,7 @@ use Rattle.vdiff_core.specs.declared.report.Report.{Report}
 use Rattle.vdiff_core.specs.declared.writer.OutFailed.{OutFailed}
 use Rattle.vrepl_main.specs.declared.refusal.Refusal.{Refusal}
 use Rattle.vrepl_main.specs.declared.refusal.Refusal.TheVariants.{Memory, Workflow, FeedCount, Feed, BadHex, BadScript, BadDump, CannotRead, CannotWrite}
-use Rattle.vrepl_main.specs.declared.vdiff.Verdict.{Verdict}
+use Rattle.vrepl_main.specs.declared.comparing.Verdict.{Verdict}
 use Rattle.vrepl_main.specs.Reasons.{bad_workflow, feed_count, bad_hex, bad_feed, bad_script, bad_dump}
 use Rattle.vrepl_main.specs.RefusalOf.{refusal_of_workflow, refusal_of_dump}
 use Rattle.vrepl_main.specs.Command.{IsUnwritten}

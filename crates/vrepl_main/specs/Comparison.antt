@@ -16,8 +16,8 @@ use Rattle.vrepl_main.specs.Reasons.{Reason, bad_workflow, bad_dump}
 use Rattle.vrepl_main.specs.RefusedText.{key_text, name_of_table}
 use Rattle.vrepl_main.specs.Refusals.{refusal_line}
 use Rattle.vdiff_core.specs.declared.writer.OutFailed.{OutFailed}
-use Rattle.vrepl_main.specs.declared.vdiff.Verdict.{Verdict}
-use Rattle.vrepl_main.specs.declared.vdiff.Verdict.TheVariants.{Same, Differ}
+use Rattle.vrepl_main.specs.declared.comparing.Verdict.{Verdict}
+use Rattle.vrepl_main.specs.declared.comparing.Verdict.TheVariants.{Same, Differ}
 use Rattle.vrepl_main.specs.declared.refusal.Refusal.{Refusal}
 use Rattle.vrepl_main.specs.declared.refusal.Refusal.TheVariants.{Memory}
 

@@ -43,6 +43,20 @@ checkpoint_of inputs = get_or inputs 0 []
 abbrev pub resume_asked : Bool → List (List ℕ) → Result ScriptGiven Reason
 resume_asked hex inputs = script_asked hex (drop 1 inputs)
 
+-- ---- `join`
+
+-- the one checkpoint stands behind the workflow
+abbrev pub one_of : List (List ℕ) → List ℕ
+one_of inputs = get_or inputs 1 []
+
+-- and the other behind that
+abbrev pub other_of : List (List ℕ) → List ℕ
+other_of inputs = get_or inputs 2 []
+
+-- the workflow with the feeds behind both, or why they are refused
+abbrev pub join_asked : Bool → List (List ℕ) → Result OpenedValue Reason
+join_asked hex inputs = opened hex (workflow_of inputs) (drop 3 inputs)
+
 -- ---- `vdiff`
 
 -- the source's dump stands behind the workflow

@@ -13,6 +13,7 @@ pub mod ScriptRefusal
 pub mod AnswerText
 pub mod RefusedText
 pub mod ResumedText
+pub mod JoinedText
 pub mod Opening
 pub mod Given
 pub mod OpenedFeeds
@@ -22,5 +23,6 @@ pub mod Replied
 pub mod Comparison
 pub mod SavedBoard
 pub mod ResumedRun
+pub mod JoinedRun
 pub mod InputList
 pub mod Running

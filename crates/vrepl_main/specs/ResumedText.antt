@@ -4,7 +4,7 @@ use Rattle.filter_rule.specs.PlanTable.{TableValue}
 use Rattle.pk_copy.specs.KeyValue.{KeyValue}
 use Rattle.checkpoint_laws.specs.Faults.{number_of}
 use Rattle.checkpoint_laws.specs.declared.fault.ResumeFault.{ResumeFault}
-use Rattle.checkpoint_laws.specs.declared.fault.ResumeFault.TheVariants.{PositionUnknown, Unsound, Differs, OwnedByOther}
+use Rattle.checkpoint_laws.specs.declared.fault.ResumeFault.TheVariants.{PositionUnknown, Unsound, CheckpointDiffers, OwnedByOther}
 use Rattle.vrepl_main.specs.RefusedText.{name_of_table, key_text, clash_text, unprepared_text}
 
 -- the rows of a stream differ from its feed's at a key
@@ -15,7 +15,7 @@ differs_text tables stream key = codes " stream " ++ decimal stream ++ codes " t
 abbrev pub resume_details : List TableValue → ResumeFault → List ℕ
 resume_details tables (PositionUnknown stream) = codes " stream " ++ decimal stream
 resume_details tables (Unsound fault) = unprepared_text tables fault
-resume_details tables (Differs stream key) = differs_text tables stream key
+resume_details tables (CheckpointDiffers stream key) = differs_text tables stream key
 resume_details tables (OwnedByOther key owner) = clash_text tables key owner
 resume_details tables fault = []
 

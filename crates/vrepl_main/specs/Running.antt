@@ -18,8 +18,8 @@ use Rattle.vrepl_main.specs.Printing.{PrintsBeginning}
 use Rattle.vrepl_main.specs.Reasons.{Reason}
 use Rattle.vrepl_main.specs.RefusedText.{refused_text}
 use Rattle.vrepl_main.specs.Refusals.{refusal_line}
-use Rattle.vrepl_main.specs.declared.run.RunFault.{RunFault}
-use Rattle.vrepl_main.specs.declared.run.RunFault.TheVariants.{Given, Stream}
+use Rattle.vrepl_main.specs.declared.running.RunFault.{RunFault}
+use Rattle.vrepl_main.specs.declared.running.RunFault.TheVariants.{Given, Stream}
 
 -- ---- the dump
 

@@ -1,18 +1,23 @@
 -- What the command `save` leaves on its writer (this profile).
 use Rattle.std.specs.Prelude.{◌≡◌, ◌⊎◌, ℕ, List, Option, Result, Ok, Err}
 use Rattle.std.specs.Io.KnownBytes.{Appends}
+use Rattle.std.specs.List.{AllByRecursion}
 use Rattle.board_laws.specs.Meaning.{Meaning}
+use Rattle.board_laws.specs.Sources.{AllShowTheirSources}
 use Rattle.checkpoint_laws.specs.Written.{checkpoint_of}
 use Rattle.apply_core.specs.Fresh.{fresh_board}
 use Rattle.vrepl_main.specs.Printing.{PrintsBeginning}
 use Rattle.vrepl_main.specs.Reasons.{Reason}
-use Rattle.vrepl_main.specs.ScriptRun.{ScriptReply, ScriptGiven, IsScriptRun}
+use Rattle.vrepl_main.specs.ScriptRun.{ScriptReply, ScriptGiven, IsScriptRun, IsTold}
 
--- the bytes are the checkpoint of the board behind the steps of a script, whatever they reply
+-- the bytes are the checkpoint of the board behind the steps of a script, whatever they reply but want of memory; its
+-- streams show their sources
 pub record IsSavedBehind (given : ScriptGiven) (bytes : List ℕ) : Type 0 where
   pub replies : List ScriptReply
   pub board : Meaning
   pub run : IsScriptRun given.opened.feeds (fresh_board given.opened.plans) given.steps replies board
+  pub told : AllByRecursion IsTold replies
+  pub sources : AllShowTheirSources given.opened.feeds board
   pub checkpoint : bytes ≡ checkpoint_of board
 
 -- there is such a board, and they are its checkpoint

@@ -1,5 +1,6 @@
 -- What the lines of a script reply over a workflow with its feeds, and what they leave (this profile).
 use Rattle.std.specs.Prelude.{◌≡◌, ℕ, nat_lt, if◌then◌else◌, Bool, List, [], ◌∷◌, Option, Some, None, Result, Ok, Err, slice_get, flat_map}
+use Rattle.std.specs.List.{AllByRecursion}
 use Rattle.std.specs.Option.{option_and_then}
 use Rattle.outcome.specs.Outcome.{◌>>=◌}
 use Rattle.filter_rule.specs.PlanValue.{PlanValue}
@@ -9,13 +10,15 @@ use Rattle.stream_core.specs.Standing.{Standing}
 use Rattle.stream_core.specs.declared.step.Step.{Step}
 use Rattle.vdiff_core.specs.Dump.{dump_of}
 use Rattle.vdiff_core.specs.RowsValue.{RowsValue}
-use Rattle.board_laws.specs.Lawful.{standing_of}
+use Rattle.board_laws.specs.Lawful.{standing_of, IsLawful}
 use Rattle.board_laws.specs.Meaning.{State, Meaning}
+use Rattle.board_laws.specs.Reading.{AllReadTheirFeeds}
 use Rattle.board_laws.specs.Schedule.{Reply, IsReply}
 use Rattle.board_laws.specs.declared.refusal.Refusal.TheVariants.{NoStream, Memory}
 use Rattle.board_laws.specs.declared.step_refusal.StepRefusal.TheVariants.{Refused}
 use Rattle.apply_core.specs.Fresh.{fresh_board}
-use Rattle.apply_core.specs.Shown.{position_of, all_rows}
+use Rattle.board_laws.specs.Sources.{applied_position, AllShowTheirSources}
+use Rattle.apply_core.specs.Shown.{all_rows}
 use Rattle.vrepl_main.specs.declared.script.ScriptStep.{ScriptStep}
 use Rattle.vrepl_main.specs.declared.script.ScriptStep.TheVariants as script
 use Rattle.vrepl_main.specs.Reasons.{Reason, bad_script}
@@ -72,17 +75,33 @@ IsScriptRun feeds old (step ∷ steps) [] new = ⊥
 IsScriptRun feeds old (step ∷ steps) (reply ∷ replies) new =
     (between : Meaning) × IsScriptStep feeds old step reply between × IsScriptRun feeds between steps replies new
 
+-- the board is lawful, and each of its streams reads its feed
+pub record IsFed (feeds : List FeedValue) (board : Meaning) : Type 0 where
+  pub lawful : IsLawful board
+  pub reads : AllReadTheirFeeds feeds board
+
+-- what a dump shows are the rows of a board whose streams show their sources
+abbrev pub ShowsSources : List FeedValue → ScriptReply → Type 0
+ShowsSources feeds (answers reply) = Unit {0}
+ShowsSources feeds (stands stream state) = Unit {0}
+ShowsSources feeds (shows rows) = (board : Meaning) × (rows ≡ all_rows board.rows) × AllShowTheirSources feeds board
+
+-- the reply isn't want of memory
+abbrev pub IsTold : ScriptReply → Type 0
+IsTold (answers (Err (Refused Memory))) = ⊥
+IsTold reply = Unit {0}
+
 -- ---- text
 
 -- where a stream stands, by its numbers and its position
 abbrev pub where_of : State → Standing × Position
-where_of state = (standing_of state, position_of state)
+where_of state = (standing_of state, applied_position state)
 
 -- a reply as text, by the tables of a plan
 abbrev pub reply_text : PlanValue → ScriptReply → List ℕ
 reply_text plan (answers (Ok answer)) = answer_text answer
 reply_text plan (answers (Err refusal)) = refused_text plan.tables refusal
-reply_text plan (stands stream state) = state_text stream (standing_of state) (position_of state)
+reply_text plan (stands stream state) = state_text stream (standing_of state) (applied_position state)
 reply_text plan (shows rows) = dump_of plan rows
 
 abbrev pub replies_text : PlanValue → List ScriptReply → List ℕ
@@ -115,4 +134,5 @@ pub record IsRepliedTo (given : OpenedValue) (steps : List ScriptStep) (text : L
   pub replies : List ScriptReply
   pub board : Meaning
   pub run : IsScriptRun given.feeds (fresh_board given.plans) steps replies board
+  pub sources : AllByRecursion (ShowsSources given.feeds) replies
   pub is_text : text ≡ replies_text plan replies

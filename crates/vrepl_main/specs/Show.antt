@@ -5,13 +5,12 @@ use Rattle.source_feed.specs.GroupValue.{GroupValue}
 use Rattle.source_feed.specs.SourceValue.{SourceValue}
 use Rattle.source_feed.specs.Groups.{groups}
 use Rattle.vrepl_main.specs.Reasons.{Reason, bad_hex, bad_feed}
-use Rattle.vrepl_main.specs.declared.source.Source.{Source}
 use Rattle.vrepl_main.specs.HexText.{feed_bytes}
 use Rattle.vrepl_main.specs.Shown.{shown}
 
--- whose feed it is, by the words
-abbrev pub source_of : Source → SourceValue
-source_of source = record { keyspace = source.keyspace.now; shard = source.shard.now }
+-- whose feed it is
+abbrev pub source_of : List ℕ → List ℕ → SourceValue
+source_of keyspace shard = record { keyspace = keyspace; shard = shard }
 
 abbrev pub shown_groups : Result (List GroupValue) FeedFault → Result (List ℕ) Reason
 shown_groups (Ok groups) = Ok (shown groups)

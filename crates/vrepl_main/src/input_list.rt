@@ -2,18 +2,19 @@
 //! of them, by their places.
 
 ghost use Rattle.std.specs.Prelude.{◌≡◌, ◌≢◌, ◌≤◌, ◌⊎◌, ◌∷◌, ◌++◌, [], length, map, IfOk};
-ghost use Rattle.vrepl_main.specs.InputList.{bytes_of, checkpoint_of, opened_by, resume_asked, script_asked, source_of, target_of, workflow_of};
+ghost use Rattle.vrepl_main.specs.InputList.{bytes_of, checkpoint_of, join_asked, one_of, opened_by, other_of, resume_asked, script_asked, source_of, target_of, workflow_of};
 ghost use Rattle.vrepl_main.specs.Command.{PrintsRefusal};
 ghost use Rattle.vrepl_main.specs.Comparison.{IsComparedAs, PrintsDumpRefusal, PrintsSomeComparison};
 ghost use Rattle.vrepl_main.specs.Replied.{PrintsReplies, PrintsSomeReplies};
 ghost use Rattle.vrepl_main.specs.Running.{PrintsDump, PrintsSomeDump, PrintsRunRefusal};
+ghost use Rattle.vrepl_main.specs.JoinedRun.{PrintsJoin, PrintsSomeJoin, PrintsJoinRefusal};
 ghost use Rattle.vrepl_main.specs.ResumedRun.{PrintsResumed, PrintsSomeResumed, PrintsResumeRefusal};
 ghost use Rattle.vrepl_main.specs.SavedBoard.{PrintsCheckpoint, PrintsSomeCheckpoint};
 ghost use Rattle.vrepl_main.specs.declared.input.InputName.TheVariants.{File, Standard};
-ghost use Rattle.vrepl_main.specs.declared.vdiff.Verdict.TheVariants.{Same, Differ};
+ghost use Rattle.vrepl_main.specs.declared.comparing.Verdict.TheVariants.{Same, Differ};
 
 use crate::input::InputName;
-use crate::{resume, run, save, step, vdiff};
+use crate::{join, resume, run, save, step, vdiff};
 use std::alloc::{AllocError, Global};
 use std::sync::Wait;
 use std::thread::Threads;
@@ -74,7 +75,7 @@ pub fn step_on<W: Out, E: Out>(
 {
     let last = inputs.len() - 1;
     let feeds = &inputs[1..last];
-    step::step(alloc, hex, &inputs[0], feeds, &inputs[last], out, err)
+    step(alloc, hex, &inputs[0], feeds, &inputs[last], out, err)
 }
 
 /// Writes the checkpoint of the board behind the script, which is the last input, over the workflow, the
@@ -95,7 +96,7 @@ pub fn save_on<W: Out, E: Out>(
 {
     let last = inputs.len() - 1;
     let between = &inputs[1..last];
-    save::save(alloc, hex, &inputs[0], between, &inputs[last], out, err)
+    save(alloc, hex, &inputs[0], between, &inputs[last], out, err)
 }
 
 /// The inputs of `resume`: the checkpoint, the workflow, the feeds in their order, and the script.
@@ -130,7 +131,7 @@ pub fn resume_on<W: Out, E: Out>(
 {
     let last = inputs.len() - 1;
     let feeds = &inputs[2..last];
-    resume::resume(
+    resume(
         alloc,
         hex,
         &inputs[0],
@@ -139,6 +140,45 @@ pub fn resume_on<W: Out, E: Out>(
         &inputs[last],
         out,
         err,
+    )
+}
+
+/// The inputs of `join`: the workflow, the two checkpoints, and the feeds in their order.
+pub fn join_inputs<'w>(
+    alloc: Global,
+    workflow: &'w str,
+    one: &'w str,
+    other: &'w str,
+    feeds: &[&'w str],
+) -> Result<Vec<InputName<'w>>, AllocError>
+    ensures { IfOk result (λ names. names.items ≡ File workflow.entry ∷ File one.entry ∷ File other.entry ∷ map File feeds.now) }
+{
+    let mut names = file_names(alloc, feeds)?;
+    names.insert(0, InputName::File(other))?;
+    names.insert(0, InputName::File(one))?;
+    names.insert(0, InputName::File(workflow))?;
+    Ok(names)
+}
+
+/// Writes the checkpoint of the join of the boards that the second and the third input, two checkpoints, make
+/// over the workflow, the first one, and its feeds, those behind them.
+pub fn join_on<W: Out, E: Out>(
+    alloc: Global,
+    hex: bool,
+    inputs: &[Vec<u8>],
+    out: &mut W,
+    err: &mut E,
+) -> u8
+    requires { 3 ≤ length inputs.now }
+    ensures status { (result ≡ 0) ⊎ (result ≡ 1) }
+    ensures printed { result ≡ 0 → PrintsJoin (join_asked hex (bytes_of inputs.now)) (one_of (bytes_of inputs.now)) (other_of (bytes_of inputs.now)) (W.written out.old).bytes (W.written out.new).bytes }
+    ensures begun { PrintsSomeJoin (join_asked hex (bytes_of inputs.now)) (one_of (bytes_of inputs.now)) (other_of (bytes_of inputs.now)) (W.written out.old).bytes (W.written out.new).bytes }
+    ensures quiet { result ≡ 0 → err.new ≡ err.old }
+    ensures refused { result ≡ 1 → PrintsJoinRefusal (join_asked hex (bytes_of inputs.now)) (one_of (bytes_of inputs.now)) (other_of (bytes_of inputs.now)) (E.written err.old).bytes (E.written err.new).bytes }
+{
+    let feeds = &inputs[3..];
+    join(
+        alloc, hex, &inputs[0], &inputs[1], &inputs[2], feeds, out, err,
     )
 }
 
@@ -175,7 +215,7 @@ pub fn run_on<R: Threads + Wait + Sync, W: Out, E: Out>(
     ensures refused { result ≡ 1 → PrintsRunRefusal (opened_by hex (bytes_of inputs.now)) (E.written err.old).bytes (E.written err.new).bytes }
 {
     let feeds = &inputs[1..];
-    run::run(rt, alloc, hex, alone, policy, &inputs[0], feeds, out, err)
+    run(rt, alloc, hex, alone, policy, &inputs[0], feeds, out, err)
 }
 
 /// The inputs of `vdiff`: the workflow, the source's dump, and the target's.
@@ -200,5 +240,5 @@ pub fn vdiff_on<W: Out, E: Out>(alloc: Global, inputs: &[Vec<u8>], out: &mut W, 
     ensures quiet { result ≢ 1 → err.new ≡ err.old }
     ensures refused { result ≡ 1 → PrintsDumpRefusal (workflow_of (bytes_of inputs.now)) (source_of (bytes_of inputs.now)) (target_of (bytes_of inputs.now)) (E.written err.old).bytes (E.written err.new).bytes }
 {
-    vdiff::vdiff(alloc, &inputs[0], &inputs[1], &inputs[2], out, err)
+    vdiff(alloc, &inputs[0], &inputs[1], &inputs[2], out, err)
 }

@@ -1,27 +1,47 @@
 //! The commands of the program `vrepl`: words, bytes and writers in; bytes and a status out.
 #![tactic(auto)]
 
-pub mod answer_text;
-pub mod at_once;
-pub mod given;
-pub mod hex_text;
-pub mod input;
-pub mod input_list;
-pub mod key_text;
+mod answer_text;
+mod at_once;
+mod comparing;
+mod given;
+mod hex_text;
+mod input;
+mod input_list;
+mod joined_text;
+mod joining;
+mod key_text;
 mod line;
 mod lines;
-pub mod opened;
-pub mod output;
-pub mod refusal;
-pub mod refused_text;
-pub mod resume;
-pub mod resumed_text;
-pub mod run;
-pub mod save;
-pub mod script;
-pub mod show;
-pub mod shown;
-pub mod source;
-pub mod state_text;
-pub mod step;
-pub mod vdiff;
+mod opened;
+mod output;
+mod refusal;
+mod refused_text;
+mod resumed_text;
+mod resuming;
+mod running;
+mod saving;
+mod script;
+mod showing;
+mod shown;
+mod state_text;
+mod stepping;
+
+pub use comparing::vdiff;
+pub use given::{GivenFeed, given_feeds};
+pub use hex_text::{HexFault, bytes_of_hex};
+pub use input::{InputFault, InputName, read_inputs, read_whole, read_within};
+pub use input_list::{
+    VdiffFiles, join_inputs, join_on, resume_inputs, resume_on, run_inputs, run_on, save_on,
+    step_inputs, step_on, vdiff_inputs, vdiff_on,
+};
+pub use joining::join;
+pub use opened::open_workflow;
+pub use output::put_text;
+pub use refusal::{Refusal, refuse};
+pub use resuming::resume;
+pub use running::run;
+pub use saving::save;
+pub use script::{ScriptFault, ScriptStep, read_script};
+pub use showing::show;
+pub use stepping::step;

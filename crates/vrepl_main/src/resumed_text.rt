@@ -61,11 +61,13 @@ fn print_details<E: Out>(
             put_text(err, text, format_args!(" stream {stream}"))
         }
         ResumeFault::Unsound(fault) => print_unprepared(err, text, tables, fault),
-        ResumeFault::Differs { stream, key } => print_differs(err, text, tables, *stream, key),
+        ResumeFault::CheckpointDiffers { stream, key } => print_differs(
+            err, text, tables, *stream, key,
+        ),
         ResumeFault::OwnedByOther { key, owner } => print_clash(err, text, tables, key, *owner),
         ResumeFault::FeedCount
         | ResumeFault::WrongPlan
-        | ResumeFault::BadCheckpoint
+        | ResumeFault::CheckpointBad
         | ResumeFault::Memory => Ok(()),
     }
 }

@@ -1,7 +1,8 @@
 -- What the words that were read ask for.
-use Rattle.vrepl_words.specs.Words.{PortionsValue, ResumeValue, RunValue, ShowValue, StepValue, VdiffValue, WordsValue, asks_run, asks_show, asks_step, asks_save, asks_resume, asks_vdiff}
+use Rattle.vrepl_words.specs.Words.{JoinValue, PortionsValue, ResumeValue, RunValue, ShowValue, StepValue, VdiffValue, WordsValue, asks_join, asks_run, asks_show, asks_step, asks_save, asks_resume, asks_vdiff}
 use Rattle.std.specs.Prelude.{◌≡◌, map, Option, None, Some, Result, Ok, Err}
 use Rattle.vrepl_words.specs.declared.portions.Portions.{Portions}
+use Rattle.vrepl_words.specs.declared.words.Join.{Join}
 use Rattle.vrepl_words.specs.declared.words.Resume.{Resume}
 use Rattle.vrepl_words.specs.declared.words.Run.{Run}
 use Rattle.vrepl_words.specs.declared.words.Show.{Show}
@@ -25,6 +26,15 @@ step_value step = record { hex = step.hex; workflow = step.workflow.now; feeds =
 abbrev pub resume_value : Resume → ResumeValue
 resume_value resume = record { checkpoint = resume.checkpoint.now; step = step_value resume.step }
 
+abbrev pub join_value : Join → JoinValue
+join_value join = record {
+  hex = join.hex;
+  workflow = join.workflow.now;
+  one = join.one.now;
+  other = join.other.now;
+  feeds = map (λ feed. feed.now) join.feeds.items;
+}
+
 abbrev pub portions_value : Portions → PortionsValue
 portions_value portions = record { rows = portions.rows; ahead = portions.ahead; chunks = portions.chunks }
 
@@ -47,6 +57,7 @@ value_of (words.Step step) = asks_step (step_value step)
 value_of (words.Run run) = asks_run (run_value run)
 value_of (words.Save save) = asks_save (step_value save)
 value_of (words.Resume resume) = asks_resume (resume_value resume)
+value_of (words.Join join) = asks_join (join_value join)
 value_of (words.Vdiff files) = asks_vdiff (vdiff_value files)
 
 -- what was met asks for this, if for anything, unless a fault kept it from being read

@@ -41,6 +41,14 @@ pub record ResumeValue : Type 0 where
   pub checkpoint : Text
   pub step : StepValue
 
+-- `join`: a workflow, two checkpoints, a feed for each of its streams, and whether feeds are hexadecimal text
+pub record JoinValue : Type 0 where
+  pub hex : Bool
+  pub workflow : Text
+  pub one : Text
+  pub other : Text
+  pub feeds : List Text
+
 -- `vdiff`: a workflow, and the dumps of a source and of a target
 pub record VdiffValue : Type 0 where
   pub workflow : Text
@@ -54,6 +62,7 @@ pub data WordsValue : Type 0 where
   asks_run : RunValue → WordsValue
   asks_save : StepValue → WordsValue
   asks_resume : ResumeValue → WordsValue
+  asks_join : JoinValue → WordsValue
   asks_vdiff : VdiffValue → WordsValue
 
 -- a subcommand: its name, its arguments in their order, and what it asks for, by what is given to them; nothing
@@ -136,6 +145,24 @@ resume_subcommand = record {
   meaning = λ given. Some (asks_resume (resume_given given));
 }
 
+-- what is given to the arguments of `join`
+abbrev pub join_given : List Row → JoinValue
+join_given given = record {
+  hex = is_given (codes "hex") given;
+  workflow = text_given (codes "workflow") given;
+  one = text_given (codes "one") given;
+  other = text_given (codes "other") given;
+  feeds = texts_given (codes "feed") given;
+}
+
+-- `join [--hex] WORKFLOW A B FEED..`
+abbrev pub join_subcommand : Subcommand
+join_subcommand = record {
+  name = codes "join";
+  rules = flag_rule (codes "hex") ∷ operand_rule (codes "workflow") ∷ operand_rule (codes "one") ∷ operand_rule (codes "other") ∷ operands_rule (codes "feed") ∷ [];
+  meaning = λ given. Some (asks_join (join_given given));
+}
+
 -- what is given to the arguments of `vdiff`
 abbrev pub vdiff_given : List Row → VdiffValue
 vdiff_given given = record { workflow = text_given (codes "workflow") given; source = text_given (codes "source") given; target = text_given (codes "target") given }
@@ -150,7 +177,7 @@ vdiff_subcommand = record {
 
 -- the subcommands, in the order of the help
 abbrev pub subcommands : List Subcommand
-subcommands = show_subcommand ∷ step_subcommand ∷ run_subcommand ∷ vdiff_subcommand ∷ save_subcommand ∷ resume_subcommand ∷ []
+subcommands = show_subcommand ∷ step_subcommand ∷ run_subcommand ∷ vdiff_subcommand ∷ save_subcommand ∷ resume_subcommand ∷ join_subcommand ∷ []
 
 -- a subcommand as `clap` sees it
 abbrev pub shape_of_subcommand : Subcommand → Shape

@@ -4,7 +4,7 @@ ghost use Rattle.std.specs.Prelude.{IfOk, codes};
 ghost use Rattle.clap.specs.Words.{App, Rule, new_app, with_rule, with_subcommand};
 ghost use Rattle.vrepl_words.specs.Arguments.{flag_rule, needed_rule, operand_rule, operands_rule, option_rule};
 ghost use Rattle.vrepl_words.specs.Built.{HasApp, HasRule, IsSubcommand, bare_app};
-ghost use Rattle.vrepl_words.specs.Words.{program_app, resume_subcommand, run_subcommand, save_subcommand, show_subcommand, step_subcommand, vdiff_subcommand};
+ghost use Rattle.vrepl_words.specs.Words.{join_subcommand, program_app, resume_subcommand, run_subcommand, save_subcommand, show_subcommand, step_subcommand, vdiff_subcommand};
 
 use clap::{Arg, ArgAction, Command};
 use std::alloc::{AllocError, Global};
@@ -63,6 +63,15 @@ Example:
 
 The rows of the checkpoint are compared with those that the feeds leave.";
 
+/// A call of `join`.
+const JOIN_EXAMPLE: &str = "\
+Example:
+  $ vrepl join --hex examples/workflows/two_shards.json \\
+      examples/checkpoints/lower.checkpoint examples/checkpoints/upper.checkpoint \\
+      examples/two_shards/lower.hex examples/two_shards/upper.hex > both.checkpoint
+
+Each stream, with its rows, is that of the checkpoint in which it is further on.";
+
 /// A call of `vdiff`, what it prints, and its status.
 const VDIFF_EXAMPLE: &str = "\
 Example:
@@ -87,7 +96,8 @@ pub(crate) fn program<'w>(alloc: Global) -> Result<Command<'w>, AllocError>
     let command = with_subcommand(command, run_command(alloc));
     let command = with_subcommand(command, vdiff_command(alloc));
     let command = with_subcommand(command, save_command(alloc));
-    with_subcommand(command, resume_command(alloc))
+    let command = with_subcommand(command, resume_command(alloc));
+    with_subcommand(command, join_command(alloc))
 }
 
 /// The program without its subcommands.
@@ -175,6 +185,21 @@ fn resume_command<'w>(alloc: Global) -> Result<Command<'w>, AllocError>
     let command = with_arg(command, hex(alloc));
     let checkpoint = needed(alloc, "checkpoint", "FILE", "The checkpoint's file");
     with_streams(alloc, with_arg(command, checkpoint))
+}
+
+fn join_command<'w>(alloc: Global) -> Result<Command<'w>, AllocError>
+    ensures { IfOk result (IsSubcommand join_subcommand) }
+{
+    let about = "Writes the checkpoint of the join of two checkpoints' boards";
+    let feed_help = "A feed's file for each stream, in their order";
+    let command = Ok(bare(alloc, "join", about, JOIN_EXAMPLE));
+    let command = with_arg(command, hex(alloc));
+    let command = with_arg(command, workflow(alloc));
+    let one = operand(alloc, "one", "A", "The one checkpoint's file");
+    let command = with_arg(command, one);
+    let other = operand(alloc, "other", "B", "The other checkpoint's file");
+    let command = with_arg(command, other);
+    with_arg(command, operands(alloc, "feed", "FEED", feed_help))
 }
 
 fn vdiff_command<'w>(alloc: Global) -> Result<Command<'w>, AllocError>

@@ -5,7 +5,7 @@ ghost use Rattle.clap.specs.Words.{FailsBy, found_of, rows_of, subcommand_rows_o
 ghost use Rattle.vrepl_words.specs.Arguments.{is_given, portion_given, portion_of, text_given, texts_given};
 ghost use Rattle.vrepl_words.specs.Built.{HasApp};
 ghost use Rattle.vrepl_words.specs.Meant.{Asks, portions_value, show_value, step_value, value_of, vdiff_value};
-ghost use Rattle.vrepl_words.specs.Words.{asked_by, asks_resume, asks_run, asks_save, asks_step, faults_of, portions_given, program_app, resume_given, run_given, run_subcommand, show_given, step_given, vdiff_given, words_of};
+ghost use Rattle.vrepl_words.specs.Words.{asked_by, asks_join, asks_resume, asks_run, asks_save, asks_step, faults_of, join_given, portions_given, program_app, resume_given, run_given, run_subcommand, show_given, step_given, vdiff_given, words_of};
 
 use crate::commands::program;
 use crate::portions::Portions;
@@ -30,6 +30,8 @@ pub enum Words<'w> {
     Save(Step<'w>),
     /// `resume`: take the steps of a script on the board of a checkpoint.
     Resume(Resume<'w>),
+    /// `join`: write the checkpoint of the join of two checkpoints' boards.
+    Join(Join<'w>),
     /// `vdiff`: compare two dumps.
     Vdiff(Vdiff<'w>),
 }
@@ -56,6 +58,21 @@ pub struct Resume<'w> {
     pub checkpoint: &'w str,
     /// The other words, which are those of `step`.
     pub step: Step<'w>,
+}
+
+/// The words of `join`.
+#[derive(Drop)]
+pub struct Join<'w> {
+    /// Whether the feeds are hexadecimal text.
+    pub hex: bool,
+    /// The workflow's file.
+    pub workflow: &'w str,
+    /// The file of the one checkpoint.
+    pub one: &'w str,
+    /// The file of the other checkpoint.
+    pub other: &'w str,
+    /// The feeds' files, in the order of the streams.
+    pub feeds: Vec<&'w str>,
 }
 
 /// The words of `step`, and of `save`, which has the same.
@@ -141,6 +158,7 @@ fn asked<'w>(alloc: Global, matches: &ArgMatches<'w>) -> Option<Result<Words<'w>
         "run" => run_words(alloc, given),
         "save" => Some(save_words(alloc, given)),
         "resume" => Some(resume_words(alloc, given)),
+        "join" => Some(join_words(alloc, given)),
         "vdiff" => Some(Ok(Words::Vdiff(vdiff_words(given)))),
         _ => None,
     }
@@ -189,6 +207,19 @@ fn resume_words<'w>(alloc: Global, given: &ArgMatches<'w>) -> Result<Words<'w>, 
     Ok(Words::Resume(Resume {
         checkpoint: text(given, "checkpoint"),
         step,
+    }))
+}
+
+fn join_words<'w>(alloc: Global, given: &ArgMatches<'w>) -> Result<Words<'w>, AllocError>
+    ensures { IfOk result (λ words. value_of words ≡ asks_join (join_given (rows_of (found_of given.now)))) }
+{
+    let feeds = texts(alloc, given, "feed")?;
+    Ok(Words::Join(Join {
+        hex: has_flag(given, "hex"),
+        workflow: text(given, "workflow"),
+        one: text(given, "one"),
+        other: text(given, "other"),
+        feeds,
     }))
 }
 

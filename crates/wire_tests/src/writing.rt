@@ -108,3 +108,47 @@ fn are_rewritten(alloc: Global, rows: &[(&[u8], &[u8])]) -> Result<bool, AllocEr
 fn rows_are_packed(rt: HostRuntime) {
     assert!(rt; matches!(are_rewritten(rt.alloc(), ROWS), Ok(true)));
 }
+
+/// Columns, and the bytes that are written of a row of them.
+const COLUMNS: &[(&[Column<'static>], &[u8])] = &[
+    // two_values
+    (
+        &[Column::Bytes(b"1"), Column::Bytes(b"ab")],
+        b"\x0a\x02\x02\x04\x12\x031ab",
+    ),
+    // null_and_the_empty_value: no values are left to write
+    (&[Column::Null, Column::Bytes(b"")], b"\x0a\x02\x01\x00"),
+    // no_columns
+    (&[], b""),
+];
+
+/// Whether a row of these columns is written so behind a byte.
+fn is_written_of(alloc: Global, columns: &[Column<'_>], wanted: &[u8]) -> Result<bool, AllocError> {
+    let mut out = Vec::from_slice(alloc, b"x")?;
+    write_columns(&mut out, columns)?;
+    Ok(out.as_slice().strip_prefix(b"x") == Some(wanted))
+}
+
+/// Whether a row that is made of these columns is the one that is read of the bytes.
+fn is_row_of(alloc: Global, columns: &[Column<'_>], bytes: &[u8]) -> Result<bool, AllocError> {
+    let row = RowBuf::of_columns(alloc, columns)?;
+    match RowView::read(bytes) {
+        Ok(read) => Ok(row.view().same(&read)),
+        Err(_) => Ok(false),
+    }
+}
+
+/// Whether the columns of each row are written as the bytes beside them, and make the row of these.
+fn are_written_of(alloc: Global, rows: &[(&[Column<'_>], &[u8])]) -> Result<bool, AllocError> {
+    for (columns, wanted) in rows {
+        if !is_written_of(alloc, columns, wanted)? || !is_row_of(alloc, columns, wanted)? {
+            return Ok(false);
+        }
+    }
+    Ok(true)
+}
+
+#[test]
+fn rows_of_columns(rt: HostRuntime) {
+    assert!(rt; matches!(are_written_of(rt.alloc(), COLUMNS), Ok(true)));
+}

@@ -22,12 +22,14 @@ fn is_rewritten(alloc: Global, event: &[u8], wanted: &[u8]) -> Result<bool, Allo
 
 /// Events that are written as they stand.
 const KEPT: &[&[u8]] = &[
-    // events_of_a_feed
+    // events_of_one_insert: all five, of 2, 24, 20, 50 and 2 bytes
     b"\x08\x02",
     b"\x08\x0d\x32\x14\x0a\x01t\x12\x07\x0a\x02id\x10\x89\x02\x12\x06\x0a\x01v\x10\x95\x30",
     b"\x08\x0c\x2a\x10\x0a\x01t\x12\x0b\x12\x09\x0a\x02\x02\x04\x12\x031ab",
-    b"\x08\x01\x1a\x0bMySQL56/U:1",
+    b"\x08\x01\x1a\x2eMySQL56/3e11fa47-71ca-11e1-9e33-c80aa9429562:1",
     b"\x08\x03",
+    // position_of_another_name
+    b"\x08\x01\x1a\x0bMySQL56/U:1",
     // every_kind_of_change: an insert, an update, a delete and no change; NULL, the empty value and a row
     // of no columns
     b"\x08\x0c\x2a\x24\x12\x06\x12\x04\x0a\x02\x01\x00\x12\x10\x0a\x06\x0a\x01\x02\x12\x01a\x12\x06\x0a\x01\x02\x12\x01b\x12\x02\x0a\x00\x12\x00\x12\x02\x12\x00",
@@ -130,6 +132,7 @@ fn write_each(out: &mut Vec<u8>, row: RowBytes<'_>, key: RowBytes<'_>) -> Result
     let table = TableContent {
         mark: TableMark::Upto,
         answer,
+        name: &[],
     };
     write_table_part(out, &table)?;
     let tables = [table];
@@ -182,7 +185,9 @@ fn is_sample_answer(answer: &RowsAnswer<'_>) -> bool {
 }
 
 fn is_sample_table(table: &TablePart<'_>) -> bool {
-    table.mark() == Some(TableMark::Upto) && is_sample_answer(&table.answer())
+    table.mark() == Some(TableMark::Upto)
+        && table.name().is_empty()
+        && is_sample_answer(&table.answer())
 }
 
 fn reads_answer(bytes: &[u8]) -> bool {
@@ -248,4 +253,68 @@ fn have_faults(rows: &[(&[u8], Option<EventFault>)]) -> bool {
 #[test]
 fn faults_of_an_answer_in_order(rt: HostRuntime) {
     assert!(rt; have_faults(FAULTS));
+}
+
+/// Parts of tables, and the bytes of the names in them.
+const NAMED: &[(&[u8], &[u8])] = &[
+    // no_name
+    (b"\x08\x02\x12\x00", b""),
+    // name_behind_the_answer
+    (b"\x08\x02\x12\x00\x1a\x01t", b"t"),
+    // name_first_and_again: the last one counts
+    (b"\x1a\x01t\x12\x00\x1a\x02uv\x08\x02", b"uv"),
+    // last_name_is_empty
+    (b"\x1a\x01t\x1a\x00", b""),
+    // name_that_is_no_text
+    (b"\x1a\x02\xff\xfe", b"\xff\xfe"),
+    // number_in_place_of_a_name
+    (b"\x1a\x01t\x18\x07", b"t"),
+];
+
+/// Whether each part has the name beside it.
+fn have_names(rows: &[(&[u8], &[u8])]) -> bool {
+    for (bytes, name) in rows {
+        let Ok(table) = TablePart::read(bytes) else {
+            return false;
+        };
+        if table.name() != *name {
+            return false;
+        }
+    }
+    true
+}
+
+#[test]
+fn names_of_tables(rt: HostRuntime) {
+    assert!(rt; have_names(NAMED));
+}
+
+/// Whether a part of a table with a name is written as these bytes, in as many as were reckoned.
+fn is_named(alloc: Global, name: &[u8], wanted: &[u8]) -> Result<bool, AllocError> {
+    let table = TableContent {
+        mark: TableMark::Done,
+        answer: AnswerContent {
+            fields: &[],
+            pkfields: &[],
+            gtid: "",
+            rows: &[],
+            lastpk: None,
+        },
+        name,
+    };
+    let size = table_part_size(&table)?;
+    let mut out = Vec::new(alloc);
+    write_table_part(&mut out, &table)?;
+    Ok(size == wanted.len() && out.as_slice() == wanted)
+}
+
+#[test]
+fn a_name_is_written_where_there_is_one(rt: HostRuntime) {
+    assert!(rt; matches!(is_named(rt.alloc(), b"", b"\x08\x02\x12\x00"), Ok(true)));
+    assert!(rt;
+        matches!(
+            is_named(rt.alloc(), b"t\xff", b"\x08\x02\x12\x00\x1a\x02t\xff"),
+            Ok(true)
+        )
+    );
 }

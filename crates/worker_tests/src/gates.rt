@@ -94,3 +94,63 @@ impl Gate for Counting {
             .fetch_add(of_stream + u64::from(number), Ordering::SeqCst);
     }
 }
+
+/// A gate that keeps the last number of each of two streams' groups, and at which stream 1 is held with its group 1
+/// until group 2 of stream 0 has come, or until it has looked for that too often.
+#[derive(Drop)]
+pub(crate) struct Turns {
+    first: AtomicU64,
+    second: AtomicU64,
+    missed: AtomicBool,
+}
+
+impl Turns {
+    pub(crate) fn new() -> Turns {
+        Turns {
+            first: AtomicU64::new(0),
+            second: AtomicU64::new(0),
+            missed: AtomicBool::new(false),
+        }
+    }
+
+    /// The number of each stream's last group, if the groups of both came one after another and stream 1 didn't
+    /// miss the other.
+    pub(crate) fn told(&self) -> Option<[u64; 2]> {
+        if self.missed.load(Ordering::SeqCst) {
+            return None;
+        }
+        Some([
+            self.first.load(Ordering::SeqCst),
+            self.second.load(Ordering::SeqCst),
+        ])
+    }
+
+    /// Waits for group 2 of stream 0.
+    fn wait_for_first(&self) {
+        for _ in 0..TURNS {
+            if self.first.load(Ordering::SeqCst) >= 2 {
+                return;
+            }
+            spin_loop();
+        }
+        self.missed.store(true, Ordering::SeqCst);
+    }
+
+    /// Keeps the number of a stream's group.
+    fn keep(&self, last: &AtomicU64, number: u32) {
+        if last.swap(u64::from(number), Ordering::SeqCst) >= u64::from(number) {
+            self.missed.store(true, Ordering::SeqCst);
+        }
+    }
+}
+
+impl Gate for Turns {
+    fn passed<R: Wait>(&self, _rt: &R, stream: u8, number: u32) {
+        if stream == 0 {
+            self.keep(&self.first, number);
+            return;
+        }
+        self.keep(&self.second, number);
+        self.wait_for_first();
+    }
+}

@@ -6,6 +6,8 @@ mod feeds;
 #[cfg(test)]
 mod gates;
 #[cfg(test)]
+mod memory;
+#[cfg(test)]
 mod runs;
 #[cfg(test)]
 mod seats;

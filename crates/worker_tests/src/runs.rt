@@ -1,9 +1,10 @@
 //! Runs of all streams to their feeds' ends, each in a thread of its own.
 
 use crate::feeds::{
-    LOWER, MANY_BYTES, TENS, UPPER, WORKFLOW, XS, YS, many_feeds, many_streams, open_feeds,
+    LOWER, MANY_BYTES, SAME_KEY, TENS, UPPER, WORKFLOW, XS, YS, many_feeds, many_streams,
+    open_feeds,
 };
-use crate::gates::{Counting, Meeting, Open};
+use crate::gates::{Counting, Meeting, Open, Turns};
 use apply_core::Board;
 use filter_rule::Plan;
 use row_view::{Column, RowBuf};
@@ -127,16 +128,27 @@ fn numbers_of(refusal: &RunRefusal) -> [u8; 3] {
 }
 
 /// What a run over two feeds is refused by; zeros where it isn't.
-fn refused<R: Threads + Wait + Sync>(rt: &R, alloc: Global, bytes: [&[u8]; 2]) -> [u8; 3] {
-    match run_of(rt, alloc, WORKFLOW, &bytes, USUAL, &Open) {
+fn refused_at<R: Threads + Wait + Sync, G: Gate + Sync>(
+    rt: &R,
+    alloc: Global,
+    bytes: [&[u8]; 2],
+    portions: [u32; 3],
+    gate: &G,
+) -> [u8; 3] {
+    match run_of(rt, alloc, WORKFLOW, &bytes, portions, gate) {
         Some(Err(refusal)) => numbers_of(&refusal),
         _ => [0; 3],
     }
 }
 
+/// The same in the usual portions, at a gate that does nothing.
+fn refused<R: Threads + Wait + Sync>(rt: &R, alloc: Global, bytes: [&[u8]; 2]) -> [u8; 3] {
+    refused_at(rt, alloc, bytes, USUAL, &Open)
+}
+
 #[test]
 fn foreign_row_in_parallel(rt: HostRuntime) {
-    let [number, stream, owner] = refused(&rt, rt.alloc(), [TENS, TENS]);
+    let [number, stream, owner] = refused(&rt, rt.alloc(), [LOWER, SAME_KEY]);
     assert!(rt; number == 71 && stream < 2 && owner == 1 - stream);
 }
 
@@ -144,6 +156,23 @@ fn foreign_row_in_parallel(rt: HostRuntime) {
 fn lowest_stream_answers(rt: HostRuntime) {
     assert!(rt; refused(&rt, rt.alloc(), [XS, YS]) == [90, 0, 0]);
     assert!(rt; refused(&rt, rt.alloc(), [TENS, YS]) == [90, 1, 0]);
+}
+
+/// The gate is told of a group before anything of it is copied: while stream 1 is held there the other stream
+/// puts its row first. It is told of the group whose row is then refused.
+#[test]
+fn gate_is_told_of_a_refused_group(rt: HostRuntime) {
+    let gate = Turns::new();
+    let refused = refused_at(&rt, rt.alloc(), [LOWER, SAME_KEY], [1; 3], &gate);
+    assert!(rt; refused == [71, 1, 0] && gate.told() == Some([2, 1]));
+}
+
+/// A group that can't be prepared never comes to the gate.
+#[test]
+fn gate_is_told_of_prepared_groups(rt: HostRuntime) {
+    let gate = Turns::new();
+    let refused = refused_at(&rt, rt.alloc(), [TENS, XS], USUAL, &gate);
+    assert!(rt; refused == [90, 1, 0] && gate.told() == Some([3, 0]));
 }
 
 /// The feeds of all 64 streams, each by itself.

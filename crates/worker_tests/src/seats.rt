@@ -3,7 +3,7 @@
 ghost use Rattle.std.specs.Prelude.{◌≡◌, IfSome};
 ghost use Rattle.stream_worker.specs.SeatOf.{IsSeatOf, AreSeatsOf};
 
-use crate::feeds::{TENS, TWENTIES, WORKFLOW, open_feeds};
+use crate::feeds::{LOWER, TENS, TWENTIES, UPPER, WORKFLOW, open_feeds};
 use apply_core::Board;
 use filter_rule::Plan;
 use pk_copy::Key;
@@ -31,7 +31,7 @@ fn is_read<'h, R: Wait>(
     requires { IsSeatOf shared.now seat.old }
     ensures { IsSeatOf shared.now seat.new × (seat.new.stream ≡ seat.old.stream) }
 {
-    match shared.offer(alloc, rt, seat, group) {
+    match shared.offer(rt, alloc, seat, group) {
         Ok(Offered::Read(number)) => number == n && seat.read() == n,
         _ => false,
     }
@@ -55,7 +55,7 @@ fn applied<'h, R: Wait>(
     if !is_read(alloc, rt, shared, seat, group, n) {
         return None;
     }
-    shared.advance(alloc, rt, seat).ok()
+    shared.advance(rt, alloc, seat).ok()
 }
 
 /// Whether a snapshot is opened at group 1.
@@ -63,7 +63,7 @@ fn is_opened<'h, R: Wait>(alloc: Global, rt: &R, shared: &Shared<'h>, seat: &mut
     requires { IsSeatOf shared.now seat.old }
     ensures { IsSeatOf shared.now seat.new × (seat.new.stream ≡ seat.old.stream) }
 {
-    shared.open_snapshot(alloc, rt, seat, 1).is_ok() && seat.snapshot() == Some(1)
+    shared.open_snapshot(rt, alloc, seat, 1).is_ok() && seat.snapshot() == Some(1)
 }
 
 /// Whether the table is copied out of the snapshot, a row and all at once.
@@ -71,7 +71,7 @@ fn is_copied<'h, R: Wait>(alloc: Global, rt: &R, shared: &Shared<'h>, seat: &mut
     requires { IsSeatOf shared.now seat.old }
     ensures { IsSeatOf shared.now seat.new × (seat.new.stream ≡ seat.old.stream) }
 {
-    match shared.copy_chunk(alloc, rt, seat, 5) {
+    match shared.copy_chunk(rt, alloc, seat, 5) {
         Ok(copied) => {
             copied.rows == 1 && copied.done && seat.done() == 1 && seat.snapshot().is_none()
         }
@@ -112,7 +112,7 @@ fn is_found<'h, R: Wait>(
     let Some(key) = key_of(alloc, &receipt.group) else {
         return false;
     };
-    match shared.look(alloc, rt, seat, &key) {
+    match shared.look(rt, alloc, seat, &key) {
         Ok((number, Some(row))) => number == receipt.number && is_put_by(&receipt.group, &row),
         _ => false,
     }
@@ -134,14 +134,15 @@ fn reads_back<'h, R: Wait>(
         Some(receipt) => {
             receipt.stream == seat.stream()
                 && receipt.number == n
+                && seat.applied() == n
                 && (n == 1 || is_found(alloc, rt, shared, seat, &receipt))
         }
         None => false,
     }
 }
 
-/// Whether a feed of three groups is read back: the first is applied, the table copied, the others applied and
-/// the row of each looked up.
+/// Whether a feed of two or three groups is read back: the first is applied, the table copied, the others applied
+/// and the row of each looked up.
 fn follows<'h, R: Wait>(
     alloc: Global,
     rt: &R,
@@ -156,7 +157,7 @@ fn follows<'h, R: Wait>(
         && is_opened(alloc, rt, shared, seat)
         && is_copied(alloc, rt, shared, seat)
         && reads_back(alloc, rt, shared, seat, feed, 2)
-        && reads_back(alloc, rt, shared, seat, feed, 3)
+        && (feed.len() < 3 || reads_back(alloc, rt, shared, seat, feed, 3))
 }
 
 /// What a thread works with: a seat, and the feed that it follows.
@@ -189,7 +190,10 @@ fn follow<'a, 'h, R: Wait>(follower: Follower<'a, 'h, R>) -> Option<Seat<'h>>
 }
 
 /// The seats of two streams.
-fn two_of<'h>(shared: &Shared<'h>, mut seats: Vec<Seat<'h>>) -> Option<(Seat<'h>, Seat<'h>)>
+pub(crate) fn two_of<'h>(
+    shared: &Shared<'h>,
+    mut seats: Vec<Seat<'h>>,
+) -> Option<(Seat<'h>, Seat<'h>)>
     requires { AreSeatsOf shared.now seats.items }
     ensures { IfSome result (λ two. (IsSeatOf shared.now two.0 × (two.0.stream ≡ 0)) × (IsSeatOf shared.now two.1 × (two.1.stream ≡ 1))) }
 {
@@ -262,7 +266,7 @@ fn seated<'h, R: Wait>(alloc: Global, rt: &R) -> Option<(Shared<'h>, (Seat<'h>, 
         return None;
     };
     let board = board_of(alloc, plans)?;
-    match Shared::open(alloc, rt, board) {
+    match Shared::open(rt, alloc, board) {
         Ok((shared, seats)) => {
             let two = two_of(&shared, seats)?;
             Some((shared, two))
@@ -271,9 +275,9 @@ fn seated<'h, R: Wait>(alloc: Global, rt: &R) -> Option<(Shared<'h>, (Seat<'h>, 
     }
 }
 
-/// The board that two seats give up.
+/// The board that two seats give up, the second stream's first.
 #[tactic(auto, using(crate::proofs::Pairs::two_seats))]
-fn ended<'h, R: Wait>(
+pub(crate) fn ended<'h, R: Wait>(
     alloc: Global,
     rt: &R,
     shared: Shared<'h>,
@@ -283,7 +287,7 @@ fn ended<'h, R: Wait>(
     requires one { IsSeatOf shared one × (one.stream ≡ 0) }
     requires two { IsSeatOf shared two × (two.stream ≡ 1) }
 {
-    match vec![in alloc; one, two] {
+    match vec![in alloc; two, one] {
         Ok(seats) => {
             let board = shared.end(rt, seats);
             Some(board)
@@ -292,10 +296,12 @@ fn ended<'h, R: Wait>(
     }
 }
 
-/// Whether two streams of a board have each applied three groups.
-fn have_applied(board: &Board<'_>) -> bool {
+/// Whether two streams of a board have each applied all groups of their feeds.
+fn have_applied(board: &Board<'_>, first: &Feed<'_>, second: &Feed<'_>) -> bool {
     match (board.state(0), board.state(1)) {
-        (Ok(one), Ok(two)) => one.applied() == 3 && two.applied() == 3,
+        (Ok(one), Ok(two)) => {
+            one.applied() as usize == first.len() && two.applied() as usize == second.len()
+        }
         _ => false,
     }
 }
@@ -314,17 +320,17 @@ fn are_followed<'h, R: Threads + Wait + Sync>(
         return false;
     };
     match ended(alloc, rt, shared, one, two) {
-        Some(board) => have_applied(&board),
+        Some(board) => have_applied(&board, first, second),
         None => false,
     }
 }
 
 /// Whether two threads that follow two feeds find each row.
-fn read_back<R: Threads + Wait + Sync>(alloc: Global, rt: &R) -> bool {
+fn read_back<R: Threads + Wait + Sync>(alloc: Global, rt: &R, bytes: &[&[u8]]) -> bool {
     let Ok(plans) = Plan::read_all(alloc, WORKFLOW) else {
         return false;
     };
-    let Some(feeds) = open_feeds(alloc, &plans, &[TENS, TWENTIES]) else {
+    let Some(feeds) = open_feeds(alloc, &plans, bytes) else {
         return false;
     };
     match feeds.as_slice() {
@@ -333,7 +339,9 @@ fn read_back<R: Threads + Wait + Sync>(alloc: Global, rt: &R) -> bool {
     }
 }
 
+/// Over feeds of two groups, and of three.
 #[test]
 fn look_reads_back(rt: HostRuntime) {
-    assert!(rt; read_back(rt.alloc(), &rt));
+    assert!(rt; read_back(rt.alloc(), &rt, &[LOWER, UPPER]));
+    assert!(rt; read_back(rt.alloc(), &rt, &[TENS, TWENTIES]));
 }

@@ -4,11 +4,11 @@ use Rattle.std.specs.Ordering.{is_lt}
 use Rattle.filter_rule.specs.PlanValue.{PlanValue}
 use Rattle.source_feed.specs.Prepared.{IsSameGroup}
 use Rattle.source_feed.specs.Touches.{PreparedValue}
-use Rattle.board_laws.specs.Meaning.{State, Meaning}
+use Rattle.board_laws.specs.Meaning.{State}
 use Rattle.join_laws.specs.Order.{state_cmp}
-use Rattle.join_laws.specs.Compatible.{plans_of, OfEachStream, AreRunning, AreOfOneHistory}
+use Rattle.join_laws.specs.Compatible.{AreOfOneHistory}
 use Rattle.apply_core.specs.declared.beside.Test.{Test}
-use Rattle.apply_core.specs.declared.beside.Test.TheVariants.{OnePlan, Running, OneHistory, NoFurther}
+use Rattle.apply_core.specs.declared.beside.Test.TheVariants.{OnePlan, OneHistory, NoFurther}
 
 -- the plans of streams
 abbrev pub plans_in : List State → List PlanValue
@@ -25,23 +25,15 @@ AreSameFirst n front whole = (i : ℕ) (x : PreparedValue) → i < n → slice_g
 -- what a test may take for granted
 abbrev pub Premise : Test → State → State → Type 0
 Premise OnePlan x y = Unit {0}
-Premise Running x y = Unit {0}
 Premise OneHistory x y = x.plan ≡ y.plan
-Premise NoFurther x y = (x.plan ≡ y.plan) × AreRunning x y
+Premise NoFurther x y = x.plan ≡ y.plan
 
 -- what a test says of the two states of a stream
 abbrev pub Passes : Test → State → State → Type 0
 Passes OnePlan x y = x.plan ≡ y.plan
-Passes Running x y = AreRunning x y
 Passes OneHistory x y = AreOfOneHistory x y
 Passes NoFurther x y = is_lt (state_cmp x y) ≡ false
 
 -- a fact of the two states of each of the first n streams
 abbrev pub OfFirst : (State → State → Type 0) → ℕ → List State → List State → Type 0
 OfFirst P n xs ys = (s : ℕ) (x y : State) → s < n → slice_get xs s ≡ Some x → slice_get ys s ≡ Some y → P x y
-
--- what a join asks of two boards' streams, rows aside
-pub record AreAlike (a b : Meaning) : Type 0 where
-  pub plans : plans_of a ≡ plans_of b
-  pub running : OfEachStream AreRunning a.streams b.streams
-  pub histories : OfEachStream AreOfOneHistory a.streams b.streams

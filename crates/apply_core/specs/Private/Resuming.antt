@@ -9,10 +9,11 @@ use Rattle.source_feed.specs.Planned.{FeedValue}
 use Rattle.board_laws.specs.Meaning.{State}
 use Rattle.join_laws.specs.Refused.{IsFirstClash}
 use Rattle.checkpoint_laws.specs.declared.fault.ResumeFault.{ResumeFault}
-use Rattle.checkpoint_laws.specs.declared.fault.ResumeFault.TheVariants.{FeedCount, WrongPlan, Unsound, Differs, OwnedByOther, Memory}
+use Rattle.checkpoint_laws.specs.declared.fault.ResumeFault.TheVariants.{FeedCount, WrongPlan, Unsound, CheckpointDiffers, OwnedByOther, Memory}
 use Rattle.checkpoint_laws.specs.Saved.{SavedStream}
 use Rattle.checkpoint_laws.specs.Said.{IsCheckpoint}
-use Rattle.checkpoint_laws.specs.Resumed.{IsNumberAt, AgreesWith}
+use Rattle.board_laws.specs.Sources.{IsNumberAt}
+use Rattle.checkpoint_laws.specs.Resumed.{AgreesWith}
 use Rattle.checkpoint_laws.specs.Refused.{plans_of_feeds, IsFirstOff, IsSoundUpTo, IsFirstFault, IsLeastDifference}
 use Rattle.apply_core.specs.Feeds.{AreFed}
 
@@ -48,7 +49,7 @@ IsUnsoundAt feed one fault = ⊥
 
 -- the rows of a checkpoint aren't those of the streams; or want of memory
 abbrev pub AreOthers : List SavedStream → List State → ResumeFault → Type 0
-AreOthers saved states (Differs s key) = (first : IsFirstOff AgreesWith saved states s) × IsLeastDifference first.one first.other key
+AreOthers saved states (CheckpointDiffers s key) = (first : IsFirstOff AgreesWith saved states s) × IsLeastDifference first.one first.other key
 AreOthers saved states Memory = Unit {0}
 AreOthers saved states fault = ⊥
 

@@ -7,7 +7,7 @@ use Rattle.source_feed.specs.History.{RowValue}
 use Rattle.board_laws.specs.Meaning.{State, TargetRows, Meaning}
 use Rattle.board_laws.specs.Step.{due_at}
 use Rattle.join_laws.specs.declared.fault.JoinFault.{JoinFault}
-use Rattle.join_laws.specs.declared.fault.JoinFault.TheVariants.{WrongPlan, NotRunning, HistoriesDiffer, OwnedByOther, Memory}
+use Rattle.join_laws.specs.declared.fault.JoinFault.TheVariants.{WrongPlan, HistoriesDiffer, OwnedByOther, Memory}
 use Rattle.join_laws.specs.Chosen.{all_chosen}
 use Rattle.join_laws.specs.Joined.{rows_from}
 use Rattle.join_laws.specs.Compatible.{AreApart, AreCompatible}
@@ -30,7 +30,6 @@ abbrev pub IsNotPut : List State → State → JoinFault → Type 0
 IsNotPut lower state (OwnedByOther key owner) = IsLeastClash key_cmp (rows_from 0 lower) (length lower) (due_at state) key owner
 IsNotPut lower state Memory = Unit {0}
 IsNotPut lower state WrongPlan = ⊥
-IsNotPut lower state (NotRunning s) = ⊥
 IsNotPut lower state (HistoriesDiffer s) = ⊥
 
 -- the streams aren't put together
@@ -38,7 +37,6 @@ abbrev pub AreNotTogether : List State → JoinFault → Type 0
 AreNotTogether states (OwnedByOther key owner) = IsFirstClash states key owner
 AreNotTogether states Memory = Unit {0}
 AreNotTogether states WrongPlan = ⊥
-AreNotTogether states (NotRunning s) = ⊥
 AreNotTogether states (HistoriesDiffer s) = ⊥
 
 -- where the streams of a join come from: all from one of the boards, or from both, with the marks of those that come from the second

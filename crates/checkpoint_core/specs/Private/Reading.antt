@@ -1,11 +1,11 @@
 -- A checkpoint as it is read, part by part.
-use Rattle.std.specs.Prelude.{◌≡◌, ℕ, ◌+◌, ◌<◌, ◌≤◌, List, [], ◌∷◌, ◌++◌, map, length, Option, Some, None, Ok, slice_get}
+use Rattle.std.specs.Prelude.{◌≡◌, ◌⊎◌, ℕ, ◌+◌, ◌<◌, ◌≤◌, List, [], ◌∷◌, ◌++◌, map, length, Option, Some, None, Ok, IfSome, slice_get}
 use Rattle.std.specs.List.{AllByRecursion}
 use Rattle.filter_rule.specs.PlanValue.{PlanValue, key_columns_of}
 use Rattle.gtid_set.specs.Text.{position_of_text}
 use Rattle.pk_copy.specs.KeyOrder.{key_cmp}
 use Rattle.pk_copy.specs.KeyValue.{KeyValue}
-use Rattle.pk_copy.specs.Lastpk.{key_of_lastpk}
+use Rattle.pk_copy.specs.Lastpk.{key_of_lastpk, IsTableKey}
 use Rattle.pk_copy.specs.Marks.{MarkValue, waiting, up_to, copied, Marks, AreMarks, mark_of}
 use Rattle.proto_wire.specs.Frame.{frames_of}
 use Rattle.source_feed.specs.GroupValue.{Position}
@@ -68,6 +68,12 @@ IsOfTable t Waiting = Unit {0}
 IsOfTable t (Upto key) = key.table ≡ t
 IsOfTable t Done = Unit {0}
 
+-- the key of a mark is a key of its table of the plan
+abbrev pub IsOfPlan : PlanValue → MarkRead → Type 0
+IsOfPlan plan Waiting = Unit {0}
+IsOfPlan plan (Upto key) = IsTableKey plan key
+IsOfPlan plan Done = Unit {0}
+
 -- a mark of this kind, whose key is given by this row
 pub record IsMarked (plan : PlanValue) (t : ℕ) (mark : MarkValue) (kind : TableMark) (last : Option RowValue) : Type 0 where
   pub number : mark_number kind ≡ number_of_mark mark
@@ -89,23 +95,27 @@ pub record IsOpenAt (t : ℕ) (marks : Marks) : Type 0 where
   pub within : marks.done ≤ t
   pub unmarked : marks.done ≡ t → marks.upto ≡ None
 
--- the marks of the tables before t are as they were, and table t has this one
+-- the marks of the tables before t are as they were, and table t has this one; the key of a table that isn't done is as
+-- it was, or this mark's
 pub record IsMarkedMore (t : ℕ) (mark : MarkValue) (old new : Marks) : Type 0 where
   pub count : new.tables ≡ old.tables
   pub before : (i : ℕ) → i < t → mark_of new i ≡ mark_of old i
   pub here : mark_of new t ≡ mark
+  pub key : (last : KeyValue) → new.upto ≡ Some last → (old.upto ≡ Some last) ⊎ (mark ≡ up_to last)
   pub behind : IsOpenAt (t + 1) new
 
 -- marks of the first t tables that their parts have
 pub record AreMarksBefore (plan : PlanValue) (tables : List TablePartValue) (t : ℕ) (marks : Marks) : Type 0 where
   pub count : marks.tables ≡ length plan.tables
   pub behind : IsOpenAt t marks
+  pub upto : IfSome marks.upto (IsTableKey plan)
   pub each_table : OfEachTable (λ i part. i < t → SaysMark plan i (mark_of marks i) part) tables
 
 -- marks of a plan's tables that the parts of these tables have
 pub record AreMarksOf (plan : PlanValue) (tables : List TablePartValue) (marks : Marks) : Type 0 where
   pub count : marks.tables ≡ length plan.tables
   pub are : AreMarks marks
+  pub upto : IfSome marks.upto (IsTableKey plan)
   pub each_table : OfEachTable (λ t part. SaysMark plan t (mark_of marks t) part) tables
 
 -- ---- rows

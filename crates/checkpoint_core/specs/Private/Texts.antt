@@ -1,5 +1,5 @@
 -- What is written of a table, before the texts of its stream are known.
-use Rattle.std.specs.Prelude.{ℕ, List, map, option_map, slice_get}
+use Rattle.std.specs.Prelude.{ℕ, List, [], map, option_map, slice_get}
 use Rattle.std.specs.List.{filter_map}
 use Rattle.filter_rule.specs.PlanTable.{ColumnValue}
 use Rattle.filter_rule.specs.PlanValue.{PlanValue}
@@ -26,6 +26,7 @@ part_of_table plan t mark rows position = record {
     rows = map (λ row. row.1) (rows_of_table t rows);
     lastpk = last_row_of mark;
   };
+  name = [];
 }
 
 -- the parts of the first n tables
@@ -43,4 +44,5 @@ text_value position text = record {
     rows = text.rows.items;
     lastpk = text.last;
   };
+  name = [];
 }

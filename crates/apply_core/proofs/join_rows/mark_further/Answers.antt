@@ -17,7 +17,7 @@ returns-in-None-clause-apart c =
     c.common.ensures ∙ ap (λ (rs : TargetRows). common key_cmp rs c.b.inside.rows.entries) one ∙ ap (λ (rs : TargetRows). common key_cmp c.args.a.now.rows rs) other in
     let none : NoneClash c.in-Ok.marks.items (common key_cmp c.args.a.now.rows c.args.b.now.rows) =
     subst (λ (l : List Met). NoneClash c.in-Ok.marks.items l) keys (subst (λ (ms : List Bool). NoneClash ms c.common.result) c.deref.ensures.value c.in-None.ensures) in
-    none_apart (λ x y. (c.keys_tie_where_they_are_equal.ensures x y).0) c.args.a.now c.args.b.now c.in-Ok.marks.items c.is_lawful.ensures c.is_lawful-2.ensures c.requires.plans c.in-Ok.ensures none
+    none_apart (λ x y. (c.keys_tie_where_they_are_equal.ensures x y).0) c.args.a.now c.args.b.now c.in-Ok.marks.items c.is_lawful.ensures c.is_lawful-2.ensures c.requires c.in-Ok.ensures none
 
 pub returns-clause-err : goal.returns-clause-err
 returns-clause-err c =
@@ -29,5 +29,5 @@ returns-clause-err c =
     subst (λ (l : List Met). IsFirstMet c.in-Ok.marks.items l c.in-Some.met.key.now c.in-Some.met.later c.in-Some.met.lower) keys
     (subst (λ (ms : List Bool). IsFirstMet ms c.common.result c.in-Some.met.key.now c.in-Some.met.later c.in-Some.met.lower) c.deref.ensures.value c.in-Some.ensures) in
     subst (λ (k : KeyValue). IsFirstClash (all_chosen c.args.a.now.streams c.args.b.now.streams) k c.in-Some.met.lower) (sym c.in-Ok-try_clone.ensures)
-    (first_clash (λ x y. (c.keys_tie_where_they_are_equal.ensures x y).0) c.args.a.now c.args.b.now c.in-Ok.marks.items c.is_lawful.ensures c.is_lawful-2.ensures c.requires.plans c.in-Ok.ensures
+    (first_clash (λ x y. (c.keys_tie_where_they_are_equal.ensures x y).0) c.args.a.now c.args.b.now c.in-Ok.marks.items c.is_lawful.ensures c.is_lawful-2.ensures c.requires c.in-Ok.ensures
     c.in-Some.met.key.now c.in-Some.met.later c.in-Some.met.lower first)

@@ -7,7 +7,7 @@ pub first_stream_not-requires-clause-both : goal.first_stream_not-requires-claus
 first_stream_not-requires-clause-both c = as_long c.args.a.now.streams c.args.b.now.streams c.requires.plans
 
 pub first_stream_not-requires-clause-premise : goal.first_stream_not-requires-clause-premise
-first_stream_not-requires-clause-premise c = λ s x y p q. (same_plan c.args.a.now.streams c.args.b.now.streams c.requires.plans s x y p q, c.requires.running s x y p q)
+first_stream_not-requires-clause-premise c = same_plan c.args.a.now.streams c.args.b.now.streams c.requires.plans
 
 pub returns-in-None : goal.returns-in-None
 returns-in-None c = λ _. none_further c.args.a.now.streams c.args.b.now.streams (as_long c.args.a.now.streams c.args.b.now.streams c.requires.plans) c.in-None.ensures

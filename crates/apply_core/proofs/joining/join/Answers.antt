@@ -1,18 +1,16 @@
-use Rattle.std.proofs.Common.{refl, subst}
-use Rattle.apply_core.specs.declared.joining.Source.TheVariants.{First, Second}
-use Rattle.apply_core.specs.Private.Together.{IsSource}
-use Rattle.apply_core.proofs.JoinLaws.{first_joined, second_joined}
 use Rattle.apply_core.proofs.joining.join.Goals as goal
 
-pub returns-in-Err-clause-handed_back : goal.returns-in-Err-clause-handed_back
-returns-in-Err-clause-handed_back c = (refl, refl)
+pub returns-clause-commute : goal.returns-clause-commute
+returns-clause-commute c = c.joins_are_a_greatest_board.ensures.commute
 
-pub returns-in-Ok-First-clause-joined : goal.returns-in-Ok-First-clause-joined
-returns-in-Ok-First-clause-joined c =
-    let from : IsSource c.args.a c.args.b First = subst (IsSource c.args.a c.args.b) c.in-Ok-First.field-0-is c.in-Ok-First.ensures.ok in
-    first_joined c.args.a c.args.b (c.joined_boards_are_lawful.ensures.one c.args.a c.is_lawful.ensures).1 from
+pub returns-clause-itself : goal.returns-clause-itself
+returns-clause-itself c = c.joins_are_a_greatest_board.ensures.itself
 
-pub returns-in-Ok-Second-clause-joined : goal.returns-in-Ok-Second-clause-joined
-returns-in-Ok-Second-clause-joined c =
-    let from : IsSource c.args.a c.args.b Second = subst (IsSource c.args.a c.args.b) c.in-Ok-Second.field-0-is c.in-Ok-Second.ensures.ok in
-    second_joined c.args.a c.args.b (c.joined_boards_are_lawful.ensures.one c.args.b c.is_lawful-2.ensures).1 from
+pub returns-clause-associate : goal.returns-clause-associate
+returns-clause-associate c = c.joins_are_a_greatest_board.ensures.associate
+
+pub returns-clause-running : goal.returns-clause-running
+returns-clause-running c = c.joins_are_a_greatest_board.ensures.running
+
+pub returns-clause-disjoint : goal.returns-clause-disjoint
+returns-clause-disjoint c = c.boards_can_be_joined.ensures.disjoint

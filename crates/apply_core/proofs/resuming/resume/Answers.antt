@@ -31,4 +31,4 @@ returns-clause-after_save c = λ board of.
     let are = are_feeds (map arc_value c.args.plans.now) c.args.feeds.now (subst (λ n. 1 ≤ n) (sym (length-map c.args.plans.now arc_value)) c.requires.some)
     (subst (λ n. n ≤ 64) (sym (length-map c.args.plans.now arc_value)) c.requires.few) c.in_ok-judge_feeds.ensures.fed c.in_ok-judge_feeds.ensures.whole in
     comes_back (λ a b. (c.keys_tie_where_they_are_equal.ensures a b).0) c.saved_boards_are_said.ensures c.checkpoints_say_one_thing.ensures c.restarted_boards_are_resumed.ensures (map arc_value c.args.plans.now) c.know_plans.ensures
-    c.args.feeds.now c.args.bytes.now board of are c.resumed_over.result c.resumed_over.ensures.resumed c.resumed_over.ensures.refused
+    c.args.feeds.now c.args.bytes.now c.know_length.ensures board of are c.resumed_over.result c.resumed_over.ensures.resumed c.resumed_over.ensures.refused

@@ -5,6 +5,7 @@ use Rattle.checkpoint_laws.specs.Saved.{SavedStream}
 use Rattle.checkpoint_laws.specs.Said.{IsCheckpoint}
 use Rattle.checkpoint_laws.specs.Refused.{plans_of_feeds}
 use Rattle.apply_core.proofs.AfterSaveLaws.{saved_refused}
+use Rattle.apply_core.proofs.ReadLaws.{resumed-reads}
 use Rattle.apply_core.proofs.resuming.resumed_over.Goals as goal
 
 pub returns-in_err-saved-clause-refused : goal.returns-in_err-saved-clause-refused
@@ -33,3 +34,6 @@ returns-clause-resumed c =
       made = made;
       same = (c.resumed_boards_are_lawful.ensures c.args.feeds.now c.args.bytes.now c.in_ok-saved.saved.items c.in_ok-board.board c.requires.feeds said made).1;
     }
+
+pub returns-clause-reads : goal.returns-clause-reads
+returns-clause-reads c = resumed-reads c.args.feeds.now c.in_ok-saved.saved.items c.in_ok-board.board c.requires.feeds (rw c.deref.ensures.value at c.in_ok-board.ensures.ok)

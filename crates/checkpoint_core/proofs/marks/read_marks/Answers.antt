@@ -1,12 +1,11 @@
-use Rattle.std.proofs.Common.{◌≡◌, ◌∙◌, ◌<◌, ℕ, Some, length, slice_get, arith, sym}
+use Rattle.std.proofs.Common.{◌∙◌, ◌<◌, length, arith, sym}
 use Rattle.std.proofs.lemmas.Bool.{true≢false}
 use Rattle.std.proofs.lemmas.Result.{err_from_is_err_and}
 use Rattle.std.proofs.lemmas.Option.{slice_get_within}
 use Rattle.pk_copy.specs.Marks.{mark_of}
-use Rattle.vevent.specs.CheckpointPart.{TablePartValue}
 use Rattle.checkpoint_core.specs.Private.Reading.{SaysMark, AreMarksOf, mark_read}
 use Rattle.checkpoint_core.proofs.Items.{there_at, nothing_by}
-use Rattle.checkpoint_core.proofs.MarkLaws.{one_more, all_marked, out_of_order}
+use Rattle.checkpoint_core.proofs.MarkLaws.{key_read, one_more, all_marked, out_of_order}
 use Rattle.checkpoint_core.proofs.marks.read_marks.Goals as goal
 
 pub returns-in_err-mark-clause-err : goal.returns-in_err-mark-clause-err
@@ -25,7 +24,8 @@ returns-then-not-add_mark-clause-err c =
 pub loop-t-preserved : goal.loop-t-preserved
 loop-t-preserved c =
     let there = there_at c.args.tables.now c.loop-t.t c.index-tables-t.result c.loop-t-test.true c.index-tables-t.is in
-    one_more c.args.plan.now c.args.tables.now c.loop-t.t c.index-tables-t.result (mark_read c.in_ok-mark.mark) c.loop-t.marks c.add_mark.new.marks there c.in_ok-mark.ensures.ok.0 c.loop-t.invariant (c.add_mark.ensures.added c.if-not-add_mark.false)
+    one_more c.args.plan.now c.args.tables.now c.loop-t.t c.index-tables-t.result (mark_read c.in_ok-mark.mark) c.loop-t.marks c.add_mark.new.marks there c.in_ok-mark.ensures.ok.0
+    (key_read c.args.plan.now c.in_ok-mark.mark c.in_ok-mark.ensures.ok.2) c.loop-t.invariant (c.add_mark.ensures.added c.if-not-add_mark.false)
 
 pub returns-clause-ok : goal.returns-clause-ok
 returns-clause-ok c =

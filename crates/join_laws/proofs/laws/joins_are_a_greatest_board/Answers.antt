@@ -1,4 +1,4 @@
-use Rattle.join_laws.proofs.Boards.{commutes, with_itself, associates}
+use Rattle.join_laws.proofs.Boards.{commutes, with_itself, associates, joined_running}
 use Rattle.join_laws.proofs.laws.joins_are_a_greatest_board.Goals as goal
 
 pub returns-clause-commute : goal.returns-clause-commute
@@ -9,3 +9,6 @@ returns-clause-itself c = with_itself (λ a b. (c.keys_tie_where_they_are_equal.
 
 pub returns-clause-associate : goal.returns-clause-associate
 returns-clause-associate c = λ a b d _ _ _ ab bd ad. associates a b d ab bd ad
+
+pub returns-clause-running : goal.returns-clause-running
+returns-clause-running c = joined_running

@@ -1,12 +1,18 @@
-use Rattle.std.proofs.Common.{◌≡◌, ◌∙◌, sym, ap, subst, length}
+use Rattle.std.proofs.Common.{◌≡◌, ◌≤◌, ◌∙◌, ℕ, List, sym, ap, subst, length}
 use Rattle.std.specs.Prelude.{◌↔◌, Ok, Err, Some, slice_get}
 use Rattle.filter_rule.specs.WellFormed.{ArePlaces}
 use Rattle.pk_copy.specs.KeyOf.{key_in, HoldsNull, LacksPart, IsKeyOf}
 use Rattle.pk_copy.specs.Lastpk.{lastpk_cells, last_cells}
 use Rattle.pk_copy.specs.declared.fault.KeyFault.TheVariants.{NullKey, BadKey}
 use Rattle.pk_copy.proofs.RelationLaws.{key-stands, null_key-stands, bad_key-stands}
-use Rattle.pk_copy.proofs.ReadingLaws.{table_at, columns_of-at, key_columns_of-at, key_places}
+use Rattle.pk_copy.proofs.ReadingLaws.{table_at, columns_of-at, key_columns_of-at, key_few, key_places}
 use Rattle.pk_copy.proofs.lastpk.key_of_lastpk.Goals as goal
+
+pub key_under-requires-clause-few : goal.key_under-requires-clause-few
+key_under-requires-clause-few c =
+    let table = c.index-tables-from.result in
+    let stands : slice_get c.args.plan.now.tables c.args.t ≡ Some table = table_at _ _ c.args.t _ table c.tables.ensures.tables c.from.ensures c.requires.table c.index-tables-from.is in
+    subst (λ (places : List ℕ). length places ≤ 8) (sym c.key.ensures) (key_few c.args.plan.now c.args.t table c.tables.ensures.well_formed stands)
 
 pub key_under-requires-clause-places : goal.key_under-requires-clause-places
 key_under-requires-clause-places c =

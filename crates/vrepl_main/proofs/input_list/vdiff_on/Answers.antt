@@ -1,5 +1,5 @@
 use Rattle.vrepl_main.specs.Comparison.{IsComparedAs, PrintsDumpRefusal, PrintsSomeComparison}
-use Rattle.vrepl_main.specs.declared.vdiff.Verdict.TheVariants.{Same, Differ}
+use Rattle.vrepl_main.specs.declared.comparing.Verdict.TheVariants.{Same, Differ}
 use Rattle.vrepl_main.proofs.InputListLaws.{of_files}
 use Rattle.vrepl_main.proofs.input_list.vdiff_on.Goals as goal
 

@@ -2,6 +2,7 @@ use Rattle.std.proofs.Common.{◌≡◌, rules, map, Some, Ok}
 use Rattle.std.specs.Prelude.{option_copied}
 use Rattle.std.specs.Arc.{arc_value}
 use Rattle.filter_rule.specs.PlanValue.{PlanValue}
+use Rattle.filter_rule.specs.WellFormed.{IsPlan}
 use Rattle.source_feed.specs.Groups.{groups}
 use Rattle.source_feed.specs.Planned.{source_of, planned_group}
 use Rattle.source_feed.proofs.PlanLaws.{opened_feed}
@@ -10,21 +11,23 @@ use Rattle.source_feed.proofs.feed.Feed.open.Goals as goal
 pub invariant_of-result : goal.invariant_of-result
 invariant_of-result c =
     let plan : PlanValue = arc_value c.args.plan.now in
+    let planned : IsPlan plan = search rules in
     let given : arc_value c.in_ok-clone.field-0 ≡ plan = search rules in
     let whole : groups c.args.feed.now (source_of plan) ≡ Ok c.in_ok-groups.groups.items = search rules in
     let under : c.in_ok-groups-2.groups.items ≡ map (planned_group plan) c.in_ok-groups.groups.items = search rules in
     let checked : option_copied c.new-field_check.result.plan ≡ Some plan = search rules in
     opened_feed plan (arc_value c.in_ok-clone.field-0) c.args.feed.now c.in_ok-groups.groups.items c.in_ok-groups-2.groups.items (option_copied c.new-field_check.result.plan)
-    c.new-field_check.result.differs c.read.new.field_check.differs given under c.in_ok-groups.ensures.order c.in_ok-groups.ensures.few whole checked c.if-field_check.false
+    c.new-field_check.result.differs c.read.new.field_check.differs planned given under c.in_ok-groups.ensures.order c.in_ok-groups.ensures.few whole checked c.if-field_check.false
     c.in_ok-groups.ensures.seen
 
 pub returns-clause-whole : goal.returns-clause-whole
 returns-clause-whole c =
     let plan : PlanValue = arc_value c.args.plan.now in
+    let planned : IsPlan plan = search rules in
     let given : arc_value c.in_ok-clone.field-0 ≡ plan = search rules in
     let whole : groups c.args.feed.now (source_of plan) ≡ Ok c.in_ok-groups.groups.items = search rules in
     let under : c.in_ok-groups-2.groups.items ≡ map (planned_group plan) c.in_ok-groups.groups.items = search rules in
     let checked : option_copied c.new-field_check.result.plan ≡ Some plan = search rules in
     opened_feed plan (arc_value c.in_ok-clone.field-0) c.args.feed.now c.in_ok-groups.groups.items c.in_ok-groups-2.groups.items (option_copied c.new-field_check.result.plan)
-    c.new-field_check.result.differs c.read.new.field_check.differs given under c.in_ok-groups.ensures.order c.in_ok-groups.ensures.few whole checked c.if-field_check.false
+    c.new-field_check.result.differs c.read.new.field_check.differs planned given under c.in_ok-groups.ensures.order c.in_ok-groups.ensures.few whole checked c.if-field_check.false
     c.in_ok-groups.ensures.seen

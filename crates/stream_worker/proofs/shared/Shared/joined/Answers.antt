@@ -26,3 +26,15 @@ loop-seat-preserved-in-Some-pop c =
     let next = next_popped c.args.self.now c.args.seats.items c.loop-seat.seats.items c.pop-in-loop-seat.new.self.items (vec_len c.loop-seat.seats) (vec_len c.pop-in-loop-seat.new.self) c.in-Some-pop.seat (view c.loop-seat.pass)
     c.requires.seats c.loop-seat.invariant.1 c.in-Some-pop.ensures.items (sym c.in-Some-pop.ensures.cases) (sym c.pop-in-loop-seat.new.self.ok.0) c.loop-seat.invariant.3 in
     (sym c.pop-in-loop-seat.new.self.ok.0, next.1, c.join.ensures.pass, subst (AreAllKnown c.args.seats.items (vec_len c.pop-in-loop-seat.new.self)) (sym c.join.ensures.view) next.2)
+
+pub loop-seat-preserved-in-Some-pop-2 : goal.loop-seat-preserved-in-Some-pop-2
+loop-seat-preserved-in-Some-pop-2 c =
+    let next = next_popped c.args.self.now c.args.seats.items c.loop-seat.seats.items c.pop-in-loop-seat.new.self.items (vec_len c.loop-seat.seats) (vec_len c.pop-in-loop-seat.new.self) c.in-Some-pop.seat (view c.loop-seat.pass)
+    c.requires.seats c.loop-seat.invariant.1 c.in-Some-pop.ensures.items (sym c.in-Some-pop.ensures.cases) (sym c.pop-in-loop-seat.new.self.ok.0) c.loop-seat.invariant.3 in
+    (sym c.pop-in-loop-seat.new.self.ok.0, next.1, c.join.ensures.pass, subst (AreAllKnown c.args.seats.items (vec_len c.pop-in-loop-seat.new.self)) (sym c.join.ensures.view) next.2)
+
+pub loop-seat-preserved-in-Some-pop-3 : goal.loop-seat-preserved-in-Some-pop-3
+loop-seat-preserved-in-Some-pop-3 c =
+    let next = next_popped c.args.self.now c.args.seats.items c.loop-seat.seats.items c.pop-in-loop-seat.new.self.items (vec_len c.loop-seat.seats) (vec_len c.pop-in-loop-seat.new.self) c.in-Some-pop.seat (view c.loop-seat.pass)
+    c.requires.seats c.loop-seat.invariant.1 c.in-Some-pop.ensures.items (sym c.in-Some-pop.ensures.cases) (sym c.pop-in-loop-seat.new.self.ok.0) c.loop-seat.invariant.3 in
+    (sym c.pop-in-loop-seat.new.self.ok.0, next.1, c.join.ensures.pass, subst (AreAllKnown c.args.seats.items (vec_len c.pop-in-loop-seat.new.self)) (sym c.join.ensures.view) next.2)

@@ -1,13 +1,21 @@
-use Rattle.std.proofs.Common.{◌≡◌, ◌+◌, ◌-◌, ◌<◌, ◌∙◌, ◌++◌, ◌∷◌, [], ap, sym, subst, length, arith, Err}
+use Rattle.std.proofs.Common.{◌≡◌, ◌+◌, ◌-◌, ◌<◌, ◌≤◌, ◌∙◌, ◌++◌, ◌∷◌, [], ap, sym, subst, length, arith, Err}
 use Rattle.std.proofs.lemmas.Result.{err_from_is_err_and}
+use Rattle.filter_rule.specs.PlanValue.{columns_of}
 use Rattle.pk_copy.specs.KeyOrder.{key_cmp}
 use Rattle.target_tables.specs.Rising.{AreBelow}
 use Rattle.vdiff_core.specs.DumpReading.{Behind}
 use Rattle.vdiff_core.specs.Private.Reading.{TakesRowLine}
 use Rattle.vdiff_core.specs.RowsValue.{RowsValue}
 use Rattle.vdiff_core.proofs.ReadingLaws.{err_is}
+use Rattle.vdiff_core.proofs.TableLaws.{columns_some}
 use Rattle.vdiff_core.proofs.StandLaws.{key_refused, key_not_behind, row_is_added}
 use Rattle.vdiff_core.proofs.reading.DumpRows.take_row_line.Goals as goal
+
+pub take_row-requires : goal.take_row-requires
+take_row-requires c =
+    let lt : c.self.inside.begun - 1 < length c.args.plan.now.tables = omega (arith, c.if-self-tables.false, c.if-self-eq0.false, ap length c.tables-tables.ensures.tables) in
+    let some : 1 ≤ length (columns_of c.args.plan.now (c.self.inside.begun - 1)) = columns_some c.args.plan.now (c.self.inside.begun - 1) lt c.tables-tables.ensures.well_formed in
+    omega (arith, some, ap length c.columns.ensures)
 
 pub returns-in_err-key-clause-bad : goal.returns-in_err-key-clause-bad
 returns-in_err-key-clause-bad c =

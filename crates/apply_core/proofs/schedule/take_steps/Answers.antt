@@ -1,8 +1,0 @@
-use Rattle.stream_core.specs.declared.step.Step.TheVariants.{Offer}
-use Rattle.apply_core.proofs.ScheduleLaws.{run-taken}
-use Rattle.apply_core.proofs.schedule.take_steps.Goals as goal
-
-pub loop-s-preserved : goal.loop-s-preserved
-loop-s-preserved c =
-    run-taken c.args.feeds.now c.args.board.now c.loop-s.board c.take_step.new.self c.args.steps.now c.loop-s.s-index (0, Offer 0) c.loop-s.replies.items c.push.new.self.items c.take_step.result
-    c.loop-s-test.true c.loop-s.invariant c.take_step.ensures c.in_ok-push.ensures.items

@@ -1,0 +1,52 @@
+-- The headline: what the target has of each stream is what its source has (this profile).
+use Rattle.std.specs.Prelude.{◌≡◌, ◌⊎◌, ◌↔◌, ℕ, ◌≤◌, List, [], length, take, Some, IsTrue, slice_get}
+use Rattle.pk_copy.specs.KeyOrder.{key_cmp}
+use Rattle.pk_copy.specs.KeyValue.{KeyValue}
+use Rattle.pk_copy.specs.Marks.{is_inside}
+use Rattle.target_tables.specs.Contents.{value_at}
+use Rattle.source_feed.specs.GroupValue.{Position}
+use Rattle.source_feed.specs.History.{RowValue, kept_at}
+use Rattle.source_feed.specs.Planned.{PlannedGroupValue, FeedValue}
+use Rattle.source_feed.specs.Touches.{group_at}
+use Rattle.board_laws.specs.Allowed.{last_position}
+use Rattle.board_laws.specs.Meaning.{State, Meaning}
+use Rattle.board_laws.specs.Runs.{sound_groups}
+
+-- ---- positions
+
+-- the position at which a stream's rows stand: that of the last applied group; at first the empty set
+abbrev pub applied_position : State → Position
+applied_position state = last_position (take state.applied state.list)
+
+-- the feed has a group of this number and position
+pub record HasGroupAt (feed : FeedValue) (position : Position) (number : ℕ) : Type 0 where
+  pub group : PlannedGroupValue
+  pub there : group_at feed number ≡ Some group
+  pub at : group.position ≡ position
+
+-- how many groups of a feed a position is behind: none at the empty set, else those up to the group that has it
+abbrev pub IsNumberAt : FeedValue → Position → ℕ → Type 0
+IsNumberAt feed position number = ((position ≡ []) × (number ≡ 0)) ⊎ HasGroupAt feed position number
+
+-- ---- rows
+
+-- A stream shows its source: a row stands for it at a key exactly where the groups of its feed up to the one at the
+-- stream's recorded position, all of them sound, leave it there, it passes the filter, and its key is copied.
+pub record ShowsSource (feed : FeedValue) (board : Meaning) (s : ℕ) : Type 0 where
+  pub state : State
+  pub stream : slice_get board.streams s ≡ Some state
+  pub number : ℕ
+  pub position : IsNumberAt feed (applied_position state) number
+  pub sound : number ≤ length (sound_groups feed)
+  pub rows : (key : KeyValue) (row : RowValue)
+      → (value_at key_cmp board.rows key ≡ Some (s, row)) ↔ (IsTrue (is_inside state.marks key) × (kept_at (sound_groups feed) number key ≡ Some row))
+
+-- the same of a stream whose feed is the one of its number
+pub record ShowsItsSource (feeds : List FeedValue) (board : Meaning) (s : ℕ) : Type 0 where
+  pub feed : FeedValue
+  pub fed : slice_get feeds s ≡ Some feed
+  pub shows : ShowsSource feed board s
+
+-- every stream of a board shows its source
+abbrev pub AllShowTheirSources : List FeedValue → Meaning → Type 0
+AllShowTheirSources feeds board = (s : ℕ) (state : State) → slice_get board.streams s ≡ Some state → ShowsItsSource feeds board s

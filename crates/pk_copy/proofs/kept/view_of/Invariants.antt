@@ -1,0 +1,10 @@
+use Rattle.std.proofs.Common.{◌≡◌, map, take, length}
+use Rattle.pk_copy.specs.PartValue.{part_value, owned_value}
+use Rattle.pk_copy.proofs.kept.view_of.Given as goal
+
+-- the parts so far are the key's
+abbrev pub invariant-loop-part : goal.invariant-loop-part
+invariant-loop-part l = record {
+  count : length l.parts.items ≡ l.part-index;
+  same : map part_value l.parts.items ≡ map owned_value (take l.part-index l.owned);
+}

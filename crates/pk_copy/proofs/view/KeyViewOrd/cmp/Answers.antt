@@ -1,6 +1,0 @@
-use Rattle.pk_copy.specs.PartValue.{part_value}
-use Rattle.pk_copy.proofs.OrderLaws.{slice_cmp-on}
-use Rattle.pk_copy.proofs.view.KeyViewOrd.cmp.Goals as goal
-
-pub returns : goal.returns
-returns c = let by_parts = slice_cmp-on part_value c.parts.result.now c.parts-2.result.now in cc

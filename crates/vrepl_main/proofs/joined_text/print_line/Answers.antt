@@ -1,0 +1,11 @@
+use Rattle.std.proofs.Common.{[]}
+use Rattle.vrepl_main.specs.Adding.{at}
+use Rattle.vrepl_main.specs.JoinedText.{join_line}
+use Rattle.vrepl_main.proofs.AddLaws.{then_finishes}
+use Rattle.vrepl_main.proofs.PrintLaws.{begins}
+use Rattle.vrepl_main.proofs.joined_text.print_line.Goals as goal
+
+pub returns : goal.returns
+returns g c =
+    let put = rw (c.new-text.ensures, c.tables.ensures.tables) at c.in_ok-print_refused.ensures in
+    begins c.finish.result _ _ _ (then_finishes c.finish.result (at _ []) (at _ c.print_refused.new.text) _ (join_line c.args.plan.now.tables c.args.fault.now) put c.finish.ensures.printed)

@@ -1,7 +1,0 @@
-use Rattle.std.proofs.Common.{List, take}
-use Rattle.vrepl_main.specs.ScriptRun.{ScriptReply, IsScriptRun}
-use Rattle.vrepl_main.proofs.save.take_quietly.Given as goal
-
--- the steps so far are taken
-abbrev pub invariant-loop-step : goal.invariant-loop-step
-invariant-loop-step l = (replies : List ScriptReply) × IsScriptRun l.fn.feeds l.fn.board (take l.step-index l.steps) replies l.board

@@ -1,0 +1,220 @@
+//! The subcommand `run`: all streams run to their feeds' ends.
+
+ghost use Rattle.std.specs.Prelude.{◌≡◌, ◌⊎◌, ◌≤◌, OnOk, IfOk, IfErr, length, map};
+ghost use Rattle.std.specs.Arc.{arc_value};
+ghost use Rattle.vdiff_core.specs.Dump.{dump_of};
+ghost use Rattle.apply_core.specs.Shown.{all_rows};
+ghost use Rattle.stream_worker.specs.Ended.{IsRowsUnion};
+ghost use Rattle.stream_worker.specs.RunRefused.{IsRefusedRun};
+ghost use Rattle.vrepl_main.specs.Command.{IsUnwritten};
+ghost use Rattle.vrepl_main.specs.Given.{given_value};
+ghost use Rattle.filter_rule.specs.WellFormed.{ArePlans};
+ghost use Rattle.vrepl_main.specs.OpenedFeeds.{opened_value};
+ghost use Rattle.vrepl_main.specs.Opening.{opened, opened_bytes};
+ghost use Rattle.vrepl_main.specs.Reasons.{GivesOfInputs};
+ghost use Rattle.vrepl_main.specs.Printing.{Prints, PrintsBeginning};
+ghost use Rattle.vrepl_main.specs.RefusedText.{refused_text};
+ghost use Rattle.vrepl_main.specs.Running.{IsFilled, PrintsDump, PrintsSomeDump, RefusesRun, PrintsRunRefusal, as_step};
+
+use crate::at_once::open_at_once;
+use crate::given::{GivenFeed, given_feeds};
+use crate::opened::{Opened, open_workflow};
+use crate::refusal::{Refusal, refuse};
+use crate::refused_text::print_refused;
+use crate::stepping::first_plan;
+use apply_core::Board;
+use board_laws::StepRefusal;
+use filter_rule::Plan;
+use source_feed::Feed;
+use std::alloc::Global;
+use std::sync::{Arc, Wait};
+use std::thread::Threads;
+use stream_worker::{Gate, Policy, RunRefusal, run_alone, run_parallel};
+use vdiff_core::{Gathered, Out, OutFailed, Rows, write_dump};
+
+/// Nothing is told of groups on their way.
+struct Untold;
+
+impl Gate for Untold {
+    fn passed<R: Wait>(&self, _rt: &R, _stream: u8, _number: u32) {}
+}
+
+/// Why a run prints no dump.
+#[derive(Drop)]
+pub enum RunFault {
+    /// What stands in the inputs, want of memory, or that the dump can't be written.
+    Given(Refusal<'static>),
+    /// Why the streams' run was refused; its line names tables of the plan.
+    Stream {
+        /// the first plan
+        plan: Arc<Plan>,
+        /// the refusal
+        refusal: RunRefusal,
+    },
+}
+
+/// Runs all streams of a workflow over its feeds, one in the order of the streams each, to their ends, and prints
+/// the dump of the target's rows on `out`; or prints the line of a refusal on `err` and then nothing on `out`, unless it
+/// is `out` that can't be written. The streams run one after another where `alone` is set, and else each in a thread of
+/// its own. Where `hex` is set feeds are hexadecimal text. Answers the status: 0, or 1 after a refusal, also of memory.
+pub fn run<R: Threads + Wait + Sync, W: Out, E: Out>(
+    rt: &R,
+    alloc: Global,
+    hex: bool,
+    alone: bool,
+    policy: &Policy,
+    workflow: &[u8],
+    feeds: &[Vec<u8>],
+    out: &mut W,
+    err: &mut E,
+) -> u8
+    ensures status { (result ≡ 0) ⊎ (result ≡ 1) }
+    ensures printed { result ≡ 0 → PrintsDump (opened hex workflow.now (map (λ feed. feed.items) feeds.now)) (W.written out.old).bytes (W.written out.new).bytes }
+    ensures begun { PrintsSomeDump (opened hex workflow.now (map (λ feed. feed.items) feeds.now)) (W.written out.old).bytes (W.written out.new).bytes }
+    ensures quiet { result ≡ 0 → err.new ≡ err.old }
+    ensures refused { result ≡ 1 → PrintsRunRefusal (opened hex workflow.now (map (λ feed. feed.items) feeds.now)) (E.written err.old).bytes (E.written err.new).bytes }
+{
+    match print_run(rt, alloc, hex, alone, policy, workflow, feeds, out) {
+        Ok(()) => 0,
+        Err(RunFault::Given(refusal)) => refuse(err, &refusal),
+        Err(RunFault::Stream { plan, refusal }) => refuse_run(err, &plan, refusal),
+    }
+}
+
+/// The refusal of a run, as that of a step.
+fn as_step(refusal: RunRefusal) -> StepRefusal
+    ensures { result ≡ as_step refusal }
+{
+    match refusal {
+        RunRefusal::FeedCount => StepRefusal::Refused(board_laws::Refusal::FeedCount),
+        RunRefusal::WrongPlan => StepRefusal::Refused(board_laws::Refusal::WrongPlan),
+        RunRefusal::Unsound { stream: _, fault } => StepRefusal::Unprepared(fault),
+        RunRefusal::OwnedByOther {
+            stream: _,
+            key,
+            owner,
+        } => StepRefusal::Refused(board_laws::Refusal::OwnedByOther { key, owner }),
+        RunRefusal::Memory => StepRefusal::Refused(board_laws::Refusal::Memory),
+    }
+}
+
+/// Prints the line of a run's refusal in one piece, whole unless `err` fails, and answers the status 1.
+fn refuse_run<E: Out>(err: &mut E, plan: &Plan, refusal: RunRefusal) -> u8
+    ensures status { result ≡ 1 }
+    ensures line { PrintsBeginning (E.written err.old).bytes (E.written err.new).bytes (refused_text plan.now.tables (as_step refusal)) }
+{
+    let refusal = as_step(refusal);
+    let _printed = print_line(err, plan, &refusal);
+    1
+}
+
+/// Prints the line of a refusal.
+fn print_line<E: Out>(err: &mut E, plan: &Plan, refusal: &StepRefusal) -> Result<(), OutFailed>
+    ensures { PrintsBeginning (E.written err.old).bytes (E.written err.new).bytes (refused_text plan.now.tables refusal.now) }
+{
+    let mut text = Gathered::new();
+    print_refused(err, &mut text, plan.tables(), refusal)?;
+    text.finish(err)
+}
+
+/// Prints the dump of a run, or nothing where it is refused.
+fn print_run<R: Threads + Wait + Sync, W: Out>(
+    rt: &R,
+    alloc: Global,
+    hex: bool,
+    alone: bool,
+    policy: &Policy,
+    workflow: &[u8],
+    feeds: &[Vec<u8>],
+    out: &mut W,
+) -> Result<(), RunFault>
+    ensures printed { OnOk result (PrintsDump (opened hex workflow.now (map (λ feed. feed.items) feeds.now)) (W.written out.old).bytes (W.written out.new).bytes) }
+    ensures begun { PrintsSomeDump (opened hex workflow.now (map (λ feed. feed.items) feeds.now)) (W.written out.old).bytes (W.written out.new).bytes }
+    ensures refused { IfErr result (λ fault. RefusesRun fault (opened hex workflow.now (map (λ feed. feed.items) feeds.now))) }
+{
+    let Ok(given) = given_feeds(alloc, hex, feeds) else {
+        return Err(RunFault::Given(Refusal::Memory));
+    };
+    let (plan, rows) = filled_rows(rt, alloc, alone, policy, workflow, &given)?;
+    match print_rows(out, &plan, &rows) {
+        Ok(()) => Ok(()),
+        Err(refusal) => Err(RunFault::Given(refusal)),
+    }
+}
+
+/// Prints the dump of rows.
+fn print_rows<W: Out>(out: &mut W, plan: &Plan, rows: &Rows) -> Result<(), Refusal<'static>>
+    ensures printed { Prints result (W.written out.old).bytes (W.written out.new).bytes (dump_of plan.now rows.now) }
+    ensures refused { IfErr result IsUnwritten }
+{
+    write_dump(out, plan, rows)?;
+    Ok(())
+}
+
+/// The rows behind a run over the bytes of the feeds, and the plan whose tables they are of.
+fn filled_rows<R: Threads + Wait + Sync>(
+    rt: &R,
+    alloc: Global,
+    alone: bool,
+    policy: &Policy,
+    workflow: &[u8],
+    given: &[GivenFeed<'_>],
+) -> Result<(Arc<Plan>, Rows), RunFault>
+    ensures filled { IfOk result (λ filled. IsFilled (opened_bytes workflow.now (map given_value given.now)) (record { plan = arc_value filled.0; rows = filled.1 })) }
+    ensures refused { IfErr result (λ fault. RefusesRun fault (opened_bytes workflow.now (map given_value given.now))) }
+{
+    let opened = match open_streams(rt, alloc, alone, workflow, given) {
+        Ok(opened) => opened,
+        Err(refusal) => return Err(RunFault::Given(refusal)),
+    };
+    let Opened { plans, feeds } = opened;
+    let Ok(plan) = first_plan(&plans) else {
+        return Err(RunFault::Given(Refusal::Memory));
+    };
+    match run_streams(rt, alloc, alone, plans, &feeds, policy) {
+        Err(refusal) => Err(RunFault::Stream { plan, refusal }),
+        Ok(board) => match board.rows(alloc) {
+            Err(_) => Err(RunFault::Given(Refusal::Memory)),
+            Ok(rows) => Ok((plan, rows)),
+        },
+    }
+}
+
+/// The workflow with its feeds, which are opened one after another where `alone` is set, and else at once.
+fn open_streams<'h, R: Threads + Sync>(
+    rt: &R,
+    alloc: Global,
+    alone: bool,
+    workflow: &[u8],
+    given: &'h [GivenFeed<'_>],
+) -> Result<Opened<'h>, Refusal<'static>>
+    ensures opened { GivesOfInputs opened_value result (opened_bytes workflow.now (map given_value given.entry.now)) }
+    ensures plans { IfOk result (λ opened. ArePlans (map arc_value opened.plans.items)) }
+{
+    if alone {
+        open_workflow(alloc, workflow, given)
+    } else {
+        open_at_once(rt, alloc, workflow, given)
+    }
+}
+
+/// The board behind a run of all streams.
+fn run_streams<'h, R: Threads + Wait + Sync>(
+    rt: &R,
+    alloc: Global,
+    alone: bool,
+    plans: Vec<Arc<Plan>>,
+    feeds: &[Feed<'h>],
+    policy: &Policy,
+) -> Result<Board<'h>, RunRefusal>
+    requires some { 1 ≤ length plans.items }
+    requires few { length plans.items ≤ 64 }
+    ensures rows { IfOk result (λ board. IsRowsUnion feeds.now (all_rows board.rows)) }
+    ensures refused { IfErr result (IsRefusedRun (map arc_value plans.items) feeds.now) }
+{
+    if alone {
+        run_alone(alloc, plans, feeds, policy)
+    } else {
+        run_parallel(rt, alloc, plans, feeds, policy, &Untold)
+    }
+}

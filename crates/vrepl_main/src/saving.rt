@@ -1,0 +1,163 @@
+//! The subcommand `save`: the checkpoint of the board behind a script.
+
+ghost use Rattle.std.specs.Prelude.{◌≡◌, ◌⊎◌, ◌≤◌, List, OnOk, IfErr, IfOk, length, map};
+ghost use Rattle.std.specs.Arc.{arc_value};
+ghost use Rattle.std.specs.List.{AllByRecursion};
+ghost use Rattle.apply_core.specs.Fresh.{fresh_board};
+ghost use Rattle.vrepl_main.specs.ScriptRun.{ScriptReply, answers, IsScriptStep, IsScriptRun, IsFed, IsTold, script_given, given_bytes};
+ghost use Rattle.vrepl_main.specs.Given.{given_value};
+ghost use Rattle.vrepl_main.specs.Printing.{Prints};
+ghost use Rattle.vrepl_main.specs.SavedBoard.{IsSaved, PrintsCheckpoint, PrintsSomeCheckpoint};
+ghost use Rattle.vrepl_main.specs.Command.{PrintsRefusal, Refuses};
+
+use crate::given::{GivenFeed, given_feeds};
+use crate::line::answer_to;
+use crate::opened::{Opened, open_workflow};
+use crate::refusal::{Refusal, refuse};
+use crate::script::ScriptStep;
+use crate::stepping::{fresh_board, steps_of};
+use apply_core::{Answer, Board, StepRefusal, save as checkpoint};
+use filter_rule::Plan;
+use source_feed::Feed;
+use std::alloc::{AllocError, Global};
+use std::sync::Arc;
+use vdiff_core::{Out, OutFailed, put_all};
+
+/// The number of a refusal for want of memory.
+const MEMORY: u8 = 72;
+
+/// Takes the steps of a script on a board over a workflow and its feeds, one in the order of the streams
+/// each, and prints on `out` the checkpoint of the board that they leave; their replies aren't printed. Or
+/// prints the line of a refusal on `err` and then nothing on `out`, unless it is `out` that can't be written.
+/// A refused step doesn't end the script, unless it is refused for want of memory: the checkpoint would be of
+/// another board then. Where `hex` is set feeds are hexadecimal text. Answers the status:
+/// 0, or 1 after a refusal, also of memory.
+pub fn save<W: Out, E: Out>(
+    alloc: Global,
+    hex: bool,
+    workflow: &[u8],
+    feeds: &[Vec<u8>],
+    script: &[u8],
+    out: &mut W,
+    err: &mut E,
+) -> u8
+    ensures status { (result ≡ 0) ⊎ (result ≡ 1) }
+    ensures printed { result ≡ 0 → PrintsCheckpoint (script_given hex workflow.now (map (λ feed. feed.items) feeds.now) script.now) (W.written out.old).bytes (W.written out.new).bytes }
+    ensures begun { PrintsSomeCheckpoint (script_given hex workflow.now (map (λ feed. feed.items) feeds.now) script.now) (W.written out.old).bytes (W.written out.new).bytes }
+    ensures quiet { result ≡ 0 → err.new ≡ err.old }
+    ensures refused { result ≡ 1 → PrintsRefusal (script_given hex workflow.now (map (λ feed. feed.items) feeds.now) script.now) (E.written err.old).bytes (E.written err.new).bytes }
+{
+    match print_checkpoint(alloc, hex, workflow, feeds, script, out) {
+        Ok(()) => 0,
+        Err(refusal) => refuse(err, &refusal),
+    }
+}
+
+/// Prints the checkpoint of the board behind a script, or nothing where there is none.
+fn print_checkpoint<W: Out>(
+    alloc: Global,
+    hex: bool,
+    workflow: &[u8],
+    feeds: &[Vec<u8>],
+    script: &[u8],
+    out: &mut W,
+) -> Result<(), Refusal<'static>>
+    ensures printed { OnOk result (PrintsCheckpoint (script_given hex workflow.now (map (λ feed. feed.items) feeds.now) script.now) (W.written out.old).bytes (W.written out.new).bytes) }
+    ensures begun { PrintsSomeCheckpoint (script_given hex workflow.now (map (λ feed. feed.items) feeds.now) script.now) (W.written out.old).bytes (W.written out.new).bytes }
+    ensures refused { IfErr result (λ refusal. Refuses refusal (script_given hex workflow.now (map (λ feed. feed.items) feeds.now) script.now)) }
+{
+    let given = given_feeds(alloc, hex, feeds)?;
+    let bytes = saved_bytes(alloc, workflow, &given, script)?;
+    print_bytes(out, &bytes)?;
+    Ok(())
+}
+
+/// Prints bytes.
+pub(crate) fn print_bytes<W: Out>(out: &mut W, bytes: &[u8]) -> Result<(), OutFailed>
+    ensures { Prints result (W.written out.old).bytes (W.written out.new).bytes bytes.now }
+{
+    put_all(out, bytes)
+}
+
+/// The checkpoint of the board behind a script, over the bytes of the feeds.
+fn saved_bytes(
+    alloc: Global,
+    workflow: &[u8],
+    given: &[GivenFeed<'_>],
+    script: &[u8],
+) -> Result<Vec<u8>, Refusal<'static>>
+    ensures saved { IfOk result (λ bytes. IsSaved (given_bytes workflow.now (map given_value given.now) script.now) bytes.items) }
+    ensures refused { IfErr result (λ refusal. Refuses refusal (given_bytes workflow.now (map given_value given.now) script.now)) }
+{
+    let opened = open_workflow(alloc, workflow, given)?;
+    let steps = steps_of(alloc, script)?;
+    let Opened { plans, feeds } = opened;
+    let board = board_behind(alloc, plans, &feeds, &steps)?;
+    let bytes = checkpoint(alloc, &board)?;
+    Ok(bytes)
+}
+
+/// The board behind the steps of a script, from one over the plans of which nothing is read. An error is want
+/// of memory.
+fn board_behind<'h>(
+    alloc: Global,
+    plans: Vec<Arc<Plan>>,
+    feeds: &[Feed<'h>],
+    steps: &[ScriptStep],
+) -> Result<Board<'h>, AllocError>
+    requires some { 1 ≤ length plans.items }
+    requires few { length plans.items ≤ 64 }
+    ensures taken { IfOk result (λ board. (replies : List ScriptReply) × IsScriptRun feeds.now (fresh_board (map arc_value plans.items)) steps.now replies board × AllByRecursion IsTold replies) }
+    ensures fed { IfOk result (λ _. IsFed feeds.now (fresh_board (map arc_value plans.items))) }
+{
+    let mut board = fresh_board(alloc, plans, feeds)?;
+    take_quietly(alloc, &mut board, feeds, steps)?;
+    Ok(board)
+}
+
+/// Takes the steps of a script on a board, one after another, whatever they reply, up to one that is refused
+/// for want of memory.
+fn take_quietly<'h>(
+    alloc: Global,
+    board: &mut Board<'h>,
+    feeds: &[Feed<'h>],
+    steps: &[ScriptStep],
+) -> Result<(), AllocError>
+    ensures { OnOk result ((replies : List ScriptReply) × IsScriptRun feeds.now board.old steps.now replies board.new × AllByRecursion IsTold replies) }
+{
+    for step in steps {
+        take_one(alloc, board, feeds, *step)?;
+    }
+    Ok(())
+}
+
+/// Takes what a line of a script says on a board, whatever it replies. An error is that of a step that is
+/// refused for want of memory.
+fn take_one<'h>(
+    alloc: Global,
+    board: &mut Board<'h>,
+    feeds: &[Feed<'h>],
+    step: ScriptStep,
+) -> Result<(), AllocError>
+    ensures { OnOk result ((reply : ScriptReply) × IsScriptStep feeds.now board.old step reply board.new × IsTold reply) }
+{
+    match step {
+        ScriptStep::Take { stream, step } => {
+            let answer = answer_to(alloc, board, feeds, stream, step);
+            unless_memory(&answer)
+        }
+        ScriptStep::State { .. } => Ok(()),
+        ScriptStep::Dump => Ok(()),
+    }
+}
+
+/// An error where a step was refused for want of memory.
+fn unless_memory(answer: &Result<Answer, StepRefusal>) -> Result<(), AllocError>
+    ensures { OnOk result (IsTold (answers answer.now)) }
+{
+    match answer {
+        Ok(_) => Ok(()),
+        Err(refusal) if refusal.number() == MEMORY => Err(AllocError),
+        Err(_) => Ok(()),
+    }
+}

@@ -1,0 +1,85 @@
+//! The subcommand `show`: the text of a feed's groups.
+
+ghost use Rattle.std.specs.Prelude.{◌≡◌, ◌⊎◌, OnOk, IfErr, Some};
+ghost use Rattle.vrepl_main.specs.Shown.{shown};
+ghost use Rattle.vrepl_main.specs.Show.{shown_feed, shown_bytes, source_of};
+ghost use Rattle.vrepl_main.specs.Printing.{Prints};
+ghost use Rattle.vrepl_main.specs.Command.{PrintsWhole, PrintsSome, PrintsRefusal, Refuses};
+
+use crate::hex_text::bytes_of_hex;
+use crate::refusal::{Refusal, refuse};
+use crate::shown::print_groups;
+use source_feed::{Group, read_groups};
+use std::alloc::Global;
+use vdiff_core::{Gathered, Out, OutFailed};
+
+/// Prints all the groups.
+fn print_whole<W: Out>(out: &mut W, groups: &[Group<'_>]) -> Result<(), OutFailed>
+    ensures { Prints result (W.written out.old).bytes (W.written out.new).bytes (shown groups.now) }
+{
+    let mut text = Gathered::new();
+    print_groups(out, &mut text, groups)?;
+    text.finish(out)
+}
+
+/// Prints the groups of a feed of bytes, or nothing where it is refused.
+fn print_bytes<W: Out>(
+    alloc: Global,
+    feed: &[u8],
+    keyspace: &str,
+    shard: &str,
+    out: &mut W,
+) -> Result<(), Refusal<'static>>
+    ensures printed { OnOk result (PrintsWhole (shown_bytes (source_of keyspace.now shard.now) (Some feed.now)) (W.written out.old).bytes (W.written out.new).bytes) }
+    ensures begun { PrintsSome (shown_bytes (source_of keyspace.now shard.now) (Some feed.now)) (W.written out.old).bytes (W.written out.new).bytes }
+    ensures refused { IfErr result (λ refusal. Refuses refusal (shown_bytes (source_of keyspace.now shard.now) (Some feed.now))) }
+{
+    let groups = read_groups(alloc, feed, keyspace, shard)?;
+    print_whole(out, &groups)?;
+    Ok(())
+}
+
+/// Prints the groups of a feed, which may be given as hexadecimal text, or nothing where it is
+/// refused.
+fn print_feed<W: Out>(
+    alloc: Global,
+    hex: bool,
+    feed: &[u8],
+    keyspace: &str,
+    shard: &str,
+    out: &mut W,
+) -> Result<(), Refusal<'static>>
+    ensures printed { OnOk result (PrintsWhole (shown_feed hex feed.now (source_of keyspace.now shard.now)) (W.written out.old).bytes (W.written out.new).bytes) }
+    ensures begun { PrintsSome (shown_feed hex feed.now (source_of keyspace.now shard.now)) (W.written out.old).bytes (W.written out.new).bytes }
+    ensures refused { IfErr result (λ refusal. Refuses refusal (shown_feed hex feed.now (source_of keyspace.now shard.now))) }
+{
+    if !hex {
+        return print_bytes(alloc, feed, keyspace, shard, out);
+    }
+    let bytes = bytes_of_hex(alloc, feed)?;
+    print_bytes(alloc, &bytes, keyspace, shard, out)
+}
+
+/// Prints the groups of a feed that was recorded from a shard of a keyspace (both may be empty) on `out` in
+/// pieces of up to 4 KiB, or prints the line of its refusal on `err` and nothing on `out`. Answers the status: 0, or 1 after a refusal, also of memory
+/// or where `out` can't be written.
+pub fn show<W: Out, E: Out>(
+    alloc: Global,
+    hex: bool,
+    feed: &[u8],
+    keyspace: &str,
+    shard: &str,
+    out: &mut W,
+    err: &mut E,
+) -> u8
+    ensures status { (result ≡ 0) ⊎ (result ≡ 1) }
+    ensures printed { result ≡ 0 → PrintsWhole (shown_feed hex feed.now (source_of keyspace.now shard.now)) (W.written out.old).bytes (W.written out.new).bytes }
+    ensures begun { PrintsSome (shown_feed hex feed.now (source_of keyspace.now shard.now)) (W.written out.old).bytes (W.written out.new).bytes }
+    ensures quiet { result ≡ 0 → err.new ≡ err.old }
+    ensures refused { result ≡ 1 → PrintsRefusal (shown_feed hex feed.now (source_of keyspace.now shard.now)) (E.written err.old).bytes (E.written err.new).bytes }
+{
+    match print_feed(alloc, hex, feed, keyspace, shard, out) {
+        Ok(()) => 0,
+        Err(refusal) => refuse(err, &refusal),
+    }
+}
