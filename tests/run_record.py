@@ -1,12 +1,12 @@
 #!/usr/bin/env python3
 """Records feeds from a private MariaDB server, and holds what the program makes of them to what the server has.
 
-usage: tests/run_record.py
+usage: tests/run_record.py [PROGRAM]
 
-A server is started in a temporary folder (its own socket, no network), clients change the tables of two
+PROGRAM is a built program, ./vrepl unless one is given. A server is started in a temporary folder (its own socket, no network), clients change the tables of two
 source shards, and record/feed writes their feeds. The dumps of merges and splits have to be what the
 statements of record/select print, byte for byte; a checkpoint is resumed over a feed that --append made
-longer, and each stop of the recorder is shown. Where mariadb-server, python3-pymysql and python3-protobuf
+longer, each stop of the recorder is shown, and the commands of docs/OPERATE.md print what it says. Where mariadb-server, python3-pymysql and python3-protobuf
 of the system aren't installed nothing is tried, and the script says so and counts nothing.
 The last line is 'N passed, M failed': one a check.
 """
@@ -23,6 +23,8 @@ ROOT = os.path.dirname(os.path.dirname(os.path.abspath(__file__)))
 OWN = "/usr/bin/python3"
 MODULES = ("pymysql", "google.protobuf")
 RANGES = ["-40", "40-80", "80-c0", "c0-", "-1080", "33-e1"]
+PATIENCE = 600
+"""The seconds that a command is given: it ends in two, on a machine with nothing else to do."""
 sys.dont_write_bytecode = True
 sys.path.append(os.path.join(ROOT, "record"))
 
@@ -37,8 +39,8 @@ def has_modules() -> bool:
 class Trial:
     """The server, a folder for files, and the count of what was seen."""
 
-    def __init__(self, server) -> None:
-        self.server, self.passed, self.failed = server, 0, 0
+    def __init__(self, server, program: str) -> None:
+        self.server, self.program, self.passed, self.failed = server, program, 0, 0
         self.begun = time.monotonic()
 
     def path(self, name: str) -> str:
@@ -52,7 +54,7 @@ class Trial:
 
     def run(self, *words: str, stdin: str = "") -> subprocess.CompletedProcess:
         told = {**os.environ, "PYTHONDONTWRITEBYTECODE": "1"}
-        return subprocess.run(words, cwd=ROOT, input=stdin.encode(), capture_output=True, timeout=100, env=told)
+        return subprocess.run(words, cwd=ROOT, input=stdin.encode(), capture_output=True, timeout=PATIENCE, env=told)
 
     def record(self, *words: str) -> subprocess.CompletedProcess:
         return self.run("record/feed", "--socket", self.server.socket, "--user", "root", *words)
@@ -137,14 +139,14 @@ def merged_and_split(trial: Trial) -> None:
         trial.recorded("--shard", shard, "--out", feed, *tables_of(schema))
     whole = trial.workflow("whole.json", SHARDS, tables_of(SCHEMAS[0]), *VINDEXES)
     wanted = trial.selected(whole, *SCHEMAS)
-    trial.same("merged", trial.made("./vrepl", "run", whole, *feeds), wanted, 100)
-    trial.same("merged, one stream behind the other", trial.made("./vrepl", "run", "--alone", "--rows", "7", whole, *feeds), wanted)
+    trial.same("merged", trial.made(trial.program, "run", whole, *feeds), wanted, 100)
+    trial.same("merged, one stream behind the other", trial.made(trial.program, "run", "--alone", "--rows", "7", whole, *feeds), wanted)
     for at, place in enumerate(RANGES):
         part = trial.workflow(f"part{at}.json", SHARDS, tables_of(SCHEMAS[0]), *VINDEXES, f"--filter={place}")
-        trial.same(f"split {place}", trial.made("./vrepl", "run", part, *feeds), trial.selected(part, *SCHEMAS), 10)
+        trial.same(f"split {place}", trial.made(trial.program, "run", part, *feeds), trial.selected(part, *SCHEMAS), 10)
     by_rule = trial.workflow("rule.json", SHARDS, tables_of(SCHEMAS[0]), *VINDEXES,
                              "--rule=blobs=select * from blobs where in_keyrange(k, 'binary_md5', '70-')", "--rule=pairs=80-")  # fmt: skip
-    trial.same("split by rules", trial.made("./vrepl", "run", by_rule, *feeds), trial.selected(by_rule, *SCHEMAS), 10)
+    trial.same("split by rules", trial.made(trial.program, "run", by_rule, *feeds), trial.selected(by_rule, *SCHEMAS), 10)
     library_reads(trial, feeds[0])
 
 
@@ -163,7 +165,7 @@ def library_reads(trial: Trial, feed: str) -> None:
                 faults += event.field_event.table_name in told
                 told.add(event.field_event.table_name)
             faults += event.type == EventType.ROW and event.row_event.table_name not in told
-    shown = [line.split()[2].decode() for line in trial.made("./vrepl", "show", feed).splitlines() if line.startswith(b"group ")]
+    shown = [line.split()[2].decode() for line in trial.made(trial.program, "show", feed).splitlines() if line.startswith(b"group ")]
     trial.check("messages", None if not faults and groups == shown else f"{faults} faults, {len(groups)} groups and {len(shown)} shown")
 
 
@@ -190,7 +192,7 @@ def kinds(trial: Trial) -> None:
     wanted = trial.selected(workflow, "k")
     for words in (), ("--from-snapshot",):
         trial.recorded("--shard", "-", "--out", trial.path("kinds.feed"), *words, "k.t")
-        trial.same(f"types {words}", trial.made("./vrepl", "run", workflow, trial.path("kinds.feed")), wanted, 15)
+        trial.same(f"types {words}", trial.made(trial.program, "run", workflow, trial.path("kinds.feed")), wanted, 15)
 
 
 def portions(trial: Trial) -> None:
@@ -198,12 +200,12 @@ def portions(trial: Trial) -> None:
     trial.server.sql("CREATE DATABASE p; USE p; CREATE TABLE p.t (id INT PRIMARY KEY, v INT); INSERT INTO p.t SELECT seq * 7, seq FROM seq_1_to_2500; ")
     workflow, feed = trial.workflow("portions.json", ["-"], ["p.t"]), trial.path("portions.feed")
     trial.recorded("--shard", "-", "--out", feed, "--from-snapshot", "p.t")
-    trial.same("portions of a snapshot", trial.made("./vrepl", "run", workflow, feed), trial.selected(workflow, "p"), 2501)
+    trial.same("portions of a snapshot", trial.made(trial.program, "run", workflow, feed), trial.selected(workflow, "p"), 2501)
     trial.check("groups of a snapshot", None if groups_of(trial, feed) == 4 else f"{groups_of(trial, feed)}")
 
 
 def groups_of(trial: Trial, feed: str) -> int:
-    return trial.made("./vrepl", "show", feed).count(b"\ngroup ") + 1
+    return trial.made(trial.program, "show", feed).count(b"\ngroup ") + 1
 
 
 def apply(stream: int, first: int, last: int) -> str:
@@ -217,12 +219,12 @@ def grown(trial: Trial) -> None:
     feeds, whole = [trial.path(f"{schema}.feed") for schema in SCHEMAS], trial.path("whole.json")
     ends = [groups_of(trial, feed) for feed in feeds]
     script = apply(0, 1, ends[0] // 2) + f"open 0 {ends[0] // 2}\ncopy 0 1\n" + apply(1, 1, ends[1]) + f"open 1 {ends[1]}\ncopy 1 1000000\n"
-    saved = trial.run("./vrepl", "save", whole, *feeds, stdin=script)
+    saved = trial.run(trial.program, "save", whole, *feeds, stdin=script)
     with open(trial.path("saved.checkpoint"), "wb") as file:
         file.write(saved.stdout)
-    load = Load(trial.server.socket, 2, clients=4, transactions=120, xa=False)
-    trial.recorded("--shard", "-80", "--out", trial.path("snap.feed"), "--from-snapshot", *tables_of(SCHEMAS[0]))
-    taken = json.loads(read_file(trial.path("snap.feed.json")))["gtids"]
+    with Load(trial.server.socket, 2, clients=4, transactions=120, xa=False, goes_on=True) as load:
+        trial.recorded("--shard", "-80", "--out", trial.path("snap.feed"), "--from-snapshot", *tables_of(SCHEMAS[0]))
+        taken = json.loads(read_file(trial.path("snap.feed.json")))["gtids"]
     load.wait()
     for schema, shard, feed in zip([*SCHEMAS, SCHEMAS[0]], [*SHARDS, "-80"], [*feeds, trial.path("snap.feed")]):
         old = read_file(feed)
@@ -230,13 +232,13 @@ def grown(trial: Trial) -> None:
         trial.check(f"append to {os.path.basename(feed)}", None if len(read_file(feed)) > len(old) and read_file(feed).startswith(old) else "not longer")
     trial.check("snapshot amidst writes", None if taken != json.loads(read_file(trial.path("snap.feed.json")))["gtids"] else "no writes behind it")
     wanted = trial.selected(whole, *SCHEMAS)
-    trial.same("merged, appended", trial.made("./vrepl", "run", whole, *feeds), wanted, 100)
+    trial.same("merged, appended", trial.made(trial.program, "run", whole, *feeds), wanted, 100)
     both = [trial.path("snap.feed"), feeds[1]]
-    trial.same("merged, a snapshot and what is behind it", trial.made("./vrepl", "run", whole, *both), wanted)
+    trial.same("merged, a snapshot and what is behind it", trial.made(trial.program, "run", whole, *both), wanted)
     now = [groups_of(trial, feed) for feed in feeds]
     script = apply(0, ends[0] // 2 + 1, now[0]) + apply(1, ends[1] + 1, now[1])
     script += "".join(f"open {stream} {now[stream]}\ncopy {stream} 1000000\n" * count for stream, count in ((0, 4), (1, 3))) + "dump\n"
-    resumed = trial.run("./vrepl", "resume", "--checkpoint", trial.path("saved.checkpoint"), whole, *feeds, stdin=script)
+    resumed = trial.run(trial.program, "resume", "--checkpoint", trial.path("saved.checkpoint"), whole, *feeds, stdin=script)
     replies, _, dump = resumed.stdout.partition(b"table ")
     trial.check("steps behind the checkpoint", resumed.stderr.decode() or (f"{replies.count(b'refused')} refused" if b"refused" in replies else None))
     trial.same("resumed over the appended feeds", b"table " + dump, wanted)
@@ -253,21 +255,70 @@ def statements(trial: Trial) -> None:
         trial.check(f"statement {text!r}", None if found == (does, names) else f"{found}")
 
 
-STEPS: list[Callable[[Trial], None]] = [statements, stops, merged_and_split, kinds, portions, grown]
+def late(trial: Trial) -> None:
+    """What is committed when the recorder has just looked where the log ends is the next recording's, and each note is of one moment."""
+    from recorder import recording
+    from recorder.server import Login, end_place, gtids_at
+
+    login, feed, numbers = Login.of(trial.server.socket, "root"), trial.path("late.feed"), iter(range(1000))
+
+    def insert() -> str:
+        return f"INSERT INTO l.t VALUES ({next(numbers)}, 'a'); "
+
+    def record(name: str, committed: str, **how: bool) -> None:
+        """Records, with a client that runs statements between the look at the log's end and the reading."""
+        ends = []
+
+        def looked(connection):
+            ends.append(end_place(connection))
+            trial.server.sql(committed)
+            return ends[0]
+
+        recording.end_place = looked
+        try:
+            note = recording.record(recording.Wanted(login, "-", feed, [("l", "t")], **how))
+        finally:
+            recording.end_place = end_place
+        with login.connect() as connection:
+            wanted = ends[0], gtids_at(connection, ends[0])
+        trial.check(f"late {name}", None if (note.place, note.gtids) == wanted else f"{note.gtids} at {note.place}, and not {wanted[1]} at {wanted[0]}")
+
+    trial.server.sql("CREATE DATABASE l; CREATE TABLE l.t (id INT PRIMARY KEY, v CHAR(3)); " + insert())
+    record("behind a snapshot", insert(), from_snapshot=True)
+    record("behind what a snapshot left", insert(), append=True)
+    ways = {"rows": insert, "DDL": lambda: f"CREATE TABLE l.t{next(numbers)} (id INT); ", "another log": lambda: insert() + "FLUSH BINARY LOGS; " + insert()}
+    for name, made in ways.items():
+        trial.recorded("--shard", "-", "--out", feed, "--append", "l.t")
+        record(f"{name}, with nothing left to read", made(), append=True)
+        record(f"{name}, with a transaction left to read", made(), append=True)
+    trial.recorded("--shard", "-", "--out", feed, "--append", "l.t")
+    workflow = trial.workflow("late.json", ["-"], ["l.t"])
+    trial.same("late, all of it", trial.made(trial.program, "run", workflow, feed), trial.selected(workflow, "l"), 10)
+
+
+def operated(trial: Trial) -> None:
+    """What docs/OPERATE.md says."""
+    from record import operate
+
+    for step in operate.vtgate, operate.restored, operate.page:
+        step(trial)
+
+
+STEPS: list[Callable[[Trial], None]] = [statements, stops, merged_and_split, kinds, portions, grown, late, operated]
 
 
 def main() -> int:
     if not has_modules() and os.access(OWN, os.X_OK) and not os.environ.get("OWN_PYTHON"):
-        os.execve(OWN, [OWN, os.path.abspath(__file__)], {**os.environ, "OWN_PYTHON": "1"})
+        os.execve(OWN, [OWN, os.path.abspath(__file__), *sys.argv[1:]], {**os.environ, "OWN_PYTHON": "1"})
     from record.server import Server, is_installed
 
     if not has_modules() or not is_installed():
-        print("mariadb-server, python3-pymysql and python3-protobuf are not all installed: nothing was recorded\n0 passed, 0 failed")
+        print("mariadbd, mariadb-install-db, mariadb, python3-pymysql and python3-protobuf are not all installed: nothing was recorded\n0 passed, 0 failed")
         return 0
     for number in (signal.SIGTERM, signal.SIGHUP):
         signal.signal(number, lambda *_: sys.exit(1))
     with Server() as server:
-        trial = Trial(server)
+        trial = Trial(server, os.path.abspath(sys.argv[1] if len(sys.argv) > 1 else os.path.join(ROOT, "vrepl")))
         for step in STEPS:
             try:
                 step(trial)

@@ -17,4 +17,5 @@ Modules, from the lowest up; each has one idea:
     snapshot      the rows of one consistent snapshot
     recording     all of these, one behind the other
     filters       a workflow's filters as conditions of SQL
+    vstream       what VTGate sends of one shard, as a feed
 """

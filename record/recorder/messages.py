@@ -1,6 +1,6 @@
-"""The messages of a feed (docs/FORMATS.md, 'Messages'), as classes of Google's protobuf library that are
-made as the module is read: there is no generated file. Numbers are those of binlogdata.proto and
-query.proto of Vitess."""
+"""The messages of a feed (docs/FORMATS.md, 'Messages') and of the call that asks VTGate for one, as classes of
+Google's protobuf library that are made as the module is read: there is no generated file. Numbers are those
+of binlogdata.proto, query.proto and vtgate.proto of Vitess."""
 from collections.abc import Iterator
 from enum import IntEnum
 
@@ -12,12 +12,23 @@ _ONE, _MANY = _F.LABEL_OPTIONAL, _F.LABEL_REPEATED
 _MESSAGES = {
     "Row": [("lengths", 1, _MANY, _F.TYPE_SINT64), ("values", 2, _ONE, _F.TYPE_BYTES)],
     "Field": [("name", 1, _ONE, _F.TYPE_STRING), ("type", 2, _ONE, _F.TYPE_INT32)],
-    "RowChange": [("before", 1, _ONE, "Row"), ("after", 2, _ONE, "Row")],
+    "RowChange": [("before", 1, _ONE, "Row"), ("after", 2, _ONE, "Row"), ("data_columns", 3, _ONE, "Unread"),
+                  ("json_partial_values", 4, _ONE, "Unread")],
     "RowEvent": [("table_name", 1, _ONE, _F.TYPE_STRING), ("row_changes", 2, _MANY, "RowChange")],
     "FieldEvent": [("table_name", 1, _ONE, _F.TYPE_STRING), ("fields", 2, _MANY, "Field")],
     "VEvent": [("type", 1, _ONE, _F.TYPE_INT32), ("timestamp", 2, _ONE, _F.TYPE_INT64), ("gtid", 3, _ONE, _F.TYPE_STRING),
-               ("row_event", 5, _ONE, "RowEvent"), ("field_event", 6, _ONE, "FieldEvent")],
+               ("statement", 4, _ONE, _F.TYPE_STRING), ("row_event", 5, _ONE, "RowEvent"), ("field_event", 6, _ONE, "FieldEvent"),
+               ("vgtid", 7, _ONE, "VGtid")],
     "VStreamResponse": [("events", 1, _MANY, "VEvent")],
+    "VGtid": [("shard_gtids", 1, _MANY, "ShardGtid")],
+    "ShardGtid": [("keyspace", 1, _ONE, _F.TYPE_STRING), ("shard", 2, _ONE, _F.TYPE_STRING), ("gtid", 3, _ONE, _F.TYPE_STRING),
+                  ("table_p_ks", 4, _MANY, "Unread")],
+    "Unread": [],
+    "Rule": [("match", 1, _ONE, _F.TYPE_STRING), ("filter", 2, _ONE, _F.TYPE_STRING)],
+    "Filter": [("rules", 1, _MANY, "Rule")],
+    "VStreamFlags": [("stop_on_reshard", 3, _ONE, _F.TYPE_BOOL)],
+    "VStreamRequest": [("tablet_type", 2, _ONE, _F.TYPE_INT32), ("vgtid", 3, _ONE, "VGtid"), ("filter", 4, _ONE, "Filter"),
+                       ("flags", 5, _ONE, "VStreamFlags")],
 }  # fmt: skip
 
 
@@ -37,7 +48,8 @@ def _classes() -> dict[str, type]:
     return {name: factory.GetPrototype(pool.FindMessageTypeByName("recorder." + name)) for name in _MESSAGES}
 
 
-Response = _classes()["VStreamResponse"]
+_CLASSES = _classes()
+Response, Request = _CLASSES["VStreamResponse"], _CLASSES["VStreamRequest"]
 
 Row = tuple[bytes | None, ...]
 """A row: the bytes of each column, None for NULL."""
@@ -47,8 +59,15 @@ class EventType(IntEnum):
     GTID = 1
     BEGIN = 2
     COMMIT = 3
+    ROLLBACK = 4
+    DDL = 5
+    OTHER = 11
     ROW = 12
     FIELD = 13
+    HEARTBEAT = 14
+    VGTID = 15
+    VERSION = 17
+    SAVEPOINT = 19
 
 
 def set_row(message, row: Row) -> int:

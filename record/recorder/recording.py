@@ -134,7 +134,7 @@ def _write(wanted: Wanted, connection: Connection, version: str, tables: list[Ta
             # no group says what the last transactions left alone: this one says that they were read
             written = position.text()
             feed.group([], written)
-        note = Note(version, wanted.shard, end, reading.begun, position.gtids(), position.snapshot, written, 0,
+        note = Note(version, wanted.shard, reading.place, reading.begun, position.gtids(), position.snapshot, written, 0,
                     {str(domain): domain_uuid(domain) for domain in position.last} | ({"snapshot": SNAPSHOT_UUID} if position.snapshot else {}),
                     {".".join(table.full): table.layout() for table in tables}, sorted(".".join(name) for name in start.filled),
                     [xa.hex() for xa in start.prepared])  # fmt: skip

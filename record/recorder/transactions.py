@@ -73,13 +73,18 @@ class Transactions:
         self.begun = 0
         self._maps: dict[int, tuple[TableMap, _Layout | None]] = {}
         self._open: _Open | None = None
-        self._place = Place("", 0)
+        self.place = Place("", 0)
+        """How far the log was read: `position` is the one there, wherever no transaction is open."""
 
     def read(self, events: Iterable[tuple[str, Event]], start: Place, end: Place) -> Iterator[Transaction]:
-        """The transactions from a place to another one. Stops where the log can't be told as rows."""
-        self._place = start
+        """The transactions from a place to another one, none that was committed behind it. Stops where the log can't be told as rows."""
+        self.place = start
         for log, event in events:
-            self._place = Place(log, event.end)
+            if event.end:
+                # one that the server made up stands nowhere, and is read wherever the log is
+                if self._has_reached(end) and not self._open:
+                    break
+                self.place = Place(log, event.end)
             try:
                 changes = self._changes(event)
             except (IndexError, KeyError, ValueError, struct.error, zlib.error) as fault:
@@ -89,16 +94,16 @@ class Transactions:
                 gtid, self._open = self._open.gtid, None
                 self.position.add(gtid)
                 self.filled.update(change.table.full for change in changes)
-                yield Transaction(gtid, event.time, changes, self._place)
-            if log == end.log and event.end >= end.offset and not self._open:
-                break
-        else:
-            if start != end:
-                raise Stop(f"the log ends before {end}", self._where(), "record again")
+                yield Transaction(gtid, event.time, changes, self.place)
+        if not self._has_reached(end):
+            raise Stop(f"the log ends before {end}", self._where(), "record again")
         self._check_ended()
 
+    def _has_reached(self, end: Place) -> bool:
+        return self.place.log == end.log and self.place.offset >= end.offset
+
     def _where(self) -> str:
-        return (f"in transaction {self._open.gtid}, " if self._open else "") + f"before {self._place}"
+        return (f"in transaction {self._open.gtid}, " if self._open else "") + f"before {self.place}"
 
     def _check_begun(self, table: Table) -> None:
         if table.full not in self.begun_with:
@@ -111,7 +116,7 @@ class Transactions:
             raise Stop("a transaction without an end", self._where(), "the log was cut there; record again when the server has written it")
         for xa, changes in self.prepared.items():
             if changes:
-                raise Stop(f"XA transaction {xa[6:].hex()} is prepared", f"at {self._place}",
+                raise Stop(f"XA transaction {xa[6:].hex()} is prepared", f"at {self.place}",
                            "XA COMMIT or XA ROLLBACK it (XA RECOVER lists it), and record again")  # fmt: skip
 
     def _changes(self, event: Event) -> list[Change] | None:

@@ -14,6 +14,8 @@ import pymysql
 
 SCHEMAS = ["ks_lower", "ks_upper"]
 SHARDS = ["-80", "80-"]
+PATIENCE = 600
+"""The seconds in which clients have to be done; on a machine with nothing else to do it takes them four."""
 DUPLICATE, LOCKED, DEADLOCK, XA_OVER = 1062, 1205, 1213, 1614
 Value = int | bytes | str | None
 
@@ -87,10 +89,10 @@ def keys_of(table: Table) -> list[list[tuple]]:
 
 
 class Client:
-    """One client: some transactions of one to four changes each."""
+    """One client: some transactions of one to four changes each, a few until it may end, and as many as are said then."""
 
-    def __init__(self, socket: str, seed: int, transactions: int, xa: bool) -> None:
-        self._socket, self._seed, self._transactions, self._xa = socket, seed, transactions, xa
+    def __init__(self, socket: str, seed: int, transactions: int, xa: bool, may_end: threading.Event) -> None:
+        self._socket, self._seed, self._transactions, self._xa, self._may_end = socket, seed, transactions, xa, may_end
         self._random = random.Random(seed)
         self._keys = [keys_of(table) for table in TABLES]
         self.done: Counter[str] = Counter()
@@ -100,8 +102,12 @@ class Client:
         try:
             connection = pymysql.connect(unix_socket=self._socket, user="root", charset="utf8mb4")
             with connection, connection.cursor() as self._cursor:
-                for number in range(self._transactions):
+                number = 0
+                while not self._may_end.wait(0.02):
                     self._transaction(number)
+                    number += 1
+                for more in range(number, number + self._transactions):
+                    self._transaction(more)
         except Exception as fault:  # noqa: BLE001
             self.fault = fault
 
@@ -198,20 +204,31 @@ class Client:
 
 
 class Load:
-    """Some clients at once."""
+    """Some clients at once. With `goes_on` it is used with `with`, and all their transactions but a few follow behind that."""
 
-    def __init__(self, socket: str, seed: int, clients: int, transactions: int, xa: bool) -> None:
-        self._clients = [Client(socket, seed * 100 + at, transactions, xa) for at in range(clients)]
+    def __init__(self, socket: str, seed: int, clients: int, transactions: int, xa: bool, goes_on: bool = False) -> None:
+        self._may_end = threading.Event()
+        if not goes_on:
+            self._may_end.set()
+        self._clients = [Client(socket, seed * 100 + at, transactions, xa, self._may_end) for at in range(clients)]
         self._threads = [threading.Thread(target=client.run, daemon=True) for client in self._clients]
         for thread in self._threads:
             thread.start()
 
+    def __enter__(self) -> "Load":
+        return self
+
+    def __exit__(self, *_: object) -> None:
+        self._may_end.set()
+
     def wait(self) -> Counter[str]:
         """What was done, when all clients are done. Raises a client's fault."""
         for client, thread in zip(self._clients, self._threads):
-            thread.join(timeout=90)
+            thread.join(timeout=PATIENCE)
             if client.fault:
                 raise client.fault
+            if thread.is_alive():
+                raise RuntimeError(f"a client isn't done after {PATIENCE} seconds")
         return sum((client.done for client in self._clients), Counter())
 
 

@@ -11,9 +11,11 @@ import time
 PLACES = os.environ.get("PATH", "") + ":/usr/sbin:/usr/local/sbin:/sbin"
 SETTINGS = ["--skip-networking", "--server-id=7", "--log-bin=binlog", "--binlog-format=ROW", "--binlog-row-image=FULL",
             "--binlog-row-metadata=FULL", "--max-binlog-size=256K", "--innodb-buffer-pool-size=32M", "--innodb-log-file-size=16M",
-            "--innodb-flush-log-at-trx-commit=0", "--sync-binlog=0", "--innodb-lock-wait-timeout=5", "--performance-schema=OFF",
+            "--innodb-flush-log-at-trx-commit=0", "--sync-binlog=0", "--innodb-lock-wait-timeout=60", "--performance-schema=OFF",
             "--innodb-print-all-deadlocks=OFF", "--character-set-server=utf8mb4"]  # fmt: skip
 DIE_WITH_PARENT = 1
+PATIENCE = 600
+"""The seconds that anything may take: a machine that is busy otherwise isn't a fault."""
 
 
 def command(name: str) -> str | None:
@@ -32,7 +34,8 @@ def _unprivileged() -> str | None:
     return next(name for name in ("mysql", "nobody") if name in names)
 
 
-def _die_with_parent() -> None:
+def die_with_parent() -> None:
+    """For a process that is begun: it ends where this one is killed."""
     ctypes.CDLL(None).prctl(DIE_WITH_PARENT, signal.SIGKILL)
 
 
@@ -40,7 +43,8 @@ class Server:
     """Use it with `with`: the server and its folder are gone afterwards, the server also where the test is killed."""
 
     def __enter__(self) -> "Server":
-        self.folder = tempfile.mkdtemp(prefix="vrepl-record-")
+        # a socket's path is short, and the server, which may run as another user, has to reach it
+        self.folder = tempfile.mkdtemp(prefix="vrepl-record-", dir="/tmp")
         self.socket = os.path.join(self.folder, "s")
         self._process = None
         try:
@@ -59,19 +63,18 @@ class Server:
             for path in (self.folder, data):
                 shutil.chown(path, user)
         words = [command("mariadb-install-db"), "--no-defaults", f"--datadir={data}", "--auth-root-authentication-method=normal", "--skip-test-db"]
-        made = subprocess.run([*words, *([f"--user={user}"] if user else [])], stdin=subprocess.DEVNULL, capture_output=True, text=True, timeout=60)
+        made = subprocess.run([*words, *([f"--user={user}"] if user else [])], stdin=subprocess.DEVNULL, capture_output=True, text=True, timeout=PATIENCE)
         if made.returncode:
             raise RuntimeError(f"mariadb-install-db: {made.stdout[-500:]}{made.stderr[-500:]}")
         self._log = open(os.path.join(self.folder, "log"), "wb")  # noqa: SIM115
         how = {"user": user, "group": pwd.getpwnam(user).pw_gid, "extra_groups": []} if user else {}
         self._process = subprocess.Popen(
             [command("mariadbd"), "--no-defaults", f"--datadir={data}", f"--socket={self.socket}", f"--pid-file={self.folder}/pid", *SETTINGS],
-            stdin=subprocess.DEVNULL, stdout=self._log, stderr=self._log, preexec_fn=_die_with_parent, **how)  # fmt: skip
-        for _ in range(600):
+            stdin=subprocess.DEVNULL, stdout=self._log, stderr=self._log, preexec_fn=die_with_parent, **how)  # fmt: skip
+        begun = time.monotonic()
+        while self._process.poll() is None and time.monotonic() - begun < PATIENCE:
             if self.sql("SELECT 1", check=False).returncode == 0:
                 return
-            if self._process.poll() is not None:
-                break
             time.sleep(0.05)
         with open(self._log.name, encoding="utf-8", errors="replace") as log:
             raise RuntimeError(f"mariadbd doesn't answer: {log.read()[-800:]}")
@@ -79,7 +82,7 @@ class Server:
     def sql(self, text: str, check: bool = True) -> subprocess.CompletedProcess:
         """Runs statements with the client, as `record/select` wants it; stdout is bytes."""
         done = subprocess.run([command("mariadb"), "--no-defaults", f"--socket={self.socket}", "--user=root", "--batch", "--raw", "--skip-column-names"],
-                              input=text.encode(), capture_output=True, timeout=60)  # fmt: skip
+                              input=text.encode(), capture_output=True, timeout=PATIENCE)  # fmt: skip
         if check and done.returncode:
             raise RuntimeError(f"{text[:200]}: {done.stderr.decode()}")
         return done
@@ -87,7 +90,8 @@ class Server:
     def purge(self, log: str) -> None:
         """Begins another log and purges those before the named one, which the server does only some time after they were last needed."""
         self.sql("FLUSH BINARY LOGS")
-        for _ in range(200):
+        begun = time.monotonic()
+        while time.monotonic() - begun < PATIENCE:
             if self.sql(f"PURGE BINARY LOGS TO '{log}'; SHOW BINARY LOGS").stdout.startswith(log.encode()):
                 return
             time.sleep(0.1)

@@ -95,6 +95,7 @@ CASES = [
     Case("other_transactions_than_the_feed", RESET + MAKE + "FLUSH BINARY LOGS; " + ROWS + "INSERT INTO s.t VALUES (5, 'e'); ",
          "the log was purged or begun anew at binlog.000004:", words=("--append",)),
     Case("feed_of_one_log", RESET + ROWS, ""),
+    Case("other_gtids_at_the_feeds_end", RESET + "SET gtid_domain_id=3; " + ROWS, "another log than the feed's at binlog.000001:", words=("--append",)),
     Case("log_begun_anew", RESET + "DO SLEEP(1.1); " + RESET + ROWS, "another log than the feed's in binlog.000001, which was begun anew",
          words=("--append",)),
 ]  # fmt: skip
