@@ -4,9 +4,10 @@
 usage: tests/run_dist.py
 
 Each check runs in copies of the checkout, most of them with no toolchain in the path: what dist/ has
-answers at once, from a read-only folder and through a link too; a program in dist/ that was cut or
-changed is never run, nor is one of other sources; and scripts/is_released, which ./test calls, refuses
-both. How ./build goes about its work is tried with a stand-in for the toolchain.
+answers at once, from a read-only folder and through a link too, and the next time behind one command
+that looks at times; a program in dist/ that was cut or changed is never run, nor is one of other sources;
+and scripts/is_released, which ./test calls, refuses both. How ./build goes about its work is tried with a
+stand-in for the toolchain.
 The last line is 'N passed, M failed': one a check.
 """
 import contextlib
@@ -63,6 +64,12 @@ class Room:
                     os.symlink(os.path.join(place, name), os.path.join(self.without, name))
         write(os.path.join(self.stand_in, "rt"), STAND_IN)
         os.chmod(os.path.join(self.stand_in, "rt"), 0o755)
+        # the path with a `find` as it was before it could read a list
+        older = os.path.join(folder, "older")
+        os.mkdir(older)
+        write(os.path.join(older, "find"), f'#!/bin/sh\n[ "$1" != -files0-from ] || exit 1\nexec "{self.without}/find" "$@"\n')
+        os.chmod(os.path.join(older, "find"), 0o755)
+        self.with_older_find = f"{older}:{self.without}"
         # every check leaves this copy as it was, but for what ./vrepl notes in out/
         self.plain = self.copy("a checkout")
 
@@ -106,6 +113,52 @@ def longer(path):
         yield
     finally:
         os.truncate(path, size)
+
+
+@contextlib.contextmanager
+def older_byte(path):
+    """Changes a byte of a file and sets the time of its content back, for a while."""
+    told = os.stat(path)
+    with changed(path, 0):
+        os.utime(path, ns=(told.st_atime_ns, told.st_mtime_ns - 10**15))
+        yield
+
+
+@contextlib.contextmanager
+def renamed(path):
+    """Gives a file another name in its folder, for a while."""
+    other = os.path.join(os.path.dirname(path), "other.rt")
+    os.rename(path, other)
+    try:
+        yield
+    finally:
+        os.rename(other, path)
+
+
+@contextlib.contextmanager
+def gone(path):
+    """Takes a file away, for a while."""
+    with open(path, "rb") as file:
+        whole = file.read()
+    os.remove(path)
+    try:
+        yield
+    finally:
+        with open(path, "wb") as file:
+            file.write(whole)
+
+
+@contextlib.contextmanager
+def one_more(path):
+    """Adds a file, with its folder where that isn't there, for a while."""
+    folder = os.path.dirname(path)
+    is_new = not os.path.isdir(folder)
+    os.makedirs(folder, exist_ok=True)
+    write(path, "")
+    try:
+        yield
+    finally:
+        shutil.rmtree(folder) if is_new else os.remove(path)
 
 
 def wanted(ran, status=0, out=SHOWN, said=""):
@@ -172,6 +225,66 @@ def program_of_other_sources_is_not_run(room):
     return fault or wanted(room.run(room.plain, *SHOW))
 
 
+@contextlib.contextmanager
+def without_sums(room):
+    """Nobody can sum the sources up, for a while: only a note gives an answer."""
+    sums = os.path.join(room.plain, "scripts/sources")
+    os.chmod(sums, 0o644)
+    try:
+        yield
+    finally:
+        os.chmod(sums, 0o755)
+
+
+def next_answer_needs_one_command(room):
+    """By `find` alone in the path, and as any shell reads the script; an older `find` leads to the same answer."""
+    time.sleep(2.1)
+    fault = wanted(room.run(room.plain, *SHOW))
+    alone = os.path.join(room.folder, "alone")
+    os.mkdir(alone)
+    os.symlink(os.path.join(room.without, "find"), os.path.join(alone, "find"))
+    with without_sums(room):
+        for shell, path in (["sh"], alone), (["bash", "--posix"], alone), (["sh"], room.with_older_find):
+            words = [*shell[1:], os.path.join(room.plain, "vrepl"), *SHOW]
+            fault = fault or wanted(room.run(room.plain, *words, command=shutil.which(shell[0]), PATH=path))
+    return fault
+
+
+def holds_from_now(room):
+    """Has a note of the program that holds from this moment on, in place of the second before it was made."""
+    fault = wanted(room.run(room.plain, *SHOW))
+    with open(os.path.join(room.plain, "out/answers"), "r+b") as file:
+        _, _, rest = file.read().partition(b" ")
+        file.seek(0)
+        file.write(b"%.6f %s" % (time.time(), rest))
+    with without_sums(room):
+        fault = fault or wanted(room.run(room.plain, *SHOW))
+    time.sleep(0.05)
+    return fault
+
+
+def each_change_is_noticed(room):
+    changes = [
+        (older_byte, SOURCE, NO_TOOLCHAIN),
+        (gone, SOURCE, NO_TOOLCHAIN),
+        (renamed, SOURCE, NO_TOOLCHAIN),
+        (one_more, "crates/vrepl/src/other.rt", NO_TOOLCHAIN),
+        (one_more, "crates/outcome/proofs/Other.antt", NO_TOOLCHAIN),
+        (longer, "HANDLES", NO_TOOLCHAIN),
+        (gone, "crates.txt", "crates.txt"),
+        (older_byte, CARRIED, NOT_THE_NAMED),
+        (older_byte, "dist/SOURCES", NO_TOOLCHAIN),
+    ]
+    for make, path, said in changes:
+        fault = holds_from_now(room)
+        with make(os.path.join(room.plain, path)):
+            for places in (room.without, room.with_older_find):
+                fault = fault or refused(room.run(room.plain, *SHOW, PATH=places), said)
+        if fault:
+            return f"{make.__name__} {path}: {fault}"
+    return holds_from_now(room) or refused(room.run(room.plain, *SHOW, builds=True, RT_FAILS="1"), "vrepl isn't proved")
+
+
 def tests_and_documents_do_not_count(room):
     edits = os.path.join(room.plain, "crates/vrepl/must-fail")
     os.mkdir(edits)
@@ -235,6 +348,7 @@ def build_that_fails_leaves_what_was_there(room):
 
 CHECKS = [
     answers_at_once, answers_through_a_link, answers_many_at_a_time, words_and_status_are_the_programs,
+    next_answer_needs_one_command, each_change_is_noticed,
     changed_program_is_never_run, program_of_other_sources_is_not_run, tests_and_documents_do_not_count,
     gate_refuses_a_changed_program, gate_refuses_changed_sources, answers_from_a_read_only_folder,
     checkout_without_dist_builds, build_that_fails_leaves_what_was_there,

@@ -13,7 +13,10 @@ script goes on from another state.
 The tests of the crates in SWEPT, as the gate (or `rt test`) has built them, run in the same way, each test
 once or twice for each growth that it asks for. A test may fail only with want of memory: as the error that
 it ends with, or as what it compared.
-The last line is 'N passed, M failed': one check a case, and one a crate.
+
+`run` of two feeds in threads, on 1, 2 and 4 processors, has the Nth growth refused, N from 1 until none is: it
+prints the dump or says `refused 72`.
+The last line is 'N passed, M failed': one check a case, one a crate, and one a number of processors.
 """
 import functools
 import multiprocessing
@@ -24,10 +27,21 @@ import sys
 import tempfile
 
 import run_cases
+from model import making, program as model
 
-# The crates whose tests are swept, each with a word of some tests' names and the last growth that is refused
-# of them: behind it a step of a script is refused, which these tests take for a wrong reply, and the cases don't.
-SWEPT = {"table_tests": {}, "program_tests": {"replies::": 3}}
+# The crates whose tests are swept, each with words of some tests' names and the last growth that is refused of
+# the tests of the first word that fits: behind it a step of a script is refused, which these tests take for a wrong
+# reply, and the cases don't. Of some crates the tests in `memory` alone are swept, which call again what found none.
+EACH_GROWTH = 2**32
+IN_MEMORY = {"memory::": EACH_GROWTH, "": 0}
+SWEPT = {
+    # this one compares whole answers, so that want of memory can't be told from a wrong one
+    "table_tests": {"touching::last_touches_of_each_key": 0},
+    "board_tests": IN_MEMORY,
+    "checkpoint_tests": IN_MEMORY,
+    "worker_tests": IN_MEMORY,
+    "program_tests": {"replies::": 3},
+}
 
 TESTS = os.path.dirname(os.path.abspath(__file__))
 ROOT = os.path.dirname(TESTS)
@@ -89,13 +103,15 @@ def runs_tests(tests, name, told):
 
 def sweep_test(tests, lasts, name):
     """Answers why the test fails under some refused growth, or nothing."""
-    last = next((growth for word, growth in lasts.items() if word in name), None)
+    last = next((growth for word, growth in lasts.items() if word in name), EACH_GROWTH)
+    if not last:
+        return None
     with tempfile.NamedTemporaryFile("r", encoding="ascii") as count:
         status, said = runs_tests(tests, name, {"GROWTHS": count.name})
         growths = int(count.read())
     if status:
         return f"{name} fails with no growth refused\n{said}"
-    for at in range(1, min(growths, last or growths) + 1):
+    for at in range(1, min(growths, last) + 1):
         for refused in (f"{at}", f"{at}+"):
             status, said = runs_tests(tests, name, {"REFUSE_GROWTH": refused})
             failed = FAILED_TEST.findall(said)
@@ -122,6 +138,31 @@ def sweep_crate(pool, room, library, name, lasts):
     return next((why for why in said if why is not None), None)
 
 
+def sweep_run(program, library, processors):
+    """Answers why a run in threads on so many processors fails under some refused growth, or nothing."""
+    files = {"workflow": making.TWO, "lower": making.LOWER, "upper": making.UPPER}
+    words = ["run", *files]
+    wanted = model.answers(words, files)
+    chosen = sorted(os.sched_getaffinity(0))[:processors]
+    how = {"capture_output": True, "preexec_fn": lambda: os.sched_setaffinity(0, chosen), "timeout": run_cases.SECONDS}
+    with tempfile.TemporaryDirectory(prefix="vrepl-sweep-") as place:
+        for name, data in files.items():
+            with open(os.path.join(place, name), "wb") as file:
+                file.write(data)
+        at, growths = 0, 1
+        while at < growths:
+            at += 1
+            told = {"LD_PRELOAD": library, "GROWTHS": os.path.join(place, "growths"), "REFUSE_GROWTH": f"{at}"}
+            ran = subprocess.run([program, *words], cwd=place, env={**os.environ, **told}, **how)
+            said = ran.returncode, ran.stdout, ran.stderr
+            if said not in [*wanted, REFUSED]:
+                return f"growth {at} refused: {said}"
+            with open(told["GROWTHS"], encoding="ascii") as file:
+                growths = int(file.read()) + (said == REFUSED)
+    print(f"run in threads on {processors} processors: {at - 1} growths refused, one by one")
+    return None
+
+
 def main(program):
     program = os.path.abspath(program)
     names = run_cases.names()
@@ -130,7 +171,8 @@ def main(program):
         sweep = functools.partial(sweep_case, program, library)
         of_cases = [f"case {name}" for name in names], pool.map(sweep, names, chunksize=1)
         of_crates = [f"crate {name}" for name in SWEPT], [sweep_crate(pool, room, library, *it) for it in SWEPT.items()]
-    swept = [*zip(*of_cases), *zip(*of_crates)]
+        of_runs = [f"run on {it} processors" for it in (1, 2, 4)], [sweep_run(program, library, it) for it in (1, 2, 4)]
+    swept = [*zip(*of_cases), *zip(*of_crates), *zip(*of_runs)]
     faults = [f"{name}: {why}" for name, why in swept if why is not None]
     checks = len(swept)
     for it in faults:

@@ -1,0 +1,253 @@
+#!/usr/bin/env python3
+"""Runs the built program over damaged files, restarts and writers that fail.
+
+usage: tests/run_hostile.py PROGRAM
+
+Each answer is compared with that of the plain model in tests/model: the worked feed cut to each length and with each
+byte changed, through `show` and `step`; three checkpoints likewise, through `resume`, where a board that is taken has
+to be one of the feed's; positions, rows, hexadecimal text, scripts, filters and workflows on both sides of a limit;
+restarts after each step of a script, by `restart` and by `save` and `resume`; dumps and checkpoints into pipes whose
+reader is gone, into a full device and into files of limited size; and feeds that can't be read. The last line is
+'N passed, M failed': one a check.
+"""
+import os
+import resource
+import signal
+import subprocess
+import sys
+import tempfile
+
+from model import checkpoint, limits, making, program
+
+SECONDS = 60
+
+
+class Room:
+    """A folder with the files of a run, and the program that runs there."""
+
+    def __init__(self, built, place):
+        self.built, self.place = os.path.abspath(built), place
+
+    def run(self, words, files, stdin=b"", **how):
+        for name, data in files.items():
+            with open(os.path.join(self.place, name), "wb") as file:
+                file.write(data)
+        how = {"stdout": subprocess.PIPE, "stderr": subprocess.PIPE, "timeout": SECONDS, "cwd": self.place} | how
+        ran = subprocess.run([self.built, *words], input=stdin, **how)
+        return ran.returncode, ran.stdout, ran.stderr
+
+    def fault(self, words, files, stdin=b""):
+        """Answers how the program's answer differs from the model's, or nothing."""
+        wanted = program.answers(words, files, stdin)
+        said = self.run(words, files, stdin)
+        return None if said in wanted else f"{said}, wanted {wanted}"
+
+
+def changed(data):
+    """All copies of some bytes in which one is replaced by 00, by ff or by itself plus one."""
+    for at, byte in enumerate(data):
+        for other in sorted({0, 255, (byte + 1) % 256} - {byte}):
+            yield f"byte {at} as {other:02x}", data[:at] + bytes([other]) + data[at + 1 :]
+
+
+def cut(data):
+    return ((f"cut to {k} bytes", data[:k]) for k in range(len(data) + 1))
+
+
+def damaged_feed(room, make, data):
+    tried = 0
+    for title, it in make(data):
+        for words in (["show", "feed"], ["show", "--keyspace=ks", "--shard=-80", "feed"], ["step", "workflow", "feed"]):
+            tried += 1
+            fault = room.fault(words, {"feed": it, "workflow": making.ONE}, making.COPY_ONE + b"dump\n")
+            yield fault and f"{title}, {' '.join(words)}: {fault}"
+    print(f"  {tried} feeds")
+
+
+# Feeds that are refused, each with its line.
+BROKEN = {
+    "04 0a 02 08 06": "82 cause 23 type 6",
+    "02 0a 00": "82 cause 23 type 0",
+    "03 0a 01 0b": "82 cause 3",
+    "01 0b": "82 cause 3",
+    "08 0a 06 08 04 3a 00 3a 00": "82 cause 22",
+    "0d 0a 0b 08 0c 2a 07 0a 01 74 12 02 18 01": "82 cause 25",
+    "07 0a 05 08 01 1a 01 78": "94 cause 32",
+    "ff ff ff ff ff ff ff ff ff ff": "81",
+}
+
+
+def broken_feeds(room):
+    for text, line in BROKEN.items():
+        said = room.run(["show", "feed"], {"feed": bytes.fromhex(text)})
+        yield said != (1, b"", f"refused {line}\n".encode()) and f"{text}: {said}"
+
+
+def damaged_checkpoint(room, make, data, workflow, feeds):
+    names = [f"feed{i}" for i in range(len(feeds))]
+    files = {"workflow": workflow, **dict(zip(names, feeds))}
+    script = b"".join(b"state %d\n" % s for s in range(len(feeds))) + b"dump\n"
+    counts = {}
+    for title, it in make(data):
+        wanted = program.answers(["resume", "--checkpoint=it", "workflow", *names], {"it": it, **files}, script)
+        said = room.run(["resume", "--checkpoint=it", "workflow", *names], {"it": it, **files}, script)
+        kind = said[2].split()[1].decode() if said[0] else "a lawful board"
+        counts[kind] = counts.get(kind, 0) + 1
+        is_allowed = kind in ("116", "117", "118", "a lawful board") and (make is changed or kind == "116" or it == data)
+        yield (said not in wanted or not is_allowed) and f"{title}: {said}, wanted {wanted}"
+    print("  " + ", ".join(f"{count} {kind}" for kind, count in sorted(counts.items())))
+
+
+def at_limits(room):
+    tried = 0
+    for title, *case in limits.cases():
+        tried += 1
+        fault = room.fault(*case)
+        yield fault and f"{title}: {fault[:500]}"
+    print(f"  {tried} texts")
+
+
+def restarts(room):
+    files = {"workflow": making.ONE, "feed": making.MOVING}
+    wanted = b"table t\nx34\tx68\nx35\tx65\nx38\tx6b\n"
+    steps = making.NINE_STEPS.splitlines(True)
+    for k in range(len(steps) + 1):
+        first = b"".join(steps[:k])
+        status, said, error = room.run(["step", "workflow", "feed"], files, first + b"restart 0\n" + making.TO_THE_END)
+        yield (status, said[-len(wanted) :], error) != (0, wanted, b"") and f"restart after {k} steps: {said}"
+        saved = room.run(["save", "workflow", "feed"], files, first)
+        resumed = room.run(["resume", "--checkpoint=it", "workflow", "feed"], files | {"it": saved[1]}, making.TO_THE_END)
+        yield (saved[0], resumed[0], resumed[1][-len(wanted) :]) != (0, 0, wanted) and f"resume after {k} steps: {resumed}"
+
+
+# A dump and a checkpoint of some blocks: what is written, and how much of it.
+ROWS = 3000
+MANY = making.feed([making.added(*((i, b"%060d" % i) for i in range(ROWS)))])
+COPY_ALL = b"offer 0 1\nadvance 0\nopen 0 1\ncopy 0 %d\n" % ROWS
+WRITERS = {
+    "run": (["run", "workflow", "feed"], b""),
+    "step": (["step", "workflow", "feed"], COPY_ALL + b"dump\n"),
+    "save": (["save", "workflow", "feed"], COPY_ALL),
+    "show": (["show", "feed"], b""),
+}
+CANNOT_WRITE = b"refused 132 file -\n"
+
+
+def into_limited_file(room, words, files, stdin, limit, at_limit=signal.SIG_IGN):
+    """Past the limit a write fails where SIGXFSZ is ignored; else that signal ends the program, as it ends any."""
+
+    def limits():
+        signal.signal(signal.SIGXFSZ, at_limit)
+        resource.setrlimit(resource.RLIMIT_FSIZE, (limit, limit))
+
+    with open(os.path.join(room.place, "output"), "wb") as output:
+        status, _, error = room.run(words, files, stdin, stdout=output, preexec_fn=limits)
+    with open(os.path.join(room.place, "output"), "rb") as output:
+        return status, output.read(), error
+
+
+def into_closed_pipe(room, words, files, stdin, taken):
+    """The program writes into a pipe whose reader goes away once it has taken some bytes."""
+    room.run(["--help"], files)
+    reader, writer = os.pipe()
+    ran = subprocess.Popen([room.built, *words], cwd=room.place, stdin=subprocess.PIPE, stdout=writer, stderr=subprocess.PIPE)
+    os.close(writer)
+    if not taken:
+        os.close(reader)
+    ran.stdin.write(stdin)
+    ran.stdin.close()
+    said = b""
+    while len(said) < taken and (piece := os.read(reader, taken - len(said))):
+        said += piece
+    if taken:
+        os.close(reader)
+    error = ran.stderr.read()
+    return ran.wait(SECONDS), said, error
+
+
+def failing_writers(room):
+    files = {"workflow": making.ONE, "feed": MANY}
+    tried = 0
+    for title, (words, stdin) in WRITERS.items():
+        _, whole, error = room.run(words, files, stdin)
+        yield (error or len(whole) < 1 << 17) and f"{title}: {error}, {len(whole)} bytes"
+        ends = [*range(0, len(whole), 4096), 1, 4095, 4097, len(whole) - 1]
+        for limit in ends:
+            said = into_limited_file(room, words, files, stdin, limit)
+            tried += 1
+            yield said != (1, whole[:limit], CANNOT_WRITE) and f"{title} into {limit} bytes: {said[0], len(said[1]), said[2]}"
+            said = into_limited_file(room, words, files, stdin, limit, signal.SIG_DFL)
+            yield said != (-signal.SIGXFSZ, whole[:limit], b"") and f"{title} ended at {limit} bytes: {said[0], len(said[1]), said[2]}"
+        yield into_limited_file(room, words, files, stdin, len(whole)) != (0, whole, b"") and f"{title} into a file of its size"
+        for taken in (0, 1, 4095, 4096, 4097, 60000):
+            status, said, error = into_closed_pipe(room, words, files, stdin, taken)
+            tried += 1
+            yield (status, said, error) != (1, whole[:taken], CANNOT_WRITE) and f"{title}, reader gone after {taken}: {status, len(said), error}"
+        with open("/dev/full", "wb") as full:
+            said = room.run(words, files, stdin, stdout=full)
+        tried += 1
+        yield (said[0], said[2]) != (1, CANNOT_WRITE) and f"{title} into /dev/full: {said}"
+    small = {"workflow": making.TWO, "lower": making.LOWER, "upper": making.UPPER}
+    one = {"workflow": making.ONE, "feed": making.ONE_ROW}
+    for words, given, stdin in ((["run", "workflow", "lower", "upper"], small, b""), (["save", "workflow", "feed"], one, making.COPY_ONE)):
+        whole = room.run(words, given, stdin)[1]
+        for limit in range(len(whole)):
+            said = into_limited_file(room, words, given, stdin, limit)
+            tried += 1
+            yield said != (1, whole[:limit], CANNOT_WRITE) and f"{words} into {limit} bytes: {said}"
+    print(f"  {tried} failing writers")
+
+
+def unreadable_feeds(room):
+    os.mkdir(os.path.join(room.place, "folder"))
+    files = {"workflow": making.ONE, "it": checkpoint.MAGIC, "feed": making.ONE_ROW}
+    for name in ("missing", "folder"):
+        for words in (["show", name], *([it, "workflow", name] for it in ("step", "save", "run")), ["resume", "--checkpoint=it", "workflow", name]):
+            said = room.run(words, files)
+            yield said != (1, b"", f"refused 131 file {name}\n".encode()) and f"{words}: {said}"
+
+
+def of_two_streams():
+    """A checkpoint of two streams, of which one is within its table and the other has copied it."""
+    script = b"offer 0 1\nadvance 0\nopen 0 1\ncopy 0 1\noffer 1 1\nadvance 1\nopen 1 1\ncopy 1 1\n"
+    feeds = [making.MOVING, making.UPPER]
+    return program.save(False, making.TWO, feeds, script), making.TWO, feeds
+
+
+def of_a_table_that_waits():
+    """A checkpoint without rows, whose position can be another of the feed's."""
+    script = b"offer 0 1\noffer 0 2\nadvance 0\nadvance 0\n"
+    return program.save(False, making.ONE, [making.MOVING], script), making.ONE, [making.MOVING]
+
+
+def checks(room):
+    one = program.save(False, making.ONE, [making.ONE_ROW], making.COPY_ONE), making.ONE, [making.ONE_ROW]
+    yield "the worked feed cut", damaged_feed(room, cut, making.ONE_ROW)
+    yield "the worked feed with a byte changed", damaged_feed(room, changed, making.ONE_ROW)
+    yield "feeds that are broken", broken_feeds(room)
+    for title, given in (("one row", one), ("two streams", of_two_streams()), ("a table that waits", of_a_table_that_waits())):
+        yield f"the checkpoint of {title} cut", damaged_checkpoint(room, cut, *given)
+        yield f"the checkpoint of {title} with a byte changed", damaged_checkpoint(room, changed, *given)
+    yield "texts on both sides of a limit", at_limits(room)
+    yield "restarts after each step", restarts(room)
+    yield "writers that fail", failing_writers(room)
+    yield "feeds that can't be read", unreadable_feeds(room)
+
+
+def main(built):
+    passed = failed = 0
+    with tempfile.TemporaryDirectory(prefix="vrepl-hostile-") as place:
+        for title, check in checks(Room(built, place)):
+            print(f"{title}:")
+            faults = [it for it in check if it]
+            for it in faults[:10]:
+                print(f"hostile: {title}: {it}")
+            passed, failed = passed + (not faults), failed + bool(faults)
+    print(f"{passed} passed, {failed} failed")
+    return 1 if failed else 0
+
+
+if __name__ == "__main__":
+    if len(sys.argv) != 2:
+        sys.exit("usage: tests/run_hostile.py PROGRAM")
+    sys.exit(main(sys.argv[1]))
