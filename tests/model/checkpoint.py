@@ -161,17 +161,38 @@ def resume(workflow, feeds, data):
     for s, it in enumerate(board.streams):
         for n in range(1, it.applied + 1):
             board.touches(s, n)
-    owners = {}
     for s, (_, _, rows) in enumerate(parts):
         there = board.rows_of(s)
         for key in sorted({*rows, *there}):
             if key not in rows or key not in there or rows[key] != there[key]:
-                where = workflow.tables[key[0]].name, key_text(key[1])
-                raise Refused(117, b" stream %d table %s key %s" % (s, *where))
-    for s in range(len(parts)):
-        for key in sorted(board.rows_of(s)):
-            if key in owners:
-                where = workflow.tables[key[0]].name, key_text(key[1])
-                raise Refused(71, b" table %s key %s owner %d" % (*where, owners[key]))
-        owners |= {key: s for key in board.rows_of(s)}
+                raise Refused(117, b" stream %d%s" % (s, place_of(workflow, key)))
+    refuse_shared_keys(board)
+    return board
+
+
+def place_of(workflow, key):
+    return b" table %s key %s" % (workflow.tables[key[0]].name, key_text(key[1]))
+
+
+def refuse_shared_keys(board):
+    """Refuses the first stream that has a row at a key of a lower one's, with its least such key."""
+    owners = {}
+    for s in range(len(board.streams)):
+        rows = board.rows_of(s)
+        for key in sorted({*rows} & {*owners}):
+            raise Refused(71, b"%s owner %d" % (place_of(board.workflow, key), owners[key]))
+        owners |= dict.fromkeys(rows, s)
+
+
+def how_far(stream):
+    """How far on a stream is: by its applied groups, then by its done tables, then by the key that the next one is copied up to."""
+    mark = [it for it in stream.marks if isinstance(it, tuple)]
+    return stream.applied, stream.done(), mark
+
+
+def join(one, other):
+    """The board of which each stream is that of the one or the other board, in which it is further on."""
+    board = Board(one.workflow, one.feeds)
+    board.streams = [b if how_far(a) < how_far(b) else a for a, b in zip(one.streams, other.streams)]
+    refuse_shared_keys(board)
     return board

@@ -36,6 +36,12 @@ def resume(is_hex, data, workflow, feeds, script):
     return replies(checkpoint.resume(workflow, feeds, data), steps)
 
 
+def join(is_hex, workflow, one, other, feeds):
+    workflow, feeds = opened(is_hex, workflow, feeds)
+    boards = [checkpoint.resume(workflow, feeds, it) for it in (one, other)]
+    return checkpoint.save(checkpoint.join(*boards))
+
+
 def run_alone(is_hex, policy, workflow, feeds):
     board = Board(*opened(is_hex, workflow, feeds))
     for s in range(len(board.streams)):
@@ -137,6 +143,8 @@ def said_by(words, files, stdin):
         return (run_alone if "--alone" in options else run_in_threads)(is_hex, policy, given[0], given[1:])
     if command == "resume":
         return resume(is_hex, files[values["checkpoint"]], given[0], given[1:], stdin)
+    if command == "join":
+        return join(is_hex, *given[:3], given[3:])
     return {"step": step, "save": save}[command](is_hex, given[0], given[1:], stdin)
 
 

@@ -6,6 +6,8 @@ from .random_feed import UUIDS, Feeds
 from .wire import varint
 from .workflow import Workflow
 
+CHECKPOINTS = ("checkpoint", "one", "other")
+
 
 class Bent(Board):
     """A board whose checkpoint says something else in a place, a row, a mark or a position, or stands elsewhere."""
@@ -52,10 +54,11 @@ class Case(Feeds):
     def __init__(self, r):
         self.r = r
         self.files, self.stdin = {}, b""
-        kind = r.choices(["show", "step", "save", "resume", "run", "vdiff"], [3, 6, 2, 4, 3, 2])[0]
+        kind = r.choices(["show", "step", "save", "resume", "join", "run", "vdiff"], [3, 6, 2, 4, 4, 3, 2])[0]
         self.is_hex = kind != "vdiff" and r.random() < 0.1
         self.is_whole = r.random() < 0.6
         self.faulty = r.choice([0, 0, 0, 1])
+        self.bent = {"resume": 0.4, "join": 0.1}.get(kind, 0)
         self.said = self.workflow()
         try:
             self.read = Workflow(self.said)
@@ -99,15 +102,63 @@ class Case(Feeds):
     def resume(self):
         board = self.board()
         self.script(board)
-        is_bent = self.chance(0.4)
+        self.files["checkpoint"] = self.checkpoint_of(board)
+        self.words = ["resume", *self.options(), "--checkpoint=checkpoint", *self.named_feeds()]
+        self.stdin = self.script(board and self.again(board))
+
+    def join(self):
+        """Two targets of one workflow that were filled apart, or of which the second one went on where the first stands."""
+        boards = self.board(), self.board()
+        if boards[0]:
+            boards = self.r.choice([self.scripted_apart, self.scripted_on, self.filled_apart, self.copied_apart])(*boards)
+        for name, board in zip(self.r.sample(["one", "other"], 2), boards):
+            self.files[name] = self.checkpoint_of(board)
+        workflow, *feeds = self.named_feeds()
+        names = ["one", "other"] if self.chance(0.95) else ["one", "one"]
+        self.words = ["join", *self.options(), workflow, *names, *feeds]
+
+    def scripted_apart(self, *boards):
+        for board in boards:
+            self.script(board)
+        return boards
+
+    def scripted_on(self, board, _):
+        self.script(board)
+        other = self.again(board)
+        self.script(other)
+        return board, other
+
+    def filled_apart(self, *boards):
+        """Each stream is run on one of the boards, as far as it goes there."""
+        for s in range(len(boards[0].streams)):
+            try:
+                self.r.choice(boards).fill(s, 1000, 100, 4)
+            except Refused:
+                pass
+        return boards
+
+    def copied_apart(self, *boards):
+        """All groups of each stream are applied on each board, and some tables copied and a part of the next one."""
+        for board in boards:
+            for s, feed in enumerate(board.feeds):
+                last = len(feed.groups)
+                steps = [("offer", s, n) for n in range(1, last + 1)] + [("advance", s)] * last
+                steps += [("open", s, last), ("copy", s, 9)] * self.r.choice([0, 0, 0, 1]) + [("open", s, last)]
+                for it in steps:
+                    board.reply(it)
+                rows = len(board.kept(s, board.streams[s].applied)) if board.streams[s].applied else 0
+                board.reply(("copy", s, self.r.randrange(rows + 1)))
+        return boards
+
+    def checkpoint_of(self, board):
+        """What a board saves, or one that is bent; such a case isn't damaged further."""
+        is_bent = self.chance(self.bent)
         try:
             said = checkpoint.save(Bent(self, board) if is_bent else board) if board else checkpoint.MAGIC
         except Refused:
             said = checkpoint.save(board)
-        self.files["checkpoint"] = self.respelled_checkpoint(said) if self.chance(0.5) else said
         self.is_whole |= is_bent
-        self.words = ["resume", *self.options(), "--checkpoint=checkpoint", *self.named_feeds()]
-        self.stdin = self.script(board and self.again(board))
+        return self.respelled_checkpoint(said) if self.chance(0.5) else said
 
     def respelled_checkpoint(self, data):
         at, out = len(checkpoint.MAGIC), [checkpoint.MAGIC]
@@ -194,7 +245,7 @@ class Case(Feeds):
     def damage(self):
         """Breaks some bytes of one file or of the script."""
         names = [*self.files, *["stdin"] * bool(self.stdin)]
-        name = self.r.choice(names + [it for it in names if it.startswith("feed")] * 2 + ["checkpoint"] * 30 * ("checkpoint" in names))
+        name = self.r.choice(names + [it for it in names if it.startswith("feed")] * 2 + [it for it in names if it in CHECKPOINTS] * 30)
         data = bytearray(self.stdin if name == "stdin" else self.files[name])
         for _ in range(self.r.choices([1, 2, 4], [6, 2, 1])[0]):
             self.break_once(data)
