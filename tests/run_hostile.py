@@ -7,7 +7,8 @@ Each answer is compared with that of the plain model in tests/model: the worked 
 byte changed, through `show` and `step`; three checkpoints likewise, through `resume`, where a board that is taken has
 to be one of the feed's; positions, rows, hexadecimal text, scripts, filters and workflows on both sides of a limit;
 restarts after each step of a script, by `restart` and by `save` and `resume`; dumps and checkpoints into pipes whose
-reader is gone, into a full device and into files of limited size; and feeds that can't be read. The last line is
+reader is gone, into a full device and into files of limited size; all cases with reads and writes that are interrupted
+and take one byte (tests/short_calls.c), and signals while the program waits; and feeds that can't be read. The last line is
 'N passed, M failed': one a check.
 """
 import os
@@ -16,7 +17,10 @@ import signal
 import subprocess
 import sys
 import tempfile
+import time
 
+import preloaded
+import run_cases
 from model import checkpoint, limits, making, program
 
 SECONDS = 60
@@ -198,6 +202,86 @@ def failing_writers(room):
     print(f"  {tried} failing writers")
 
 
+def in_short_calls(room):
+    """Each case with reads and writes of one byte, of which the first and every 32nd are interrupted."""
+    told = {**os.environ, "LD_PRELOAD": preloaded.library(room.place, "short_calls"), "SHORT_CALLS": "1"}
+    for name in run_cases.names():
+        case = run_cases.Case(name)
+        with case.place() as place:
+            said = case.faults(*case.run(room.built, place, told))
+        yield said and f"{name}: {said}"
+
+
+def waits(ran):
+    """Waits until a program waits for what it reads, or has ended, and answers whether it does."""
+    end = time.monotonic() + SECONDS
+    while time.monotonic() < end:
+        with open(f"/proc/{ran.pid}/stat", "rb") as stat:
+            state = stat.read().rpartition(b")")[2].split()[0]
+        if state in (b"S", b"Z"):
+            return state == b"S"
+        time.sleep(0.0002)
+    ran.kill()
+    return False
+
+
+def started(room, words, **how):
+    """A program that signal 10 interrupts, and the name of the file that is there once it did."""
+    noted = os.path.join(room.place, "interrupted")
+    if os.path.exists(noted):
+        os.remove(noted)
+    told = {**os.environ, "LD_PRELOAD": preloaded.library(room.place, "short_calls"), "INTERRUPTED": noted}
+    how = {"stdin": subprocess.DEVNULL, "stdout": subprocess.PIPE, "stderr": subprocess.PIPE, "cwd": room.place, "env": told} | how
+    return subprocess.Popen([room.built, *words], **how), noted
+
+
+def fed_slowly(ran, writer, data):
+    """Gives a program that reads a pipe a byte at a time, with a signal before each while it waits."""
+    for at in range(len(data)):
+        if waits(ran):
+            ran.send_signal(signal.SIGUSR1)
+        if waits(ran):
+            os.write(writer, data[at : at + 1])
+    os.close(writer)
+
+
+def signals_while_it_reads(room):
+    """Signals to a program that waits for the next byte of a FIFO, or of standard input."""
+    files = {"workflow": making.ONE, "feed": making.ONE_ROW}
+    script = making.COPY_ONE + b"dump\n"
+    of_feed, of_script = program.answers(["show", "feed"], files), program.answers(["step", "workflow", "feed"], files, script)
+    room.run(["--help"], files)
+    os.mkfifo(os.path.join(room.place, "fifo"))
+    ran, noted = started(room, ["show", "fifo"])
+    fed_slowly(ran, os.open(os.path.join(room.place, "fifo"), os.O_WRONLY), making.ONE_ROW)
+    out, error = ran.communicate(timeout=SECONDS)
+    yield (ran.returncode, out, error) not in of_feed and f"a feed in a FIFO: {ran.returncode, out, error}"
+    yield not os.path.exists(noted) and "no read of a FIFO was interrupted"
+    reader, writer = os.pipe()
+    ran, noted = started(room, ["step", "workflow", "feed"], stdin=reader)
+    os.close(reader)
+    fed_slowly(ran, writer, script)
+    out, error = ran.communicate(timeout=SECONDS)
+    yield (ran.returncode, out, error) not in of_script and f"a script: {ran.returncode, out, error}"
+    yield not os.path.exists(noted) and "no read of standard input was interrupted"
+
+
+def signals_while_it_writes(room):
+    """Signals to a program that waits until some of what it printed is taken."""
+    room.run(["--help"], {"workflow": making.ONE, "feed": MANY})
+    for words in (["show", "feed"], ["run", "--alone", "workflow", "feed"]):
+        whole = room.run(words, {})[1]
+        ran, noted = started(room, words)
+        said = b""
+        while waits(ran):
+            ran.send_signal(signal.SIGUSR1)
+            waits(ran)
+            said += os.read(ran.stdout.fileno(), 10007)
+        rest, error = ran.communicate(timeout=SECONDS)
+        yield (ran.returncode, said + rest, error) != (0, whole, b"") and f"{words}: {ran.returncode, len(said + rest), error}"
+        yield not os.path.exists(noted) and f"{words}: no write was interrupted"
+
+
 def unreadable_feeds(room):
     os.mkdir(os.path.join(room.place, "folder"))
     files = {"workflow": making.ONE, "it": checkpoint.MAGIC, "feed": making.ONE_ROW}
@@ -231,6 +315,9 @@ def checks(room):
     yield "texts on both sides of a limit", at_limits(room)
     yield "restarts after each step", restarts(room)
     yield "writers that fail", failing_writers(room)
+    yield "calls that are interrupted and take one byte", in_short_calls(room)
+    yield "signals while it reads", signals_while_it_reads(room)
+    yield "signals while it writes", signals_while_it_writes(room)
     yield "feeds that can't be read", unreadable_feeds(room)
 
 

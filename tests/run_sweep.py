@@ -26,6 +26,7 @@ import subprocess
 import sys
 import tempfile
 
+import preloaded
 import run_cases
 from model import making, program as model
 
@@ -49,22 +50,6 @@ REFUSED = (1, b"", b"refused 72\n")
 PASSED_TEST = re.compile(r"^test (\S+) \.\.\. ok$", re.M)
 FAILED_TEST = re.compile(r"^test (\S+) \.\.\. FAILED\n((?:    .*\n)*)", re.M)
 IS_MEMORY = re.compile(r"^ +(?:error|left): .*\b(?:Memory|OutOfMemory|AllocError|AllocFailed)\b", re.M)
-
-
-def toolchain(path):
-    """A file of the toolchain, by its path from the folder of `rt`."""
-    rt = subprocess.run(["sh", "-c", "command -v rt"], stdout=subprocess.PIPE, text=True).stdout.strip()
-    return os.path.join(os.path.dirname(os.path.realpath(rt)), path)
-
-
-def refusing_library(room):
-    """Compiles refuse_growth.c by the toolchain's clang, or by the machine's where that is not found."""
-    clang = toolchain("../toolchain/bin/clang")
-    compiler = clang if os.path.exists(clang) else "cc"
-    made = os.path.join(room, "refuse_growth.so")
-    words = ["-O1", "-shared", "-fPIC", "-nostdlib", *["-fuse-ld=lld"] * (compiler == clang)]
-    subprocess.run([compiler, *words, "-o", made, os.path.join(TESTS, "refuse_growth.c")], check=True)
-    return made
 
 
 def is_reply_of_a_step(case, status, stdout, stderr):
@@ -96,7 +81,7 @@ def sweep_case(program, library, name):
 def runs_tests(tests, name, told):
     """Runs the built tests whose names contain a name, with told beside the environment, and answers the status and what was printed."""
     how = {"stdin": subprocess.DEVNULL, "stdout": subprocess.PIPE, "stderr": subprocess.STDOUT}
-    words = [toolchain("rattle-test"), "--seconds", "60", "--filter", name, tests]
+    words = [preloaded.toolchain("rattle-test"), "--seconds", "60", "--filter", name, tests]
     ran = subprocess.run(words, env={**os.environ, **told}, text=True, errors="replace", **how)
     return ran.returncode, ran.stdout
 
@@ -167,7 +152,7 @@ def main(program):
     program = os.path.abspath(program)
     names = run_cases.names()
     with tempfile.TemporaryDirectory(prefix="vrepl-sweep-") as room, multiprocessing.Pool() as pool:
-        library = refusing_library(room)
+        library = preloaded.library(room, "refuse_growth")
         sweep = functools.partial(sweep_case, program, library)
         of_cases = [f"case {name}" for name in names], pool.map(sweep, names, chunksize=1)
         of_crates = [f"crate {name}" for name in SWEPT], [sweep_crate(pool, room, library, *it) for it in SWEPT.items()]
