@@ -105,7 +105,7 @@ fn position_of_the_applied_group(rt: HostRuntime) {
     assert!(rt; shows_nothing_at_first(rt.alloc()) && shows_its_position(rt.alloc()));
 }
 
-/// Whether the key is that of the row 1 of the first stream.
+/// Whether a key has a row of the first stream whose `id` is 1.
 fn is_owned(board: &Board<'_>, key: &Key) -> bool {
     match board.row(key) {
         Some((owner, row)) => owner == 0 && row.columns().next() == Some(Column::Bytes(b"1")),
