@@ -6,7 +6,8 @@ usage: tests/run_docs.py
 docs/MAP.md names every source file of every crate under the crate's heading, docs/DEFINITIONS.md every
 file of definitions that public contracts cite, docs/PROMISES.md every must-fail edit, and no file or edit
 that isn't there. A path that a document names is there. Crates of tests and private definitions have no
-rows. The last line is 'N passed, M failed': one a document, and one for the paths.
+rows. Every number of docs/FORMATS.md has a text in refusal_words, and no other has one.
+The last line is 'N passed, M failed': one a document, one for the paths and one for the texts.
 """
 import os
 import re
@@ -86,9 +87,45 @@ def path_faults():
                 yield f"{page}: {path} isn't there"
 
 
+def numbers_of_formats():
+    """The numbers of docs/FORMATS.md: the first cells of the tables whose first column is called Number."""
+    found, is_inside = set(), False
+    for line in text_of("docs", "FORMATS.md").splitlines():
+        first = line.split("|")[1].strip() if line.startswith("|") else None
+        is_inside = first is not None and (is_inside or first == "Number")
+        for low, high in re.findall(r"(\d+)(?: to (\d+))?", first) if is_inside else ():
+            found |= set(range(int(low), int(high or low) + 1))
+    return found
+
+
+def explanation_faults():
+    """The texts by their sources: each const of refusal_words, but for the list of all."""
+    folder = os.path.join(CRATES, "refusal_words", "src")
+    texts, answers = {}, {}
+    for name in sorted(os.listdir(folder)):
+        source = text_of(folder, name)
+        for const, text in re.findall(r'const (\w+): &str = "\\\n(.*?)";', source, re.S):
+            texts[const] = text
+        answers |= {const: int(number) for number, const in re.findall(r"(\d+) => Some\((\w+)\)", source)}
+    listed = texts.pop("LIST").splitlines(True)
+    wanted = numbers_of_formats()
+    yield from (f"{it} of docs/FORMATS.md has no text" for it in sorted(wanted - set(answers.values())))
+    yield from (f"{it} isn't a number of docs/FORMATS.md" for it in sorted(set(answers.values()) - wanted))
+    heads = {}
+    for const, text in texts.items():
+        head, blank, more = (text.split("\n", 2) + ["", ""])[:3]
+        heads[answers.get(const)] = head + "\n"
+        said = re.search(r"^Usual causes: .*^What to do: ", more, re.S | re.M)
+        if head.split("  ")[0].strip() != str(answers.get(const)) or blank or not said or not text.endswith(".\n"):
+            yield f"{const} isn't its number and line, an empty line, the meaning, the causes and what to do"
+        yield from (f"{const}: {len(it)} columns: {it}" for it in text.splitlines() if len(it) > 80)
+    if listed != [heads[it] for it in sorted(wanted & set(heads))]:
+        yield "the list isn't the first lines of all texts by their numbers"
+
+
 def main():
     failed = 0
-    checks = {"docs/MAP.md": map_faults, "docs/DEFINITIONS.md": definition_faults, "docs/PROMISES.md": promise_faults, "paths": path_faults}
+    checks = {"docs/MAP.md": map_faults, "docs/DEFINITIONS.md": definition_faults, "docs/PROMISES.md": promise_faults, "paths": path_faults, "explain": explanation_faults}
     for name, check in checks.items():
         faults = list(check())
         for it in faults:

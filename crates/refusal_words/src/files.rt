@@ -1,0 +1,103 @@
+//! Numbers 116 to 132: checkpoints, scripts, dumps and files.
+
+ghost use Rattle.std.specs.Prelude.{◌≡◌, option_map};
+ghost use Rattle.refusal_words.specs.Texts.{text_among, files_texts};
+
+/// The text of one of these numbers.
+pub(crate) fn text_of(number: u64) -> Option<&'static str>
+    ensures { option_map (λ text. text.now) result ≡ text_among files_texts number }
+{
+    match number {
+        116 => Some(BAD_CHECKPOINT),
+        117 => Some(OTHER_ROWS),
+        118 => Some(UNKNOWN_POSITION),
+        119 => Some(FEED_COUNT),
+        120 => Some(BAD_SCRIPT),
+        121 => Some(BAD_DUMP),
+        131 => Some(CANNOT_READ),
+        132 => Some(CANNOT_WRITE),
+        _ => None,
+    }
+}
+
+pub const BAD_CHECKPOINT: &str = "\
+116  bytes are no checkpoint of the workflow
+
+The bytes are no checkpoint of this workflow: cut, changed, or of another one.
+Usual causes: a checkpoint that was being written when the machine stopped; a
+changed workflow: its shards, tables, columns or keys; another file.
+What to do: take the checkpoint before it, or begin without one. Write a
+checkpoint beside the old one and rename it when the status is 0.
+";
+
+pub const OTHER_ROWS: &str = "\
+117  a checkpoint's rows aren't those of the feed
+
+A checkpoint's rows aren't those which the feed leaves at its position. The
+line has the stream, the table and the least such key.
+Usual causes: a checkpoint that was changed; a feed that was recorded anew or
+with other rows; feeds in the wrong order.
+What to do: give the feeds of which it was saved, longer ones as well. Else
+begin without a checkpoint: all it has is made from the feeds again.
+";
+
+pub const UNKNOWN_POSITION: &str = "\
+118  no group of the feed has a checkpoint's position
+
+No group of the stream's feed has the checkpoint's position. The line has the
+stream.
+Usual causes: a feed that is shorter than the one of which it was saved, or that
+lacks its beginning; feeds in the wrong order.
+What to do: give the whole feed, from its first group. `vrepl show` prints the
+positions.
+";
+
+pub const FEED_COUNT: &str = "\
+119  there aren't as many feeds as streams
+
+There aren't as many feeds on the command line as the workflow has streams.
+Usual causes: a feed left out, or the workflow left out, so that the first
+feed is taken for it; a pattern of the shell that matches more files.
+What to do: give one feed a stream, in the order of the workflow's streams.
+";
+
+pub const BAD_SCRIPT: &str = "\
+120  a line of the script is no step
+
+A line of the script on standard input is no step. The line says which, from 1,
+with comments and empty lines counted. No step was taken.
+Usual causes: a misspelt step, a number too many or too few, a sign, a number
+above 2^32 - 1, blanks alone in a line.
+What to do: the steps are `offer S N`, `advance S`, `open S M`, `copy S C`,
+`close S`, `restart S`, `state S` and `dump`, S a stream from 0.
+";
+
+pub const BAD_DUMP: &str = "\
+121  a line of a dump can't stand there
+
+A line of a dump can't stand where it does, or is missing where the text ends.
+The line says which, from 1; of the two dumps the source's is read first.
+Usual causes: rows by a collation and not by their bytes; a row or a table
+twice; another number of columns; a table left out; a last line without its
+end; a file that is no dump.
+What to do: print a dump with `vrepl run`, or with record/select, which orders
+by bytes. docs/FORMATS.md has the form.
+";
+
+pub const CANNOT_READ: &str = "\
+131  a file can't be read
+
+A file can't be opened or read. The line has its name, `-` for standard input.
+Usual causes: a misspelt name, another folder, no permission, a folder in place
+of a file.
+What to do: `ls -l FILE`.
+";
+
+pub const CANNOT_WRITE: &str = "\
+132  standard output can't be written
+
+Standard output can't be written.
+Usual causes: a full disk, a closed pipe, as of `| head`.
+What to do: what was printed is a beginning and not the whole: throw it away,
+make room, and run the command again.
+";
