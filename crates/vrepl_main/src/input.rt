@@ -110,8 +110,16 @@ fn unread<'w>(fault: InputFault, name: InputName<'w>) -> Refusal<'w>
 
 /// The bytes of the file of this name, which may be `-`.
 fn read_file<R: Files + AllocGlobal>(rt: &R, file: &str) -> Result<Vec<u8>, InputFault> {
-    match File::open(rt, file) {
-        Ok(mut opened) => read_whole(rt.alloc(), &mut opened),
+    read_opened(rt.alloc(), File::open(rt, file))
+}
+
+/// The bytes of a file that was opened, or why it wasn't.
+fn read_opened<F: Read + Drop>(alloc: Global, opened: io::Result<F>) -> Result<Vec<u8>, InputFault>
+    ensures whole { IfOk opened (λ file. IfOk result (λ bytes. IfSome (F.remaining file) (λ left. bytes.items ≡ left))) }
+    ensures unopened { IfErr opened (λ _. IsErr result) }
+{
+    match opened {
+        Ok(mut file) => read_whole(alloc, &mut file),
         Err(fault) => Err(fault_of(&fault)),
     }
 }

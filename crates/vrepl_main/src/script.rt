@@ -1,6 +1,6 @@
 //! Scripts of steps.
 
-ghost use Rattle.std.specs.Prelude.{◌≡◌, ◌==◌, ◌<◌, ℕ, List, [], ◌∷◌, Result, Ok, length, map, OnOk, IfOk, IfErr, IfSome, IfNone};
+ghost use Rattle.std.specs.Prelude.{◌≡◌, ◌==◌, ◌<◌, ℕ, List, [], ◌∷◌, Result, Ok, Err, length, map, OnOk, IfOk, IfErr, IfSome, IfNone};
 ghost use Rattle.std.specs.List.{slice_split};
 ghost use Rattle.vrepl_main.specs.ScriptLines.{words_of, number_of, bare_step, numbered_step, said_of, step_of, without_cr, line_by, line_of, steps_then, script_steps};
 ghost use Rattle.vrepl_main.specs.ScriptRefusal.{Refuses, behind};
@@ -181,6 +181,23 @@ fn first_line(text: &[u8]) -> (&[u8], Option<&[u8]>)
     }
 }
 
+/// Puts the step of a line behind others, if it has one; the line's number is for its refusal. That a line is bad
+/// is found without memory.
+fn put_found(steps: &mut Vec<ScriptStep>, found: Line, number: usize) -> Result<(), ScriptFault>
+    ensures put { OnOk result ((others : Result (List ScriptStep) ℕ) → behind steps.old.items (steps_then number found others) ≡ behind steps.new.items others) }
+    ensures refused { IfErr result (λ fault. (others : Result (List ScriptStep) ℕ) → Refuses fault (behind steps.old.items (steps_then number found others))) }
+    ensures bad { found ≡ Line.Bad → result ≡ Err (ScriptFault.BadLine number) }
+{
+    match found {
+        Line::Skipped => Ok(()),
+        Line::Step(step) => {
+            steps.push(step)?;
+            Ok(())
+        }
+        Line::Bad => Err(ScriptFault::BadLine(number)),
+    }
+}
+
 /// Puts the step of a line behind others; the line's number is for its refusal.
 fn put_line(
     alloc: Global,
@@ -191,14 +208,8 @@ fn put_line(
     ensures put { OnOk result ((others : Result (List ScriptStep) ℕ) → behind steps.old.items (steps_then number (line_of (without_cr text.now)) others) ≡ behind steps.new.items others) }
     ensures refused { IfErr result (λ fault. (others : Result (List ScriptStep) ℕ) → Refuses fault (behind steps.old.items (steps_then number (line_of (without_cr text.now)) others))) }
 {
-    match line_of(alloc, without_cr(text))? {
-        Line::Skipped => Ok(()),
-        Line::Step(step) => {
-            steps.push(step)?;
-            Ok(())
-        }
-        Line::Bad => Err(ScriptFault::BadLine(number)),
-    }
+    let found = line_of(alloc, without_cr(text))?;
+    put_found(steps, found, number)
 }
 
 /// The steps of a script, one a line: `offer S N`, `advance S`, `open S N`, `copy S C`, `close S`,
