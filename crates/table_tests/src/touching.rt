@@ -1,6 +1,7 @@
 //! Groups of touches that stand in a test, and what they leave in a map.
 
 use std::alloc::{AllocError, Global};
+use std::test::Fail;
 use target_tables::*;
 
 /// Touches of one stream, the key and the owner of the row in the way where they are refused, and all entries
@@ -85,25 +86,24 @@ fn are_last(
 }
 
 /// A key that is touched three times, one that is taken away last, and one that comes again.
+const TOUCHED: &[(u64, Option<u32>)] = &[
+    (3, Some(1)),
+    (7, Some(2)),
+    (3, None),
+    (5, None),
+    (3, Some(4)),
+    (7, None),
+    (5, Some(6)),
+];
+
 #[test]
-fn last_touches_of_each_key(rt: HostRuntime) {
-    let touches = [
-        (3, Some(1)),
-        (7, Some(2)),
-        (3, None),
-        (5, None),
-        (3, Some(4)),
-        (7, None),
-        (5, Some(6)),
-    ];
+fn last_touches_of_each_key(rt: HostRuntime) -> Result<(), Fail> {
     assert!(rt;
-        matches!(
-            are_last(
-                rt.alloc(),
-                &touches,
-                &[(7, None), (5, Some(6)), (3, Some(4))]
-            ),
-            Ok(true)
-        ) && matches!(are_last(rt.alloc(), &[], &[]), Ok(true))
+        are_last(
+            rt.alloc(),
+            TOUCHED,
+            &[(7, None), (5, Some(6)), (3, Some(4))]
+        )? && are_last(rt.alloc(), &[], &[])?
     );
+    Ok(())
 }
