@@ -1,8 +1,9 @@
-/* Loaded before the C library, this refuses one growth of a program's memory, or all from one on.
+/* Loaded before the C library, this refuses some growths of a program's memory, or all from one on.
 
-   REFUSE_GROWTH=N    the Nth malloc or realloc answers nothing
-   REFUSE_GROWTH=N+   the Nth and all later ones answer nothing
-   GROWTHS=FILE       how many there were is written into FILE when the program ends
+   REFUSE_GROWTH=N        the Nth malloc or realloc answers nothing
+   REFUSE_GROWTH=N+       the Nth and all later ones answer nothing
+   REFUSE_GROWTH=M,N,..   the Mth, the Nth and so on answer nothing, by rising number
+   GROWTHS=FILE           how many there were is written into FILE when the program ends
 
    It names no header, so that the toolchain's own clang compiles it on a machine with no other. */
 
@@ -15,14 +16,19 @@ extern int creat(const char *path, unsigned mode);
 extern long write(int file, const void *bytes, size_t count);
 extern void _Exit(int status);
 
-static unsigned long growths, refused;
-static int and_later;
+enum { MOST = 1024 };
+
+static unsigned long growths, refused[MOST];
+static int several, and_later;
 
 __attribute__((constructor)) static void begin(void) {
     const char *said = getenv("REFUSE_GROWTH");
     growths = 0;
-    for (; said && *said >= '0' && *said <= '9'; said++)
-        refused = refused * 10 + (unsigned long)(*said - '0');
+    for (; said && several < MOST && *said >= '0' && *said <= '9'; several++) {
+        for (; *said >= '0' && *said <= '9'; said++)
+            refused[several] = refused[several] * 10 + (unsigned long)(*said - '0');
+        said += *said == ',';
+    }
     and_later = said && *said == '+';
 }
 
@@ -50,7 +56,10 @@ void _exit(int status) {
 /* Threads may ask at once. */
 static int is_refused(void) {
     unsigned long at = __atomic_add_fetch(&growths, 1, __ATOMIC_SEQ_CST);
-    return refused && (at == refused || (and_later && at > refused));
+    for (int i = 0; i < several; i++)
+        if (at == refused[i] || (and_later && at > refused[i]))
+            return 1;
+    return 0;
 }
 
 void *malloc(size_t size) {

@@ -16,7 +16,10 @@ it ends with, or as what it compared.
 
 `run` of two feeds in threads, on 1, 2 and 4 processors, has the Nth growth refused, N from 1 until none is: it
 prints the dump or says `refused 72`.
-The last line is 'N passed, M failed': one check a case, one a crate, and one a number of processors.
+
+Scripts of steps on one board, some that stand in refused_steps.py and some at random, have each growth of each step
+refused: the step is made again each time, and at last answers what the plain model does.
+The last line is 'N passed, M failed': one check a case, one a crate, one a number of processors, and one a script.
 """
 import functools
 import multiprocessing
@@ -27,6 +30,7 @@ import sys
 import tempfile
 
 import preloaded
+import refused_steps
 import run_cases
 from model import making, program as model
 
@@ -36,13 +40,13 @@ from model import making, program as model
 EACH_GROWTH = 2**32
 IN_MEMORY = {"memory::": EACH_GROWTH, "": 0}
 SWEPT = {
-    # this one compares whole answers, so that want of memory can't be told from a wrong one
-    "table_tests": {"touching::last_touches_of_each_key": 0},
+    "table_tests": {},
     "board_tests": IN_MEMORY,
     "checkpoint_tests": IN_MEMORY,
     "worker_tests": IN_MEMORY,
     "program_tests": {"replies::": 3},
 }
+SCRIPTS_AT_RANDOM = 60
 
 TESTS = os.path.dirname(os.path.abspath(__file__))
 ROOT = os.path.dirname(TESTS)
@@ -62,20 +66,20 @@ def is_reply_of_a_step(case, status, stdout, stderr):
 
 
 def sweep_case(program, library, name):
-    """Answers why the case fails under some refused growth, or nothing."""
+    """Answers why the case fails under some refused growth, or nothing; and how many growths it asks for."""
     case = run_cases.Case(name)
     with case.place() as place, tempfile.NamedTemporaryFile("r", encoding="ascii") as count:
         preloaded = {**os.environ, "LD_PRELOAD": library}
         plain = case.run(program, place, {**preloaded, "GROWTHS": count.name})
         if case.faults(*plain):
-            return "fails with no growth refused"
+            return "fails with no growth refused", 0
         growths = int(count.read())
         for at in range(1, growths + 1):
             for refused in (f"{at}", f"{at}+"):
                 ran = case.run(program, place, {**preloaded, "REFUSE_GROWTH": refused})
                 if case.faults(*ran) and ran != REFUSED and not is_reply_of_a_step(case, *ran):
-                    return f"growth {refused} of {growths} refused: status {ran[0]}, output {ran[1]!r}, error {ran[2]!r}"
-    return None
+                    return f"growth {refused} of {growths} refused: status {ran[0]}, output {ran[1]!r}, error {ran[2]!r}", growths
+    return None, growths
 
 
 def runs_tests(tests, name, told):
@@ -87,22 +91,23 @@ def runs_tests(tests, name, told):
 
 
 def sweep_test(tests, lasts, name):
-    """Answers why the test fails under some refused growth, or nothing."""
+    """Answers why the test fails under some refused growth, or nothing; and how many growths it asks for."""
     last = next((growth for word, growth in lasts.items() if word in name), EACH_GROWTH)
     if not last:
-        return None
+        return None, 0
     with tempfile.NamedTemporaryFile("r", encoding="ascii") as count:
         status, said = runs_tests(tests, name, {"GROWTHS": count.name})
         growths = int(count.read())
     if status:
-        return f"{name} fails with no growth refused\n{said}"
-    for at in range(1, min(growths, last) + 1):
+        return f"{name} fails with no growth refused\n{said}", 0
+    growths = min(growths, last)
+    for at in range(1, growths + 1):
         for refused in (f"{at}", f"{at}+"):
             status, said = runs_tests(tests, name, {"REFUSE_GROWTH": refused})
             failed = FAILED_TEST.findall(said)
             if status and not (failed and all(IS_MEMORY.search(why) for _, why in failed)):
-                return f"growth {refused} of {growths} refused\n{said}"
-    return None
+                return f"growth {refused} of {growths} refused\n{said}", growths
+    return None, growths
 
 
 def sweep_crate(pool, room, library, name, lasts):
@@ -120,7 +125,23 @@ def sweep_crate(pool, room, library, name, lasts):
     if status or not names:
         return f"fails with no growth refused\n{said}"
     said = pool.map(functools.partial(sweep_test, tests, lasts), names, chunksize=1)
-    return next((why for why in said if why is not None), None)
+    print(f"tests of {name}: {sum(growths for _, growths in said)} growths refused, one by one and with all behind")
+    return next((why for why, _ in said if why is not None), None)
+
+
+def sweep_script(program, library, given):
+    """Answers why the replies of a script differ with its growths refused, or nothing; how many were, and how many of them it did without."""
+    with tempfile.TemporaryDirectory(prefix="vrepl-sweep-") as place:
+        return refused_steps.sweep(program, library, place, *given[1:])
+
+
+def sweep_scripts(pool, program, library):
+    """The scripts' titles, and of each why its replies differ, or nothing."""
+    scripts = [*refused_steps.worked(), *refused_steps.at_random(SCRIPTS_AT_RANDOM)]
+    said = pool.map(functools.partial(sweep_script, program, library), scripts, chunksize=1)
+    growths, spared = (sum(it[place] for it in said) for place in (1, 2))
+    print(f"{len(scripts)} scripts: {growths} growths refused, one by one, each step again behind each; {spared} of them it did without")
+    return [f"script of {it[0]}" for it in scripts], [why for why, *_ in said]
 
 
 def sweep_run(program, library, processors):
@@ -154,10 +175,13 @@ def main(program):
     with tempfile.TemporaryDirectory(prefix="vrepl-sweep-") as room, multiprocessing.Pool() as pool:
         library = preloaded.library(room, "refuse_growth")
         sweep = functools.partial(sweep_case, program, library)
-        of_cases = [f"case {name}" for name in names], pool.map(sweep, names, chunksize=1)
+        said = pool.map(sweep, names, chunksize=1)
+        print(f"{len(names)} cases: {sum(growths for _, growths in said)} growths refused, one by one and with all behind")
+        of_cases = [f"case {name}" for name in names], [why for why, _ in said]
+        of_scripts = sweep_scripts(pool, program, library)
         of_crates = [f"crate {name}" for name in SWEPT], [sweep_crate(pool, room, library, *it) for it in SWEPT.items()]
         of_runs = [f"run on {it} processors" for it in (1, 2, 4)], [sweep_run(program, library, it) for it in (1, 2, 4)]
-    swept = [*zip(*of_cases), *zip(*of_crates), *zip(*of_runs)]
+    swept = [*zip(*of_cases), *zip(*of_scripts), *zip(*of_crates), *zip(*of_runs)]
     faults = [f"{name}: {why}" for name, why in swept if why is not None]
     checks = len(swept)
     for it in faults:
