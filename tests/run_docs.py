@@ -6,17 +6,19 @@ usage: tests/run_docs.py
 docs/MAP.md names every source file of every crate under the crate's heading, docs/DEFINITIONS.md every
 file of definitions that public contracts cite, docs/PROMISES.md every must-fail edit, and no file or edit
 that isn't there. A path that a document names is there. Crates of tests and private definitions have no
-rows. Every number of docs/FORMATS.md has a text in refusal_words, and no other has one.
-The last line is 'N passed, M failed': one a document, one for the paths and one for the texts.
+rows. Every number of docs/FORMATS.md has a text of `vrepl explain`, and no other has one. The pages in
+share/ are what scripts/pages makes of the program in dist/, which is looked at where that is of these
+sources. The last line is 'N passed, M failed': one a document, one for the paths, the texts and the pages.
 """
 import os
 import re
+import subprocess
 import sys
 
 ROOT = os.path.dirname(os.path.dirname(os.path.abspath(__file__)))
 CRATES = os.path.join(ROOT, "crates")
 PAGES = ["README.md", "tests/README.md", "examples/README.md", *sorted(f"docs/{it}" for it in os.listdir(os.path.join(ROOT, "docs")))]
-PATH = re.compile(r"(?<![\w/.])((?:docs|tests|examples|bench|scripts|record|dist|crates)/[\w./-]*\w)")
+PATH = re.compile(r"(?<![\w/.])((?:docs|tests|examples|bench|scripts|share|record|dist|crates)/[\w./-]*\w)")
 
 
 def text_of(*path):
@@ -99,7 +101,7 @@ def numbers_of_formats():
 
 
 def explanation_faults():
-    """The texts by their sources: each const of refusal_words, but for the list of all."""
+    """The texts of `vrepl explain` by their sources: each const of refusal_words, but for the list of all."""
     folder = os.path.join(CRATES, "refusal_words", "src")
     texts, answers = {}, {}
     for name in sorted(os.listdir(folder)):
@@ -123,9 +125,24 @@ def explanation_faults():
         yield "the list isn't the first lines of all texts by their numbers"
 
 
+def page_faults():
+    said = subprocess.run([os.path.join(ROOT, "scripts/pages"), "--check"], capture_output=True, text=True, check=False)
+    return said.stdout.splitlines() + said.stderr.splitlines()
+
+
+def is_released():
+    """Whether dist/ has the program of these sources; where it hasn't, that is said."""
+    said = subprocess.run([os.path.join(ROOT, "scripts/is_released")], capture_output=True, text=True, check=False)
+    if said.returncode:
+        print(f"pages: not looked at, since {said.stdout.strip()}")
+    return not said.returncode
+
+
 def main():
     failed = 0
     checks = {"docs/MAP.md": map_faults, "docs/DEFINITIONS.md": definition_faults, "docs/PROMISES.md": promise_faults, "paths": path_faults, "explain": explanation_faults}
+    if is_released():
+        checks["pages"] = page_faults
     for name, check in checks.items():
         faults = list(check())
         for it in faults:

@@ -1,10 +1,11 @@
 -- The arguments of a subcommand, as `clap` reads them, and what was given to one.
-use Rattle.std.specs.Prelude.{ℕ, ◌^◌, ◌&&◌, nat_le, if◌then◌else◌, Bool, true, false, List, [], Option, None, Some, codes, unwrap_or, option_and_then}
+use Rattle.std.specs.Prelude.{ℕ, ◌^◌, ◌&&◌, nat_le, if◌then◌else◌, Bool, true, false, List, [], Option, None, Some, codes, unwrap_or, option_and_then, option_map}
 use Rattle.std.specs.Option.{option_map_or}
 use Rattle.std.specs.Str.{bytes_eq}
 use Rattle.clap.specs.Lexer.{usize_max}
 use Rattle.clap.specs.Words.{Row, Rule, Text, all_of, first_of, one_of, new_rule}
 use Rattle.vindex.specs.NumberText.{decimal_below}
+use Rattle.refusal_words.specs.Texts.{has_text}
 use Rattle.clap.specs.declared.builder.action.ArgAction.TheVariants.{SetTrue}
 
 -- `--name`
@@ -26,6 +27,10 @@ operand_rule name = record (new_rule name) { required = true; value_names = 1 }
 -- `TEXT..` in its place, once or more often
 abbrev pub operands_rule : Text → Rule
 operands_rule name = record (operand_rule name) { range = Some (record { start_inclusive = 1; end_inclusive = usize_max }) }
+
+-- `TEXT` in its place, which may be left out
+abbrev pub optional_rule : Text → Rule
+optional_rule name = record (new_rule name) { value_names = 1 }
 
 -- a flag was given
 abbrev pub is_given : Text → List Row → Bool
@@ -49,3 +54,14 @@ portion_of text = option_and_then within_range (decimal_below (2 ^ 64) text)
 -- the portion that was given, or the usual one; none where what was given is no portion
 abbrev pub portion_given : ℕ → Text → List Row → Option ℕ
 portion_given usual name rows = option_map_or portion_of (first_of name rows) (Some usual)
+
+-- a number of a refusal is one of which something is said, in digits
+abbrev pub within_texts : ℕ → Option ℕ
+within_texts number = if has_text number then Some number else None
+
+abbrev pub refusal_of : Text → Option ℕ
+refusal_of text = option_and_then within_texts (decimal_below (2 ^ 64) text)
+
+-- the number of a refusal that was given, if one was; none where what was given is none
+abbrev pub refusal_given : Text → List Row → Option (Option ℕ)
+refusal_given name rows = option_map_or (λ text. option_map Some (refusal_of text)) (first_of name rows) (Some None)

@@ -22,5 +22,5 @@ IsSubcommand sub command = HasApp (record { top = shape_of_subcommand sub; subs 
 -- the program's command without its subcommands
 abbrev pub bare_app : App
 bare_app = record (new_app (codes "vrepl")) {
-  top = record (new_shape (codes "vrepl")) { no_binary_name = true; subcommand_required = true; disable_help_subcommand = true };
+  top = record (new_shape (codes "vrepl")) { no_binary_name = true; has_version = true; subcommand_required = true };
 }

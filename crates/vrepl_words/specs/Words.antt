@@ -1,12 +1,13 @@
 -- What the words of the command line ask for. `clap` reads words by its own rules; here are the program's
 -- command and what words mean under it (this profile).
-use Rattle.std.specs.Prelude.{ℕ, Bool, true, false, List, [], ◌∷◌, map, find, Option, None, Some, codes, option_map, option_and_then}
+use Rattle.std.specs.Prelude.{ℕ, if◌then◌else◌, is_some, Bool, true, false, List, [], ◌∷◌, map, find, Option, None, Some, codes, option_map, option_and_then}
 use Rattle.std.specs.Str.{bytes_eq}
 use Rattle.clap.specs.Words.{App, Row, Rule, Shape, Text, fault_of, subcommand_of}
 use Rattle.clap.specs.Simple.{new_shape}
 use Rattle.clap.specs.Kinds.{Kinds, or_else}
 use Rattle.clap.specs.declared.error.kind.ErrorKind.TheVariants.{ValueValidation}
-use Rattle.vrepl_words.specs.Arguments.{flag_rule, is_given, needed_rule, operand_rule, operands_rule, option_rule, portion_given, text_given, texts_given}
+use Rattle.vrepl_words.specs.declared.numbers.TheConstants.{ROWS, AHEAD, CHUNKS}
+use Rattle.vrepl_words.specs.Arguments.{flag_rule, is_given, needed_rule, operand_rule, operands_rule, optional_rule, option_rule, portion_given, refusal_given, text_given, texts_given}
 
 -- `show`: a feed, whose it is, and whether it is hexadecimal text
 pub record ShowValue : Type 0 where
@@ -64,6 +65,8 @@ pub data WordsValue : Type 0 where
   asks_resume : ResumeValue → WordsValue
   asks_join : JoinValue → WordsValue
   asks_vdiff : VdiffValue → WordsValue
+  -- what a refusal's number means, or all of them
+  asks_explain : Option ℕ → WordsValue
 
 -- a subcommand: its name, its arguments in their order, and what it asks for, by what is given to them; nothing
 -- where a number that is given is out of its range
@@ -106,6 +109,11 @@ abbrev pub portions_given : List Row → Option PortionsValue
 portions_given given =
     option_and_then (λ rows. option_and_then (λ ahead. option_map (λ chunks. record { rows = rows; ahead = ahead; chunks = chunks })
     (portion_given 4 (codes "chunks") given)) (portion_given 100 (codes "ahead") given)) (portion_given 1000 (codes "rows") given)
+
+-- what is told of the first portion that is none
+abbrev pub bad_portion : List Row → Text
+bad_portion given =
+    if is_some (portion_given 1000 (codes "rows") given) then (if is_some (portion_given 100 (codes "ahead") given) then CHUNKS.now else AHEAD.now) else ROWS.now
 
 -- what is given to the arguments of `run`
 abbrev pub run_given : List Row → PortionsValue → RunValue
@@ -175,22 +183,31 @@ vdiff_subcommand = record {
   meaning = λ given. Some (asks_vdiff (vdiff_given given));
 }
 
+-- `explain [NUMBER]`
+abbrev pub explain_subcommand : Subcommand
+explain_subcommand = record {
+  name = codes "explain";
+  rules = optional_rule (codes "number") ∷ [];
+  meaning = λ given. option_map asks_explain (refusal_given (codes "number") given);
+}
+
 -- the subcommands, in the order of the help
 abbrev pub subcommands : List Subcommand
-subcommands = show_subcommand ∷ step_subcommand ∷ run_subcommand ∷ vdiff_subcommand ∷ save_subcommand ∷ resume_subcommand ∷ join_subcommand ∷ []
+subcommands = show_subcommand ∷ step_subcommand ∷ run_subcommand ∷ vdiff_subcommand ∷ save_subcommand ∷ resume_subcommand ∷ join_subcommand ∷ explain_subcommand ∷ []
 
 -- a subcommand as `clap` sees it
 abbrev pub shape_of_subcommand : Subcommand → Shape
 shape_of_subcommand sub = record (new_shape sub.name) { rules = sub.rules }
 
--- the program's command: the words behind its name are a subcommand's, and there is none called `help`
+-- the program's command: the words behind its name are a subcommand's, or `help` and the name of one, or ask for
+-- the program's version
 unfoldable pub program_app : App
 program_app = record {
   top = record (new_shape (codes "vrepl")) {
     is_leaf = false;
     no_binary_name = true;
+    has_version = true;
     subcommand_required = true;
-    disable_help_subcommand = true;
   };
   subs = map shape_of_subcommand subcommands;
 }

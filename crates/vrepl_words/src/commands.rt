@@ -2,89 +2,13 @@
 
 ghost use Rattle.std.specs.Prelude.{IfOk, codes};
 ghost use Rattle.clap.specs.Words.{App, Rule, new_app, with_rule, with_subcommand};
-ghost use Rattle.vrepl_words.specs.Arguments.{flag_rule, needed_rule, operand_rule, operands_rule, option_rule};
+ghost use Rattle.vrepl_words.specs.Arguments.{flag_rule, needed_rule, operand_rule, operands_rule, option_rule, optional_rule};
 ghost use Rattle.vrepl_words.specs.Built.{HasApp, HasRule, IsSubcommand, bare_app};
-ghost use Rattle.vrepl_words.specs.Words.{join_subcommand, program_app, resume_subcommand, run_subcommand, save_subcommand, show_subcommand, step_subcommand, vdiff_subcommand};
+ghost use Rattle.vrepl_words.specs.Words.{explain_subcommand, join_subcommand, program_app, resume_subcommand, run_subcommand, save_subcommand, show_subcommand, step_subcommand, vdiff_subcommand};
 
+use crate::help;
 use clap::{Arg, ArgAction, Command};
 use std::alloc::{AllocError, Global};
-
-/// A call of `show` and what it prints.
-const SHOW_EXAMPLE: &str = "\
-Example:
-  $ vrepl show --hex examples/one_insert.hex
-  group 1 3e11fa47-71ca-11e1-9e33-c80aa9429562:1
-  + t\tx31\tx6162";
-
-/// A call of `step` and what it prints.
-const STEP_EXAMPLE: &str = "\
-Example:
-  $ vrepl step --hex examples/workflows/one_shard.json examples/one_insert.hex \\
-      < examples/copy_one.script
-  read 1
-  applied 1
-  snapshot 1
-  copied 1 done
-  table t
-  x31\tx6162";
-
-/// A call of `run` and what it prints.
-const RUN_EXAMPLE: &str = "\
-Example:
-  $ vrepl run --hex examples/workflows/two_shards.json \\
-      examples/two_shards/lower.hex examples/two_shards/upper.hex
-  table t
-  x31\tx61
-  x32\tx62
-  x3131\tx6b
-  x3132\tx6c";
-
-/// A call of `save`.
-const SAVE_EXAMPLE: &str = "\
-Example:
-  $ vrepl save --hex examples/workflows/one_shard.json examples/one_insert.hex \\
-      < examples/copy_one.script > one_row.checkpoint
-
-The replies to the script aren't printed.";
-
-/// A call of `resume` and what it prints.
-const RESUME_EXAMPLE: &str = "\
-Example:
-  $ vrepl resume --hex --checkpoint examples/checkpoints/two_rows.checkpoint \\
-      examples/workflows/one_shard.json examples/feeds/four_groups.hex \\
-      < examples/go_on.script
-  state 0 Running read 2 applied 2 snapshot none done 1 of 1 at 3e11fa47-71ca-11e1-9e33-c80aa9429562:1-2
-  read 3
-  applied 3
-  table t
-  x31\tx61
-  x32\tx62
-  x33\tx63
-
-The rows of the checkpoint are compared with those that the feeds leave.";
-
-/// A call of `join`.
-const JOIN_EXAMPLE: &str = "\
-Example:
-  $ vrepl join --hex examples/workflows/two_shards.json \\
-      examples/checkpoints/lower.checkpoint examples/checkpoints/upper.checkpoint \\
-      examples/two_shards/lower.hex examples/two_shards/upper.hex > both.checkpoint
-
-Each stream, with its rows, is that of the checkpoint in which it is further on.";
-
-/// A call of `vdiff`, what it prints, and its status.
-const VDIFF_EXAMPLE: &str = "\
-Example:
-  $ vrepl vdiff examples/workflows/one_shard.json \\
-      examples/dumps/source.dump examples/dumps/target.dump
-  processed 4
-  matching 1
-  mismatched 1
-  extra source 1
-  extra target 1
-  first table t key x32
-
-The status is 0 where the dumps are of the same rows, and 3 where they differ.";
 
 /// The program: its words are those of a subcommand.
 pub(crate) fn program<'w>(alloc: Global) -> Result<Command<'w>, AllocError>
@@ -97,7 +21,8 @@ pub(crate) fn program<'w>(alloc: Global) -> Result<Command<'w>, AllocError>
     let command = with_subcommand(command, vdiff_command(alloc));
     let command = with_subcommand(command, save_command(alloc));
     let command = with_subcommand(command, resume_command(alloc));
-    with_subcommand(command, join_command(alloc))
+    let command = with_subcommand(command, join_command(alloc));
+    with_subcommand(command, explain_command(alloc))
 }
 
 /// The program without its subcommands.
@@ -108,9 +33,10 @@ fn bare_program<'w>(alloc: Global) -> Result<Command<'w>, AllocError>
     Ok(
         command
             .about("The target side of VReplication over recorded VStream feeds")
+            .after_help(help::STATUSES)
+            .version(help::VERSION)
             .no_binary_name(true)
-            .subcommand_required(true)
-            .disable_help_subcommand(true),
+            .subcommand_required(true),
     )
 }
 
@@ -131,7 +57,7 @@ fn show_command<'w>(alloc: Global) -> Result<Command<'w>, AllocError>
 {
     let feed_help = "The feed's file, or - for standard input";
     let about = "Prints the transactions of a feed with their positions";
-    let command = Ok(bare(alloc, "show", about, SHOW_EXAMPLE));
+    let command = Ok(bare(alloc, "show", about, help::SHOW));
     let command = with_arg(command, hex(alloc));
     let command = with_arg(
         command,
@@ -145,20 +71,20 @@ fn show_command<'w>(alloc: Global) -> Result<Command<'w>, AllocError>
 fn step_command<'w>(alloc: Global) -> Result<Command<'w>, AllocError>
     ensures { IfOk result (IsSubcommand step_subcommand) }
 {
-    let about = "Takes the steps of a script on standard input over a workflow and its feeds";
-    let command = Ok(bare(alloc, "step", about, STEP_EXAMPLE));
+    let about = "Takes the steps of a script over a workflow and its feeds";
+    let command = Ok(bare(alloc, "step", about, help::STEP));
     with_streams(alloc, with_arg(command, hex(alloc)))
 }
 
-fn run_command<'w>(alloc: Global) -> Result<Command<'w>, AllocError>
+pub(crate) fn run_command<'w>(alloc: Global) -> Result<Command<'w>, AllocError>
     ensures { IfOk result (IsSubcommand run_subcommand) }
 {
     let alone_help = "Runs the streams one after another, without threads";
-    let rows_help = "The rows that are copied at a time, 1000 unless given";
-    let ahead_help = "The groups that are read before a snapshot is opened, 100 unless given";
-    let chunks_help = "The chunks that are copied of a snapshot, 4 unless given";
-    let about = "Runs the streams of a workflow to their feeds' ends, and prints the target's rows";
-    let command = Ok(bare(alloc, "run", about, RUN_EXAMPLE));
+    let rows_help = "Rows that are copied at a time, 1000 unless given";
+    let ahead_help = "Groups read before a snapshot is opened, 100 unless given";
+    let chunks_help = "Chunks that are copied of a snapshot, 4 unless given";
+    let about = "Runs a workflow's streams to their feeds' ends, and prints the rows";
+    let command = Ok(bare(alloc, "run", about, help::RUN));
     let command = with_arg(command, hex(alloc));
     let command = with_arg(command, flag(alloc, "alone", alone_help));
     let command = with_arg(command, option(alloc, "rows", "N", rows_help));
@@ -172,16 +98,16 @@ fn run_command<'w>(alloc: Global) -> Result<Command<'w>, AllocError>
 fn save_command<'w>(alloc: Global) -> Result<Command<'w>, AllocError>
     ensures { IfOk result (IsSubcommand save_subcommand) }
 {
-    let about = "Writes the checkpoint of the board behind a script on standard input";
-    let command = Ok(bare(alloc, "save", about, SAVE_EXAMPLE));
+    let about = "Writes the checkpoint of the board behind a script";
+    let command = Ok(bare(alloc, "save", about, help::SAVE));
     with_streams(alloc, with_arg(command, hex(alloc)))
 }
 
 fn resume_command<'w>(alloc: Global) -> Result<Command<'w>, AllocError>
     ensures { IfOk result (IsSubcommand resume_subcommand) }
 {
-    let about = "Takes the steps of a script on standard input on the board of a checkpoint";
-    let command = Ok(bare(alloc, "resume", about, RESUME_EXAMPLE));
+    let about = "Takes the steps of a script on the board of a checkpoint";
+    let command = Ok(bare(alloc, "resume", about, help::RESUME));
     let command = with_arg(command, hex(alloc));
     let checkpoint = needed(alloc, "checkpoint", "FILE", "The checkpoint's file");
     with_streams(alloc, with_arg(command, checkpoint))
@@ -192,7 +118,7 @@ fn join_command<'w>(alloc: Global) -> Result<Command<'w>, AllocError>
 {
     let about = "Writes the checkpoint of the join of two checkpoints' boards";
     let feed_help = "A feed's file for each stream, in their order";
-    let command = Ok(bare(alloc, "join", about, JOIN_EXAMPLE));
+    let command = Ok(bare(alloc, "join", about, help::JOIN));
     let command = with_arg(command, hex(alloc));
     let command = with_arg(command, workflow(alloc));
     let one = operand(alloc, "one", "A", "The one checkpoint's file");
@@ -206,7 +132,7 @@ fn vdiff_command<'w>(alloc: Global) -> Result<Command<'w>, AllocError>
     ensures { IfOk result (IsSubcommand vdiff_subcommand) }
 {
     let about = "Compares two dumps of a workflow's tables";
-    let command = Ok(bare(alloc, "vdiff", about, VDIFF_EXAMPLE));
+    let command = Ok(bare(alloc, "vdiff", about, help::VDIFF));
     let command = with_arg(command, workflow(alloc));
     let source = operand(alloc, "source", "SOURCE", "The source's dump");
     let command = with_arg(command, source);
@@ -214,6 +140,15 @@ fn vdiff_command<'w>(alloc: Global) -> Result<Command<'w>, AllocError>
         command,
         operand(alloc, "target", "TARGET", "The target's dump"),
     )
+}
+
+pub(crate) fn explain_command<'w>(alloc: Global) -> Result<Command<'w>, AllocError>
+    ensures { IfOk result (IsSubcommand explain_subcommand) }
+{
+    let about = "Says what a refusal's number means, and what to do next";
+    let number_help = "The number of a line `refused NUMBER`; all of them unless given";
+    let command = Ok(bare(alloc, "explain", about, help::EXPLAIN));
+    with_arg(command, optional(alloc, "number", "NUMBER", number_help))
 }
 
 /// A subcommand without its arguments.
@@ -295,6 +230,13 @@ fn operand<'w>(alloc: Global, name: &'w str, value: &'w str, help: &'w str) -> A
         .value_name(value)
         .required(true)
         .help(help)
+}
+
+/// `TEXT` in its place, which may be left out.
+fn optional<'w>(alloc: Global, name: &'w str, value: &'w str, help: &'w str) -> Arg<'w>
+    ensures { HasRule (optional_rule name.entry.now) result }
+{
+    Arg::new(alloc, name).value_name(value).help(help)
 }
 
 /// `TEXT..` in its place, once or more often.

@@ -2,6 +2,8 @@
 #![tactic(auto)]
 
 mod commands;
+mod help;
+mod numbers;
 pub mod portions;
 pub mod usage;
 pub mod words;

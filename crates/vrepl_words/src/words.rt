@@ -5,17 +5,14 @@ ghost use Rattle.clap.specs.Words.{FailsBy, found_of, rows_of, subcommand_rows_o
 ghost use Rattle.vrepl_words.specs.Arguments.{is_given, portion_given, portion_of, text_given, texts_given};
 ghost use Rattle.vrepl_words.specs.Built.{HasApp};
 ghost use Rattle.vrepl_words.specs.Meant.{Asks, portions_value, show_value, step_value, value_of, vdiff_value};
-ghost use Rattle.vrepl_words.specs.Words.{asked_by, asks_join, asks_resume, asks_run, asks_save, asks_step, faults_of, join_given, portions_given, program_app, resume_given, run_given, run_subcommand, show_given, step_given, vdiff_given, words_of};
+ghost use Rattle.vrepl_words.specs.Words.{asked_by, asks_join, asks_resume, asks_run, asks_save, asks_step, explain_subcommand, faults_of, join_given, portions_given, program_app, resume_given, run_given, run_subcommand, show_given, step_given, vdiff_given, words_of};
 
 use crate::commands::program;
+use crate::numbers::{bad_number, refusal_given};
 use crate::portions::Portions;
-use clap::error::ErrorKind;
 use clap::{ArgMatches, Command, Error};
 use std::alloc::{AllocError, Global};
 use vindex::natural_of;
-
-/// What is said of a portion that is none.
-const PORTIONS: &str = "--rows, --ahead and --chunks are numbers of 1 to 1000000";
 
 /// What the words ask for.
 #[derive(Drop)]
@@ -34,6 +31,8 @@ pub enum Words<'w> {
     Join(Join<'w>),
     /// `vdiff`: compare two dumps.
     Vdiff(Vdiff<'w>),
+    /// `explain`: print what is said of a refusal's number, or the list of all.
+    Explain(Option<u64>),
 }
 
 /// The words of `run`.
@@ -143,7 +142,7 @@ fn read_by<'w>(
     let matches = command.try_get_matches_from_mut(words)?;
     match asked(alloc, &matches) {
         Some(words) => Ok(words?),
-        None => Err(command.error(ErrorKind::ValueValidation, PORTIONS)?),
+        None => Err(bad_number(alloc, &matches)?),
     }
 }
 
@@ -160,6 +159,7 @@ fn asked<'w>(alloc: Global, matches: &ArgMatches<'w>) -> Option<Result<Words<'w>
         "resume" => Some(resume_words(alloc, given)),
         "join" => Some(join_words(alloc, given)),
         "vdiff" => Some(Ok(Words::Vdiff(vdiff_words(given)))),
+        "explain" => explain_words(given),
         _ => None,
     }
 }
@@ -249,6 +249,14 @@ fn run_words_by<'w>(
     }))
 }
 
+/// None where what was given is no number of a refusal.
+fn explain_words<'w>(given: &ArgMatches<'w>) -> Option<Result<Words<'w>, AllocError>>
+    ensures { Asks result (explain_subcommand.meaning (rows_of (found_of given.now))) }
+{
+    let number = refusal_given(given, "number")?;
+    Some(Ok(Words::Explain(number)))
+}
+
 /// The portions that were given, or the usual ones.
 fn given_portions(given: &ArgMatches<'_>) -> Option<Portions>
     ensures { option_map portions_value result ≡ portions_given (rows_of (found_of given.now)) }
@@ -264,7 +272,7 @@ fn given_portions(given: &ArgMatches<'_>) -> Option<Portions>
 }
 
 /// The portion that was given, or the usual one.
-fn portion(given: &ArgMatches<'_>, name: &str, usual: u32) -> Option<u32>
+pub(crate) fn portion(given: &ArgMatches<'_>, name: &str, usual: u32) -> Option<u32>
     requires { 1 ≤ usual }
     ensures given { result ≡ portion_given usual name.now (rows_of (found_of given.now)) }
     ensures some { IfSome result (λ portion. 1 ≤ portion) }

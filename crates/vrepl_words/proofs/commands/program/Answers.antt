@@ -10,4 +10,5 @@ returns c =
     let vdiff = c.with_subcommand-command-4.ensures _ _ run c.vdiff_command.ensures in
     let save = c.with_subcommand-command-5.ensures _ _ vdiff c.save_command.ensures in
     let resume = c.with_subcommand-command-6.ensures _ _ save c.resume_command.ensures in
-    c.with_subcommand.ensures _ _ resume c.join_command.ensures
+    let join = c.with_subcommand-command-7.ensures _ _ resume c.join_command.ensures in
+    c.with_subcommand.ensures _ _ join c.explain_command.ensures

@@ -1,0 +1,147 @@
+//! What stands behind the arguments in a help: an example with what it prints, and the statuses.
+
+/// The program's version.
+pub(crate) const VERSION: &str = "0.1.0";
+
+/// The statuses of the program.
+pub(crate) const STATUSES: &str = "\
+Status:
+  0  what was asked for was printed
+  1  a line `refused NUMBER` on standard error; `vrepl explain NUMBER` says what
+     the number means, what the usual causes are, and what to do next
+  2  a fault of usage
+  3  `vdiff` found a difference";
+
+/// A call of `show` and what it prints.
+pub(crate) const SHOW: &str = "\
+Example:
+  $ vrepl show --hex examples/one_insert.hex
+  group 1 3e11fa47-71ca-11e1-9e33-c80aa9429562:1
+  + t\tx31\tx6162
+
+Status:
+  0  the whole feed was printed
+  1  refused; `vrepl explain NUMBER` says what the line's number means
+  2  a fault of usage";
+
+/// A call of `step` and what it prints.
+pub(crate) const STEP: &str = "\
+Example:
+  $ vrepl step --hex examples/workflows/one_shard.json examples/one_insert.hex \\
+      < examples/copy_one.script
+  read 1
+  applied 1
+  snapshot 1
+  copied 1 done
+  table t
+  x31\tx6162
+
+The script comes on standard input. A step that is refused is answered by its
+line, and the script goes on.
+
+Status:
+  0  each step has its reply
+  1  refused; `vrepl explain NUMBER` says what the line's number means
+  2  a fault of usage";
+
+/// A call of `run` and what it prints.
+pub(crate) const RUN: &str = "\
+Example:
+  $ vrepl run --hex examples/workflows/two_shards.json \\
+      examples/two_shards/lower.hex examples/two_shards/upper.hex
+  table t
+  x31\tx61
+  x32\tx62
+  x3131\tx6b
+  x3132\tx6c
+
+Status:
+  0  all rows were printed
+  1  refused; `vrepl explain NUMBER` says what the line's number means
+  2  a fault of usage";
+
+/// A call of `save`.
+pub(crate) const SAVE: &str = "\
+Example:
+  $ vrepl save --hex examples/workflows/one_shard.json examples/one_insert.hex \\
+      < examples/copy_one.script > one_row.checkpoint
+
+The script comes on standard input. The replies to it aren't printed.
+
+Status:
+  0  the whole checkpoint was written
+  1  refused; `vrepl explain NUMBER` says what the line's number means
+  2  a fault of usage";
+
+/// A call of `resume` and what it prints.
+pub(crate) const RESUME: &str = "\
+Example:
+  $ printf 'offer 0 3\\nadvance 0\\ndump\\n' | vrepl resume --hex \\
+      --checkpoint examples/checkpoints/two_rows.checkpoint \\
+      examples/workflows/one_shard.json examples/feeds/four_groups.hex
+  read 3
+  applied 3
+  table t
+  x31\tx61
+  x32\tx62
+  x33\tx63
+
+The script comes on standard input. The rows of the checkpoint are compared with
+those that the feeds leave.
+
+Status:
+  0  each step has its reply
+  1  refused; `vrepl explain NUMBER` says what the line's number means
+  2  a fault of usage";
+
+/// A call of `join`.
+pub(crate) const JOIN: &str = "\
+Example:
+  $ vrepl join --hex examples/workflows/two_shards.json \\
+      examples/checkpoints/lower.checkpoint \\
+      examples/checkpoints/upper.checkpoint \\
+      examples/two_shards/lower.hex examples/two_shards/upper.hex \\
+      > both.checkpoint
+
+Each stream, with its rows, is that of the checkpoint in which it is further on.
+
+Status:
+  0  the whole checkpoint was written
+  1  refused; `vrepl explain NUMBER` says what the line's number means
+  2  a fault of usage";
+
+/// A call of `vdiff` and what it prints.
+pub(crate) const VDIFF: &str = "\
+Example:
+  $ vrepl vdiff examples/workflows/one_shard.json \\
+      examples/dumps/source.dump examples/dumps/target.dump
+  processed 4
+  matching 1
+  mismatched 1
+  extra source 1
+  extra target 1
+  first table t key x32
+
+Status:
+  0  the dumps are of the same rows
+  1  refused; `vrepl explain NUMBER` says what the line's number means
+  2  a fault of usage
+  3  the dumps differ";
+
+/// A call of `explain` and what it prints.
+pub(crate) const EXPLAIN: &str = "\
+Example:
+  $ vrepl explain 119
+  119  there aren't as many feeds as streams
+
+  There aren't as many feeds on the command line as the workflow has streams.
+  Usual causes: a feed left out, or the workflow left out, so that the first
+  feed is taken for it; a pattern of the shell that matches more files.
+  What to do: give one feed a stream, in the order of the workflow's streams.
+
+A number that stands behind the word `cause` in a line is explained as well.
+
+Status:
+  0  the text was printed
+  1  it can't be written
+  2  a fault of usage, or a number that no refusal has";

@@ -1,0 +1,82 @@
+//! The number of a refusal among the words, and what is told of a number that can't stand where it does.
+
+ghost use Rattle.std.specs.Prelude.{◌≡◌, IfOk, Some, option_map};
+ghost use Rattle.clap.specs.Words.{found_of, kind_of, rows_of};
+ghost use Rattle.clap.specs.declared.error.kind.ErrorKind.TheVariants.{ValueValidation};
+ghost use Rattle.vrepl_words.specs.Arguments.{refusal_given, refusal_of};
+ghost use Rattle.vrepl_words.specs.Words.{bad_portion};
+
+use crate::commands::{explain_command, run_command};
+use crate::words::portion;
+use clap::error::ErrorKind;
+use clap::{ArgMatches, Command, Error};
+use refusal_words::texts::has_text;
+use std::alloc::{AllocError, Global};
+use vindex::natural_of;
+
+/// What is told of a portion that is none.
+const ROWS: &str = "--rows is a number of 1 to 1000000";
+
+const AHEAD: &str = "--ahead is a number of 1 to 1000000";
+
+const CHUNKS: &str = "--chunks is a number of 1 to 1000000";
+
+/// What is told of a number that no refusal has.
+const NO_REFUSAL: &str = "no refusal has this number; `vrepl explain` lists those that there are";
+
+/// The number of a refusal that was given, if one was. None where what was given is none.
+pub(crate) fn refusal_given(given: &ArgMatches<'_>, name: &str) -> Option<Option<u64>>
+    ensures { result ≡ refusal_given name.now (rows_of (found_of given.now)) }
+{
+    match given.get_str(name) {
+        None => Some(None),
+        Some(text) => refusal_of(text),
+    }
+}
+
+/// The number that digits spell, if a refusal has it.
+fn refusal_of(text: &str) -> Option<Option<u64>>
+    ensures { result ≡ option_map Some (refusal_of text.now) }
+{
+    let number = natural_of(text.as_bytes())?;
+    if has_text(number) {
+        Some(Some(number))
+    } else {
+        None
+    }
+}
+
+/// The fault of usage of a number that can't stand where it does, with its subcommand's usage.
+pub(crate) fn bad_number(alloc: Global, matches: &ArgMatches<'_>) -> Result<Error, AllocError>
+    ensures { IfOk result (λ fault. kind_of fault ≡ ValueValidation) }
+{
+    match matches.subcommand() {
+        Some(("run", given)) => usage_fault(run_command(alloc), "vrepl run", bad_portion(given)),
+        _ => usage_fault(explain_command(alloc), "vrepl explain", NO_REFUSAL),
+    }
+}
+
+/// A fault of usage of a subcommand.
+fn usage_fault(
+    command: Result<Command<'_>, AllocError>,
+    name: &str,
+    message: &str,
+) -> Result<Error, AllocError>
+    ensures { IfOk result (λ fault. kind_of fault ≡ ValueValidation) }
+{
+    let mut command = command?.bin_name(name)?;
+    command.error(ErrorKind::ValueValidation, message)
+}
+
+/// What is told of the first portion that is none.
+fn bad_portion(given: &ArgMatches<'_>) -> &'static str
+    ensures { result.now ≡ bad_portion (rows_of (found_of given.now)) }
+{
+    if portion(given, "rows", 1000).is_none() {
+        ROWS
+    } else if portion(given, "ahead", 100).is_none() {
+        AHEAD
+    } else {
+        CHUNKS
+    }
+}
