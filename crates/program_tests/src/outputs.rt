@@ -1,12 +1,8 @@
 //! What is printed into writers.
 
-use crate::printed::is_printed;
 use row_view::Column;
-use std::alloc::{AllocError, Global};
 use std::io::Cursor;
-use std::test::Fail;
 use vdiff_core::{Gathered, Writer, add_cell, put_all};
-use vrepl_main::put_text;
 
 /// Whether three bytes are put into this room.
 fn puts_abc(room: &mut [u8]) -> bool {
@@ -27,23 +23,6 @@ fn leaves_a_beginning_where_room_ends(rt: HostRuntime) {
     let mut bytes = [b'.'; 4];
     let is_put = puts_abc(&mut bytes[..2]);
     assert!(rt; !is_put && bytes.as_slice() == b"ab..".as_slice());
-}
-
-/// A text of 128 bytes is printed whole.
-fn prints_long_text(alloc: Global) -> Result<bool, AllocError> {
-    let long = format!(in alloc; "{:128}", 7)?;
-    let mut bytes = [0u8; 129];
-    let mut out = Writer::new(Cursor::new(&mut bytes[..]));
-    let mut text = Gathered::new();
-    let is_put = put_text(&mut out, &mut text, long.as_str()).is_ok();
-    let is_put = is_put && text.finish(&mut out).is_ok();
-    Ok(is_put && is_printed(&bytes, long.as_bytes()))
-}
-
-#[test]
-fn prints_a_text_of_128_bytes(rt: HostRuntime) -> Result<(), Fail> {
-    assert!(rt; prints_long_text(rt.alloc())?);
-    Ok(())
 }
 
 /// A value of 65 bytes is printed in 131; it is spelled 64 bytes at a time.

@@ -1,25 +1,20 @@
 -- Text that is added piece by piece behind text that waits: what is added and what is left are the whole.
-use Rattle.std.proofs.Common.{◌≡◌, ℕ, List, [], ◌++◌, sym, ap, ◌∙◌, subst, refl, append_assoc, append-nil, Result, Ok, Err}
-use Rattle.vdiff_core.specs.Printing as strong
-use Rattle.vdiff_core.specs.Printing.{Written, IsAdded}
-use Rattle.vdiff_core.proofs.PrintLaws.{adds_none, added_more, adds_all}
-use Rattle.vrepl_main.specs.Printing.{PrintsBeginning, Prints}
+use Rattle.std.proofs.Common.{◌≡◌, ℕ, List, [], ◌++◌, sym, ap, ◌∙◌, subst, refl, append_assoc, append-nil, inl, inr, Result, Ok, Err}
+use Rattle.vdiff_core.specs.Printing.{Written, Prints}
+use Rattle.vdiff_core.specs.Printing as library
+use Rattle.vdiff_core.proofs.PrintLaws.{adds_none, added_more, added_breaks, adding_breaks, adds_then_prints}
+use Rattle.vrepl_main.specs.Printing.{PrintsOrBreaks}
 use Rattle.vrepl_main.specs.Adding.{Place, at, IsPut, IsBegun, Adds, IsPutUpTo}
-use Rattle.vrepl_main.proofs.PrintLaws as bytes
-
--- a beginning that broke off is a beginning
-broken : (old new : Written) (text : List ℕ) → strong.BreaksOff old new text → PrintsBeginning old.bytes new.bytes text
-broken old new text (rest, off) = (rest, record { printed = off.printed; parts = off.parts; appended = off.appended })
 
 -- what a call of the library adds
-pub added : {X E : Type 0} (result : Result X E) (old : Written) (waited : List ℕ) (new : Written) (waits text : List ℕ) → strong.Adds result old waited new waits text → Adds result (at old waited) (at new waits) text
+pub added : {X E : Type 0} (result : Result X E) (old : Written) (waited : List ℕ) (new : Written) (waits text : List ℕ) → library.Adds result old waited new waits text → Adds result (at old waited) (at new waits) text
 added (Ok x) old waited new waits text is = is
-added (Err fault) old waited new waits text is = record { begun = broken old new (waited ++ text) is }
+added (Err fault) old waited new waits text is = record { begun = is }
 
--- the same where a text is printed to its end
-pub printed : {X E : Type 0} (result : Result X E) (old new : Written) (text : List ℕ) → strong.Prints result old new text → Prints result old.bytes new.bytes text
-printed (Ok x) old new text is = is.appended
-printed (Err fault) old new text is = broken old new text is
+-- what a call tries to print
+pub tried : {X E : Type 0} (result : Result X E) (old new : Written) (text : List ℕ) → Prints result old new text → PrintsOrBreaks old new text
+tried (Ok x) old new text is = inl is
+tried (Err fault) old new text is = inr is
 
 -- ---- two parts one behind the other
 
@@ -27,28 +22,18 @@ pub then_put : (old now new : Place) (text more : List ℕ) → IsPut old now te
 then_put old now new text more first second = added_more old.written old.waiting now.written now.waiting new.written new.waiting text more first second
 
 pub first_stops : (old new : Place) (text more : List ℕ) → IsBegun old new text → IsBegun old new (text ++ more)
-first_stops old new text more is = record {
-  begun = subst (PrintsBeginning old.written.bytes new.written.bytes) (append_assoc old.waiting text more)
-      (bytes.first_stops old.written.bytes new.written.bytes (old.waiting ++ text) more is.begun);
-}
+first_stops old new text more is = record { begun = adding_breaks old.written new.written old.waiting text more is.begun }
 
 pub then_stops : (old now new : Place) (text more : List ℕ) → IsPut old now text → IsBegun now new more → IsBegun old new (text ++ more)
-then_stops old now new text more first second = record {
-  begun = subst (PrintsBeginning old.written.bytes new.written.bytes)
-      (sym (append_assoc first.gone now.waiting more) ∙ ap (λ l. l ++ more) (sym first.parts) ∙ append_assoc old.waiting text more)
-      (bytes.then_stops old.written.bytes now.written.bytes new.written.bytes first.gone (now.waiting ++ more) first.written.appended second.begun);
-}
+then_stops old now new text more first second = record { begun = added_breaks old.written old.waiting now.written now.waiting new.written text more first second.begun }
 
 pub then_prints : {X E : Type 0} (result : Result X E) (old now new : Place) (text more : List ℕ) → IsPut old now text → Adds result now new more → Adds result old new (text ++ more)
 then_prints (Ok x) old now new text more first second = then_put old now new text more first second
 then_prints (Err fault) old now new text more first second = then_stops old now new text more first second
 
 -- what waited and what was added is written, or a beginning of it
-pub then_finishes : {X E : Type 0} (result : Result X E) (old now : Place) (new : Written) (text : List ℕ) → IsPut old now text → strong.Prints result now.written new now.waiting → Prints result old.written.bytes new.bytes (old.waiting ++ text)
-then_finishes (Ok x) old now new text first second = (adds_all old.written old.waiting now.written now.waiting new text first second).appended
-then_finishes (Err fault) old now new text first second =
-    subst (PrintsBeginning old.written.bytes new.bytes) (sym first.parts)
-    (bytes.then_stops old.written.bytes now.written.bytes new.bytes first.gone now.waiting first.written.appended (broken now.written new now.waiting second))
+pub then_finishes : {X E : Type 0} (result : Result X E) (old now : Place) (new : Written) (text : List ℕ) → IsPut old now text → Prints result now.written new now.waiting → Prints result old.written new (old.waiting ++ text)
+then_finishes result old now new text first second = adds_then_prints result old.written old.waiting now.written now.waiting new text first second
 
 -- ---- a text that is walked from its front
 
@@ -69,7 +54,3 @@ stops old now new text left piece rest parts before begun =
 
 pub ends : (old now : Place) (text left : List ℕ) → left ≡ [] → IsPutUpTo old now text left → IsPut old now text
 ends old now text left nothing before = subst (IsPut old now) (sym (before.parts ∙ ap (λ l. before.done ++ l) nothing ∙ append-nil before.done)) before.put
-
--- nothing was written
-pub prints_nothing : (now : Place) (text : List ℕ) → IsBegun now now text
-prints_nothing now text = record { begun = bytes.prints_nothing now.written.bytes (now.waiting ++ text) }

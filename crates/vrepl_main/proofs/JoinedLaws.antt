@@ -1,6 +1,6 @@
 -- What the command `join` prints, and why it is refused, by what its inputs say.
 use Rattle.std.proofs.Common.{◌≡◌, refl, sym, subst, inl, inr, ℕ, List, Some, Result, Ok, Err}
-use Rattle.std.specs.Prelude.{IsOk, slice_get}
+use Rattle.std.specs.Prelude.{slice_get}
 use Rattle.source_feed.specs.Planned.{FeedValue}
 use Rattle.board_laws.specs.Lawful.{IsLawful}
 use Rattle.board_laws.specs.Meaning.{State, Meaning}
@@ -9,10 +9,14 @@ use Rattle.join_laws.specs.Compatible.{AreCompatible}
 use Rattle.join_laws.specs.Joined.{joined}
 use Rattle.join_laws.proofs.Pairs.{one_of_two}
 use Rattle.apply_core.specs.Resuming.{IsResumed}
+use Rattle.vdiff_core.specs.Printing.{Written, BreaksOff}
 use Rattle.vrepl_main.specs.declared.joining.Unjoined.{Unjoined}
-use Rattle.vrepl_main.specs.JoinedRun.{IsJoinOver, IsSavedJoin, RefusesJoin}
+use Rattle.vrepl_main.specs.declared.joining.Unjoined.TheVariants.{Given, One, Other, Boards}
+use Rattle.vrepl_main.specs.Command.{BreaksOffIn}
+use Rattle.vrepl_main.specs.JoinedRun.{IsJoinOf, IsJoinOver, IsSavedJoin, IsUnjoined, RefusesJoin}
 use Rattle.vrepl_main.specs.Opening.{OpenedValue}
 use Rattle.vrepl_main.specs.Reasons.{Reason}
+use Rattle.vrepl_main.proofs.CommandLaws.{refuses}
 use Rattle.vrepl_main.proofs.SourceLaws.{fed_shows}
 
 -- ---- other words for what is given
@@ -21,13 +25,20 @@ module _ (one other : List ℕ) (said asked : Result OpenedValue Reason) (is : s
   pub saved_as : (bytes : List ℕ) → IsSavedJoin said one other bytes → IsSavedJoin asked one other bytes
   saved_as bytes saved = subst (λ (r : Result OpenedValue Reason). IsSavedJoin r one other bytes) is saved
 
-  pub refused_as : (refusal : Unjoined) → RefusesJoin refusal said one other → RefusesJoin refusal asked one other
-  refused_as refusal refused = subst (λ (r : Result OpenedValue Reason). RefusesJoin refusal r one other) is refused
+  pub refused_as : (refusal : Unjoined) → IsUnjoined refusal said one other → IsUnjoined refusal asked one other
+  refused_as refusal refused = subst (λ (r : Result OpenedValue Reason). IsUnjoined refusal r one other) is refused
 
--- where there is a join, the workflow and the feeds are opened
-pub is_opened : (reading : Result OpenedValue Reason) (one other bytes : List ℕ) → IsSavedJoin reading one other bytes → IsOk reading
-is_opened (Ok given) one other bytes saved = refl
-is_opened (Err reason) one other bytes saved = absurd saved
+-- what is found before anything is printed leaves nothing
+pub refuses_join : (unjoined : Unjoined) (reading : Result OpenedValue Reason) (one other : List ℕ) (now : Written) → IsUnjoined unjoined reading one other → RefusesJoin unjoined reading one other now now
+refuses_join (Given refusal) reading one other now is = refuses (IsJoinOf one other) refusal reading now is
+refuses_join (One plan fault) reading one other now is = (is, refl)
+refuses_join (Other plan fault) reading one other now is = (is, refl)
+refuses_join (Boards plan fault) reading one other now is = (is, refl)
+
+-- the checkpoint can't be written
+pub breaks_off : (reading : Result OpenedValue Reason) (one other bytes : List ℕ) (old new : Written) → IsSavedJoin reading one other bytes → BreaksOff old new bytes → BreaksOffIn (IsJoinOf one other) reading old new
+breaks_off (Ok given) one other bytes old new saved broken = (bytes, saved, broken)
+breaks_off (Err reason) one other bytes old new saved broken = absurd saved
 
 -- ---- the join
 

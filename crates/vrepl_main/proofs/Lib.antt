@@ -1,6 +1,5 @@
 pub mod HexLaws
 pub mod InputLaws
-pub mod PrintLaws
 pub mod AddLaws
 mod NumberLaws
 pub mod CommandLaws

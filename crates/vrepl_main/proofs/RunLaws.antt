@@ -2,6 +2,8 @@
 use Rattle.std.proofs.Common.{◌≡◌, ◌∙◌, ap, sym, subst, ℕ, Bool, List, map, refl, Option, Some, Result, Ok, Err}
 use Rattle.std.specs.Prelude.{slice_get}
 use Rattle.filter_rule.specs.PlanValue.{PlanValue}
+use Rattle.vdiff_core.specs.Dump.{dump_of}
+use Rattle.vdiff_core.specs.Printing.{Written, BreaksOff}
 use Rattle.vdiff_core.specs.RowsValue.{RowsValue}
 use Rattle.stream_worker.specs.Ended.{IsRowsUnion}
 use Rattle.stream_worker.specs.RunRefused.{IsRefusedRun}
@@ -11,8 +13,10 @@ use Rattle.vrepl_main.specs.Command.{Refuses, IsUnwritten}
 use Rattle.vrepl_main.specs.HexText.{feed_bytes}
 use Rattle.vrepl_main.specs.Opening.{OpenedValue, opened, opened_bytes}
 use Rattle.vrepl_main.specs.Reasons.{Reason}
-use Rattle.vrepl_main.specs.Running.{Filled, IsFilled, RefusesStream}
-use Rattle.vrepl_main.proofs.CommandLaws.{Refuses-unwritten}
+use Rattle.vrepl_main.specs.Running.{Filled, IsFilled, IsFilledDump, IsUnfilled, RefusesRun, RefusesStream}
+use Rattle.vrepl_main.specs.declared.running.RunFault.{RunFault}
+use Rattle.vrepl_main.specs.declared.running.RunFault.TheVariants.{Given, Stream}
+use Rattle.vrepl_main.proofs.CommandLaws.{refuses, refuses_unwritten}
 use Rattle.vrepl_main.proofs.StepLaws.{map-map}
 
 -- the bytes of the feeds, decoded where they are given as hexadecimal text
@@ -29,7 +33,13 @@ module _ (reading : Result OpenedValue Reason) (found : OpenedValue) (plan : Pla
   pub filled_run : (rows : RowsValue) → IsRowsUnion found.feeds rows → IsFilled reading (record { plan = plan; rows = rows })
   filled_run rows union = subst (λ (r : Result OpenedValue Reason). IsFilled r (record { plan = plan; rows = rows })) (sym is) (record { first = first; union = union })
 
+-- what is found before anything is printed leaves nothing
+pub refuses_run : (fault : RunFault) (reading : Result OpenedValue Reason) (now : Written) → IsUnfilled fault reading → RefusesRun fault reading now now
+refuses_run (Given refusal) reading now is = refuses IsFilledDump refusal reading now is
+refuses_run (Stream plan refusal) reading now is = (is, refl)
+
 -- the dump can't be written
-pub unwritten_run : (refusal : Refusal) (reading : Result OpenedValue Reason) (filled : Filled) → IsFilled reading filled → IsUnwritten refusal → Refuses {X = OpenedValue} refusal reading
-unwritten_run refusal (Ok given) filled is unwritten = Refuses-unwritten {X = OpenedValue} refusal (Ok given) given refl unwritten
-unwritten_run refusal (Err reason) filled is unwritten = absurd is
+pub unwritten_run : (refusal : Refusal) (reading : Result OpenedValue Reason) (filled : Filled) (old new : Written) → IsFilled reading filled → BreaksOff old new (dump_of filled.plan filled.rows) → IsUnwritten refusal
+    → Refuses IsFilledDump refusal reading old new
+unwritten_run refusal (Ok given) filled old new is broken unwritten = refuses_unwritten IsFilledDump refusal (Ok given) given (dump_of filled.plan filled.rows) old new refl (filled, is, refl) broken unwritten
+unwritten_run refusal (Err reason) filled old new is broken unwritten = absurd is

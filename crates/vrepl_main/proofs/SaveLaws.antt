@@ -1,5 +1,5 @@
 -- What the command `save` prints, and why it is refused, by what its inputs say.
-use Rattle.std.proofs.Common.{◌≡◌, sym, subst, ℕ, ◌≤◌, List, length, take, Result, Ok, Err}
+use Rattle.std.proofs.Common.{◌≡◌, refl, sym, subst, ℕ, ◌≤◌, List, length, take, Result, Ok, Err}
 use Rattle.std.proofs.lemmas.List.{take_all}
 use Rattle.std.specs.List.{AllByRecursion}
 use Rattle.filter_rule.specs.PlanValue.{PlanValue}
@@ -9,17 +9,18 @@ use Rattle.checkpoint_laws.specs.Written.{checkpoint_of}
 use Rattle.apply_core.specs.Fresh.{fresh_board}
 use Rattle.vrepl_main.specs.declared.refusal.Refusal.{Refusal}
 use Rattle.vrepl_main.specs.declared.script.ScriptStep.{ScriptStep}
+use Rattle.vdiff_core.specs.Printing.{Written, BreaksOff}
 use Rattle.vrepl_main.specs.Command.{Refuses, IsUnwritten}
 use Rattle.vrepl_main.specs.Reasons.{Reason}
-use Rattle.vrepl_main.specs.SavedBoard.{IsSaved}
+use Rattle.vrepl_main.specs.SavedBoard.{IsSaved, IsSavedBehind}
 use Rattle.vrepl_main.specs.ScriptRun.{ScriptReply, ScriptGiven, IsScriptRun, IsFed, IsTold}
 use Rattle.vrepl_main.proofs.SourceLaws.{fed_shows, script_shows}
-use Rattle.vrepl_main.proofs.StepLaws.{refuses_unwritten}
+use Rattle.vrepl_main.proofs.CommandLaws.{refuses_unwritten}
 
 -- the checkpoint can't be written
-pub unwritten : (refusal : Refusal) (reading : Result ScriptGiven Reason) (bytes : List ℕ) → IsSaved reading bytes → IsUnwritten refusal → Refuses {X = ScriptGiven} refusal reading
-unwritten refusal (Ok given) bytes saved is = refuses_unwritten refusal given is
-unwritten refusal (Err reason) bytes saved is = absurd saved
+pub unwritten : (refusal : Refusal) (reading : Result ScriptGiven Reason) (bytes : List ℕ) (old new : Written) → IsSaved reading bytes → BreaksOff old new bytes → IsUnwritten refusal → Refuses IsSavedBehind refusal reading old new
+unwritten refusal (Ok given) bytes old new saved broken is = refuses_unwritten IsSavedBehind refusal (Ok given) given bytes old new refl saved broken is
+unwritten refusal (Err reason) bytes old new saved broken is = absurd saved
 
 -- other words for what is given
 pub saved_as : (one other : Result ScriptGiven Reason) (bytes : List ℕ) → one ≡ other → IsSaved other bytes → IsSaved one bytes

@@ -12,8 +12,7 @@ use Rattle.board_laws.specs.Lawful.{standing_of}
 use Rattle.board_laws.specs.Meaning.{State, Meaning}
 use Rattle.board_laws.specs.Sources.{applied_position}
 use Rattle.vdiff_core.proofs.PrintLaws.{adds_none}
-use Rattle.vdiff_core.specs.Printing as strong
-use Rattle.vdiff_core.specs.Printing.{Written}
+use Rattle.vdiff_core.specs.Printing.{Written, Prints}
 use Rattle.vrepl_main.specs.Adding.{Place, at, IsPut, IsBegun}
 use Rattle.vrepl_main.specs.declared.script.ScriptStep.{ScriptStep}
 use Rattle.vrepl_main.specs.ScriptRun.{ScriptReply, IsScriptStep, IsScriptRun, reply_text, replies_text, where_of}
@@ -90,7 +89,7 @@ ends feeds plan old now steps i before after le had = (
 
 -- the replies that wait are written, or a beginning of them
 pub run_finishes : {E : Type 0} (result : Result (Unit {0}) E) (feeds : List FeedValue) (plan : PlanValue) (old : Meaning) (steps : List ScriptStep) (before : Written) (now : Place) (new : Written)
-    → RepliesTo {X = Unit {0}} {E = E} (Ok tt) feeds plan old steps (at before []) now → strong.Prints result now.written new now.waiting → PrintsRun result feeds plan old steps before.bytes new.bytes
+    → RepliesTo {X = Unit {0}} {E = E} (Ok tt) feeds plan old steps (at before []) now → Prints result now.written new now.waiting → PrintsRun result feeds plan old steps before new
 run_finishes {E} (Ok x) feeds plan old steps before now new (board, of) printed =
     (board, of.replies, of.run, then_finishes {X = Unit {0}} {E = E} (Ok x) (at before []) now new (replies_text plan of.replies) of.added printed)
 run_finishes {E} (Err fault) feeds plan old steps before now new (board, of) printed = (
@@ -103,5 +102,5 @@ run_finishes {E} (Err fault) feeds plan old steps before now new (board, of) pri
 
 -- printing breaks off before that
 pub run_breaks : {E : Type 0} (fault : E) (feeds : List FeedValue) (plan : PlanValue) (old : Meaning) (steps : List ScriptStep) (before : Written) (now : Place)
-    → RepliesTo {X = Unit {0}} (Err fault) feeds plan old steps (at before []) now → PrintsRun {X = Unit {0}} (Err fault) feeds plan old steps before.bytes now.written.bytes
+    → RepliesTo {X = Unit {0}} (Err fault) feeds plan old steps (at before []) now → PrintsRun {X = Unit {0}} (Err fault) feeds plan old steps before now.written
 run_breaks fault feeds plan old steps before now (n, board, of) = (n, board, of.replies, of.run, of.added.begun)

@@ -1,8 +1,6 @@
 -- What the command `step` prints, and why it is refused, by what its inputs say.
-use Rattle.std.proofs.Common.{◌≡◌, ◌∙◌, ap, sym, subst, ℕ, Bool, List, [], ◌∷◌, length, take, map, refl, inl, inr, arith, Option, Some, Result, Ok, Err}
+use Rattle.std.proofs.Common.{◌≡◌, ◌∙◌, ap, sym, subst, ℕ, Bool, List, [], ◌∷◌, take, map, refl, Option, Some, Result, Ok}
 use Rattle.std.specs.Prelude.{slice_get, option_map, OnOk, IfErr}
-use Rattle.std.specs.Io.KnownBytes.{Appends}
-use Rattle.std.proofs.lemmas.List.{take_all}
 use Rattle.std.proofs.lemmas.Option.{slice_get-map}
 use Rattle.outcome.specs.Outcome.{◌>>=◌}
 use Rattle.filter_rule.specs.PlanValue.{PlanValue}
@@ -11,39 +9,24 @@ use Rattle.board_laws.specs.Meaning.{Meaning}
 use Rattle.apply_core.specs.Fresh.{fresh_board}
 use Rattle.vrepl_main.specs.declared.script.ScriptStep.{ScriptStep}
 use Rattle.vrepl_main.specs.declared.refusal.Refusal.{Refusal}
-use Rattle.vrepl_main.specs.declared.refusal.Refusal.TheVariants.{Memory, Workflow, FeedCount, Feed, BadHex, BadScript, BadDump, CannotRead, CannotWrite}
 use Rattle.vrepl_main.specs.HexText.{feed_bytes}
 use Rattle.vrepl_main.specs.Reasons.{Reason, RefusesInputs}
 use Rattle.vrepl_main.specs.Command.{Refuses, IsUnwritten}
+use Rattle.vdiff_core.specs.Printing.{Written, IsWritten, BreaksOff}
 use Rattle.vrepl_main.specs.Opening.{OpenedValue}
-use Rattle.vrepl_main.specs.Printing.{PrintsBeginning}
 use Rattle.vrepl_main.specs.ScriptLines.{script_steps}
 use Rattle.vrepl_main.specs.ScriptRun.{ScriptReply, ScriptGiven, IsScriptRun, IsFed, IsRepliedTo, said_steps, given_with, given_bytes, script_given, replies_text}
-use Rattle.vrepl_main.specs.Replied.{PrintsReplies, PrintsSomeReplies, all_given}
-use Rattle.vrepl_main.proofs.PrintLaws.{whole_begins}
-use Rattle.vrepl_main.proofs.CommandLaws.{Refuses-unwritten}
+use Rattle.vrepl_main.specs.Replied.{AreFirstReplies, PrintsReplies, all_given}
+use Rattle.vrepl_main.proofs.CommandLaws.{refuses_unwritten}
 use Rattle.vrepl_main.proofs.OpenLaws.{RefusesInputs-whole}
 use Rattle.vrepl_main.proofs.SourceLaws.{script_shows}
 
 -- ---- refusals
 
--- a refusal of the inputs is one of the command
-pub refuses : {X : Type 0} (refusal : Refusal) (reading : Result X Reason) → RefusesInputs refusal reading → Refuses refusal reading
-refuses Memory reading is = tt
-refuses (Workflow fault) reading is = is
-refuses FeedCount reading is = is
-refuses (Feed fault) reading is = is
-refuses BadHex reading is = is
-refuses (BadScript bad) reading is = is
-refuses (BadDump bad) reading is = is
-refuses (CannotRead file) reading is = is
-refuses (CannotWrite file) reading is = absurd is
-
 -- a refusal of the workflow and its feeds
-pub refuses_opened : (refusal : Refusal) (opening : Result OpenedValue Reason) (script : List ℕ) → RefusesInputs refusal opening → Refuses {X = ScriptGiven} refusal (opening >>= given_with script)
+pub refuses_opened : (refusal : Refusal) (opening : Result OpenedValue Reason) (script : List ℕ) → RefusesInputs refusal opening → RefusesInputs {X = ScriptGiven} refusal (opening >>= given_with script)
 refuses_opened refusal opening script is =
-    refuses {X = ScriptGiven} refusal (opening >>= given_with script)
-    (RefusesInputs-whole {X = OpenedValue} {Y = ScriptGiven} refusal opening (opening >>= given_with script) (λ reason e. ap (λ (r : Result OpenedValue Reason). r >>= given_with script) e) is)
+    RefusesInputs-whole {X = OpenedValue} {Y = ScriptGiven} refusal opening (opening >>= given_with script) (λ reason e. ap (λ (r : Result OpenedValue Reason). r >>= given_with script) e) is
 
 -- steps behind an opened workflow
 abbrev with_steps : OpenedValue → Result (List ScriptStep) Reason → Result ScriptGiven Reason
@@ -51,15 +34,10 @@ with_steps found said = said >>= λ steps. Ok (record { opened = found; steps = 
 
 -- a refusal of the script behind them
 pub refuses_script : (refusal : Refusal) (opening : Result OpenedValue Reason) (found : OpenedValue) (script : List ℕ) → opening ≡ Ok found → RefusesInputs refusal (said_steps (script_steps script))
-    → Refuses {X = ScriptGiven} refusal (opening >>= given_with script)
+    → RefusesInputs {X = ScriptGiven} refusal (opening >>= given_with script)
 refuses_script refusal opening found script is bad =
-    refuses {X = ScriptGiven} refusal (opening >>= given_with script)
-    (RefusesInputs-whole {X = List ScriptStep} {Y = ScriptGiven} refusal (said_steps (script_steps script)) (opening >>= given_with script)
-    (λ reason e. ap (λ (r : Result OpenedValue Reason). r >>= given_with script) is ∙ ap (with_steps found) e) bad)
-
--- the replies can't be written
-pub refuses_unwritten : (refusal : Refusal) (given : ScriptGiven) → IsUnwritten refusal → Refuses {X = ScriptGiven} refusal (Ok given)
-refuses_unwritten refusal given is = Refuses-unwritten {X = ScriptGiven} refusal (Ok given) given refl is
+    RefusesInputs-whole {X = List ScriptStep} {Y = ScriptGiven} refusal (said_steps (script_steps script)) (opening >>= given_with script)
+    (λ reason e. ap (λ (r : Result OpenedValue Reason). r >>= given_with script) is ∙ ap (with_steps found) e) bad
 
 -- ---- what is given
 
@@ -86,23 +64,15 @@ first_of_all {A} f lent plans plan value e is seen = subst (λ (ps : List A). sl
 
 -- ---- other words for what is given
 
-pub printed_as : {Y E : Type 0} (result : Result Y E) (one other : Result ScriptGiven Reason) (old new : Option (List ℕ)) → one ≡ other → OnOk result (PrintsReplies other old new) → OnOk result (PrintsReplies one old new)
+pub printed_as : {Y E : Type 0} (result : Result Y E) (one other : Result ScriptGiven Reason) (old new : Written) → one ≡ other → OnOk result (PrintsReplies other old new) → OnOk result (PrintsReplies one old new)
 printed_as result one other old new is printed = subst (λ (r : Result ScriptGiven Reason). OnOk result (PrintsReplies r old new)) (sym is) printed
 
-pub begun_as : (one other : Result ScriptGiven Reason) (old new : Option (List ℕ)) → one ≡ other → PrintsSomeReplies other old new → PrintsSomeReplies one old new
-begun_as one other old new is begun = subst (λ (r : Result ScriptGiven Reason). PrintsSomeReplies r old new) (sym is) begun
-
-pub refused_as : {Y : Type 0} (result : Result Y Refusal) (one other : Result ScriptGiven Reason) → one ≡ other → IfErr result (λ refusal. Refuses refusal other) → IfErr result (λ refusal. Refuses refusal one)
-refused_as result one other is refused = subst (λ (r : Result ScriptGiven Reason). IfErr result (λ refusal. Refuses refusal r)) (sym is) refused
+pub refused_as : {Y : Type 0} (result : Result Y Refusal) (one other : Result ScriptGiven Reason) (old new : Written) → one ≡ other → IfErr result (λ refusal. Refuses AreFirstReplies refusal other old new) → IfErr result (λ refusal. Refuses AreFirstReplies refusal one old new)
+refused_as result one other old new is refused = subst (λ (r : Result ScriptGiven Reason). IfErr result (λ refusal. Refuses AreFirstReplies refusal r old new)) (sym is) refused
 
 -- ---- what is printed
 
--- nothing
-pub prints_no_reply : (reading : Result ScriptGiven Reason) (now : Option (List ℕ)) → PrintsSomeReplies reading now now
-prints_no_reply (Ok given) now = inl refl
-prints_no_reply (Err reason) now = refl
-
-module _ (plans : List PlanValue) (feeds : List FeedValue) (steps : List ScriptStep) (plan : PlanValue) (start : Meaning) (old new : Option (List ℕ))
+module _ (plans : List PlanValue) (feeds : List FeedValue) (steps : List ScriptStep) (plan : PlanValue) (start : Meaning) (old new : Written)
     (first : slice_get plans 0 ≡ Some plan) (fresh : start ≡ fresh_board plans) (fed : IsFed feeds start) where
   replied : (lines : List ScriptStep) (replies : List ScriptReply) (board : Meaning) → IsScriptRun feeds start lines replies board
       → IsRepliedTo (record { plans = plans; feeds = feeds }) lines (replies_text plan replies)
@@ -117,23 +87,12 @@ module _ (plans : List PlanValue) (feeds : List FeedValue) (steps : List ScriptS
   }
 
   -- all replies
-  pub prints_all : (board : Meaning) × (replies : List ScriptReply) × IsScriptRun feeds start steps replies board × Appends old new (replies_text plan replies)
+  pub prints_all : (board : Meaning) × (replies : List ScriptReply) × IsScriptRun feeds start steps replies board × IsWritten old new (replies_text plan replies)
       → PrintsReplies (all_given plans feeds steps) old new
   prints_all (board, replies, run, appended) = (replies_text plan replies, replied steps replies board run, appended)
 
-  -- a beginning of the replies to the first steps
-  pub prints_first : (n : ℕ) × (board : Meaning) × (replies : List ScriptReply) × IsScriptRun feeds start (take n steps) replies board × PrintsBeginning old new (replies_text plan replies)
-      → PrintsSomeReplies (all_given plans feeds steps) old new
-  prints_first (n, board, replies, run, begun) = inr (n, replies_text plan replies, replied (take n steps) replies board run, begun)
-
-  -- all replies are a beginning of themselves
-  pub all_begin : (board : Meaning) × (replies : List ScriptReply) × IsScriptRun feeds start steps replies board × Appends old new (replies_text plan replies)
-      → PrintsSomeReplies (all_given plans feeds steps) old new
-  all_begin (board, replies, run, appended) =
-      let same : take (length steps) steps ≡ steps = take_all (length steps) steps (omega arith) in
-      inr (
-        length steps,
-        replies_text plan replies,
-        replied (take (length steps) steps) replies board (subst (λ (lines : List ScriptStep). IsScriptRun feeds start lines replies board) (sym same) run),
-        whole_begins old new (replies_text plan replies) appended,
-      )
+  -- a beginning of the replies to the first steps, which can't be written
+  pub prints_first : (refusal : Refusal) → IsUnwritten refusal → (n : ℕ) × (board : Meaning) × (replies : List ScriptReply) × IsScriptRun feeds start (take n steps) replies board × BreaksOff old new (replies_text plan replies)
+      → Refuses AreFirstReplies refusal (all_given plans feeds steps) old new
+  prints_first refusal unwritten (n, board, replies, run, broken) =
+      refuses_unwritten AreFirstReplies refusal (all_given plans feeds steps) _ (replies_text plan replies) old new refl (n, replied (take n steps) replies board run) broken unwritten

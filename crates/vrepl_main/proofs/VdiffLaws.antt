@@ -9,20 +9,18 @@ use Rattle.filter_rule.specs.declared.fault.PlanFault.TheVariants as errors
 use Rattle.pk_copy.specs.KeyValue.{KeyValue}
 use Rattle.vdiff_core.specs.DumpReading as dump
 use Rattle.vdiff_core.specs.DumpReading.{IsFirstBad, IsRead}
+use Rattle.vdiff_core.specs.Printing.{Written, BreaksOff}
 use Rattle.vdiff_core.specs.Report.{report_of, IsFirstDifference}
 use Rattle.vdiff_core.specs.RowsValue.{RowsValue, row_at}
 use Rattle.vdiff_core.specs.declared.reading.DumpFault.{DumpFault}
 use Rattle.vdiff_core.specs.declared.reading.DumpFault.TheVariants as faults
 use Rattle.vdiff_core.specs.declared.report.Report.{Report}
-use Rattle.vdiff_core.specs.declared.writer.OutFailed.{OutFailed}
 use Rattle.vrepl_main.specs.declared.refusal.Refusal.{Refusal}
 use Rattle.vrepl_main.specs.declared.refusal.Refusal.TheVariants.{Memory, Workflow, FeedCount, Feed, BadHex, BadScript, BadDump, CannotRead, CannotWrite}
-use Rattle.vrepl_main.specs.declared.comparing.Verdict.{Verdict}
 use Rattle.vrepl_main.specs.Reasons.{bad_workflow, feed_count, bad_hex, bad_feed, bad_script, bad_dump}
 use Rattle.vrepl_main.specs.RefusalOf.{refusal_of_workflow, refusal_of_dump}
 use Rattle.vrepl_main.specs.Command.{IsUnwritten}
-use Rattle.vrepl_main.specs.Comparison.{Compared, IsComparison, AreDumps, IsBadLine, AreReadOnce, PrintsComparison, PrintsSomeComparison, RefusesDumps, report_text, first_text}
-use Rattle.vrepl_main.proofs.PrintLaws.{whole_begins}
+use Rattle.vrepl_main.specs.Comparison.{Compared, IsComparison, AreDumps, IsBadLine, AreReadOnce, RefusesDumps, report_text, first_text}
 
 -- ---- the difference
 
@@ -47,46 +45,41 @@ differ_at source target key is same = is.differ (ap (λ (rows : RowsValue). row_
 -- ---- refusals
 
 -- the workflow's fault
-pub refuses_workflow : (fault : PlanFault) (workflow source target : List ℕ) → plans.Fails {Y = List PlanValue} fault (plans_of workflow) → RefusesDumps workflow source target (refusal_of_workflow fault)
-refuses_workflow errors.Memory workflow source target is = tt
-refuses_workflow errors.Json workflow source target is = (Err (bad_workflow plans.json), is, refl)
-refuses_workflow errors.Shape workflow source target is = (Err (bad_workflow plans.shape), is, refl)
-refuses_workflow errors.Limit workflow source target is = (Err (bad_workflow plans.limit), is, refl)
-refuses_workflow (errors.NoSuchColumn table column) workflow source target is = (Err (bad_workflow _), is, refl)
-refuses_workflow (errors.KeyType table column) workflow source target is = (Err (bad_workflow _), is, refl)
-refuses_workflow (errors.BadRule stream rule) workflow source target is = (Err (bad_workflow _), is, refl)
+pub refuses_workflow : (fault : PlanFault) (workflow source target : List ℕ) (now : Written) → plans.Fails {Y = List PlanValue} fault (plans_of workflow) → RefusesDumps workflow source target (refusal_of_workflow fault) now now
+refuses_workflow errors.Memory workflow source target now is = refl
+refuses_workflow errors.Json workflow source target now is = (Err (bad_workflow plans.json), is, (refl, refl))
+refuses_workflow errors.Shape workflow source target now is = (Err (bad_workflow plans.shape), is, (refl, refl))
+refuses_workflow errors.Limit workflow source target now is = (Err (bad_workflow plans.limit), is, (refl, refl))
+refuses_workflow (errors.NoSuchColumn table column) workflow source target now is = (Err (bad_workflow _), is, (refl, refl))
+refuses_workflow (errors.KeyType table column) workflow source target now is = (Err (bad_workflow _), is, (refl, refl))
+refuses_workflow (errors.BadRule stream rule) workflow source target now is = (Err (bad_workflow _), is, (refl, refl))
 
-module _ (workflow source target : List ℕ) (plan : PlanValue) (others : List PlanValue) (is : plans_of workflow ≡ Ok (plan ∷ others)) where
+module _ (workflow source target : List ℕ) (plan : PlanValue) (others : List PlanValue) (is : plans_of workflow ≡ Ok (plan ∷ others)) (now : Written) where
   -- the source's bad line
-  pub refuses_source : {X : Type 0} (fault : DumpFault) → ((n : ℕ) → ◌≡◌ {A = Result X DumpFault} (Err fault) (Err (faults.BadDump n)) → IsFirstBad plan source n) → RefusesDumps workflow source target (refusal_of_dump fault)
-  refuses_source faults.Memory bad = tt
-  refuses_source (faults.BadDump n) bad = (Err (bad_dump n), record { plan = plan; others = others; plans = is; bad = inl (bad n refl) }, refl)
+  pub refuses_source : {X : Type 0} (fault : DumpFault) → ((n : ℕ) → ◌≡◌ {A = Result X DumpFault} (Err fault) (Err (faults.BadDump n)) → IsFirstBad plan source n) → RefusesDumps workflow source target (refusal_of_dump fault) now now
+  refuses_source faults.Memory bad = refl
+  refuses_source (faults.BadDump n) bad = (Err (bad_dump n), record { plan = plan; others = others; plans = is; bad = inl (bad n refl) }, (refl, refl))
 
   -- the target's, behind a dump of the source
   pub refuses_target : {X : Type 0} (fault : DumpFault) (rows : RowsValue) → IsRead plan source (Ok rows) → ((n : ℕ) → ◌≡◌ {A = Result X DumpFault} (Err fault) (Err (faults.BadDump n)) → IsFirstBad plan target n)
-      → RefusesDumps workflow source target (refusal_of_dump fault)
-  refuses_target faults.Memory rows read bad = tt
-  refuses_target (faults.BadDump n) rows read bad = (Err (bad_dump n), record { plan = plan; others = others; plans = is; bad = inr (rows, read, bad n refl) }, refl)
+      → RefusesDumps workflow source target (refusal_of_dump fault) now now
+  refuses_target faults.Memory rows read bad = refl
+  refuses_target (faults.BadDump n) rows read bad = (Err (bad_dump n), record { plan = plan; others = others; plans = is; bad = inr (rows, read, bad n refl) }, (refl, refl))
 
 -- the comparison can't be written
-pub refuses_unwritten : (workflow source target : List ℕ) (compared : Compared) (refusal : Refusal) → AreDumps workflow source target compared → IsUnwritten refusal → RefusesDumps workflow source target refusal
-refuses_unwritten workflow source target compared (CannotWrite file) dumps is = (Ok compared, dumps, (refl, is))
-refuses_unwritten workflow source target compared Memory dumps is = tt
-refuses_unwritten workflow source target compared (Workflow fault) dumps is = absurd is
-refuses_unwritten workflow source target compared FeedCount dumps is = absurd is
-refuses_unwritten workflow source target compared (Feed fault) dumps is = absurd is
-refuses_unwritten workflow source target compared BadHex dumps is = absurd is
-refuses_unwritten workflow source target compared (BadScript bad) dumps is = absurd is
-refuses_unwritten workflow source target compared (BadDump bad) dumps is = absurd is
-refuses_unwritten workflow source target compared (CannotRead file) dumps is = absurd is
+pub unwritten_comparison : (workflow source target : List ℕ) (compared : Compared) (refusal : Refusal) (old new : Written) → AreDumps workflow source target compared
+    → (text : List ℕ) × IsComparison compared text × BreaksOff old new text → IsUnwritten refusal → RefusesDumps workflow source target refusal old new
+unwritten_comparison workflow source target compared (CannotWrite file) old new dumps (text, comparison, broken) is = (Ok compared, dumps, (is, (text, comparison, broken)))
+unwritten_comparison workflow source target compared Memory old new dumps printed is = absurd is
+unwritten_comparison workflow source target compared (Workflow fault) old new dumps printed is = absurd is
+unwritten_comparison workflow source target compared FeedCount old new dumps printed is = absurd is
+unwritten_comparison workflow source target compared (Feed fault) old new dumps printed is = absurd is
+unwritten_comparison workflow source target compared BadHex old new dumps printed is = absurd is
+unwritten_comparison workflow source target compared (BadScript bad) old new dumps printed is = absurd is
+unwritten_comparison workflow source target compared (BadDump bad) old new dumps printed is = absurd is
+unwritten_comparison workflow source target compared (CannotRead file) old new dumps printed is = absurd is
 
--- ---- what is printed
-
--- a comparison that was printed, whole or not, is a beginning of itself
-pub some_comparison : (result : Result Verdict OutFailed) (workflow source target : List ℕ) (compared : Compared) (old new : Option (List ℕ)) → AreDumps workflow source target compared
-    → PrintsComparison result compared old new → PrintsSomeComparison workflow source target old new
-some_comparison (Ok verdict) workflow source target compared old new dumps (is, text, comparison, printed) = inr (compared, text, dumps, comparison, whole_begins old new text printed)
-some_comparison (Err fault) workflow source target compared old new dumps (text, comparison, begun) = inr (compared, text, dumps, comparison, begun)
+-- ---- what is read
 
 -- the first of a workflow's plans, and the others
 pub first_plan : {A : Type 0} (f : A → PlanValue) (reading : Result (List PlanValue) plans.Fault) (all : List A) (plan : A) → reading ≡ Ok (map f all) → 1 ≤ length all → plan ≡ get_or all 0 plan

@@ -1,8 +1,7 @@
--- What a call that adds text behind text that waits leaves on its writer: the whole text is added, or at a fault
--- a beginning of what waited and of the text was written (this profile).
+-- What a call that adds text behind text that waits leaves on its writer: the whole text is added, or at a fault,
+-- which comes of a write that failed, a beginning of what waited and of the text was written (this profile).
 use Rattle.std.specs.Prelude.{◌≡◌, ℕ, List, ◌++◌, Result, Ok, Err}
-use Rattle.vdiff_core.specs.Printing.{Written, IsAdded}
-use Rattle.vrepl_main.specs.Printing.{PrintsBeginning}
+use Rattle.vdiff_core.specs.Printing.{Written, IsAdded, BreaksOff}
 
 -- what a writer took, and what waits to be written behind it
 pub record Place : Type 0 where
@@ -16,9 +15,9 @@ at written waiting = record { written = written; waiting = waiting }
 abbrev pub IsPut : Place → Place → List ℕ → Type 0
 IsPut old new text = IsAdded old.written old.waiting new.written new.waiting text
 
--- a beginning of what waited and of the text was written, and nothing else
+-- a beginning of what waited and of the text was written and nothing else, and then a write failed
 pub record IsBegun (old new : Place) (text : List ℕ) : Type 0 where
-  pub begun : PrintsBeginning old.written.bytes new.written.bytes (old.waiting ++ text)
+  pub begun : BreaksOff old.written new.written (old.waiting ++ text)
 
 -- the whole text is added, or at a fault a beginning of what waited and of the text was written
 abbrev pub Adds : {X E : Type 0} → Result X E → Place → Place → List ℕ → Type 0

@@ -1,12 +1,15 @@
 -- The replies to steps on a board that are made, as text (this profile).
 use Rattle.std.specs.Prelude.{ℕ, Bool, true, false, List, [], ◌∷◌, ◌++◌, Option, None, Some, codes, decimal}
 use Rattle.gtid_set.specs.Printed.{printed_position}
+use Rattle.vrepl_main.specs.Printing.{named}
 use Rattle.source_feed.specs.GroupValue.{Position}
 use Rattle.stream_core.specs.declared.phase.Phase.{Phase}
 use Rattle.stream_core.specs.declared.phase.Phase.TheVariants.{Running, Copy, FastForward, CatchUp}
 use Rattle.stream_core.specs.Standing.{Standing, phase_of}
 use Rattle.board_laws.specs.declared.answer.Answer.{Answer}
-use Rattle.board_laws.specs.declared.answer.Answer.TheVariants.{Offered, Applied, Opened, Copied, Closed, Restarted}
+use Rattle.board_laws.specs.declared.answer.Answer.TheVariants as answers
+use Rattle.board_laws.specs.declared.answer.Answer.TheVariants.{Offered, Applied, Opened, Closed, Restarted}
+use Rattle.board_laws.specs.declared.answer.Copied.{Copied}
 use Rattle.board_laws.specs.declared.answer.Offered.TheVariants.{Read, Repeat}
 
 -- ---- steps
@@ -16,13 +19,17 @@ abbrev pub done_text : Bool → List ℕ
 done_text true = codes " done"
 done_text false = []
 
+-- how many rows were copied
+abbrev pub copied_text : Copied → List ℕ
+copied_text copied = codes "copied " ++ decimal copied.rows ++ done_text copied.done ++ 10 ∷ []
+
 -- what a step answers
 abbrev pub answer_text : Answer → List ℕ
 answer_text (Offered (Read number)) = codes "read " ++ decimal number ++ 10 ∷ []
 answer_text (Offered (Repeat number)) = codes "repeat " ++ decimal number ++ 10 ∷ []
 answer_text (Applied number) = codes "applied " ++ decimal number ++ 10 ∷ []
 answer_text (Opened number) = codes "snapshot " ++ decimal number ++ 10 ∷ []
-answer_text (Copied copied) = codes "copied " ++ decimal copied.rows ++ done_text copied.done ++ 10 ∷ []
+answer_text (answers.Copied copied) = copied_text copied
 answer_text Closed = codes "closed" ++ 10 ∷ []
 answer_text (Restarted number) = codes "restarted " ++ decimal number ++ 10 ∷ []
 
@@ -46,11 +53,11 @@ place_text (interval ∷ others) = printed_position (interval ∷ others)
 
 -- how many groups are read and applied
 abbrev pub progress_text : ℕ → Standing → List ℕ
-progress_text stream now = codes "state " ++ decimal stream ++ codes " " ++ phase_text (phase_of now) ++ codes " read " ++ decimal now.read ++ codes " applied " ++ decimal now.applied
+progress_text stream now = codes "state " ++ decimal stream ++ codes " " ++ phase_text (phase_of now) ++ named (codes " read ") now.read ++ named (codes " applied ") now.applied
 
 -- how many tables are copied
 abbrev pub tables_text : Standing → List ℕ
-tables_text now = codes " done " ++ decimal now.done ++ codes " of " ++ decimal now.tables
+tables_text now = named (codes " done ") now.done ++ named (codes " of ") now.tables
 
 -- where a stream stands, and at which position of its source
 abbrev pub state_text : ℕ → Standing → Position → List ℕ

@@ -1,33 +1,41 @@
--- What a command that prints one text, or refuses, leaves on its writers (this profile).
-use Rattle.std.specs.Prelude.{◌≡◌, ℕ, List, Option, Result, Ok, Err, IsOk, codes}
-use Rattle.std.specs.Io.KnownBytes.{Appends}
-use Rattle.vrepl_main.specs.Printing.{PrintsBeginning}
+-- What a command that prints a text, or refuses, leaves on its writers (this profile).
+use Rattle.std.specs.Prelude.{◌≡◌, ℕ, List, Result, Ok, Err, codes}
+use Rattle.vdiff_core.specs.Printing.{Written, IsWritten, BreaksOff}
+use Rattle.vrepl_main.specs.Printing.{PrintsOrBreaks}
 use Rattle.vrepl_main.specs.Reasons.{Reason, RefusesInputs}
 use Rattle.vrepl_main.specs.Refusals.{refusal_line}
 use Rattle.vrepl_main.specs.declared.refusal.Refusal.{Refusal}
 use Rattle.vrepl_main.specs.declared.refusal.Refusal.TheVariants.{CannotWrite}
 
+-- ---- a text
+
 -- there is a text, and it was printed whole
-abbrev pub PrintsWhole : Result (List ℕ) Reason → Option (List ℕ) → Option (List ℕ) → Type 0
-PrintsWhole (Ok text) old new = Appends old new text
-PrintsWhole (Err refusal) old new = ⊥
+abbrev pub PrintsWhole : Result (List ℕ) Reason → Written → Written → Type 0
+PrintsWhole (Ok text) old new = IsWritten old new text
+PrintsWhole (Err reason) old new = ⊥
 
--- a beginning of the text was printed, and nothing where there is none
-abbrev pub PrintsSome : Result (List ℕ) Reason → Option (List ℕ) → Option (List ℕ) → Type 0
-PrintsSome (Ok text) old new = PrintsBeginning old new text
-PrintsSome (Err refusal) old new = new ≡ old
+-- the text is the one that is given
+abbrev pub IsGivenText : List ℕ → List ℕ → Type 0
+IsGivenText given text = text ≡ given
 
--- a refusal says just why there is nothing to print, unless memory ran out or the text can't be written on
--- standard output, `-`
-abbrev pub Refuses : {X : Type 0} → Refusal → Result X Reason → Type 0
-Refuses (CannotWrite file) reading = IsOk reading × (file.now ≡ codes "-")
-Refuses refusal reading = RefusesInputs refusal reading
+-- ---- refusals
 
 -- standard output, `-`, can't be written
 abbrev pub IsUnwritten : Refusal → Type 0
 IsUnwritten (CannotWrite file) = file.now ≡ codes "-"
 IsUnwritten refusal = ⊥
 
--- the line of such a refusal was printed, or a beginning of it
-abbrev pub PrintsRefusal : {X : Type 0} → Result X Reason → Option (List ℕ) → Option (List ℕ) → Type 0
-PrintsRefusal reading old new = (refusal : Refusal) × Refuses refusal reading × PrintsBeginning old new (refusal_line refusal)
+-- the inputs give something, and a beginning of such a text of it was printed, and then a write failed
+abbrev pub BreaksOffIn : {X : Type 0} → (X → List ℕ → Type 0) → Result X Reason → Written → Written → Type 0
+BreaksOffIn IsText (Ok given) old new = (text : List ℕ) × IsText given text × BreaksOff old new text
+BreaksOffIn IsText (Err reason) old new = ⊥
+
+-- a refusal is that standard output can't be written, and then a write of it failed; any other leaves it as it was and
+-- says just why there is nothing to be had of the inputs, unless memory ran out
+abbrev pub Refuses : {X : Type 0} → (X → List ℕ → Type 0) → Refusal → Result X Reason → Written → Written → Type 0
+Refuses IsText (CannotWrite file) reading old new = (file.now ≡ codes "-") × BreaksOffIn IsText reading old new
+Refuses IsText refusal reading old new = RefusesInputs refusal reading × (new ≡ old)
+
+-- such a refusal's line was printed whole on standard error, unless a write of it failed
+abbrev pub PrintsRefusal : {X : Type 0} → (X → List ℕ → Type 0) → Result X Reason → Written → Written → Written → Written → Type 0
+PrintsRefusal IsText reading old new err_old err_new = (refusal : Refusal) × Refuses IsText refusal reading old new × PrintsOrBreaks err_old err_new (refusal_line refusal)

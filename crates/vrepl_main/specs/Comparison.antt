@@ -1,17 +1,17 @@
 -- What `vdiff` prints of two dumps, and why it refuses them (this profile, after Vitess's VDiff).
 use Rattle.std.specs.Prelude.{◌≡◌, ◌≢◌, ◌⊎◌, ℕ, List, [], ◌∷◌, ◌++◌, Option, MatchOption, Result, Ok, Err, codes, decimal}
-use Rattle.std.specs.Io.KnownBytes.{Appends}
 use Rattle.std.specs.Option.{option_map_or}
 use Rattle.filter_rule.specs.PlanTable.{TableValue}
 use Rattle.filter_rule.specs.PlanValue.{PlanValue}
 use Rattle.filter_rule.specs.Reading.{plans_of}
 use Rattle.pk_copy.specs.KeyValue.{KeyValue}
 use Rattle.vdiff_core.specs.DumpReading.{IsRead}
+use Rattle.vdiff_core.specs.Printing.{Written, IsWritten, BreaksOff}
 use Rattle.vdiff_core.specs.Report.{report_of, IsFirstDifference}
 use Rattle.vdiff_core.specs.RowsValue.{RowsValue}
 use Rattle.vdiff_core.specs.declared.report.Report.{Report}
 use Rattle.vrepl_main.specs.Command.{Refuses}
-use Rattle.vrepl_main.specs.Printing.{PrintsBeginning}
+use Rattle.vrepl_main.specs.Printing.{PrintsOrBreaks}
 use Rattle.vrepl_main.specs.Reasons.{Reason, bad_workflow, bad_dump}
 use Rattle.vrepl_main.specs.RefusedText.{key_text, name_of_table}
 use Rattle.vrepl_main.specs.Refusals.{refusal_line}
@@ -88,25 +88,22 @@ IsVerdict Same compared = compared.source ≡ compared.target
 IsVerdict Differ compared = compared.source ≢ compared.target
 
 -- the comparison of rows was printed, and this is the verdict; or at a fault a beginning of it was
-abbrev pub PrintsComparison : Result Verdict OutFailed → Compared → Option (List ℕ) → Option (List ℕ) → Type 0
-PrintsComparison (Ok verdict) compared old new = IsVerdict verdict compared × (text : List ℕ) × IsComparison compared text × Appends old new text
-PrintsComparison (Err fault) compared old new = (text : List ℕ) × IsComparison compared text × PrintsBeginning old new text
+abbrev pub PrintsComparison : Result Verdict OutFailed → Compared → Written → Written → Type 0
+PrintsComparison (Ok verdict) compared old new = IsVerdict verdict compared × (text : List ℕ) × IsComparison compared text × IsWritten old new text
+PrintsComparison (Err fault) compared old new = (text : List ℕ) × IsComparison compared text × BreaksOff old new text
 
 -- two dumps were read, this is the verdict on them, and their comparison was printed
-abbrev pub IsComparedAs : Verdict → List ℕ → List ℕ → List ℕ → Option (List ℕ) → Option (List ℕ) → Type 0
+abbrev pub IsComparedAs : Verdict → List ℕ → List ℕ → List ℕ → Written → Written → Type 0
 IsComparedAs verdict workflow source target old new =
     (compared : Compared) × AreDumps workflow source target compared × PrintsComparison (Ok verdict) compared old new
 
--- nothing was printed, or of two dumps a beginning of their comparison
-abbrev pub PrintsSomeComparison : List ℕ → List ℕ → List ℕ → Option (List ℕ) → Option (List ℕ) → Type 0
-PrintsSomeComparison workflow source target old new =
-    (new ≡ old) ⊎ ((compared : Compared) × (text : List ℕ) × AreDumps workflow source target compared × IsComparison compared text × PrintsBeginning old new text)
+-- a refusal says what the files are read as, unless memory ran out, and leaves nothing on standard output; or it is that
+-- this can't be written, and then a write of it failed
+abbrev pub RefusesDumps : List ℕ → List ℕ → List ℕ → Refusal → Written → Written → Type 0
+RefusesDumps workflow source target Memory old new = new ≡ old
+RefusesDumps workflow source target refusal old new = (reading : Result Compared Reason) × AreRead workflow source target reading × Refuses IsComparison refusal reading old new
 
--- a refusal says what the files are read as, unless memory ran out
-abbrev pub RefusesDumps : List ℕ → List ℕ → List ℕ → Refusal → Type 0
-RefusesDumps workflow source target Memory = Unit {0}
-RefusesDumps workflow source target refusal = (reading : Result Compared Reason) × AreRead workflow source target reading × Refuses refusal reading
-
--- the line of such a refusal was printed, or a beginning of it
-abbrev pub PrintsDumpRefusal : List ℕ → List ℕ → List ℕ → Option (List ℕ) → Option (List ℕ) → Type 0
-PrintsDumpRefusal workflow source target old new = (refusal : Refusal) × RefusesDumps workflow source target refusal × PrintsBeginning old new (refusal_line refusal)
+-- such a refusal's line was printed whole on standard error, unless a write of it failed
+abbrev pub PrintsDumpRefusal : List ℕ → List ℕ → List ℕ → Written → Written → Written → Written → Type 0
+PrintsDumpRefusal workflow source target old new err_old err_new =
+    (refusal : Refusal) × RefusesDumps workflow source target refusal old new × PrintsOrBreaks err_old err_new (refusal_line refusal)

@@ -1,7 +1,6 @@
 -- What the command `join` leaves on its writers (this profile).
-use Rattle.std.specs.Prelude.{◌≡◌, ◌⊎◌, ℕ, List, Option, Some, Result, Ok, Err, slice_get}
+use Rattle.std.specs.Prelude.{◌≡◌, ℕ, List, Some, Result, Ok, Err, slice_get}
 use Rattle.std.specs.Arc.{arc_value}
-use Rattle.std.specs.Io.KnownBytes.{Appends}
 use Rattle.filter_rule.specs.PlanValue.{PlanValue}
 use Rattle.source_feed.specs.Planned.{FeedValue}
 use Rattle.board_laws.specs.Meaning.{Meaning}
@@ -13,13 +12,14 @@ use Rattle.join_laws.specs.declared.fault.JoinFault.{JoinFault}
 use Rattle.checkpoint_laws.specs.Written.{checkpoint_of}
 use Rattle.checkpoint_laws.specs.declared.fault.ResumeFault.{ResumeFault}
 use Rattle.apply_core.specs.Resuming.{IsResumed}
+use Rattle.vdiff_core.specs.Printing.{Written, IsWritten}
 use Rattle.vrepl_main.specs.declared.joining.Unjoined.{Unjoined}
 use Rattle.vrepl_main.specs.declared.joining.Unjoined.TheVariants.{Given, One, Other, Boards}
 use Rattle.vrepl_main.specs.Command.{Refuses}
 use Rattle.vrepl_main.specs.JoinedText.{join_line}
 use Rattle.vrepl_main.specs.Opening.{OpenedValue}
-use Rattle.vrepl_main.specs.Printing.{PrintsBeginning}
-use Rattle.vrepl_main.specs.Reasons.{Reason}
+use Rattle.vrepl_main.specs.Printing.{PrintsOrBreaks}
+use Rattle.vrepl_main.specs.Reasons.{Reason, RefusesInputs}
 use Rattle.vrepl_main.specs.Refusals.{refusal_line}
 use Rattle.vrepl_main.specs.ResumedRun.{IsRefusedOver}
 use Rattle.vrepl_main.specs.ResumedText.{resume_line}
@@ -40,18 +40,18 @@ pub record IsJoinOver (given : OpenedValue) (one other : List ℕ) (board : Mean
   pub is_join : board ≡ joined a b
   pub sources : AllShowTheirSources given.feeds board
 
--- there is something to join, and the bytes are the checkpoint of the join
+-- the bytes are the checkpoint of the join
+abbrev pub IsJoinOf : List ℕ → List ℕ → OpenedValue → List ℕ → Type 0
+IsJoinOf one other given bytes = (board : Meaning) × IsJoinOver given one other board × (bytes ≡ checkpoint_of board)
+
+-- there is something to join, and they are
 abbrev pub IsSavedJoin : Result OpenedValue Reason → List ℕ → List ℕ → List ℕ → Type 0
-IsSavedJoin (Ok given) one other bytes = (board : Meaning) × IsJoinOver given one other board × (bytes ≡ checkpoint_of board)
+IsSavedJoin (Ok given) one other bytes = IsJoinOf one other given bytes
 IsSavedJoin (Err reason) one other bytes = ⊥
 
 -- its checkpoint was printed
-abbrev pub PrintsJoin : Result OpenedValue Reason → List ℕ → List ℕ → Option (List ℕ) → Option (List ℕ) → Type 0
-PrintsJoin reading one other old new = (bytes : List ℕ) × IsSavedJoin reading one other bytes × Appends old new bytes
-
--- nothing was printed, or a beginning of its checkpoint; nothing where there is no join
-abbrev pub PrintsSomeJoin : Result OpenedValue Reason → List ℕ → List ℕ → Option (List ℕ) → Option (List ℕ) → Type 0
-PrintsSomeJoin reading one other old new = (new ≡ old) ⊎ ((bytes : List ℕ) × IsSavedJoin reading one other bytes × PrintsBeginning old new bytes)
+abbrev pub PrintsJoin : Result OpenedValue Reason → List ℕ → List ℕ → Written → Written → Type 0
+PrintsJoin reading one other old new = (bytes : List ℕ) × IsSavedJoin reading one other bytes × IsWritten old new bytes
 
 -- ---- refusals
 
@@ -74,13 +74,18 @@ abbrev pub IsOpenedAnd : Result OpenedValue Reason → (OpenedValue → Type 0) 
 IsOpenedAnd (Ok given) P = P given
 IsOpenedAnd (Err reason) P = ⊥
 
--- a refusal says just why the workflow or the feeds are refused, or else why the one checkpoint is, or else the other, or
--- else why their boards aren't joined, unless memory ran out or the checkpoint can't be written on standard output
-abbrev pub RefusesJoin : Unjoined → Result OpenedValue Reason → List ℕ → List ℕ → Type 0
-RefusesJoin (Given refusal) reading one other = Refuses refusal reading
-RefusesJoin (One plan fault) reading one other = IsOpenedAnd reading (λ given. IsRefusedOver given one (arc_value plan) fault)
-RefusesJoin (Other plan fault) reading one other = IsOpenedAnd reading (λ given. IsOtherRefused given one other (arc_value plan) fault)
-RefusesJoin (Boards plan fault) reading one other = IsOpenedAnd reading (λ given. AreNotJoined given one other (arc_value plan) fault)
+-- it says just why the workflow or the feeds are refused, or else why the one checkpoint is, or else the other, or else why
+-- their boards aren't joined, unless memory ran out
+abbrev pub IsUnjoined : Unjoined → Result OpenedValue Reason → List ℕ → List ℕ → Type 0
+IsUnjoined (Given refusal) reading one other = RefusesInputs refusal reading
+IsUnjoined (One plan fault) reading one other = IsOpenedAnd reading (λ given. IsRefusedOver given one (arc_value plan) fault)
+IsUnjoined (Other plan fault) reading one other = IsOpenedAnd reading (λ given. IsOtherRefused given one other (arc_value plan) fault)
+IsUnjoined (Boards plan fault) reading one other = IsOpenedAnd reading (λ given. AreNotJoined given one other (arc_value plan) fault)
+
+-- the same with what it leaves on standard output: nothing, unless it is that this can't be written
+abbrev pub RefusesJoin : Unjoined → Result OpenedValue Reason → List ℕ → List ℕ → Written → Written → Type 0
+RefusesJoin (Given refusal) reading one other old new = Refuses (IsJoinOf one other) refusal reading old new
+RefusesJoin unjoined reading one other old new = IsUnjoined unjoined reading one other × (new ≡ old)
 
 -- the line of a refusal
 abbrev pub line_of : Unjoined → List ℕ
@@ -89,6 +94,7 @@ line_of (One plan fault) = resume_line (arc_value plan).tables fault
 line_of (Other plan fault) = resume_line (arc_value plan).tables fault
 line_of (Boards plan fault) = join_line (arc_value plan).tables fault
 
--- the line of such a refusal was printed, or a beginning of it
-abbrev pub PrintsJoinRefusal : Result OpenedValue Reason → List ℕ → List ℕ → Option (List ℕ) → Option (List ℕ) → Type 0
-PrintsJoinRefusal reading one other old new = (refusal : Unjoined) × RefusesJoin refusal reading one other × PrintsBeginning old new (line_of refusal)
+-- such a refusal's line was printed whole on standard error, unless a write of it failed
+abbrev pub PrintsJoinRefusal : Result OpenedValue Reason → List ℕ → List ℕ → Written → Written → Written → Written → Type 0
+PrintsJoinRefusal reading one other old new err_old err_new =
+    (refusal : Unjoined) × RefusesJoin refusal reading one other old new × PrintsOrBreaks err_old err_new (line_of refusal)

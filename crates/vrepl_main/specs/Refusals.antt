@@ -7,6 +7,7 @@ use Rattle.filter_rule.specs.declared.fault.PlanFault.TheVariants.{NoSuchColumn,
 use Rattle.source_feed.specs.FaultNumber as feed
 use Rattle.source_feed.specs.declared.fault.FeedFault.{FeedFault}
 use Rattle.source_feed.specs.declared.fault.FeedFault.TheVariants.{Event, Diverged}
+use Rattle.vrepl_main.specs.Printing.{named}
 use Rattle.vrepl_main.specs.declared.refusal.Refusal.{Refusal}
 use Rattle.vrepl_main.specs.declared.refusal.Refusal.TheVariants.{Memory, Workflow, FeedCount, Feed, BadHex, BadScript, BadDump, CannotRead, CannotWrite}
 
@@ -41,11 +42,15 @@ feed_details fault = cause_text (feed.cause_of fault) ++ feed_place fault
 abbrev pub column_text : List ℕ → List ℕ → List ℕ
 column_text table column = codes " table " ++ table ++ codes " column " ++ column
 
+-- the rule of a stream that it names
+abbrev pub rule_text : ℕ → ℕ → List ℕ
+rule_text stream rule = named (codes " stream ") stream ++ named (codes " rule ") rule
+
 -- what stands behind the number of a refused workflow: a column, or a rule of a stream, both counted from 0
 abbrev pub workflow_details : PlanFault → List ℕ
 workflow_details (NoSuchColumn table column) = column_text (string_bytes table) (string_bytes column)
 workflow_details (KeyType table column) = column_text (string_bytes table) (string_bytes column)
-workflow_details (BadRule stream rule) = codes " stream " ++ decimal stream ++ codes " rule " ++ decimal rule
+workflow_details (BadRule stream rule) = rule_text stream rule
 workflow_details _ = []
 
 -- what stands behind the number

@@ -1,18 +1,18 @@
 -- What the command `resume` leaves on its writers (this profile).
-use Rattle.std.specs.Prelude.{◌≡◌, ◌⊎◌, ℕ, List, take, Option, Some, Result, Ok, Err, slice_get}
+use Rattle.std.specs.Prelude.{◌≡◌, ℕ, List, take, Some, Result, Ok, Err, slice_get}
 use Rattle.std.specs.Arc.{arc_value}
 use Rattle.std.specs.List.{AllByRecursion}
-use Rattle.std.specs.Io.KnownBytes.{Appends}
 use Rattle.filter_rule.specs.PlanValue.{PlanValue}
 use Rattle.board_laws.specs.Meaning.{Meaning}
 use Rattle.checkpoint_laws.specs.declared.fault.ResumeFault.{ResumeFault}
 use Rattle.apply_core.specs.Resuming.{IsResumed, IsRefusedResume}
+use Rattle.vdiff_core.specs.Printing.{Written, IsWritten}
 use Rattle.vrepl_main.specs.declared.resuming.ResumeRefusal.{ResumeRefusal}
 use Rattle.vrepl_main.specs.declared.resuming.ResumeRefusal.TheVariants.{Given, Checkpoint}
 use Rattle.vrepl_main.specs.declared.script.ScriptStep.{ScriptStep}
 use Rattle.vrepl_main.specs.Command.{Refuses}
 use Rattle.vrepl_main.specs.Opening.{OpenedValue}
-use Rattle.vrepl_main.specs.Printing.{PrintsBeginning}
+use Rattle.vrepl_main.specs.Printing.{PrintsOrBreaks}
 use Rattle.vrepl_main.specs.Reasons.{Reason}
 use Rattle.vrepl_main.specs.Refusals.{refusal_line}
 use Rattle.vrepl_main.specs.ResumedText.{resume_line}
@@ -33,15 +33,13 @@ pub record IsRepliedBehind (given : OpenedValue) (checkpoint : List ℕ) (steps 
   pub is_text : text ≡ replies_text plan replies
 
 -- there is something to resume, and the replies to all steps were printed
-abbrev pub PrintsResumed : Result ScriptGiven Reason → List ℕ → Option (List ℕ) → Option (List ℕ) → Type 0
-PrintsResumed (Ok given) checkpoint old new = (text : List ℕ) × IsRepliedBehind given.opened checkpoint given.steps text × Appends old new text
+abbrev pub PrintsResumed : Result ScriptGiven Reason → List ℕ → Written → Written → Type 0
+PrintsResumed (Ok given) checkpoint old new = (text : List ℕ) × IsRepliedBehind given.opened checkpoint given.steps text × IsWritten old new text
 PrintsResumed (Err reason) checkpoint old new = ⊥
 
--- nothing was printed, or a beginning of the replies to the first steps; nothing where there is nothing to resume
-abbrev pub PrintsSomeResumed : Result ScriptGiven Reason → List ℕ → Option (List ℕ) → Option (List ℕ) → Type 0
-PrintsSomeResumed (Ok given) checkpoint old new =
-    (new ≡ old) ⊎ ((n : ℕ) × (text : List ℕ) × IsRepliedBehind given.opened checkpoint (take n given.steps) text × PrintsBeginning old new text)
-PrintsSomeResumed (Err reason) checkpoint old new = new ≡ old
+-- the text is that of the replies to the first steps
+abbrev pub AreFirstBehind : List ℕ → ScriptGiven → List ℕ → Type 0
+AreFirstBehind checkpoint given text = (n : ℕ) × IsRepliedBehind given.opened checkpoint (take n given.steps) text
 
 -- ---- refusals
 
@@ -54,17 +52,18 @@ abbrev pub RefusesCheckpoint : PlanValue → ResumeFault → Result ScriptGiven 
 RefusesCheckpoint plan fault (Ok given) checkpoint = IsRefusedOver given.opened checkpoint plan fault
 RefusesCheckpoint plan fault (Err reason) checkpoint = ⊥
 
--- a refusal says just why the other inputs are refused, or else why the checkpoint is, unless memory ran out or the replies
--- can't be written on standard output
-abbrev pub RefusesResume : ResumeRefusal → Result ScriptGiven Reason → List ℕ → Type 0
-RefusesResume (Given refusal) reading checkpoint = Refuses refusal reading
-RefusesResume (Checkpoint plan fault) reading checkpoint = RefusesCheckpoint (arc_value plan) fault reading checkpoint
+-- a refusal says just why the other inputs are refused, or else why the checkpoint is, unless memory ran out, and leaves
+-- nothing on standard output; or it is that this can't be written, and then a write of it failed
+abbrev pub RefusesResume : ResumeRefusal → Result ScriptGiven Reason → List ℕ → Written → Written → Type 0
+RefusesResume (Given refusal) reading checkpoint old new = Refuses (AreFirstBehind checkpoint) refusal reading old new
+RefusesResume (Checkpoint plan fault) reading checkpoint old new = RefusesCheckpoint (arc_value plan) fault reading checkpoint × (new ≡ old)
 
 -- the line of a refusal
 abbrev pub line_of : ResumeRefusal → List ℕ
 line_of (Given refusal) = refusal_line refusal
 line_of (Checkpoint plan fault) = resume_line (arc_value plan).tables fault
 
--- the line of such a refusal was printed, or a beginning of it
-abbrev pub PrintsResumeRefusal : Result ScriptGiven Reason → List ℕ → Option (List ℕ) → Option (List ℕ) → Type 0
-PrintsResumeRefusal reading checkpoint old new = (refusal : ResumeRefusal) × RefusesResume refusal reading checkpoint × PrintsBeginning old new (line_of refusal)
+-- such a refusal's line was printed whole on standard error, unless a write of it failed
+abbrev pub PrintsResumeRefusal : Result ScriptGiven Reason → List ℕ → Written → Written → Written → Written → Type 0
+PrintsResumeRefusal reading checkpoint old new err_old err_new =
+    (refusal : ResumeRefusal) × RefusesResume refusal reading checkpoint old new × PrintsOrBreaks err_old err_new (line_of refusal)

@@ -1,9 +1,9 @@
 -- What `run` prints of a workflow with its feeds, and why it refuses (this profile).
-use Rattle.std.specs.Prelude.{◌≡◌, ◌⊎◌, ℕ, List, Option, Some, Result, Ok, Err, slice_get}
+use Rattle.std.specs.Prelude.{◌≡◌, ℕ, List, Some, Result, Ok, Err, slice_get}
 use Rattle.std.specs.Arc.{arc_value}
-use Rattle.std.specs.Io.KnownBytes.{Appends}
 use Rattle.filter_rule.specs.PlanValue.{PlanValue}
 use Rattle.vdiff_core.specs.Dump.{dump_of}
+use Rattle.vdiff_core.specs.Printing.{Written, IsWritten}
 use Rattle.vdiff_core.specs.RowsValue.{RowsValue}
 use Rattle.board_laws.specs.declared.refusal.Refusal.TheVariants as refusals
 use Rattle.board_laws.specs.declared.step_refusal.StepRefusal.{StepRefusal}
@@ -14,8 +14,8 @@ use Rattle.stream_worker.specs.declared.run_refusal.RunRefusal.{RunRefusal}
 use Rattle.stream_worker.specs.declared.run_refusal.RunRefusal.TheVariants.{FeedCount, WrongPlan, Unsound, OwnedByOther, Memory}
 use Rattle.vrepl_main.specs.Command.{Refuses}
 use Rattle.vrepl_main.specs.Opening.{OpenedValue}
-use Rattle.vrepl_main.specs.Printing.{PrintsBeginning}
-use Rattle.vrepl_main.specs.Reasons.{Reason}
+use Rattle.vrepl_main.specs.Printing.{PrintsOrBreaks}
+use Rattle.vrepl_main.specs.Reasons.{Reason, RefusesInputs}
 use Rattle.vrepl_main.specs.RefusedText.{refused_text}
 use Rattle.vrepl_main.specs.Refusals.{refusal_line}
 use Rattle.vrepl_main.specs.declared.running.RunFault.{RunFault}
@@ -39,12 +39,12 @@ IsFilled (Ok given) filled = IsFilledBy given filled
 IsFilled (Err reason) filled = ⊥
 
 -- their dump was printed
-abbrev pub PrintsDump : Result OpenedValue Reason → Option (List ℕ) → Option (List ℕ) → Type 0
-PrintsDump reading old new = (filled : Filled) × IsFilled reading filled × Appends old new (dump_of filled.plan filled.rows)
+abbrev pub PrintsDump : Result OpenedValue Reason → Written → Written → Type 0
+PrintsDump reading old new = (filled : Filled) × IsFilled reading filled × IsWritten old new (dump_of filled.plan filled.rows)
 
--- nothing was printed, or a beginning of their dump; nothing where there is nothing to run
-abbrev pub PrintsSomeDump : Result OpenedValue Reason → Option (List ℕ) → Option (List ℕ) → Type 0
-PrintsSomeDump reading old new = (new ≡ old) ⊎ ((filled : Filled) × IsFilled reading filled × PrintsBeginning old new (dump_of filled.plan filled.rows))
+-- the text is their dump
+abbrev pub IsFilledDump : OpenedValue → List ℕ → Type 0
+IsFilledDump given text = (filled : Filled) × IsFilledBy given filled × (text ≡ dump_of filled.plan filled.rows)
 
 -- ---- refusals
 
@@ -70,12 +70,16 @@ abbrev pub RefusesStream : PlanValue → RunRefusal → Result OpenedValue Reaso
 RefusesStream plan refusal (Ok given) = IsRefusedStream plan refusal given
 RefusesStream plan refusal (Err reason) = ⊥
 
--- a refusal says just why there is nothing to run, or why the run was refused, unless memory ran out or the dump can't
--- be written on standard output
-abbrev pub RefusesRun : RunFault → Result OpenedValue Reason → Type 0
-RefusesRun (Given refusal) reading = Refuses refusal reading
-RefusesRun (Stream plan refusal) reading = RefusesStream (arc_value plan) refusal reading
+-- a fault says just why there is nothing to run, or why the run was refused, unless memory ran out
+abbrev pub IsUnfilled : RunFault → Result OpenedValue Reason → Type 0
+IsUnfilled (Given refusal) reading = RefusesInputs refusal reading
+IsUnfilled (Stream plan refusal) reading = RefusesStream (arc_value plan) refusal reading
 
--- the line of such a refusal was printed, or a beginning of it
-abbrev pub PrintsRunRefusal : Result OpenedValue Reason → Option (List ℕ) → Option (List ℕ) → Type 0
-PrintsRunRefusal reading old new = (fault : RunFault) × RefusesRun fault reading × PrintsBeginning old new (fault_line fault)
+-- the same with what it leaves on standard output: nothing, unless it is that this can't be written
+abbrev pub RefusesRun : RunFault → Result OpenedValue Reason → Written → Written → Type 0
+RefusesRun (Given refusal) reading old new = Refuses IsFilledDump refusal reading old new
+RefusesRun (Stream plan refusal) reading old new = RefusesStream (arc_value plan) refusal reading × (new ≡ old)
+
+-- such a refusal's line was printed whole on standard error, unless a write of it failed
+abbrev pub PrintsRunRefusal : Result OpenedValue Reason → Written → Written → Written → Written → Type 0
+PrintsRunRefusal reading old new err_old err_new = (fault : RunFault) × RefusesRun fault reading old new × PrintsOrBreaks err_old err_new (fault_line fault)

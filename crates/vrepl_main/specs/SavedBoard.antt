@@ -1,12 +1,11 @@
 -- What the command `save` leaves on its writer (this profile).
-use Rattle.std.specs.Prelude.{◌≡◌, ◌⊎◌, ℕ, List, Option, Result, Ok, Err}
-use Rattle.std.specs.Io.KnownBytes.{Appends}
+use Rattle.std.specs.Prelude.{◌≡◌, ℕ, List, Result, Ok, Err}
 use Rattle.std.specs.List.{AllByRecursion}
 use Rattle.board_laws.specs.Meaning.{Meaning}
 use Rattle.board_laws.specs.Sources.{AllShowTheirSources}
 use Rattle.checkpoint_laws.specs.Written.{checkpoint_of}
 use Rattle.apply_core.specs.Fresh.{fresh_board}
-use Rattle.vrepl_main.specs.Printing.{PrintsBeginning}
+use Rattle.vdiff_core.specs.Printing.{Written, IsWritten}
 use Rattle.vrepl_main.specs.Reasons.{Reason}
 use Rattle.vrepl_main.specs.ScriptRun.{ScriptReply, ScriptGiven, IsScriptRun, IsTold}
 
@@ -26,9 +25,5 @@ IsSaved (Ok given) bytes = IsSavedBehind given bytes
 IsSaved (Err reason) bytes = ⊥
 
 -- its checkpoint was printed
-abbrev pub PrintsCheckpoint : Result ScriptGiven Reason → Option (List ℕ) → Option (List ℕ) → Type 0
-PrintsCheckpoint reading old new = (bytes : List ℕ) × IsSaved reading bytes × Appends old new bytes
-
--- nothing was printed, or a beginning of its checkpoint; nothing where there is no such board
-abbrev pub PrintsSomeCheckpoint : Result ScriptGiven Reason → Option (List ℕ) → Option (List ℕ) → Type 0
-PrintsSomeCheckpoint reading old new = (new ≡ old) ⊎ ((bytes : List ℕ) × IsSaved reading bytes × PrintsBeginning old new bytes)
+abbrev pub PrintsCheckpoint : Result ScriptGiven Reason → Written → Written → Type 0
+PrintsCheckpoint reading old new = (bytes : List ℕ) × IsSaved reading bytes × IsWritten old new bytes

@@ -1,11 +1,10 @@
 -- What printing the replies to a script leaves on its writer (this profile).
-use Rattle.std.specs.Prelude.{ℕ, List, take, Option, Result, Ok, Err}
-use Rattle.std.specs.Io.KnownBytes.{Appends}
+use Rattle.std.specs.Prelude.{ℕ, List, take, Result, Ok, Err}
 use Rattle.filter_rule.specs.PlanValue.{PlanValue}
 use Rattle.source_feed.specs.Planned.{FeedValue}
 use Rattle.board_laws.specs.Meaning.{Meaning}
+use Rattle.vdiff_core.specs.Printing.{Written, IsWritten, BreaksOff}
 use Rattle.vrepl_main.specs.declared.script.ScriptStep.{ScriptStep}
-use Rattle.vrepl_main.specs.Printing.{PrintsBeginning}
 use Rattle.vrepl_main.specs.Adding.{Place, IsPut, Adds}
 use Rattle.vrepl_main.specs.ScriptRun.{ScriptReply, IsScriptStep, IsScriptRun, ShowsRows, reply_text, replies_text}
 
@@ -35,8 +34,8 @@ RepliesTo {X} {E} (Ok x) feeds plan old steps before after = (new : Meaning) × 
 RepliesTo {X} {E} (Err fault) feeds plan old steps before after = (n : ℕ) × (new : Meaning) × RepliesOf {X = X} {E = E} (Err fault) feeds plan old (take n steps) new before after
 
 -- the same, printed to its end
-abbrev pub PrintsRun : {X E : Type 0} → Result X E → List FeedValue → PlanValue → Meaning → List ScriptStep → Option (List ℕ) → Option (List ℕ) → Type 0
+abbrev pub PrintsRun : {X E : Type 0} → Result X E → List FeedValue → PlanValue → Meaning → List ScriptStep → Written → Written → Type 0
 PrintsRun (Ok x) feeds plan old steps before after =
-    (new : Meaning) × (replies : List ScriptReply) × IsScriptRun feeds old steps replies new × Appends before after (replies_text plan replies)
+    (new : Meaning) × (replies : List ScriptReply) × IsScriptRun feeds old steps replies new × IsWritten before after (replies_text plan replies)
 PrintsRun (Err fault) feeds plan old steps before after =
-    (n : ℕ) × (new : Meaning) × (replies : List ScriptReply) × IsScriptRun feeds old (take n steps) replies new × PrintsBeginning before after (replies_text plan replies)
+    (n : ℕ) × (new : Meaning) × (replies : List ScriptReply) × IsScriptRun feeds old (take n steps) replies new × BreaksOff before after (replies_text plan replies)

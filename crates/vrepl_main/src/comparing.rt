@@ -3,10 +3,10 @@
 ghost use Rattle.std.specs.Prelude.{◌≡◌, ◌≢◌, ◌⊎◌, IfOk, IfErr};
 ghost use Rattle.std.specs.Option.{option_map};
 ghost use Rattle.vrepl_main.specs.Adding.{Adds, at};
-ghost use Rattle.vrepl_main.specs.Comparison.{count_line, report_text, first_line, first_text, AreReadOnce, IsComparedAs, PrintsComparison, PrintsSomeComparison, PrintsDumpRefusal, RefusesDumps};
+ghost use Rattle.vrepl_main.specs.Comparison.{count_line, report_text, first_line, first_text, AreReadOnce, IsComparedAs, PrintsComparison, PrintsDumpRefusal, RefusesDumps};
 
 use crate::key_text::print_key;
-use crate::output::{put_all, put_str, put_text};
+use crate::output::{put_all, put_between, put_str};
 use crate::refusal::{Refusal, refuse};
 use crate::refused_text::name_of_table;
 use filter_rule::{Plan, Table};
@@ -40,11 +40,10 @@ pub fn vdiff<W: Out, E: Out>(
     err: &mut E,
 ) -> u8
     ensures status { (result ≡ 0) ⊎ (result ≡ 1) ⊎ (result ≡ 3) }
-    ensures same { result ≡ 0 → IsComparedAs Verdict.Same workflow.now source.now target.now (W.written out.old).bytes (W.written out.new).bytes }
-    ensures differ { result ≡ 3 → IsComparedAs Verdict.Differ workflow.now source.now target.now (W.written out.old).bytes (W.written out.new).bytes }
-    ensures begun { PrintsSomeComparison workflow.now source.now target.now (W.written out.old).bytes (W.written out.new).bytes }
+    ensures same { result ≡ 0 → IsComparedAs Verdict.Same workflow.now source.now target.now (W.written out.old) (W.written out.new) }
+    ensures differ { result ≡ 3 → IsComparedAs Verdict.Differ workflow.now source.now target.now (W.written out.old) (W.written out.new) }
     ensures quiet { result ≢ 1 → err.new ≡ err.old }
-    ensures refused { result ≡ 1 → PrintsDumpRefusal workflow.now source.now target.now (E.written err.old).bytes (E.written err.new).bytes }
+    ensures refused { result ≡ 1 → PrintsDumpRefusal workflow.now source.now target.now (W.written out.old) (W.written out.new) (E.written err.old) (E.written err.new) }
     // The files are read as one thing alone.
     ensures determined { AreReadOnce workflow.now source.now target.now }
 {
@@ -64,9 +63,8 @@ fn print_vdiff<W: Out>(
     target: &[u8],
     out: &mut W,
 ) -> Result<Verdict, Refusal<'static>>
-    ensures compared { IfOk result (λ verdict. IsComparedAs verdict workflow.now source.now target.now (W.written out.old).bytes (W.written out.new).bytes) }
-    ensures begun { PrintsSomeComparison workflow.now source.now target.now (W.written out.old).bytes (W.written out.new).bytes }
-    ensures refused { IfErr result (RefusesDumps workflow.now source.now target.now) }
+    ensures compared { IfOk result (λ verdict. IsComparedAs verdict workflow.now source.now target.now (W.written out.old) (W.written out.new)) }
+    ensures refused { IfErr result (λ refusal. RefusesDumps workflow.now source.now target.now refusal (W.written out.old) (W.written out.new)) }
 {
     let plans = Plan::read_all(alloc, workflow)?;
     let plan = &plans[0];
@@ -83,7 +81,7 @@ fn print_comparison<W: Out>(
     source: &Rows,
     target: &Rows,
 ) -> Result<Verdict, OutFailed>
-    ensures { PrintsComparison result (record { plan = plan.now; source = source.now; target = target.now }) (W.written out.old).bytes (W.written out.new).bytes }
+    ensures { PrintsComparison result (record { plan = plan.now; source = source.now; target = target.now }) (W.written out.old) (W.written out.new) }
 {
     let report = compare(source, target);
     let first = first_difference(source, target);
@@ -117,9 +115,7 @@ fn print_count<W: Out>(
 ) -> Result<(), OutFailed>
     ensures { Adds result (at (W.written out.old) text.old) (at (W.written out.new) text.new) (count_line name.now count) }
 {
-    put_str(out, text, name)?;
-    put_text(out, text, count)?;
-    put_all(out, text, b"\n")
+    put_between(out, text, name, count as u64, "\n")
 }
 
 /// Adds the line of the first difference, if there is one.

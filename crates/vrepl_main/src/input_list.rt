@@ -4,12 +4,12 @@
 ghost use Rattle.std.specs.Prelude.{◌≡◌, ◌≢◌, ◌≤◌, ◌⊎◌, ◌∷◌, ◌++◌, [], length, map, IfOk};
 ghost use Rattle.vrepl_main.specs.InputList.{bytes_of, checkpoint_of, join_asked, one_of, opened_by, other_of, resume_asked, script_asked, source_of, target_of, workflow_of};
 ghost use Rattle.vrepl_main.specs.Command.{PrintsRefusal};
-ghost use Rattle.vrepl_main.specs.Comparison.{IsComparedAs, PrintsDumpRefusal, PrintsSomeComparison};
-ghost use Rattle.vrepl_main.specs.Replied.{PrintsReplies, PrintsSomeReplies};
-ghost use Rattle.vrepl_main.specs.Running.{PrintsDump, PrintsSomeDump, PrintsRunRefusal};
-ghost use Rattle.vrepl_main.specs.JoinedRun.{PrintsJoin, PrintsSomeJoin, PrintsJoinRefusal};
-ghost use Rattle.vrepl_main.specs.ResumedRun.{PrintsResumed, PrintsSomeResumed, PrintsResumeRefusal};
-ghost use Rattle.vrepl_main.specs.SavedBoard.{PrintsCheckpoint, PrintsSomeCheckpoint};
+ghost use Rattle.vrepl_main.specs.Comparison.{IsComparedAs, PrintsDumpRefusal};
+ghost use Rattle.vrepl_main.specs.Replied.{AreFirstReplies, PrintsReplies};
+ghost use Rattle.vrepl_main.specs.Running.{PrintsDump, PrintsRunRefusal};
+ghost use Rattle.vrepl_main.specs.JoinedRun.{PrintsJoin, PrintsJoinRefusal};
+ghost use Rattle.vrepl_main.specs.ResumedRun.{PrintsResumed, PrintsResumeRefusal};
+ghost use Rattle.vrepl_main.specs.SavedBoard.{IsSavedBehind, PrintsCheckpoint};
 ghost use Rattle.vrepl_main.specs.declared.input.InputName.TheVariants.{File, Standard};
 ghost use Rattle.vrepl_main.specs.declared.comparing.Verdict.TheVariants.{Same, Differ};
 
@@ -68,10 +68,9 @@ pub fn step_on<W: Out, E: Out>(
 ) -> u8
     requires { 2 ≤ length inputs.now }
     ensures status { (result ≡ 0) ⊎ (result ≡ 1) }
-    ensures printed { result ≡ 0 → PrintsReplies (script_asked hex (bytes_of inputs.now)) (W.written out.old).bytes (W.written out.new).bytes }
-    ensures begun { PrintsSomeReplies (script_asked hex (bytes_of inputs.now)) (W.written out.old).bytes (W.written out.new).bytes }
+    ensures printed { result ≡ 0 → PrintsReplies (script_asked hex (bytes_of inputs.now)) (W.written out.old) (W.written out.new) }
     ensures quiet { result ≡ 0 → err.new ≡ err.old }
-    ensures refused { result ≡ 1 → PrintsRefusal (script_asked hex (bytes_of inputs.now)) (E.written err.old).bytes (E.written err.new).bytes }
+    ensures refused { result ≡ 1 → PrintsRefusal AreFirstReplies (script_asked hex (bytes_of inputs.now)) (W.written out.old) (W.written out.new) (E.written err.old) (E.written err.new) }
 {
     let last = inputs.len() - 1;
     let feeds = &inputs[1..last];
@@ -89,10 +88,9 @@ pub fn save_on<W: Out, E: Out>(
 ) -> u8
     requires { 2 ≤ length inputs.now }
     ensures status { (result ≡ 0) ⊎ (result ≡ 1) }
-    ensures printed { result ≡ 0 → PrintsCheckpoint (script_asked hex (bytes_of inputs.now)) (W.written out.old).bytes (W.written out.new).bytes }
-    ensures begun { PrintsSomeCheckpoint (script_asked hex (bytes_of inputs.now)) (W.written out.old).bytes (W.written out.new).bytes }
+    ensures printed { result ≡ 0 → PrintsCheckpoint (script_asked hex (bytes_of inputs.now)) (W.written out.old) (W.written out.new) }
     ensures quiet { result ≡ 0 → err.new ≡ err.old }
-    ensures refused { result ≡ 1 → PrintsRefusal (script_asked hex (bytes_of inputs.now)) (E.written err.old).bytes (E.written err.new).bytes }
+    ensures refused { result ≡ 1 → PrintsRefusal IsSavedBehind (script_asked hex (bytes_of inputs.now)) (W.written out.old) (W.written out.new) (E.written err.old) (E.written err.new) }
 {
     let last = inputs.len() - 1;
     let between = &inputs[1..last];
@@ -124,10 +122,9 @@ pub fn resume_on<W: Out, E: Out>(
 ) -> u8
     requires { 3 ≤ length inputs.now }
     ensures status { (result ≡ 0) ⊎ (result ≡ 1) }
-    ensures printed { result ≡ 0 → PrintsResumed (resume_asked hex (bytes_of inputs.now)) (checkpoint_of (bytes_of inputs.now)) (W.written out.old).bytes (W.written out.new).bytes }
-    ensures begun { PrintsSomeResumed (resume_asked hex (bytes_of inputs.now)) (checkpoint_of (bytes_of inputs.now)) (W.written out.old).bytes (W.written out.new).bytes }
+    ensures printed { result ≡ 0 → PrintsResumed (resume_asked hex (bytes_of inputs.now)) (checkpoint_of (bytes_of inputs.now)) (W.written out.old) (W.written out.new) }
     ensures quiet { result ≡ 0 → err.new ≡ err.old }
-    ensures refused { result ≡ 1 → PrintsResumeRefusal (resume_asked hex (bytes_of inputs.now)) (checkpoint_of (bytes_of inputs.now)) (E.written err.old).bytes (E.written err.new).bytes }
+    ensures refused { result ≡ 1 → PrintsResumeRefusal (resume_asked hex (bytes_of inputs.now)) (checkpoint_of (bytes_of inputs.now)) (W.written out.old) (W.written out.new) (E.written err.old) (E.written err.new) }
 {
     let last = inputs.len() - 1;
     let feeds = &inputs[2..last];
@@ -171,10 +168,9 @@ pub fn join_on<W: Out, E: Out>(
 ) -> u8
     requires { 3 ≤ length inputs.now }
     ensures status { (result ≡ 0) ⊎ (result ≡ 1) }
-    ensures printed { result ≡ 0 → PrintsJoin (join_asked hex (bytes_of inputs.now)) (one_of (bytes_of inputs.now)) (other_of (bytes_of inputs.now)) (W.written out.old).bytes (W.written out.new).bytes }
-    ensures begun { PrintsSomeJoin (join_asked hex (bytes_of inputs.now)) (one_of (bytes_of inputs.now)) (other_of (bytes_of inputs.now)) (W.written out.old).bytes (W.written out.new).bytes }
+    ensures printed { result ≡ 0 → PrintsJoin (join_asked hex (bytes_of inputs.now)) (one_of (bytes_of inputs.now)) (other_of (bytes_of inputs.now)) (W.written out.old) (W.written out.new) }
     ensures quiet { result ≡ 0 → err.new ≡ err.old }
-    ensures refused { result ≡ 1 → PrintsJoinRefusal (join_asked hex (bytes_of inputs.now)) (one_of (bytes_of inputs.now)) (other_of (bytes_of inputs.now)) (E.written err.old).bytes (E.written err.new).bytes }
+    ensures refused { result ≡ 1 → PrintsJoinRefusal (join_asked hex (bytes_of inputs.now)) (one_of (bytes_of inputs.now)) (other_of (bytes_of inputs.now)) (W.written out.old) (W.written out.new) (E.written err.old) (E.written err.new) }
 {
     let feeds = &inputs[3..];
     join(
@@ -209,10 +205,9 @@ pub fn run_on<R: Threads + Wait + Sync, W: Out, E: Out>(
 ) -> u8
     requires { 1 ≤ length inputs.now }
     ensures status { (result ≡ 0) ⊎ (result ≡ 1) }
-    ensures printed { result ≡ 0 → PrintsDump (opened_by hex (bytes_of inputs.now)) (W.written out.old).bytes (W.written out.new).bytes }
-    ensures begun { PrintsSomeDump (opened_by hex (bytes_of inputs.now)) (W.written out.old).bytes (W.written out.new).bytes }
+    ensures printed { result ≡ 0 → PrintsDump (opened_by hex (bytes_of inputs.now)) (W.written out.old) (W.written out.new) }
     ensures quiet { result ≡ 0 → err.new ≡ err.old }
-    ensures refused { result ≡ 1 → PrintsRunRefusal (opened_by hex (bytes_of inputs.now)) (E.written err.old).bytes (E.written err.new).bytes }
+    ensures refused { result ≡ 1 → PrintsRunRefusal (opened_by hex (bytes_of inputs.now)) (W.written out.old) (W.written out.new) (E.written err.old) (E.written err.new) }
 {
     let feeds = &inputs[1..];
     run(rt, alloc, hex, alone, policy, &inputs[0], feeds, out, err)
@@ -234,11 +229,10 @@ pub fn vdiff_inputs<'w>(files: VdiffFiles<'w>) -> [InputName<'w>; 3]
 pub fn vdiff_on<W: Out, E: Out>(alloc: Global, inputs: &[Vec<u8>], out: &mut W, err: &mut E) -> u8
     requires { length inputs.now ≡ 3 }
     ensures status { (result ≡ 0) ⊎ (result ≡ 1) ⊎ (result ≡ 3) }
-    ensures same { result ≡ 0 → IsComparedAs Same (workflow_of (bytes_of inputs.now)) (source_of (bytes_of inputs.now)) (target_of (bytes_of inputs.now)) (W.written out.old).bytes (W.written out.new).bytes }
-    ensures differ { result ≡ 3 → IsComparedAs Differ (workflow_of (bytes_of inputs.now)) (source_of (bytes_of inputs.now)) (target_of (bytes_of inputs.now)) (W.written out.old).bytes (W.written out.new).bytes }
-    ensures begun { PrintsSomeComparison (workflow_of (bytes_of inputs.now)) (source_of (bytes_of inputs.now)) (target_of (bytes_of inputs.now)) (W.written out.old).bytes (W.written out.new).bytes }
+    ensures same { result ≡ 0 → IsComparedAs Same (workflow_of (bytes_of inputs.now)) (source_of (bytes_of inputs.now)) (target_of (bytes_of inputs.now)) (W.written out.old) (W.written out.new) }
+    ensures differ { result ≡ 3 → IsComparedAs Differ (workflow_of (bytes_of inputs.now)) (source_of (bytes_of inputs.now)) (target_of (bytes_of inputs.now)) (W.written out.old) (W.written out.new) }
     ensures quiet { result ≢ 1 → err.new ≡ err.old }
-    ensures refused { result ≡ 1 → PrintsDumpRefusal (workflow_of (bytes_of inputs.now)) (source_of (bytes_of inputs.now)) (target_of (bytes_of inputs.now)) (E.written err.old).bytes (E.written err.new).bytes }
+    ensures refused { result ≡ 1 → PrintsDumpRefusal (workflow_of (bytes_of inputs.now)) (source_of (bytes_of inputs.now)) (target_of (bytes_of inputs.now)) (W.written out.old) (W.written out.new) (E.written err.old) (E.written err.new) }
 {
     vdiff(alloc, &inputs[0], &inputs[1], &inputs[2], out, err)
 }

@@ -3,9 +3,9 @@
 ghost use Rattle.std.specs.Prelude.{◌≡◌};
 ghost use Rattle.vrepl_main.specs.Adding.{Adds, at};
 ghost use Rattle.vrepl_main.specs.JoinedText.{join_details, join_line};
-ghost use Rattle.vrepl_main.specs.Printing.{PrintsBeginning};
+ghost use Rattle.vrepl_main.specs.Printing.{PrintsOrBreaks};
 
-use crate::output::{put_all, put_text};
+use crate::output::{put_all, put_named};
 use crate::refused_text::print_clash;
 use apply_core::JoinFault;
 use filter_rule::{Plan, Table};
@@ -15,7 +15,7 @@ use vdiff_core::{Gathered, Out, OutFailed};
 /// named by their numbers in the plan.
 pub fn refuse_join<E: Out>(err: &mut E, plan: &Plan, fault: &JoinFault) -> u8
     ensures status { result ≡ 1 }
-    ensures line { PrintsBeginning (E.written err.old).bytes (E.written err.new).bytes (join_line plan.now.tables fault.now) }
+    ensures line { PrintsOrBreaks (E.written err.old) (E.written err.new) (join_line plan.now.tables fault.now) }
 {
     let _printed = print_line(err, plan, fault);
     1
@@ -23,7 +23,7 @@ pub fn refuse_join<E: Out>(err: &mut E, plan: &Plan, fault: &JoinFault) -> u8
 
 /// Prints the line.
 fn print_line<E: Out>(err: &mut E, plan: &Plan, fault: &JoinFault) -> Result<(), OutFailed>
-    ensures { PrintsBeginning (E.written err.old).bytes (E.written err.new).bytes (join_line plan.now.tables fault.now) }
+    ensures { PrintsOrBreaks (E.written err.old) (E.written err.new) (join_line plan.now.tables fault.now) }
 {
     let mut text = Gathered::new();
     print_refused(err, &mut text, plan.tables(), fault)?;
@@ -39,8 +39,7 @@ fn print_refused<E: Out>(
 ) -> Result<(), OutFailed>
     ensures { Adds result (at (E.written err.old) text.old) (at (E.written err.new) text.new) (join_line tables.now fault.now) }
 {
-    put_all(err, text, b"refused ")?;
-    put_text(err, text, fault.number())?;
+    put_named(err, text, "refused ", u64::from(fault.number()))?;
     print_details(err, text, tables, fault)?;
     put_all(err, text, b"\n")
 }
@@ -56,7 +55,7 @@ fn print_details<E: Out>(
 {
     match fault {
         JoinFault::HistoriesDiffer(stream) => {
-            put_text(err, text, format_args!(" stream {stream}"))
+            put_named(err, text, " stream ", u64::from(*stream))
         }
         JoinFault::OwnedByOther { key, owner } => print_clash(err, text, tables, key, *owner),
         JoinFault::WrongPlan | JoinFault::Memory => Ok(()),

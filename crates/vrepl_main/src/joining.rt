@@ -3,9 +3,9 @@
 ghost use Rattle.std.specs.Prelude.{◌≡◌, ◌⊎◌, ◌≤◌, Ok, Some, OnOk, IfErr, IfOk, length, map, slice_get};
 ghost use Rattle.std.specs.Arc.{arc_value};
 ghost use Rattle.vrepl_main.specs.Given.{given_value};
-ghost use Rattle.vrepl_main.specs.JoinedRun.{IsJoinOver, IsSavedJoin, PrintsJoin, PrintsSomeJoin, PrintsJoinRefusal, RefusesJoin, line_of};
+ghost use Rattle.vrepl_main.specs.JoinedRun.{IsJoinOver, IsSavedJoin, IsUnjoined, PrintsJoin, PrintsJoinRefusal, RefusesJoin, line_of};
 ghost use Rattle.vrepl_main.specs.Opening.{opened, opened_bytes};
-ghost use Rattle.vrepl_main.specs.Printing.{PrintsBeginning};
+ghost use Rattle.vrepl_main.specs.Printing.{PrintsOrBreaks};
 
 use crate::given::{GivenFeed, given_feeds};
 use crate::joined_text::refuse_join;
@@ -80,10 +80,9 @@ pub fn join<W: Out, E: Out>(
     err: &mut E,
 ) -> u8
     ensures status { (result ≡ 0) ⊎ (result ≡ 1) }
-    ensures printed { result ≡ 0 → PrintsJoin (opened hex workflow.now (map (λ feed. feed.items) feeds.now)) one.now other.now (W.written out.old).bytes (W.written out.new).bytes }
-    ensures begun { PrintsSomeJoin (opened hex workflow.now (map (λ feed. feed.items) feeds.now)) one.now other.now (W.written out.old).bytes (W.written out.new).bytes }
+    ensures printed { result ≡ 0 → PrintsJoin (opened hex workflow.now (map (λ feed. feed.items) feeds.now)) one.now other.now (W.written out.old) (W.written out.new) }
     ensures quiet { result ≡ 0 → err.new ≡ err.old }
-    ensures refused { result ≡ 1 → PrintsJoinRefusal (opened hex workflow.now (map (λ feed. feed.items) feeds.now)) one.now other.now (E.written err.old).bytes (E.written err.new).bytes }
+    ensures refused { result ≡ 1 → PrintsJoinRefusal (opened hex workflow.now (map (λ feed. feed.items) feeds.now)) one.now other.now (W.written out.old) (W.written out.new) (E.written err.old) (E.written err.new) }
 {
     match print_joined(alloc, hex, workflow, one, other, feeds, out) {
         Ok(()) => 0,
@@ -94,7 +93,7 @@ pub fn join<W: Out, E: Out>(
 /// Prints the line of a refusal, whole unless `err` fails, and answers the status 1.
 fn refuse_unjoined<E: Out>(err: &mut E, unjoined: &Unjoined) -> u8
     ensures status { result ≡ 1 }
-    ensures line { PrintsBeginning (E.written err.old).bytes (E.written err.new).bytes (line_of unjoined.now) }
+    ensures line { PrintsOrBreaks (E.written err.old) (E.written err.new) (line_of unjoined.now) }
 {
     match unjoined {
         Unjoined::Given(refusal) => refuse(err, refusal),
@@ -114,9 +113,8 @@ fn print_joined<W: Out>(
     feeds: &[Vec<u8>],
     out: &mut W,
 ) -> Result<(), Unjoined>
-    ensures printed { OnOk result (PrintsJoin (opened hex workflow.now (map (λ feed. feed.items) feeds.now)) one.now other.now (W.written out.old).bytes (W.written out.new).bytes) }
-    ensures begun { PrintsSomeJoin (opened hex workflow.now (map (λ feed. feed.items) feeds.now)) one.now other.now (W.written out.old).bytes (W.written out.new).bytes }
-    ensures refused { IfErr result (λ refusal. RefusesJoin refusal (opened hex workflow.now (map (λ feed. feed.items) feeds.now)) one.now other.now) }
+    ensures printed { OnOk result (PrintsJoin (opened hex workflow.now (map (λ feed. feed.items) feeds.now)) one.now other.now (W.written out.old) (W.written out.new)) }
+    ensures refused { IfErr result (λ refusal. RefusesJoin refusal (opened hex workflow.now (map (λ feed. feed.items) feeds.now)) one.now other.now (W.written out.old) (W.written out.new)) }
 {
     let Ok(given) = given_feeds(alloc, hex, feeds) else {
         return Err(Unjoined::Given(Refusal::Memory));
@@ -137,7 +135,7 @@ fn joined_bytes(
     given: &[GivenFeed<'_>],
 ) -> Result<Vec<u8>, Unjoined>
     ensures saved { IfOk result (λ bytes. IsSavedJoin (opened_bytes workflow.now (map given_value given.now)) one.now other.now bytes.items) }
-    ensures refused { IfErr result (λ refusal. RefusesJoin refusal (opened_bytes workflow.now (map given_value given.now)) one.now other.now) }
+    ensures refused { IfErr result (λ refusal. IsUnjoined refusal (opened_bytes workflow.now (map given_value given.now)) one.now other.now) }
 {
     let opened = open_workflow(alloc, workflow, given)?;
     let Opened { plans, feeds } = opened;
@@ -164,7 +162,7 @@ fn join_over<'h>(
     requires few { length plans.now ≤ 64 }
     requires first { slice_get (map arc_value plans.now) 0 ≡ Some (arc_value plan) }
     ensures joined { IfOk result (IsJoinOver (record { plans = map arc_value plans.now; feeds = feeds.now }) one.now other.now) }
-    ensures refused { IfErr result (λ refusal. RefusesJoin refusal (Ok (record { plans = map arc_value plans.now; feeds = feeds.now })) one.now other.now) }
+    ensures refused { IfErr result (λ refusal. IsUnjoined refusal (Ok (record { plans = map arc_value plans.now; feeds = feeds.now })) one.now other.now) }
 {
     let a = match resumed_board(alloc, plans, feeds, one) {
         Ok(board) => board,

@@ -37,7 +37,6 @@ pub use input_list::{
 };
 pub use joining::join;
 pub use opened::open_workflow;
-pub use output::put_text;
 pub use refusal::{Refusal, refuse};
 pub use resuming::resume;
 pub use running::run;

@@ -1,17 +1,13 @@
-//! Text behind text that waits for a writer: the whole of it, or after a fault a beginning.
+//! Text behind text that waits for a writer: the whole of it, or after a write that failed a beginning. No call takes
+//! memory.
 
-ghost use Rattle.std.specs.Prelude.{◌≡◌, decimal, IfSome};
+ghost use Rattle.std.specs.Prelude.{◌++◌, decimal};
 ghost use Rattle.row_view.specs.ColumnValue.{column_value};
 ghost use Rattle.vdiff_core.specs.Cells.{cell, cells};
 ghost use Rattle.vrepl_main.specs.Adding.{Adds, at};
 
 use row_view::{Column, Columns};
-use std::fmt;
-use std::fmt::{InlineText, Write as _};
 use vdiff_core::{Gathered, Out, OutFailed, add_cell, add_cells};
-
-/// The most bytes of a text that `put_text` prints.
-const SHORT: usize = 128;
 
 /// Adds all the bytes.
 pub fn put_all<W: Out>(out: &mut W, text: &mut Gathered, bytes: &[u8]) -> Result<(), OutFailed>
@@ -57,18 +53,29 @@ pub fn print_cell<W: Out>(
     add_cell(out, text, column)
 }
 
-/// Adds a value whose text has at most 128 bytes. Takes no memory. Fails where `out` does, and, with
-/// nothing written, where the text is longer.
-pub fn put_text<W: Out, D: fmt::Display + Drop>(
+/// Adds a number behind a word.
+pub fn put_named<W: Out>(
     out: &mut W,
     text: &mut Gathered,
-    value: D,
+    word: &str,
+    number: u64,
 ) -> Result<(), OutFailed>
-    ensures { IfSome (D.output value) (Adds result (at (W.written out.old) text.old) (at (W.written out.new) text.new)) }
+    ensures { Adds result (at (W.written out.old) text.old) (at (W.written out.new) text.new) (word.now ++ decimal number) }
 {
-    let mut piece = InlineText::<SHORT>::new();
-    match piece.write(value) {
-        Ok(()) => put_str(out, text, piece.as_str()),
-        Err(_) => Err(OutFailed),
-    }
+    put_str(out, text, word)?;
+    put_number(out, text, number)
+}
+
+/// Adds a number between two words.
+pub fn put_between<W: Out>(
+    out: &mut W,
+    text: &mut Gathered,
+    before: &str,
+    number: u64,
+    behind: &str,
+) -> Result<(), OutFailed>
+    ensures { Adds result (at (W.written out.old) text.old) (at (W.written out.new) text.new) (before.now ++ decimal number ++ behind.now) }
+{
+    put_named(out, text, before, number)?;
+    put_str(out, text, behind)
 }

@@ -1,12 +1,12 @@
 //! What the program refuses, and the line that says so.
 
 ghost use Rattle.std.specs.Prelude.{◌≡◌, ◌++◌, codes};
-ghost use Rattle.vrepl_main.specs.Refusals.{cause_text, column_text, details_of, feed_details, feed_place, number_of, refusal_line, workflow_details};
+ghost use Rattle.vrepl_main.specs.Refusals.{cause_text, column_text, details_of, feed_details, feed_place, number_of, refusal_line, rule_text, workflow_details};
 ghost use Rattle.vrepl_main.specs.Adding.{Adds, at};
-ghost use Rattle.vrepl_main.specs.Printing.{PrintsBeginning};
+ghost use Rattle.vrepl_main.specs.Printing.{PrintsOrBreaks};
 
 use crate::hex_text::HexFault;
-use crate::output::{put_all, put_str, put_text};
+use crate::output::{put_all, put_named, put_str};
 use filter_rule::PlanFault;
 use source_feed::FeedFault;
 use std::alloc::AllocError;
@@ -144,7 +144,7 @@ pub(crate) fn print_cause<E: Out>(
 {
     match cause {
         None => Ok(()),
-        Some(cause) => put_text(err, text, format_args!(" cause {cause}")),
+        Some(cause) => put_named(err, text, " cause ", u64::from(cause)),
     }
 }
 
@@ -157,10 +157,8 @@ fn print_feed_place<E: Out>(
     ensures { Adds result (at (E.written err.old) text.old) (at (E.written err.new) text.new) (feed_place fault.now) }
 {
     match fault {
-        FeedFault::Event(EventFault::BadType(kind)) => {
-            put_text(err, text, format_args!(" type {kind}"))
-        }
-        FeedFault::Diverged(group) => put_text(err, text, format_args!(" group {group}")),
+        FeedFault::Event(EventFault::BadType(kind)) => put_named(err, text, " type ", *kind),
+        FeedFault::Diverged(group) => put_named(err, text, " group ", u64::from(*group)),
         _ => Ok(()),
     }
 }
@@ -192,6 +190,19 @@ fn print_column<E: Out>(
     put_str(err, text, column)
 }
 
+/// Prints which rule of which stream is at fault.
+fn print_rule<E: Out>(
+    err: &mut E,
+    text: &mut Gathered,
+    stream: usize,
+    rule: usize,
+) -> Result<(), OutFailed>
+    ensures { Adds result (at (E.written err.old) text.old) (at (E.written err.new) text.new) (rule_text stream rule) }
+{
+    put_named(err, text, " stream ", stream as u64)?;
+    put_named(err, text, " rule ", rule as u64)
+}
+
 /// Prints what stands behind the number of a refused workflow.
 fn print_workflow_details<E: Out>(
     err: &mut E,
@@ -204,9 +215,7 @@ fn print_workflow_details<E: Out>(
         PlanFault::NoSuchColumn { table, column } | PlanFault::KeyType { table, column } => {
             print_column(err, text, table.as_str(), column.as_str())
         }
-        PlanFault::BadRule { stream, rule } => {
-            put_text(err, text, format_args!(" stream {stream} rule {rule}"))
-        }
+        PlanFault::BadRule { stream, rule } => print_rule(err, text, *stream, *rule),
         _ => Ok(()),
     }
 }
@@ -232,7 +241,7 @@ fn print_details<E: Out>(
         Refusal::Workflow(fault) => print_workflow_details(err, text, fault),
         Refusal::Feed(fault) => print_feed_details(err, text, fault),
         Refusal::BadScript { line } | Refusal::BadDump { line } => {
-            put_text(err, text, format_args!(" line {line}"))
+            put_named(err, text, " line ", *line as u64)
         }
         Refusal::Memory | Refusal::FeedCount | Refusal::BadHex => Ok(()),
     }
@@ -246,8 +255,7 @@ fn print_refusal<E: Out>(
 ) -> Result<(), OutFailed>
     ensures { Adds result (at (E.written err.old) text.old) (at (E.written err.new) text.new) (refusal_line refusal.now) }
 {
-    put_all(err, text, b"refused ")?;
-    put_text(err, text, refusal.number())?;
+    put_named(err, text, "refused ", u64::from(refusal.number()))?;
     print_details(err, text, refusal)?;
     put_all(err, text, b"\n")
 }
@@ -255,7 +263,7 @@ fn print_refusal<E: Out>(
 /// Prints the line of a refusal in one piece, whole unless `err` fails, and answers the status 1.
 pub fn refuse<E: Out>(err: &mut E, refusal: &Refusal<'_>) -> u8
     ensures status { result ≡ 1 }
-    ensures line { PrintsBeginning (E.written err.old).bytes (E.written err.new).bytes (refusal_line refusal.now) }
+    ensures line { PrintsOrBreaks (E.written err.old) (E.written err.new) (refusal_line refusal.now) }
 {
     let _printed = print_line(err, refusal);
     1
@@ -263,7 +271,7 @@ pub fn refuse<E: Out>(err: &mut E, refusal: &Refusal<'_>) -> u8
 
 /// Prints the line of a refusal.
 fn print_line<E: Out>(err: &mut E, refusal: &Refusal<'_>) -> Result<(), OutFailed>
-    ensures { PrintsBeginning (E.written err.old).bytes (E.written err.new).bytes (refusal_line refusal.now) }
+    ensures { PrintsOrBreaks (E.written err.old) (E.written err.new) (refusal_line refusal.now) }
 {
     let mut text = Gathered::new();
     print_refusal(err, &mut text, refusal)?;

@@ -5,7 +5,7 @@ ghost use Rattle.vrepl_main.specs.RefusedText.{bad_row_text, clash_text, name_of
 ghost use Rattle.vrepl_main.specs.Adding.{Adds, at};
 
 use crate::key_text::print_key;
-use crate::output::{put_all, put_str, put_text};
+use crate::output::{put_all, put_between, put_named, put_str};
 use crate::refusal::{print_cause, print_feed_details};
 use board_laws::{Refusal, StepRefusal};
 use filter_rule::Table;
@@ -24,8 +24,7 @@ pub fn print_refused<W: Out>(
 ) -> Result<(), OutFailed>
     ensures { Adds result (at (W.written out.old) text.old) (at (W.written out.new) text.new) (refused_text tables.now refusal.now) }
 {
-    put_all(out, text, b"refused ")?;
-    put_text(out, text, refusal.number())?;
+    put_named(out, text, "refused ", u64::from(refusal.number()))?;
     print_step_details(out, text, tables, refusal)?;
     put_all(out, text, b"\n")
 }
@@ -45,7 +44,7 @@ fn print_step_details<W: Out>(
             print_clash(out, text, tables, key, *owner)
         }
         StepRefusal::Refused(Refusal::Core(CoreRefusal::Gap { expected })) => {
-            put_text(out, text, format_args!(" expected {expected}"))
+            put_named(out, text, " expected ", u64::from(*expected))
         }
         StepRefusal::Refused(_) => Ok(()),
     }
@@ -66,7 +65,7 @@ pub(crate) fn print_unprepared<W: Out>(
             table,
             cause,
         } => print_bad_row(out, text, tables, *group, *table, *cause),
-        FeedFault::NoGroup { groups } => put_text(out, text, format_args!(" groups {groups}")),
+        FeedFault::NoGroup { groups } => put_named(out, text, " groups ", u64::from(*groups)),
         _ => print_feed_details(out, text, fault),
     }
 }
@@ -82,7 +81,7 @@ fn print_bad_row<W: Out>(
 ) -> Result<(), OutFailed>
     ensures { Adds result (at (W.written out.old) text.old) (at (W.written out.new) text.new) (bad_row_text tables.now group table cause) }
 {
-    put_text(out, text, format_args!(" group {group} table "))?;
+    put_between(out, text, " group ", u64::from(group), " table ")?;
     put_str(out, text, name_of_table(tables, table))?;
     print_cause(out, text, Some(cause))
 }
@@ -108,7 +107,7 @@ pub(crate) fn print_clash<W: Out>(
 fn print_owner<W: Out>(out: &mut W, text: &mut Gathered, owner: u8) -> Result<(), OutFailed>
     ensures { Adds result (at (W.written out.old) text.old) (at (W.written out.new) text.new) (owner_text owner) }
 {
-    put_text(out, text, format_args!(" owner {owner}"))
+    put_named(out, text, " owner ", u64::from(owner))
 }
 
 /// The name of a table by its number.

@@ -2,11 +2,11 @@
 
 ghost use Rattle.std.specs.Prelude.{◌≡◌};
 ghost use Rattle.vrepl_main.specs.Adding.{Adds, at};
-ghost use Rattle.vrepl_main.specs.Printing.{PrintsBeginning};
+ghost use Rattle.vrepl_main.specs.Printing.{PrintsOrBreaks};
 ghost use Rattle.vrepl_main.specs.ResumedText.{differs_text, resume_details, resume_line};
 
 use crate::key_text::print_key;
-use crate::output::{put_all, put_str, put_text};
+use crate::output::{put_all, put_between, put_named, put_str};
 use crate::refused_text::{name_of_table, print_clash, print_unprepared};
 use apply_core::ResumeFault;
 use filter_rule::{Plan, Table};
@@ -17,7 +17,7 @@ use vdiff_core::{Gathered, Out, OutFailed};
 /// Tables are named by their numbers in the plan.
 pub fn refuse_resume<E: Out>(err: &mut E, plan: &Plan, fault: &ResumeFault) -> u8
     ensures status { result ≡ 1 }
-    ensures line { PrintsBeginning (E.written err.old).bytes (E.written err.new).bytes (resume_line plan.now.tables fault.now) }
+    ensures line { PrintsOrBreaks (E.written err.old) (E.written err.new) (resume_line plan.now.tables fault.now) }
 {
     let _printed = print_line(err, plan, fault);
     1
@@ -25,7 +25,7 @@ pub fn refuse_resume<E: Out>(err: &mut E, plan: &Plan, fault: &ResumeFault) -> u
 
 /// Prints the line.
 fn print_line<E: Out>(err: &mut E, plan: &Plan, fault: &ResumeFault) -> Result<(), OutFailed>
-    ensures { PrintsBeginning (E.written err.old).bytes (E.written err.new).bytes (resume_line plan.now.tables fault.now) }
+    ensures { PrintsOrBreaks (E.written err.old) (E.written err.new) (resume_line plan.now.tables fault.now) }
 {
     let mut text = Gathered::new();
     print_refused(err, &mut text, plan.tables(), fault)?;
@@ -41,8 +41,7 @@ fn print_refused<E: Out>(
 ) -> Result<(), OutFailed>
     ensures { Adds result (at (E.written err.old) text.old) (at (E.written err.new) text.new) (resume_line tables.now fault.now) }
 {
-    put_all(err, text, b"refused ")?;
-    put_text(err, text, fault.number())?;
+    put_named(err, text, "refused ", u64::from(fault.number()))?;
     print_details(err, text, tables, fault)?;
     put_all(err, text, b"\n")
 }
@@ -58,7 +57,7 @@ fn print_details<E: Out>(
 {
     match fault {
         ResumeFault::PositionUnknown(stream) => {
-            put_text(err, text, format_args!(" stream {stream}"))
+            put_named(err, text, " stream ", u64::from(*stream))
         }
         ResumeFault::Unsound(fault) => print_unprepared(err, text, tables, fault),
         ResumeFault::CheckpointDiffers { stream, key } => print_differs(
@@ -82,7 +81,7 @@ fn print_differs<E: Out>(
 ) -> Result<(), OutFailed>
     ensures { Adds result (at (E.written err.old) text.old) (at (E.written err.new) text.new) (differs_text tables.now stream key.now) }
 {
-    put_text(err, text, format_args!(" stream {stream} table "))?;
+    put_between(err, text, " stream ", u64::from(stream), " table ")?;
     put_str(err, text, name_of_table(tables, key.table()))?;
     put_all(err, text, b" key ")?;
     print_key(err, text, key)

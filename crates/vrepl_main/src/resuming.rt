@@ -4,7 +4,7 @@ ghost use Rattle.std.specs.Prelude.{◌≡◌, ◌⊎◌, ◌≤◌, Some, OnOk,
 ghost use Rattle.std.specs.Arc.{arc_value};
 ghost use Rattle.vrepl_main.specs.Given.{given_value};
 ghost use Rattle.vrepl_main.specs.Replied.{all_given};
-ghost use Rattle.vrepl_main.specs.ResumedRun.{PrintsResumed, PrintsSomeResumed, PrintsResumeRefusal, RefusesResume};
+ghost use Rattle.vrepl_main.specs.ResumedRun.{PrintsResumed, PrintsResumeRefusal, RefusesResume};
 ghost use Rattle.vrepl_main.specs.ScriptRun.{script_given, given_bytes};
 
 use crate::given::{GivenFeed, given_feeds};
@@ -61,10 +61,9 @@ pub fn resume<W: Out, E: Out>(
     err: &mut E,
 ) -> u8
     ensures status { (result ≡ 0) ⊎ (result ≡ 1) }
-    ensures printed { result ≡ 0 → PrintsResumed (script_given hex workflow.now (map (λ feed. feed.items) feeds.now) script.now) checkpoint.now (W.written out.old).bytes (W.written out.new).bytes }
-    ensures begun { PrintsSomeResumed (script_given hex workflow.now (map (λ feed. feed.items) feeds.now) script.now) checkpoint.now (W.written out.old).bytes (W.written out.new).bytes }
+    ensures printed { result ≡ 0 → PrintsResumed (script_given hex workflow.now (map (λ feed. feed.items) feeds.now) script.now) checkpoint.now (W.written out.old) (W.written out.new) }
     ensures quiet { result ≡ 0 → err.new ≡ err.old }
-    ensures refused { result ≡ 1 → PrintsResumeRefusal (script_given hex workflow.now (map (λ feed. feed.items) feeds.now) script.now) checkpoint.now (E.written err.old).bytes (E.written err.new).bytes }
+    ensures refused { result ≡ 1 → PrintsResumeRefusal (script_given hex workflow.now (map (λ feed. feed.items) feeds.now) script.now) checkpoint.now (W.written out.old) (W.written out.new) (E.written err.old) (E.written err.new) }
 {
     match print_replies(alloc, hex, checkpoint, workflow, feeds, script, out) {
         Ok(()) => 0,
@@ -83,9 +82,8 @@ fn print_replies<W: Out>(
     script: &[u8],
     out: &mut W,
 ) -> Result<(), ResumeRefusal>
-    ensures printed { OnOk result (PrintsResumed (script_given hex workflow.now (map (λ feed. feed.items) feeds.now) script.now) checkpoint.now (W.written out.old).bytes (W.written out.new).bytes) }
-    ensures begun { PrintsSomeResumed (script_given hex workflow.now (map (λ feed. feed.items) feeds.now) script.now) checkpoint.now (W.written out.old).bytes (W.written out.new).bytes }
-    ensures refused { IfErr result (λ refusal. RefusesResume refusal (script_given hex workflow.now (map (λ feed. feed.items) feeds.now) script.now) checkpoint.now) }
+    ensures printed { OnOk result (PrintsResumed (script_given hex workflow.now (map (λ feed. feed.items) feeds.now) script.now) checkpoint.now (W.written out.old) (W.written out.new)) }
+    ensures refused { IfErr result (λ refusal. RefusesResume refusal (script_given hex workflow.now (map (λ feed. feed.items) feeds.now) script.now) checkpoint.now (W.written out.old) (W.written out.new)) }
 {
     match given_feeds(alloc, hex, feeds) {
         Err(_) => Err(ResumeRefusal::Given(Refusal::Memory)),
@@ -102,9 +100,8 @@ fn print_script<W: Out>(
     script: &[u8],
     out: &mut W,
 ) -> Result<(), ResumeRefusal>
-    ensures printed { OnOk result (PrintsResumed (given_bytes workflow.now (map given_value given.now) script.now) checkpoint.now (W.written out.old).bytes (W.written out.new).bytes) }
-    ensures begun { PrintsSomeResumed (given_bytes workflow.now (map given_value given.now) script.now) checkpoint.now (W.written out.old).bytes (W.written out.new).bytes }
-    ensures refused { IfErr result (λ refusal. RefusesResume refusal (given_bytes workflow.now (map given_value given.now) script.now) checkpoint.now) }
+    ensures printed { OnOk result (PrintsResumed (given_bytes workflow.now (map given_value given.now) script.now) checkpoint.now (W.written out.old) (W.written out.new)) }
+    ensures refused { IfErr result (λ refusal. RefusesResume refusal (given_bytes workflow.now (map given_value given.now) script.now) checkpoint.now (W.written out.old) (W.written out.new)) }
 {
     let opened = open_workflow(alloc, workflow, given)?;
     let steps = steps_of(alloc, script)?;
@@ -128,9 +125,8 @@ fn print_resumed<'h, W: Out>(
     requires some { 1 ≤ length plans.now }
     requires few { length plans.now ≤ 64 }
     requires first { slice_get (map arc_value plans.now) 0 ≡ Some (arc_value plan) }
-    ensures printed { OnOk result (PrintsResumed (all_given (map arc_value plans.now) feeds.now steps.now) checkpoint.now (W.written out.old).bytes (W.written out.new).bytes) }
-    ensures begun { PrintsSomeResumed (all_given (map arc_value plans.now) feeds.now steps.now) checkpoint.now (W.written out.old).bytes (W.written out.new).bytes }
-    ensures refused { IfErr result (λ refusal. RefusesResume refusal (all_given (map arc_value plans.now) feeds.now steps.now) checkpoint.now) }
+    ensures printed { OnOk result (PrintsResumed (all_given (map arc_value plans.now) feeds.now steps.now) checkpoint.now (W.written out.old) (W.written out.new)) }
+    ensures refused { IfErr result (λ refusal. RefusesResume refusal (all_given (map arc_value plans.now) feeds.now steps.now) checkpoint.now (W.written out.old) (W.written out.new)) }
 {
     let mut board = match resumed_board(alloc, plans, feeds, checkpoint) {
         Ok(board) => board,

@@ -3,6 +3,7 @@
 ghost use Rattle.std.specs.Prelude.{◌≡◌, ◌⊎◌, ◌≤◌, OnOk, IfOk, IfErr, length, map};
 ghost use Rattle.std.specs.Arc.{arc_value};
 ghost use Rattle.vdiff_core.specs.Dump.{dump_of};
+ghost use Rattle.vdiff_core.specs.Printing.{Prints};
 ghost use Rattle.apply_core.specs.Shown.{all_rows};
 ghost use Rattle.stream_worker.specs.Ended.{IsRowsUnion};
 ghost use Rattle.stream_worker.specs.RunRefused.{IsRefusedRun};
@@ -12,9 +13,9 @@ ghost use Rattle.filter_rule.specs.WellFormed.{ArePlans};
 ghost use Rattle.vrepl_main.specs.OpenedFeeds.{opened_value};
 ghost use Rattle.vrepl_main.specs.Opening.{opened, opened_bytes};
 ghost use Rattle.vrepl_main.specs.Reasons.{GivesOfInputs};
-ghost use Rattle.vrepl_main.specs.Printing.{Prints, PrintsBeginning};
+ghost use Rattle.vrepl_main.specs.Printing.{PrintsOrBreaks};
 ghost use Rattle.vrepl_main.specs.RefusedText.{refused_text};
-ghost use Rattle.vrepl_main.specs.Running.{IsFilled, PrintsDump, PrintsSomeDump, RefusesRun, PrintsRunRefusal, as_step};
+ghost use Rattle.vrepl_main.specs.Running.{IsFilled, IsUnfilled, PrintsDump, RefusesRun, PrintsRunRefusal, as_step};
 
 use crate::at_once::open_at_once;
 use crate::given::{GivenFeed, given_feeds};
@@ -69,10 +70,9 @@ pub fn run<R: Threads + Wait + Sync, W: Out, E: Out>(
     err: &mut E,
 ) -> u8
     ensures status { (result ≡ 0) ⊎ (result ≡ 1) }
-    ensures printed { result ≡ 0 → PrintsDump (opened hex workflow.now (map (λ feed. feed.items) feeds.now)) (W.written out.old).bytes (W.written out.new).bytes }
-    ensures begun { PrintsSomeDump (opened hex workflow.now (map (λ feed. feed.items) feeds.now)) (W.written out.old).bytes (W.written out.new).bytes }
+    ensures printed { result ≡ 0 → PrintsDump (opened hex workflow.now (map (λ feed. feed.items) feeds.now)) (W.written out.old) (W.written out.new) }
     ensures quiet { result ≡ 0 → err.new ≡ err.old }
-    ensures refused { result ≡ 1 → PrintsRunRefusal (opened hex workflow.now (map (λ feed. feed.items) feeds.now)) (E.written err.old).bytes (E.written err.new).bytes }
+    ensures refused { result ≡ 1 → PrintsRunRefusal (opened hex workflow.now (map (λ feed. feed.items) feeds.now)) (W.written out.old) (W.written out.new) (E.written err.old) (E.written err.new) }
 {
     match print_run(rt, alloc, hex, alone, policy, workflow, feeds, out) {
         Ok(()) => 0,
@@ -101,7 +101,7 @@ fn as_step(refusal: RunRefusal) -> StepRefusal
 /// Prints the line of a run's refusal in one piece, whole unless `err` fails, and answers the status 1.
 fn refuse_run<E: Out>(err: &mut E, plan: &Plan, refusal: RunRefusal) -> u8
     ensures status { result ≡ 1 }
-    ensures line { PrintsBeginning (E.written err.old).bytes (E.written err.new).bytes (refused_text plan.now.tables (as_step refusal)) }
+    ensures line { PrintsOrBreaks (E.written err.old) (E.written err.new) (refused_text plan.now.tables (as_step refusal)) }
 {
     let refusal = as_step(refusal);
     let _printed = print_line(err, plan, &refusal);
@@ -110,7 +110,7 @@ fn refuse_run<E: Out>(err: &mut E, plan: &Plan, refusal: RunRefusal) -> u8
 
 /// Prints the line of a refusal.
 fn print_line<E: Out>(err: &mut E, plan: &Plan, refusal: &StepRefusal) -> Result<(), OutFailed>
-    ensures { PrintsBeginning (E.written err.old).bytes (E.written err.new).bytes (refused_text plan.now.tables refusal.now) }
+    ensures { PrintsOrBreaks (E.written err.old) (E.written err.new) (refused_text plan.now.tables refusal.now) }
 {
     let mut text = Gathered::new();
     print_refused(err, &mut text, plan.tables(), refusal)?;
@@ -128,9 +128,8 @@ fn print_run<R: Threads + Wait + Sync, W: Out>(
     feeds: &[Vec<u8>],
     out: &mut W,
 ) -> Result<(), RunFault>
-    ensures printed { OnOk result (PrintsDump (opened hex workflow.now (map (λ feed. feed.items) feeds.now)) (W.written out.old).bytes (W.written out.new).bytes) }
-    ensures begun { PrintsSomeDump (opened hex workflow.now (map (λ feed. feed.items) feeds.now)) (W.written out.old).bytes (W.written out.new).bytes }
-    ensures refused { IfErr result (λ fault. RefusesRun fault (opened hex workflow.now (map (λ feed. feed.items) feeds.now))) }
+    ensures printed { OnOk result (PrintsDump (opened hex workflow.now (map (λ feed. feed.items) feeds.now)) (W.written out.old) (W.written out.new)) }
+    ensures refused { IfErr result (λ fault. RefusesRun fault (opened hex workflow.now (map (λ feed. feed.items) feeds.now)) (W.written out.old) (W.written out.new)) }
 {
     let Ok(given) = given_feeds(alloc, hex, feeds) else {
         return Err(RunFault::Given(Refusal::Memory));
@@ -144,7 +143,7 @@ fn print_run<R: Threads + Wait + Sync, W: Out>(
 
 /// Prints the dump of rows.
 fn print_rows<W: Out>(out: &mut W, plan: &Plan, rows: &Rows) -> Result<(), Refusal<'static>>
-    ensures printed { Prints result (W.written out.old).bytes (W.written out.new).bytes (dump_of plan.now rows.now) }
+    ensures printed { Prints result (W.written out.old) (W.written out.new) (dump_of plan.now rows.now) }
     ensures refused { IfErr result IsUnwritten }
 {
     write_dump(out, plan, rows)?;
@@ -161,7 +160,7 @@ fn filled_rows<R: Threads + Wait + Sync>(
     given: &[GivenFeed<'_>],
 ) -> Result<(Arc<Plan>, Rows), RunFault>
     ensures filled { IfOk result (λ filled. IsFilled (opened_bytes workflow.now (map given_value given.now)) (record { plan = arc_value filled.0; rows = filled.1 })) }
-    ensures refused { IfErr result (λ fault. RefusesRun fault (opened_bytes workflow.now (map given_value given.now))) }
+    ensures refused { IfErr result (λ fault. IsUnfilled fault (opened_bytes workflow.now (map given_value given.now))) }
 {
     let opened = match open_streams(rt, alloc, alone, workflow, given) {
         Ok(opened) => opened,

@@ -6,9 +6,10 @@ ghost use Rattle.std.specs.List.{AllByRecursion};
 ghost use Rattle.apply_core.specs.Fresh.{fresh_board};
 ghost use Rattle.vrepl_main.specs.ScriptRun.{ScriptReply, answers, IsScriptStep, IsScriptRun, IsFed, IsTold, script_given, given_bytes};
 ghost use Rattle.vrepl_main.specs.Given.{given_value};
-ghost use Rattle.vrepl_main.specs.Printing.{Prints};
-ghost use Rattle.vrepl_main.specs.SavedBoard.{IsSaved, PrintsCheckpoint, PrintsSomeCheckpoint};
+ghost use Rattle.vdiff_core.specs.Printing.{Prints};
+ghost use Rattle.vrepl_main.specs.SavedBoard.{IsSaved, IsSavedBehind, PrintsCheckpoint};
 ghost use Rattle.vrepl_main.specs.Command.{PrintsRefusal, Refuses};
+ghost use Rattle.vrepl_main.specs.Reasons.{RefusesInputs};
 
 use crate::given::{GivenFeed, given_feeds};
 use crate::line::answer_to;
@@ -42,10 +43,9 @@ pub fn save<W: Out, E: Out>(
     err: &mut E,
 ) -> u8
     ensures status { (result ≡ 0) ⊎ (result ≡ 1) }
-    ensures printed { result ≡ 0 → PrintsCheckpoint (script_given hex workflow.now (map (λ feed. feed.items) feeds.now) script.now) (W.written out.old).bytes (W.written out.new).bytes }
-    ensures begun { PrintsSomeCheckpoint (script_given hex workflow.now (map (λ feed. feed.items) feeds.now) script.now) (W.written out.old).bytes (W.written out.new).bytes }
+    ensures printed { result ≡ 0 → PrintsCheckpoint (script_given hex workflow.now (map (λ feed. feed.items) feeds.now) script.now) (W.written out.old) (W.written out.new) }
     ensures quiet { result ≡ 0 → err.new ≡ err.old }
-    ensures refused { result ≡ 1 → PrintsRefusal (script_given hex workflow.now (map (λ feed. feed.items) feeds.now) script.now) (E.written err.old).bytes (E.written err.new).bytes }
+    ensures refused { result ≡ 1 → PrintsRefusal IsSavedBehind (script_given hex workflow.now (map (λ feed. feed.items) feeds.now) script.now) (W.written out.old) (W.written out.new) (E.written err.old) (E.written err.new) }
 {
     match print_checkpoint(alloc, hex, workflow, feeds, script, out) {
         Ok(()) => 0,
@@ -62,9 +62,8 @@ fn print_checkpoint<W: Out>(
     script: &[u8],
     out: &mut W,
 ) -> Result<(), Refusal<'static>>
-    ensures printed { OnOk result (PrintsCheckpoint (script_given hex workflow.now (map (λ feed. feed.items) feeds.now) script.now) (W.written out.old).bytes (W.written out.new).bytes) }
-    ensures begun { PrintsSomeCheckpoint (script_given hex workflow.now (map (λ feed. feed.items) feeds.now) script.now) (W.written out.old).bytes (W.written out.new).bytes }
-    ensures refused { IfErr result (λ refusal. Refuses refusal (script_given hex workflow.now (map (λ feed. feed.items) feeds.now) script.now)) }
+    ensures printed { OnOk result (PrintsCheckpoint (script_given hex workflow.now (map (λ feed. feed.items) feeds.now) script.now) (W.written out.old) (W.written out.new)) }
+    ensures refused { IfErr result (λ refusal. Refuses IsSavedBehind refusal (script_given hex workflow.now (map (λ feed. feed.items) feeds.now) script.now) (W.written out.old) (W.written out.new)) }
 {
     let given = given_feeds(alloc, hex, feeds)?;
     let bytes = saved_bytes(alloc, workflow, &given, script)?;
@@ -74,7 +73,7 @@ fn print_checkpoint<W: Out>(
 
 /// Prints bytes.
 pub(crate) fn print_bytes<W: Out>(out: &mut W, bytes: &[u8]) -> Result<(), OutFailed>
-    ensures { Prints result (W.written out.old).bytes (W.written out.new).bytes bytes.now }
+    ensures { Prints result (W.written out.old) (W.written out.new) bytes.now }
 {
     put_all(out, bytes)
 }
@@ -87,7 +86,7 @@ fn saved_bytes(
     script: &[u8],
 ) -> Result<Vec<u8>, Refusal<'static>>
     ensures saved { IfOk result (λ bytes. IsSaved (given_bytes workflow.now (map given_value given.now) script.now) bytes.items) }
-    ensures refused { IfErr result (λ refusal. Refuses refusal (given_bytes workflow.now (map given_value given.now) script.now)) }
+    ensures refused { IfErr result (λ refusal. RefusesInputs refusal (given_bytes workflow.now (map given_value given.now) script.now)) }
 {
     let opened = open_workflow(alloc, workflow, given)?;
     let steps = steps_of(alloc, script)?;

@@ -5,7 +5,7 @@ ghost use Rattle.std.specs.Option.{option_map_or};
 ghost use Rattle.vrepl_main.specs.AnswerText.{phase_text, progress_text, snapshot_text, tables_text, place_text, state_text};
 ghost use Rattle.vrepl_main.specs.Adding.{Adds, at};
 
-use crate::output::{put_all, put_text};
+use crate::output::{put_all, put_between, put_named, put_number, put_str};
 use crate::shown::print_position;
 use gtid_set::GtidSet;
 use stream_core::{Cursor, Phase};
@@ -53,14 +53,10 @@ fn print_progress<W: Out>(
 ) -> Result<(), OutFailed>
     ensures { Adds result (at (W.written out.old) text.old) (at (W.written out.new) text.new) (progress_text stream now.now) }
 {
-    let phase = phase_word(now.phase());
-    let read = now.read();
-    let applied = now.applied();
-    put_text(
-        out,
-        text,
-        format_args!("state {stream} {phase} read {read} applied {applied}"),
-    )
+    put_between(out, text, "state ", u64::from(stream), " ")?;
+    put_str(out, text, phase_word(now.phase()))?;
+    put_named(out, text, " read ", u64::from(now.read()))?;
+    put_named(out, text, " applied ", u64::from(now.applied()))
 }
 
 /// Adds the group of the open snapshot, or `none`.
@@ -73,7 +69,7 @@ fn print_snapshot<W: Out>(
 {
     match snapshot {
         None => put_all(out, text, b"none"),
-        Some(group) => put_text(out, text, group),
+        Some(group) => put_number(out, text, u64::from(group)),
     }
 }
 
@@ -81,9 +77,8 @@ fn print_snapshot<W: Out>(
 fn print_tables<W: Out>(out: &mut W, text: &mut Gathered, now: &Cursor) -> Result<(), OutFailed>
     ensures { Adds result (at (W.written out.old) text.old) (at (W.written out.new) text.new) (tables_text now.now) }
 {
-    let done = now.done();
-    let tables = now.tables();
-    put_text(out, text, format_args!(" done {done} of {tables}"))
+    put_named(out, text, " done ", u64::from(now.done()))?;
+    put_named(out, text, " of ", u64::from(now.tables()))
 }
 
 /// Adds a position; `-` for the empty one.

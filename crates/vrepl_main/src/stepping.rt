@@ -7,7 +7,7 @@ ghost use Rattle.vrepl_main.specs.ScriptLines.{script_steps};
 ghost use Rattle.vrepl_main.specs.ScriptRun.{IsFed, script_given, given_bytes, said_steps};
 ghost use Rattle.vrepl_main.specs.Given.{given_value};
 ghost use Rattle.vrepl_main.specs.Reasons.{GivesOfInputs};
-ghost use Rattle.vrepl_main.specs.Replied.{PrintsReplies, PrintsSomeReplies, all_given};
+ghost use Rattle.vrepl_main.specs.Replied.{AreFirstReplies, PrintsReplies, all_given};
 ghost use Rattle.vrepl_main.specs.ScriptPrinting.{PrintsRun};
 ghost use Rattle.vrepl_main.specs.Command.{PrintsRefusal, Refuses};
 
@@ -38,10 +38,9 @@ pub fn step<W: Out, E: Out>(
     err: &mut E,
 ) -> u8
     ensures status { (result ≡ 0) ⊎ (result ≡ 1) }
-    ensures printed { result ≡ 0 → PrintsReplies (script_given hex workflow.now (map (λ feed. feed.items) feeds.now) script.now) (W.written out.old).bytes (W.written out.new).bytes }
-    ensures begun { PrintsSomeReplies (script_given hex workflow.now (map (λ feed. feed.items) feeds.now) script.now) (W.written out.old).bytes (W.written out.new).bytes }
+    ensures printed { result ≡ 0 → PrintsReplies (script_given hex workflow.now (map (λ feed. feed.items) feeds.now) script.now) (W.written out.old) (W.written out.new) }
     ensures quiet { result ≡ 0 → err.new ≡ err.old }
-    ensures refused { result ≡ 1 → PrintsRefusal (script_given hex workflow.now (map (λ feed. feed.items) feeds.now) script.now) (E.written err.old).bytes (E.written err.new).bytes }
+    ensures refused { result ≡ 1 → PrintsRefusal AreFirstReplies (script_given hex workflow.now (map (λ feed. feed.items) feeds.now) script.now) (W.written out.old) (W.written out.new) (E.written err.old) (E.written err.new) }
 {
     match print_replies(alloc, hex, workflow, feeds, script, out) {
         Ok(()) => 0,
@@ -58,9 +57,8 @@ fn print_replies<W: Out>(
     script: &[u8],
     out: &mut W,
 ) -> Result<(), Refusal<'static>>
-    ensures printed { OnOk result (PrintsReplies (script_given hex workflow.now (map (λ feed. feed.items) feeds.now) script.now) (W.written out.old).bytes (W.written out.new).bytes) }
-    ensures begun { PrintsSomeReplies (script_given hex workflow.now (map (λ feed. feed.items) feeds.now) script.now) (W.written out.old).bytes (W.written out.new).bytes }
-    ensures refused { IfErr result (λ refusal. Refuses refusal (script_given hex workflow.now (map (λ feed. feed.items) feeds.now) script.now)) }
+    ensures printed { OnOk result (PrintsReplies (script_given hex workflow.now (map (λ feed. feed.items) feeds.now) script.now) (W.written out.old) (W.written out.new)) }
+    ensures refused { IfErr result (λ refusal. Refuses AreFirstReplies refusal (script_given hex workflow.now (map (λ feed. feed.items) feeds.now) script.now) (W.written out.old) (W.written out.new)) }
 {
     let given = given_feeds(alloc, hex, feeds)?;
     print_script(alloc, workflow, &given, script, out)
@@ -74,9 +72,8 @@ fn print_script<W: Out>(
     script: &[u8],
     out: &mut W,
 ) -> Result<(), Refusal<'static>>
-    ensures printed { OnOk result (PrintsReplies (given_bytes workflow.now (map given_value given.now) script.now) (W.written out.old).bytes (W.written out.new).bytes) }
-    ensures begun { PrintsSomeReplies (given_bytes workflow.now (map given_value given.now) script.now) (W.written out.old).bytes (W.written out.new).bytes }
-    ensures refused { IfErr result (λ refusal. Refuses refusal (given_bytes workflow.now (map given_value given.now) script.now)) }
+    ensures printed { OnOk result (PrintsReplies (given_bytes workflow.now (map given_value given.now) script.now) (W.written out.old) (W.written out.new)) }
+    ensures refused { IfErr result (λ refusal. Refuses AreFirstReplies refusal (given_bytes workflow.now (map given_value given.now) script.now) (W.written out.old) (W.written out.new)) }
 {
     let opened = open_workflow(alloc, workflow, given)?;
     let steps = steps_of(alloc, script)?;
@@ -140,9 +137,8 @@ fn print_run<'h, W: Out>(
     requires some { 1 ≤ length plans.items }
     requires few { length plans.items ≤ 64 }
     requires first { slice_get (map arc_value plans.items) 0 ≡ Some plan.now }
-    ensures printed { OnOk result (PrintsReplies (all_given (map arc_value plans.items) feeds.now steps.now) (W.written out.old).bytes (W.written out.new).bytes) }
-    ensures begun { PrintsSomeReplies (all_given (map arc_value plans.items) feeds.now steps.now) (W.written out.old).bytes (W.written out.new).bytes }
-    ensures refused { IfErr result (λ refusal. Refuses refusal (all_given (map arc_value plans.items) feeds.now steps.now)) }
+    ensures printed { OnOk result (PrintsReplies (all_given (map arc_value plans.items) feeds.now steps.now) (W.written out.old) (W.written out.new)) }
+    ensures refused { IfErr result (λ refusal. Refuses AreFirstReplies refusal (all_given (map arc_value plans.items) feeds.now steps.now) (W.written out.old) (W.written out.new)) }
 {
     let mut board = fresh_board(alloc, plans, feeds)?;
     print_taken(alloc, &mut board, feeds, plan, steps, out)?;
@@ -158,7 +154,7 @@ pub(crate) fn print_taken<'h, W: Out>(
     steps: &[ScriptStep],
     out: &mut W,
 ) -> Result<(), OutFailed>
-    ensures { PrintsRun result feeds.now plan.now board.old steps.now (W.written out.old).bytes (W.written out.new).bytes }
+    ensures { PrintsRun result feeds.now plan.now board.old steps.now (W.written out.old) (W.written out.new) }
 {
     let mut text = Gathered::new();
     take_lines(alloc, board, feeds, plan, steps, out, &mut text)?;

@@ -1,16 +1,13 @@
-use Rattle.std.proofs.Common.{map, sym, Ok}
+use Rattle.std.proofs.Common.{sym, Ok}
 use Rattle.std.proofs.lemmas.Result.{err_from_is_err_and}
-use Rattle.vrepl_main.specs.Given.{given_value}
-use Rattle.vrepl_main.specs.Opening.{opened_bytes}
 use Rattle.vrepl_main.specs.OpenedFeeds.{opened_value}
 use Rattle.vrepl_main.proofs.JoinedLaws.{saved_as, refused_as}
-use Rattle.vrepl_main.proofs.StepLaws.{refuses}
 use Rattle.vrepl_main.proofs.joining.joined_bytes.Goals as goal
 
 pub returns-in_err-opened-clause-refused : goal.returns-in_err-opened-clause-refused
 returns-in_err-opened-clause-refused c =
     let p = err_from_is_err_and c.from_residual.result c.from_residual.ensures.1 in
-    rw (p.1, p.2) (refuses c.in_err-opened.field-0.0 (opened_bytes c.args.workflow.now (map given_value c.args.given.now)) c.in_err-opened.ensures.opened)
+    rw (p.1, p.2) c.in_err-opened.ensures.opened
 
 pub returns-in_err-board-clause-refused : goal.returns-in_err-board-clause-refused
 returns-in_err-board-clause-refused c =

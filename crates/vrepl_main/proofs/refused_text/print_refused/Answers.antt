@@ -6,37 +6,28 @@ use Rattle.vrepl_main.specs.RefusedText.{step_details}
 use Rattle.vrepl_main.proofs.AddLaws.{first_stops, then_prints, then_put, then_stops}
 use Rattle.vrepl_main.proofs.refused_text.print_refused.Goals as goal
 
-pub returns-in_err-put_all : goal.returns-in_err-put_all
-returns-in_err-put_all g c =
+pub returns-in_err-put_named : goal.returns-in_err-put_named
+returns-in_err-put_named g c =
     let refusal = c.args.refusal.now in
     let tables = c.args.tables.now in
-    let t2 = (codes "refused ") ++ (decimal (number_of_step refusal)) in
-    let t3 = t2 ++ (step_details tables refusal) in
+    let t1 = codes "refused " ++ decimal (number_of_step refusal) in
+    let t2 = t1 ++ step_details tables refusal in
     let p = err_from_is_err_and c.from_residual.result c.from_residual.ensures.1 in
-    rw p.1 (first_stops _ _ t3 (10 ∷ []) (first_stops _ _ t2 (step_details tables refusal) (first_stops _ _ (codes "refused ") (decimal (number_of_step refusal)) c.in_err-put_all.ensures)))
-
-pub returns-in_err-put_text : goal.returns-in_err-put_text
-returns-in_err-put_text g c =
-    let refusal = c.args.refusal.now in
-    let tables = c.args.tables.now in
-    let t2 = (codes "refused ") ++ (decimal (number_of_step refusal)) in
-    let t3 = t2 ++ (step_details tables refusal) in
-    let p = err_from_is_err_and c.from_residual-in_err-put_text.result c.from_residual-in_err-put_text.ensures.1 in
-    rw p.1 (first_stops _ _ t3 (10 ∷ []) (first_stops _ _ t2 (step_details tables refusal) (then_stops _ _ _ (codes "refused ") (decimal (number_of_step refusal)) c.in_ok-put_all.ensures (rw (c.number.ensures) at c.in_err-put_text.ensures))))
+    rw p.1 (first_stops _ _ t2 (10 ∷ []) (first_stops _ _ t1 (step_details tables refusal) (rw (c.from.ensures, c.number.ensures) at c.in_err-put_named.ensures)))
 
 pub returns-in_err-print_step_details : goal.returns-in_err-print_step_details
 returns-in_err-print_step_details g c =
     let refusal = c.args.refusal.now in
     let tables = c.args.tables.now in
-    let t2 = (codes "refused ") ++ (decimal (number_of_step refusal)) in
-    let t3 = t2 ++ (step_details tables refusal) in
+    let t1 = codes "refused " ++ decimal (number_of_step refusal) in
+    let t2 = t1 ++ step_details tables refusal in
     let p = err_from_is_err_and c.from_residual-in_err-print_step_details.result c.from_residual-in_err-print_step_details.ensures.1 in
-    rw p.1 (first_stops _ _ t3 (10 ∷ []) (then_stops _ _ _ t2 (step_details tables refusal) (then_put _ _ _ (codes "refused ") (decimal (number_of_step refusal)) c.in_ok-put_all.ensures (rw (c.number.ensures) at c.in_ok-put_text.ensures)) c.in_err-print_step_details.ensures))
+    rw p.1 (first_stops _ _ t2 (10 ∷ []) (then_stops _ _ _ t1 (step_details tables refusal) (rw (c.from.ensures, c.number.ensures) at c.in_ok-put_named.ensures) c.in_err-print_step_details.ensures))
 
 pub returns : goal.returns
 returns g c =
     let refusal = c.args.refusal.now in
     let tables = c.args.tables.now in
-    let t2 = (codes "refused ") ++ (decimal (number_of_step refusal)) in
-    let t3 = t2 ++ (step_details tables refusal) in
-    then_prints c.put_all-2.result _ _ _ t3 (10 ∷ []) (then_put _ _ _ t2 (step_details tables refusal) (then_put _ _ _ (codes "refused ") (decimal (number_of_step refusal)) c.in_ok-put_all.ensures (rw (c.number.ensures) at c.in_ok-put_text.ensures)) c.in_ok-print_step_details.ensures) c.put_all-2.ensures
+    let t1 = codes "refused " ++ decimal (number_of_step refusal) in
+    let t2 = t1 ++ step_details tables refusal in
+    then_prints c.put_all.result _ _ _ t2 (10 ∷ []) (then_put _ _ _ t1 (step_details tables refusal) (rw (c.from.ensures, c.number.ensures) at c.in_ok-put_named.ensures) c.in_ok-print_step_details.ensures) c.put_all.ensures

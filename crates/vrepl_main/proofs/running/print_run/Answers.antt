@@ -1,18 +1,17 @@
-use Rattle.std.proofs.Common.{inr, subst, Result}
+use Rattle.std.proofs.Common.{subst, Result}
 use Rattle.std.proofs.lemmas.Result.{err_from_is_err_and}
 use Rattle.std.specs.Arc.{arc_value}
 use Rattle.vrepl_main.specs.Opening.{OpenedValue}
 use Rattle.vrepl_main.specs.Reasons.{Reason}
-use Rattle.vrepl_main.specs.Running.{IsFilled, RefusesRun}
-use Rattle.vrepl_main.proofs.PrintLaws.{whole_begins}
-use Rattle.vrepl_main.proofs.RunLaws.{opened_as, unwritten_run}
+use Rattle.vrepl_main.specs.Running.{IsFilled, IsUnfilled}
+use Rattle.vrepl_main.proofs.RunLaws.{opened_as, refuses_run, unwritten_run}
 use Rattle.vrepl_main.proofs.running.print_run.Goals as goal
 
 pub returns-in_err-plan-clause-refused : goal.returns-in_err-plan-clause-refused
 returns-in_err-plan-clause-refused g c =
     let p = err_from_is_err_and c.from_residual.result c.from_residual.ensures.1 in
     let e = opened_as c.args.feeds.now (λ feed. feed.items) c.args.hex c.args.workflow.now _ c.in-Ok.ensures in
-    rw (p.1, p.2) (subst (λ (r : Result OpenedValue Reason). RefusesRun c.in_err-plan.field-0.0 r) e (rw c.deref.ensures.value at c.in_err-plan.ensures.refused))
+    rw (p.1, p.2) (refuses_run c.in_err-plan.field-0.0 _ _ (subst (λ (r : Result OpenedValue Reason). IsUnfilled c.in_err-plan.field-0.0 r) e (rw c.deref.ensures.value at c.in_err-plan.ensures.refused)))
 
 pub returns-in-Ok-print_rows-clause-printed : goal.returns-in-Ok-print_rows-clause-printed
 returns-in-Ok-print_rows-clause-printed g c =
@@ -20,20 +19,8 @@ returns-in-Ok-print_rows-clause-printed g c =
     let filled = subst (λ (r : Result OpenedValue Reason). IsFilled r (record { plan = arc_value c.in_ok-plan.plan; rows = c.in_ok-plan.rows })) e (rw c.deref.ensures.value at c.in_ok-plan.ensures.filled) in
     (record { plan = arc_value c.in_ok-plan.plan; rows = c.in_ok-plan.rows }, filled, rw c.deref-2.ensures at c.in-Ok-print_rows.ensures.printed)
 
-pub returns-in-Ok-print_rows-clause-begun : goal.returns-in-Ok-print_rows-clause-begun
-returns-in-Ok-print_rows-clause-begun g c =
-    let e = opened_as c.args.feeds.now (λ feed. feed.items) c.args.hex c.args.workflow.now _ c.in-Ok.ensures in
-    let filled = subst (λ (r : Result OpenedValue Reason). IsFilled r (record { plan = arc_value c.in_ok-plan.plan; rows = c.in_ok-plan.rows })) e (rw c.deref.ensures.value at c.in_ok-plan.ensures.filled) in
-    inr (record { plan = arc_value c.in_ok-plan.plan; rows = c.in_ok-plan.rows }, filled, whole_begins _ _ _ (rw c.deref-2.ensures at c.in-Ok-print_rows.ensures.printed))
-
-pub returns-clause-begun : goal.returns-clause-begun
-returns-clause-begun g c =
-    let e = opened_as c.args.feeds.now (λ feed. feed.items) c.args.hex c.args.workflow.now _ c.in-Ok.ensures in
-    let filled = subst (λ (r : Result OpenedValue Reason). IsFilled r (record { plan = arc_value c.in_ok-plan.plan; rows = c.in_ok-plan.rows })) e (rw c.deref.ensures.value at c.in_ok-plan.ensures.filled) in
-    inr (record { plan = arc_value c.in_ok-plan.plan; rows = c.in_ok-plan.rows }, filled, rw c.deref-2.ensures at c.in-Err.ensures.printed)
-
 pub returns-clause-refused : goal.returns-clause-refused
 returns-clause-refused g c =
     let e = opened_as c.args.feeds.now (λ feed. feed.items) c.args.hex c.args.workflow.now _ c.in-Ok.ensures in
     let filled = subst (λ (r : Result OpenedValue Reason). IsFilled r (record { plan = arc_value c.in_ok-plan.plan; rows = c.in_ok-plan.rows })) e (rw c.deref.ensures.value at c.in_ok-plan.ensures.filled) in
-    unwritten_run c.in-Err.refusal _ (record { plan = arc_value c.in_ok-plan.plan; rows = c.in_ok-plan.rows }) filled c.in-Err.ensures.refused
+    unwritten_run c.in-Err.refusal _ (record { plan = arc_value c.in_ok-plan.plan; rows = c.in_ok-plan.rows }) _ _ filled (rw c.deref-2.ensures at c.in-Err.ensures.printed) c.in-Err.ensures.refused

@@ -1,10 +1,9 @@
-use Rattle.std.proofs.Common.{inr, subst, Result}
+use Rattle.std.proofs.Common.{subst, Result}
 use Rattle.std.proofs.lemmas.Result.{err_from_is_err_and}
-use Rattle.vrepl_main.specs.Command.{Refuses}
-use Rattle.vrepl_main.specs.Reasons.{Reason}
-use Rattle.vrepl_main.specs.SavedBoard.{IsSaved}
+use Rattle.vrepl_main.specs.Reasons.{Reason, RefusesInputs}
+use Rattle.vrepl_main.specs.SavedBoard.{IsSaved, IsSavedBehind}
 use Rattle.vrepl_main.specs.ScriptRun.{ScriptGiven}
-use Rattle.vrepl_main.proofs.PrintLaws.{whole_begins}
+use Rattle.vrepl_main.proofs.CommandLaws.{refuses}
 use Rattle.vrepl_main.proofs.SaveLaws.{unwritten}
 use Rattle.vrepl_main.proofs.StepLaws.{given_as}
 use Rattle.vrepl_main.proofs.saving.print_checkpoint.Goals as goal
@@ -13,29 +12,17 @@ pub returns-in_err-bytes-clause-refused : goal.returns-in_err-bytes-clause-refus
 returns-in_err-bytes-clause-refused g c =
     let p = err_from_is_err_and c.from_residual-in_err-bytes.result c.from_residual-in_err-bytes.ensures.1 in
     let e = given_as c.args.feeds.now (λ feed. feed.items) c.args.hex c.args.workflow.now c.args.script.now _ c.in_ok-given.ensures in
-    rw (p.1, p.2) (subst (λ (r : Result ScriptGiven Reason). Refuses {X = ScriptGiven} c.in_err-bytes.field-0.0 r) e (rw c.deref.ensures.value at c.in_err-bytes.ensures.refused))
-
-pub returns-in_err-print_bytes-clause-begun : goal.returns-in_err-print_bytes-clause-begun
-returns-in_err-print_bytes-clause-begun g c =
-    let e = given_as c.args.feeds.now (λ feed. feed.items) c.args.hex c.args.workflow.now c.args.script.now _ c.in_ok-given.ensures in
-    let saved = subst (λ (r : Result ScriptGiven Reason). IsSaved r c.in_ok-bytes.bytes.items) e (rw c.deref.ensures.value at c.in_ok-bytes.ensures.saved) in
-    inr (c.in_ok-bytes.bytes.items, saved, rw c.deref-2.ensures.value at c.in_err-print_bytes.ensures)
+    rw (p.1, p.2) (refuses IsSavedBehind _ _ _ (subst (λ (r : Result ScriptGiven Reason). RefusesInputs {X = ScriptGiven} c.in_err-bytes.field-0.0 r) e (rw c.deref.ensures.value at c.in_err-bytes.ensures.refused)))
 
 pub returns-in_err-print_bytes-clause-refused : goal.returns-in_err-print_bytes-clause-refused
 returns-in_err-print_bytes-clause-refused g c =
     let p = err_from_is_err_and c.from_residual-in_err-print_bytes.result c.from_residual-in_err-print_bytes.ensures.1 in
     let e = given_as c.args.feeds.now (λ feed. feed.items) c.args.hex c.args.workflow.now c.args.script.now _ c.in_ok-given.ensures in
     let saved = subst (λ (r : Result ScriptGiven Reason). IsSaved r c.in_ok-bytes.bytes.items) e (rw c.deref.ensures.value at c.in_ok-bytes.ensures.saved) in
-    rw p.1 (unwritten p.0 _ c.in_ok-bytes.bytes.items saved p.2)
+    rw p.1 (unwritten p.0 _ c.in_ok-bytes.bytes.items _ _ saved (rw c.deref-2.ensures.value at c.in_err-print_bytes.ensures) p.2)
 
 pub returns-clause-printed : goal.returns-clause-printed
 returns-clause-printed g c =
     let e = given_as c.args.feeds.now (λ feed. feed.items) c.args.hex c.args.workflow.now c.args.script.now _ c.in_ok-given.ensures in
     let saved = subst (λ (r : Result ScriptGiven Reason). IsSaved r c.in_ok-bytes.bytes.items) e (rw c.deref.ensures.value at c.in_ok-bytes.ensures.saved) in
     (c.in_ok-bytes.bytes.items, saved, rw c.deref-2.ensures.value at c.in_ok-print_bytes.ensures)
-
-pub returns-clause-begun : goal.returns-clause-begun
-returns-clause-begun g c =
-    let e = given_as c.args.feeds.now (λ feed. feed.items) c.args.hex c.args.workflow.now c.args.script.now _ c.in_ok-given.ensures in
-    let saved = subst (λ (r : Result ScriptGiven Reason). IsSaved r c.in_ok-bytes.bytes.items) e (rw c.deref.ensures.value at c.in_ok-bytes.ensures.saved) in
-    inr (c.in_ok-bytes.bytes.items, saved, whole_begins _ _ _ (rw c.deref-2.ensures.value at c.in_ok-print_bytes.ensures))

@@ -1,7 +1,7 @@
 use Rattle.vrepl_main.specs.Shown.{change_text}
 use Rattle.std.proofs.lemmas.Result.{err_from_is_err_and}
 use Rattle.vrepl_main.proofs.AddLaws.{moves, stops, ends}
-use Rattle.vrepl_main.proofs.PrintLaws.{first_piece, no_piece}
+use Rattle.vdiff_core.proofs.PrintLaws.{first_piece, no_piece}
 use Rattle.vrepl_main.proofs.shown.print_changes.Goals as goal
 
 pub loop-change-preserved : goal.loop-change-preserved

@@ -1,25 +1,14 @@
-use Rattle.std.proofs.Common.{inl, map, refl}
+use Rattle.std.proofs.Common.{map}
 use Rattle.std.proofs.lemmas.Result.{err_from_is_err_and}
 use Rattle.std.specs.Arc.{arc_value}
-use Rattle.vrepl_main.proofs.StepLaws.{prints_all, prints_first, all_begin, refuses_unwritten}
+use Rattle.vrepl_main.proofs.StepLaws.{prints_all, prints_first}
 use Rattle.vrepl_main.proofs.stepping.print_run.Goals as goal
-
-pub returns-in_err-board-clause-begun : goal.returns-in_err-board-clause-begun
-returns-in_err-board-clause-begun g c = inl refl
-
-pub returns-in_err-print_taken-clause-begun : goal.returns-in_err-print_taken-clause-begun
-returns-in_err-print_taken-clause-begun g c =
-    prints_first (map arc_value c.args.plans.items) c.args.feeds.now c.args.steps.now c.args.plan.now _ _ _ c.requires.first c.in_ok-board.ensures.fresh c.in_ok-board.ensures.fed c.in_err-print_taken.ensures
 
 pub returns-in_err-print_taken-clause-refused : goal.returns-in_err-print_taken-clause-refused
 returns-in_err-print_taken-clause-refused g c =
     let p = err_from_is_err_and c.from_residual-in_err-print_taken.result c.from_residual-in_err-print_taken.ensures.1 in
-    rw p.1 (refuses_unwritten p.0 (record { opened = record { plans = map arc_value c.args.plans.items; feeds = c.args.feeds.now }; steps = c.args.steps.now }) p.2)
+    rw p.1 (prints_first (map arc_value c.args.plans.items) c.args.feeds.now c.args.steps.now c.args.plan.now _ _ _ c.requires.first c.in_ok-board.ensures.fresh c.in_ok-board.ensures.fed p.0 p.2 c.in_err-print_taken.ensures)
 
 pub returns-clause-printed : goal.returns-clause-printed
 returns-clause-printed g c =
     prints_all (map arc_value c.args.plans.items) c.args.feeds.now c.args.steps.now c.args.plan.now _ _ _ c.requires.first c.in_ok-board.ensures.fresh c.in_ok-board.ensures.fed c.in_ok-print_taken.ensures
-
-pub returns-clause-begun : goal.returns-clause-begun
-returns-clause-begun g c =
-    all_begin (map arc_value c.args.plans.items) c.args.feeds.now c.args.steps.now c.args.plan.now _ _ _ c.requires.first c.in_ok-board.ensures.fresh c.in_ok-board.ensures.fed c.in_ok-print_taken.ensures

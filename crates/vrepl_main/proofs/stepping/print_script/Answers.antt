@@ -5,27 +5,20 @@ use Rattle.std.specs.Arc.{arc_value}
 use Rattle.vrepl_main.specs.Given.{given_value}
 use Rattle.vrepl_main.specs.Opening.{opened_bytes}
 use Rattle.vrepl_main.specs.OpenedFeeds.{opened_value}
-use Rattle.vrepl_main.proofs.StepLaws.{prints_no_reply, refuses_opened, refuses_script, given_is, printed_as, begun_as, refused_as, first_of_all}
+use Rattle.vrepl_main.specs.Replied.{AreFirstReplies}
+use Rattle.vrepl_main.proofs.CommandLaws.{refuses}
+use Rattle.vrepl_main.proofs.StepLaws.{refuses_opened, refuses_script, given_is, printed_as, refused_as, first_of_all}
 use Rattle.vrepl_main.proofs.stepping.print_script.Goals as goal
-
-pub returns-in_err-opened-clause-begun : goal.returns-in_err-opened-clause-begun
-returns-in_err-opened-clause-begun g c = prints_no_reply _ _
 
 pub returns-in_err-opened-clause-refused : goal.returns-in_err-opened-clause-refused
 returns-in_err-opened-clause-refused g c =
     let p = err_from_is_err_and c.from_residual.result c.from_residual.ensures.1 in
-    rw (p.1, p.2) (refuses_opened c.in_err-opened.field-0.0 (opened_bytes c.args.workflow.now (map given_value c.args.given.now)) c.args.script.now c.in_err-opened.ensures.opened)
-
-pub returns-in_err-steps-clause-begun : goal.returns-in_err-steps-clause-begun
-returns-in_err-steps-clause-begun g c = prints_no_reply _ _
+    rw (p.1, p.2) (refuses AreFirstReplies _ _ _ (refuses_opened c.in_err-opened.field-0.0 (opened_bytes c.args.workflow.now (map given_value c.args.given.now)) c.args.script.now c.in_err-opened.ensures.opened))
 
 pub returns-in_err-steps-clause-refused : goal.returns-in_err-steps-clause-refused
 returns-in_err-steps-clause-refused g c =
     let p = err_from_is_err_and c.from_residual-in_err-steps.result c.from_residual-in_err-steps.ensures.1 in
-    rw (p.1, p.2) (refuses_script c.in_err-steps.field-0.0 (opened_bytes c.args.workflow.now (map given_value c.args.given.now)) (opened_value c.in_ok-opened.opened) c.args.script.now c.in_ok-opened.ensures.opened c.in_err-steps.ensures)
-
-pub returns-in_err-plan-clause-begun : goal.returns-in_err-plan-clause-begun
-returns-in_err-plan-clause-begun g c = prints_no_reply _ _
+    rw (p.1, p.2) (refuses AreFirstReplies _ _ _ (refuses_script c.in_err-steps.field-0.0 (opened_bytes c.args.workflow.now (map given_value c.args.given.now)) (opened_value c.in_ok-opened.opened) c.args.script.now c.in_ok-opened.ensures.opened c.in_err-steps.ensures))
 
 pub print_run-requires-clause-some : goal.print_run-requires-clause-some
 print_run-requires-clause-some g c = subst (λ (n : ℕ). 1 ≤ n) (length-map c.in_ok-opened.opened.plans.items arc_value) c.in_ok-opened.ensures.plans.count.0
@@ -41,12 +34,7 @@ returns-clause-printed g c =
     printed_as c.print_run.result _ _ _ _ (given_is _ (opened_value c.in_ok-opened.opened) c.args.script.now c.in_ok-steps.steps.items c.in_ok-opened.ensures.opened c.in_ok-steps.ensures)
     (rw (c.deref-2.ensures.value, c.deref-4.ensures.value) at c.print_run.ensures.printed)
 
-pub returns-clause-begun : goal.returns-clause-begun
-returns-clause-begun g c =
-    begun_as _ _ _ _ (given_is _ (opened_value c.in_ok-opened.opened) c.args.script.now c.in_ok-steps.steps.items c.in_ok-opened.ensures.opened c.in_ok-steps.ensures)
-    (rw (c.deref-2.ensures.value, c.deref-4.ensures.value) at c.print_run.ensures.begun)
-
 pub returns-clause-refused : goal.returns-clause-refused
 returns-clause-refused g c =
-    refused_as c.print_run.result _ _ (given_is _ (opened_value c.in_ok-opened.opened) c.args.script.now c.in_ok-steps.steps.items c.in_ok-opened.ensures.opened c.in_ok-steps.ensures)
+    refused_as c.print_run.result _ _ _ _ (given_is _ (opened_value c.in_ok-opened.opened) c.args.script.now c.in_ok-steps.steps.items c.in_ok-opened.ensures.opened c.in_ok-steps.ensures)
     (rw (c.deref-2.ensures.value, c.deref-4.ensures.value) at c.print_run.ensures.refused)
