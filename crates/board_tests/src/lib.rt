@@ -12,6 +12,8 @@ mod copying_joins;
 #[cfg(test)]
 mod feeds;
 #[cfg(test)]
+mod fresh_memory;
+#[cfg(test)]
 mod joined_images;
 #[cfg(test)]
 mod joins;

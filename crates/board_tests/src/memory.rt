@@ -11,7 +11,7 @@ use std::test::*;
 use stream_core::Step;
 
 /// Three groups: three new rows; one changed and one new; one that goes.
-const THREE_GROUPS: &[&[Change]] = &[
+pub(crate) const THREE_GROUPS: &[&[Change]] = &[
     &[
         (None, Some((1, b'a'))),
         (None, Some((2, b'b'))),
@@ -22,7 +22,7 @@ const THREE_GROUPS: &[&[Change]] = &[
 ];
 
 /// Two groups of one new row each, at other keys.
-const OTHERS: &[&[Change]] = &[&[(None, Some((11, b'k')))], &[(None, Some((12, b'l')))]];
+pub(crate) const OTHERS: &[&[Change]] = &[&[(None, Some((11, b'k')))], &[(None, Some((12, b'l')))]];
 
 /// A step of the first stream, and what it answers.
 type Taken = (Step, Answer);
@@ -68,7 +68,7 @@ fn is_answered<'h>(
 }
 
 /// A copy of a board, made again where the first call finds no memory.
-fn copied<'h>(alloc: Global, board: &Board<'h>) -> Result<Board<'h>, AllocError> {
+pub(crate) fn copied<'h>(alloc: Global, board: &Board<'h>) -> Result<Board<'h>, AllocError> {
     match board.try_clone(alloc) {
         Ok(copy) => Ok(copy),
         Err(_) => board.try_clone(alloc),
@@ -105,7 +105,7 @@ fn are_taken<'h>(
 }
 
 /// The board of a workflow over feeds of which nothing is read.
-fn fresh<'h>(alloc: Global, workflow: &[u8]) -> Result<Board<'h>, AllocError> {
+pub(crate) fn fresh<'h>(alloc: Global, workflow: &[u8]) -> Result<Board<'h>, AllocError> {
     match board_of(alloc, workflow) {
         Some(board) => Ok(board),
         None => Err(AllocError),
@@ -113,7 +113,7 @@ fn fresh<'h>(alloc: Global, workflow: &[u8]) -> Result<Board<'h>, AllocError> {
 }
 
 /// The feeds of sources' bytes.
-fn opened<'h>(
+pub(crate) fn opened<'h>(
     alloc: Global,
     workflow: &[u8],
     bytes: &'h [Vec<u8>],
@@ -125,7 +125,7 @@ fn opened<'h>(
 }
 
 /// The bytes of sources' feeds.
-fn written(alloc: Global, sources: &[Source<'_>]) -> Result<Vec<Vec<u8>>, AllocError> {
+pub(crate) fn written(alloc: Global, sources: &[Source<'_>]) -> Result<Vec<Vec<u8>>, AllocError> {
     match made(alloc, sources) {
         Some(bytes) => Ok(bytes),
         None => Err(AllocError),
@@ -147,7 +147,7 @@ fn steps_without_memory(rt: HostRuntime) -> Result<(), Fail> {
 }
 
 /// Takes steps on a board; an error where one finds no memory.
-fn brought<'h>(
+pub(crate) fn brought<'h>(
     alloc: Global,
     mut board: Board<'h>,
     feeds: &[Feed<'h>],

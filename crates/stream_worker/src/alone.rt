@@ -139,8 +139,29 @@ pub fn run_alone<'h>(
     ensures rows { IfOk result (λ board. IsRowsUnion feeds.now (all_rows board.rows)) }
     ensures refused { IfErr result (IsRefusedRun (map arc_value plans.items) feeds.now) }
 {
+    let board = board_over(alloc, plans, feeds)?;
+    let board = run_board_alone(alloc, board, feeds, policy)?;
+    Ok(board)
+}
+
+/// Runs all streams, stream after stream, from a board whose streams read these feeds, each to its feed's end, in the
+/// portions of the policy: what is read, applied and copied already stays. The feeds stand in the order of the streams.
+/// The answer is as `run_alone`'s, wherever the board stood.
+///
+/// The first refusal of a stream ends the run: 90 and 71 as `run_alone` has them. Any other error is want of memory.
+pub fn run_board_alone<'h>(
+    alloc: Global,
+    mut board: Board<'h>,
+    feeds: &[Feed<'h>],
+    policy: &Policy,
+) -> Result<Board<'h>, RunRefusal>
+    requires { IsFedBoard feeds.now board }
+    ensures board { IfOk result (IsFedBoard feeds.now) }
+    ensures ended { IfOk result (AllHaveEnded feeds.now) }
+    ensures rows { IfOk result (λ board. IsRowsUnion feeds.now (all_rows board.rows)) }
+    ensures refused { IfErr result (EndsRun feeds.now) }
+{
     ended_boards_have_the_union();
-    let mut board = board_over(alloc, plans, feeds)?;
     for s in 0..feeds.len() {
         match run_stream(alloc, &mut board, feeds, s as u8, policy) {
             Ok(()) => {}

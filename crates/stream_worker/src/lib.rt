@@ -19,12 +19,12 @@ mod seat;
 mod seat_run;
 mod shared;
 
-pub use alone::run_alone;
+pub use alone::{run_alone, run_board_alone};
 pub use board_laws::{Answer, Copied, Offered, Refusal};
 pub use gate::Gate;
 pub use laws::calls_keep_applied_groups;
 pub use opening::OpenRefusal;
-pub use parallel::run_parallel;
+pub use parallel::{run_board_parallel, run_parallel};
 pub use policy::Policy;
 pub use receipt::Receipt;
 pub use run_laws::ended_boards_have_the_union;

@@ -88,7 +88,7 @@ fn gathered<'h>(
 
 /// A board whose streams read their feeds is shared, and each runs to its feed's end: the board behind all of them, and
 /// the refusal of the lowest stream that has one. An error is want of memory.
-fn run_board<'h, R: Threads + Wait + Sync, G: Gate + Sync>(
+fn run_shared<'h, R: Threads + Wait + Sync, G: Gate + Sync>(
     rt: &R,
     alloc: Global,
     board: Board<'h>,
@@ -148,9 +148,34 @@ pub fn run_parallel<'h, R: Threads + Wait + Sync, G: Gate + Sync>(
     // Every lower stream has come to its feed's end.
     ensures lowest { IfErr result (IsLowest feeds.now) }
 {
-    ended_boards_have_the_union();
     let board = board_over(alloc, plans, feeds)?;
-    match run_board(rt, alloc, board, feeds, policy, gate) {
+    let board = run_board_parallel(rt, alloc, board, feeds, policy, gate)?;
+    Ok(board)
+}
+
+/// Runs all streams from a board whose streams read these feeds, each to its feed's end in a thread of its own, in the
+/// portions of the policy: what is read, applied and copied already stays. The feeds stand in the order of the streams.
+/// The answer is as `run_parallel`'s, wherever the board stood.
+///
+/// Refused 90 and 71 as `run_parallel` has them; any other error is want of memory.
+pub fn run_board_parallel<'h, R: Threads + Wait + Sync, G: Gate + Sync>(
+    rt: &R,
+    alloc: Global,
+    board: Board<'h>,
+    feeds: &[Feed<'h>],
+    policy: &Policy,
+    gate: &G,
+) -> Result<Board<'h>, RunRefusal>
+    requires { IsFedBoard feeds.now board }
+    ensures board { IfOk result (IsFedBoard feeds.now) }
+    ensures ended { IfOk result (AllHaveEnded feeds.now) }
+    ensures rows { IfOk result (λ board. IsRowsUnion feeds.now (all_rows board.rows)) }
+    ensures refused { IfErr result (EndsRun feeds.now) }
+    // Every lower stream has come to its feed's end.
+    ensures lowest { IfErr result (IsLowest feeds.now) }
+{
+    ended_boards_have_the_union();
+    match run_shared(rt, alloc, board, feeds, policy, gate) {
         Err(_) => Err(RunRefusal::Memory),
         Ok((board, refusal)) => match refusal {
             None => Ok(board),

@@ -16,3 +16,4 @@ mod JoinedLaws
 mod InputListLaws
 mod RunLaws
 mod AtOnceLaws
+mod FollowLaws

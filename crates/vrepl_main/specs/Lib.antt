@@ -26,3 +26,5 @@ pub mod ResumedRun
 pub mod JoinedRun
 pub mod InputList
 pub mod Running
+pub mod Followed
+pub mod Keeping

@@ -4,12 +4,14 @@
 mod answer_text;
 mod at_once;
 mod comparing;
+mod following;
 mod given;
 mod hex_text;
 mod input;
 mod input_list;
 mod joined_text;
 mod joining;
+mod keeping;
 mod key_text;
 mod line;
 mod lines;
@@ -28,6 +30,7 @@ mod state_text;
 mod stepping;
 
 pub use comparing::vdiff;
+pub use following::{Course, Followed, Unfollowed, follow, refuse_unfollowed};
 pub use given::{GivenFeed, given_feeds};
 pub use hex_text::{HexFault, bytes_of_hex};
 pub use input::{InputFault, InputName, read_inputs, read_whole, read_within};
@@ -36,6 +39,7 @@ pub use input_list::{
     step_inputs, step_on, vdiff_inputs, vdiff_on,
 };
 pub use joining::join;
+pub use keeping::keep_file;
 pub use opened::open_workflow;
 pub use refusal::{Refusal, refuse};
 pub use resuming::resume;

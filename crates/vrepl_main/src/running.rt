@@ -34,7 +34,7 @@ use stream_worker::{Gate, Policy, RunRefusal, run_alone, run_parallel};
 use vdiff_core::{Gathered, Out, OutFailed, Rows, write_dump};
 
 /// Nothing is told of groups on their way.
-struct Untold;
+pub(crate) struct Untold;
 
 impl Gate for Untold {
     fn passed<R: Wait>(&self, _rt: &R, _stream: u8, _number: u32) {}
@@ -99,7 +99,7 @@ fn as_step(refusal: RunRefusal) -> StepRefusal
 }
 
 /// Prints the line of a run's refusal in one piece, whole unless `err` fails, and answers the status 1.
-fn refuse_run<E: Out>(err: &mut E, plan: &Plan, refusal: RunRefusal) -> u8
+pub(crate) fn refuse_run<E: Out>(err: &mut E, plan: &Plan, refusal: RunRefusal) -> u8
     ensures status { result ≡ 1 }
     ensures line { PrintsOrBreaks (E.written err.old) (E.written err.new) (refused_text plan.now.tables (as_step refusal)) }
 {
@@ -180,7 +180,7 @@ fn filled_rows<R: Threads + Wait + Sync>(
 }
 
 /// The workflow with its feeds, which are opened one after another where `alone` is set, and else at once.
-fn open_streams<'h, R: Threads + Sync>(
+pub(crate) fn open_streams<'h, R: Threads + Sync>(
     rt: &R,
     alloc: Global,
     alone: bool,

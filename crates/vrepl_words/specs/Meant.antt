@@ -1,7 +1,8 @@
 -- What the words that were read ask for.
-use Rattle.vrepl_words.specs.Words.{JoinValue, PortionsValue, ResumeValue, RunValue, ShowValue, StepValue, VdiffValue, WordsValue, asks_join, asks_run, asks_show, asks_step, asks_save, asks_resume, asks_vdiff, asks_explain}
-use Rattle.std.specs.Prelude.{◌≡◌, map, Option, None, Some, Result, Ok, Err}
+use Rattle.vrepl_words.specs.Words.{FollowValue, JoinValue, PortionsValue, ResumeValue, RunValue, ShowValue, StepValue, VdiffValue, WordsValue, asks_follow, asks_join, asks_run, asks_show, asks_step, asks_save, asks_resume, asks_vdiff, asks_explain}
+use Rattle.std.specs.Prelude.{◌≡◌, map, option_map, Option, None, Some, Result, Ok, Err}
 use Rattle.vrepl_words.specs.declared.portions.Portions.{Portions}
+use Rattle.vrepl_words.specs.declared.words.Follow.{Follow}
 use Rattle.vrepl_words.specs.declared.words.Join.{Join}
 use Rattle.vrepl_words.specs.declared.words.Resume.{Resume}
 use Rattle.vrepl_words.specs.declared.words.Run.{Run}
@@ -47,6 +48,14 @@ run_value run = record {
   feeds = map (λ feed. feed.now) run.feeds.items;
 }
 
+abbrev pub follow_value : Follow → FollowValue
+follow_value follow = record {
+  run = run_value follow.run;
+  dump = follow.dump;
+  checkpoint = option_map (λ name. name.now) follow.checkpoint;
+  save_to = follow.save_to.now;
+}
+
 abbrev pub vdiff_value : Vdiff → VdiffValue
 vdiff_value files = record { workflow = files.workflow.now; source = files.source.now; target = files.target.now }
 
@@ -58,6 +67,7 @@ value_of (words.Run run) = asks_run (run_value run)
 value_of (words.Save save) = asks_save (step_value save)
 value_of (words.Resume resume) = asks_resume (resume_value resume)
 value_of (words.Join join) = asks_join (join_value join)
+value_of (words.Follow follow) = asks_follow (follow_value follow)
 value_of (words.Vdiff files) = asks_vdiff (vdiff_value files)
 value_of (words.Explain number) = asks_explain number
 

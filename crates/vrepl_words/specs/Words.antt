@@ -2,7 +2,7 @@
 -- command and what words mean under it (this profile).
 use Rattle.std.specs.Prelude.{ℕ, if◌then◌else◌, is_some, Bool, true, false, List, [], ◌∷◌, map, find, Option, None, Some, codes, option_map, option_and_then}
 use Rattle.std.specs.Str.{bytes_eq}
-use Rattle.clap.specs.Words.{App, Row, Rule, Shape, Text, fault_of, subcommand_of}
+use Rattle.clap.specs.Words.{first_of, App, Row, Rule, Shape, Text, fault_of, subcommand_of}
 use Rattle.clap.specs.Simple.{new_shape}
 use Rattle.clap.specs.Kinds.{Kinds, or_else}
 use Rattle.clap.specs.declared.error.kind.ErrorKind.TheVariants.{ValueValidation}
@@ -37,6 +37,14 @@ pub record RunValue : Type 0 where
   pub workflow : Text
   pub feeds : List Text
 
+-- `follow`: what `run` is given, whether the rows are printed too, the checkpoint to go on from, if there is one, and the
+-- file of the new one
+pub record FollowValue : Type 0 where
+  pub run : RunValue
+  pub dump : Bool
+  pub checkpoint : Option Text
+  pub save_to : Text
+
 -- `resume`: a checkpoint, and what `step` is given
 pub record ResumeValue : Type 0 where
   pub checkpoint : Text
@@ -64,6 +72,7 @@ pub data WordsValue : Type 0 where
   asks_save : StepValue → WordsValue
   asks_resume : ResumeValue → WordsValue
   asks_join : JoinValue → WordsValue
+  asks_follow : FollowValue → WordsValue
   asks_vdiff : VdiffValue → WordsValue
   -- what a refusal's number means, or all of them
   asks_explain : Option ℕ → WordsValue
@@ -171,6 +180,24 @@ join_subcommand = record {
   meaning = λ given. Some (asks_join (join_given given));
 }
 
+-- what is given to the arguments of `follow`
+abbrev pub follow_given : List Row → PortionsValue → FollowValue
+follow_given given portions = record {
+  run = run_given given portions;
+  dump = is_given (codes "dump") given;
+  checkpoint = first_of (codes "checkpoint") given;
+  save_to = text_given (codes "save-to") given;
+}
+
+-- `follow [--hex] [--alone] [--dump] [--rows N] [--ahead N] [--chunks N] [--checkpoint TEXT] --save-to TEXT WORKFLOW FEED..`
+abbrev pub follow_subcommand : Subcommand
+follow_subcommand = record {
+  name = codes "follow";
+  rules = flag_rule (codes "hex") ∷ flag_rule (codes "alone") ∷ flag_rule (codes "dump") ∷ option_rule (codes "rows") ∷ option_rule (codes "ahead") ∷ option_rule (codes "chunks") ∷ option_rule (codes "checkpoint") ∷ needed_rule (codes "save-to")
+      ∷ operand_rule (codes "workflow") ∷ operands_rule (codes "feed") ∷ [];
+  meaning = λ given. option_map (λ portions. asks_follow (follow_given given portions)) (portions_given given);
+}
+
 -- what is given to the arguments of `vdiff`
 abbrev pub vdiff_given : List Row → VdiffValue
 vdiff_given given = record { workflow = text_given (codes "workflow") given; source = text_given (codes "source") given; target = text_given (codes "target") given }
@@ -193,7 +220,7 @@ explain_subcommand = record {
 
 -- the subcommands, in the order of the help
 abbrev pub subcommands : List Subcommand
-subcommands = show_subcommand ∷ step_subcommand ∷ run_subcommand ∷ vdiff_subcommand ∷ save_subcommand ∷ resume_subcommand ∷ join_subcommand ∷ explain_subcommand ∷ []
+subcommands = show_subcommand ∷ step_subcommand ∷ run_subcommand ∷ vdiff_subcommand ∷ save_subcommand ∷ resume_subcommand ∷ join_subcommand ∷ follow_subcommand ∷ explain_subcommand ∷ []
 
 -- a subcommand as `clap` sees it
 abbrev pub shape_of_subcommand : Subcommand → Shape

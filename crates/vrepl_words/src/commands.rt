@@ -4,7 +4,7 @@ ghost use Rattle.std.specs.Prelude.{IfOk, codes};
 ghost use Rattle.clap.specs.Words.{App, Rule, new_app, with_rule, with_subcommand};
 ghost use Rattle.vrepl_words.specs.Arguments.{flag_rule, needed_rule, operand_rule, operands_rule, option_rule, optional_rule};
 ghost use Rattle.vrepl_words.specs.Built.{HasApp, HasRule, IsSubcommand, bare_app};
-ghost use Rattle.vrepl_words.specs.Words.{explain_subcommand, join_subcommand, program_app, resume_subcommand, run_subcommand, save_subcommand, show_subcommand, step_subcommand, vdiff_subcommand};
+ghost use Rattle.vrepl_words.specs.Words.{explain_subcommand, follow_subcommand, join_subcommand, program_app, resume_subcommand, run_subcommand, save_subcommand, show_subcommand, step_subcommand, vdiff_subcommand};
 
 use crate::help;
 use clap::{Arg, ArgAction, Command};
@@ -22,6 +22,7 @@ pub(crate) fn program<'w>(alloc: Global) -> Result<Command<'w>, AllocError>
     let command = with_subcommand(command, save_command(alloc));
     let command = with_subcommand(command, resume_command(alloc));
     let command = with_subcommand(command, join_command(alloc));
+    let command = with_subcommand(command, follow_command(alloc));
     with_subcommand(command, explain_command(alloc))
 }
 
@@ -139,6 +140,34 @@ fn vdiff_command<'w>(alloc: Global) -> Result<Command<'w>, AllocError>
     with_arg(
         command,
         operand(alloc, "target", "TARGET", "The target's dump"),
+    )
+}
+
+pub(crate) fn follow_command<'w>(alloc: Global) -> Result<Command<'w>, AllocError>
+    ensures { IfOk result (IsSubcommand follow_subcommand) }
+{
+    let alone_help = "Runs the streams one after another, without threads";
+    let dump_help = "Prints the target's rows too, as `run` does";
+    let rows_help = "Rows that are copied at a time, 1000 unless given";
+    let ahead_help = "Groups read before a snapshot is opened, 100 unless given";
+    let chunks_help = "Chunks that are copied of a snapshot, 4 unless given";
+    let checkpoint_help = "The checkpoint to go on from; nothing unless given";
+    let save_help = "The file that the new checkpoint takes the place of";
+    let about = "Moves a checkpoint on to the feeds' ends";
+    let command = Ok(bare(alloc, "follow", about, help::FOLLOW));
+    let command = with_arg(command, hex(alloc));
+    let command = with_arg(command, flag(alloc, "alone", alone_help));
+    let command = with_arg(command, flag(alloc, "dump", dump_help));
+    let command = with_arg(command, option(alloc, "rows", "N", rows_help));
+    let command = with_arg(command, option(alloc, "ahead", "N", ahead_help));
+    let command = with_arg(command, option(alloc, "chunks", "N", chunks_help));
+    let command = with_arg(
+        command,
+        option(alloc, "checkpoint", "FILE", checkpoint_help),
+    );
+    with_streams(
+        alloc,
+        with_arg(command, needed(alloc, "save-to", "FILE", save_help)),
     )
 }
 

@@ -110,6 +110,20 @@ Status:
   1  refused; `vrepl explain NUMBER` says what the line's number means
   2  a fault of usage";
 
+/// A call of `follow`.
+pub(crate) const FOLLOW: &str = "\
+Example:
+  $ vrepl follow --hex --checkpoint shards.checkpoint \\
+      --save-to shards.checkpoint examples/workflows/two_shards.json \\
+      examples/two_shards/lower.hex examples/two_shards/upper.hex
+
+The file is replaced once the new checkpoint is whole, and never in part.
+
+Status:
+  0  the new checkpoint stands in the file
+  1  refused; `vrepl explain NUMBER` says what the line's number means
+  2  a fault of usage";
+
 /// A call of `vdiff` and what it prints.
 pub(crate) const VDIFF: &str = "\
 Example:

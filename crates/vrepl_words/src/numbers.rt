@@ -6,7 +6,7 @@ ghost use Rattle.clap.specs.declared.error.kind.ErrorKind.TheVariants.{ValueVali
 ghost use Rattle.vrepl_words.specs.Arguments.{refusal_given, refusal_of};
 ghost use Rattle.vrepl_words.specs.Words.{bad_portion};
 
-use crate::commands::{explain_command, run_command};
+use crate::commands::{explain_command, follow_command, run_command};
 use crate::words::portion;
 use clap::error::ErrorKind;
 use clap::{ArgMatches, Command, Error};
@@ -52,6 +52,9 @@ pub(crate) fn bad_number(alloc: Global, matches: &ArgMatches<'_>) -> Result<Erro
 {
     match matches.subcommand() {
         Some(("run", given)) => usage_fault(run_command(alloc), "vrepl run", bad_portion(given)),
+        Some(("follow", given)) => {
+            usage_fault(follow_command(alloc), "vrepl follow", bad_portion(given))
+        }
         _ => usage_fault(explain_command(alloc), "vrepl explain", NO_REFUSAL),
     }
 }

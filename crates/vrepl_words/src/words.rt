@@ -1,11 +1,11 @@
 //! The words of the command line, as `clap` reads them.
 
 ghost use Rattle.std.specs.Prelude.{◌≡◌, ◌≢◌, ◌≤◌, [], IfOk, IfSome, Some, map, option_map, string_bytes};
-ghost use Rattle.clap.specs.Words.{FailsBy, found_of, rows_of, subcommand_rows_of};
+ghost use Rattle.clap.specs.Words.{FailsBy, first_of, found_of, rows_of, subcommand_rows_of};
 ghost use Rattle.vrepl_words.specs.Arguments.{is_given, portion_given, portion_of, text_given, texts_given};
 ghost use Rattle.vrepl_words.specs.Built.{HasApp};
-ghost use Rattle.vrepl_words.specs.Meant.{Asks, portions_value, show_value, step_value, value_of, vdiff_value};
-ghost use Rattle.vrepl_words.specs.Words.{asked_by, asks_join, asks_resume, asks_run, asks_save, asks_step, explain_subcommand, faults_of, join_given, portions_given, program_app, resume_given, run_given, run_subcommand, show_given, step_given, vdiff_given, words_of};
+ghost use Rattle.vrepl_words.specs.Meant.{Asks, follow_value, portions_value, run_value, show_value, step_value, value_of, vdiff_value};
+ghost use Rattle.vrepl_words.specs.Words.{asked_by, asks_join, asks_follow, asks_resume, asks_run, asks_save, asks_step, explain_subcommand, faults_of, follow_given, follow_subcommand, join_given, portions_given, program_app, resume_given, run_given, run_subcommand, show_given, step_given, vdiff_given, words_of};
 
 use crate::commands::program;
 use crate::numbers::{bad_number, refusal_given};
@@ -29,6 +29,8 @@ pub enum Words<'w> {
     Resume(Resume<'w>),
     /// `join`: write the checkpoint of the join of two checkpoints' boards.
     Join(Join<'w>),
+    /// `follow`: move a checkpoint on to the feeds' ends.
+    Follow(Follow<'w>),
     /// `vdiff`: compare two dumps.
     Vdiff(Vdiff<'w>),
     /// `explain`: print what is said of a refusal's number, or the list of all.
@@ -48,6 +50,19 @@ pub struct Run<'w> {
     pub workflow: &'w str,
     /// The feeds' files, in the order of the streams.
     pub feeds: Vec<&'w str>,
+}
+
+/// The words of `follow`.
+#[derive(Drop)]
+pub struct Follow<'w> {
+    /// The words that are those of `run`.
+    pub run: Run<'w>,
+    /// Whether the target's rows are printed too.
+    pub dump: bool,
+    /// The file of the checkpoint to go on from, where there is one.
+    pub checkpoint: Option<&'w str>,
+    /// The file that the new checkpoint takes the place of.
+    pub save_to: &'w str,
 }
 
 /// The words of `resume`.
@@ -158,6 +173,7 @@ fn asked<'w>(alloc: Global, matches: &ArgMatches<'w>) -> Option<Result<Words<'w>
         "save" => Some(save_words(alloc, given)),
         "resume" => Some(resume_words(alloc, given)),
         "join" => Some(join_words(alloc, given)),
+        "follow" => follow_words(alloc, given),
         "vdiff" => Some(Ok(Words::Vdiff(vdiff_words(given)))),
         "explain" => explain_words(given),
         _ => None,
@@ -239,14 +255,63 @@ fn run_words_by<'w>(
 ) -> Result<Words<'w>, AllocError>
     ensures { IfOk result (λ words. value_of words ≡ asks_run (run_given (rows_of (found_of given.now)) (portions_value portions))) }
 {
+    let run = run_of(alloc, given, portions)?;
+    Ok(Words::Run(run))
+}
+
+/// What is given to `run`, with these portions. An error is want of memory.
+fn run_of<'w>(
+    alloc: Global,
+    given: &ArgMatches<'w>,
+    portions: Portions,
+) -> Result<Run<'w>, AllocError>
+    ensures { IfOk result (λ run. run_value run ≡ run_given (rows_of (found_of given.now)) (portions_value portions)) }
+{
     let feeds = texts(alloc, given, "feed")?;
-    Ok(Words::Run(Run {
+    Ok(Run {
         hex: has_flag(given, "hex"),
         alone: has_flag(given, "alone"),
         portions,
         workflow: text(given, "workflow"),
         feeds,
-    }))
+    })
+}
+
+/// None where a portion that was given is none.
+fn follow_words<'w>(alloc: Global, given: &ArgMatches<'w>) -> Option<Result<Words<'w>, AllocError>>
+    ensures { Asks result (follow_subcommand.meaning (rows_of (found_of given.now))) }
+{
+    let portions = given_portions(given)?;
+    Some(follow_words_by(alloc, given, portions))
+}
+
+/// The same with these portions. An error is want of memory.
+fn follow_words_by<'w>(
+    alloc: Global,
+    given: &ArgMatches<'w>,
+    portions: Portions,
+) -> Result<Words<'w>, AllocError>
+    ensures { IfOk result (λ words. value_of words ≡ asks_follow (follow_given (rows_of (found_of given.now)) (portions_value portions))) }
+{
+    let follow = follow_of(alloc, given, portions)?;
+    Ok(Words::Follow(follow))
+}
+
+/// What is given to `follow`, with these portions. An error is want of memory.
+fn follow_of<'w>(
+    alloc: Global,
+    given: &ArgMatches<'w>,
+    portions: Portions,
+) -> Result<Follow<'w>, AllocError>
+    ensures { IfOk result (λ follow. follow_value follow ≡ follow_given (rows_of (found_of given.now)) (portions_value portions)) }
+{
+    let run = run_of(alloc, given, portions)?;
+    Ok(Follow {
+        run,
+        dump: has_flag(given, "dump"),
+        checkpoint: text_if(given, "checkpoint"),
+        save_to: text(given, "save-to"),
+    })
 }
 
 /// None where what was given is no number of a refusal.
@@ -311,6 +376,13 @@ fn has_flag(given: &ArgMatches<'_>, name: &str) -> bool
     ensures { result ≡ is_given name.now (rows_of (found_of given.now)) }
 {
     given.get_one::<bool>(name).unwrap_or(false)
+}
+
+/// The text that was given, if one was.
+fn text_if<'w>(given: &ArgMatches<'w>, name: &str) -> Option<&'w str>
+    ensures { option_map (λ text. text.now) result ≡ first_of name.now (rows_of (found_of given.now)) }
+{
+    given.get_str(name)
 }
 
 /// The text that was given, or the empty one.

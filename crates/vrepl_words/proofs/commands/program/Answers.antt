@@ -11,4 +11,5 @@ returns c =
     let save = c.with_subcommand-command-5.ensures _ _ vdiff c.save_command.ensures in
     let resume = c.with_subcommand-command-6.ensures _ _ save c.resume_command.ensures in
     let join = c.with_subcommand-command-7.ensures _ _ resume c.join_command.ensures in
-    c.with_subcommand.ensures _ _ join c.explain_command.ensures
+    let follow = c.with_subcommand-command-8.ensures _ _ join c.follow_command.ensures in
+    c.with_subcommand.ensures _ _ follow c.explain_command.ensures

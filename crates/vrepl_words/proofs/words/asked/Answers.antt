@@ -3,7 +3,7 @@ use Rattle.std.specs.Prelude.{IfOk}
 use Rattle.clap.specs.Words.{Row, Text, found_of, rows_of, subcommand_rows_of}
 use Rattle.vrepl_words.specs.Meant.{Asks, value_of}
 use Rattle.vrepl_words.specs.declared.words.Words.{Words}
-use Rattle.vrepl_words.specs.Words.{WordsValue, asked_by, explain_subcommand, asks_join, asks_resume, asks_save, asks_show, asks_step, asks_vdiff, join_given, resume_given, run_subcommand, show_given, step_given, vdiff_given}
+use Rattle.vrepl_words.specs.Words.{WordsValue, asked_by, explain_subcommand, asks_join, asks_resume, asks_save, asks_show, asks_step, asks_vdiff, follow_subcommand, join_given, resume_given, run_subcommand, show_given, step_given, vdiff_given}
 use Rattle.vrepl_words.proofs.MetSubcommand.{met, none_met, other_text}
 use Rattle.vrepl_words.proofs.words.asked.Goals as goal
 
@@ -39,15 +39,19 @@ asked_explain : (given : List Row) → asked_by (Some (codes "explain", given)) 
 unfolding asked_by
 asked_explain given = refl
 
+asked_follow : (given : List Row) → asked_by (Some (codes "follow", given)) ≡ follow_subcommand.meaning given
+unfolding asked_by
+asked_follow given = refl
+
 asked_none : asked_by None ≡ None
 unfolding asked_by
 asked_none = refl
 
-asked_other : (name : Text) (given : List Row) → (name ≡ codes "show" → ⊥) → (name ≡ codes "step" → ⊥) → (name ≡ codes "run" → ⊥) → (name ≡ codes "vdiff" → ⊥) → (name ≡ codes "save" → ⊥) → (name ≡ codes "resume" → ⊥) → (name ≡ codes "join" → ⊥) → (name ≡ codes "explain" → ⊥)
+asked_other : (name : Text) (given : List Row) → (name ≡ codes "show" → ⊥) → (name ≡ codes "step" → ⊥) → (name ≡ codes "run" → ⊥) → (name ≡ codes "vdiff" → ⊥) → (name ≡ codes "save" → ⊥) → (name ≡ codes "resume" → ⊥) → (name ≡ codes "join" → ⊥) → (name ≡ codes "follow" → ⊥) → (name ≡ codes "explain" → ⊥)
     → asked_by (Some (name, given)) ≡ None
 unfolding asked_by
-asked_other name given no_show no_step no_run no_vdiff no_save no_resume no_join no_explain =
-    rw (other_text name (codes "show") no_show, other_text name (codes "step") no_step, other_text name (codes "run") no_run, other_text name (codes "vdiff") no_vdiff, other_text name (codes "save") no_save, other_text name (codes "resume") no_resume, other_text name (codes "join") no_join, other_text name (codes "explain") no_explain) refl
+asked_other name given no_show no_step no_run no_vdiff no_save no_resume no_join no_follow no_explain =
+    rw (other_text name (codes "show") no_show, other_text name (codes "step") no_step, other_text name (codes "run") no_run, other_text name (codes "vdiff") no_vdiff, other_text name (codes "save") no_save, other_text name (codes "resume") no_resume, other_text name (codes "join") no_join, other_text name (codes "follow") no_follow, other_text name (codes "explain") no_explain) refl
 
 -- words that were read, or a fault
 asks_read : {E : Type 0} (result : Result Words E) (value : WordsValue) (asked : Option WordsValue) → asked ≡ Some value → IfOk result (λ words. value_of words ≡ value) → Asks (Some result) asked
@@ -88,6 +92,14 @@ returns-in-explain c =
     (sym (ap asked_by (is ∙ ap (λ n. Some (n, rows_of (found_of c.in_ok-name.given.now))) c.in-explain.is) ∙ asked_explain (rows_of (found_of c.in_ok-name.given.now))))
     c.explain_words.ensures
 
+pub returns-in-follow : goal.returns-in-follow
+returns-in-follow c =
+    let is : subcommand_rows_of c.args.matches.now ≡ Some (c.in_ok-name.name.now, rows_of (found_of c.in_ok-name.given.now)) =
+    met c.args.matches.now _ _ c.in_ok-name.ensures.name c.in_ok-name.ensures.rows in
+    subst (Asks c.follow_words.result)
+    (sym (ap asked_by (is ∙ ap (λ n. Some (n, rows_of (found_of c.in_ok-name.given.now))) c.in-follow.is) ∙ asked_follow (rows_of (found_of c.in_ok-name.given.now))))
+    c.follow_words.ensures
+
 pub returns-in-save : goal.returns-in-save
 returns-in-save c =
     let is : subcommand_rows_of c.args.matches.now ≡ Some (c.in_ok-name.name.now, rows_of (found_of c.in_ok-name.given.now)) =
@@ -123,4 +135,4 @@ pub returns-in_default : goal.returns-in_default
 returns-in_default c =
     let is : subcommand_rows_of c.args.matches.now ≡ Some (c.in_ok-name.name.now, rows_of (found_of c.in_ok-name.given.now)) =
     met c.args.matches.now _ _ c.in_ok-name.ensures.name c.in_ok-name.ensures.rows in
-    ap asked_by is ∙ asked_other c.in_ok-name.name.now _ c.in_default.not-show c.in_default.not-step c.in_default.not-run c.in_default.not-vdiff c.in_default.not-save c.in_default.not-resume c.in_default.not-join c.in_default.not-explain
+    ap asked_by is ∙ asked_other c.in_ok-name.name.now _ c.in_default.not-show c.in_default.not-step c.in_default.not-run c.in_default.not-vdiff c.in_default.not-save c.in_default.not-resume c.in_default.not-join c.in_default.not-follow c.in_default.not-explain

@@ -1,5 +1,6 @@
-use Rattle.std.proofs.Common.{refl}
+use Rattle.std.proofs.Common.{ap}
+use Rattle.vrepl_words.specs.Words.{asks_run}
 use Rattle.vrepl_words.proofs.words.run_words_by.Goals as goal
 
 pub returns : goal.returns
-returns c = rw (c.has_flag.ensures, c.has_flag-2.ensures, c.text.ensures, c.in_ok-feeds.ensures) refl
+returns c = ap asks_run c.in_ok-run.ensures

@@ -1,6 +1,6 @@
 use Rattle.stream_worker.proofs.ManyRuns.{opened-seated}
 use Rattle.stream_worker.proofs.BoardRuns.{run-seats, run-fed, run-outcome, run-lowest}
-use Rattle.stream_worker.proofs.parallel.run_board.Goals as goal
+use Rattle.stream_worker.proofs.parallel.run_shared.Goals as goal
 
 pub run_seats-requires-after_bounds : goal.run_seats-requires-after_bounds
 run_seats-requires-after_bounds g c κs within = opened-seated c.args.feeds.now c.args.board c.requires c.in-Ok.shared c.in-Ok.seats.items c.in-Ok.ensures.opened

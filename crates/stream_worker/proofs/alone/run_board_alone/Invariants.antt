@@ -2,7 +2,7 @@ use Rattle.std.proofs.Common.{◌≡◌, ◌<◌, ℕ, Some, slice_get}
 use Rattle.source_feed.specs.Planned.{FeedValue}
 use Rattle.board_laws.specs.Meaning.{State}
 use Rattle.stream_worker.specs.Ended.{HasEnded, IsFedBoard}
-use Rattle.stream_worker.proofs.alone.run_alone.Given as goal
+use Rattle.stream_worker.proofs.alone.run_board_alone.Given as goal
 
 -- every stream reads its feed, and the first ones have ended
 abbrev pub invariant-loop-s : goal.invariant-loop-s

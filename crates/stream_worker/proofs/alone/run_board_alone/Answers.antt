@@ -2,10 +2,10 @@ use Rattle.std.proofs.Common.{◌<◌, length, arith}
 use Rattle.std.proofs.lemmas.Option.{slice_get_within}
 use Rattle.stream_worker.specs.Ended.{AllHaveEnded}
 use Rattle.stream_worker.proofs.OneStep.{ended-more}
-use Rattle.stream_worker.proofs.alone.run_alone.Goals as goal
+use Rattle.stream_worker.proofs.alone.run_board_alone.Goals as goal
 
 pub loop-s-init : goal.loop-s-init
-loop-s-init c = (c.in_ok-board.ensures.fed.1, λ t feed state less at_f at_s. absurd (omega (arith, less)))
+loop-s-init c = (c.requires, λ t feed state less at_f at_s. absurd (omega (arith, less)))
 
 pub loop-s-preserved : goal.loop-s-preserved
 loop-s-preserved c =

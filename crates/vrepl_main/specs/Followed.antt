@@ -1,0 +1,86 @@
+-- What `follow` makes of a workflow with its feeds, from a checkpoint or from nothing, and why it refuses (this profile).
+use Rattle.std.specs.Prelude.{◌≡◌, ℕ, Bool, true, List, Option, Some, None, IfSome, IsSome, Result, Ok, Err, slice_get}
+use Rattle.std.specs.Arc.{arc_value}
+use Rattle.filter_rule.specs.PlanValue.{PlanValue}
+use Rattle.vdiff_core.specs.RowsValue.{RowsValue}
+use Rattle.source_feed.specs.Planned.{FeedValue}
+use Rattle.board_laws.specs.Meaning.{Meaning}
+use Rattle.board_laws.specs.Sources.{AllShowTheirSources}
+use Rattle.checkpoint_laws.specs.Written.{checkpoint_of}
+use Rattle.checkpoint_laws.specs.declared.fault.ResumeFault.{ResumeFault}
+use Rattle.apply_core.specs.Resuming.{IsResumed}
+use Rattle.apply_core.specs.Shown.{all_rows}
+use Rattle.stream_worker.specs.Ended.{IsFedBoard, AllHaveEnded, IsRowsUnion}
+use Rattle.stream_worker.specs.RunRefused.{IsRefusedRun}
+use Rattle.stream_worker.specs.declared.run_refusal.RunRefusal.{RunRefusal}
+use Rattle.vrepl_main.specs.declared.following.Unfollowed.{Unfollowed}
+use Rattle.vrepl_main.specs.declared.following.Unfollowed.TheVariants.{Given, Checkpoint, Stream}
+use Rattle.vrepl_main.specs.JoinedRun.{IsOpenedAnd}
+use Rattle.vrepl_main.specs.Opening.{OpenedValue}
+use Rattle.vrepl_main.specs.Reasons.{Reason, RefusesInputs}
+use Rattle.vrepl_main.specs.Refusals.{refusal_line}
+use Rattle.vrepl_main.specs.RefusedText.{refused_text}
+use Rattle.vrepl_main.specs.ResumedRun.{IsRefusedOver}
+use Rattle.vrepl_main.specs.ResumedText.{resume_line}
+use Rattle.vrepl_main.specs.Running.{IsRefusedStream, as_step}
+
+-- ---- the board
+
+-- the checkpoint, where there is one, is resumed: the streams go on from that board, and else from the beginning
+abbrev pub IsTakenUp : OpenedValue → Option (List ℕ) → Type 0
+IsTakenUp given None = Unit {0}
+IsTakenUp given (Some checkpoint) = (start : Meaning) × IsResumed given.feeds checkpoint start
+
+-- all streams stand at their feeds' ends: the rows of the target are just those that the feeds keep
+pub record IsAtFeedsEnds (feeds : List FeedValue) (board : Meaning) : Type 0 where
+  pub fed : IsFedBoard feeds board
+  pub ended : AllHaveEnded feeds board
+  pub union : IsRowsUnion feeds (all_rows board.rows)
+
+-- ---- the checkpoint
+
+-- the bytes of a checkpoint, and, where they were asked for, the target's rows with the plan whose tables they are of
+pub record FollowedValue : Type 0 where
+  pub plan : PlanValue
+  pub checkpoint : List ℕ
+  pub rows : Option RowsValue
+
+-- the checkpoint of the board at the feeds' ends, and that board's rows
+pub record IsFollowedBy (given : OpenedValue) (checkpoint : Option (List ℕ)) (asked : Bool) (followed : FollowedValue) : Type 0 where
+  pub first : slice_get given.plans 0 ≡ Some followed.plan
+  pub taken_up : IsTakenUp given checkpoint
+  pub board : Meaning
+  pub ends : IsAtFeedsEnds given.feeds board
+  pub sources : AllShowTheirSources given.feeds board
+  pub is_checkpoint : followed.checkpoint ≡ checkpoint_of board
+  pub are_rows : IfSome followed.rows (λ rows. rows ≡ all_rows board.rows)
+  pub given_rows : asked ≡ true → IsSome followed.rows
+
+-- there is something to follow, and this is the checkpoint
+abbrev pub IsFollowed : Result OpenedValue Reason → Option (List ℕ) → Bool → FollowedValue → Type 0
+IsFollowed reading checkpoint asked followed = IsOpenedAnd reading (λ given. IsFollowedBy given checkpoint asked followed)
+
+-- ---- refusals
+
+-- there is a checkpoint, and it isn't resumed
+abbrev pub IsNotTakenUp : OpenedValue → Option (List ℕ) → PlanValue → ResumeFault → Type 0
+IsNotTakenUp given None plan fault = ⊥
+IsNotTakenUp given (Some checkpoint) plan fault = IsRefusedOver given checkpoint plan fault
+
+-- the checkpoint, where there is one, is resumed, and the run from there is refused
+pub record IsNotFollowed (given : OpenedValue) (checkpoint : Option (List ℕ)) (plan : PlanValue) (refusal : RunRefusal) : Type 0 where
+  pub taken_up : IsTakenUp given checkpoint
+  pub refused : IsRefusedStream plan refusal given
+
+-- a refusal says just why the workflow or the feeds are refused, or else why the checkpoint is, or else why a stream's run
+-- is, unless memory ran out
+abbrev pub RefusesFollow : Unfollowed → Result OpenedValue Reason → Option (List ℕ) → Type 0
+RefusesFollow (Given refusal) reading checkpoint = RefusesInputs refusal reading
+RefusesFollow (Checkpoint plan fault) reading checkpoint = IsOpenedAnd reading (λ given. IsNotTakenUp given checkpoint (arc_value plan) fault)
+RefusesFollow (Stream plan refusal) reading checkpoint = IsOpenedAnd reading (λ given. IsNotFollowed given checkpoint (arc_value plan) refusal)
+
+-- the line of a refusal
+abbrev pub line_of : Unfollowed → List ℕ
+line_of (Given refusal) = refusal_line refusal
+line_of (Checkpoint plan fault) = resume_line (arc_value plan).tables fault
+line_of (Stream plan refusal) = refused_text (arc_value plan).tables (as_step refusal)
