@@ -1,12 +1,10 @@
-use Rattle.std.proofs.Common.{[]}
-use Rattle.vrepl_main.specs.Adding.{at}
-use Rattle.vrepl_main.proofs.AddLaws.{added, then_finishes}
+use Rattle.std.proofs.Common.{refl}
+use Rattle.std.proofs.lemmas.Result.{err_from_is_err_and}
+use Rattle.vrepl_main.specs.Command.{IsGivenText}
+use Rattle.vrepl_main.proofs.CommandLaws.{refuses_unwritten}
 use Rattle.vrepl.proofs.explaining.print_text.Goals as goal
 
-pub returns-in-Ok : goal.returns-in-Ok
-returns-in-Ok g c =
-    let put = rw (c.new-gathered.ensures, c.in-Ok.is, c.as_bytes.ensures.value) at (added c.put.result _ _ _ c.put.new.self _ c.put.ensures) in
-    then_finishes c.finish.result (at _ []) (at _ c.put.new.self) _ c.args.text.now put c.finish.ensures.printed
-
-pub returns-in-Err : goal.returns-in-Err
-returns-in-Err g c = (rw (c.new-gathered.ensures, c.in-Err.is, c.as_bytes.ensures.value) at (added c.put.result _ _ _ c.put.new.self _ c.put.ensures)).begun
+pub returns-in_err-put_all-clause-refused : goal.returns-in_err-put_all-clause-refused
+returns-in_err-put_all-clause-refused g c =
+    let p = err_from_is_err_and c.from_residual.result c.from_residual.ensures.1 in
+    rw p.1 (refuses_unwritten IsGivenText p.0 _ _ _ _ _ refl refl (rw c.as_bytes.ensures.value at c.in_err-put_all.ensures) p.2)
