@@ -3,5 +3,6 @@ mod RowsLaws
 pub mod PrintLaws
 mod TableLaws
 pub mod ReportLaws
+mod TogetherLaws
 mod ReadingLaws
 mod StandLaws

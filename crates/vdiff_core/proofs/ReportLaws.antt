@@ -155,10 +155,10 @@ above_lesser : (lesser key : KeyValue) (rows : RowsValue) → key_cmp lesser key
 above_lesser lesser key rows less above = each (λ later. key_cmp key later.0 ≡ Less) (λ later. key_cmp lesser later.0 ≡ Less) (λ later l. key_cmp_total.trans lesser key later.0 less l) rows above
 
 -- a key that ties with the row before them isn't among them
-tied_none : (x : KeyValue × RowValue) (rows : RowsValue) (key : KeyValue) → AreAbove key_cmp x.0 rows → key_cmp key x.0 ≡ Equal → row_at rows key ≡ None
+pub tied_none : (x : KeyValue × RowValue) (rows : RowsValue) (key : KeyValue) → AreAbove key_cmp x.0 rows → key_cmp key x.0 ≡ Equal → row_at rows key ≡ None
 tied_none x rows key above tied = none_above key_cmp_total x.0 key rows (tied_back key_cmp_total key x.0 tied) above
 
-is_equal : (o : Ordering) → is_eq o ≡ true → o ≡ Equal
+pub is_equal : (o : Ordering) → is_eq o ≡ true → o ≡ Equal
 is_equal Less e = cc
 is_equal Equal e = refl
 is_equal Greater e = cc

@@ -1,11 +1,13 @@
 -- What a comparison of two sets of rows says (this profile, after Vitess's VDiff).
-use Rattle.std.specs.Prelude.{◌≡◌, ◌≢◌, ℕ, ◌+◌, Bool, true, false, not, List, Option, Some, None}
+use Rattle.std.specs.Prelude.{◌≡◌, ◌≢◌, ℕ, ◌+◌, Bool, true, false, not, List, length, Option, Some, None}
 use Rattle.std.specs.List.{count_by}
+use Rattle.std.specs.Option.{option_or}
 use Rattle.std.specs.Str.{bytes_eq}
 use Rattle.std.specs.Cmp.Lexicographic.{pointwise}
 use Rattle.std.specs.declared.cmp.Ordering.TheVariants.{Less}
 use Rattle.pk_copy.specs.KeyOrder.{key_cmp}
 use Rattle.pk_copy.specs.KeyValue.{KeyValue}
+use Rattle.target_tables.specs.Rising.{IsRising}
 use Rattle.vdiff_core.specs.declared.report.Report.{Report}
 use Rattle.vdiff_core.specs.RowsValue.{RowValue, RowsValue, row_at}
 
@@ -50,3 +52,14 @@ report_of source target =
 pub record IsFirstDifference (source target : RowsValue) (key : KeyValue) : Type 0 where
   pub differ : row_at source key ≢ row_at target key
   pub same_before : (lesser : KeyValue) → key_cmp lesser key ≡ Less → row_at source lesser ≡ row_at target lesser
+
+-- ---- the sum
+
+-- the rows of both together, each key once: at a key the source's row, or else the target's
+pub record AreTogether (source target both : RowsValue) : Type 0 where
+  pub rising : IsRising key_cmp both
+  pub each_key : (key : KeyValue) → row_at both key ≡ option_or (row_at source key) (row_at target key)
+
+-- so many keys stand in either
+abbrev pub HaveKeys : RowsValue → RowsValue → ℕ → Type 0
+HaveKeys source target count = (both : RowsValue) × AreTogether source target both × (count ≡ length both)

@@ -1,7 +1,7 @@
 //! Two sets of rows compared.
 
 ghost use Rattle.std.specs.Prelude.{◌≡◌, ◌+◌, MatchOption};
-ghost use Rattle.vdiff_core.specs.Report.{report_of, IsFirstDifference};
+ghost use Rattle.vdiff_core.specs.Report.{report_of, HaveKeys, IsFirstDifference};
 
 use crate::rows::Rows;
 use pk_copy::{Key, keys_tie_where_they_are_equal};
@@ -25,7 +25,9 @@ pub struct Report {
 /// Compares the rows of a source and of a target, key by key, in one walk over both. NULL and the
 /// empty value are told apart. Takes no memory.
 pub fn compare(source: &Rows, target: &Rows) -> Report
-    ensures { result ≡ report_of source.now target.now }
+    ensures report { result ≡ report_of source.now target.now }
+    // As many keys as are processed stand in either.
+    ensures keys { HaveKeys source.now target.now result.processed }
 {
     keys_tie_where_they_are_equal();
     let mut report = Report {

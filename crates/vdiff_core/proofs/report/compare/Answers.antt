@@ -1,5 +1,7 @@
-use Rattle.std.proofs.Common.{◌∙◌, sym, inl, inr}
+use Rattle.std.proofs.Common.{◌∙◌, ap, sym, inl, inr}
 use Rattle.vdiff_core.proofs.ReportLaws.{none_of, walk_ends, walks_matching, walks_mismatched, walks_source, walks_target}
+use Rattle.vdiff_core.proofs.TogetherLaws.{processed_keys}
+use Rattle.vdiff_core.specs.declared.report.Report.{Report}
 use Rattle.vdiff_core.proofs.report.compare.Goals as goal
 use Rattle.vdiff_core.proofs.report.compare.Goals.{in_default, in_default-2}
 
@@ -23,5 +25,10 @@ loop-ours-preserved c =
     let w = rw (c.in-Some-Some.ensures.cases.0, c.in-Some-Some.ensures'.cases.0) at c.loop-ours.invariant in
     walks_mismatched _ _ _ _ _ _ _ _ _ _ w ((c.keys_tie_where_they_are_equal.ensures _ _).0 (sym c.cmp.ensures ∙ c.in-Equal.is)) (λ e. let told = c.same.ensures.1 e in cc)
 
-pub returns : goal.returns
-returns c = walk_ends _ _ _ _ _ _ _ _ c.loop-ours.invariant (elim c.match-split_first.branch [ in_default w ↦ inr (none_of _ w.in_default.ensures'.cases) | in_default-2 w ↦ inl (none_of _ w.in_default.ensures.cases) ])
+pub returns-clause-report : goal.returns-clause-report
+returns-clause-report c = walk_ends _ _ _ _ _ _ _ _ c.loop-ours.invariant (elim c.match-split_first.branch [ in_default w ↦ inr (none_of _ w.in_default.ensures'.cases) | in_default-2 w ↦ inl (none_of _ w.in_default.ensures.cases) ])
+
+pub returns-clause-keys : goal.returns-clause-keys
+returns-clause-keys c =
+    let all = processed_keys (λ a b. (c.keys_tie_where_they_are_equal.ensures a b).0) c.args.source.now c.args.target.now c.as_slice-left.ensures.rising c.as_slice-right.ensures.rising in
+    (all.0, all.1, ap (λ (r : Report). r.processed) (returns-clause-report c) ∙ all.2)
