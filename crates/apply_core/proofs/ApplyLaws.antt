@@ -49,12 +49,12 @@ module _ (streams : List State) (rows : TargetRows) (s : ℕ) (event : Event) (p
       rising))
 
   -- the step is refused where its puts are
-  pub refused-by_puts : ClashesAreOfTheCut → takes_memory event ≡ true → (fault : TableFault KeyValue) → IsRefusal key_cmp rows s (last_at key_cmp puts) fault → IsRefused met s event (refused_by fault)
+  pub refused-by_puts : ClashesAreOfTheCut → ((state : State) → takes_memory state event ≡ true) → (fault : TableFault KeyValue) → IsRefusal key_cmp rows s (last_at key_cmp puts) fault → IsRefused met s event (refused_by fault)
   refused-by_puts clashes takes fault h =
       subst (λ (o : Option State). MatchOption o (refused_by fault ≡ NoStream) (λ state. IsRefusedFor met s state event (refused_by fault))) (sym are.may.stream) (by fault h)
     where
       by : (fault : TableFault KeyValue) → IsRefusal key_cmp rows s (last_at key_cmp puts) fault → IsRefusedFor met s are.may.state event (refused_by fault)
-      by table.Memory h = takes
+      by table.Memory h = (are.may.allowed, takes are.may.state)
       by (table.OwnedByOther key owner) h =
           clashes met s are.may.state event key owner (may_step are.may) (record {
             here = subst (λ (t : Option (Option RowValue)). owner_in_the_way s t (value_at key_cmp rows key) ≡ Some owner) (done_at are.may.state are.may.stream key) h.here;
@@ -67,7 +67,7 @@ module _ (items : List State) (rows new : TargetRows) (s : ℕ) (event : Event) 
   here_puts = subst (λ (xs : List State). ArePutsOf xs s event puts) is are
 
   -- the step of lent streams whose puts are refused is the board's
-  pub lent-refused : ClashesAreOfTheCut → takes_memory event ≡ true → (fault : TableFault KeyValue) → IsRefusal key_cmp rows s (last_at key_cmp puts) fault
+  pub lent-refused : ClashesAreOfTheCut → ((state : State) → takes_memory state event ≡ true) → (fault : TableFault KeyValue) → IsRefusal key_cmp rows s (last_at key_cmp puts) fault
       → (refusal : Refusal) → refusal ≡ refused_by fault → new ≡ rows → (board : Meaning) → ◌≡◌ {A = Meaning} (record { streams = items; rows = rows }) board
       → IsRefused board s event refusal × (◌≡◌ {A = Meaning} (record { streams = items; rows = new }) board)
   lent-refused clashes takes fault h refusal by unchanged board seen = (

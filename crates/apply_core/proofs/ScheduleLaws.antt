@@ -1,34 +1,31 @@
 -- Steps of a schedule, and lists of them, from the steps of the board.
 use Rattle.std.proofs.Common.{◌≡◌, ℕ, suc, ◌+◌, ◌<◌, ◌⊎◌, inl, inr, List, [], ◌∷◌, ◌++◌, length, map, take, get_or, Option, Some, None, Result, Ok, Err, slice_get, refl, sym, ap, subst, ◌∙◌, arith}
 use Rattle.std.proofs.Math.Nat.{eq-or-lt_of_le}
-use Rattle.std.proofs.lemmas.Bool.{true≢false}
 use Rattle.std.proofs.lemmas.List.{take_more}
 use Rattle.std.proofs.lemmas.Option.{slice_get-map, same_Some, none-some}
-use Rattle.std.specs.Prelude.{IsTrue, IfOk, OnOk, MatchOption}
+use Rattle.std.specs.Prelude.{IfOk, OnOk, IsSomeAnd}
 use Rattle.std.specs.Option.{option_map}
 use Rattle.filter_rule.specs.PlanValue.{PlanValue}
 use Rattle.stream_core.specs.declared.step.Step.{Step}
+use Rattle.stream_core.specs.declared.step.Step.TheVariants.{Offer, Advance, OpenAt, CopyRows, Close, Restart}
 use Rattle.source_feed.specs.Planned.{FeedValue}
 use Rattle.board_laws.specs.declared.refusal.Refusal.{Refusal}
 use Rattle.board_laws.specs.declared.refusal.Refusal.TheVariants.{NoStream, WrongPlan, Diverged, Core, OwnedByOther, FeedCount, Memory}
-use Rattle.board_laws.specs.declared.step_refusal.StepRefusal.TheVariants.{Refused}
 use Rattle.board_laws.specs.Meaning.{State, Meaning}
 use Rattle.board_laws.specs.Lawful.{start_of}
 use Rattle.board_laws.specs.Event.{Event}
-use Rattle.board_laws.specs.Lone.{is_hindrance}
 use Rattle.board_laws.specs.Reading.{AllReadTheirFeeds, HasFeed}
 use Rattle.board_laws.specs.RunLaws.{StreamsFollowTheirOwnSteps}
 use Rattle.board_laws.specs.Runs.{event_of}
-use Rattle.board_laws.specs.Schedule.{Reply, may_want_memory, IsRefusedStep, IsReply, IsRun}
-use Rattle.board_laws.specs.Step.{takes_memory, IsRefusedFor, IsRefused}
+use Rattle.board_laws.specs.Schedule.{Reply, WantsMemory, IsRefusedStep, IsReply, IsRun}
+use Rattle.board_laws.specs.Step.{IsRefused}
 use Rattle.apply_core.specs.Fresh.{fresh_board}
 use Rattle.apply_core.specs.Feeds.{AreWhole}
 use Rattle.apply_core.specs.Schedules.{AllAreTaken}
 
 -- ---- one step
 
-module _ (feed : FeedValue) (old new : Meaning) (s : ℕ) (step : Step) (event : Event) (of_step : event_of feed step ≡ Some event)
-    (memory : IsTrue (takes_memory event) → IsTrue (may_want_memory step)) where
+module _ (feed : FeedValue) (old new : Meaning) (s : ℕ) (step : Step) (event : Event) (of_step : event_of feed step ≡ Some event) where
   -- a step that the board refuses is a refused step of the schedule
   pub refused-step : (refusal : Refusal) → IsRefused old s event refusal → new ≡ old → IsRefusedStep feed old s step refusal new
   refused-step NoStream h same = record { event = event; of_step = of_step; stepped = (h, same) }
@@ -37,11 +34,18 @@ module _ (feed : FeedValue) (old new : Meaning) (s : ℕ) (step : Step) (event :
   refused-step (Core refusal) h same = record { event = event; of_step = of_step; stepped = (h, same) }
   refused-step (OwnedByOther key owner) h same = record { event = event; of_step = of_step; stepped = (h, same) }
   refused-step FeedCount h same = record { event = event; of_step = of_step; stepped = (h, same) }
-  refused-step Memory h same = (wanted (slice_get old.streams s) h, same)
+  refused-step Memory h same = (wanted step of_step, same)
     where
-      wanted : (o : Option State) → MatchOption o (Memory ≡ NoStream) (λ state. IsRefusedFor old s state event Memory) → IsTrue (may_want_memory step)
-      wanted None h = absurd (true≢false (ap (λ r. is_hindrance (Refused r)) h))
-      wanted (Some state) h = memory h
+      so : (o : Option Event) → o ≡ Some event → IsSomeAnd o (λ event. IsRefused old s event Memory)
+      so o is = subst (λ (o : Option Event). IsSomeAnd o (λ event. IsRefused old s event Memory)) (sym is) h
+
+      wanted : (step : Step) → event_of feed step ≡ Some event → WantsMemory feed old s step
+      wanted (Offer n) is = tt
+      wanted Advance is = so (event_of feed Advance) is
+      wanted (OpenAt m) is = so (event_of feed (OpenAt m)) is
+      wanted (CopyRows c) is = so (event_of feed (CopyRows c)) is
+      wanted Close is = so (event_of feed Close) is
+      wanted Restart is = so (event_of feed Restart) is
 
 -- ---- a list of steps
 

@@ -1,5 +1,6 @@
 -- Steps on streams, put together from the stream's own.
-use Rattle.std.proofs.Common.{◌≡◌, ℕ, ◌<◌, Bool, true, false, cond, List, [], ◌∷◌, ◌++◌, length, get_or, set, Option, Some, slice_get, refl, sym, ap, subst, ◌∙◌}
+use Rattle.std.proofs.Common.{◌≡◌, ℕ, ◌+◌, ◌<◌, Bool, true, false, cond, List, [], ◌∷◌, ◌++◌, inl, inr, length, get_or, set, Option, Some, slice_get, refl, sym, ap, subst, ◌∙◌}
+use Rattle.std.proofs.lemmas.Bool.{eq-eqb, le-leb}
 use Rattle.std.proofs.lemmas.List.{set-get_or}
 use Rattle.std.proofs.lemmas.Option.{slice_get-get_or, get_or_from_slice_get}
 use Rattle.std.specs.Prelude.{nat_le, MatchOption}
@@ -13,8 +14,8 @@ use Rattle.source_feed.specs.Touches.{PreparedValue}
 use Rattle.board_laws.specs.Meaning.{State}
 use Rattle.board_laws.specs.Event.{Event, offer}
 use Rattle.board_laws.specs.StateAfter.{answer_to, state_after}
-use Rattle.board_laws.specs.Allowed.{IsAllowed}
-use Rattle.board_laws.specs.Step.{IsRefusedFor}
+use Rattle.board_laws.specs.Allowed.{IsInPlace, IsAllowed}
+use Rattle.board_laws.specs.Step.{takes_memory, IsRefusedFor}
 use Rattle.apply_core.specs.Private.StreamStep.{MayMake, MakesStep, IsRefusedAlone, RefusesByItself}
 
 module _ (streams : List State) (s : ℕ) (d : State) (inside : s < length streams) where
@@ -39,6 +40,15 @@ module _ (streams : List State) (s : ℕ) (d : State) (inside : s < length strea
     ap (set streams s) same ∙ set-get_or streams s d,
   )
 
+  -- a step that is made, and leaves the stream as it was
+  pub makes-still : (event : Event) (answer : Answer) → IsAllowed x event → answer ≡ answer_to x event → x ≡ state_after x event → MakesStep streams s event answer streams
+  makes-still event answer allowed answered left =
+      subst (λ (xs : List State). MakesStep streams s event answer xs) (set-get_or streams s d) (makes event answer x allowed answered left)
+
+  -- the stream is refused by itself
+  pub refuses-still : (event : Event) (refusal : Refusal) → RefusesByItself x event refusal → IsRefusedAlone streams s event refusal
+  refuses-still event refusal by_itself = (refuses event refusal x by_itself refl).0
+
 -- an offer that answers a repeat leaves the state
 pub repeat-leaves : (state : State) (group : PreparedValue) (number : ℕ) → ◌≡◌ {A = Answer} (Offered (Repeat number)) (answer_to state (offer group)) → state ≡ state_after state (offer group)
 repeat-leaves state group number e = by (nat_le group.number (length state.list)) refl
@@ -48,6 +58,16 @@ repeat-leaves state group number e = by (nat_le group.number (length state.list)
     by false h =
         let clash : ◌≡◌ {A = Answer} (Offered (Repeat number)) (Offered (Read group.number)) = e ∙ ap (λ b. Offered (cond b (Repeat group.number) (Read group.number))) h in
         cc
+
+-- an offer that is to be read takes memory
+pub read-takes : (state : State) (group : PreparedValue) (number : ℕ) → IsAllowed state (offer group) → ◌≡◌ {A = Answer} (Offered (Read number)) (answer_to state (offer group)) → takes_memory state (offer group) ≡ true
+read-takes state group number allowed e = by allowed.place
+  where
+    by : IsInPlace state (offer group) → takes_memory state (offer group) ≡ true
+    by (inl read) =
+        let clash : ◌≡◌ {A = Answer} (Offered (Read number)) (Offered (Repeat group.number)) = e ∙ ap (λ b. Offered (cond b (Repeat group.number) (Read group.number))) (le-leb group.number (length state.list) read.within) in
+        cc
+    by (inr next) = eq-eqb group.number (length state.list + 1) next.number
 
 -- what a judged offer answers, said of the same group and of the same answer
 pub offer-answered : (state : State) (judged group : PreparedValue) (same : judged ≡ group) (answered answer : OfferAnswer) (is : answered ≡ answer)

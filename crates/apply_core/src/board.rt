@@ -13,7 +13,7 @@ ghost use Rattle.board_laws.specs.Step.{answered, IsStep};
 ghost use Rattle.apply_core.specs.Fresh.{fresh_board, HaveSameTables, IsRefusedBoard};
 
 use crate::fresh::{fresh_streams, have_same_tables};
-use crate::steps::{close_on, offer_to, open_on, restart_on};
+use crate::steps::{close_on, judge_offer_to, offer_to, open_on, restart_on};
 use crate::stream::Stream;
 use board_laws::{Offered, Refusal, fresh_boards_are_lawful, steps_keep_boards_lawful};
 use filter_rule::Plan;
@@ -86,6 +86,16 @@ impl<'h> Board<'h> {
         steps_keep_boards_lawful();
         let _touches = group.touches();
         offer_to(&mut self.streams, s, group)
+    }
+
+    /// What an offer to stream `s` answers where there is no memory to read the group: the next one is refused
+    /// 72, and whatever `offer` finds without memory is found here. It changes nothing. Takes no memory.
+    pub fn judge_offer(&self, s: u8, group: &Prepared<'_>) -> Result<Offered, Refusal>
+        ensures { IsStep self.now s (offer group.now) (answered answers.Answer.Offered result) self.now }
+    {
+        steps_keep_boards_lawful();
+        let _touches = group.touches();
+        judge_offer_to(&self.streams, s, group)
     }
 
     /// A snapshot is opened on stream `s` at a group that is read and not behind the applied one. The

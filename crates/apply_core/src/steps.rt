@@ -36,6 +36,25 @@ pub(crate) fn offer_to<'h>(
     }
 }
 
+/// What an offer to stream `s` answers where there is no memory to read the group. Takes none.
+pub(crate) fn judge_offer_to(
+    streams: &[Stream<'_>],
+    s: u8,
+    group: &Prepared<'_>,
+) -> Result<Offered, Refusal>
+    ensures { IsStreamStep streams.now s (offer group.now) (answered answers.Answer.Offered result) streams.now }
+{
+    if s as usize >= streams.len() {
+        return Err(Refusal::NoStream);
+    }
+    let stream = &streams[s as usize];
+    match stream.judge_offer(group) {
+        Err(refusal) => Err(refusal),
+        Ok(Offered::Repeat(number)) => Ok(Offered::Repeat(number)),
+        Ok(Offered::Read(_)) => Err(Refusal::Memory),
+    }
+}
+
 /// A snapshot is opened on stream `s`.
 pub(crate) fn open_on(
     alloc: Global,

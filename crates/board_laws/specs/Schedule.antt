@@ -1,7 +1,7 @@
 -- A list of steps on the streams of a board, one after another, each stream reading its own feed (this profile).
-use Rattle.std.specs.Prelude.{◌≡◌, ℕ, Bool, true, false, IsTrue, List, [], ◌∷◌, Option, Some, MatchOption, Result, Ok, Err, slice_get}
+use Rattle.std.specs.Prelude.{◌≡◌, ℕ, List, [], ◌∷◌, Option, Some, MatchOption, IsSomeAnd, Result, Ok, Err, slice_get}
 use Rattle.stream_core.specs.declared.step.Step.{Step}
-use Rattle.stream_core.specs.declared.step.Step.TheVariants.{Offer, Advance, OpenAt, CopyRows, Close, Restart}
+use Rattle.stream_core.specs.declared.step.Step.TheVariants.{Offer}
 use Rattle.source_feed.specs.declared.fault.FeedFault.{FeedFault}
 use Rattle.source_feed.specs.Planned.{FeedValue}
 use Rattle.source_feed.specs.Touches.{prepared_at}
@@ -13,22 +13,13 @@ use Rattle.board_laws.specs.declared.step_refusal.StepRefusal.TheVariants.{Unpre
 use Rattle.board_laws.specs.Meaning.{Meaning}
 use Rattle.board_laws.specs.Event.{Event}
 use Rattle.board_laws.specs.Runs.{event_of}
-use Rattle.board_laws.specs.Step.{IsStep}
+use Rattle.board_laws.specs.Step.{IsRefused, IsStep}
 
 -- what a step of a schedule answers
 abbrev pub Reply : Type 0
 Reply = Result Answer StepRefusal
 
 -- ---- one step
-
--- the steps that take memory
-abbrev pub may_want_memory : Step → Bool
-may_want_memory (Offer n) = true
-may_want_memory Advance = true
-may_want_memory (OpenAt m) = true
-may_want_memory (CopyRows c) = true
-may_want_memory Close = false
-may_want_memory Restart = false
 
 -- the group of an offer can't be prepared
 abbrev pub IsUnprepared : FeedValue → Step → FeedFault → Type 0
@@ -41,9 +32,15 @@ pub record IsEventStep (feed : FeedValue) (old : Meaning) (s : ℕ) (step : Step
   pub of_step : event_of feed step ≡ Some event
   pub stepped : IsStep old s event result new
 
+-- what stands where a step wants memory: an offer's group is prepared before the board judges it; any other step the
+-- board refuses so
+abbrev pub WantsMemory : FeedValue → Meaning → ℕ → Step → Type 0
+WantsMemory feed old s (Offer n) = Unit {0}
+WantsMemory feed old s step = IsSomeAnd (event_of feed step) (λ event. IsRefused old s event Memory)
+
 -- a step that the board refuses, or that wants memory, which changes nothing
 abbrev pub IsRefusedStep : FeedValue → Meaning → ℕ → Step → Refusal → Meaning → Type 0
-IsRefusedStep feed old s step Memory new = IsTrue (may_want_memory step) × (new ≡ old)
+IsRefusedStep feed old s step Memory new = WantsMemory feed old s step × (new ≡ old)
 IsRefusedStep feed old s step refusal new = IsEventStep feed old s step (Err refusal) new
 
 -- what a step on stream s replies and leaves, by the stream's feed

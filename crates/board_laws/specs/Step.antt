@@ -1,5 +1,5 @@
 -- A step on one stream of a board: what it answers and leaves, or why it is refused (this profile).
-use Rattle.std.specs.Prelude.{◌≡◌, ℕ, Bool, true, false, IsTrue, Option, Some, MatchOption, Result, Ok, Err, slice_get, slice_set}
+use Rattle.std.specs.Prelude.{◌≡◌, ℕ, ◌+◌, ◌==◌, Bool, true, false, IsTrue, length, Option, Some, MatchOption, Result, Ok, Err, slice_get, slice_set}
 use Rattle.std.specs.Option.{option_map}
 use Rattle.pk_copy.specs.KeyOrder.{key_cmp}
 use Rattle.pk_copy.specs.KeyValue.{KeyValue}
@@ -19,14 +19,14 @@ use Rattle.board_laws.specs.Allowed.{IsOwnPlan, IsDiverged, IsAllowed, IsRefused
 abbrev pub due_at : State → KeyValue → Option (Option RowValue)
 due_at state key = option_map Some (cut_of state key)
 
--- the steps that take memory
-abbrev pub takes_memory : Event → Bool
-takes_memory (offer group) = true
-takes_memory advance = true
-takes_memory (open_at m) = true
-takes_memory (copy_rows c) = true
-takes_memory close = false
-takes_memory restart = false
+-- the steps that take memory; of the offers those of the next group, since one that was read before is only compared
+abbrev pub takes_memory : State → Event → Bool
+takes_memory state (offer group) = group.number == length state.list + 1
+takes_memory state advance = true
+takes_memory state (open_at m) = true
+takes_memory state (copy_rows c) = true
+takes_memory state close = false
+takes_memory state restart = false
 
 -- ---- a step that is made
 
@@ -49,7 +49,8 @@ pub record IsClash (rows : TargetRows) (s : ℕ) (state : State) (event : Event)
   pub allowed : IsAllowed state event
   pub least : IsLeastClash key_cmp rows s (due_at (state_after state event)) key owner
 
--- what stands where a step on a stream is refused
+-- what stands where a step on a stream is refused; memory is wanted only where nothing of the stream's own is against
+-- the step
 abbrev pub IsRefusedFor : Meaning → ℕ → State → Event → Refusal → Type 0
 IsRefusedFor old s state event NoStream = ⊥
 IsRefusedFor old s state event WrongPlan = ¬ IsOwnPlan state event
@@ -57,7 +58,7 @@ IsRefusedFor old s state event Diverged = IsOwnPlan state event × IsDiverged st
 IsRefusedFor old s state event (Core refusal) = IsRefusedByTable state event refusal
 IsRefusedFor old s state event (OwnedByOther key owner) = IsClash old.rows s state event key owner
 IsRefusedFor old s state event FeedCount = ⊥
-IsRefusedFor old s state event Memory = IsTrue (takes_memory event)
+IsRefusedFor old s state event Memory = IsAllowed state event × IsTrue (takes_memory state event)
 
 -- the same where there is such a stream, and else 115
 abbrev pub IsRefused : Meaning → ℕ → Event → Refusal → Type 0

@@ -1,14 +1,13 @@
 //! What lies in the lock: the board, and how many seats are given out.
 
-ghost use Rattle.std.specs.Prelude.{◌≡◌, ◌+◌, ◌<◌, true, Some, Err, IsSome, IfOk, IsSomeAnd, slice_get};
+ghost use Rattle.std.specs.Prelude.{◌≡◌, ◌+◌, ◌<◌, Some, Err, IsSome, IfOk, IsSomeAnd, slice_get};
 ghost use Rattle.std.specs.Option.{option_map};
 ghost use Rattle.std.specs.Arc.{arc_value};
 ghost use Rattle.board_laws.specs.declared.answer.Answer as answers;
 ghost use Rattle.board_laws.specs.Lawful.{standing_of};
-ghost use Rattle.board_laws.specs.declared.refusal.Refusal.TheVariants.{Memory};
-ghost use Rattle.board_laws.specs.Event.{Event, offer, advance, open_at, copy_rows, close, restart};
+ghost use Rattle.board_laws.specs.Event.{offer, advance, open_at, copy_rows, close, restart};
 ghost use Rattle.board_laws.specs.StateAfter.{state_after};
-ghost use Rattle.board_laws.specs.Step.{answered, takes_memory};
+ghost use Rattle.board_laws.specs.Step.{answered};
 ghost use Rattle.stream_worker.specs.Outlines.{IsNextOf};
 ghost use Rattle.stream_worker.specs.Seats.{IsBoardStep, IsReceiptOf, own_cut};
 
@@ -21,7 +20,7 @@ use source_feed::Prepared;
 use std::alloc::{AllocError, Global};
 use std::marker::Model;
 use std::sync::Arc;
-use stream_core::Cursor;
+use stream_core::{Cursor, Step, decide};
 use target_tables::Freed;
 
 /// The board and the number of seats that are given out. It is what the lock's channel carries; its board
@@ -71,12 +70,26 @@ impl<'h> Deal<'h> {
         }
     }
 
-    /// A call that takes memory, and found none before it came to the board, changes nothing.
-    pub(crate) fn lacks_memory(&self, _s: u8)
-        requires { IsSome (slice_get self.now.board _s) }
-        ensures { (event : Event) → takes_memory event ≡ true → IsBoardStep self.now _s event (Err Memory) self.now }
+    /// What an offer answers whose group found no memory before the board was taken: what is found without, and
+    /// 72 where the group is the next one. It changes nothing. Takes no memory.
+    pub(crate) fn judge_offer(&self, s: u8, group: &Arc<Prepared<'h>>) -> Result<Offered, Refusal>
+        ensures { IsBoardStep self.now s (offer (arc_value group.now)) (answered answers.Answer.Offered result) self.now }
     {
         self.board.is_lawful();
+        self.board.judge_offer(s, group)
+    }
+
+    /// Why an advance is refused that found no memory before the board was taken: for where the stream stands,
+    /// and else 72. It changes nothing. Takes no memory.
+    pub(crate) fn judge_advance(&self, s: u8) -> Refusal
+        requires { IsSome (slice_get self.now.board s) }
+        ensures { IsBoardStep self.now s advance (Err result) self.now }
+    {
+        self.board.is_lawful();
+        match decide(&self.cursor(s), Step::Advance) {
+            Err(refusal) => Refusal::Core(refusal),
+            Ok(_) => Refusal::Memory,
+        }
     }
 
     /// A group is offered to a stream of the board.

@@ -1,12 +1,11 @@
 //! The shared board, and the calls of its seats.
 
-ghost use Rattle.std.specs.Prelude.{◌≡◌, true, Err, IfOk, IsSomeAnd};
+ghost use Rattle.std.specs.Prelude.{◌≡◌, Err, IfOk, IsSomeAnd};
 ghost use Rattle.std.specs.Arc.{arc_value};
 ghost use Rattle.board_laws.specs.declared.answer.Answer as answers;
 ghost use Rattle.board_laws.specs.Cut.{cut_of};
-ghost use Rattle.board_laws.specs.declared.refusal.Refusal.TheVariants.{Memory};
-ghost use Rattle.board_laws.specs.Event.{Event, offer, advance, open_at, copy_rows, close, restart};
-ghost use Rattle.board_laws.specs.Step.{answered, takes_memory};
+ghost use Rattle.board_laws.specs.Event.{offer, advance, open_at, copy_rows, close, restart};
+ghost use Rattle.board_laws.specs.Step.{answered};
 ghost use Rattle.stream_worker.specs.Seats.{IsSeatStep, IsReceiptOf};
 
 use crate::lock::Lock;
@@ -29,18 +28,34 @@ pub struct Shared<'h> {
 impl<'h> Shared<'h> {
     ghost use Rattle.stream_worker.specs.SeatOf.{known, seat_state, IsSeatOf};
 
-    /// A call that takes memory, and found none before it came to the board, is refused so on whatever board
-    /// there is.
-    fn lacks_memory<R: Wait>(&self, rt: &R, seat: &mut Seat<'h>) -> Refusal
+    /// An offer whose group found no memory before the board was taken: the board is asked what it finds
+    /// without.
+    fn judge_offer<R: Wait>(
+        &self,
+        rt: &R,
+        seat: &mut Seat<'h>,
+        group: &Arc<Prepared<'h>>,
+    ) -> Result<Offered, Refusal>
         requires { IsSeatOf self.now seat.old }
-        ensures memory { result ≡ Memory }
         ensures seat { IsSeatOf self.now seat.new × (seat.new.stream ≡ seat.old.stream) }
-        ensures step { (event : Event) → takes_memory event ≡ true → IsSeatStep (known seat.old) seat.old.stream event (Err Memory) (known seat.new) }
+        ensures step { IsSeatStep (known seat.old) seat.old.stream (offer (arc_value group.now)) (answered answers.Answer.Offered result) (known seat.new) }
     {
         let deal = self.lock.take(rt, &mut seat.pass);
-        deal.lacks_memory(seat.stream);
+        let result = deal.judge_offer(seat.stream, group);
         self.lock.put_back(rt, &mut seat.pass, deal);
-        Refusal::Memory
+        result
+    }
+
+    /// An advance that found no memory before the board was taken: the board is asked what it finds without.
+    fn judge_advance<R: Wait>(&self, rt: &R, seat: &mut Seat<'h>) -> Refusal
+        requires { IsSeatOf self.now seat.old }
+        ensures seat { IsSeatOf self.now seat.new × (seat.new.stream ≡ seat.old.stream) }
+        ensures step { IsSeatStep (known seat.old) seat.old.stream advance (Err result) (known seat.new) }
+    {
+        let deal = self.lock.take(rt, &mut seat.pass);
+        let refusal = deal.judge_advance(seat.stream);
+        self.lock.put_back(rt, &mut seat.pass, deal);
+        refusal
     }
 
     /// A group is offered to the seat's stream: it is read, or was read before. Refused as the board's
@@ -57,7 +72,7 @@ impl<'h> Shared<'h> {
         ensures step { IsSeatStep (known seat.old) seat.old.stream (offer (arc_value group.entry)) (answered answers.Answer.Offered result) (known seat.new) }
     {
         let Ok(()) = seat.outline.push(&group) else {
-            return Err(self.lacks_memory(rt, seat));
+            return self.judge_offer(rt, seat, &group);
         };
         let mut deal = self.lock.take(rt, &mut seat.pass);
         let result = deal.offer(alloc, seat.stream, group);
@@ -82,7 +97,7 @@ impl<'h> Shared<'h> {
         ensures receipt { IfOk result (λ receipt. IsSomeAnd (seat_state seat.new) (λ state. IsReceiptOf seat.new.stream state receipt.stream receipt.number (arc_value receipt.group))) }
     {
         let Ok(next) = seat.outline.next(alloc, seat.cursor.applied()) else {
-            return Err(self.lacks_memory(rt, seat));
+            return Err(self.judge_advance(rt, seat));
         };
         let mut deal = self.lock.take(rt, &mut seat.pass);
         let result = deal.advance(alloc, seat.stream, next);

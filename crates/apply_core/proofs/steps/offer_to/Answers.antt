@@ -4,7 +4,7 @@ use Rattle.source_feed.specs.Touches.{PreparedValue}
 use Rattle.board_laws.specs.declared.refusal.Refusal.TheVariants.{Memory}
 use Rattle.board_laws.specs.Event.{offer}
 use Rattle.apply_core.specs.Private.StreamStep.{RefusesByItself}
-use Rattle.apply_core.proofs.StepLaws.{makes, refuses, repeat-leaves, offer-answered}
+use Rattle.apply_core.proofs.StepLaws.{makes, refuses, repeat-leaves, read-takes, offer-answered}
 use Rattle.apply_core.proofs.steps.offer_to.Goals as goal
 
 pub returns-in-Err : goal.returns-in-Err
@@ -19,7 +19,8 @@ returns-in-Ok-Repeat c =
 
 pub returns-in-Err-offer : goal.returns-in-Err-offer
 returns-in-Err-offer c =
-    refuses _ _ c.index-streams-s.result c.if-s-streams.false (offer (arc_value c.args.group)) Memory _ (λ board s. refl) c.in-Err-offer.ensures.err
+    let ok = offer-answered (get_or c.args.streams.now c.args.s c.index-streams-s.result) c.deref.result.now (arc_value c.args.group) c.deref.ensures _ _ c.in-Ok-Read.field-0-is c.in-Ok-Read.ensures.ok in
+    refuses _ _ c.index-streams-s.result c.if-s-streams.false (offer (arc_value c.args.group)) Memory _ (λ board s. (ok.0, read-takes _ (arc_value c.args.group) _ ok.0 ok.1)) c.in-Err-offer.ensures.err
 
 pub returns-in-Ok : goal.returns-in-Ok
 returns-in-Ok c =

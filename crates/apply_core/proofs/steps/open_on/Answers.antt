@@ -10,7 +10,7 @@ returns-in-Err c =
 
 pub returns-in-Err-open_at : goal.returns-in-Err-open_at
 returns-in-Err-open_at c =
-    refuses _ _ c.index-streams-s.result c.if-s-streams.false (open_at c.args.group) Memory _ (λ board s. refl) c.in-Err-open_at.ensures.err
+    refuses _ _ c.index-streams-s.result c.if-s-streams.false (open_at c.args.group) Memory _ (λ board s. (record { plan = tt; place = tt; table = c.in-Ok.ensures }, refl)) c.in-Err-open_at.ensures.err
 
 pub returns-in-Ok-open_at : goal.returns-in-Ok-open_at
 returns-in-Ok-open_at c =

@@ -15,7 +15,7 @@ invariant_of-self-in-Ok-apply c =
 pub returns-in-Err-apply : goal.returns-in-Err-apply
 returns-in-Err-apply c =
     lent-refused c.self.inside.streams.items c.self.inside.rows.entries c.apply.new.self.entries c.args.s advance c.args.puts.changes.items c.self.invariant tt c.deref.result.now c.deref.ensures.value (puts_here c.deref.result.now c.self.inside.streams.items c.args.self.now.streams c.args.s advance c.args.puts.changes.items c.deref.ensures.value (ap (λ (b : Meaning). b.streams) c.self.view_is) c.in-Ok.ensures.may c.requires)
-    c.steps_keep_boards_lawful.ensures.clashes refl c.in-Err-apply.fault c.in-Err-apply.ensures.refused c.refusal_by.result c.refusal_by.ensures c.in-Err-apply.ensures.unchanged c.args.self.now c.self.view_is
+    c.steps_keep_boards_lawful.ensures.clashes (λ state. refl) c.in-Err-apply.fault c.in-Err-apply.ensures.refused c.refusal_by.result c.refusal_by.ensures c.in-Err-apply.ensures.unchanged c.args.self.now c.self.view_is
 
 pub returns-in-Ok-apply : goal.returns-in-Ok-apply
 returns-in-Ok-apply c =

@@ -9,5 +9,5 @@ use Rattle.apply_core.proofs.board.Board.offer_of.Goals as goal
 
 pub returns-in-Err-offer : goal.returns-in-Err-offer
 returns-in-Err-offer c =
-    refused-step c.args.feed.now c.args.self.now c.offer.new.self c.args.s (Offer c.args.number) (offer (arc_value c.in-Ok.group)) (ap (λ r. option_map offer (result_ok r)) c.in-Ok.ensures.exact) (λ wanted. wanted)
+    refused-step c.args.feed.now c.args.self.now c.offer.new.self c.args.s (Offer c.args.number) (offer (arc_value c.in-Ok.group)) (ap (λ r. option_map offer (result_ok r)) c.in-Ok.ensures.exact)
     c.in-Err-offer.refusal c.in-Err-offer.ensures.0 c.in-Err-offer.ensures.1
