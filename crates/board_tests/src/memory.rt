@@ -1,5 +1,5 @@
 //! Calls that find no memory: they say so and change nothing, and the same call is then answered as it would have
-//! been. Each test stands for one run for each growth that it asks for, in which that growth is refused.
+//! been. What isn't allowed is refused as such whatever memory there is. Each test stands for one run for each growth that it asks for, in which that growth is refused.
 
 use crate::alike::is_same;
 use crate::feeds::{Change, Source};
@@ -27,12 +27,29 @@ pub(crate) const OTHERS: &[&[Change]] = &[&[(None, Some((11, b'k')))], &[(None, 
 /// A step of the first stream, and what it answers.
 type Taken = (Step, Answer);
 
-/// Steps that copy a table and follow its feed.
-const COURSE: [Taken; 10] = [
+/// A step that the first stream isn't allowed, and the number by which it is refused.
+type Refused = (Step, u8);
+
+/// What isn't allowed before a group is read.
+const BEFORE_ALL: [Refused; 3] = [
+    (Step::Advance, 102),
+    (Step::OpenAt(1), 107),
+    (Step::CopyRows(3), 108),
+];
+
+/// Steps up to a snapshot.
+const TO_A_SNAPSHOT: [Taken; 4] = [
     (Step::Offer(1), Answer::Offered(Offered::Read(1))),
     (Step::Advance, Answer::Applied(1)),
     (Step::Offer(2), Answer::Offered(Offered::Read(2))),
     (Step::OpenAt(2), Answer::Opened(2)),
+];
+
+/// What isn't allowed before the snapshot is reached.
+const BEFORE_THE_SNAPSHOT: [Refused; 2] = [(Step::OpenAt(2), 105), (Step::CopyRows(3), 109)];
+
+/// Steps that copy the table and follow its feed.
+const COURSE: [Taken; 6] = [
     (Step::Advance, Answer::Applied(2)),
     (
         Step::CopyRows(3),
@@ -104,6 +121,40 @@ fn are_taken<'h>(
     Ok(true)
 }
 
+/// Whether each step is refused as it is with ample memory.
+fn are_refused<'h>(
+    alloc: Global,
+    board: &mut Board<'h>,
+    feeds: &[Feed<'h>],
+    steps: &[Refused],
+) -> bool {
+    for (step, number) in steps {
+        match board.take_step(alloc, feeds, 0, *step) {
+            Err(refusal) if refusal.number() == *number => {}
+            _ => return false,
+        }
+    }
+    true
+}
+
+/// Whether the last group of the first feed is refused 101 on a board of which nothing is read.
+fn is_too_late<'h>(
+    alloc: Global,
+    board: &mut Board<'h>,
+    feeds: &[Feed<'h>],
+) -> Result<bool, AllocError> {
+    let Some(feed) = feeds.first() else {
+        return Ok(false);
+    };
+    let Ok(group) = feed.prepare(alloc, 3) else {
+        return Err(AllocError);
+    };
+    match board.offer(alloc, 0, group) {
+        Err(refusal) => Ok(refusal.number() == 101),
+        Ok(_) => Ok(false),
+    }
+}
+
 /// The board of a workflow over feeds of which nothing is read.
 pub(crate) fn fresh<'h>(alloc: Global, workflow: &[u8]) -> Result<Board<'h>, AllocError> {
     match board_of(alloc, workflow) {
@@ -132,12 +183,18 @@ pub(crate) fn written(alloc: Global, sources: &[Source<'_>]) -> Result<Vec<Vec<u
     }
 }
 
-/// Whether each step of a course over the three groups is so taken.
+/// Whether each step of a course over the three groups is so taken, and what isn't allowed on the way is refused.
 fn course_is_taken(alloc: Global) -> Result<bool, AllocError> {
     let bytes = written(alloc, &[(b'2', THREE_GROUPS)])?;
     let feeds = opened(alloc, ONE, &bytes)?;
     let mut board = fresh(alloc, ONE)?;
-    are_taken(alloc, &mut board, &feeds, &COURSE)
+    Ok(
+        is_too_late(alloc, &mut board, &feeds)?
+            && are_refused(alloc, &mut board, &feeds, &BEFORE_ALL)
+            && are_taken(alloc, &mut board, &feeds, &TO_A_SNAPSHOT)?
+            && are_refused(alloc, &mut board, &feeds, &BEFORE_THE_SNAPSHOT)
+            && are_taken(alloc, &mut board, &feeds, &COURSE)?,
+    )
 }
 
 #[test]

@@ -4,26 +4,32 @@ use Rattle.std.proofs.lemmas.Bool.{or_left, eqb-false}
 use Rattle.std.proofs.lemmas.Option.{same_Some}
 use Rattle.std.specs.Option.{option_map, option_and_then}
 use Rattle.std.specs.Arc.{arc_value}
-use Rattle.std.specs.Prelude.{IfSome}
+use Rattle.std.specs.Prelude.{IsOk, IfSome}
 use Rattle.pk_copy.specs.Marks.{Marks}
 use borrow.Author.Tests.{eqb-true, eq-eqb}
 use Rattle.pk_copy.specs.KeyOrder.{key_cmp}
 use Rattle.pk_copy.specs.KeyValue.{KeyValue}
+use Rattle.stream_core.specs.declared.refusal.CoreRefusal.{CoreRefusal}
+use Rattle.stream_core.specs.declared.step.Step.TheVariants.{Advance}
+use Rattle.stream_core.specs.Standing.{Standing}
+use Rattle.stream_core.specs.StepTable.{decided}
 use Rattle.target_tables.specs.Contents.{value_at}
 use Rattle.source_feed.specs.History.{RowValue}
 use Rattle.source_feed.specs.Touches.{PreparedValue}
 use Rattle.board_laws.specs.declared.answer.Answer.{Answer}
 use Rattle.board_laws.specs.declared.refusal.Refusal.{Refusal}
-use Rattle.board_laws.specs.declared.refusal.Refusal.TheVariants.{NoStream, Memory}
+use Rattle.board_laws.specs.declared.refusal.Refusal.TheVariants.{NoStream, Core, Memory}
 use Rattle.board_laws.specs.Meaning.{State, Meaning}
-use Rattle.board_laws.specs.Lawful.{IsLawful}
+use Rattle.board_laws.specs.Lawful.{standing_of, IsLawful}
 use Rattle.board_laws.specs.Event.{Event, offer, advance, open_at, copy_rows, close, restart}
 use Rattle.board_laws.specs.Chunk.{takes_all, copied_state}
 use Rattle.board_laws.specs.StateAfter.{state_after}
 use Rattle.board_laws.specs.declared.answer.Answer.TheVariants.{Applied}
 use Rattle.board_laws.specs.Cut.{own_row}
-use Rattle.board_laws.specs.Step.{takes_memory, IsMade, IsRefused, IsStep}
+use Rattle.board_laws.specs.Step.{IsMade, IsRefusedFor, IsRefused, IsStep}
+use Rattle.apply_core.specs.Chunks.{IsChunkFor}
 use Rattle.apply_core.specs.Putting.{DoAsStep}
+use Rattle.apply_core.specs.declared.taking.Chunk.{Chunk}
 use Rattle.stream_worker.specs.Knowing.{Laid, names}
 use Rattle.stream_worker.specs.Rule.{GoesOn, AllGoOn, IsOwnChange}
 use Rattle.stream_worker.specs.Outlines.{IsNextOf}
@@ -238,15 +244,32 @@ refused_here old now given s event refusal is lawful refused =
     subst (λ (laid : Laid). IsBoardStep laid s event (Err refusal) laid) is
     (record { rows = old.rows; rows_left = old.rows; lawful = lawful; step = (refused, refl); given = refl })
 
--- a call that wants memory before the board is asked
-pub wants_memory : (old : Meaning) (now : Laid) (given s : ℕ) (event : Event) → laid_of old given ≡ now → IsLawful old → IsSome (slice_get now.board s) → takes_memory event ≡ true
-    → IsBoardStep now s event (Err Memory) now
-wants_memory old now given s event is lawful there takes =
-    refused_here old now given s event Memory is lawful (by (slice_get old.streams s) (subst (λ (laid : Laid). IsSome (slice_get laid.board s)) (sym is) there))
+-- an advance that is refused by where its stream stands
+advance_refused : (old : Meaning) (now : Laid) (given s : ℕ) (cursor : Standing) (refusal : Refusal) → laid_of old given ≡ now → IsLawful old → option_map standing_of (slice_get now.board s) ≡ Some cursor
+    → ((state : State) → standing_of state ≡ cursor → IsRefusedFor old s state advance refusal) → IsBoardStep now s advance (Err refusal) now
+advance_refused old now given s cursor refusal is lawful numbers fact =
+    refused_here old now given s advance refusal is lawful (by (slice_get old.streams s) (ap (λ (laid : Laid). option_map standing_of (slice_get laid.board s)) is ∙ numbers))
   where
-    by : (o : Option State) → IsSome o → MatchOption o (Memory ≡ NoStream) (λ state. takes_memory event ≡ true)
-    by None h = absurd (true≢false (sym h))
-    by (Some state) h = takes
+    by : (o : Option State) → option_map standing_of o ≡ Some cursor → MatchOption o (refusal ≡ NoStream) (λ state. IsRefusedFor old s state advance refusal)
+    by None e = cc
+    by (Some state) e = fact state (same_Some (standing_of state) cursor e)
+
+pub advance_by_table : (old : Meaning) (now : Laid) (given s : ℕ) (cursor : Standing) (refusal : CoreRefusal) → laid_of old given ≡ now → IsLawful old → option_map standing_of (slice_get now.board s) ≡ Some cursor
+    → decided cursor Advance ≡ Err refusal → IsBoardStep now s advance (Err (Core refusal)) now
+advance_by_table old now given s cursor refusal is lawful numbers refused =
+    advance_refused old now given s cursor (Core refusal) is lawful numbers (λ state same. record { plan = tt; history = λ diverged. diverged; table = ap (λ (x : Standing). decided x Advance) same ∙ refused })
+
+-- one that is allowed, and wants memory
+pub advance_wants : (old : Meaning) (now : Laid) (given s : ℕ) (cursor : Standing) → laid_of old given ≡ now → IsLawful old → option_map standing_of (slice_get now.board s) ≡ Some cursor
+    → IsOk (decided cursor Advance) → IsBoardStep now s advance (Err Memory) now
+advance_wants old now given s cursor is lawful numbers allowed =
+    advance_refused old now given s cursor Memory is lawful numbers (λ state same. (record { plan = tt; place = tt; table = subst (λ (x : Standing). IsOk (decided x Advance)) (sym same) allowed }, refl))
+
+-- a chunk that may be copied, and wants memory
+pub chunk_wants : (old : Meaning) (now : Laid) (given s c : ℕ) (chunk : Chunk) → laid_of old given ≡ now → IsLawful old → IsChunkFor old.streams s c chunk → IsBoardStep now s (copy_rows c) (Err Memory) now
+chunk_wants old now given s c chunk is lawful h =
+    refused_here old now given s (copy_rows c) Memory is lawful
+    (subst (λ (o : Option State). MatchOption o (Memory ≡ NoStream) (λ state. IsRefusedFor old s state (copy_rows c) Memory)) (sym h.stream) (h.allowed, refl))
 
 -- ---- a chunk
 

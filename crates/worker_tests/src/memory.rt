@@ -1,5 +1,6 @@
 //! Calls of a shared board that find no memory: they say so, the seat stands where it stood, and the same call is then
-//! answered as it would have been. Each test stands for one run for each growth that it asks for, in which that
+//! answered as it would have been. What isn't allowed is refused as such whatever memory there is, and a group that was
+//! read before is so answered. Each test stands for one run for each growth that it asks for, in which that
 //! growth is refused.
 
 ghost use Rattle.std.specs.Prelude.{◌≡◌, IfOk};
@@ -36,13 +37,12 @@ type Stand = (u32, u32, u8, Option<u32>);
 type Made = (Call, Stand);
 
 /// A course over a feed of two groups.
-const COURSE: [Made; 7] = [
+const COURSE: [Made; 6] = [
     (Call::Offer(1), (1, 0, 0, None)),
     (Call::Advance, (1, 1, 0, None)),
     (Call::Open(1), (1, 1, 0, Some(1))),
-    (Call::Copy(1), (1, 1, 1, None)),
-    (Call::Offer(2), (2, 1, 1, None)),
-    (Call::Offer(1), (2, 1, 1, None)),
+    (Call::Offer(2), (2, 1, 0, Some(1))),
+    (Call::Copy(1), (2, 1, 1, None)),
     (Call::Advance, (2, 2, 1, None)),
 ];
 
@@ -138,8 +138,30 @@ fn is_made_again<'h, R: Wait>(
     }
 }
 
-/// Whether the calls that copy the table are.
-fn is_copied<'h, R: Wait>(
+/// Whether a call leaves the stream where it was, whatever memory there is: refused by this number, or not at all where
+/// none is given.
+fn is_without_effect<'h, R: Wait>(
+    alloc: Global,
+    rt: &R,
+    shared: &Shared<'h>,
+    seat: &mut Seat<'h>,
+    feed: &Feed<'h>,
+    call: Call,
+    number: Option<u8>,
+) -> Result<bool, AllocError>
+    requires { IsSeatOf shared.now seat.old }
+    ensures { IsSeatOf shared.now seat.new × (seat.new.stream ≡ seat.old.stream) }
+{
+    let group = group_of(alloc, feed, call)?;
+    let before = stand(seat);
+    match make(alloc, rt, shared, seat, &group, call) {
+        Ok(()) => Ok(number.is_none() && stand(seat) == before),
+        Err(refusal) => Ok(number == Some(refusal.number()) && stand(seat) == before),
+    }
+}
+
+/// Whether the calls up to a snapshot are, and a group that isn't the next one is refused before.
+fn is_opened<'h, R: Wait>(
     alloc: Global,
     rt: &R,
     shared: &Shared<'h>,
@@ -150,14 +172,15 @@ fn is_copied<'h, R: Wait>(
     ensures { IsSeatOf shared.now seat.new × (seat.new.stream ≡ seat.old.stream) }
 {
     Ok(
-        is_made_again(alloc, rt, shared, seat, feed, &COURSE[0])?
+        is_without_effect(alloc, rt, shared, seat, feed, Call::Offer(2), Some(101))?
+            && is_made_again(alloc, rt, shared, seat, feed, &COURSE[0])?
             && is_made_again(alloc, rt, shared, seat, feed, &COURSE[1])?
             && is_made_again(alloc, rt, shared, seat, feed, &COURSE[2])?
             && is_made_again(alloc, rt, shared, seat, feed, &COURSE[3])?,
     )
 }
 
-/// Whether those behind it are.
+/// Whether those behind it are, an advance is refused before, and a group that was read before is a repeat.
 fn is_followed<'h, R: Wait>(
     alloc: Global,
     rt: &R,
@@ -169,9 +192,10 @@ fn is_followed<'h, R: Wait>(
     ensures { IsSeatOf shared.now seat.new × (seat.new.stream ≡ seat.old.stream) }
 {
     Ok(
-        is_made_again(alloc, rt, shared, seat, feed, &COURSE[4])?
-            && is_made_again(alloc, rt, shared, seat, feed, &COURSE[5])?
-            && is_made_again(alloc, rt, shared, seat, feed, &COURSE[6])?,
+        is_without_effect(alloc, rt, shared, seat, feed, Call::Advance, Some(103))?
+            && is_made_again(alloc, rt, shared, seat, feed, &COURSE[4])?
+            && is_without_effect(alloc, rt, shared, seat, feed, Call::Offer(1), None)?
+            && is_made_again(alloc, rt, shared, seat, feed, &COURSE[5])?,
     )
 }
 
@@ -224,7 +248,7 @@ fn course_ends<'h, R: Wait>(
     requires one { IsSeatOf shared one × (one.stream ≡ 0) }
     requires two { IsSeatOf shared two × (two.stream ≡ 1) }
 {
-    if !is_copied(alloc, rt, &shared, &mut one, feed)?
+    if !is_opened(alloc, rt, &shared, &mut one, feed)?
         || !is_followed(alloc, rt, &shared, &mut one, feed)?
     {
         return Ok(false);
