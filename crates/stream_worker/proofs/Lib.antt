@@ -5,6 +5,7 @@ pub mod Steps
 pub mod BoardSteps
 pub mod SeatLaws
 pub mod OutlineLaws
+pub mod FoundLaws
 pub mod OpenLaws
 pub mod EndLaws
 pub mod CallLaws

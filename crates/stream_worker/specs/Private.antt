@@ -1,5 +1,6 @@
 -- What serves the crate's own code alone.
 pub mod Courses
 pub mod AllowedSteps
+pub mod FoundGroups
 pub mod SeatSteps
 pub mod SeatRuns

@@ -9,11 +9,14 @@ ghost use Rattle.board_laws.specs.Event.{offer, advance, open_at, copy_rows, clo
 ghost use Rattle.board_laws.specs.StateAfter.{state_after};
 ghost use Rattle.board_laws.specs.Step.{answered};
 ghost use Rattle.stream_worker.specs.Outlines.{IsNextOf};
+ghost use Rattle.stream_worker.specs.Private.FoundGroups.{IsFound};
 ghost use Rattle.stream_worker.specs.Seats.{IsBoardStep, IsReceiptOf, own_cut};
 
+use crate::found::Found;
 use crate::outline::Next;
 use crate::receipt::Receipt;
 use apply_core::{Board, Copied, Offered, Refusal};
+use board_laws::steps_keep_boards_lawful;
 use pk_copy::{CopyState, Key};
 use row_view::RowBuf;
 use source_feed::Prepared;
@@ -68,6 +71,23 @@ impl<'h> Deal<'h> {
             Ok(cursor) => cursor,
             Err(_) => unreachable!(),
         }
+    }
+
+    /// What an offer of a group answers whose number is read, by what was found of it before the board was
+    /// taken. It changes nothing. Takes no memory.
+    pub(crate) fn answer_found(
+        &self,
+        _s: u8,
+        group: &Arc<Prepared<'h>>,
+        found: Found,
+    ) -> Result<Offered, Refusal>
+        requires { IsSomeAnd (slice_get self.now.board _s) (λ state. IsFound state.list (arc_value group.now) found) }
+        ensures { IsBoardStep self.now _s (offer (arc_value group.now)) (answered answers.Answer.Offered result) self.now }
+    {
+        steps_keep_boards_lawful();
+        self.board.is_lawful();
+        let _touches = group.touches();
+        found.answer(group.number())
     }
 
     /// What an offer answers whose group found no memory before the board was taken: what is found without, and

@@ -5,6 +5,7 @@ mod alone;
 mod course;
 mod deal;
 mod ending;
+mod found;
 mod gate;
 mod laws;
 mod lock;

@@ -1,11 +1,13 @@
 //! What a seat has of its stream in memory of its own, so that what an advance puts is built before the
 //! board is taken.
 
-ghost use Rattle.std.specs.Prelude.{◌≡◌, ◌<◌, ◌∷◌, ◌++◌, [], ℕ, take, map, Some, IsSome, IfOk, OnOk, OnErr, length, slice_get};
+ghost use Rattle.std.specs.Prelude.{◌≡◌, ◌<◌, ◌∷◌, ◌++◌, [], ℕ, take, map, Some, IsSome, IfSome, IfOk, OnOk, OnErr, length, slice_get};
 ghost use Rattle.std.specs.Arc.{arc_value};
 ghost use Rattle.std.specs.Option.{option_map};
 ghost use Rattle.stream_worker.specs.Outlines.{outline_of, IsNextIn};
+ghost use Rattle.stream_worker.specs.Private.FoundGroups.{IsFound};
 
+use crate::found::Found;
 use apply_core::{Board, Puts};
 use pk_copy::CopyState;
 use source_feed::Prepared;
@@ -82,6 +84,19 @@ impl<'h> Outline<'h> {
                     puts,
                 })
             }
+        }
+    }
+
+    /// How an offered group stands to the one of its number, where that number is read. Takes no memory, and
+    /// time in the bytes of both.
+    pub(crate) fn find(&self, group: &Prepared<'_>) -> Option<Found>
+        ensures { IfSome result (IsFound self.now.list group.now) }
+    {
+        let _touches = group.touches();
+        let place = (group.number() - 1) as usize;
+        match self.list.get(place) {
+            None => None,
+            Some(read) => Some(Found::beside(read, group)),
         }
     }
 

@@ -6,8 +6,10 @@ ghost use Rattle.board_laws.specs.declared.answer.Answer as answers;
 ghost use Rattle.board_laws.specs.Cut.{cut_of};
 ghost use Rattle.board_laws.specs.Event.{offer, advance, open_at, copy_rows, close, restart};
 ghost use Rattle.board_laws.specs.Step.{answered};
+ghost use Rattle.stream_worker.specs.Private.FoundGroups.{IsFound};
 ghost use Rattle.stream_worker.specs.Seats.{IsSeatStep, IsReceiptOf};
 
+use crate::found::Found;
 use crate::lock::Lock;
 use crate::receipt::Receipt;
 use crate::seat::Seat;
@@ -27,6 +29,25 @@ pub struct Shared<'h> {
 
 impl<'h> Shared<'h> {
     ghost use Rattle.stream_worker.specs.SeatOf.{known, seat_state, IsSeatOf};
+
+    /// An offer of a group whose number is read is answered by what was found of it before the board was taken.
+    fn answer_found<R: Wait>(
+        &self,
+        rt: &R,
+        seat: &mut Seat<'h>,
+        group: &Arc<Prepared<'h>>,
+        found: Found,
+    ) -> Result<Offered, Refusal>
+        requires seat { IsSeatOf self.now seat.old }
+        requires found { IsFound seat.old.outline.list (arc_value group.now) found }
+        ensures seat { IsSeatOf self.now seat.new × (seat.new.stream ≡ seat.old.stream) }
+        ensures step { IsSeatStep (known seat.old) seat.old.stream (offer (arc_value group.now)) (answered answers.Answer.Offered result) (known seat.new) }
+    {
+        let deal = self.lock.take(rt, &mut seat.pass);
+        let result = deal.answer_found(seat.stream, group, found);
+        self.lock.put_back(rt, &mut seat.pass, deal);
+        result
+    }
 
     /// An offer whose group found no memory before the board was taken: the board is asked what it finds
     /// without.
@@ -59,7 +80,8 @@ impl<'h> Shared<'h> {
     }
 
     /// A group is offered to the seat's stream: it is read, or was read before. Refused as the board's
-    /// call of this name, on the seat's own state.
+    /// call of this name, on the seat's own state. A group whose number is read is compared with that one before
+    /// the board is taken.
     pub fn offer<R: Wait>(
         &self,
         rt: &R,
@@ -71,6 +93,9 @@ impl<'h> Shared<'h> {
         ensures seat { IsSeatOf self.now seat.new × (seat.new.stream ≡ seat.old.stream) }
         ensures step { IsSeatStep (known seat.old) seat.old.stream (offer (arc_value group.entry)) (answered answers.Answer.Offered result) (known seat.new) }
     {
+        if let Some(found) = seat.outline.find(&group) {
+            return self.answer_found(rt, seat, &group, found);
+        }
         let Ok(()) = seat.outline.push(&group) else {
             return self.judge_offer(rt, seat, &group);
         };
