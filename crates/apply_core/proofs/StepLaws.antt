@@ -1,5 +1,5 @@
 -- Steps on streams, put together from the stream's own.
-use Rattle.std.proofs.Common.{◌≡◌, ℕ, ◌+◌, ◌<◌, Bool, true, false, cond, List, [], ◌∷◌, ◌++◌, inl, inr, length, get_or, set, Option, Some, slice_get, refl, sym, ap, subst, ◌∙◌}
+use Rattle.std.proofs.Common.{◌≡◌, ℕ, ◌+◌, ◌<◌, ◌⊎◌, Bool, true, false, cond, List, [], ◌∷◌, ◌++◌, inl, inr, length, get_or, set, Option, Some, slice_get, refl, sym, ap, subst, ◌∙◌}
 use Rattle.std.proofs.lemmas.Bool.{eq-eqb, le-leb}
 use Rattle.std.proofs.lemmas.List.{set-get_or}
 use Rattle.std.proofs.lemmas.Option.{slice_get-get_or, get_or_from_slice_get}
@@ -14,7 +14,7 @@ use Rattle.source_feed.specs.Touches.{PreparedValue}
 use Rattle.board_laws.specs.Meaning.{State}
 use Rattle.board_laws.specs.Event.{Event, offer}
 use Rattle.board_laws.specs.StateAfter.{answer_to, state_after}
-use Rattle.board_laws.specs.Allowed.{IsInPlace, IsAllowed}
+use Rattle.board_laws.specs.Allowed.{IsRead, IsNext, IsAllowed}
 use Rattle.board_laws.specs.Step.{takes_memory, IsRefusedFor}
 use Rattle.apply_core.specs.Private.StreamStep.{MayMake, MakesStep, IsRefusedAlone, RefusesByItself}
 
@@ -63,7 +63,7 @@ repeat-leaves state group number e = by (nat_le group.number (length state.list)
 pub read-takes : (state : State) (group : PreparedValue) (number : ℕ) → IsAllowed state (offer group) → ◌≡◌ {A = Answer} (Offered (Read number)) (answer_to state (offer group)) → takes_memory state (offer group) ≡ true
 read-takes state group number allowed e = by allowed.place
   where
-    by : IsInPlace state (offer group) → takes_memory state (offer group) ≡ true
+    by : IsRead state.list group ⊎ IsNext state.list group → takes_memory state (offer group) ≡ true
     by (inl read) =
         let clash : ◌≡◌ {A = Answer} (Offered (Read number)) (Offered (Repeat group.number)) = e ∙ ap (λ b. Offered (cond b (Repeat group.number) (Read group.number))) (le-leb group.number (length state.list) read.within) in
         cc
