@@ -40,14 +40,22 @@ module _ (streams : List State) (s : ℕ) (d : State) (inside : s < length strea
     ap (set streams s) same ∙ set-get_or streams s d,
   )
 
+module _ (streams : List State) (s : ℕ) (state : State) (inside : s < length streams) (is : state ≡ get_or streams s state) where
+  there : slice_get streams s ≡ Some state
+  there = slice_get-get_or streams s state inside ∙ ap (λ (x : State). Some x) (sym is)
+
   -- a step that is made, and leaves the stream as it was
-  pub makes-still : (event : Event) (answer : Answer) → IsAllowed x event → answer ≡ answer_to x event → x ≡ state_after x event → MakesStep streams s event answer streams
-  makes-still event answer allowed answered left =
-      subst (λ (xs : List State). MakesStep streams s event answer xs) (set-get_or streams s d) (makes event answer x allowed answered left)
+  pub makes-still : (event : Event) (answer : Answer) → IsAllowed state event → answer ≡ answer_to state event → state ≡ state_after state event → MakesStep streams s event answer streams
+  makes-still event answer allowed answered left = record {
+    may = record { state = state; stream = there; allowed = allowed };
+    answered = answered;
+    streams = sym (ap (set streams s) (sym left ∙ is) ∙ set-get_or streams s state);
+  }
 
   -- the stream is refused by itself
-  pub refuses-still : (event : Event) (refusal : Refusal) → RefusesByItself x event refusal → IsRefusedAlone streams s event refusal
-  refuses-still event refusal by_itself = (refuses event refusal x by_itself refl).0
+  pub refuses-still : (event : Event) (refusal : Refusal) → RefusesByItself state event refusal → IsRefusedAlone streams s event refusal
+  refuses-still event refusal by_itself =
+      λ rows. subst (λ (o : Option State). MatchOption o (refusal ≡ NoStream) (λ state. IsRefusedFor (record { streams = streams; rows = rows }) s state event refusal)) (sym there) (by_itself (record { streams = streams; rows = rows }) s)
 
 -- an offer that answers a repeat leaves the state
 pub repeat-leaves : (state : State) (group : PreparedValue) (number : ℕ) → ◌≡◌ {A = Answer} (Offered (Repeat number)) (answer_to state (offer group)) → state ≡ state_after state (offer group)

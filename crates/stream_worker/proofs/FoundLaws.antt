@@ -108,6 +108,16 @@ found-step still old now given s group found is lawful prepared h =
     by None e h = absurd h
     by (Some state) e h = at state e (slice_get state.list (group.number - 1)) refl h
 
+-- ---- an outline
+
+-- a group of the list, beside the one that is offered
+pub found_in : (inside outline : Outlined) (n : ℕ) (group there read : PreparedValue) (found : Found) → inside ≡ outline → n ≡ group.number → slice_get inside.list (n - 1) ≡ Some there → read ≡ there → IsBeside read group found
+    → IsFound outline.list group found
+found_in inside outline n group there read found is number at same h =
+    subst (λ (o : Outlined). IsFound o.list group found) is
+    (subst (λ (m : ℕ). IsSomeAnd (slice_get inside.list (m - 1)) (λ read. IsBeside read group found)) number
+    (subst (λ (o : Option PreparedValue). IsSomeAnd o (λ read. IsBeside read group found)) (sym at) (subst (λ (g : PreparedValue). IsBeside g group found) same h)))
+
 -- ---- a seat
 
 -- what a seat found of a group in its outline is so of its stream on the board that it took
