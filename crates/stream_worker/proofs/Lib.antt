@@ -13,6 +13,8 @@ pub mod CourseLaws
 pub mod UnionLaws
 pub mod Progress
 pub mod StepsOn
+pub mod Touched
+pub mod BoardCourse
 pub mod OneStep
 pub mod SeatCourse
 pub mod SeatGoesOn

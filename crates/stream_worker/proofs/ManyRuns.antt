@@ -10,7 +10,7 @@ use Rattle.source_feed.specs.Touches.{PreparedValue, prepared}
 use Rattle.board_laws.specs.Meaning.{State, Meaning}
 use Rattle.board_laws.specs.Lawful.{IsLawful}
 use Rattle.board_laws.specs.Reading.{ReadsFeed, HasFeed}
-use Rattle.board_laws.specs.Runs.{sound_groups, IsTouchedIn, AreDisjoint}
+use Rattle.board_laws.specs.Runs.{sound_groups, IsTouchedIn}
 use Rattle.stream_worker.specs.declared.seat.Seat.{Seat}
 use Rattle.stream_worker.specs.declared.shared.Shared.{Shared}
 use Rattle.stream_worker.specs.declared.seat_run.Ran.{Ran}
@@ -19,13 +19,13 @@ use Rattle.stream_worker.specs.declared.run_refusal.RunRefusal.TheVariants.{Feed
 use Rattle.stream_worker.specs.Ended.{HasEnded, IsFedBoard, AllHaveEnded}
 use Rattle.stream_worker.specs.Knowing.{Laid}
 use Rattle.stream_worker.specs.Rule.{GoesOn}
-use Rattle.stream_worker.specs.RunRefused.{EndsRun, IsLowest, refused_stream}
+use Rattle.stream_worker.specs.RunRefused.{TouchesKey, BothTouch, EndsRun, IsLowest, refused_stream}
 use Rattle.stream_worker.specs.SeatOf.{known, seat_state, IsSeatOf, AreSeatsOf, AreStatesOf, AllGoOnFromSeen, SawAsMany, IsOpened}
 use Rattle.stream_worker.specs.Private.SeatSteps.{IsReading, HasCome, MeetsRow}
 use Rattle.stream_worker.specs.Private.SeatRuns.{EndsSeat, IsSeated, IsRan, AreSeated, AreRan, first_refusal}
 use Rattle.stream_worker.proofs.EndLaws.{seat_saw}
 use Rattle.stream_worker.proofs.OneStep.{the-one}
-use Rattle.stream_worker.proofs.SeatCourse.{cut_front, read_touched}
+use Rattle.stream_worker.proofs.Touched.{cut_front, read_touched}
 use Rattle.stream_worker.proofs.UnionLaws.{there_is}
 
 -- ---- the first refusal
@@ -218,22 +218,27 @@ module _ (feeds : List FeedValue) (old : Meaning) (fed : IsFedBoard feeds old) (
 
   -- ---- a refusal
 
-  -- a row that a seat met shows a key that two feeds touch
-  met : (k : ℕ) (one : Ran) (at : slice_get rans k ≡ Some one) (key : _) (owner : ℕ) → MeetsRow (ran k one at).seated.feed (known one.seat) one.seat.stream key owner → ¬ AreDisjoint feeds
-  met k one at key owner row disjoint =
+  -- a row that a seat met stands at a key that its feed and the owner's touch
+  met : (k : ℕ) (one : Ran) (at : slice_get rans k ≡ Some one) (stream : ℕ) (key : _) (owner : ℕ) → one.seat.stream ≡ stream → MeetsRow (ran k one at).seated.feed (known one.seat) one.seat.stream key owner
+      → BothTouch feeds stream owner key
+  met k one at stream key owner same row =
       let is : IsRan shared feeds k one = ran k one at in
       let later : (x : State) × (slice_get board.streams owner ≡ Some x) × GoesOn row.state x = the-one (slice_get board.streams owner) (GoesOn row.state) (seen k one.seat row.laid (seat-at rans k one at) row.seen owner row.state row.there) in
       let has : HasFeed feeds owner later.0 = reads owner later.0 later.1 in
       let theirs : IsTouchedIn (sound_groups has.feed) key
       = read_touched has.feed later.0 row.state.applied key has.reads
       (subst (λ (groups : List PreparedValue). IsTouchedIn groups key) (sym later.2.groups) (cut_front row.state key row.row row.cut)) in
-      row.other (disjoint owner one.seat.stream has.feed is.seated.feed key has.fed is.seated.fed theirs row.touched)
+      (
+        subst (λ n. owner ≢ n) same row.other,
+        record { feed = is.seated.feed; fed = ap (slice_get feeds) (sym same) ∙ is.seated.fed; touched = row.touched },
+        record { feed = has.feed; fed = has.fed; touched = theirs },
+      )
 
   refused : (k : ℕ) (one : Ran) (at : slice_get rans k ≡ Some one) (refusal : RunRefusal) → EndsSeat (ran k one at).seated.feed one.seat refusal → EndsRun feeds refusal
   refused k one at FeedCount h = h
   refused k one at WrongPlan h = h
   refused k one at (Unsound stream fault) h = record { feed = (ran k one at).seated.feed; fed = ap (slice_get feeds) h.0 ∙ (ran k one at).seated.fed; first = h.1 }
-  refused k one at (OwnedByOther stream key owner) h = met k one at key owner h.1
+  refused k one at (OwnedByOther stream key owner) h = met k one at stream key owner (sym h.0) h.1
   refused k one at Memory h = h
 
   first-ends : (refusal : RunRefusal) (first : IsFirstRefused rans refusal) → EndsSeat (ran first.place first.ran first.there).seated.feed first.ran.seat refusal

@@ -17,7 +17,8 @@ use Rattle.stream_worker.specs.Ended.{HasEnded, IsFedBoard}
 use Rattle.stream_worker.specs.Private.Courses.{LeadsOn, IsAtEnd, left_on}
 use Rattle.stream_worker.specs.Private.AllowedSteps.{EndsStream}
 use Rattle.stream_worker.proofs.Progress.{read-most}
-use Rattle.stream_worker.proofs.StepsOn.{ends-step, step-fed, step-others, step-nearer, ended-at}
+use Rattle.stream_worker.proofs.StepsOn.{ended-at}
+use Rattle.stream_worker.proofs.BoardCourse.{ends-step, step-fed, step-others, step-nearer}
 use Rattle.stream_worker.proofs.UnionLaws.{there_is}
 
 -- a feed has a stream

@@ -1,8 +1,8 @@
 -- The steps on a stream's course: nothing in the stream's own state is against them, and each leads on.
-use Rattle.std.proofs.Common.{◌≡◌, ◌≢◌, ℕ, zero, suc, ◌+◌, ◌-◌, ◌*◌, ◌<◌, ◌≤◌, inl, inr, Bool, true, false, cond, not, List, [], ◌∷◌, ◌++◌, length, map, take, Option, Some, None, Result, Ok, Err, slice_get, set, is_ok, refl, sym, ap, subst, ◌∙◌, arith}
+use Rattle.std.proofs.Common.{◌≡◌, ◌≢◌, ℕ, zero, suc, ◌+◌, ◌-◌, ◌*◌, ◌<◌, ◌≤◌, inl, inr, Bool, true, false, cond, not, List, [], ◌∷◌, ◌++◌, length, map, take, Option, Some, None, Result, Ok, Err, slice_get, is_ok, refl, sym, ap, subst, ◌∙◌, arith}
 use Rattle.std.proofs.lemmas.Bool.{true≢false, le-ltb, ne_eqb}
-use Rattle.std.proofs.lemmas.List.{length-append, length-set}
-use Rattle.std.proofs.lemmas.Option.{same_Some, none-some, slice_get-map, slice_get_within, MatchOption-at_some}
+use Rattle.std.proofs.lemmas.List.{length-append}
+use Rattle.std.proofs.lemmas.Option.{same_Some, none-some, slice_get-map, slice_get_within}
 use borrow.Author.Tests.{eq-eqb, leb-true}
 use Rattle.std.specs.Prelude.{nat_le, IsOk, is_some}
 use Rattle.std.specs.Option.{option_map, option_map_or}
@@ -20,26 +20,19 @@ use Rattle.source_feed.specs.Planned.{PlannedGroupValue, FeedValue, IsFeed}
 use Rattle.source_feed.specs.Touches.{TouchValue, PreparedValue, touches_of, prepared, prepared_if, prepared_at}
 use Rattle.board_laws.specs.declared.refusal.Refusal.{Refusal}
 use Rattle.board_laws.specs.declared.refusal.Refusal.TheVariants.{NoStream, WrongPlan, Diverged, Core, OwnedByOther, FeedCount, Memory}
-use Rattle.board_laws.specs.declared.step_refusal.StepRefusal.{StepRefusal}
-use Rattle.board_laws.specs.declared.step_refusal.StepRefusal.TheVariants.{Unprepared, Refused}
-use Rattle.board_laws.specs.declared.answer.Answer.{Answer}
 use Rattle.board_laws.specs.Meaning.{State, Meaning}
 use Rattle.board_laws.specs.Lawful.{standing_of, IsSoundState}
 use Rattle.board_laws.specs.Event.{Event, offer, advance, open_at, copy_rows, close, restart, step_of}
 use Rattle.board_laws.specs.StateAfter.{state_after}
 use Rattle.board_laws.specs.Allowed.{last_position, IsAllowed, IsDiverged, IsInPlace}
 use Rattle.board_laws.specs.Step.{IsRefusedFor}
-use Rattle.board_laws.specs.Reading.{ReadsFeed, HasFeed}
+use Rattle.board_laws.specs.Reading.{ReadsFeed}
 use Rattle.board_laws.specs.Runs.{event_of, sound_groups}
-use Rattle.board_laws.specs.Schedule.{Reply, IsEventStep, IsUnprepared, IsReplyBy, IsReply}
 use Rattle.board_laws.proofs.Lookups.{Ties}
-use Rattle.board_laws.proofs.Lists.{slice_get-set_other, slice_get-set_same}
 use Rattle.board_laws.proofs.Sound.{copying}
-use Rattle.board_laws.proofs.FeedLaws.{run-reads, none_clashes}
-use Rattle.stream_worker.specs.Ended.{HasEnded, IsFedBoard}
-use Rattle.stream_worker.specs.RunRefused.{IsFirstUnsound, HasUnsound}
-use Rattle.stream_worker.specs.Private.Courses.{LeadsOn, IsAtEnd, turns, left_of, left_by, left_on}
-use Rattle.stream_worker.specs.Private.AllowedSteps.{EndsStream}
+use Rattle.stream_worker.specs.Ended.{HasEnded}
+use Rattle.stream_worker.specs.RunRefused.{IsFirstUnsound}
+use Rattle.stream_worker.specs.Private.Courses.{LeadsOn, IsAtEnd, turns, left_of}
 use Rattle.stream_worker.proofs.Progress.{copy-less, read-most, less-left, same-left, read-nearer, open-nearer, close-nearer}
 
 -- ---- the group that is read next
@@ -302,79 +295,6 @@ none-alone old s state event (Core refusal) allowed h = true≢false (sym allowe
 none-alone old s state event (OwnedByOther key owner) allowed h = tt
 none-alone old s state event FeedCount allowed h = h
 none-alone old s state event Memory allowed h = tt
-
--- ---- a step on a board
-
-module _ (feeds : List FeedValue) (old : Meaning) (fed : IsFedBoard feeds old) (s : ℕ) (state : State) (here : slice_get old.streams s ≡ Some state) (was is : ℕ) (step : Step) where
-  abbrev has : HasFeed feeds s state
-  has = fed.reads s state here
-
-  module _ (leads : LeadsOn (standing_of state) (length has.feed.groups) was is step) where
-    reply-of : (reply : Reply) (new : Meaning) → IsReply feeds old (s, step) reply new → IsReplyBy has.feed old s step reply new
-    reply-of reply new h = MatchOption-at_some _ (λ feed. IsReplyBy feed old s step reply new) has.feed has.fed h
-
-    hinders : (refusal : Refusal) (new : Meaning) → IsEventStep has.feed old s step (Err refusal) new → Hinders refusal
-    hinders refusal new h =
-        none-alone old s state h.event refusal (allowed-on has.feed state has.whole has.reads (fed.lawful.sound s state here) was is step h.event leads h.of_step)
-        (MatchOption-at_some _ (λ x. IsRefusedFor old s x h.event refusal) state here h.stepped.0)
-
-    unsound : (fault : FeedFault) → IsUnprepared has.feed step fault → HasUnsound feeds s fault
-    unsound fault u = by step leads u
-      where
-        by : (st : Step) → LeadsOn (standing_of state) (length has.feed.groups) was is st → IsUnprepared has.feed st fault → HasUnsound feeds s fault
-        by (Offer n) l u = record {
-          feed = has.feed;
-          fed = has.fed;
-          first = first-unsound has.feed state has.whole has.reads fault l.1 (ap (prepared_at has.feed) (sym (l.0 ∙ plus_one (length state.list))) ∙ u);
-        }
-        by Advance l u = absurd u
-        by (OpenAt m) l u = absurd u
-        by (CopyRows c) l u = absurd u
-        by Close l u = absurd u
-        by Restart l u = absurd u
-
-    -- a refused step ends the stream's run for the reason that is named
-    pub ends-step : (new : Meaning) (refusal : StepRefusal) → IsReply feeds old (s, step) (Err refusal) new → EndsStream feeds s refusal
-    ends-step new (Unprepared fault) h = unsound fault (reply-of (Err (Unprepared fault)) new h).0
-    ends-step new (Refused NoStream) h = hinders NoStream new (reply-of (Err (Refused NoStream)) new h)
-    ends-step new (Refused WrongPlan) h = hinders WrongPlan new (reply-of (Err (Refused WrongPlan)) new h)
-    ends-step new (Refused Diverged) h = hinders Diverged new (reply-of (Err (Refused Diverged)) new h)
-    ends-step new (Refused (Core refusal)) h = hinders (Core refusal) new (reply-of (Err (Refused (Core refusal))) new h)
-    ends-step new (Refused (OwnedByOther key owner)) h =
-        λ disjoint. (none_clashes feeds old new ((s, step) ∷ []) (Err (Refused (OwnedByOther key owner)) ∷ []) (new, h, refl) fed.lawful fed.reads disjoint).0 tt
-    ends-step new (Refused FeedCount) h = hinders FeedCount new (reply-of (Err (Refused FeedCount)) new h)
-    ends-step new (Refused Memory) h = tt
-
-    -- a step that is made leaves a board that reads its feeds, the other streams as they were, and less of the course
-    module _ (ties : Ties) (new : Meaning) (answer : Answer) (h : IsReply feeds old (s, step) (Ok answer) new) where
-      abbrev made : IsEventStep has.feed old s step (Ok answer) new
-      made = reply-of (Ok answer) new h
-
-      same-state : made.stepped.state ≡ state
-      same-state = same_Some made.stepped.state state (sym made.stepped.stream ∙ here)
-
-      streams : new.streams ≡ set old.streams s (state_after state made.event)
-      streams = made.stepped.streams ∙ ap (λ (x : State). set old.streams s (state_after x made.event)) same-state
-
-      pub step-fed : IsFedBoard feeds new
-      step-fed = record {
-        lawful = made.stepped.lawful;
-        count = ap (λ (xs : List State). length xs) streams ∙ length-set old.streams s (state_after state made.event) ∙ fed.count;
-        reads = run-reads feeds old new ((s, step) ∷ []) (Ok answer ∷ []) (new, h, refl) fed.reads;
-      }
-
-      pub step-others : (t : ℕ) → t ≢ s → slice_get new.streams t ≡ slice_get old.streams t
-      step-others t ne = ap (λ (xs : List State). slice_get xs t) streams ∙ slice_get-set_other old.streams s (state_after state made.event) t ne
-
-      pub step-nearer : left_on feeds new s is < left_on feeds old s was
-      step-nearer =
-          subst (λ (o : Option State). left_by (slice_get feeds s) o is < left_on feeds old s was) (sym at_new)
-          (subst (λ (o : Option State). left_by (slice_get feeds s) (Some (state_after state made.event)) is < left_by (slice_get feeds s) o was) (sym here)
-          (subst (λ (o : Option FeedValue). left_by o (Some (state_after state made.event)) is < left_by o (Some state) was) (sym has.fed)
-          (left-on has.feed state has.whole has.reads (fed.lawful.sound s state here) was is ties step made.event leads made.of_step)))
-        where
-          at_new : slice_get new.streams s ≡ Some (state_after state made.event)
-          at_new = ap (λ (xs : List State). slice_get xs s) streams ∙ slice_get-set_same old.streams s (state_after state made.event) state here
 
 -- ---- the end of a course
 

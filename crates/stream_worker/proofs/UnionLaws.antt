@@ -2,7 +2,7 @@
 use Rattle.std.proofs.Common.{◌≡◌, ◌≢◌, ◌==◌, ℕ, zero, suc, ◌<◌, ◌≤◌, Bool, true, false, cond, List, [], ◌∷◌, ◌++◌, length, take, Option, Some, None, slice_get, refl, sym, ap, subst, ◌∙◌, arith}
 use Rattle.std.proofs.lemmas.Bool.{ne_eqb}
 use Rattle.std.proofs.lemmas.Option.{same_Some, none-some, slice_get_within}
-use borrow.Author.Tests.{eq-eqb, ltb-false}
+use borrow.Author.Tests.{eqb-true, eq-eqb, ltb-false}
 use Rattle.std.specs.Prelude.{nat_lt, IfSome}
 use Rattle.std.specs.List.{AllByRecursion}
 use Rattle.std.specs.Option.{option_or, option_map, option_and_then}
@@ -30,7 +30,7 @@ use Rattle.board_laws.proofs.History.{kept_at-alike}
 use Rattle.apply_core.specs.Shown.{all_rows}
 use Rattle.apply_core.proofs.ShowLaws.{all-unowned}
 use Rattle.stream_worker.proofs.CourseLaws.{running-done}
-use Rattle.stream_worker.specs.Ended.{HasEnded, IsFedBoard, AllHaveEnded, kept_of, kept_by, IsRowsUnion}
+use Rattle.stream_worker.specs.Ended.{HasEnded, IsFedBoard, AllHaveEnded, kept_of, kept_by, KeepApart, IsRowsUnion}
 
 -- ---- keys of planned tables
 
@@ -171,10 +171,27 @@ module _ (ties : Ties) (feeds : List FeedValue) (board : Meaning) (fed : IsFedBo
           sym (one-kept feeds key there.0 has.0 there.1 has.1 (sym (own-kept there.0 has.0 has.1 key) ∙ mine)
           (λ t other ne at. sym (own-kept t other at key) ∙ ap (own_row t) e ∙ ap (λ b. cond b (Some there.1) None) (ne_eqb there.0 t (λ is. ne (sym is)))))
 
+  -- a row has one owner
+  one-owner : (o : Option (ℕ × RowValue)) (s t : ℕ) → own_row s o ≢ None → own_row t o ≢ None → s ≡ t
+  one-owner None s t mine theirs = absurd (mine refl)
+  one-owner (Some there) s t mine theirs = sym (by s mine) ∙ by t theirs
+    where
+      by : (n : ℕ) → own_row n (Some there) ≢ None → there.0 ≡ n
+      by n own = decided (there.0 == n) refl own
+        where
+          decided : (b : Bool) → (there.0 == n) ≡ b → cond b (Some there.1) None ≢ None → there.0 ≡ n
+          decided true e own = eqb-true there.0 n e
+          decided false e own = absurd (own refl)
+
+  kept-apart : KeepApart feeds
+  kept-apart s t one other key at_s at_t mine theirs =
+      one-owner (value_at key_cmp board.rows key) s t (λ none. mine (sym (own-kept s one at_s key) ∙ none)) (λ none. theirs (sym (own-kept t other at_t key) ∙ none))
+
   pub union-kept : IsRowsUnion feeds (all_rows board.rows)
   union-kept = record {
     rising = rising-unowned board.rows fed.lawful.rising;
     each_key = λ key. at-unowned board.rows key ∙ row-kept key;
+    apart = kept-apart;
   }
 
 -- rows that are such a union are the same

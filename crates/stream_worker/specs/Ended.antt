@@ -1,5 +1,5 @@
 -- Streams at their feeds' ends, and the rows that the feeds keep together (this profile).
-use Rattle.std.specs.Prelude.{◌≡◌, ℕ, List, [], ◌∷◌, length, Option, Some, None, slice_get}
+use Rattle.std.specs.Prelude.{◌≡◌, ◌≢◌, ℕ, List, [], ◌∷◌, length, Option, Some, None, slice_get}
 use Rattle.std.specs.Option.{option_or}
 use Rattle.pk_copy.specs.KeyOrder.{key_cmp}
 use Rattle.pk_copy.specs.KeyValue.{KeyValue}
@@ -44,10 +44,17 @@ abbrev pub kept_by : List FeedValue → KeyValue → Option RowValue
 kept_by [] key = None
 kept_by (feed ∷ later) key = option_or (kept_of feed key) (kept_by later key)
 
--- rows by rising key that are just those which the feeds keep
+-- no two of the feeds keep a row at one key
+abbrev pub KeepApart : List FeedValue → Type 0
+KeepApart feeds =
+    (s t : ℕ) (one other : FeedValue) (key : KeyValue) → slice_get feeds s ≡ Some one → slice_get feeds t ≡ Some other
+    → kept_of one key ≢ None → kept_of other key ≢ None → s ≡ t
+
+-- rows by rising key that are just those which the feeds keep, each of one feed alone
 pub record IsRowsUnion (feeds : List FeedValue) (rows : RowsValue) : Type 0 where
   pub rising : IsRising key_cmp rows
   pub each_key : (key : KeyValue) → row_at rows key ≡ kept_by feeds key
+  pub apart : KeepApart feeds
 
 -- ---- laws
 

@@ -1,11 +1,12 @@
 -- Why a run of all streams to their feeds' ends is refused (this profile).
 use Rattle.std.specs.Prelude.{◌≡◌, ◌≢◌, ℕ, ◌<◌, List, length, Option, Some, None, IfSome, Err, slice_get}
 use Rattle.filter_rule.specs.PlanValue.{PlanValue}
+use Rattle.pk_copy.specs.KeyValue.{KeyValue}
 use Rattle.source_feed.specs.FaultNumber as feed
 use Rattle.source_feed.specs.declared.fault.FeedFault.{FeedFault}
 use Rattle.source_feed.specs.Planned.{PlannedGroupValue, FeedValue}
 use Rattle.source_feed.specs.Touches.{prepared}
-use Rattle.board_laws.specs.Runs.{sound_groups, AreDisjoint}
+use Rattle.board_laws.specs.Runs.{sound_groups, IsTouchedIn}
 use Rattle.apply_core.specs.Feeds.{AreFed}
 use Rattle.stream_worker.specs.declared.run_refusal.RunRefusal.{RunRefusal}
 use Rattle.stream_worker.specs.declared.run_refusal.RunRefusal.TheVariants.{FeedCount, WrongPlan, Unsound, OwnedByOther, Memory}
@@ -29,13 +30,23 @@ pub record HasUnsound (feeds : List FeedValue) (s : ℕ) (fault : FeedFault) : T
   pub fed : slice_get feeds s ≡ Some feed
   pub first : IsFirstUnsound feed fault
 
--- what stands where a stream's step ends a run: a group of its feed isn't sound; a key is touched in two of the
--- feeds; or memory is wanted
+-- the feed of stream s touches the key before its first unsound group
+pub record TouchesKey (feeds : List FeedValue) (s : ℕ) (key : KeyValue) : Type 0 where
+  pub feed : FeedValue
+  pub fed : slice_get feeds s ≡ Some feed
+  pub touched : IsTouchedIn (sound_groups feed) key
+
+-- two streams, whose feeds both touch the key
+abbrev pub BothTouch : List FeedValue → ℕ → ℕ → KeyValue → Type 0
+BothTouch feeds s t key = (t ≢ s) × TouchesKey feeds s key × TouchesKey feeds t key
+
+-- what stands where a stream's step ends a run: a group of its feed isn't sound; the key is touched by its feed and
+-- by that of the row's owner, another stream; or memory is wanted
 abbrev pub EndsRun : List FeedValue → RunRefusal → Type 0
 EndsRun feeds FeedCount = ⊥
 EndsRun feeds WrongPlan = ⊥
 EndsRun feeds (Unsound stream fault) = HasUnsound feeds stream fault
-EndsRun feeds (OwnedByOther stream key owner) = ¬ AreDisjoint feeds
+EndsRun feeds (OwnedByOther stream key owner) = BothTouch feeds stream owner key
 EndsRun feeds Memory = Unit {0}
 
 -- A run is refused 119 exactly where there aren't as many feeds as plans, else 111 exactly where two plans differ in
