@@ -120,8 +120,8 @@ pub(crate) fn board_over<'h>(
 ///
 /// Refused 119 where there aren't as many feeds as plans, else 111 where two plans differ in their tables or a
 /// feed wasn't opened under its plan. The first refusal of a stream ends the run: 90, where a group of its feed
-/// isn't sound, by the first such group; 71, only where a key is touched in two feeds. Any other error is want
-/// of memory.
+/// isn't sound, by the first such group; 71, by a key that the stream's feed touches and so does that of the
+/// owner, another stream. Any other error is want of memory.
 pub fn run_alone<'h>(
     alloc: Global,
     plans: Vec<Arc<Plan>>,
