@@ -1,7 +1,8 @@
 -- An offered group whose number is read, as a step on the board.
-use Rattle.std.proofs.Common.{◌≡◌, ℕ, zero, suc, ◌+◌, ◌-◌, ◌≤◌, ◌<◌, Bool, true, false, true≢false, cond, List, [], ◌∷◌, ◌++◌, length, set, Option, Some, None, Result, Ok, Err, IsSomeAnd, MatchOption, slice_get, nat_le, inl, refl, sym, ap, ◌∙◌, subst, arith}
+use Rattle.std.proofs.Common.{◌≡◌, ℕ, ◌+◌, ◌-◌, ◌≤◌, ◌<◌, Bool, true, false, true≢false, cond, List, [], ◌∷◌, ◌++◌, length, set, Option, Some, None, Result, Ok, Err, IsSomeAnd, MatchOption, slice_get, nat_le, inl, refl, sym, ap, ◌∙◌, subst, arith}
 use Rattle.std.proofs.lemmas.Bool.{le-leb, le-ltb}
-use Rattle.std.proofs.lemmas.Option.{same_Some, slice_get_within}
+use Rattle.std.proofs.lemmas.List.{set-get_or}
+use Rattle.std.proofs.lemmas.Option.{same_Some, slice_get_within, get_or_from_slice_get}
 use Rattle.std.specs.Prelude.{IsOk, nat_lt}
 use Rattle.std.specs.Option.{option_map}
 use Rattle.stream_core.specs.declared.refusal.CoreRefusal.TheVariants.{Gap}
@@ -47,9 +48,7 @@ offer_decided standing n within =
 -- ---- a board
 
 set_back : {A : Type 0} (xs : List A) (s : ℕ) (x : A) → slice_get xs s ≡ Some x → set xs s x ≡ xs
-set_back [] s x e = refl
-set_back {A} (y ∷ xs) zero x e = ap (λ (z : A). z ∷ xs) (sym (same_Some y x e))
-set_back {A} (y ∷ xs) (suc s) x e = ap (λ (zs : List A). y ∷ zs) (set_back xs s x e)
+set_back xs s x e = ap (set xs s) (sym (get_or_from_slice_get xs s x x e)) ∙ set-get_or xs s x
 
 module _ (old : Meaning) (lawful : IsLawful old) (s : ℕ) (state : State) (here : slice_get old.streams s ≡ Some state) (group read : PreparedValue) (there : slice_get state.list (group.number - 1) ≡ Some read) where
   within : group.number ≤ length state.list
