@@ -227,8 +227,7 @@ module _ (feeds : List FeedValue) (old : Meaning) (fed : IsFedBoard feeds old) (
       let has : HasFeed feeds owner later.0 = reads owner later.0 later.1 in
       let theirs : IsTouchedIn (sound_groups has.feed) key
       = read_touched has.feed later.0 row.state.applied key has.reads
-      (subst (λ (groups : List PreparedValue). IsTouchedIn groups key) (sym later.2.groups) (cut_front row.state key row.row row.cut)) in
-      (
+      (subst (λ (groups : List PreparedValue). IsTouchedIn groups key) (sym later.2.groups) (cut_front row.state key row.row row.cut)) in (
         subst (λ n. owner ≢ n) same row.other,
         record { feed = is.seated.feed; fed = ap (slice_get feeds) (sym same) ∙ is.seated.fed; touched = row.touched },
         record { feed = has.feed; fed = has.fed; touched = theirs },
