@@ -1,0 +1,81 @@
+//! The two ends of a reader's channel.
+
+ghost use Rattle.std.specs.Prelude.{◌≡◌, Ok};
+ghost use Rattle.std.specs.Arc.{arc_value};
+ghost use Rattle.crossbeam_channel.specs.Claims.{view, IsSeatAt};
+ghost use Rattle.crossbeam_channel.specs.Ends.{sends_on, receives_on};
+ghost use Rattle.source_feed.specs.Touches.{prepared_at};
+ghost use Rattle.feed_readers.specs.ReaderRule.{Reads, Works};
+
+use crate::ahead::Ahead;
+use crate::channel::{OfFeed, ReaderRule, Received, Sent, Side, Sides};
+use crossbeam_channel::{Pass, RuledReceiver, RuledSender, bounded_with};
+use source_feed::Prepared;
+use std::alloc::{AllocError, Global};
+use std::sync::{Arc, Wait};
+
+/// How many groups a channel holds at most.
+const CAPACITY: usize = 64;
+
+/// The end of the thread that prepares a feed's groups.
+#[derive(Drop)]
+pub struct ReaderEnd<'h, F: OfFeed> {
+    sender: RuledSender<Arc<Prepared<'h>>, Side, ReaderRule<F>>,
+    pass: Pass<Arc<Prepared<'h>>, Side>,
+    ghost at: { IsSeatAt (sends_on sender) pass },
+    ghost side: { view pass ≡ Reads },
+}
+
+/// The end of the thread that needs them. Dropped, it lets the other end's thread end.
+#[derive(Drop)]
+pub struct WorkerEnd<'h, F: OfFeed> {
+    receiver: RuledReceiver<Arc<Prepared<'h>>, Side, ReaderRule<F>>,
+    pass: Pass<Arc<Prepared<'h>>, Side>,
+    ghost at: { IsSeatAt (receives_on receiver) pass },
+    ghost side: { view pass ≡ Works },
+}
+
+/// The two ends of a new channel for the groups of the feed, which holds 64 of them at most. An error is want of
+/// memory.
+pub fn reader_ends<'h, F: OfFeed>(
+    alloc: Global,
+) -> Result<(ReaderEnd<'h, F>, WorkerEnd<'h, F>), AllocError> {
+    let (sender, receiver, mut pass) = bounded_with::<
+        Arc<Prepared<'h>>,
+        Side,
+        ReaderRule<F>,
+        Global,
+    >(alloc, CAPACITY)?;
+    let other = sender.another::<Sides>(&mut pass);
+    Ok((
+        ReaderEnd { sender, pass },
+        WorkerEnd {
+            receiver,
+            pass: other,
+        },
+    ))
+}
+
+impl<'h, F: OfFeed> ReaderEnd<'h, F> {
+    /// Sends a group, once there is room for it: whether the other end is still there.
+    pub(crate) fn send<R: Wait>(&mut self, rt: &R, group: Arc<Prepared<'h>>) -> bool
+        requires { prepared_at F.feed (arc_value group).number ≡ Ok (arc_value group) }
+    {
+        match self.sender.send_as::<Sent<F>, R>(rt, &mut self.pass, group) {
+            Ok(()) => true,
+            Err(_) => false,
+        }
+    }
+}
+
+impl<'h, F: OfFeed> Ahead<'h> for WorkerEnd<'h, F> {
+    ghost feed = { λ _. F.feed };
+
+    /// The group that was sent first of those that wait, or `None` where the other end is gone.
+    fn next<R: Wait>(&mut self, rt: &R) -> Option<Arc<Prepared<'h>>> {
+        match self.receiver.recv_as::<Received<F>, R>(rt, &mut self.pass) {
+            Ok(group) => Some(group),
+            Err(_) => None,
+        }
+    }
+}

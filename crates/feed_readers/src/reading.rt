@@ -1,0 +1,76 @@
+//! The thread that prepares a feed's groups.
+
+ghost use Rattle.std.specs.Prelude.{◌≡◌};
+
+use crate::channel::OfFeed;
+use crate::ends::ReaderEnd;
+use source_feed::Feed;
+use std::alloc::Global;
+use std::marker::PhantomData;
+use std::sync::Wait;
+
+/// A feed, of which it is known in proofs that it is the one of `F`.
+#[derive(Drop)]
+pub struct Named<'a, 'h, F: OfFeed> {
+    feed: &'a Feed<'h>,
+    name: PhantomData<F>,
+    pub ghost is: { feed.now ≡ F.feed },
+}
+
+impl<'a, 'h, F: OfFeed> Named<'a, 'h, F> {
+    /// The feed under this name.
+    pub fn new(feed: &'a Feed<'h>) -> Named<'a, 'h, F>
+        requires { feed.now ≡ F.feed }
+    {
+        Named {
+            feed,
+            name: PhantomData,
+        }
+    }
+
+    /// The feed.
+    pub fn feed(&self) -> &'a Feed<'h>
+        ensures { result.now ≡ F.feed }
+    {
+        self.feed
+    }
+}
+
+/// What the thread works with that prepares a feed's groups.
+#[derive(Drop)]
+pub struct Reading<'a, 'h, F: OfFeed, R> {
+    /// what lets it wait
+    pub rt: &'a R,
+    /// where its groups lie
+    pub alloc: Global,
+    /// the feed
+    pub feed: Named<'a, 'h, F>,
+    /// how many groups are read before it begins
+    pub read: u32,
+    /// where its groups go
+    pub end: ReaderEnd<'h, F>,
+}
+
+/// Prepares the feed's groups in order, behind those that are read, and sends each, up to the feed's end, the first
+/// group that can't be prepared, or the first that nobody is there to receive. What can't be prepared isn't told:
+/// whoever needs that group meets the same refusal.
+pub fn read_ahead<'a, 'h, F: OfFeed + 'h, R: Wait>(reading: Reading<'a, 'h, F, R>) {
+    let Reading {
+        rt,
+        alloc,
+        feed,
+        read,
+        mut end,
+    } = reading;
+    let feed = feed.feed();
+    let _plan = feed.plan();
+    let groups = feed.len() as u32;
+    for before in read..groups {
+        let Ok(group) = feed.prepare(alloc, before + 1) else {
+            return;
+        };
+        if !end.send(rt, group) {
+            return;
+        }
+    }
+}
