@@ -1,0 +1,5 @@
+pub mod RowLaws
+pub mod ReplayLaws
+pub mod FindingLaws
+pub mod ListLaws
+pub mod CheckLaws

@@ -1,0 +1,67 @@
+-- Equality of rows, and the rows of a map under one stream.
+use Rattle.std.proofs.Common.{◌≡◌, ◌↔◌, ◌==◌, ℕ, Bool, true, false, cond, List, Option, Some, None, refl, ap, sym, ◌∙◌}
+use Rattle.std.specs.Prelude.{IfSome, IsTrue}
+use Rattle.std.specs.Bool.{Decides}
+use Rattle.std.specs.Option.{option_map}
+use Rattle.std.specs.Ordering.{eq_by_cmp}
+use Rattle.std.proofs.lemmas.Map.Made.{lookup-map_values}
+use Rattle.std.proofs.lemmas.Slice.Eq.{bytes_eq-Decides, slice_eq-Decides}
+use Rattle.pk_copy.specs.KeyOrder.{key_cmp}
+use Rattle.pk_copy.specs.KeyValue.{KeyValue}
+use Rattle.target_tables.specs.Contents.{value_at}
+use Rattle.target_tables.specs.Touches.{last_at, touched, IsTouched}
+use Rattle.source_feed.specs.History.{RowValue}
+use Rattle.feed_check.specs.KeyedChanges.{KeyedRowValue}
+use Rattle.feed_check.specs.Replay.{left_at}
+use Rattle.feed_check.specs.Findings.{column_eq, row_eq}
+use Rattle.feed_check.specs.Private.Replayed.{Entries, rows_of, AreOwn, row_in}
+
+column_eq-Decides : (a b : Option (List ℕ)) → Decides (column_eq a b) (a ≡ b)
+column_eq-Decides None None = (λ e. refl, λ e. refl)
+column_eq-Decides None (Some b) = (λ e. cc, λ e. cc)
+column_eq-Decides (Some a) None = (λ e. cc, λ e. cc)
+column_eq-Decides (Some a) (Some b) =
+    let d = bytes_eq-Decides a b in
+    (λ e. ap Some (d.0 e), λ e. let same : a ≡ b = cc in d.1 same)
+
+-- the test of rows decides whether they are equal
+pub row_eq-Decides : (a b : RowValue) → Decides (row_eq a b) (a ≡ b)
+row_eq-Decides a b = slice_eq-Decides column_eq-Decides a b (row_eq a b) refl
+
+both : {P : Type 0} (r q : Bool) → (IsTrue r ↔ P) → Decides q P → r ≡ q
+both true true h d = refl
+both false false h d = refl
+both true false h d = let no : false ≡ true = d.1 (h.0 refl) in cc
+both false true h d = let no : false ≡ true = h.1 (d.0 refl) in cc
+
+-- what answers so is the test
+pub same_rows : (a b : RowValue) (r : Bool) → (IsTrue r ↔ (a ≡ b)) → r ≡ row_eq a b
+same_rows a b r h = both r (row_eq a b) h (row_eq-Decides a b)
+
+-- ---- one key of the rows
+
+pub row_in-rows_of : (entries : Entries) (k : KeyValue) → row_in (rows_of entries) k ≡ option_map (λ there. there.1) (value_at key_cmp entries k)
+row_in-rows_of entries k = lookup-map_values (λ there. there.1) (eq_by_cmp key_cmp k) entries
+
+touched-own : (t : Option (Option RowValue)) (there : Option (ℕ × RowValue)) → IfSome there (λ x. x.0 ≡ 0)
+    → option_map (λ x. x.1) (touched 0 t there) ≡ left_at t (option_map (λ x. x.1) there)
+touched-own None there own = refl
+touched-own (Some (Some row)) there own = refl
+touched-own (Some None) None own = refl
+touched-own (Some None) (Some there) own = ap (λ n. option_map (λ (x : ℕ × RowValue). x.1) (cond (n == 0) None (Some there))) own
+
+-- what touches leave at each key
+pub rows_after : (old new : Entries) (touches : List (KeyValue × Option RowValue)) (before : List KeyedRowValue) → rows_of old ≡ before
+    → AreOwn old → IsTouched key_cmp old 0 (last_at key_cmp touches) new
+    → (k : KeyValue) → row_in (rows_of new) k ≡ left_at (last_at key_cmp touches k) (row_in before k)
+rows_after old new touches before seen own h k =
+    row_in-rows_of new k
+    ∙ ap (λ (v : Option (ℕ × RowValue)). option_map (λ x. x.1) v) (h k)
+    ∙ touched-own (last_at key_cmp touches k) (value_at key_cmp old k) (own k)
+    ∙ ap (λ (v : Option RowValue). left_at (last_at key_cmp touches k) v) (sym (row_in-rows_of old k))
+    ∙ ap (λ (rows : List KeyedRowValue). left_at (last_at key_cmp touches k) (row_in rows k)) seen
+
+-- a row that was found is the one that stands
+pub row_found : (entries : Entries) (before : List KeyedRowValue) (k : KeyValue) (found : Option RowValue) → rows_of entries ≡ before
+    → found ≡ option_map (λ there. there.1) (value_at key_cmp entries k) → found ≡ row_in before k
+row_found entries before k found seen e = e ∙ sym (row_in-rows_of entries k) ∙ ap (λ (rows : List KeyedRowValue). row_in rows k) seen

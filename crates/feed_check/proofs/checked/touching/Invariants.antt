@@ -1,0 +1,8 @@
+use Rattle.std.proofs.Common.{◌≡◌, ◌+◌, drop, map}
+use Rattle.std.specs.Arc.{arc_value}
+use Rattle.feed_check.specs.Checked.{touching}
+use Rattle.feed_check.proofs.checked.touching.Given as goal
+
+-- the count so far, and that of the groups that are left, are that of all
+abbrev pub invariant-loop-group : goal.invariant-loop-group
+invariant-loop-group l = l.count + touching l.t (map arc_value (drop l.group-index l.groups)) ≡ touching l.t (map arc_value l.groups)

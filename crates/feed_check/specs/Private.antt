@@ -1,0 +1,2 @@
+-- What serves the loops over a feed's changes alone, and no public contract.
+pub mod Replayed

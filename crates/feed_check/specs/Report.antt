@@ -1,0 +1,216 @@
+-- The text of a check, stream by stream: lines of what there is, and behind them all warnings (this profile).
+use Rattle.std.specs.Prelude.{ℕ, zero, suc, ◌+◌, ◌-◌, ◌==◌, ◌&&◌, nat_le, is_some, map, if◌then◌else◌, List, [], ◌∷◌, ◌++◌, Bool, true, false, Option, Some, None, length, take, codes, decimal, slice_get, unwrap_or}
+use Rattle.std.specs.List.{after_first, filter, flat_map}
+use Rattle.std.specs.Option.{option_map, option_map_or}
+use Rattle.hex.specs.Hex.{encode_lower}
+use Rattle.gtid_set.specs.Printed.{printed_position}
+use Rattle.filter_rule.specs.PlanTable.{TableValue}
+use Rattle.filter_rule.specs.PlanValue.{PlanValue, table_of_name}
+use Rattle.pk_copy.specs.KeyValue.{Part, KeyValue}
+use Rattle.pk_copy.specs.Lastpk.{part_text}
+use Rattle.source_feed.specs.GroupValue.{Position}
+use Rattle.source_feed.specs.Touches.{PreparedValue}
+use Rattle.feed_check.specs.Checked.{CheckedValue, touching, passing}
+use Rattle.feed_check.specs.Findings.{FindingValue}
+use Rattle.feed_check.specs.Skipped.{SkippedValue}
+use Rattle.feed_check.specs.declared.finding.Doubt.{Doubt}
+use Rattle.feed_check.specs.declared.finding.Doubt.TheVariants.{NoRow, OtherRow, RowThere, Moved}
+
+-- ---- keys and tables
+
+-- a part of a key as a cell of a dump; a number as its shortest decimal text
+abbrev pub part_cell : Part → List ℕ
+part_cell part = 120 ∷ encode_lower (part_text part)
+
+-- the parts of a key, parted by commas
+abbrev pub more_parts : List Part → List ℕ
+more_parts parts = flat_map (λ part. 44 ∷ part_cell part) parts
+
+abbrev pub parts_text : List Part → List ℕ
+parts_text [] = []
+parts_text (part ∷ others) = part_cell part ++ more_parts others
+
+-- the name of a table by its number
+abbrev pub name_of_table : List TableValue → ℕ → List ℕ
+name_of_table tables t = option_map_or (λ table. table.name) (slice_get tables t) []
+
+-- ---- lines
+
+-- a group's position behind a word, if there is that group
+abbrev pub place_text : List ℕ → Option PreparedValue → List ℕ
+place_text word None = []
+place_text word (Some group) = word ++ printed_position group.position
+
+-- the positions of the first group and of the last
+abbrev pub places_text : List PreparedValue → List ℕ
+places_text history = place_text (codes " first ") (slice_get history 0) ++ place_text (codes " last ") (slice_get history (length history - 1))
+
+-- the name of a stream's file by its number
+abbrev pub file_name : List (List ℕ) → ℕ → List ℕ
+file_name files i = unwrap_or (slice_get files i) []
+
+-- a stream: its number, its file, its shard, and how many groups its feed has
+abbrev pub stream_head : ℕ → List ℕ → CheckedValue → List ℕ
+stream_head i file check = codes "stream " ++ decimal i ++ codes " file " ++ file ++ codes " shard " ++ check.plan.shard ++ codes " groups " ++ decimal (length check.history)
+
+-- behind that the positions of the first group and of the last
+abbrev pub stream_line : ℕ → List ℕ → CheckedValue → List ℕ
+stream_line i file check = stream_head i file check ++ places_text check.history ++ 10 ∷ []
+
+-- a table of a stream: how many groups touch it, and how many put a row that passes the stream's filter
+abbrev pub table_line : CheckedValue → ℕ → List ℕ → List ℕ
+table_line check t name = codes "table " ++ name ++ codes " groups " ++ decimal (touching t check.history) ++ codes " passing " ++ decimal (passing t check.history) ++ 10 ∷ []
+
+-- the tables from one on
+abbrev pub table_lines : CheckedValue → ℕ → List TableValue → List ℕ
+table_lines check t [] = []
+table_lines check t (table ∷ later) = table_line check t table.name ++ table_lines check (t + 1) later
+
+-- the streams from one on
+abbrev pub lines_from : List (List ℕ) → ℕ → List CheckedValue → List ℕ
+lines_from files i [] = []
+lines_from files i (check ∷ later) = (stream_line i (file_name files i) check ++ table_lines check 0 check.plan.tables) ++ lines_from files (i + 1) later
+
+-- ---- warnings
+
+-- a stream's number, a text, and the end of the line
+abbrev pub numbered : ℕ → List ℕ → List ℕ
+numbered i text = decimal i ++ codes " " ++ text ++ 10 ∷ []
+
+abbrev pub warning : ℕ → List ℕ → List ℕ
+warning i text = codes "warning stream " ++ numbered i text
+
+abbrev pub groups_warning : ℕ → ℕ → List ℕ
+groups_warning i zero = warning i (codes "no groups")
+groups_warning i (suc n) = []
+
+-- no group touches a table; some do, and none puts a row that passes the filter
+abbrev pub table_warning : ℕ → List ℕ → ℕ → ℕ → List ℕ
+table_warning i name zero m = warning i (codes "table " ++ name ++ codes " untouched")
+table_warning i name (suc n) zero = warning i (codes "table " ++ name ++ codes " passes no row")
+table_warning i name (suc n) (suc m) = []
+
+abbrev pub table_warnings : ℕ → CheckedValue → ℕ → List TableValue → List ℕ
+table_warnings i check t [] = []
+table_warnings i check t (table ∷ later) = table_warning i table.name (touching t check.history) (passing t check.history) ++ table_warnings i check (t + 1) later
+
+-- a position that is the first of its source: that of its transaction 1 alone
+abbrev pub is_start : Position → Bool
+is_start (first ∷ []) = first.last == 1
+is_start _ = false
+
+-- the first group's position isn't the start of its source
+abbrev pub start_warning : ℕ → Option PreparedValue → List ℕ
+start_warning i None = []
+start_warning i (Some group) = if is_start group.position then [] else warning i (codes "starts at " ++ printed_position group.position)
+
+-- behind the first dot of a name, where that is a table's
+abbrev pub nearest_text : PlanValue → List ℕ → List ℕ
+nearest_text plan name = if is_some (table_of_name plan name) then codes " nearest " ++ name else []
+
+-- a name in the feed that no table has
+abbrev pub name_warnings : ℕ → PlanValue → List (List ℕ) → List ℕ
+name_warnings i plan names = flat_map (λ name. warning i (codes "no table " ++ name ++ nearest_text plan (after_first (λ b. b == 46) name))) names
+
+-- a byte as it is printed: one that isn't printable in ASCII as a question mark
+abbrev pub shown_byte : ℕ → ℕ
+shown_byte byte = if nat_le 32 byte && nat_le byte 126 then byte else 63
+
+-- the first 200 bytes of a statement
+unfoldable pub shown : List ℕ → List ℕ
+shown statement = map shown_byte (take 200 statement)
+
+-- the types of events by their names (`binlogdata.proto`, VEventType)
+unfoldable pub kind_text : ℕ → List ℕ
+kind_text kind = if kind == 5 then codes "DDL" else if kind == 19 then codes "SAVEPOINT" else codes "OTHER"
+
+-- an event that is passed over: the number of its message, and its type
+abbrev pub skipped_head : SkippedValue → List ℕ
+skipped_head event = codes "skipped message " ++ decimal event.message ++ codes " " ++ kind_text event.kind
+
+-- behind that its statement
+abbrev pub skipped_text : SkippedValue → List ℕ
+skipped_text event = skipped_head event ++ codes " " ++ shown event.statement
+
+-- how many events are passed over, if any
+abbrev pub skipped_count : ℕ → ℕ → List ℕ
+skipped_count i zero = []
+skipped_count i (suc n) = warning i (codes "skipped " ++ decimal (suc n))
+
+abbrev pub skipped_lines : ℕ → List SkippedValue → List ℕ
+skipped_lines i events = flat_map (λ event. warning i (skipped_text event)) events
+
+-- the events that are passed over: their count, and the first ten
+abbrev pub skipped_warnings : ℕ → List SkippedValue → List ℕ
+skipped_warnings i events = skipped_count i (length events) ++ skipped_lines i (take 10 events)
+
+-- why a change is told
+abbrev pub why_text : Doubt → List ℕ
+why_text NoRow = codes "missing"
+why_text OtherRow = codes "differs"
+why_text RowThere = codes "standing"
+why_text Moved = codes "moved"
+
+abbrev pub same_why : Doubt → Doubt → Bool
+same_why NoRow NoRow = true
+same_why OtherRow OtherRow = true
+same_why RowThere RowThere = true
+same_why Moved Moved = true
+same_why _ _ = false
+
+-- how many findings there are of one kind, if any
+abbrev pub count_warning : ℕ → Doubt → ℕ → List ℕ
+count_warning i why zero = []
+count_warning i why (suc n) = warning i (why_text why ++ codes " " ++ decimal (suc n))
+
+-- a finding: why, and which change of which group
+abbrev pub finding_head : FindingValue → List ℕ
+finding_head found = why_text found.why ++ codes " group " ++ decimal found.group ++ codes " change " ++ decimal found.place
+
+-- behind that the table and the key
+abbrev pub finding_text : List TableValue → FindingValue → List ℕ
+finding_text tables found = finding_head found ++ codes " table " ++ name_of_table tables found.key.table ++ codes " key " ++ parts_text found.key.parts
+
+abbrev pub finding_warnings : ℕ → List TableValue → List FindingValue → List ℕ
+finding_warnings i tables findings = flat_map (λ found. warning i (finding_text tables found)) findings
+
+-- the findings of one kind: their count, and the first ten
+abbrev pub kind_warnings : ℕ → List TableValue → Doubt → List FindingValue → List ℕ
+kind_warnings i tables why these = count_warning i why (length these) ++ finding_warnings i tables (take 10 these)
+
+abbrev pub of_kind : Doubt → List FindingValue → List FindingValue
+of_kind why findings = filter (λ found. same_why why found.why) findings
+
+abbrev pub told_warnings : ℕ → List TableValue → Doubt → List FindingValue → List ℕ
+told_warnings i tables why findings = kind_warnings i tables why (of_kind why findings)
+
+-- what is told of a stream's changes
+abbrev pub change_warnings : ℕ → CheckedValue → List ℕ
+change_warnings i check =
+    told_warnings i check.plan.tables NoRow check.findings ++ (told_warnings i check.plan.tables OtherRow check.findings
+    ++ (told_warnings i check.plan.tables RowThere check.findings ++ told_warnings i check.plan.tables Moved check.moves))
+
+-- the warnings of a stream
+abbrev pub stream_warnings : ℕ → CheckedValue → List ℕ
+stream_warnings i check =
+    groups_warning i (length check.history) ++ (start_warning i (slice_get check.history 0) ++ (table_warnings i check 0 check.plan.tables
+    ++ (name_warnings i check.plan check.unknown ++ (change_warnings i check ++ skipped_warnings i check.skipped))))
+
+abbrev pub warnings_from : ℕ → List CheckedValue → List ℕ
+warnings_from i [] = []
+warnings_from i (check ∷ later) = stream_warnings i check ++ warnings_from (i + 1) later
+
+-- ---- all streams
+
+-- the text, and whether anything is warned of
+pub record ReportValue : Type 0 where
+  pub text : List ℕ
+  pub warned : Bool
+
+abbrev pub has_some : List ℕ → Bool
+has_some [] = false
+has_some (byte ∷ bytes) = true
+
+-- the lines of all streams, whose files have these names, and behind them all warnings
+abbrev pub report_of : List (List ℕ) → List CheckedValue → ReportValue
+report_of files checks = record { text = lines_from files 0 checks ++ warnings_from 0 checks; warned = has_some (warnings_from 0 checks) }

@@ -1,0 +1,50 @@
+//! All findings of a feed's groups.
+
+ghost use Rattle.std.specs.Prelude.{◌≡◌, ◌++◌, List, IfOk, OnOk, reverse};
+ghost use Rattle.feed_check.specs.KeyedChanges.{KeyedChangeValue, keyed_in, keyed_changes};
+ghost use Rattle.feed_check.specs.Findings as told;
+ghost use Rattle.feed_check.specs.Private.Replayed.{IsReplayed};
+
+use crate::finding::Finding;
+use crate::keyed::{KeyedChange, keyed_group};
+use crate::replay::Replay;
+use crate::rows::Rows;
+use filter_rule::Plan;
+use source_feed::Group;
+use std::alloc::{AllocError, Global};
+
+/// Goes on by changes, one after another. An error is want of memory.
+fn take_all<'h>(
+    alloc: Global,
+    replay: &mut Replay<'h>,
+    changes: Vec<KeyedChange<'h>>,
+) -> Result<(), AllocError>
+    ensures { OnOk result ((earlier : List KeyedChangeValue) → IsReplayed (reverse earlier) replay.old.rows replay.old.findings.items → IsReplayed (reverse (earlier ++ changes.entry.items)) replay.new.rows replay.new.findings.items) }
+{
+    for change in changes {
+        replay.take(alloc, change)?;
+    }
+    Ok(())
+}
+
+/// What is told of the changes of groups to the plan's tables, in their order: an update or a delete of a row
+/// that doesn't stand where the changes before it were made one after another, from no row on, and a row that
+/// is put where one stands. All rows count, whatever the stream's filter. Takes memory for the rows' keys, in
+/// pages, and for the answer; an error is want of it.
+pub fn findings_of<'h>(
+    alloc: Global,
+    plan: &Plan,
+    groups: &[Group<'h>],
+) -> Result<Vec<Finding<'h>>, AllocError>
+    ensures { IfOk result (λ found. found.items ≡ told.findings_of (keyed_changes plan.now groups.now)) }
+{
+    let mut replay = Replay {
+        rows: Rows::new(alloc),
+        findings: Vec::new(alloc),
+    };
+    for group in groups {
+        let changes = keyed_group(alloc, plan, group)?;
+        take_all(alloc, &mut replay, changes)?;
+    }
+    Ok(replay.findings)
+}

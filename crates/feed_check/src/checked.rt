@@ -1,0 +1,262 @@
+//! A feed, checked.
+
+ghost use Rattle.std.specs.Prelude.{◌≡◌, ◌+◌, ◌<◌, ◌^◌, length, map, slice_get};
+ghost use Rattle.std.specs.Option.{option_copied, option_map};
+ghost use Rattle.std.specs.Arc.{arc_value};
+ghost use Rattle.std.specs.List.{list_any};
+ghost use Rattle.outcome.specs.Outcome.{GivesUnless};
+ghost use Rattle.source_feed.specs.FaultNumber.{meant_of};
+ghost use Rattle.feed_check.specs.Checked.{checked, checked_feeds, history_of, is_passing, touches_table, passes_in_table, touching, passing};
+
+use crate::before_images::findings_of;
+use crate::finding::Finding;
+use crate::moves::moves_of;
+use crate::skipped::{Skipped, skipped_of};
+use crate::unknown::unknown_tables;
+use filter_rule::{Plan, Table};
+use source_feed::{Feed, FeedFault, Prepared, Put, Touch, read_groups};
+use std::alloc::Global;
+use std::marker::Model;
+use std::sync::Arc;
+
+/// What a check of a feed gives: its groups with their touches, what is told of its changes, the names that no
+/// table has, and the events that are passed over.
+#[derive(Drop)]
+pub struct Checked<'h> {
+    plan: Arc<Plan>,
+    groups: Vec<Arc<Prepared<'h>>>,
+    findings: Vec<Finding<'h>>,
+    moves: Vec<Finding<'h>>,
+    unknown: Vec<&'h str>,
+    skipped: Vec<Skipped<'h>>,
+}
+
+impl<'h> Model for Checked<'h> {
+    ghost use Rattle.std.specs.Prelude.{map};
+    ghost use Rattle.std.specs.Arc.{arc_value};
+    ghost use Rattle.feed_check.specs.Checked.{CheckedValue};
+
+    ghost Value = { CheckedValue };
+
+    ghost view = { λ c. record { plan = arc_value c.plan; history = map arc_value c.groups.items; findings = c.findings.items; moves = c.moves.items; unknown = map (λ name. name.now) c.unknown.items; skipped = c.skipped.items } };
+}
+
+/// The number of the group at a place, from 0.
+fn number_at(place: usize) -> u32
+    requires { place < 2 ^ 31 }
+    ensures { result ≡ place + 1 }
+{
+    place as u32 + 1
+}
+
+/// The groups of a feed with their touches.
+fn prepare_all<'h>(alloc: Global, feed: &Feed<'h>) -> Result<Vec<Arc<Prepared<'h>>>, FeedFault>
+    ensures { GivesUnless meant_of (λ groups. map arc_value groups.items) result (history_of feed.now) }
+{
+    // (for its contract: a feed has fewer than 2^31 groups)
+    feed.plan();
+    let mut groups = Vec::with_capacity(alloc, feed.len())?;
+    for i in 0..feed.len() {
+        let group = feed.prepare(alloc, number_at(i))?;
+        groups.push(group)?;
+    }
+    Ok(groups)
+}
+
+/// Checks a feed that was opened of these bytes: each group is prepared, and all changes are replayed.
+///
+/// Refused as `Feed::prepare` refuses the first group that isn't sound. Any other error is want of memory.
+/// Where the bytes aren't those of the feed it is refused as `read_groups` refuses them.
+pub fn check_feed<'h>(
+    alloc: Global,
+    bytes: &'h [u8],
+    feed: &Feed<'h>,
+) -> Result<Checked<'h>, FeedFault>
+    ensures { GivesUnless meant_of (λ check. check) result (checked bytes.now feed.now) }
+{
+    let groups = prepare_all(alloc, feed)?;
+    let plan = feed.plan();
+    let read = read_groups(alloc, bytes, plan.keyspace(), plan.shard())?;
+    let findings = findings_of(alloc, plan, &read)?;
+    let moves = moves_of(alloc, plan, &read)?;
+    let unknown = unknown_tables(alloc, plan, &read)?;
+    let skipped = skipped_of(alloc, bytes)?;
+    Ok(Checked {
+        plan: Arc::clone(plan)?,
+        groups,
+        findings,
+        moves,
+        unknown,
+        skipped,
+    })
+}
+
+/// Whether a row is put that passes the filter.
+fn is_passing(put: Option<Put<'_>>) -> bool
+    ensures { result ≡ is_passing put.entry }
+{
+    match put {
+        None => false,
+        Some(put) => put.passes(),
+    }
+}
+
+/// Whether a touch is of table `t`.
+fn touches_table(touches: &[Touch<'_>], t: usize) -> bool
+    ensures { result ≡ list_any (touches_table t) touches.now }
+{
+    touches
+        .iter()
+        .any(|touch| usize::from(touch.key().table()) == t)
+}
+
+/// Whether a touch puts a row of table `t` that passes the filter.
+fn passes_in_table(touches: &[Touch<'_>], t: usize) -> bool
+    ensures { result ≡ list_any (passes_in_table t) touches.now }
+{
+    touches.iter().any(|touch| usize::from(touch.key().table()) == t && is_passing(touch.put()))
+}
+
+/// How many groups touch table `t`.
+fn touching(groups: &[Arc<Prepared<'_>>], t: usize) -> usize
+    ensures { result ≡ touching t (map arc_value groups.now) }
+{
+    let mut count = 0;
+    for group in groups {
+        if touches_table(group.touches(), t) {
+            count += 1;
+        }
+    }
+    count
+}
+
+/// How many groups put a row of table `t` that passes the filter.
+fn passing(groups: &[Arc<Prepared<'_>>], t: usize) -> usize
+    ensures { result ≡ passing t (map arc_value groups.now) }
+{
+    let mut count = 0;
+    for group in groups {
+        if passes_in_table(group.touches(), t) {
+            count += 1;
+        }
+    }
+    count
+}
+
+/// The group at a place, from 0.
+fn group_at<'a, 'h>(groups: &'a [Arc<Prepared<'h>>], place: usize) -> Option<&'a Prepared<'h>>
+    ensures { option_copied result ≡ slice_get (map arc_value groups.now) place }
+{
+    match groups.get(place) {
+        None => None,
+        Some(group) => Some(group),
+    }
+}
+
+/// The bytes at a place, from 0.
+fn bytes_at<'h>(bytes: &[&'h [u8]], place: usize) -> Option<&'h [u8]>
+    ensures { option_map (λ one. one.now) result ≡ slice_get (map (λ one. one.now) bytes.now) place }
+{
+    match bytes.get(place) {
+        None => None,
+        Some(one) => Some(*one),
+    }
+}
+
+/// Checks feeds, each opened of the bytes at its place, one after another, up to the first refusal.
+pub fn check_feeds<'h>(
+    alloc: Global,
+    bytes: &[&'h [u8]],
+    feeds: &[Feed<'h>],
+) -> Result<Vec<Checked<'h>>, FeedFault>
+    ensures { GivesUnless meant_of (λ checks. checks.items) result (checked_feeds (map (λ one. one.now) bytes.now) feeds.now) }
+{
+    let mut checks = Vec::with_capacity(alloc, feeds.len())?;
+    for i in 0..feeds.len() {
+        let Some(one) = bytes_at(bytes, i) else {
+            return Ok(checks);
+        };
+        let check = check_feed(alloc, one, &feeds[i])?;
+        checks.push(check)?;
+    }
+    Ok(checks)
+}
+
+impl<'h> Checked<'h> {
+    /// How many groups the feed has.
+    pub fn len(&self) -> usize
+        ensures { result ≡ length self.now.history }
+    {
+        self.groups.len()
+    }
+
+    /// The feed's group at a place, from 0.
+    pub fn group(&self, place: usize) -> Option<&Prepared<'h>>
+        ensures { option_copied result ≡ slice_get self.now.history place }
+    {
+        group_at(self.groups.as_slice(), place)
+    }
+
+    /// The source shard's name.
+    pub fn shard(&self) -> &str
+        ensures { result.now ≡ self.now.plan.shard }
+    {
+        self.plan.shard()
+    }
+
+    /// The stream's plan.
+    pub fn plan(&self) -> &Plan
+        ensures { result.now ≡ self.now.plan }
+    {
+        &self.plan
+    }
+
+    /// The tables of the workflow.
+    pub fn tables(&self) -> &[Table]
+        ensures { result.now ≡ self.now.plan.tables }
+    {
+        self.plan.tables()
+    }
+
+    /// What is told of the feed's changes, in their order.
+    pub fn findings(&self) -> &[Finding<'h>]
+        ensures { result.now ≡ self.now.findings }
+    {
+        self.findings.as_slice()
+    }
+
+    /// The updates that put a row at another key, in their order.
+    pub fn moves(&self) -> &[Finding<'h>]
+        ensures { result.now ≡ self.now.moves }
+    {
+        self.moves.as_slice()
+    }
+
+    /// The names of changes that no table of the workflow has, each once.
+    pub fn unknown(&self) -> &[&'h str]
+        ensures { map (λ name. name.now) result.now ≡ self.now.unknown }
+    {
+        self.unknown.as_slice()
+    }
+
+    /// The events that are passed over though they may change rows, in their order.
+    pub fn skipped(&self) -> &[Skipped<'h>]
+        ensures { result.now ≡ self.now.skipped }
+    {
+        self.skipped.as_slice()
+    }
+
+    /// How many groups touch table `t`.
+    pub fn touching(&self, t: usize) -> usize
+        ensures { result ≡ touching t self.now.history }
+    {
+        touching(self.groups.as_slice(), t)
+    }
+
+    /// How many groups put a row of table `t` that passes the stream's filter.
+    pub fn passing(&self, t: usize) -> usize
+        ensures { result ≡ passing t self.now.history }
+    {
+        passing(self.groups.as_slice(), t)
+    }
+}

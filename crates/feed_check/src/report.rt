@@ -1,0 +1,193 @@
+//! What a check of all streams says, as text.
+
+ghost use Rattle.std.specs.Prelude.{◌≡◌, ◌++◌, OnOk, IfOk, map};
+ghost use Rattle.std.specs.Option.{option_copied};
+ghost use Rattle.std.specs.String.{string_bytes};
+ghost use Rattle.feed_check.specs.Report.{file_name, stream_head, stream_line, places_text, table_line, table_lines, place_text, lines_from, warnings_from, has_some, report_of};
+
+use crate::checked::Checked;
+use crate::warnings::push_stream_warnings;
+use source_feed::Prepared;
+use std::alloc::{AllocError, Global};
+use std::marker::Model;
+
+/// What a check says: a line a stream and a line a table, and behind them the lines of its warnings.
+#[derive(Drop)]
+pub struct Report {
+    text: String,
+    warned: bool,
+}
+
+impl Model for Report {
+    ghost use Rattle.std.specs.String.{string_bytes};
+    ghost use Rattle.feed_check.specs.Report.{ReportValue};
+
+    ghost Value = { ReportValue };
+
+    ghost view = { λ r. record { text = string_bytes r.text; warned = r.warned } };
+}
+
+impl Report {
+    /// What checks of a workflow's streams say, in their order; their files have these names. An error is
+    /// want of memory.
+    pub fn of(alloc: Global, files: &[&str], checks: &[Checked<'_>]) -> Result<Report, AllocError>
+        ensures { IfOk result (λ report. report ≡ report_of (map (λ file. file.now) files.now) checks.now) }
+    {
+        let mut text = all_lines(alloc, files, checks)?;
+        let warnings = all_warnings(alloc, checks)?;
+        text.push_str(&warnings)?;
+        Ok(Report {
+            text,
+            warned: has_some(&warnings),
+        })
+    }
+
+    /// The whole text.
+    pub fn text(&self) -> &str
+        ensures { result.now ≡ self.now.text }
+    {
+        self.text.as_str()
+    }
+
+    /// Whether anything is warned of.
+    pub fn warned(&self) -> bool
+        ensures { result ≡ self.now.warned }
+    {
+        self.warned
+    }
+}
+
+/// Whether a text has a byte.
+fn has_some(text: &str) -> bool
+    ensures { result ≡ has_some text.now }
+{
+    !text.is_empty()
+}
+
+/// A group's position behind a word, if there is that group.
+fn place_text(alloc: Global, word: &str, group: Option<&Prepared<'_>>) -> Result<String, AllocError>
+    ensures { IfOk result (λ text. string_bytes text ≡ place_text word.now (option_copied group.entry)) }
+{
+    match group {
+        None => Ok(String::new(alloc)),
+        Some(group) => {
+            let position = group.position();
+            format!(in alloc; "{word}{position}")
+        }
+    }
+}
+
+/// The positions of a feed's first group and of its last.
+fn places_text(alloc: Global, check: &Checked<'_>) -> Result<String, AllocError>
+    ensures { IfOk result (λ text. string_bytes text ≡ places_text check.now.history) }
+{
+    let first = place_text(alloc, " first ", check.group(0))?;
+    let last = place_text(alloc, " last ", check.group(check.len().saturating_sub(1)))?;
+    let text = format!(in alloc; "{first}{last}")?;
+    Ok(text)
+}
+
+/// The name of a stream's file.
+fn file_name<'f>(files: &[&'f str], i: usize) -> &'f str
+    ensures { result.now ≡ file_name (map (λ file. file.now) files.now) i }
+{
+    match files.get(i) {
+        None => "",
+        Some(file) => *file,
+    }
+}
+
+/// A stream's number, its file, its shard, and how many groups its feed has.
+fn stream_head(
+    alloc: Global,
+    i: usize,
+    file: &str,
+    check: &Checked<'_>,
+) -> Result<String, AllocError>
+    ensures { IfOk result (λ text. string_bytes text ≡ stream_head i file.now check.now) }
+{
+    let shard = check.shard();
+    let groups = check.len();
+    let text = format!(in alloc; "stream {i} file {file} shard {shard} groups {groups}")?;
+    Ok(text)
+}
+
+/// The line of a stream.
+fn stream_line(
+    alloc: Global,
+    i: usize,
+    file: &str,
+    check: &Checked<'_>,
+) -> Result<String, AllocError>
+    ensures { IfOk result (λ text. string_bytes text ≡ stream_line i file.now check.now) }
+{
+    let head = stream_head(alloc, i, file, check)?;
+    let places = places_text(alloc, check)?;
+    let line = format!(in alloc; "{head}{places}\n")?;
+    Ok(line)
+}
+
+/// The line of a table of a stream.
+fn table_line(
+    alloc: Global,
+    check: &Checked<'_>,
+    t: usize,
+    name: &str,
+) -> Result<String, AllocError>
+    ensures { IfOk result (λ text. string_bytes text ≡ table_line check.now t name.now) }
+{
+    let touching = check.touching(t);
+    let passing = check.passing(t);
+    let line = format!(in alloc; "table {name} groups {touching} passing {passing}\n")?;
+    Ok(line)
+}
+
+/// Puts the lines of a stream's tables behind a text.
+fn push_tables(alloc: Global, check: &Checked<'_>, text: &mut String) -> Result<(), AllocError>
+    ensures { OnOk result (string_bytes text.new ≡ string_bytes text.old ++ table_lines check.now 0 check.now.plan.tables) }
+{
+    let tables = check.tables();
+    for t in 0..tables.len() {
+        let line = table_line(alloc, check, t, tables[t].name())?;
+        text.push_str(&line)?;
+    }
+    Ok(())
+}
+
+/// Puts the lines of a stream and its tables behind a text.
+fn push_lines(
+    alloc: Global,
+    i: usize,
+    file: &str,
+    check: &Checked<'_>,
+    text: &mut String,
+) -> Result<(), AllocError>
+    ensures { OnOk result (string_bytes text.new ≡ string_bytes text.old ++ (stream_line i file.now check.now ++ table_lines check.now 0 check.now.plan.tables)) }
+{
+    let line = stream_line(alloc, i, file, check)?;
+    text.push_str(&line)?;
+    push_tables(alloc, check, text)?;
+    Ok(())
+}
+
+/// The lines of all streams and their tables.
+fn all_lines(alloc: Global, files: &[&str], checks: &[Checked<'_>]) -> Result<String, AllocError>
+    ensures { IfOk result (λ text. string_bytes text ≡ lines_from (map (λ file. file.now) files.now) 0 checks.now) }
+{
+    let mut text = String::new(alloc);
+    for i in 0..checks.len() {
+        push_lines(alloc, i, file_name(files, i), &checks[i], &mut text)?;
+    }
+    Ok(text)
+}
+
+/// The warnings of all streams.
+fn all_warnings(alloc: Global, checks: &[Checked<'_>]) -> Result<String, AllocError>
+    ensures { IfOk result (λ text. string_bytes text ≡ warnings_from 0 checks.now) }
+{
+    let mut text = String::new(alloc);
+    for i in 0..checks.len() {
+        push_stream_warnings(alloc, i, &checks[i], &mut text)?;
+    }
+    Ok(text)
+}
