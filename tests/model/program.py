@@ -1,6 +1,7 @@
 """What the program answers to its words, files and standard input: status, output and error."""
 from . import Refused, cell, checkpoint
 from .board import Board, dump, key_text, read_script
+from .check import check
 from .feed import Feed, bytes_of_hex, show
 from .workflow import Workflow
 
@@ -141,6 +142,9 @@ def said_by(words, files, stdin):
         return vdiff(*given)
     if command == "run":
         return (run_alone if "--alone" in options else run_in_threads)(is_hex, policy, given[0], given[1:])
+    if command == "check":
+        names = [it.encode() for it in rest if not it.startswith("--")][1:]
+        return check(*opened(is_hex, given[0], given[1:]), names, [bytes_of_hex(it) if is_hex else it for it in given[1:]])
     if command == "resume":
         return resume(is_hex, files[values["checkpoint"]], given[0], given[1:], stdin)
     if command == "join":

@@ -54,7 +54,7 @@ class Case(Feeds):
     def __init__(self, r):
         self.r = r
         self.files, self.stdin = {}, b""
-        kind = r.choices(["show", "step", "save", "resume", "join", "run", "vdiff"], [3, 6, 2, 4, 4, 3, 2])[0]
+        kind = r.choices(["show", "step", "save", "resume", "join", "run", "vdiff", "check"], [3, 6, 2, 4, 4, 3, 2, 3])[0]
         self.is_hex = kind != "vdiff" and r.random() < 0.1
         self.is_whole = r.random() < 0.6
         self.faulty = r.choice([0, 0, 0, 1])
@@ -94,6 +94,9 @@ class Case(Feeds):
     def step(self):
         self.words = ["step", *self.options(), *self.named_feeds()]
         self.stdin = self.script(self.board())
+
+    def check(self):
+        self.words = ["check", *self.options(), *self.named_feeds()]
 
     def save(self):
         self.words = ["save", *self.options(), *self.named_feeds()]

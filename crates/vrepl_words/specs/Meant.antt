@@ -1,5 +1,5 @@
 -- What the words that were read ask for.
-use Rattle.vrepl_words.specs.Words.{FollowValue, JoinValue, PortionsValue, ResumeValue, RunValue, ShowValue, StepValue, VdiffValue, WordsValue, asks_follow, asks_join, asks_run, asks_show, asks_step, asks_save, asks_resume, asks_vdiff, asks_explain}
+use Rattle.vrepl_words.specs.Words.{FollowValue, JoinValue, PortionsValue, ResumeValue, RunValue, ShowValue, StepValue, VdiffValue, WordsValue, asks_follow, asks_join, asks_run, asks_show, asks_step, asks_save, asks_resume, asks_vdiff, asks_check, asks_explain}
 use Rattle.std.specs.Prelude.{◌≡◌, map, option_map, Option, None, Some, Result, Ok, Err}
 use Rattle.vrepl_words.specs.declared.portions.Portions.{Portions}
 use Rattle.vrepl_words.specs.declared.words.Follow.{Follow}
@@ -69,6 +69,7 @@ value_of (words.Resume resume) = asks_resume (resume_value resume)
 value_of (words.Join join) = asks_join (join_value join)
 value_of (words.Follow follow) = asks_follow (follow_value follow)
 value_of (words.Vdiff files) = asks_vdiff (vdiff_value files)
+value_of (words.Check check) = asks_check (step_value check)
 value_of (words.Explain number) = asks_explain number
 
 -- what was met asks for this, if for anything, unless a fault kept it from being read

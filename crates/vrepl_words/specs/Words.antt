@@ -16,7 +16,7 @@ pub record ShowValue : Type 0 where
   pub shard : Text
   pub feed : Text
 
--- `step` and `save`: a workflow, a feed for each of its streams, and whether feeds are hexadecimal text
+-- `step`, `save` and `check`: a workflow, a feed for each of its streams, and whether feeds are hexadecimal text
 pub record StepValue : Type 0 where
   pub hex : Bool
   pub workflow : Text
@@ -74,6 +74,7 @@ pub data WordsValue : Type 0 where
   asks_join : JoinValue → WordsValue
   asks_follow : FollowValue → WordsValue
   asks_vdiff : VdiffValue → WordsValue
+  asks_check : StepValue → WordsValue
   -- what a refusal's number means, or all of them
   asks_explain : Option ℕ → WordsValue
 
@@ -101,7 +102,7 @@ show_subcommand = record {
   meaning = λ given. Some (asks_show (show_given given));
 }
 
--- what is given to the arguments of `step`, and to those of `save`
+-- what is given to the arguments of `step`, and to those of `save` and `check`
 abbrev pub step_given : List Row → StepValue
 step_given given = record { hex = is_given (codes "hex") given; workflow = text_given (codes "workflow") given; feeds = texts_given (codes "feed") given }
 
@@ -210,6 +211,14 @@ vdiff_subcommand = record {
   meaning = λ given. Some (asks_vdiff (vdiff_given given));
 }
 
+-- `check [--hex] WORKFLOW FEED..`
+abbrev pub check_subcommand : Subcommand
+check_subcommand = record {
+  name = codes "check";
+  rules = flag_rule (codes "hex") ∷ operand_rule (codes "workflow") ∷ operands_rule (codes "feed") ∷ [];
+  meaning = λ given. Some (asks_check (step_given given));
+}
+
 -- `explain [NUMBER]`
 abbrev pub explain_subcommand : Subcommand
 explain_subcommand = record {
@@ -220,7 +229,7 @@ explain_subcommand = record {
 
 -- the subcommands, in the order of the help
 abbrev pub subcommands : List Subcommand
-subcommands = show_subcommand ∷ step_subcommand ∷ run_subcommand ∷ vdiff_subcommand ∷ save_subcommand ∷ resume_subcommand ∷ join_subcommand ∷ follow_subcommand ∷ explain_subcommand ∷ []
+subcommands = show_subcommand ∷ step_subcommand ∷ run_subcommand ∷ vdiff_subcommand ∷ save_subcommand ∷ resume_subcommand ∷ join_subcommand ∷ follow_subcommand ∷ check_subcommand ∷ explain_subcommand ∷ []
 
 -- a subcommand as `clap` sees it
 abbrev pub shape_of_subcommand : Subcommand → Shape

@@ -4,7 +4,7 @@ ghost use Rattle.std.specs.Prelude.{IfOk, codes};
 ghost use Rattle.clap.specs.Words.{App, Rule, new_app, with_rule, with_subcommand};
 ghost use Rattle.vrepl_words.specs.Arguments.{flag_rule, needed_rule, operand_rule, operands_rule, option_rule, optional_rule};
 ghost use Rattle.vrepl_words.specs.Built.{HasApp, HasRule, IsSubcommand, bare_app};
-ghost use Rattle.vrepl_words.specs.Words.{explain_subcommand, follow_subcommand, join_subcommand, program_app, resume_subcommand, run_subcommand, save_subcommand, show_subcommand, step_subcommand, vdiff_subcommand};
+ghost use Rattle.vrepl_words.specs.Words.{check_subcommand, explain_subcommand, follow_subcommand, join_subcommand, program_app, resume_subcommand, run_subcommand, save_subcommand, show_subcommand, step_subcommand, vdiff_subcommand};
 
 use crate::help;
 use clap::{Arg, ArgAction, Command};
@@ -23,6 +23,7 @@ pub(crate) fn program<'w>(alloc: Global) -> Result<Command<'w>, AllocError>
     let command = with_subcommand(command, resume_command(alloc));
     let command = with_subcommand(command, join_command(alloc));
     let command = with_subcommand(command, follow_command(alloc));
+    let command = with_subcommand(command, check_command(alloc));
     with_subcommand(command, explain_command(alloc))
 }
 
@@ -127,6 +128,14 @@ fn join_command<'w>(alloc: Global) -> Result<Command<'w>, AllocError>
     let other = operand(alloc, "other", "B", "The other checkpoint's file");
     let command = with_arg(command, other);
     with_arg(command, operands(alloc, "feed", "FEED", feed_help))
+}
+
+fn check_command<'w>(alloc: Global) -> Result<Command<'w>, AllocError>
+    ensures { IfOk result (IsSubcommand check_subcommand) }
+{
+    let about = "Warns of what can't be so in a workflow's feeds";
+    let command = Ok(bare(alloc, "check", about, help::CHECK));
+    with_streams(alloc, with_arg(command, hex(alloc)))
 }
 
 fn vdiff_command<'w>(alloc: Global) -> Result<Command<'w>, AllocError>

@@ -10,7 +10,7 @@ Status:
   1  a line `refused NUMBER` on standard error; `vrepl explain NUMBER` says what
      the number means, what the usual causes are, and what to do next
   2  a fault of usage
-  3  `vdiff` found a difference";
+  3  `vdiff` found a difference, or `check` something to warn of";
 
 /// A call of `show` and what it prints.
 pub(crate) const SHOW: &str = "\
@@ -141,6 +141,21 @@ Status:
   1  refused; `vrepl explain NUMBER` says what the line's number means
   2  a fault of usage
   3  the dumps differ";
+
+/// A call of `check`.
+pub(crate) const CHECK: &str = "\
+Example:
+  $ vrepl check --hex examples/workflows/two_shards.json \\
+      examples/two_shards/lower.hex examples/two_shards/upper.hex
+
+Prints a line for each stream and each of its tables, and a line for each thing
+that can't be so.
+
+Status:
+  0  nothing is warned of
+  1  refused; `vrepl explain NUMBER` says what the line's number means
+  2  a fault of usage
+  3  something is warned of";
 
 /// A call of `explain` and what it prints.
 pub(crate) const EXPLAIN: &str = "\

@@ -5,7 +5,7 @@ ghost use Rattle.clap.specs.Words.{FailsBy, first_of, found_of, rows_of, subcomm
 ghost use Rattle.vrepl_words.specs.Arguments.{is_given, portion_given, portion_of, text_given, texts_given};
 ghost use Rattle.vrepl_words.specs.Built.{HasApp};
 ghost use Rattle.vrepl_words.specs.Meant.{Asks, follow_value, portions_value, run_value, show_value, step_value, value_of, vdiff_value};
-ghost use Rattle.vrepl_words.specs.Words.{asked_by, asks_join, asks_follow, asks_resume, asks_run, asks_save, asks_step, explain_subcommand, faults_of, follow_given, follow_subcommand, join_given, portions_given, program_app, resume_given, run_given, run_subcommand, show_given, step_given, vdiff_given, words_of};
+ghost use Rattle.vrepl_words.specs.Words.{asked_by, asks_check, asks_join, asks_follow, asks_resume, asks_run, asks_save, asks_step, explain_subcommand, faults_of, follow_given, follow_subcommand, join_given, portions_given, program_app, resume_given, run_given, run_subcommand, show_given, step_given, vdiff_given, words_of};
 
 use crate::commands::program;
 use crate::numbers::{bad_number, refusal_given};
@@ -33,6 +33,8 @@ pub enum Words<'w> {
     Follow(Follow<'w>),
     /// `vdiff`: compare two dumps.
     Vdiff(Vdiff<'w>),
+    /// `check`: look for what can't be so in a workflow's feeds.
+    Check(Step<'w>),
     /// `explain`: print what is said of a refusal's number, or the list of all.
     Explain(Option<u64>),
 }
@@ -89,7 +91,7 @@ pub struct Join<'w> {
     pub feeds: Vec<&'w str>,
 }
 
-/// The words of `step`, and of `save`, which has the same.
+/// The words of `step`, and of `save` and `check`, which have the same.
 #[derive(Drop)]
 pub struct Step<'w> {
     /// Whether the feeds are hexadecimal text.
@@ -175,6 +177,7 @@ fn asked<'w>(alloc: Global, matches: &ArgMatches<'w>) -> Option<Result<Words<'w>
         "join" => Some(join_words(alloc, given)),
         "follow" => follow_words(alloc, given),
         "vdiff" => Some(Ok(Words::Vdiff(vdiff_words(given)))),
+        "check" => Some(check_words(alloc, given)),
         "explain" => explain_words(given),
         _ => None,
     }
@@ -214,6 +217,13 @@ fn save_words<'w>(alloc: Global, given: &ArgMatches<'w>) -> Result<Words<'w>, Al
 {
     let words = script_words(alloc, given)?;
     Ok(Words::Save(words))
+}
+
+fn check_words<'w>(alloc: Global, given: &ArgMatches<'w>) -> Result<Words<'w>, AllocError>
+    ensures { IfOk result (λ words. value_of words ≡ asks_check (step_given (rows_of (found_of given.now)))) }
+{
+    let words = script_words(alloc, given)?;
+    Ok(Words::Check(words))
 }
 
 fn resume_words<'w>(alloc: Global, given: &ArgMatches<'w>) -> Result<Words<'w>, AllocError>

@@ -12,4 +12,5 @@ returns c =
     let resume = c.with_subcommand-command-6.ensures _ _ save c.resume_command.ensures in
     let join = c.with_subcommand-command-7.ensures _ _ resume c.join_command.ensures in
     let follow = c.with_subcommand-command-8.ensures _ _ join c.follow_command.ensures in
-    c.with_subcommand.ensures _ _ follow c.explain_command.ensures
+    let check = c.with_subcommand-command-9.ensures _ _ follow c.check_command.ensures in
+    c.with_subcommand.ensures _ _ check c.explain_command.ensures

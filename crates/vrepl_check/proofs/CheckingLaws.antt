@@ -1,0 +1,68 @@
+-- A report on feeds, by what opening and checking them give.
+use Rattle.std.proofs.Common.{arith, ◌≡◌, ◌∙◌, ◌-◌, ◌≤◌, ℕ, Bool, List, [], drop, get_or, length, refl, sym, take, ap, subst, map, Option, Some, None, Result, Ok, Err}
+use Rattle.std.specs.Prelude.{MatchOption, IfSome}
+use Rattle.std.proofs.lemmas.List.{drop-map, get_or-map, length-drop, map-map, take_all}
+use Rattle.outcome.specs.Outcome as outcome
+use Rattle.outcome.specs.Outcome.{◌>>=◌}
+use Rattle.source_feed.specs.FaultNumber as feed
+use Rattle.source_feed.specs.declared.fault.FeedFault.{FeedFault}
+use Rattle.source_feed.specs.declared.fault.FeedFault.TheVariants as fault
+use Rattle.feed_check.specs.Checked.{CheckedValue, checked_feeds}
+use Rattle.feed_check.specs.Report.{ReportValue, report_of}
+use Rattle.vrepl_main.specs.HexText.{feed_bytes}
+use Rattle.vrepl_main.specs.InputList.{workflow_of}
+use Rattle.vrepl_main.specs.Opening.{OpenedValue}
+use Rattle.vrepl_main.specs.Reasons.{Reason, meant_of, RefusesInputs}
+use Rattle.vrepl_main.specs.RefusalOf.{refusal_of_feed}
+use Rattle.vrepl_main.specs.declared.refusal.Refusal.{Refusal}
+use Rattle.vrepl_main.specs.declared.refusal.Refusal.TheVariants.{Memory, Workflow, FeedCount, Feed, BadHex, BadScript, BadDump, CannotRead, CannotWrite}
+use Rattle.vrepl_check.specs.Checking.{IsWarned, bytes_in, said_checks, report_with, report_bytes, report_given, report_asked}
+
+-- what refuses a step refuses what is made of it
+behind : {X Y : Type 0} (o : Option Reason) (reading : Result X Reason) (f : X → Result Y Reason) → MatchOption o ⊥ (λ reason. reading ≡ Err reason) → MatchOption o ⊥ (λ reason. (reading >>= f) ≡ Err reason)
+behind None reading f is = is
+behind (Some reason) reading f is = ap (λ r. r >>= f) is
+
+pub refuses_behind : {X Y : Type 0} (refusal : Refusal) (reading : Result X Reason) (f : X → Result Y Reason) → RefusesInputs refusal reading → RefusesInputs refusal (reading >>= f)
+refuses_behind Memory reading f is = tt
+refuses_behind other reading f is = behind (meant_of other) reading f is
+
+-- the refusal of a group that isn't sound
+pub refuses_checks : (files : List (List ℕ)) (given : FeedFault) (reading : Result (List CheckedValue) FeedFault) → outcome.Refuses feed.meant_of given reading
+    → RefusesInputs (refusal_of_feed given) (said_checks reading >>= λ checks. Ok (report_of files checks))
+refuses_checks files fault.Memory reading is = tt
+refuses_checks files other reading is = ap (λ r. said_checks r >>= λ checks. Ok {F = Reason} (report_of files checks)) is
+
+-- feeds as they are given
+pub given_as : {A : Type 0} (feeds : List A) (view : A → List ℕ) (hex : Bool) (files : List (List ℕ)) (workflow : List ℕ) (given : List (Option (List ℕ))) → given ≡ map (λ feed. feed_bytes hex (view feed)) feeds
+    → report_bytes files workflow given ≡ report_given hex files workflow (map view feeds)
+given_as feeds view hex files workflow given is =
+    ap (λ (bytes : List (Option (List ℕ))). report_bytes files workflow bytes) (is ∙ sym (map-map (feed_bytes hex) view feeds))
+
+-- the same of feeds that were opened
+pub refused_checks : (files : List (List ℕ)) (given : List (Option (List ℕ))) (reading : Result OpenedValue Reason) (opened : OpenedValue) (fault : FeedFault) → reading ≡ Ok opened
+    → outcome.Refuses feed.meant_of fault (checked_feeds (map bytes_in given) opened.feeds) → RefusesInputs (refusal_of_feed fault) (reading >>= report_with files given)
+refused_checks files given reading opened fault is bad =
+    subst (λ (r : Result OpenedValue Reason). RefusesInputs (refusal_of_feed fault) (r >>= report_with files given)) (sym is) (refuses_checks files fault (checked_feeds (map bytes_in given) opened.feeds) bad)
+
+-- the report on them
+pub report_is : (files : List (List ℕ)) (given : List (Option (List ℕ))) (reading : Result OpenedValue Reason) (opened : OpenedValue) (checks : List CheckedValue) (report : ReportValue) → reading ≡ Ok opened
+    → checked_feeds (map bytes_in given) opened.feeds ≡ Ok checks → report ≡ report_of files checks → (reading >>= report_with files given) ≡ Ok report
+report_is files given reading opened checks report is checked made =
+    ap (λ (r : Result OpenedValue Reason). r >>= report_with files given) is
+    ∙ ap (λ (r : Result (List CheckedValue) FeedFault). said_checks r >>= λ checks. Ok {F = Reason} (report_of files checks)) checked
+    ∙ ap Ok (sym made)
+
+-- whether it warns
+pub warned_as : (reading : Result ReportValue Reason) (report : ReportValue) (warned : Bool) → reading ≡ Ok report → warned ≡ report.warned → IsWarned warned reading
+warned_as reading report warned is says = subst (λ (r : Result ReportValue Reason). IsWarned warned r) (sym is) (sym says)
+
+-- what stands first in the inputs, and the feeds behind it
+pub asked_is : {X : Type 0} (f : X → List ℕ) (hex : Bool) (files : List (List ℕ)) (inputs : List X) (first : X) (workflow : List ℕ) → 1 ≤ length inputs
+    → first ≡ get_or inputs 0 first → workflow ≡ f first → report_given hex files workflow (map f (take (length inputs - 1) (drop 1 inputs))) ≡ report_asked hex files (map f inputs)
+asked_is {X} f hex files inputs first workflow some at_front front =
+    let all : take (length inputs - 1) (drop 1 inputs) ≡ drop 1 inputs = take_all (length inputs - 1) (drop 1 inputs) (omega (arith, length-drop 1 inputs)) in
+    let place : workflow ≡ workflow_of (map f inputs) = front ∙ ap f at_front ∙ sym (get_or-map f inputs 0 first [] (omega (arith, some))) in
+    ap (λ (l : List X). report_given hex files workflow (map f l)) all
+    ∙ ap (λ x. report_given hex files x (map f (drop 1 inputs))) place
+    ∙ ap (report_given hex files (workflow_of (map f inputs))) (sym (drop-map f 1 inputs))

@@ -1,0 +1,126 @@
+//! The subcommand `check`: what stands in feeds, and warnings of what can't be so.
+
+ghost use Rattle.std.specs.Prelude.{◌≡◌, ◌≢◌, ◌≤◌, ◌⊎◌, false, true, IfOk, IfErr, length, map};
+ghost use Rattle.vrepl_main.specs.Command.{IsGivenText, PrintsWhole, PrintsRefusal, Refuses};
+ghost use Rattle.vrepl_main.specs.Given.{given_value};
+ghost use Rattle.vrepl_main.specs.InputList.{bytes_of};
+ghost use Rattle.vrepl_main.specs.Reasons.{GivesOfInputs};
+ghost use Rattle.vrepl_check.specs.Checking.{bytes_in, report_bytes, report_given, report_asked, text_of, IsWarned};
+
+use feed_check::{Report, check_feeds};
+use std::alloc::{AllocError, Global};
+use vdiff_core::{Out, put_all};
+use vrepl_main::{GivenFeed, Refusal, given_feeds, open_workflow, refuse};
+
+/// Checks the feeds of the workflow, which is the first input; they stand behind it, and their files have these
+/// names. Else as `check`.
+pub fn check_on<W: Out, E: Out>(
+    alloc: Global,
+    hex: bool,
+    files: &[&str],
+    inputs: &[Vec<u8>],
+    out: &mut W,
+    err: &mut E,
+) -> u8
+    requires { 1 ≤ length inputs.now }
+    ensures status { (result ≡ 0) ⊎ (result ≡ 1) ⊎ (result ≡ 3) }
+    ensures sound { result ≡ 0 → IsWarned false (report_asked hex (map (λ file. file.now) files.now) (bytes_of inputs.now)) }
+    ensures warned { result ≡ 3 → IsWarned true (report_asked hex (map (λ file. file.now) files.now) (bytes_of inputs.now)) }
+    ensures printed { result ≢ 1 → PrintsWhole (text_of (report_asked hex (map (λ file. file.now) files.now) (bytes_of inputs.now))) (W.written out.old) (W.written out.new) }
+    ensures quiet { result ≢ 1 → err.new ≡ err.old }
+    ensures refused { result ≡ 1 → PrintsRefusal IsGivenText (text_of (report_asked hex (map (λ file. file.now) files.now) (bytes_of inputs.now))) (W.written out.old) (W.written out.new) (E.written err.old) (E.written err.new) }
+{
+    let feeds = &inputs[1..];
+    check(alloc, hex, files, &inputs[0], feeds, out, err)
+}
+
+/// Checks a workflow with its feeds, one in the order of the streams each, and prints on `out` a line for each
+/// stream, a line for each of its tables, and behind them all warnings: of a stream without a group, of a
+/// table that no group touches or of which no row passes the stream's filter, and of changes that aren't true
+/// of the rows that the changes before them leave, with the first ten of each kind. Or prints the line of a
+/// refusal on `err` and then nothing on `out`, unless it is `out` that can't be written. The faults are found
+/// in this order: those of opening the workflow with its feeds, as `run` finds them; then of each feed the
+/// first group that isn't sound. Where `hex` is set feeds are hexadecimal text. Answers the status: 0 where
+/// nothing is warned of, 3 where something is, 1 after a refusal, also of memory.
+pub fn check<W: Out, E: Out>(
+    alloc: Global,
+    hex: bool,
+    files: &[&str],
+    workflow: &[u8],
+    feeds: &[Vec<u8>],
+    out: &mut W,
+    err: &mut E,
+) -> u8
+    ensures status { (result ≡ 0) ⊎ (result ≡ 1) ⊎ (result ≡ 3) }
+    ensures sound { result ≡ 0 → IsWarned false (report_given hex (map (λ file. file.now) files.now) workflow.now (map (λ feed. feed.items) feeds.now)) }
+    ensures warned { result ≡ 3 → IsWarned true (report_given hex (map (λ file. file.now) files.now) workflow.now (map (λ feed. feed.items) feeds.now)) }
+    ensures printed { result ≢ 1 → PrintsWhole (text_of (report_given hex (map (λ file. file.now) files.now) workflow.now (map (λ feed. feed.items) feeds.now))) (W.written out.old) (W.written out.new) }
+    ensures quiet { result ≢ 1 → err.new ≡ err.old }
+    ensures refused { result ≡ 1 → PrintsRefusal IsGivenText (text_of (report_given hex (map (λ file. file.now) files.now) workflow.now (map (λ feed. feed.items) feeds.now))) (W.written out.old) (W.written out.new) (E.written err.old) (E.written err.new) }
+{
+    match print_check(alloc, hex, files, workflow, feeds, out) {
+        Ok(false) => 0,
+        Ok(true) => 3,
+        Err(refusal) => refuse(err, &refusal),
+    }
+}
+
+/// Prints the report on a workflow and its feeds, and answers whether it warns of anything; prints nothing
+/// where there is none.
+fn print_check<W: Out>(
+    alloc: Global,
+    hex: bool,
+    files: &[&str],
+    workflow: &[u8],
+    feeds: &[Vec<u8>],
+    out: &mut W,
+) -> Result<bool, Refusal<'static>>
+    ensures warned { IfOk result (λ warned. IsWarned warned (report_given hex (map (λ file. file.now) files.now) workflow.now (map (λ feed. feed.items) feeds.now))) }
+    ensures printed { IfOk result (λ _. PrintsWhole (text_of (report_given hex (map (λ file. file.now) files.now) workflow.now (map (λ feed. feed.items) feeds.now))) (W.written out.old) (W.written out.new)) }
+    ensures refused { IfErr result (λ refusal. Refuses IsGivenText refusal (text_of (report_given hex (map (λ file. file.now) files.now) workflow.now (map (λ feed. feed.items) feeds.now))) (W.written out.old) (W.written out.new)) }
+{
+    let report = report_on(alloc, hex, files, workflow, feeds)?;
+    put_all(out, report.text().as_bytes())?;
+    Ok(report.warned())
+}
+
+/// The report on a workflow and its feeds, which may be given as hexadecimal text.
+fn report_on(
+    alloc: Global,
+    hex: bool,
+    files: &[&str],
+    workflow: &[u8],
+    feeds: &[Vec<u8>],
+) -> Result<Report, Refusal<'static>>
+    ensures { GivesOfInputs (λ report. report) result (report_given hex (map (λ file. file.now) files.now) workflow.now (map (λ feed. feed.items) feeds.now)) }
+{
+    let given = given_feeds(alloc, hex, feeds)?;
+    report_of(alloc, files, workflow, &given)
+}
+
+/// The report on a workflow and its feeds.
+fn report_of(
+    alloc: Global,
+    files: &[&str],
+    workflow: &[u8],
+    given: &[GivenFeed<'_>],
+) -> Result<Report, Refusal<'static>>
+    ensures { GivesOfInputs (λ report. report) result (report_bytes (map (λ file. file.now) files.now) workflow.now (map given_value given.now)) }
+{
+    let opened = open_workflow(alloc, workflow, given)?;
+    let bytes = bytes_given(alloc, given)?;
+    let checks = check_feeds(alloc, &bytes, &opened.feeds)?;
+    let report = Report::of(alloc, files, &checks)?;
+    Ok(report)
+}
+
+/// The bytes of each feed.
+fn bytes_given<'g>(alloc: Global, given: &'g [GivenFeed<'_>]) -> Result<Vec<&'g [u8]>, AllocError>
+    ensures { IfOk result (λ bytes. map (λ one. one.now) bytes.items ≡ map bytes_in (map given_value given.entry.now)) }
+{
+    let mut bytes = Vec::with_capacity(alloc, given.len())?;
+    for feed in given {
+        bytes.push(feed.bytes().unwrap_or(&[]))?;
+    }
+    Ok(bytes)
+}
