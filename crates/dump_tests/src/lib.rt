@@ -8,4 +8,6 @@ mod dumps;
 #[cfg(test)]
 mod reading;
 #[cfg(test)]
+mod tables;
+#[cfg(test)]
 mod two_tables;

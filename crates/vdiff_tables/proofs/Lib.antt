@@ -1,0 +1,4 @@
+mod WalkLaws
+mod TableLaws
+mod TextLaws
+pub mod DifferenceLaws

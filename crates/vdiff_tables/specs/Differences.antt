@@ -1,0 +1,31 @@
+-- The first keys at which two sets of rows differ (this profile, after Vitess's VDiff).
+use Rattle.std.specs.Prelude.{◌≡◌, ℕ, zero, suc, List, [], ◌∷◌, Option}
+use Rattle.std.specs.List.{filter}
+use Rattle.std.specs.Ordering.{is_lt}
+use Rattle.pk_copy.specs.KeyOrder.{key_cmp}
+use Rattle.pk_copy.specs.KeyValue.{KeyValue}
+use Rattle.vdiff_core.specs.Report.{IsFirstDifference}
+use Rattle.vdiff_core.specs.RowsValue.{RowValue, RowsValue, row_at}
+
+-- a key, and the rows that stand there, if any do
+pub record Difference : Type 0 where
+  pub key : KeyValue
+  pub source : Option RowValue
+  pub target : Option RowValue
+
+-- the least key at which the two differ, with the rows that stand there
+pub record IsLeast (source target : RowsValue) (least : Difference) : Type 0 where
+  pub first : IsFirstDifference source target least.key
+  pub source_row : least.source ≡ row_at source least.key
+  pub target_row : least.target ≡ row_at target least.key
+
+-- the rows at greater keys
+abbrev pub behind : KeyValue → RowsValue → RowsValue
+behind key rows = filter (λ row. is_lt (key_cmp key row.0)) rows
+
+-- the first n differences by rising key, or all where there are fewer: the least one, and those behind it
+abbrev pub AreFirst : ℕ → RowsValue → RowsValue → List Difference → Type 0
+AreFirst zero source target [] = Unit {0}
+AreFirst zero source target (least ∷ others) = ⊥
+AreFirst (suc n) source target [] = source ≡ target
+AreFirst (suc n) source target (least ∷ others) = IsLeast source target least × AreFirst n (behind least.key source) (behind least.key target) others
