@@ -17,6 +17,7 @@ pub mod Touched
 pub mod BoardCourse
 pub mod OneStep
 pub mod SeatCourse
+pub mod ReceiptLaws
 pub mod SeatGoesOn
 pub mod JobLaws
 pub mod ManyRuns

@@ -21,8 +21,8 @@ use Rattle.stream_worker.specs.Knowing.{Laid}
 use Rattle.stream_worker.specs.Rule.{GoesOn}
 use Rattle.stream_worker.specs.RunRefused.{TouchesKey, BothTouch, EndsRun, IsLowest, refused_stream}
 use Rattle.stream_worker.specs.SeatOf.{known, seat_state, IsSeatOf, AreSeatsOf, AreStatesOf, AllGoOnFromSeen, SawAsMany, IsOpened}
-use Rattle.stream_worker.specs.Private.SeatSteps.{IsReading, HasCome, MeetsRow}
-use Rattle.stream_worker.specs.Private.SeatRuns.{EndsSeat, IsSeated, IsRan, AreSeated, AreRan, first_refusal}
+use Rattle.stream_worker.specs.Worked.{HasCome, MeetsRow, EndsSeat}
+use Rattle.stream_worker.specs.Private.SeatRuns.{IsSeated, IsRan, AreSeated, AreRan, first_refusal}
 use Rattle.stream_worker.proofs.EndLaws.{seat_saw}
 use Rattle.stream_worker.proofs.OneStep.{the-one}
 use Rattle.stream_worker.proofs.Touched.{cut_front, read_touched}
@@ -122,7 +122,7 @@ opened-seated feeds board fed shared seats opened k seat at =
       at_board = own.0;
       feed = has.feed;
       fed = ap (slice_get feeds) own.1 ∙ has.fed;
-      follows = subst (λ (o : Option State). IsSomeAnd o (IsReading has.feed)) (sym state) (record { reads = has.reads; sound = fed.lawful.sound k here.0 here.1 });
+      follows = subst (λ (o : Option State). IsSomeAnd o (ReadsFeed has.feed)) (sym state) has.reads;
       many = λ laid saw. opened.many k seat laid at saw ∙ fed.count;
     } in
     (seated, own.1)
@@ -192,13 +192,13 @@ module _ (feeds : List FeedValue) (old : Meaning) (fed : IsFedBoard feeds old) (
   reads s state at =
       let sit : Sits s state = sits s state at in
       let is : IsRan shared feeds s sit.one = ran s sit.one sit.there in
-      let reading : IsReading is.seated.feed state = follows-here sit.one.seat state (IsReading is.seated.feed) sit.knows is.seated.follows in
+      let reading : ReadsFeed is.seated.feed state = follows-here sit.one.seat state (ReadsFeed is.seated.feed) sit.knows is.seated.follows in
       let fed_here : slice_get feeds s ≡ Some is.seated.feed = ap (slice_get feeds) (sym is.stream) ∙ is.seated.fed in
       record {
         feed = is.seated.feed;
         fed = fed_here;
         whole = whole s is.seated.feed fed_here;
-        reads = reading.reads;
+        reads = reading;
       }
 
   pub left-fed : IsFedBoard feeds board
@@ -254,8 +254,8 @@ module _ (feeds : List FeedValue) (old : Meaning) (fed : IsFedBoard feeds old) (
   come-sound : (k : ℕ) (one : Ran) (at : slice_get rans k ≡ Some one) → one.refusal ≡ None → length (sound_groups (ran k one at).seated.feed) ≡ length (ran k one at).seated.feed.groups
   come-sound k one at none =
       let is : IsRan shared feeds k one = ran k one at in
-      let reads : (x : State) × (seat_state one.seat ≡ Some x) × IsReading is.seated.feed x = the-one (seat_state one.seat) (IsReading is.seated.feed) is.seated.follows in
-      ended-sound is.seated.feed reads.0 reads.2.reads (follows-here one.seat reads.0 (HasEnded is.seated.feed) reads.1 (come k one at none))
+      let reads : (x : State) × (seat_state one.seat ≡ Some x) × ReadsFeed is.seated.feed x = the-one (seat_state one.seat) (ReadsFeed is.seated.feed) is.seated.follows in
+      ended-sound is.seated.feed reads.0 reads.2 (follows-here one.seat reads.0 (HasEnded is.seated.feed) reads.1 (come k one at none))
 
   lower : (refusal : RunRefusal) (first : IsFirstRefused rans refusal) (s : ℕ) → s ≡ first.ran.seat.stream → (t : ℕ) (feed : FeedValue) → t < s → slice_get feeds t ≡ Some feed
       → length (sound_groups feed) ≡ length feed.groups

@@ -1,5 +1,5 @@
--- A step of a seat's stream on its course: what it leaves, and how a refused one ends the course.
-use Rattle.std.proofs.Common.{◌≡◌, ℕ, ◌<◌, inl, inr, cond, List, [], ◌∷◌, length, Option, Some, None, Result, Ok, Err, slice_get, set, refl, sym, ap, subst, ◌∙◌}
+-- A step of a seat's stream: what it leaves, and on its course, how a refused one ends it.
+use Rattle.std.proofs.Common.{◌≡◌, ℕ, inl, inr, cond, List, [], ◌∷◌, length, Option, Some, None, Result, Ok, Err, slice_get, set, refl, sym, ap, subst, ◌∙◌}
 use Rattle.std.proofs.lemmas.Option.{same_Some, none-some, MatchOption-at_some}
 use borrow.Author.Tests.{eq-eqb}
 use Rattle.std.specs.Prelude.{IsSomeAnd, MatchOption}
@@ -25,23 +25,22 @@ use Rattle.board_laws.specs.Step.{IsMade, IsRefusedFor, IsClash}
 use Rattle.board_laws.specs.Reading.{ReadsFeed}
 use Rattle.board_laws.specs.Runs.{sound_groups, IsTouchedIn}
 use Rattle.board_laws.specs.Schedule.{Reply, IsUnprepared}
-use Rattle.board_laws.proofs.Lookups.{Ties}
 use Rattle.board_laws.proofs.Lists.{slice_get-set_same}
 use Rattle.stream_worker.specs.Knowing.{Laid, Knows, SawStreams, state_seen}
 use Rattle.stream_worker.specs.Rule.{IsSaid}
 use Rattle.stream_worker.specs.RunRefused.{IsFirstUnsound}
 use Rattle.stream_worker.specs.Seats.{IsSeatStep}
-use Rattle.stream_worker.specs.Private.Courses.{LeadsOn, left_by}
-use Rattle.stream_worker.specs.Private.SeatSteps.{IsReading, IsSeatEvent, IsSeatReply, MeetsRow, EndsByItsBoard, EndsSeatStep}
+use Rattle.stream_worker.specs.Private.Courses.{LeadsOn}
+use Rattle.stream_worker.specs.Worked.{MeetsRow}
+use Rattle.stream_worker.specs.Private.SeatSteps.{IsSeatEvent, IsSeatReply, EndsByItsBoard, EndsSeatStep}
 use Rattle.stream_worker.proofs.BoardSteps.{step_changes}
 use Rattle.stream_worker.proofs.SeatLaws.{own_as_seen}
-use Rattle.stream_worker.proofs.StepsOn.{plus_one, first-unsound, Hinders, none-alone, allowed-on, left-on}
+use Rattle.stream_worker.proofs.StepsOn.{plus_one, first-unsound, Hinders, none-alone, allowed-on}
 use Rattle.stream_worker.proofs.Touched.{cut_front, read_touched, IsInTheWay, in_the_way, reads-on}
 
 -- ---- a step of a seat
 
-module _ (feed : FeedValue) (whole : IsFeed feed) (before after : Knows) (s : ℕ) (own : before.streams ≡ s ∷ []) (state : State) (here : state_seen before s ≡ Some state)
-    (reads : ReadsFeed feed state) (was is : ℕ) (step : Step) (leads : LeadsOn (standing_of state) (length feed.groups) was is step) where
+module _ (feed : FeedValue) (before after : Knows) (s : ℕ) (own : before.streams ≡ s ∷ []) (state : State) (here : state_seen before s ≡ Some state) (step : Step) where
   module _ (result : Result Answer Refusal) (h : IsSeatEvent feed before s step result after) where
     abbrev stepped : IsSeatStep before s h.event result after
     stepped = h.stepped
@@ -67,98 +66,22 @@ module _ (feed : FeedValue) (whole : IsFeed feed) (before after : Knows) (s : �
   abbrev seen_state : Option Laid → Option State
   seen_state o = option_and_then (λ (laid : Laid). slice_get laid.board s) o
 
-  -- a step that is made leaves a stream that reads its feed, and less of the course
-  module _ (ties : Ties) (answer : Answer) (h : IsSeatEvent feed before s step (Ok answer) after) where
+  -- the state that a step leaves that is made
+  module _ (answer : Answer) (h : IsSeatEvent feed before s step (Ok answer) after) where
     abbrev made : IsMade (record { streams = h.stepped.taken.board; rows = h.stepped.step.rows }) s h.event answer (record { streams = h.stepped.left.board; rows = h.stepped.step.rows_left })
     made = h.stepped.step.step
 
-    next-state : state_seen after s ≡ Some (state_after state h.event)
+    pub next-state : state_seen after s ≡ Some (state_after state h.event)
     next-state =
         ap seen_state h.stepped.seen
         ∙ ap (λ (board : List State). slice_get board s) made.streams
         ∙ ap (λ (x : State). slice_get (set h.stepped.taken.board s (state_after x h.event)) s) (same_Some made.state state (sym made.stream ∙ taken_here (Ok answer) h))
         ∙ slice_get-set_same h.stepped.taken.board s (state_after state h.event) state (taken_here (Ok answer) h)
 
-    made-follows : IsSomeAnd (state_seen after s) (IsReading feed)
-    made-follows =
-        subst (λ (o : Option State). IsSomeAnd o (IsReading feed)) (sym next-state)
-        (record { reads = reads-on feed state reads was is step h.event leads h.of_step; sound = made.lawful.sound s (state_after state h.event) (sym (ap seen_state h.stepped.seen) ∙ next-state) })
-
-    made-nearer : left_by (Some feed) (state_seen after s) is < left_by (Some feed) (state_seen before s) was
-    made-nearer =
-        subst (λ (o : Option State). left_by (Some feed) o is < left_by (Some feed) (state_seen before s) was) (sym next-state)
-        (subst (λ (o : Option State). left_by (Some feed) (Some (state_after state h.event)) is < left_by (Some feed) o was) (sym here)
-        (left-on feed state whole reads (sound-here (Ok answer) h) was is ties step h.event leads h.of_step))
-
   -- a refused step leaves the stream as it was
   refused-stays : (refusal : Refusal) → IsSeatEvent feed before s step (Err refusal) after → state_seen after s ≡ Some state
   refused-stays refusal h =
       ap seen_state h.stepped.seen ∙ ap (λ (board : Meaning). slice_get board.streams s) h.stepped.step.step.1 ∙ taken_here (Err refusal) h
-
-  -- ---- how a refused step ends the course
-
-  module _ (refusal : Refusal) (h : IsSeatEvent feed before s step (Err refusal) after) where
-    abbrev old : Meaning
-    old = record { streams = h.stepped.taken.board; rows = h.stepped.step.rows }
-
-    refused-for : IsRefusedFor old s state h.event refusal
-    refused-for = MatchOption-at_some _ (λ (x : State). IsRefusedFor old s x h.event refusal) state (taken_here (Err refusal) h) h.stepped.step.step.0
-
-    hinders : Hinders refusal
-    hinders = none-alone old s state h.event refusal (allowed-on feed state whole reads (sound-here (Err refusal) h) was is step h.event leads h.of_step) refused-for
-
-  meets-row : (key : KeyValue) (owner : ℕ) → IsSeatEvent feed before s step (Err (OwnedByOther key owner)) after → MeetsRow feed after s key owner
-  meets-row key owner h = by (slice_get h.stepped.taken.board owner) refl cut
-    where
-      board : Meaning
-      board = old (OwnedByOther key owner) h
-
-      clash : IsClash h.stepped.step.rows s state h.event key owner
-      clash = refused-for (OwnedByOther key owner) h
-
-      way : IsInTheWay s (cut_of (state_after state h.event) key) (value_at key_cmp h.stepped.step.rows key) owner
-      way = in_the_way s (cut_of (state_after state h.event) key) (value_at key_cmp h.stepped.step.rows key) owner clash.least.here
-
-      touched : IsTouchedIn (sound_groups feed) key
-      touched =
-          read_touched feed (state_after state h.event) (state_after state h.event).applied key (reads-on feed state reads was is step h.event leads h.of_step)
-          (cut_front (state_after state h.event) key way.row way.is_due)
-
-      cut : cut_in board owner key ≡ Some way.old
-      cut = sym (h.stepped.step.lawful.cuts owner key) ∙ ap (own_row owner) way.stands ∙ ap (λ b. cond b (Some way.old) None) (eq-eqb owner owner refl)
-
-      by : (o : Option State) → slice_get h.stepped.taken.board owner ≡ o → option_and_then (λ x. cut_of x key) o ≡ Some way.old → MeetsRow feed after s key owner
-      by None at e = absurd (none-some way.old e)
-      by (Some x) at e = record {
-        touched = touched;
-        laid = h.stepped.left;
-        seen = h.stepped.seen;
-        other = way.other;
-        state = x;
-        there = ap (λ (m : Meaning). slice_get m.streams owner) h.stepped.step.step.1 ∙ at;
-        row = way.old;
-        cut = e;
-      }
-
-  ends-by-board : (refusal : Refusal) → IsSeatEvent feed before s step (Err refusal) after → EndsByItsBoard feed after s refusal
-  ends-by-board NoStream h = hinders NoStream h
-  ends-by-board WrongPlan h = hinders WrongPlan h
-  ends-by-board Diverged h = hinders Diverged h
-  ends-by-board (Core refusal) h = hinders (Core refusal) h
-  ends-by-board (OwnedByOther key owner) h = meets-row key owner h
-  ends-by-board FeedCount h = hinders FeedCount h
-  ends-by-board Memory h = tt
-
-  unsound : (fault : FeedFault) → IsUnprepared feed step fault → IsFirstUnsound feed fault
-  unsound fault u = by step leads u
-    where
-      by : (st : Step) → LeadsOn (standing_of state) (length feed.groups) was is st → IsUnprepared feed st fault → IsFirstUnsound feed fault
-      by (Offer n) l u = first-unsound feed state whole reads fault l.1 (ap (prepared_at feed) (sym (l.0 ∙ plus_one (length state.list))) ∙ u)
-      by Advance l u = absurd u
-      by (OpenAt m) l u = absurd u
-      by (CopyRows c) l u = absurd u
-      by Close l u = absurd u
-      by Restart l u = absurd u
 
   -- ---- a reply
 
@@ -168,19 +91,85 @@ module _ (feed : FeedValue) (whole : IsFeed feed) (before after : Knows) (s : �
   reply-many (Err (Refused refusal)) (inl h) n many = subst (λ v. SawStreams v n) (sym h.1) many
   reply-many (Err (Refused refusal)) (inr h) n many = event-many (Err refusal) h n many
 
-  reply-stays : (refusal : StepRefusal) → IsSeatReply feed before s step (Err refusal) after → state_seen after s ≡ Some state
+  pub reply-stays : (refusal : StepRefusal) → IsSeatReply feed before s step (Err refusal) after → state_seen after s ≡ Some state
   reply-stays (Unprepared fault) h = ap (λ v. state_seen v s) h.1 ∙ here
   reply-stays (Refused refusal) (inl h) = ap (λ v. state_seen v s) h.1 ∙ here
   reply-stays (Refused refusal) (inr h) = refused-stays refusal h
 
-  pub reply-follows : Ties → IsSoundState state → (reply : Reply) → IsSeatReply feed before s step reply after → IsSomeAnd (state_seen after s) (IsReading feed)
-  reply-follows ties sound (Ok answer) h = made-follows ties answer h
-  reply-follows ties sound (Err refusal) h = subst (λ (o : Option State). IsSomeAnd o (IsReading feed)) (sym (reply-stays refusal h)) (record { reads = reads; sound = sound })
+  -- ---- a step on the course along a feed that the stream reads
 
-  pub reply-nearer : Ties → (answer : Answer) → IsSeatReply feed before s step (Ok answer) after → left_by (Some feed) (state_seen after s) is < left_by (Some feed) (state_seen before s) was
-  reply-nearer ties answer h = made-nearer ties answer h
+  module _ (whole : IsFeed feed) (reads : ReadsFeed feed state) (was is : ℕ) (leads : LeadsOn (standing_of state) (length feed.groups) was is step) where
+    pub reply-follows : (reply : Reply) → IsSeatReply feed before s step reply after → IsSomeAnd (state_seen after s) (ReadsFeed feed)
+    reply-follows (Ok answer) h =
+        subst (λ (o : Option State). IsSomeAnd o (ReadsFeed feed)) (sym (next-state answer h)) (reads-on feed state reads was is step h.event leads h.of_step)
+    reply-follows (Err refusal) h = subst (λ (o : Option State). IsSomeAnd o (ReadsFeed feed)) (sym (reply-stays refusal h)) reads
 
-  pub reply-ends : (refusal : StepRefusal) → IsSeatReply feed before s step (Err refusal) after → EndsSeatStep feed after s refusal
-  reply-ends (Unprepared fault) h = unsound fault h.0
-  reply-ends (Refused refusal) (inl h) = subst (EndsByItsBoard feed after s) (sym h.0) tt
-  reply-ends (Refused refusal) (inr h) = ends-by-board refusal h
+    -- ---- how a refused step ends the course
+
+    module _ (refusal : Refusal) (h : IsSeatEvent feed before s step (Err refusal) after) where
+      abbrev old : Meaning
+      old = record { streams = h.stepped.taken.board; rows = h.stepped.step.rows }
+
+      refused-for : IsRefusedFor old s state h.event refusal
+      refused-for = MatchOption-at_some _ (λ (x : State). IsRefusedFor old s x h.event refusal) state (taken_here (Err refusal) h) h.stepped.step.step.0
+
+      hinders : Hinders refusal
+      hinders = none-alone old s state h.event refusal (allowed-on feed state whole reads (sound-here (Err refusal) h) was is step h.event leads h.of_step) refused-for
+
+    meets-row : (key : KeyValue) (owner : ℕ) → IsSeatEvent feed before s step (Err (OwnedByOther key owner)) after → MeetsRow feed after s key owner
+    meets-row key owner h = by (slice_get h.stepped.taken.board owner) refl cut
+      where
+        board : Meaning
+        board = old (OwnedByOther key owner) h
+
+        clash : IsClash h.stepped.step.rows s state h.event key owner
+        clash = refused-for (OwnedByOther key owner) h
+
+        way : IsInTheWay s (cut_of (state_after state h.event) key) (value_at key_cmp h.stepped.step.rows key) owner
+        way = in_the_way s (cut_of (state_after state h.event) key) (value_at key_cmp h.stepped.step.rows key) owner clash.least.here
+
+        touched : IsTouchedIn (sound_groups feed) key
+        touched =
+            read_touched feed (state_after state h.event) (state_after state h.event).applied key (reads-on feed state reads was is step h.event leads h.of_step)
+            (cut_front (state_after state h.event) key way.row way.is_due)
+
+        cut : cut_in board owner key ≡ Some way.old
+        cut = sym (h.stepped.step.lawful.cuts owner key) ∙ ap (own_row owner) way.stands ∙ ap (λ b. cond b (Some way.old) None) (eq-eqb owner owner refl)
+
+        by : (o : Option State) → slice_get h.stepped.taken.board owner ≡ o → option_and_then (λ x. cut_of x key) o ≡ Some way.old → MeetsRow feed after s key owner
+        by None at e = absurd (none-some way.old e)
+        by (Some x) at e = record {
+          touched = touched;
+          laid = h.stepped.left;
+          seen = h.stepped.seen;
+          other = way.other;
+          state = x;
+          there = ap (λ (m : Meaning). slice_get m.streams owner) h.stepped.step.step.1 ∙ at;
+          row = way.old;
+          cut = e;
+        }
+
+    ends-by-board : (refusal : Refusal) → IsSeatEvent feed before s step (Err refusal) after → EndsByItsBoard feed after s refusal
+    ends-by-board NoStream h = hinders NoStream h
+    ends-by-board WrongPlan h = hinders WrongPlan h
+    ends-by-board Diverged h = hinders Diverged h
+    ends-by-board (Core refusal) h = hinders (Core refusal) h
+    ends-by-board (OwnedByOther key owner) h = meets-row key owner h
+    ends-by-board FeedCount h = hinders FeedCount h
+    ends-by-board Memory h = tt
+
+    unsound : (fault : FeedFault) → IsUnprepared feed step fault → IsFirstUnsound feed fault
+    unsound fault u = by step leads u
+      where
+        by : (st : Step) → LeadsOn (standing_of state) (length feed.groups) was is st → IsUnprepared feed st fault → IsFirstUnsound feed fault
+        by (Offer n) l u = first-unsound feed state whole reads fault l.1 (ap (prepared_at feed) (sym (l.0 ∙ plus_one (length state.list))) ∙ u)
+        by Advance l u = absurd u
+        by (OpenAt m) l u = absurd u
+        by (CopyRows c) l u = absurd u
+        by Close l u = absurd u
+        by Restart l u = absurd u
+
+    pub reply-ends : (refusal : StepRefusal) → IsSeatReply feed before s step (Err refusal) after → EndsSeatStep feed after s refusal
+    reply-ends (Unprepared fault) h = unsound fault h.0
+    reply-ends (Refused refusal) (inl h) = subst (EndsByItsBoard feed after s) (sym h.0) tt
+    reply-ends (Refused refusal) (inr h) = ends-by-board refusal h

@@ -1,91 +1,176 @@
--- A seat whose stream reads its feed: where it stands, a step on its course, and its run.
-use Rattle.std.proofs.Common.{◌≡◌, ℕ, ◌<◌, ◌≤◌, List, length, Option, Some, Ok, Err, slice_get, sym, ap, subst, ◌∙◌}
+-- A seat's stream beside a feed: where it stands, a step on its course, and its run.
+use Rattle.std.proofs.Common.{◌≡◌, ℕ, ◌<◌, List, [], length, Option, Some, None, Ok, Err, slice_get, refl, sym, ap, subst, ◌∙◌, arith}
 use Rattle.std.proofs.lemmas.Option.{same_Some, slice_get_within}
-use Rattle.std.specs.Prelude.{IsSomeAnd, MatchOption}
+use Rattle.std.specs.Arc.{arc_value}
+use Rattle.std.specs.Prelude.{IsSomeAnd, MatchOption, IfNone, IfSome}
 use Rattle.std.specs.Option.{option_map}
 use Rattle.stream_core.specs.declared.step.Step.{Step}
-use Rattle.stream_core.specs.Standing.{Standing, IsSound}
+use Rattle.stream_core.specs.declared.step.Step.TheVariants.{Offer, Advance, OpenAt, CopyRows, Close, Restart}
+use Rattle.stream_core.specs.Standing.{Standing}
 use Rattle.source_feed.specs.Planned.{FeedValue, IsFeed}
 use Rattle.board_laws.specs.declared.answer.Answer.{Answer}
 use Rattle.board_laws.specs.declared.step_refusal.StepRefusal.{StepRefusal}
 use Rattle.board_laws.specs.Meaning.{State}
 use Rattle.board_laws.specs.Lawful.{standing_of}
+use Rattle.board_laws.specs.Reading.{ReadsFeed}
 use Rattle.board_laws.specs.Schedule.{Reply}
-use Rattle.board_laws.proofs.Lookups.{Ties}
+use Rattle.board_laws.specs.StateAfter.{state_after}
+use Rattle.stream_worker.specs.declared.receipt.Receipt.{Receipt}
 use Rattle.stream_worker.specs.declared.run_refusal.RunRefusal.{RunRefusal}
+use Rattle.stream_worker.specs.declared.run_refusal.RunRefusal.TheVariants.{Memory}
 use Rattle.stream_worker.specs.declared.seat.Seat.{Seat}
+use Rattle.stream_worker.specs.declared.seat_run.Ran.{Ran}
 use Rattle.stream_worker.specs.declared.shared.Shared.{Shared}
 use Rattle.stream_worker.specs.Ended.{HasEnded}
 use Rattle.stream_worker.specs.Knowing.{SawStreams, state_seen}
 use Rattle.stream_worker.specs.SeatOf.{known, seat_state, IsSeatOf}
-use Rattle.stream_worker.specs.Private.Courses.{LeadsOn, IsAtEnd, left_by}
-use Rattle.stream_worker.specs.Private.SeatSteps.{IsReading, Follows, HasCome, IsSeatReply, EndsSeatStep}
-use Rattle.stream_worker.specs.Private.SeatRuns.{EndsSeat, IsSeated, IsRan}
+use Rattle.stream_worker.specs.Seats.{IsReceiptOf}
+use Rattle.stream_worker.specs.Worked.{Follows, HasCome, EndsSeat, AreReceiptsSince, AreReceipts}
+use Rattle.stream_worker.specs.Private.Courses.{LeadsOn, IsAtEnd}
+use Rattle.stream_worker.specs.Private.SeatSteps.{IsSeatReply, IsOneMore, AreBehind, EndsSeatStep}
+use Rattle.stream_worker.specs.Private.SeatRuns.{IsSeated, IsLeft, IsRan}
+use Rattle.stream_worker.proofs.EndLaws.{seat_has}
 use Rattle.stream_worker.proofs.OneStep.{the-one}
-use Rattle.stream_worker.proofs.Progress.{read-most}
-use Rattle.stream_worker.proofs.SeatCourse.{reply-many, reply-follows, reply-nearer, reply-ends}
+use Rattle.stream_worker.proofs.ReceiptLaws.{IsNoAdvance, Comes, same-list, comes, receipts-stay, receipts-more}
+use Rattle.stream_worker.proofs.SeatCourse.{next-state, reply-many, reply-stays, reply-follows, reply-ends}
 use Rattle.stream_worker.proofs.StepsOn.{ended-at}
 
--- ---- where a seat stands
+-- ---- a step of a seat
 
-module _ (feed : FeedValue) (seat : Seat) (follows : Follows feed seat) where
-  abbrev one : (state : State) × (seat_state seat ≡ Some state) × IsReading feed state
-  one = the-one (seat_state seat) (IsReading feed) follows
+module _ (feed : FeedValue) (seat : Seat) where
+  abbrev here : (state : State) × (seat_state seat ≡ Some state)
+  here = seat_has seat
 
-  stands : standing_of one.0 ≡ seat.cursor
-  stands = same_Some (standing_of one.0) seat.cursor (sym (ap (option_map standing_of) one.1) ∙ seat.numbers)
+  stands : standing_of here.0 ≡ seat.cursor
+  stands = same_Some (standing_of here.0) seat.cursor (sym (ap (option_map standing_of) here.1) ∙ seat.numbers)
 
-  -- no more groups are read than the feed has
-  pub sits-within : seat.cursor.read ≤ length feed.groups
-  sits-within = subst (λ (a : Standing). a.read ≤ length feed.groups) stands (read-most feed one.0 one.2.reads)
-
-  pub sits-sound : IsSound seat.cursor
-  sits-sound = subst IsSound stands one.2.sound.standing
+  of-here : (P : State → Type 0) → IsSomeAnd (seat_state seat) P → P here.0
+  of-here P h =
+      let one : (state : State) × (seat_state seat ≡ Some state) × P state = the-one (seat_state seat) P h in
+      subst P (same_Some one.0 here.0 (sym one.1 ∙ here.1)) one.2
 
   -- with no step left its stream has come to the feed's end
   pub sits-ended : IsAtEnd seat.cursor (length feed.groups) → HasCome feed seat
-  sits-ended end = subst (λ (o : Option State). IsSomeAnd o (HasEnded feed)) (sym one.1) (ended-at feed one.0 (subst (λ (a : Standing). IsAtEnd a (length feed.groups)) (sym stands) end))
+  sits-ended end = subst (λ (o : Option State). IsSomeAnd o (HasEnded feed)) (sym here.1) (ended-at feed here.0 (subst (λ (a : Standing). IsAtEnd a (length feed.groups)) (sym stands) end))
 
-  -- ---- a step
-
-  module _ (whole : IsFeed feed) (was is : ℕ) (step : Step) (leads : LeadsOn seat.cursor (length feed.groups) was is step) (after : Seat) (same : after.stream ≡ seat.stream) where
-    leading : LeadsOn (standing_of one.0) (length feed.groups) was is step
-    leading = subst (λ (a : Standing). LeadsOn a (length feed.groups) was is step) (sym stands) leads
-
+  module _ (step : Step) (after : Seat) (same : after.stream ≡ seat.stream) where
     pub sits-many : (reply : Reply) → IsSeatReply feed (known seat) seat.stream step reply (known after) → (n : ℕ) → SawStreams (known seat) n → SawStreams (known after) n
-    sits-many reply h = reply-many feed whole (known seat) (known after) seat.stream seat.own one.0 one.1 one.2.reads was is step leading reply h
+    sits-many reply h = reply-many feed (known seat) (known after) seat.stream seat.own here.0 here.1 step reply h
 
-    pub sits-follows : Ties → (reply : Reply) → IsSeatReply feed (known seat) seat.stream step reply (known after) → Follows feed after
-    sits-follows ties reply h =
-        subst (λ (s : ℕ). IsSomeAnd (state_seen (known after) s) (IsReading feed)) (sym same)
-        (reply-follows feed whole (known seat) (known after) seat.stream seat.own one.0 one.1 one.2.reads was is step leading ties one.2.sound reply h)
+    -- ---- the receipts
 
-    pub sits-nearer : Ties → (answer : Answer) → IsSeatReply feed (known seat) seat.stream step (Ok answer) (known after) → left_by (Some feed) (seat_state after) is < left_by (Some feed) (seat_state seat) was
-    sits-nearer ties answer h =
-        subst (λ (s : ℕ). left_by (Some feed) (state_seen (known after) s) is < left_by (Some feed) (seat_state seat) was) (sym same)
-        (reply-nearer feed whole (known seat) (known after) seat.stream seat.own one.0 one.1 one.2.reads was is step leading ties answer h)
+    -- what holds of the state that the seat then knows
+    behind-here : (P : ℕ → State → Type 0) (state : State) → state_seen (known after) seat.stream ≡ Some state → P seat.stream state → IsSomeAnd (seat_state after) (P after.stream)
+    behind-here P state is h =
+        subst (λ (s : ℕ). IsSomeAnd (state_seen (known after) s) (P s)) (sym same)
+        (subst (λ (o : Option State). IsSomeAnd o (P seat.stream)) (sym is) h)
 
-    pub sits-refused : (refusal : StepRefusal) → IsSeatReply feed (known seat) seat.stream step (Err refusal) (known after) → EndsSeatStep feed (known after) after.stream refusal
-    sits-refused refusal h =
-        subst (λ (s : ℕ). EndsSeatStep feed (known after) s refusal) (sym same)
-        (reply-ends feed whole (known seat) (known after) seat.stream seat.own one.0 one.1 one.2.reads was is step leading refusal h)
+    last-here : (state : State) → state_seen (known after) seat.stream ≡ Some state → (old new : List Receipt) (more : IsOneMore after old new)
+        → IsReceiptOf seat.stream state more.receipt.stream more.receipt.number (arc_value more.receipt.group)
+    last-here state is old new more =
+        let last : IsSomeAnd (state_seen (known after) seat.stream) (λ (x : State). IsReceiptOf seat.stream x more.receipt.stream more.receipt.number (arc_value more.receipt.group))
+        = subst (λ (s : ℕ). IsSomeAnd (state_seen (known after) s) (λ (x : State). IsReceiptOf s x more.receipt.stream more.receipt.number (arc_value more.receipt.group))) same more.of_last in
+        subst (λ (o : Option State). IsSomeAnd o (λ (x : State). IsReceiptOf seat.stream x more.receipt.stream more.receipt.number (arc_value more.receipt.group))) is last
+
+    refused-receipts : (st : Step) (refusal : StepRefusal) (old new : List Receipt) → AreBehind st (Err refusal) after old new → new ≡ old
+    refused-receipts (Offer n) refusal old new e = e
+    refused-receipts Advance refusal old new e = e
+    refused-receipts (OpenAt m) refusal old new e = e
+    refused-receipts (CopyRows c) refusal old new e = e
+    refused-receipts Close refusal old new e = e
+    refused-receipts Restart refusal old new e = e
+
+    module _ (first : ℕ) (old new : List Receipt) (all : AreReceipts first seat old) where
+      abbrev all-here : AreReceiptsSince first seat.stream here.0 old
+      all-here = of-here (λ (state : State). AreReceiptsSince first seat.stream state old) all
+
+      module _ (state : State) (is : state_seen (known after) seat.stream ≡ Some state) where
+        stay : new ≡ old → IsNoAdvance here.0 state → AreReceiptsSince first seat.stream state new
+        stay e come = subst (λ (l : List Receipt). AreReceiptsSince first seat.stream state l) (sym e) (receipts-stay first seat.stream here.0 state old all-here come)
+
+        made-receipts : (st : Step) (answer : Answer) → AreBehind st (Ok answer) after old new → Comes st here.0 state → AreReceiptsSince first seat.stream state new
+        made-receipts (Offer n) answer e come = stay e come
+        made-receipts Advance answer more come = receipts-more first seat.stream here.0 state old all-here come new more.receipt more.items (last-here state is old new more)
+        made-receipts (OpenAt m) answer e come = stay e come
+        made-receipts (CopyRows c) answer e come = stay e come
+        made-receipts Close answer e come = stay e come
+        made-receipts Restart answer e come = stay e come
+
+      pub sits-receipts : (groups was is : ℕ) → LeadsOn seat.cursor groups was is step → (reply : Reply) → IsSeatReply feed (known seat) seat.stream step reply (known after) → AreBehind step reply after old new → AreReceipts first after new
+      sits-receipts groups was is leads (Ok answer) h behind =
+          let state : State = state_after here.0 h.event in
+          let known-state : state_seen (known after) seat.stream ≡ Some state = next-state feed (known seat) (known after) seat.stream seat.own here.0 here.1 step answer h in
+          behind-here (λ (s : ℕ) (x : State). AreReceiptsSince first s x new) state known-state
+          (made-receipts state known-state step answer behind (comes feed here.0 step h.event seat.cursor groups was is leads h.of_step))
+      sits-receipts groups was is leads (Err refusal) h behind =
+          let known-state : state_seen (known after) seat.stream ≡ Some here.0 = reply-stays feed (known seat) (known after) seat.stream seat.own here.0 here.1 step refusal h in
+          behind-here (λ (s : ℕ) (x : State). AreReceiptsSince first s x new) here.0 known-state
+          (stay here.0 known-state (refused-receipts step refusal old new behind) (same-list here.0 here.0 refl refl))
+
+    -- ---- along a feed that it reads
+
+    module _ (whole : IsFeed feed) (follows : Follows feed seat) (was is : ℕ) (leads : LeadsOn seat.cursor (length feed.groups) was is step) where
+      reads : ReadsFeed feed here.0
+      reads = of-here (ReadsFeed feed) follows
+
+      leading : LeadsOn (standing_of here.0) (length feed.groups) was is step
+      leading = subst (λ (a : Standing). LeadsOn a (length feed.groups) was is step) (sym stands) leads
+
+      pub sits-follows : (reply : Reply) → IsSeatReply feed (known seat) seat.stream step reply (known after) → Follows feed after
+      sits-follows reply h =
+          subst (λ (s : ℕ). IsSomeAnd (state_seen (known after) s) (ReadsFeed feed)) (sym same)
+          (reply-follows feed (known seat) (known after) seat.stream seat.own here.0 here.1 step whole reads was is leading reply h)
+
+      pub sits-refused : (refusal : StepRefusal) → IsSeatReply feed (known seat) seat.stream step (Err refusal) (known after) → EndsSeatStep feed (known after) after.stream refusal
+      sits-refused refusal h =
+          subst (λ (s : ℕ). EndsSeatStep feed (known after) s refusal) (sym same)
+          (reply-ends feed (known seat) (known after) seat.stream seat.own here.0 here.1 step whole reads was is leading refusal h)
+
+-- before any step there is no receipt
+pub sits-unreceipted : (seat : Seat) → AreReceipts seat.cursor.applied seat []
+sits-unreceipted seat =
+    let one : (state : State) × (seat_state seat ≡ Some state) = seat_has seat in
+    let stands : standing_of one.0 ≡ seat.cursor = same_Some (standing_of one.0) seat.cursor (sym (ap (option_map standing_of) one.1) ∙ seat.numbers) in
+    let applied : one.0.applied ≡ seat.cursor.applied = ap (λ (a : Standing). a.applied) stands in
+    subst (λ (o : Option State). IsSomeAnd o (λ (state : State). AreReceiptsSince seat.cursor.applied seat.stream state [])) (sym one.1)
+    (record { count = omega (arith, applied); each = λ i receipt at. none-at i receipt at })
+  where
+    none-at : {P : Type 0} (i : ℕ) (receipt : Receipt) → slice_get [] i ≡ Some receipt → P
+    none-at i receipt e = cc
 
 -- ---- a run
+
+module _ (shared : Shared) (feed : FeedValue) (before : Seat) where
+  -- what a worker leaves
+  pub left-by : (after : Seat) (refusal : Option RunRefusal) → IsSeatOf shared after × (after.stream ≡ before.stream) → ((n : ℕ) → SawStreams (known before) n → SawStreams (known after) n)
+      → (Follows feed before → Follows feed after) → (Follows feed before → IfNone refusal (HasCome feed after)) → (Follows feed before → IfSome refusal (EndsSeat feed after))
+      → IsLeft shared feed before (record { seat = after; refusal = refusal })
+  left-by after refusal at many follows ended refused = record {
+    at_board = at.0;
+    stream = at.1;
+    many = many;
+    follows = follows;
+    outcome = λ read. by refusal (ended read) (refused read);
+  }
+    where
+      by : (o : Option RunRefusal) → IfNone o (HasCome feed after) → IfSome o (EndsSeat feed after) → MatchOption o (HasCome feed after) (EndsSeat feed after)
+      by None come ends = come
+      by (Some refusal) come ends = ends
+
+  -- where its channel found no memory
+  pub left-unbegun : IsSeatOf shared before → IsLeft shared feed before (record { seat = before; refusal = Some Memory })
+  left-unbegun at = record { at_board = at; stream = refl; many = λ n saw. saw; follows = λ read. read; outcome = λ read. tt }
 
 module _ (shared : Shared) (feeds : List FeedValue) (before : Seat) (seated : IsSeated shared feeds before) where
   pub has-feed : before.stream < length feeds
   has-feed = slice_get_within feeds before.stream seated.feed seated.fed
 
-  -- what is left of a run that keeps the seat's stream at its feed
-  pub ran : (feed : FeedValue) → slice_get feeds before.stream ≡ Some feed → (after : Seat) → IsSeatOf shared after × (after.stream ≡ before.stream) → Follows feed after
-      → ((n : ℕ) → SawStreams (known before) n → SawStreams (known after) n) → (refusal : Option RunRefusal) → MatchOption refusal (HasCome feed after) (EndsSeat feed after)
-      → IsRan shared feeds before.stream (record { seat = after; refusal = refusal })
-  ran feed fed after at follows many refusal outcome = record {
-    stream = at.1;
-    seated = record { at_board = at.0; feed = feed; fed = ap (slice_get feeds) at.1 ∙ fed; follows = follows; many = many (length feeds) seated.many };
-    outcome = outcome;
-  }
-
-  -- the feed that its stream reads
-  pub follows-its : (feed : FeedValue) → slice_get feeds before.stream ≡ Some feed → Follows feed before
-  follows-its feed fed = subst (λ (f : FeedValue). Follows f before) (same_Some seated.feed feed (sym seated.fed ∙ fed)) seated.follows
+  -- what a worker leaves along the seat's own feed
+  pub ran : (feed : FeedValue) → slice_get feeds before.stream ≡ Some feed → (left : Ran) → IsLeft shared feed before left → IsRan shared feeds before.stream left
+  ran feed fed left h =
+      let follows : Follows feed before = subst (λ (f : FeedValue). Follows f before) (same_Some seated.feed feed (sym seated.fed ∙ fed)) seated.follows in
+      record {
+        stream = h.stream;
+        seated = record { at_board = h.at_board; feed = feed; fed = ap (slice_get feeds) h.stream ∙ fed; follows = h.follows follows; many = h.many (length feeds) seated.many };
+        outcome = h.outcome follows;
+      }

@@ -6,4 +6,5 @@ pub mod SeatOf
 pub mod Calls
 pub mod Ended
 pub mod RunRefused
+pub mod Worked
 pub mod Private

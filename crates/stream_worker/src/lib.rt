@@ -2,6 +2,7 @@
 #![tactic(auto)]
 
 mod alone;
+mod beside;
 mod course;
 mod deal;
 mod ending;
@@ -19,6 +20,7 @@ mod run_refusal;
 mod seat;
 mod seat_run;
 mod shared;
+mod working;
 
 pub use alone::{run_alone, run_board_alone};
 pub use board_laws::{Answer, Copied, Offered, Refusal};
@@ -32,3 +34,4 @@ pub use run_laws::ended_boards_have_the_union;
 pub use run_refusal::RunRefusal;
 pub use seat::Seat;
 pub use shared::Shared;
+pub use working::work;

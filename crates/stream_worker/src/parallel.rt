@@ -121,9 +121,10 @@ fn run_shared<'h, R: Threads + Wait + Sync, G: Gate + Sync>(
 
 /// Runs all streams from a board of 1 to 64 plans of which nothing is read, each to its feed's end in a thread of its
 /// own, in the portions of the policy; where a thread can't be made, its streams run one after another. The feeds stand
-/// in the order of the plans. Each stream's thread prepares its groups itself, outside the lock, and tells the gate of
-/// each before it is offered. The answer is as `run_alone`'s, whatever the schedule and the policy: all streams are
-/// Running at their feeds' ends, and the target's rows are the union of those that the feeds keep.
+/// in the order of the plans. Beside each stream's thread a second one prepares its groups ahead; a group that isn't
+/// ready the stream's thread prepares itself, outside the lock. It tells the gate of each before it is offered. The
+/// answer is as `run_alone`'s, whatever the schedule and the policy: all streams are Running at their feeds' ends, and
+/// the target's rows are the union of those that the feeds keep.
 ///
 /// Refused as `run_alone`, but a refused stream ends its own run alone: the others go on, and the refusal of the lowest
 /// stream that has one is the answer.

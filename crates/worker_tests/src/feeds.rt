@@ -168,6 +168,14 @@ fn push_feed(feeds: &mut Vec<u8>, stream: u8) -> Result<(), AllocError> {
     push_group(feeds, name_of(stream), b'3', b'c')
 }
 
+/// A feed of four groups: rows 111 `a`, 112 `b`, 113 `c` and 114 `d`.
+pub(crate) fn four_rows(alloc: Global) -> Result<Vec<u8>, AllocError> {
+    let mut feed = Vec::new(alloc);
+    push_feed(&mut feed, 0)?;
+    push_group(&mut feed, name_of(0), b'4', b'd')?;
+    Ok(feed)
+}
+
 /// The feeds of all 64 streams, one behind the other.
 pub(crate) fn many_feeds(alloc: Global) -> Result<Vec<u8>, AllocError> {
     let mut feeds = Vec::new(alloc);

@@ -7,22 +7,11 @@ use Rattle.stream_worker.specs.declared.shared.Shared.{Shared}
 use Rattle.stream_worker.specs.declared.seat_run.Job.{Job}
 use Rattle.stream_worker.specs.declared.seat_run.Ran.{Ran}
 use Rattle.stream_worker.specs.declared.run_refusal.RunRefusal.{RunRefusal}
-use Rattle.stream_worker.specs.declared.run_refusal.RunRefusal.TheVariants.{FeedCount, WrongPlan, Unsound, OwnedByOther, Memory}
 use Rattle.stream_worker.specs.Knowing.{SawStreams}
-use Rattle.stream_worker.specs.RunRefused.{IsFirstUnsound}
 use Rattle.stream_worker.specs.SeatOf.{known, IsSeatOf}
-use Rattle.stream_worker.specs.Private.SeatSteps.{Follows, HasCome, MeetsRow}
+use Rattle.stream_worker.specs.Worked.{Follows, HasCome, EndsSeat}
 
 -- ---- one seat
-
--- why a seat's stream ended before its feed's end: a group of the feed isn't sound; a row stood at a key that the feed
--- touches; memory is wanted
-abbrev pub EndsSeat : FeedValue → Seat → RunRefusal → Type 0
-EndsSeat feed seat FeedCount = ⊥
-EndsSeat feed seat WrongPlan = ⊥
-EndsSeat feed seat (Unsound stream fault) = (stream ≡ seat.stream) × IsFirstUnsound feed fault
-EndsSeat feed seat (OwnedByOther stream key owner) = (stream ≡ seat.stream) × MeetsRow feed (known seat) seat.stream key owner
-EndsSeat feed seat Memory = Unit {0}
 
 -- a seat at this board, whose stream reads the feed of its number; the board has as many streams as there are feeds
 pub record IsSeated (shared : Shared) (feeds : List FeedValue) (seat : Seat) : Type 0 where
@@ -31,6 +20,15 @@ pub record IsSeated (shared : Shared) (feeds : List FeedValue) (seat : Seat) : T
   pub fed : slice_get feeds seat.stream ≡ Some feed
   pub follows : Follows feed seat
   pub many : SawStreams (known seat) (length feeds)
+
+-- what a worker along this feed leaves of a seat of this board: the seat, and where its stream read the feed, it still
+-- does, and is at the feed's end or where it ended before
+pub record IsLeft (shared : Shared) (feed : FeedValue) (before : Seat) (ran : Ran) : Type 0 where
+  pub at_board : IsSeatOf shared ran.seat
+  pub stream : ran.seat.stream ≡ before.stream
+  pub many : (n : ℕ) → SawStreams (known before) n → SawStreams (known ran.seat) n
+  pub follows : Follows feed before → Follows feed ran.seat
+  pub outcome : Follows feed before → MatchOption ran.refusal (HasCome feed ran.seat) (EndsSeat feed ran.seat)
 
 -- what is left of a run of stream s: its seat, at its feed's end or where it ended before
 pub record IsRan (shared : Shared) (feeds : List FeedValue) (s : ℕ) (ran : Ran) : Type 0 where

@@ -1,17 +1,11 @@
-use Rattle.std.proofs.Common.{length, get_or, None, Some, refl, ap, ◌∙◌}
+use Rattle.std.proofs.Common.{length, get_or, Some, refl, ap, ◌∙◌}
 use Rattle.std.proofs.lemmas.Option.{slice_get_read}
 use Rattle.source_feed.specs.Planned.{FeedValue}
 use Rattle.stream_worker.proofs.SeatGoesOn.{has-feed, ran}
 use Rattle.stream_worker.proofs.seat_run.run_seat.Goals as goal
 
-pub returns-in-Ok : goal.returns-in-Ok
-returns-in-Ok g c =
+pub returns : goal.returns
+returns g c =
     ran c.args.job.run.shared.now c.args.job.run.feeds.now c.args.job.seat c.requires (get_or c.args.job.run.feeds.now c.args.job.seat.stream c.index-run-seat.result)
     (slice_get_read c.args.job.run.feeds.now (length c.args.job.run.feeds.now) c.args.job.seat.stream c.index-run-seat.result refl (has-feed c.args.job.run.shared.now c.args.job.run.feeds.now c.args.job.seat c.requires) c.index-run-seat.is ∙ ap (λ (f : FeedValue). Some f) c.index-run-seat.is)
-    c.run_course.new.seat c.in-Ok.ensures.seat c.in-Ok.ensures.follows c.in-Ok.ensures.many None c.in-Ok.ensures.ended
-
-pub returns-in-Err : goal.returns-in-Err
-returns-in-Err g c =
-    ran c.args.job.run.shared.now c.args.job.run.feeds.now c.args.job.seat c.requires (get_or c.args.job.run.feeds.now c.args.job.seat.stream c.index-run-seat.result)
-    (slice_get_read c.args.job.run.feeds.now (length c.args.job.run.feeds.now) c.args.job.seat.stream c.index-run-seat.result refl (has-feed c.args.job.run.shared.now c.args.job.run.feeds.now c.args.job.seat c.requires) c.index-run-seat.is ∙ ap (λ (f : FeedValue). Some f) c.index-run-seat.is)
-    c.run_course.new.seat c.in-Err.ensures.seat c.in-Err.ensures.follows c.in-Err.ensures.many (Some c.in-Err.refusal) c.in-Err.ensures.refused
+    c.beside_reader.result c.beside_reader.ensures

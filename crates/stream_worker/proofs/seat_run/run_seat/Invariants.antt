@@ -1,0 +1,5 @@
+use Rattle.stream_worker.proofs.seat_run.run_seat.Given as goal
+
+-- the reader's channel is of the seat's own feed
+abbrev pub ghosts-beside_reader : goal.ghosts-beside_reader
+ghosts-beside_reader g a = record { feed = a.feed.now }

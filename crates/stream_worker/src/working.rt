@@ -1,0 +1,234 @@
+//! The stream of one seat works to its feed's end, beside others.
+
+ghost use Rattle.std.specs.Prelude.{◌≡◌, ℕ, false, Ok, IfSome, IfNone, IfErr};
+ghost use Rattle.stream_core.specs.declared.step.Step as steps;
+ghost use Rattle.stream_core.specs.Standing.{IsSound};
+ghost use Rattle.stream_worker.specs.Knowing.{SawStreams};
+ghost use Rattle.stream_worker.specs.SeatOf.{known, IsSeatOf};
+ghost use Rattle.stream_worker.specs.Worked.{Follows, HasCome, EndsSeat, AreReceipts};
+ghost use Rattle.stream_worker.specs.Private.SeatSteps.{IsSeatReply, AreBehind, EndsSeatStep};
+
+use crate::course::Course;
+use crate::gate::Gate;
+use crate::policy::Policy;
+use crate::receipt::Receipt;
+use crate::run_refusal::RunRefusal;
+use crate::seat::Seat;
+use crate::shared::Shared;
+use board_laws::{Answer, Refusal, StepRefusal};
+use feed_readers::{Ahead, group_of};
+use source_feed::{Feed, FeedFault};
+use std::alloc::Global;
+use std::sync::Wait;
+use stream_core::{Cursor, Step};
+
+/// What the worker of a stream has, beside its seat and what stands ready of its feed.
+#[derive(Drop)]
+struct Bench<'a, 'h, R, G> {
+    rt: &'a R,
+    alloc: Global,
+    shared: &'a Shared<'h>,
+    feed: &'a Feed<'h>,
+    policy: &'a Policy,
+    gate: &'a G,
+}
+
+/// Group `number` of the feed is taken of those that stand ready, or prepared, the gate is told of it, and it is
+/// offered.
+fn offer_of<'a, 'h, R: Wait, G: Gate, A: Ahead<'h>>(
+    bench: &Bench<'a, 'h, R, G>,
+    seat: &mut Seat<'h>,
+    ahead: &mut A,
+    number: u32,
+) -> Result<Answer, StepRefusal>
+    requires seat { IsSeatOf bench.now.shared.now seat.old }
+    requires feed { A.feed ahead.old ≡ bench.now.feed.now }
+    ensures seat { IsSeatOf bench.now.shared.now seat.new × (seat.new.stream ≡ seat.old.stream) }
+    ensures feed { A.feed ahead.new ≡ bench.now.feed.now }
+    ensures step { IsSeatReply bench.now.feed.now (known seat.old) seat.old.stream (steps.Step.Offer number) result (known seat.new) }
+{
+    let group = match group_of(bench.rt, bench.alloc, bench.feed, number, ahead) {
+        Ok(group) => group,
+        Err(FeedFault::Memory) => return Err(StepRefusal::Refused(Refusal::Memory)),
+        Err(fault) => return Err(StepRefusal::Unprepared(fault)),
+    };
+    bench.gate.passed(bench.rt, seat.stream, number);
+    match bench.shared.offer(bench.rt, bench.alloc, seat, group) {
+        Ok(offered) => Ok(Answer::Offered(offered)),
+        Err(refusal) => Err(StepRefusal::Refused(refusal)),
+    }
+}
+
+/// The next group of a seat's stream is applied. The room for its receipt is made before.
+fn advance_of<'a, 'h, R: Wait, G>(
+    bench: &Bench<'a, 'h, R, G>,
+    seat: &mut Seat<'h>,
+    receipts: &mut Vec<Receipt<'h>>,
+) -> Result<Answer, StepRefusal>
+    requires { IsSeatOf bench.now.shared.now seat.old }
+    ensures seat { IsSeatOf bench.now.shared.now seat.new × (seat.new.stream ≡ seat.old.stream) }
+    ensures step { IsSeatReply bench.now.feed.now (known seat.old) seat.old.stream steps.Step.Advance result (known seat.new) }
+    ensures receipts { AreBehind steps.Step.Advance result seat.new receipts.old.items receipts.new.items }
+{
+    let Ok(()) = receipts.reserve(1) else {
+        return Err(StepRefusal::Refused(Refusal::Memory));
+    };
+    match bench.shared.advance(bench.rt, bench.alloc, seat) {
+        Ok(receipt) => {
+            let number = receipt.number;
+            receipts.push_reserved(receipt);
+            Ok(Answer::Applied(number))
+        }
+        Err(refusal) => Err(StepRefusal::Refused(refusal)),
+    }
+}
+
+/// A step of a seat's stream is taken, in a call of the seat.
+fn seat_step<'a, 'h, R: Wait, G: Gate, A: Ahead<'h>>(
+    bench: &Bench<'a, 'h, R, G>,
+    seat: &mut Seat<'h>,
+    ahead: &mut A,
+    receipts: &mut Vec<Receipt<'h>>,
+    step: Step,
+) -> Result<Answer, StepRefusal>
+    requires seat { IsSeatOf bench.now.shared.now seat.old }
+    requires feed { A.feed ahead.old ≡ bench.now.feed.now }
+    ensures seat { IsSeatOf bench.now.shared.now seat.new × (seat.new.stream ≡ seat.old.stream) }
+    ensures feed { A.feed ahead.new ≡ bench.now.feed.now }
+    ensures step { IsSeatReply bench.now.feed.now (known seat.old) seat.old.stream step result (known seat.new) }
+    ensures receipts { AreBehind step result seat.new receipts.old.items receipts.new.items }
+{
+    match step {
+        Step::Offer(number) => offer_of(bench, seat, ahead, number),
+        Step::Advance => advance_of(bench, seat, receipts),
+        Step::OpenAt(group) => {
+            match bench
+                .shared
+                .open_snapshot(bench.rt, bench.alloc, seat, group)
+            {
+                Ok(()) => Ok(Answer::Opened(group)),
+                Err(refusal) => Err(StepRefusal::Refused(refusal)),
+            }
+        }
+        Step::CopyRows(rows) => match bench.shared.copy_chunk(bench.rt, bench.alloc, seat, rows) {
+            Ok(copied) => Ok(Answer::Copied(copied)),
+            Err(refusal) => Err(StepRefusal::Refused(refusal)),
+        },
+        Step::Close => match bench.shared.close_snapshot(bench.rt, seat) {
+            Ok(()) => Ok(Answer::Closed),
+            Err(refusal) => Err(StepRefusal::Refused(refusal)),
+        },
+        Step::Restart => match bench.shared.restart(bench.rt, seat) {
+            Ok(applied) => Ok(Answer::Restarted(applied)),
+            Err(refusal) => Err(StepRefusal::Refused(refusal)),
+        },
+    }
+}
+
+/// The refusal of a step of a seat's stream, as that of its worker: 111 for any that a stream doesn't meet on its
+/// course along a feed that it reads.
+fn ended_by(feed: &Feed<'_>, seat: &Seat<'_>, refusal: StepRefusal) -> RunRefusal
+    ensures { EndsSeatStep feed.now (known seat.now) seat.now.stream refusal → EndsSeat feed.now seat.now result }
+{
+    let _ = feed;
+    let stream = seat.stream;
+    match refusal {
+        StepRefusal::Unprepared(fault) => RunRefusal::Unsound { stream, fault },
+        StepRefusal::Refused(Refusal::OwnedByOther { key, owner }) => {
+            RunRefusal::OwnedByOther { stream, key, owner }
+        }
+        StepRefusal::Refused(Refusal::Memory) => RunRefusal::Memory,
+        StepRefusal::Refused(_) => RunRefusal::WrongPlan,
+    }
+}
+
+/// (for its contract: what is true of every cursor)
+fn is_sound(at: &Cursor)
+    ensures { IsSound at.now }
+{
+    let _ = &at.read;
+}
+
+/// The next step of a seat's stream on its course is taken: whether there was one. Refused 111 where the stream has
+/// read more groups than the feed has.
+fn go_on<'a, 'h, R: Wait, G: Gate, A: Ahead<'h>>(
+    bench: &Bench<'a, 'h, R, G>,
+    seat: &mut Seat<'h>,
+    ahead: &mut A,
+    receipts: &mut Vec<Receipt<'h>>,
+    course: &mut Course,
+) -> Result<bool, RunRefusal>
+    requires seat { IsSeatOf bench.now.shared.now seat.old }
+    requires feed { A.feed ahead.old ≡ bench.now.feed.now }
+    ensures seat { IsSeatOf bench.now.shared.now seat.new × (seat.new.stream ≡ seat.old.stream) }
+    ensures feed { A.feed ahead.new ≡ bench.now.feed.now }
+    ensures many { (n : ℕ) → SawStreams (known seat.old) n → SawStreams (known seat.new) n }
+    ensures receipts { (first : ℕ) → AreReceipts first seat.old receipts.old.items → AreReceipts first seat.new receipts.new.items }
+    ensures follows { Follows bench.now.feed.now seat.old → Follows bench.now.feed.now seat.new }
+    ensures ended { Follows bench.now.feed.now seat.old → result ≡ Ok false → HasCome bench.now.feed.now seat.new }
+    ensures refused { Follows bench.now.feed.now seat.old → IfErr result (EndsSeat bench.now.feed.now seat.new) }
+{
+    let _plan = bench.feed.plan();
+    let groups = bench.feed.len() as u32;
+    is_sound(&seat.cursor);
+    if seat.cursor.read() > groups {
+        return Err(RunRefusal::WrongPlan);
+    }
+    let Some(step) = course.next(bench.policy, &seat.cursor, groups) else {
+        return Ok(false);
+    };
+    match seat_step(bench, seat, ahead, receipts, step) {
+        Ok(_) => Ok(true),
+        Err(refusal) => Err(ended_by(bench.feed, seat, refusal)),
+    }
+}
+
+/// Works a seat's stream to its feed's end, in the portions of the policy, with what stands ready of the feed: for each
+/// group that it reads it takes the one that stands ready, or prepares it itself, outside the lock, and the gate is told
+/// of it before it is offered. The answer is a receipt for each group that was applied, in order, also where the stream
+/// ended before the feed's end, and why it did.
+///
+/// A stream that reads the feed is refused 90 where a group of the feed isn't sound, by the first such group; 71 where a
+/// row of another stream stands at a key that the feed touches; or for want of memory. Another stream is refused 111
+/// where it has read more groups than the feed has, or where the board refuses a step of it.
+pub fn work<'h, R: Wait, G: Gate, A: Ahead<'h>>(
+    rt: &R,
+    alloc: Global,
+    shared: &Shared<'h>,
+    seat: &mut Seat<'h>,
+    feed: &Feed<'h>,
+    policy: &Policy,
+    gate: &G,
+    ahead: &mut A,
+) -> (Vec<Receipt<'h>>, Option<RunRefusal>)
+    requires seat { IsSeatOf shared.now seat.old }
+    requires feed { A.feed ahead.old ≡ feed.now }
+    ensures seat { IsSeatOf shared.now seat.new × (seat.new.stream ≡ seat.old.stream) }
+    ensures many { (n : ℕ) → SawStreams (known seat.old) n → SawStreams (known seat.new) n }
+    // A receipt for each group that was applied, in order.
+    ensures receipts { AreReceipts seat.old.cursor.applied seat.new result.0.items }
+    // A stream that reads the feed still does.
+    ensures follows { Follows feed.now seat.old → Follows feed.now seat.new }
+    // Without a refusal it is Running at the feed's end.
+    ensures ended { Follows feed.now seat.old → IfNone result.1 (HasCome feed.now seat.new) }
+    ensures refused { Follows feed.now seat.old → IfSome result.1 (EndsSeat feed.now seat.new) }
+{
+    let bench = Bench {
+        rt,
+        alloc,
+        shared,
+        feed,
+        policy,
+        gate,
+    };
+    let mut receipts = Vec::new(alloc);
+    let mut course = Course::new(policy);
+    for _ in rt.forever() {
+        match go_on(&bench, seat, ahead, &mut receipts, &mut course) {
+            Ok(true) => {}
+            Ok(false) => return (receipts, None),
+            Err(refusal) => return (receipts, Some(refusal)),
+        }
+    }
+    unreachable!()
+}
