@@ -1,5 +1,5 @@
 -- A seat's stream beside a feed: where it stands, a step on its course, and its run.
-use Rattle.std.proofs.Common.{◌≡◌, ℕ, ◌<◌, List, [], length, Option, Some, None, Ok, Err, slice_get, refl, sym, ap, subst, ◌∙◌, arith}
+use Rattle.std.proofs.Common.{◌≡◌, ℕ, ◌<◌, ◌≤◌, List, [], length, Option, Some, None, Ok, Err, slice_get, refl, sym, ap, subst, ◌∙◌, arith}
 use Rattle.std.proofs.lemmas.Option.{same_Some, slice_get_within}
 use Rattle.std.specs.Arc.{arc_value}
 use Rattle.std.specs.Prelude.{IsSomeAnd, MatchOption, IfNone, IfSome}
@@ -21,19 +21,18 @@ use Rattle.stream_worker.specs.declared.run_refusal.RunRefusal.TheVariants.{Memo
 use Rattle.stream_worker.specs.declared.seat.Seat.{Seat}
 use Rattle.stream_worker.specs.declared.seat_run.Ran.{Ran}
 use Rattle.stream_worker.specs.declared.shared.Shared.{Shared}
-use Rattle.stream_worker.specs.Ended.{HasEnded}
 use Rattle.stream_worker.specs.Knowing.{SawStreams, state_seen}
 use Rattle.stream_worker.specs.SeatOf.{known, seat_state, IsSeatOf}
 use Rattle.stream_worker.specs.Seats.{IsReceiptOf}
 use Rattle.stream_worker.specs.Worked.{Follows, HasCome, EndsSeat, AreReceiptsSince, AreReceipts}
-use Rattle.stream_worker.specs.Private.Courses.{LeadsOn, IsAtEnd}
+use Rattle.stream_worker.specs.Private.Courses.{LeadsOn}
 use Rattle.stream_worker.specs.Private.SeatSteps.{IsSeatReply, IsOneMore, AreBehind, EndsSeatStep}
 use Rattle.stream_worker.specs.Private.SeatRuns.{IsSeated, IsLeft, IsRan}
 use Rattle.stream_worker.proofs.EndLaws.{seat_has}
 use Rattle.stream_worker.proofs.OneStep.{the-one}
+use Rattle.stream_worker.proofs.Progress.{read-most}
 use Rattle.stream_worker.proofs.ReceiptLaws.{IsNoAdvance, Comes, same-list, comes, receipts-stay, receipts-more}
 use Rattle.stream_worker.proofs.SeatCourse.{next-state, reply-many, reply-stays, reply-follows, reply-ends}
-use Rattle.stream_worker.proofs.StepsOn.{ended-at}
 
 -- ---- a step of a seat
 
@@ -49,9 +48,9 @@ module _ (feed : FeedValue) (seat : Seat) where
       let one : (state : State) × (seat_state seat ≡ Some state) × P state = the-one (seat_state seat) P h in
       subst P (same_Some one.0 here.0 (sym one.1 ∙ here.1)) one.2
 
-  -- with no step left its stream has come to the feed's end
-  pub sits-ended : IsAtEnd seat.cursor (length feed.groups) → HasCome feed seat
-  sits-ended end = subst (λ (o : Option State). IsSomeAnd o (HasEnded feed)) (sym here.1) (ended-at feed here.0 (subst (λ (a : Standing). IsAtEnd a (length feed.groups)) (sym stands) end))
+  -- no more groups are read than the feed has that the stream reads
+  pub sits-within : Follows feed seat → seat.cursor.read ≤ length feed.groups
+  sits-within follows = subst (λ (a : Standing). a.read ≤ length feed.groups) stands (read-most feed here.0 (of-here (ReadsFeed feed) follows))
 
   module _ (step : Step) (after : Seat) (same : after.stream ≡ seat.stream) where
     pub sits-many : (reply : Reply) → IsSeatReply feed (known seat) seat.stream step reply (known after) → (n : ℕ) → SawStreams (known seat) n → SawStreams (known after) n

@@ -1,6 +1,6 @@
 use Rattle.std.proofs.Common.{Ok, Err, subst, arith}
-use Rattle.stream_worker.specs.Private.Courses.{LeadsOn, IsAtEnd}
-use Rattle.stream_worker.proofs.SeatGoesOn.{sits-many, sits-receipts, sits-follows, sits-refused, sits-ended}
+use Rattle.stream_worker.specs.Private.Courses.{LeadsOn}
+use Rattle.stream_worker.proofs.SeatGoesOn.{sits-many, sits-receipts, sits-follows, sits-refused, sits-within}
 use Rattle.stream_worker.proofs.working.go_on.Goals as goal
 
 pub returns-in-Ok-clause-many : goal.returns-in-Ok-clause-many
@@ -37,6 +37,6 @@ returns-in-Err-clause-refused g c = λ follows.
     (sits-refused c.args.bench.now.feed.now c.args.seat.now c.in-Some.step c.seat_step.new.seat c.seat_step.ensures.seat.1 c.plan-plan.ensures.whole follows c.args.course.now.to_copy c.next.new.self.to_copy
     (subst (λ n. LeadsOn c.args.seat.now.cursor n c.args.course.now.to_copy c.next.new.self.to_copy c.in-Some.step) c.len-groups.ensures c.in-Some.ensures) c.in-Err.refusal c.in-Err.ensures.step)
 
-pub returns-in-None-clause-ended : goal.returns-in-None-clause-ended
-returns-in-None-clause-ended g c = λ follows is.
-    sits-ended c.args.bench.now.feed.now c.args.seat.now (subst (λ n. IsAtEnd c.args.seat.now.cursor n) c.len-groups.ensures c.in-None.ensures)
+pub returns-then-read-groups-clause-refused : goal.returns-then-read-groups-clause-refused
+returns-then-read-groups-clause-refused g c = λ follows.
+    absurd (let within = sits-within c.args.bench.now.feed.now c.args.seat.now follows in omega (arith, within, c.read.ensures, c.len-groups.ensures, c.if-read-groups.true))
