@@ -1,4 +1,4 @@
-use Rattle.std.proofs.Common.{◌≡◌, ◌<◌, length, vec_len, subst, arith}
+use Rattle.std.proofs.Common.{◌≡◌, ◌<◌, length, vec_len, subst, arith, rules}
 use Rattle.std.proofs.lemmas.Option.{slice_get_within, get_or_from_slice_get}
 use Rattle.stream_worker.specs.declared.seat_run.Ran.{Ran}
 use Rattle.stream_worker.specs.Private.SeatRuns.{IsRan, AreRan}
@@ -6,7 +6,7 @@ use Rattle.stream_worker.proofs.JobLaws.{job_ready, job_ran, if_both}
 use Rattle.stream_worker.proofs.parallel.run_seats.Goals as goal
 
 pub map_vec-requires-after_bounds : goal.map_vec-requires-after_bounds
-map_vec-requires-after_bounds g c κs within = λ i job less is. job_ready c.args.run.now.shared.now c.args.run.now.feeds.now c.args.seats.items c.requires c.in_ok-jobs.jobs.items c.in_ok-jobs.ensures.seats c.in_ok-jobs.ensures.jobs i job less is
+map_vec-requires-after_bounds g c κs within = λ i job less is. (job_ready c.args.run.now.shared.now c.args.run.now.feeds.now c.args.seats.items c.requires c.in_ok-jobs.jobs.items c.in_ok-jobs.ensures.seats c.in_ok-jobs.ensures.jobs i job less is, search rules)
 
 pub returns-clause-ran : goal.returns-clause-ran
 returns-clause-ran g c =
