@@ -1,7 +1,7 @@
 -- A report on feeds, by what opening and checking them give.
 use Rattle.std.proofs.Common.{arith, ◌≡◌, ◌∙◌, ◌-◌, ◌≤◌, ℕ, Bool, List, [], drop, get_or, length, refl, sym, take, ap, subst, map, Option, Some, None, Result, Ok, Err}
 use Rattle.std.specs.Prelude.{MatchOption, IfSome}
-use Rattle.std.proofs.lemmas.List.{drop-map, get_or-map, length-drop, map-map, take_all}
+use Rattle.std.proofs.lemmas.List.{drop-map, get_or-map, length-drop, take_all}
 use Rattle.outcome.specs.Outcome as outcome
 use Rattle.outcome.specs.Outcome.{◌>>=◌}
 use Rattle.source_feed.specs.FaultNumber as feed
@@ -16,6 +16,7 @@ use Rattle.vrepl_main.specs.Reasons.{Reason, meant_of, RefusesInputs}
 use Rattle.vrepl_main.specs.RefusalOf.{refusal_of_feed}
 use Rattle.vrepl_main.specs.declared.refusal.Refusal.{Refusal}
 use Rattle.vrepl_main.specs.declared.refusal.Refusal.TheVariants.{Memory, Workflow, FeedCount, Feed, BadHex, BadScript, BadDump, CannotRead, CannotWrite}
+use Rattle.std.proofs.lemmas.Simd.{map-map}
 use Rattle.vrepl_check.specs.Checking.{IsWarned, bytes_in, said_checks, report_with, report_bytes, report_given, report_asked}
 
 -- what refuses a step refuses what is made of it
@@ -27,11 +28,14 @@ pub refuses_behind : {X Y : Type 0} (refusal : Refusal) (reading : Result X Reas
 refuses_behind Memory reading f is = tt
 refuses_behind other reading f is = behind (meant_of other) reading f is
 
+abbrev gives : ReportValue → Result ReportValue Reason
+gives report = Ok report
+
 -- the refusal of a group that isn't sound
 pub refuses_checks : (files : List (List ℕ)) (given : FeedFault) (reading : Result (List CheckedValue) FeedFault) → outcome.Refuses feed.meant_of given reading
     → RefusesInputs (refusal_of_feed given) (said_checks reading >>= λ checks. Ok (report_of files checks))
 refuses_checks files fault.Memory reading is = tt
-refuses_checks files other reading is = ap (λ r. said_checks r >>= λ checks. Ok {F = Reason} (report_of files checks)) is
+refuses_checks files other reading is = ap (λ (r : Result (List CheckedValue) FeedFault). said_checks r >>= λ checks. gives (report_of files checks)) is
 
 -- feeds as they are given
 pub given_as : {A : Type 0} (feeds : List A) (view : A → List ℕ) (hex : Bool) (files : List (List ℕ)) (workflow : List ℕ) (given : List (Option (List ℕ))) → given ≡ map (λ feed. feed_bytes hex (view feed)) feeds
@@ -50,8 +54,8 @@ pub report_is : (files : List (List ℕ)) (given : List (Option (List ℕ))) (re
     → checked_feeds (map bytes_in given) opened.feeds ≡ Ok checks → report ≡ report_of files checks → (reading >>= report_with files given) ≡ Ok report
 report_is files given reading opened checks report is checked made =
     ap (λ (r : Result OpenedValue Reason). r >>= report_with files given) is
-    ∙ ap (λ (r : Result (List CheckedValue) FeedFault). said_checks r >>= λ checks. Ok {F = Reason} (report_of files checks)) checked
-    ∙ ap Ok (sym made)
+    ∙ ap (λ (r : Result (List CheckedValue) FeedFault). said_checks r >>= λ checks. gives (report_of files checks)) checked
+    ∙ ap gives (sym made)
 
 -- whether it warns
 pub warned_as : (reading : Result ReportValue Reason) (report : ReportValue) (warned : Bool) → reading ≡ Ok report → warned ≡ report.warned → IsWarned warned reading
