@@ -22,6 +22,29 @@ pub(crate) const LOWER: &[u8] = b"\
     \n4\x08\x01\x1a0MySQL56/3e11fa47-71ca-11e1-9e33-c80aa9429562:1-2\
     \n\x02\x08\x03";
 
+/// Rows 1 `a`, 2 `b`, 3 `c` and 4 `d`, one message a group.
+pub(crate) const FOUR: &[u8] = b"\
+    k\n\x02\x08\x02\
+    \n\x18\x08\r2\x14\n\x01t\x12\x07\n\x02id\x10\x89\x02\x12\x06\n\x01v\x10\x950\
+    \n\x13\x08\x0c*\x0f\n\x01t\x12\n\x12\x08\n\x02\x02\x02\x12\x021a\
+    \n2\x08\x01\x1a.MySQL56/3e11fa47-71ca-11e1-9e33-c80aa9429562:1\
+    \n\x02\x08\x03\
+    m\n\x02\x08\x02\
+    \n\x18\x08\r2\x14\n\x01t\x12\x07\n\x02id\x10\x89\x02\x12\x06\n\x01v\x10\x950\
+    \n\x13\x08\x0c*\x0f\n\x01t\x12\n\x12\x08\n\x02\x02\x02\x12\x022b\
+    \n4\x08\x01\x1a0MySQL56/3e11fa47-71ca-11e1-9e33-c80aa9429562:1-2\
+    \n\x02\x08\x03\
+    m\n\x02\x08\x02\
+    \n\x18\x08\r2\x14\n\x01t\x12\x07\n\x02id\x10\x89\x02\x12\x06\n\x01v\x10\x950\
+    \n\x13\x08\x0c*\x0f\n\x01t\x12\n\x12\x08\n\x02\x02\x02\x12\x023c\
+    \n4\x08\x01\x1a0MySQL56/3e11fa47-71ca-11e1-9e33-c80aa9429562:1-3\
+    \n\x02\x08\x03\
+    m\n\x02\x08\x02\
+    \n\x18\x08\r2\x14\n\x01t\x12\x07\n\x02id\x10\x89\x02\x12\x06\n\x01v\x10\x950\
+    \n\x13\x08\x0c*\x0f\n\x01t\x12\n\x12\x08\n\x02\x02\x02\x12\x024d\
+    \n4\x08\x01\x1a0MySQL56/3e11fa47-71ca-11e1-9e33-c80aa9429562:1-4\
+    \n\x02\x08\x03";
+
 /// Rows 11 `k` and 12 `l`, one message a group, at another server's positions.
 pub(crate) const UPPER: &[u8] = b"\
     l\n\x02\x08\x02\
@@ -166,14 +189,6 @@ fn push_feed(feeds: &mut Vec<u8>, stream: u8) -> Result<(), AllocError> {
     push_group(feeds, name_of(stream), b'1', b'a')?;
     push_group(feeds, name_of(stream), b'2', b'b')?;
     push_group(feeds, name_of(stream), b'3', b'c')
-}
-
-/// A feed of four groups: rows 111 `a`, 112 `b`, 113 `c` and 114 `d`.
-pub(crate) fn four_rows(alloc: Global) -> Result<Vec<u8>, AllocError> {
-    let mut feed = Vec::new(alloc);
-    push_feed(&mut feed, 0)?;
-    push_group(&mut feed, name_of(0), b'4', b'd')?;
-    Ok(feed)
 }
 
 /// The feeds of all 64 streams, one behind the other.

@@ -3,7 +3,7 @@
 ghost use Rattle.std.specs.Prelude.{◌≡◌};
 ghost use Rattle.stream_worker.specs.SeatOf.{IsSeatOf};
 
-use crate::feeds::{UPPER, WORKFLOW, four_rows, open_feeds};
+use crate::feeds::{FOUR, UPPER, WORKFLOW, open_feeds};
 use crate::gates::Open;
 use crate::seats::{ended, two_of};
 use apply_core::Board;
@@ -30,9 +30,13 @@ impl<'a, 'h> Ahead<'h> for Ready<'a, 'h> {
 
     fn next<R: Wait>(&mut self, _rt: &R) -> Option<Arc<Prepared<'h>>> {
         if let Some(other) = self.other.take() {
-            return match other.prepare(self.alloc, 1) {
-                Ok(group) if !group.plan().same(self.feed.plan()) => Some(group),
-                _ => None,
+            let Ok(group) = other.prepare(self.alloc, 1) else {
+                return None;
+            };
+            return if group.plan().same(self.feed.plan()) {
+                None
+            } else {
+                Some(group)
             };
         }
         let (number, later) = self.numbers.split_first()?;
@@ -131,7 +135,6 @@ fn leaves_all_rows<R: Wait>(
     of_other: bool,
     numbers: &[u32],
 ) -> Result<bool, AllocError> {
-    let four = four_rows(alloc)?;
     let (Ok(plans), Ok(again), Some(policy)) = (
         Plan::read_all(alloc, WORKFLOW),
         Plan::read_all(alloc, WORKFLOW),
@@ -139,7 +142,7 @@ fn leaves_all_rows<R: Wait>(
     ) else {
         return Ok(false);
     };
-    let Some(feeds) = open_feeds(alloc, &plans, &[&four, UPPER]) else {
+    let Some(feeds) = open_feeds(alloc, &plans, &[FOUR, UPPER]) else {
         return Ok(false);
     };
     let [first, second] = feeds.as_slice() else {

@@ -51,15 +51,6 @@ fn plans_of(alloc: Global) -> Result<Vec<Arc<Plan>>, AllocError> {
     }
 }
 
-/// Their feeds, of two rows each.
-fn feeds_of<'h>(alloc: Global) -> Result<Vec<Feed<'h>>, AllocError> {
-    let plans = plans_of(alloc)?;
-    match open_feeds(alloc, &plans, &[LOWER, UPPER]) {
-        Some(feeds) => Ok(feeds),
-        None => Err(AllocError),
-    }
-}
-
 /// Whether a run ends with the rows of both feeds.
 fn fills<'h, R: Threads + Wait + Sync>(
     rt: &R,
@@ -80,7 +71,10 @@ fn fills_again<R: Threads + Wait + Sync>(
     alloc: Global,
     way: Way,
 ) -> Result<bool, AllocError> {
-    let feeds = feeds_of(alloc)?;
+    let plans = plans_of(alloc)?;
+    let Some(feeds) = open_feeds(alloc, &plans, &[LOWER, UPPER]) else {
+        return Err(AllocError);
+    };
     match fills(rt, alloc, way, &feeds) {
         Ok(filled) => Ok(filled),
         Err(_) => fills(rt, alloc, way, &feeds),
@@ -142,7 +136,10 @@ fn is_shared<R: Wait>(rt: &R, alloc: Global, board: Board<'_>) -> Result<bool, A
 
 /// Whether it is, also where it wasn't for want of memory before and was handed back.
 fn is_shared_again<R: Wait>(rt: &R, alloc: Global) -> Result<bool, AllocError> {
-    let feeds = feeds_of(alloc)?;
+    let plans = plans_of(alloc)?;
+    let Some(feeds) = open_feeds(alloc, &plans, &[LOWER, UPPER]) else {
+        return Err(AllocError);
+    };
     match Shared::open(rt, alloc, copying(alloc, &feeds)?) {
         Ok((_, seats)) => Ok(seats.len() == 2),
         Err(refusal) => Ok(
