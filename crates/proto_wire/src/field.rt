@@ -84,10 +84,10 @@ fn payload_of(kind: u64, body: &[u8]) -> Result<(Option<Payload<'_>>, &[u8]), Wi
     }
 }
 
-/// The field at the front, and the bytes after it.
+/// The field at the front, and the bytes after it. Of no bytes it is `Truncated`. Takes no memory.
 #[inline(always)]
 #[tactic(auto, unfolding(crate::specs::Field::field_at, crate::specs::Field::field_behind))]
-pub(crate) fn field_of(bytes: &[u8]) -> Result<(Field<'_>, &[u8]), WireFault>
+pub fn field_of(bytes: &[u8]) -> Result<(Field<'_>, &[u8]), WireFault>
     ensures { Gives (λ x. (wire_field x.0, x.1.now)) result (field_at bytes.now) }
 {
     let (tag, body) = varint_of(bytes)?;

@@ -16,13 +16,14 @@ mod writing;
 mod written_laws;
 
 pub use fault::{FrameFault, WireFault};
-pub use field::{Field, Payload};
+pub use field::{Field, Payload, field_of};
 pub use fields::Fields;
 pub use frames::Frames;
 pub use laws::{longer_spelling, shortest_spelling};
 pub use parts::{Parts, last_text, last_varint, single_of};
 pub use sint64::{unzigzag, zigzag};
 pub use spelling::{put_varint, varint_size};
+pub use varint::varint_of;
 pub use varints::Varints;
 pub use writing::{
     bytes_field_size, cut_after_error, field_size, number_field_size, put_bytes_head, put_field,

@@ -5,10 +5,11 @@ ghost use Rattle.proto_wire.specs.Varint.{varint_at};
 
 use crate::fault::WireFault;
 
-/// The varint at the front, and the bytes after it. Most have one byte.
+/// The varint at the front, and the bytes after it. Most have one byte. Of no bytes it is
+/// `Truncated`. Takes no memory.
 #[inline(always)]
 #[tactic(auto, unfolding(crate::specs::Varint::varint_at, crate::specs::Varint::varint_within))]
-pub(crate) fn varint_of(bytes: &[u8]) -> Result<(u64, &[u8]), WireFault>
+pub fn varint_of(bytes: &[u8]) -> Result<(u64, &[u8]), WireFault>
     ensures { Gives (λ x. (x.0, x.1.now)) result (varint_at bytes.now) }
 {
     match bytes {
@@ -18,6 +19,7 @@ pub(crate) fn varint_of(bytes: &[u8]) -> Result<(u64, &[u8]), WireFault>
 }
 
 /// The same of any number of bytes.
+#[inline(never)]
 fn longer_varint_of(bytes: &[u8]) -> Result<(u64, &[u8]), WireFault>
     ensures { Gives (λ x. (x.0, x.1.now)) result (varint_at bytes.now) }
 {

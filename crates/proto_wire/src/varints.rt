@@ -41,6 +41,7 @@ impl<'b> Varints<'b> {
 
     /// The next varint, or `None` at the end. After the end the end is answered again, and after a
     /// fault (`Truncated` or `VarintTooLong`) the same fault. Takes no memory.
+    #[inline(always)]
     pub fn next_varint(&mut self) -> Result<Option<u64>, WireFault>
         ensures { Next (λ n. n) self.old result self.new }
     {
