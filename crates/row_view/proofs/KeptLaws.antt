@@ -1,12 +1,9 @@
 -- What is true of a message that is a row.
-use Rattle.std.proofs.Common.{◌≡◌, ℕ, ◌≤◌, List, length, Option, Some, None, Result, Ok, Err, refl, arith}
+use Rattle.std.proofs.Common.{◌≡◌, ℕ, ◌≤◌, List, length, Option, None, Result, Ok, Err, refl}
 use Rattle.std.specs.Prelude.{IsOk, MatchResult}
-use Rattle.proto_wire.specs.declared.fault.WireFault.{WireFault}
 use Rattle.row_view.specs.declared.fault.RowFault.{RowFault}
-use Rattle.row_view.specs.declared.count.Count.{Count}
 use Rattle.row_view.specs.RowFields.{row_lengths, row_values, row_wire_fault}
 use Rattle.row_view.specs.Row.{IsRow, size_of_all, columns_in, row_of_message}
-use Rattle.row_view.specs.Private.Counted.{Counts}
 use Rattle.row_view.specs.Private.Kept.{IsGood}
 use Rattle.row_view.proofs.RowLaws.{row, row_of_message-row, none_from_IsWhole}
 
@@ -32,14 +29,11 @@ good_from_ok bytes (Err fault) e ok = cc
 pub good-from_IsOk : (bytes : List ℕ) → IsOk (row_of_message bytes) → IsGood bytes
 good-from_IsOk bytes ok = good_from_ok bytes (row_of_message bytes) refl ok
 
--- a search for faults that finds none in a message without one
-pub ok_where_none : {A : Type 0} (found : Result A WireFault) (P : A → Type 0) (fault : Option WireFault) → MatchResult found P (λ f. fault ≡ Some f) → fault ≡ None → IsOk found
-ok_where_none (Ok x) P fault h none = refl
-ok_where_none (Err f) P fault h none = cc
+-- a message that is a row is read without a fault, and what is read are its columns
+pub ok_where_row : {A : Type 0} (read : Result A RowFault) (message : Result (List (Option (List ℕ))) RowFault) (new columns : List (Option (List ℕ))) → MatchResult read (λ _. message ≡ Ok new) (λ fault. message ≡ Err fault) → message ≡ Ok columns → IsOk read
+ok_where_row (Ok x) message new columns h is = refl
+ok_where_row (Err f) message new columns h is = cc
 
-pub match_ok : {A F : Type 0} (read : Result A F) (P : A → Type 0) (Q : F → Type 0) (x : A) → read ≡ Ok x → MatchResult read P Q → P x
-match_ok read P Q x e h = let at = rw e at h in at
-
--- a count that didn't stop at its greatest number is exact
-pub exact_count : (bytes : List ℕ) (count : Count) → length (row_lengths bytes) ≤ 256 → Counts (record { columns = 0; bytes = 0 }) (row_lengths bytes) count → count.columns ≡ length (row_lengths bytes)
-exact_count bytes count few counts = omega (arith, few, counts.columns)
+pub row_where_ok : {A : Type 0} (read : Result A RowFault) (message : Result (List (Option (List ℕ))) RowFault) (new columns : List (Option (List ℕ))) → MatchResult read (λ _. message ≡ Ok new) (λ fault. message ≡ Err fault) → message ≡ Ok columns → new ≡ columns
+row_where_ok (Ok x) message new columns h is = cc
+row_where_ok (Err f) message new columns h is = cc

@@ -1,6 +1,10 @@
+pub mod PlaceLaws
 pub mod CountLaws
 pub mod FoundLaws
+pub mod ReadLaws
 pub mod ColumnLaws
 pub mod RowLaws
 pub mod KeptLaws
+pub mod MarkLaws
+pub mod FilledLaws
 pub mod WrittenLaws

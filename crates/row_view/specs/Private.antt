@@ -1,3 +1,4 @@
 -- What private code alone needs.
+pub mod Marks
 pub mod Counted
 pub mod Kept

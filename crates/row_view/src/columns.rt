@@ -1,14 +1,17 @@
 //! The columns of a row, one after another.
 
-ghost use Rattle.std.specs.Prelude.{◌≡◌, ℕ, ◌≤◌, List, length};
+ghost use Rattle.std.specs.Prelude.{◌≡◌, ℕ, ◌+◌, ◌≤◌, List, length};
 ghost use Rattle.std.specs.Iterator.{YieldsFirstBy, item_count};
 ghost use Rattle.row_view.specs.ColumnValue.{column_value};
 ghost use Rattle.row_view.specs.RowFields.{row_lengths};
 ghost use Rattle.row_view.specs.Row.{size_of_all, columns_over};
+ghost use Rattle.row_view.specs.Private.Marks.{lengths_left};
 
 use crate::column::Column;
 use crate::lengths::Lengths;
+use crate::steps::Steps;
 use std::marker::Model;
+use std::sync::ledger::Ledger;
 
 /// The columns of a row that are still to come. Seen in contracts as the list of their values,
 /// `None` for NULL. Takes no memory.
@@ -40,6 +43,28 @@ impl<'b> Columns<'b> {
             lengths: Lengths::new(message),
             values,
         }
+    }
+
+    /// The columns from one on: what is left of the packed part that its length stands in, the fields
+    /// behind that, and the values from its own on.
+    pub(crate) fn behind(packed: &'b [u8], fields: &'b [u8], values: &'b [u8]) -> Columns<'b>
+        requires { size_of_all (lengths_left packed.now fields.now) ≤ length values.now }
+        ensures { result ≡ columns_over values.now (lengths_left packed.now fields.now) }
+    {
+        Columns {
+            lengths: Lengths::behind(packed, fields),
+            values,
+        }
+    }
+
+    /// The next column, a step: one length is decoded.
+    #[inline(always)]
+    pub(crate) fn next_counted<L: Ledger>(&mut self, steps: &mut Steps<L>) -> Option<Column<'b>>
+        ensures column { YieldsFirstBy column_value (λ s. s) self.old result self.new }
+        ensures step { steps.new ≡ steps.old + 1 }
+    {
+        steps.tick();
+        self.next()
     }
 }
 

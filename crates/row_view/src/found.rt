@@ -1,11 +1,12 @@
 //! What the fields of a row message say.
 
-ghost use Rattle.std.specs.Prelude.{◌≡◌, MatchResult};
-ghost use Rattle.row_view.specs.RowFields.{row_lengths, row_values, row_wire_fault};
-ghost use Rattle.row_view.specs.Private.Counted.{Counts};
+ghost use Rattle.std.specs.Prelude.{◌≡◌, ◌≤◌, ◌^◌, Some, MatchResult, length};
+ghost use Rattle.row_view.specs.RowFields.{row_wire_fault};
+ghost use Rattle.row_view.specs.Private.Counted.{IsFound};
 
 use crate::count::Count;
-use proto_wire::{Fields, WireFault};
+use crate::marks::{MARKS, Mark};
+use proto_wire::{WireFault, field_of};
 
 /// The number of the lengths in a row message (`query.proto`, Row).
 pub(crate) const LENGTHS: u32 = 1;
@@ -22,12 +23,16 @@ pub(crate) struct Found<'b> {
     pub(crate) count: Count,
 }
 
-/// Reads the fields of a row message, or finds the fault of the wire that lies furthest left.
+/// Reads the fields of a row message and marks each sixteenth column, or finds the fault of the wire
+/// that lies furthest left.
 #[inline(always)]
-pub(crate) fn found_in(bytes: &[u8]) -> Result<Found<'_>, WireFault>
+pub(crate) fn found_in<'b>(
+    bytes: &'b [u8],
+    marks: &mut [Mark; MARKS],
+) -> Result<Found<'b>, WireFault>
+    requires { length bytes.now ≤ 2 ^ 24 }
     ensures { MatchResult result
-        (λ found. (row_wire_fault bytes.now ≡ None) × (found.values.now ≡ row_values bytes.now)
-        × Counts (record { columns = 0; bytes = 0 }) (row_lengths bytes.now) found.count)
+        (λ found. IsFound bytes.now found.values.now found.count marks.new)
         (λ fault. row_wire_fault bytes.now ≡ Some fault) }
 {
     let mut values: &[u8] = &[];
@@ -35,12 +40,14 @@ pub(crate) fn found_in(bytes: &[u8]) -> Result<Found<'_>, WireFault>
         columns: 0,
         bytes: 0,
     };
-    let mut fields = Fields::new(bytes);
-    while let Some(field) = fields.next_field()? {
-        count.put(&field)?;
+    let mut rest = bytes;
+    while !rest.is_empty() {
+        let (field, after) = field_of(rest)?;
+        count.put(bytes, rest, &field, after, marks)?;
         if let Some(last) = field.part(VALUES) {
             values = last;
         }
+        rest = after;
     }
     Ok(Found { values, count })
 }

@@ -3,6 +3,7 @@
 ghost use Rattle.std.specs.Prelude.{◌≡◌, ℤ, List};
 ghost use Rattle.std.specs.Iterator.{YieldsFirst};
 ghost use Rattle.row_view.specs.RowFields.{row_lengths};
+ghost use Rattle.row_view.specs.Private.Marks.{lengths_left};
 
 use crate::found::LENGTHS;
 use proto_wire::{Fields, Payload, Varints, unzigzag};
@@ -35,6 +36,16 @@ impl<'b> Lengths<'b> {
         Lengths {
             fields: Fields::new(message),
             packed: Varints::new(&[]),
+        }
+    }
+
+    /// The lengths that are left of a packed part, and those of the fields behind it.
+    pub(crate) fn behind(packed: &'b [u8], fields: &'b [u8]) -> Lengths<'b>
+        ensures { result ≡ lengths_left packed.now fields.now }
+    {
+        Lengths {
+            fields: Fields::new(fields),
+            packed: Varints::new(packed),
         }
     }
 

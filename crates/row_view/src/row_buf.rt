@@ -62,6 +62,7 @@ impl RowBuf {
     }
 
     /// The row, lent. Reads its lengths once more, and takes no memory.
+    #[inline(always)]
     pub fn view(&self) -> RowView<'_>
         ensures { result ≡ self.now }
     {

@@ -34,6 +34,7 @@ impl<'b> Model for RowBytes<'b> {
 
 impl<'b> RowBytes<'b> {
     /// Reads a row message. Refused as `RowView::read` refuses it. Takes no memory.
+    #[inline(always)]
     pub fn read(bytes: &'b [u8]) -> Result<RowBytes<'b>, RowFault>
         ensures { result ≡ row_of_message bytes.now }
     {
@@ -59,6 +60,7 @@ impl<'b> RowBytes<'b> {
     }
 
     /// The row itself. Reads its lengths once more, and takes no memory.
+    #[inline(always)]
     pub fn view(&self) -> RowView<'b>
         ensures { result ≡ self.now }
     {

@@ -7,6 +7,8 @@ mod events;
 #[cfg(test)]
 mod fields;
 #[cfg(test)]
+mod marks;
+#[cfg(test)]
 mod positions;
 #[cfg(test)]
 mod responses;

@@ -1,5 +1,0 @@
-use Rattle.std.proofs.Common.{rules}
-use Rattle.row_view.proofs.row.RowView.column.Goals as goal
-
-pub returns : goal.returns
-returns c = search rules
