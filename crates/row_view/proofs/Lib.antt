@@ -8,3 +8,4 @@ pub mod KeptLaws
 pub mod MarkLaws
 pub mod FilledLaws
 pub mod WrittenLaws
+pub mod PickLaws

@@ -2,5 +2,6 @@ pub mod ColumnValue
 pub mod FaultNumber
 pub mod RowFields
 pub mod Row
+pub mod Picked
 pub mod Private
 pub mod WrittenRow

@@ -15,6 +15,7 @@ mod same;
 mod steps;
 mod written_columns;
 mod written_laws;
+mod written_picked;
 mod written_row;
 
 pub use column::Column;

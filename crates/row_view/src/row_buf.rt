@@ -2,6 +2,7 @@
 
 ghost use Rattle.std.specs.Prelude.{◌≡◌, ◌↔◌, IsTrue, IfOk, map};
 ghost use Rattle.row_view.specs.ColumnValue.{column_value};
+ghost use Rattle.row_view.specs.Picked.{picked, ArePlaces};
 
 use crate::column::Column;
 use crate::columns::Columns;
@@ -9,6 +10,7 @@ use crate::row::{ROW_BYTES, ROW_COLUMNS, RowView};
 use crate::row_bytes::RowBytes;
 use crate::written_columns::write_columns;
 use crate::written_laws::rows_are_read_again;
+use crate::written_picked::{are_all, put_picked};
 use std::alloc::{AllocError, Global};
 use std::marker::Model;
 
@@ -48,6 +50,25 @@ impl RowBuf {
         let mut message = Vec::new(alloc);
         write_columns(&mut message, columns)?;
         if columns.len() > usize::from(ROW_COLUMNS) || message.as_slice().len() > ROW_BYTES {
+            return Err(AllocError);
+        }
+        Ok(RowBuf { message })
+    }
+
+    /// A row of some columns of a lent row, in the order of their places. That each place is below the
+    /// row's `len`, and that none stands twice, is the caller's. All columns in their order are a copy
+    /// of the bytes. An error is want of memory, or a row beyond the limits, which needs a column twice.
+    pub fn pick(alloc: Global, row: &RowView<'_>, places: &[u8]) -> Result<RowBuf, AllocError>
+        requires { ArePlaces places.now row.now }
+        ensures { IfOk result (λ copy. copy ≡ picked places.now row.now) }
+    {
+        if are_all(places, row.len()) {
+            return RowBuf::from_view(alloc, row);
+        }
+        rows_are_read_again();
+        let mut message = Vec::new(alloc);
+        put_picked(&mut message, row, places)?;
+        if places.len() > usize::from(ROW_COLUMNS) || message.as_slice().len() > ROW_BYTES {
             return Err(AllocError);
         }
         Ok(RowBuf { message })

@@ -235,3 +235,29 @@ fn null_and_empty_in_memory(rt: HostRuntime) {
     let empty = b"\x0a\x03\x02\x00\x04\x12\x031ab";
     assert!(rt; matches!(are_told_apart(rt.alloc(), null, empty), Ok(true)));
 }
+
+/// Whether the third and the first of three columns are picked in this order, and all in theirs as a copy.
+fn are_picked(alloc: Global, bytes: &[u8]) -> Result<bool, AllocError> {
+    let Ok(row) = RowView::read(bytes) else {
+        return Ok(false);
+    };
+    if row.len() != 3 {
+        return Ok(false);
+    }
+    let two = RowBuf::pick(alloc, &row, &[2, 0])?;
+    let all = RowBuf::pick(alloc, &row, &[0, 1, 2])?;
+    Ok(
+        has_columns(&two.view(), &[Column::Bytes(b"ab"), Column::Bytes(b"1")])
+            && all.view().same(&row),
+    )
+}
+
+#[test]
+fn picked_columns(rt: HostRuntime) {
+    assert!(rt;
+        matches!(
+            are_picked(rt.alloc(), b"\x0a\x03\x02\x01\x04\x12\x031ab"),
+            Ok(true)
+        )
+    );
+}
