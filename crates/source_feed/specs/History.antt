@@ -5,15 +5,12 @@ use Rattle.std.specs.List.{flat_map}
 use Rattle.std.specs.Map.{lookup}
 use Rattle.std.specs.Option.{option_and_then}
 use Rattle.std.specs.Ordering.{eq_by_cmp}
+pub use Rattle.row_view.specs.Row.{RowValue}
 use Rattle.pk_copy.specs.KeyOrder.{key_cmp}
 use Rattle.pk_copy.specs.KeyValue.{KeyValue}
 use Rattle.target_tables.specs.Rising.{IsRising}
 use Rattle.target_tables.specs.Touches.{last_at}
 use Rattle.source_feed.specs.Touches.{PutValue, TouchValue, PreparedValue}
-
--- a source's row, by its columns
-abbrev pub RowValue : Type 0
-RowValue = List (Option (List ℕ))
 
 -- the touches of a list of groups, in order
 abbrev pub touches_in : List PreparedValue → List TouchValue

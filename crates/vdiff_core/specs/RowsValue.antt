@@ -2,12 +2,9 @@
 use Rattle.std.specs.Prelude.{ℕ, List, Option}
 use Rattle.std.specs.Map.{lookup}
 use Rattle.std.specs.Ordering.{eq_by_cmp}
+pub use Rattle.row_view.specs.Row.{RowValue}
 use Rattle.pk_copy.specs.KeyOrder.{key_cmp}
 use Rattle.pk_copy.specs.KeyValue.{KeyValue}
-
--- a row, by its columns: `None` for NULL
-abbrev pub RowValue : Type 0
-RowValue = List (Option (List ℕ))
 
 -- keys, each with its row
 abbrev pub RowsValue : Type 0
