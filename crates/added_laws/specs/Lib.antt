@@ -1,0 +1,4 @@
+pub mod GoingOn
+pub mod Extended
+pub mod Faults
+pub mod Laws
