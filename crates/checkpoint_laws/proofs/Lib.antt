@@ -5,3 +5,4 @@ pub mod RestartedLaws
 pub mod OneThing
 pub mod PositionText
 pub mod SaidLaws
+pub mod MoreLaws

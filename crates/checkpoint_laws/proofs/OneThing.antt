@@ -1,10 +1,9 @@
 -- Bytes say one thing at most.
-use Rattle.std.proofs.Common.{◌≡◌, ◌==◌, ℕ, zero, suc, ◌<◌, ◌≤◌, inl, inr, true, cond, le_refl, List, [], ◌∷◌, length, map, Option, Some, None, Result, Ok, slice_get, refl, sym, ap, subst, ◌∙◌, arith}
+use Rattle.std.proofs.Common.{◌≡◌, ◌==◌, ℕ, zero, suc, ◌<◌, ◌≤◌, inl, inr, true, cond, le_refl, List, [], ◌∷◌, ◌++◌, length, map, Option, Some, None, Result, Ok, slice_get, refl, sym, ap, subst, ◌∙◌, arith}
 use Rattle.std.proofs.lemmas.Bool.{eqb-true, ne_eqb, cases_lt, lt-ltb, le-ltb}
 use borrow.Author.Tests.{eq-eqb}
 use Rattle.std.proofs.lemmas.List.{append_cancel_left}
 use Rattle.std.proofs.lemmas.Option.{same_Some, none-some}
-use Rattle.std.specs.Prelude.{IfSome}
 use Rattle.std.specs.List.{AllByRecursion}
 use Rattle.std.specs.Result.{result_ok}
 use Rattle.filter_rule.specs.PlanValue.{PlanValue}
@@ -12,7 +11,7 @@ use Rattle.filter_rule.specs.WellFormed.{IsPlan}
 use Rattle.pk_copy.specs.KeyOf.{key_of}
 use Rattle.pk_copy.specs.KeyValue.{KeyValue}
 use Rattle.pk_copy.specs.Lastpk.{key_of_lastpk}
-use Rattle.pk_copy.specs.Marks.{copied, waiting, Marks, AreMarks, IsOfCurrent, current_mark, mark_of}
+use Rattle.pk_copy.specs.Marks.{copied, waiting, Marks, current_mark, mark_of}
 use Rattle.proto_wire.specs.declared.fault.FrameFault.{FrameFault}
 use Rattle.proto_wire.specs.Frame.{frames_of}
 use Rattle.proto_wire.specs.Reading.{Reading}
@@ -21,9 +20,11 @@ use Rattle.source_feed.specs.Image.{ImageRows, row_in}
 use Rattle.vevent.specs.declared.fault.EventFault.{EventFault}
 use Rattle.vevent.specs.CheckpointPart.{TablePartValue, StreamPartValue, stream_part_at}
 use Rattle.board_laws.proofs.Lookups.{Ties, all-filter, filter-passes, lookup-filter, same_rows}
+use Rattle.checkpoint_laws.specs.declared.version.Version.{Version}
+use Rattle.checkpoint_laws.specs.declared.version.Version.TheVariants.{One, Two}
 use Rattle.checkpoint_laws.specs.Saved.{SavedStream}
 use Rattle.checkpoint_laws.specs.Written.{number_of_mark, rows_of_table, opening}
-use Rattle.checkpoint_laws.specs.Said.{AreParts, SaysLast, SaysTable, IsKeyed, SaysStream}
+use Rattle.checkpoint_laws.specs.Said.{AreParts, SaysLast, SaysTable, IsKeyed, AreSoMany, SaysStream}
 use Rattle.checkpoint_laws.specs.Laws.{CheckpointsSayOneThing}
 use Rattle.checkpoint_laws.proofs.ResumedLaws.{at_same_place, at_inside}
 use Rattle.checkpoint_laws.proofs.RestartedLaws.{same_at_places}
@@ -54,10 +55,23 @@ as_read : (xs : List StreamPartValue) → ◌≡◌ {A = List Read} (map Ok xs) 
 as_read [] = refl
 as_read (x ∷ xs) = λ i. read x ∷ as_read xs i
 
+-- bytes are of one version
+pub one_version : (bytes : List ℕ) (v w : Version) (r s : List ℕ) → bytes ≡ opening v ++ r → bytes ≡ opening w ++ s → v ≡ w
+one_version bytes One One r s p q = refl
+one_version bytes Two Two r s p q = refl
+one_version bytes One Two r s p q =
+    let clash : Some 49 ≡ Some 50 = ap (λ (bs : List ℕ). slice_get bs 7) (sym p ∙ q) in
+    let same : 49 ≡ 50 = same_Some 49 50 clash in
+    absurd (omega (arith, same))
+one_version bytes Two One r s p q =
+    let clash : Some 50 ≡ Some 49 = ap (λ (bs : List ℕ). slice_get bs 7) (sym p ∙ q) in
+    let same : 50 ≡ 49 = same_Some 50 49 clash in
+    absurd (omega (arith, same))
+
 -- the parts of bytes are one list
-pub same_parts : (bytes : List ℕ) (xs ys : List StreamPartValue) → AreParts bytes xs → AreParts bytes ys → xs ≡ ys
-same_parts bytes xs ys p q =
-    let rest : p.rest ≡ q.rest = append_cancel_left opening p.rest q.rest (sym p.opened ∙ q.opened) in
+pub same_parts : (version : Version) (bytes : List ℕ) (xs ys : List StreamPartValue) → AreParts version bytes xs → AreParts version bytes ys → xs ≡ ys
+same_parts version bytes xs ys p q =
+    let rest : p.rest ≡ q.rest = append_cancel_left (opening version) p.rest q.rest (sym p.opened ∙ q.opened) in
     let messages : p.messages ≡ q.messages = ap (λ (r : Reading (List ℕ) FrameFault). r.items) (sym p.framed ∙ ap frames_of rest ∙ q.framed) in
     same_oks xs ys (sym (as_read xs) ∙ sym p.read ∙ ap (map stream_part_at) messages ∙ q.read ∙ as_read ys)
 
@@ -98,12 +112,10 @@ same_key plan t (Some k) (Some q) last e (one, is_one, long, k_of) (other, is_ot
     let row : one ≡ other = same_Some one other (sym is_one ∙ is_other) in
     ap Some (same_Some k q (ap result_ok (sym k_of ∙ ap (key_of_lastpk plan t) row ∙ q_of)))
 
-none_left : (m : Marks) → AreMarks m → m.tables ≤ m.done → m.upto ≡ None
-none_left m are most = by m.upto are.current
-  where
-    by : (o : Option KeyValue) → IfSome o (IsOfCurrent m) → o ≡ None
-    by None h = refl
-    by (Some key) h = let less : m.done < m.tables = h.copying in absurd (omega (arith, most))
+-- no key is marked where the table that isn't done waits
+unmarked : (o : Option KeyValue) → current_mark o ≡ waiting → o ≡ None
+unmarked None e = refl
+unmarked (Some key) e = let clash : 1 ≡ 0 = ap number_of_mark e in absurd (omega (arith, clash))
 
 -- ---- rows
 
@@ -134,11 +146,11 @@ same_keyed plan t (x ∷ xs) (y ∷ ys) a b c d e =
     let later : xs ≡ ys = same_keyed plan t xs ys a.1 b.1 c.1 d.1 (ap others e) in
     λ i. (key i, row i) ∷ later i
 
-none_of : (plan : PlanValue) (t : ℕ) (rows : ImageRows) → length plan.tables ≤ t → Keyed plan rows → rows_of_table t rows ≡ []
-none_of plan t [] most h = refl
-none_of plan t (row ∷ rows) most h =
-    let inside : row.0.table < length plan.tables = h.0.table in
-    ap (λ b. cond b (row ∷ rows_of_table t rows) (rows_of_table t rows)) (ne_eqb row.0.table t (λ e. absurd (omega (arith, e, inside, most)))) ∙ none_of plan t rows most h.1
+none_of : (n t : ℕ) (rows : ImageRows) → n ≤ t → AllByRecursion (λ (row : Row). row.0.table < n) rows → rows_of_table t rows ≡ []
+none_of n t [] most h = refl
+none_of n t (row ∷ rows) most h =
+    let inside : row.0.table < n = h.0 in
+    ap (λ b. cond b (row ∷ rows_of_table t rows) (rows_of_table t rows)) (ne_eqb row.0.table t (λ e. absurd (omega (arith, e, inside, most)))) ∙ none_of n t rows most h.1
 
 in_table : (ties : Ties) (rows : ImageRows) (q : KeyValue) → row_in (rows_of_table q.table rows) q ≡ row_in rows q
 in_table ties rows q =
@@ -146,48 +158,58 @@ in_table ties rows q =
 
 -- ---- one stream
 
-module _ (ties : Ties) (plan : PlanValue) (some : 1 ≤ length plan.tables) (x y : SavedStream) (part : StreamPartValue) (p : SaysStream plan x part) (q : SaysStream plan y part) where
+-- there is a part of a table at least
+some_part : (version : Version) (plan : PlanValue) (n : ℕ) → 1 ≤ length plan.tables → AreSoMany version plan n → 1 ≤ n
+some_part One plan n some many = omega (arith, some, many)
+some_part Two plan n some many = many.0
+
+module _ (ties : Ties) (version : Version) (plan : PlanValue) (some : 1 ≤ length plan.tables) (x y : SavedStream) (part : StreamPartValue) (p : SaysStream version plan x part) (q : SaysStream version plan y part) where
   record Table (t : ℕ) : Type 0 where
     value : TablePartValue
-    one : SaysTable plan x t value
-    other : SaysTable plan y t value
+    one : SaysTable version plan x t value
+    other : SaysTable version plan y t value
 
-  table_at : (t : ℕ) → t < length plan.tables → Table t
+  table_at : (t : ℕ) → t < length part.tables → Table t
   table_at t less =
-      let there : (table : TablePartValue) × (slice_get part.tables t ≡ Some table) = at_inside part.tables t (omega (arith, less, p.count)) in
+      let there : (table : TablePartValue) × (slice_get part.tables t ≡ Some table) = at_inside part.tables t less in
       record { value = there.0; one = p.each_table t there.0 there.1; other = q.each_table t there.0 there.1 }
 
-  same_number : (t : ℕ) → t < length plan.tables → number_of_mark (mark_of x.marks t) ≡ number_of_mark (mark_of y.marks t)
-  same_number t less = let table : Table t = table_at t less in sym table.one.mark ∙ table.other.mark
+  same_number : (t : ℕ) → number_of_mark (mark_of x.marks t) ≡ number_of_mark (mark_of y.marks t)
+  same_number t = elim (cases_lt t (length part.tables)) [
+    | inl less ↦ (let table : Table t = table_at t less in sym table.one.mark ∙ table.other.mark)
+    | inr most ↦ ap number_of_mark (p.further t most ∙ sym (q.further t most))
+  ]
 
   same_position : x.position ≡ y.position
-  same_position = let table : Table 0 = table_at 0 some in same_Some x.position y.position (ap result_ok (sym table.one.answer.position ∙ table.other.answer.position))
+  same_position = let table : Table 0 = table_at 0 (some_part version plan (length part.tables) some p.count) in same_Some x.position y.position (ap result_ok (sym table.one.answer.position ∙ table.other.answer.position))
 
   done : x.marks.done ≡ y.marks.done
   done =
       let a : x.marks.done ≤ x.marks.tables = p.sound.marks.within in
       let b : y.marks.done ≤ y.marks.tables = q.sound.marks.within in
-      same_done x.marks y.marks (length plan.tables) same_number (omega (arith, a, p.sound.tables)) (omega (arith, b, q.sound.tables))
+      same_done x.marks y.marks (length plan.tables) (λ t _. same_number t) (omega (arith, a, p.sound.tables)) (omega (arith, b, q.sound.tables))
 
   upto : x.marks.upto ≡ y.marks.upto
-  upto = elim (cases_lt x.marks.done (length plan.tables)) [
+  upto = elim (cases_lt x.marks.done (length part.tables)) [
     | inl less ↦ (
         let table : Table x.marks.done = table_at x.marks.done less in
         let y_at : mark_of y.marks x.marks.done ≡ current_mark y.marks.upto = ap (mark_of y.marks) done ∙ current_at y.marks in
         same_key plan x.marks.done x.marks.upto y.marks.upto table.value.answer.lastpk
-        (ap number_of_mark (sym (current_at x.marks)) ∙ same_number x.marks.done less ∙ ap number_of_mark y_at)
+        (ap number_of_mark (sym (current_at x.marks)) ∙ same_number x.marks.done ∙ ap number_of_mark y_at)
         (subst (λ m. SaysLast plan x.marks.done m table.value.answer.lastpk) (current_at x.marks) table.one.answer.last)
         (subst (λ m. SaysLast plan x.marks.done m table.value.answer.lastpk) y_at table.other.answer.last))
-    | inr most ↦ none_left x.marks p.sound.marks (omega (arith, most, p.sound.tables)) ∙ sym (none_left y.marks q.sound.marks (omega (arith, most, q.sound.tables, done)))
+    | inr most ↦ (
+        let y_at : mark_of y.marks x.marks.done ≡ current_mark y.marks.upto = ap (mark_of y.marks) done ∙ current_at y.marks in
+        unmarked x.marks.upto (sym (current_at x.marks) ∙ p.further x.marks.done most) ∙ sym (unmarked y.marks.upto (sym y_at ∙ q.further x.marks.done most)))
   ]
 
   same_tables : (t : ℕ) → rows_of_table t x.rows ≡ rows_of_table t y.rows
-  same_tables t = elim (cases_lt t (length plan.tables)) [
+  same_tables t = elim (cases_lt t (length part.tables)) [
     | inl less ↦ (
         let table : Table t = table_at t less in
         same_keyed plan t (rows_of_table t x.rows) (rows_of_table t y.rows) (all-filter (IsKeyed plan) (λ row. row.0.table == t) x.rows p.sound.keyed) (all-filter (IsKeyed plan) (λ row. row.0.table == t) y.rows q.sound.keyed)
         (filter-passes (λ (row : Row). row.0.table == t) x.rows) (filter-passes (λ (row : Row). row.0.table == t) y.rows) (sym table.one.answer.rows ∙ table.other.answer.rows))
-    | inr most ↦ none_of plan t x.rows most p.sound.keyed ∙ sym (none_of plan t y.rows most q.sound.keyed)
+    | inr most ↦ none_of (length part.tables) t x.rows most p.bare ∙ sym (none_of (length part.tables) t y.rows most q.bare)
   ]
 
   rows : x.rows ≡ y.rows
@@ -211,5 +233,8 @@ pub one_thing : Ties → CheckpointsSayOneThing
 one_thing ties plans bytes one other well p q = same_at_places one other (p.same_count ∙ sym q.same_count) (λ s x y here there.
     let plan : (plan : PlanValue) × (slice_get plans s ≡ Some plan) = at_same_place one plans s x p.same_count here in
     let part : (part : StreamPartValue) × (slice_get p.parts s ≡ Some part) = at_same_place plans p.parts s plan.0 (sym p.count) plan.1 in
-    let also : slice_get q.parts s ≡ Some part.0 = ap (λ (parts : List StreamPartValue). slice_get parts s) (same_parts bytes q.parts p.parts q.are p.are) ∙ part.1 in
-    one_stream ties plan.0 (plan_at plans s plan.0 well plan.1).tables.count.0 x y part.0 (p.each_stream s plan.0 x part.0 plan.1 here part.1) (q.each_stream s plan.0 y part.0 plan.1 there also))
+    let version : q.version ≡ p.version = one_version bytes q.version p.version q.are.rest p.are.rest q.are.opened p.are.opened in
+    let are : AreParts p.version bytes q.parts = subst (λ (v : Version). AreParts v bytes q.parts) version q.are in
+    let also : slice_get q.parts s ≡ Some part.0 = ap (λ (parts : List StreamPartValue). slice_get parts s) (same_parts p.version bytes q.parts p.parts are p.are) ∙ part.1 in
+    one_stream ties p.version plan.0 (plan_at plans s plan.0 well plan.1).tables.count.0 x y part.0 (p.each_stream s plan.0 x part.0 plan.1 here part.1)
+    (subst (λ (v : Version). SaysStream v plan.0 y part.0) version (q.each_stream s plan.0 y part.0 plan.1 there also)))

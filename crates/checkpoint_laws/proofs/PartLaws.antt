@@ -35,8 +35,8 @@ read_each again (part ∷ parts) sound h =
     rw (again part sound.0 less.0) (rw (read_each again parts sound.1 less.1) refl)
 
 pub checkpoints_read_again : StreamPartsAreReadAgain → CheckpointsAreReadAgain
-checkpoints_read_again again parts sound h =
-    let whole : length (written_checkpoint parts) ≡ length opening + length (written_parts parts) = length-append opening (written_parts parts) in
+checkpoints_read_again again version parts sound h =
+    let whole : length (written_checkpoint version parts) ≡ length (opening version) + length (written_parts parts) = length-append (opening version) (written_parts parts) in
     let less : length (written_parts parts) < 2 ^ 64 = omega (arith, h, whole) in
     let total : ℕ = length (written_parts parts) in
     record {

@@ -1,19 +1,21 @@
 -- What is kept of a board is said by its checkpoint.
 use Rattle.std.proofs.Common.{◌≡◌, ◌==◌, ℕ, zero, suc, ◌+◌, ◌-◌, ◌^◌, ◌<◌, ◌≤◌, inl, inr, Bool, true, false, cond, List, [], ◌∷◌, length, map, take, Option, Some, None, Ok, slice_get, refl, sym, ap, subst, ◌∙◌, arith}
-use Rattle.std.proofs.lemmas.Bool.{eqb-true}
+use Rattle.std.proofs.lemmas.Bool.{eqb-true, ltb-true}
 use Rattle.std.proofs.lemmas.List.{length-map, length-append}
-use Rattle.std.proofs.lemmas.Option.{same_Some, none-some, slice_get-map}
+use Rattle.std.proofs.lemmas.Option.{same_Some, none-some, slice_get-map, slice_get_within}
 use Rattle.std.specs.Prelude.{IfSome, nat_lt}
 use Rattle.std.specs.List.{AllByRecursion, filter_map}
 use Rattle.std.specs.Option.{option_map, option_map_or}
+use Rattle.filter_rule.specs.Extending.{IsExtended}
 use Rattle.filter_rule.specs.PlanTable.{ColumnValue, TableValue}
 use Rattle.filter_rule.specs.PlanValue.{PlanValue, columns_of, key_columns_of}
 use Rattle.filter_rule.specs.WellFormed.{IsColumnDef, IsTable, IsPlan}
 use Rattle.gtid_set.specs.declared.interval.Interval.{Interval}
 use Rattle.gtid_set.specs.Position.{IsCanonical}
 use Rattle.gtid_set.specs.Text.{position_of_text, text_limit}
+use Rattle.pk_copy.specs.KeyOf.{cell_at, key_in}
 use Rattle.pk_copy.specs.KeyValue.{Part, KeyValue}
-use Rattle.pk_copy.specs.Lastpk.{lastpk_of, part_text, key_of_lastpk, IsTableKey}
+use Rattle.pk_copy.specs.Lastpk.{lastpk_of, part_text, lastpk_cells, key_of_lastpk, IsTableKey}
 use Rattle.pk_copy.specs.Marks.{MarkValue, waiting, up_to, copied, Marks, AreMarks, IsOfCurrent, current_mark, mark_of, is_inside}
 use Rattle.row_view.specs.WrittenRow.{IsWithinLimits}
 use Rattle.source_feed.specs.History.{RowValue}
@@ -31,12 +33,16 @@ use Rattle.board_laws.proofs.History.{read-cut}
 use Rattle.board_laws.proofs.Lists.{slice_get-push}
 use Rattle.board_laws.proofs.Lookups.{Ties, each, all-at, all-filter}
 use Rattle.board_laws.proofs.RowsUnder.{IsRowUnder, kept-under}
+use Rattle.added_laws.specs.Extended.{marks_of_more}
 use Rattle.join_laws.specs.Compatible.{plans_of}
 use Rattle.join_laws.specs.Joined.{cut_rows}
 use Rattle.board_laws.specs.Sources.{applied_position}
+use Rattle.checkpoint_laws.specs.declared.version.Version.{Version}
+use Rattle.checkpoint_laws.specs.declared.version.Version.TheVariants.{One, Two}
+use Rattle.checkpoint_laws.specs.Added.{under_plan, under_plans, SavedBoardsAreSaidOfMore}
 use Rattle.checkpoint_laws.specs.Saved.{SavedStream, own_rows, saved_stream, saved_of}
-use Rattle.checkpoint_laws.specs.Written.{field_of, fields_of_table, position_text, number_of_mark, last_row_of, rows_of_table, table_part, numbers_below, table_parts, stream_part, stream_parts}
-use Rattle.checkpoint_laws.specs.Said.{SaysLast, SaysTable, IsKeyed, IsSaved, SaysStream}
+use Rattle.checkpoint_laws.specs.Written.{field_of, fields_of_table, position_text, number_of_mark, last_row_of, rows_of_table, table_part, numbers_below, table_parts, stream_part, stream_parts, checkpoint_in}
+use Rattle.checkpoint_laws.specs.Said.{SaysLast, IsNamed, SaysTable, IsKeyed, IsSaved, AreSoMany, SaysStream, HaveAsMany, IsCheckpoint}
 use Rattle.checkpoint_laws.specs.Laws.{IsWithin, SavedBoardsAreSaid, AreWithin}
 use Rattle.checkpoint_laws.proofs.PartLaws.{checkpoints_read_again}
 use Rattle.checkpoint_laws.proofs.OwnRows.{own-rising, own-is_cut}
@@ -129,8 +135,8 @@ last_within t waiting h = tt
 last_within t (up_to key) h = h.0
 last_within t copied h = tt
 
-module _ (plan : PlanValue) (well : IsPlan plan) (saved : SavedStream) (within : IsWithin saved) (marks : AreMarks saved.marks) (canonical : IsCanonical saved.position) where
-  sound_table : (t : ℕ) → IsSoundTable (table_part plan saved t)
+module _ (version : Version) (plan : PlanValue) (well : IsPlan plan) (saved : SavedStream) (within : IsWithin saved) (marks : AreMarks saved.marks) (canonical : IsCanonical saved.position) where
+  sound_table : (t : ℕ) → IsSoundTable (table_part version plan saved t)
   sound_table t = record {
     mark = small (mark_of saved.marks t);
     answer = record {
@@ -142,11 +148,11 @@ module _ (plan : PlanValue) (well : IsPlan plan) (saved : SavedStream) (within :
     };
   }
 
-  sound_tables : (ts : List ℕ) → AllByRecursion IsSoundTable (map (table_part plan saved) ts)
+  sound_tables : (ts : List ℕ) → AllByRecursion IsSoundTable (map (table_part version plan saved) ts)
   sound_tables [] = tt
   sound_tables (t ∷ ts) = (sound_table t, sound_tables ts)
 
-  sound_stream : IsSoundStream (stream_part plan saved)
+  sound_stream : IsSoundStream (stream_part version plan saved)
   sound_stream = record { shard = well.shard_text; tables = sound_tables (numbers_below (length plan.tables)) }
 
 -- ---- what the parts say
@@ -165,56 +171,193 @@ says_last plan t (up_to key) h =
       subst (λ (n : ℕ). key_of_lastpk plan n (lastpk_of key) ≡ Ok key) h.1 of.read,
     )
 
-module _ (reads : ReadsBack) (plan : PlanValue) (saved : SavedStream) (sound : IsSaved plan saved) (within : IsWithin saved) (canonical : IsCanonical saved.position) where
-  says_table : (t : ℕ) → SaysTable plan saved t (table_part plan saved t)
-  says_table t = record {
+-- an element in a front of a list
+get_in_front : {A : Type 0} (n : ℕ) (xs : List A) (i : ℕ) → i < n → slice_get (take n xs) i ≡ slice_get xs i
+get_in_front zero xs i less = absurd (omega (arith, less))
+get_in_front (suc n) [] i less = refl
+get_in_front (suc n) (x ∷ xs) zero less = refl
+get_in_front (suc n) (x ∷ xs) (suc i) less = get_in_front n xs i (omega (arith, less))
+
+-- the tables of one plan stand in front of those of another
+pub record IsFront (old new : PlanValue) : Type 0 where
+  pub shard : new.shard ≡ old.shard
+  pub fewer : length old.tables ≤ length new.tables
+  pub tables : (t : ℕ) → t < length old.tables → slice_get old.tables t ≡ slice_get new.tables t
+
+pub front_itself : (plan : PlanValue) → IsFront plan plan
+front_itself plan = record { shard = refl; fewer = omega arith; tables = λ t less. refl }
+
+abbrev columns_in : Option TableValue → List ColumnValue
+columns_in o = option_map_or (λ (table : TableValue). table.columns) o []
+
+abbrev key_in_table : Option TableValue → List ℕ
+key_in_table o = option_map_or (λ (table : TableValue). table.key) o []
+
+abbrev key_fields_in : Option TableValue → List FieldValue
+key_fields_in o = filter_map (field_in (columns_in o)) (key_in_table o)
+
+-- of the tables behind the last one nothing is marked
+waits_behind : (m : Marks) (n t : ℕ) → AreMarks m → m.tables ≡ n → n ≤ t → mark_of m t ≡ waiting
+waits_behind m n t are tables most = by (nat_lt t m.done) refl (t == m.done) refl m.upto are.current
+  where
+    by : (a : Bool) → nat_lt t m.done ≡ a → (b : Bool) → (t == m.done) ≡ b → (o : Option KeyValue) → IfSome o (IsOfCurrent m) → cond a copied (cond b (current_mark o) waiting) ≡ waiting
+    by true d b e o h = let less : t < m.done = ltb-true t m.done d in absurd (omega (arith, less, are.within, tables, most))
+    by false d false e o h = refl
+    by false d true e None h = refl
+    by false d true e (Some key) h = let at : t ≡ m.done = eqb-true t m.done e in absurd (omega (arith, at, h.copying, tables, most))
+
+module _ (reads : ReadsBack) (version : Version) (old new : PlanValue) (front : IsFront old new) (many : AreSoMany version new (length old.tables))
+    (saved : SavedStream) (sound : IsSaved old saved) (within : IsWithin saved) (canonical : IsCanonical saved.position) where
+  key_there : (key : KeyValue) → IsTableKey old key → IsTableKey new key
+  key_there key is =
+      let same : slice_get old.tables key.table ≡ slice_get new.tables key.table = front.tables key.table is.table in
+      record {
+        table = omega (arith, is.table, front.fewer);
+        count = is.count ∙ ap (λ (o : Option TableValue). length (key_in_table o)) same;
+        read = ap (λ (o : Option TableValue). key_in key.table (lastpk_cells (columns_in o) (key_in_table o) (lastpk_of key))) (sym same) ∙ is.read;
+      }
+
+  row_there : (row : KeyValue × RowValue) → IsKeyed old row → IsKeyed new row
+  row_there row is =
+      let same : slice_get old.tables row.0.table ≡ slice_get new.tables row.0.table = front.tables row.0.table is.table in
+      record {
+        table = omega (arith, is.table, front.fewer);
+        width = is.width ∙ ap (λ (o : Option TableValue). length (columns_in o)) same;
+        key = ap (λ (o : Option TableValue). key_in row.0.table (map (cell_at (columns_in o) row.1) (key_in_table o))) (sym same) ∙ is.key;
+      }
+
+  key_of_current : (o : Option KeyValue) → IfSome o (IsOfCurrent saved.marks) → IfSome o (IsOfCurrent (marks_of_more (length new.tables) saved.marks))
+  key_of_current None h = tt
+  key_of_current (Some key) h = record { copying = omega (arith, h.copying, sound.tables, front.fewer); table = h.table }
+
+  key_of_plan : (o : Option KeyValue) → IfSome o (IsTableKey old) → IfSome o (IsTableKey new)
+  key_of_plan None h = tt
+  key_of_plan (Some key) h = key_there key h
+
+  -- what is said under the old plan can be said under the new one
+  sound_there : IsSaved new (under_plan new saved)
+  sound_there = record {
+    tables = refl;
+    marks = record { within = omega (arith, sound.marks.within, sound.tables, front.fewer); current = key_of_current saved.marks.upto sound.marks.current };
+    upto = key_of_plan saved.marks.upto sound.upto;
+    rising = sound.rising;
+    keyed = each (IsKeyed old) (IsKeyed new) row_there saved.rows sound.keyed;
+  }
+
+  has_name : (v : Version) (t : ℕ) → t < length old.tables → IsNamed v new t (table_part v old saved t)
+  has_name One t less = tt
+  has_name Two t less = ap (λ (o : Option TableValue). option_map_or (λ (table : TableValue). table.name) o []) (front.tables t less)
+
+  says_table : (t : ℕ) → t < length old.tables → SaysTable version new (under_plan new saved) t (table_part version old saved t)
+  says_table t less = record {
+    named = has_name version t less;
     mark = refl;
     answer = record {
-      fields = refl;
-      key_fields = refl;
+      fields = ap (λ (o : Option TableValue). map field_of (columns_in o)) (front.tables t less);
+      key_fields = ap key_fields_in (front.tables t less);
       position = reads saved.position canonical within.short;
       rows = refl;
-      last = says_last plan t (mark_of saved.marks t) (of_mark (IsTableKey plan) saved.marks t sound.marks sound.upto);
+      last = says_last new t (mark_of saved.marks t) (of_mark (IsTableKey new) saved.marks t sound.marks (key_of_plan saved.marks.upto sound.upto));
     };
   }
 
-  table_is : (t : ℕ) (table : TablePartValue) → slice_get (table_parts plan saved (length plan.tables)) t ≡ Some table → table_part plan saved t ≡ table
-  table_is t table e = by (slice_get (numbers_below (length plan.tables)) t) refl (sym (slice_get-map (table_part plan saved) (numbers_below (length plan.tables)) t) ∙ e)
-    where
-      by : (o : Option ℕ) → slice_get (numbers_below (length plan.tables)) t ≡ o → option_map (table_part plan saved) (slice_get (numbers_below (length plan.tables)) t) ≡ Some table → table_part plan saved t ≡ table
-      by None at h = absurd (none-some table (sym (ap (option_map (table_part plan saved)) at) ∙ h))
-      by (Some x) at h =
-          ap (table_part plan saved) (sym (below_at (length plan.tables) t x at))
-          ∙ same_Some (table_part plan saved x) table (sym (ap (option_map (table_part plan saved)) at) ∙ h)
+  parts_long_as : length (stream_part version old saved).tables ≡ length old.tables
+  parts_long_as = length-map (numbers_below (length old.tables)) (table_part version old saved) ∙ below_long (length old.tables)
 
-  says_stream : SaysStream plan saved (stream_part plan saved)
+  record IsPartOfTable (t : ℕ) (table : TablePartValue) : Type 0 where
+    inside : t < length old.tables
+    is : table_part version old saved t ≡ table
+
+  table_is : (t : ℕ) (table : TablePartValue) → slice_get (table_parts version old saved (length old.tables)) t ≡ Some table → IsPartOfTable t table
+  table_is t table e = record {
+    inside = let less : t < length (stream_part version old saved).tables = slice_get_within (stream_part version old saved).tables t table e in omega (arith, less, parts_long_as);
+    is = by (slice_get (numbers_below (length old.tables)) t) refl (sym (slice_get-map (table_part version old saved) (numbers_below (length old.tables)) t) ∙ e);
+  }
+    where
+      by : (o : Option ℕ) → slice_get (numbers_below (length old.tables)) t ≡ o → option_map (table_part version old saved) (slice_get (numbers_below (length old.tables)) t) ≡ Some table
+          → table_part version old saved t ≡ table
+      by None at h = absurd (none-some table (sym (ap (option_map (table_part version old saved)) at) ∙ h))
+      by (Some x) at h =
+          ap (table_part version old saved) (sym (below_at (length old.tables) t x at))
+          ∙ same_Some (table_part version old saved x) table (sym (ap (option_map (table_part version old saved)) at) ∙ h)
+
+  says_stream : SaysStream version new (under_plan new saved) (stream_part version old saved)
   says_stream = record {
-    sound = sound;
-    shard = refl;
-    count = length-map (numbers_below (length plan.tables)) (table_part plan saved) ∙ below_long (length plan.tables);
-    each_table = λ t table e. subst (SaysTable plan saved t) (table_is t table e) (says_table t);
+    sound = sound_there;
+    shard = sym front.shard;
+    count = subst (AreSoMany version new) (sym parts_long_as) many;
+    each_table = λ t table e. let is : IsPartOfTable t table = table_is t table e in subst (SaysTable version new (under_plan new saved) t) is.is (says_table t is.inside);
+    further = λ t most. waits_behind saved.marks (length old.tables) t sound.marks sound.tables (omega (arith, most, parts_long_as));
+    bare = each (IsKeyed old) (λ row. row.0.table < length (stream_part version old saved).tables) (λ row keyed. omega (arith, keyed.table, parts_long_as)) saved.rows sound.keyed;
   }
 
 -- ---- the parts of streams
 
-part_at : (plans : List PlanValue) (saved : List SavedStream) (s : ℕ) (plan : PlanValue) (one : SavedStream) (part : StreamPartValue) → slice_get plans s ≡ Some plan → slice_get saved s ≡ Some one
-    → slice_get (stream_parts plans saved) s ≡ Some part → stream_part plan one ≡ part
-part_at [] saved s plan one part p q r = absurd (none-some plan p)
-part_at (x ∷ plans) [] s plan one part p q r = absurd (none-some one q)
-part_at (x ∷ plans) (y ∷ saved) zero plan one part p q r =
-    ap (λ (z : PlanValue). stream_part z one) (sym (same_Some x plan p)) ∙ ap (stream_part x) (sym (same_Some y one q)) ∙ same_Some (stream_part x y) part r
-part_at (x ∷ plans) (y ∷ saved) (suc s) plan one part p q r = part_at plans saved s plan one part p q r
+-- a part, and what it is of
+record IsStreamPart (version : Version) (plans : List PlanValue) (saved : List SavedStream) (s : ℕ) (part : StreamPartValue) : Type 0 where
+  plan : PlanValue
+  planned : slice_get plans s ≡ Some plan
+  one : SavedStream
+  kept : slice_get saved s ≡ Some one
+  is : stream_part version plan one ≡ part
 
-parts_long : (plans : List PlanValue) (saved : List SavedStream) → length saved ≡ length plans → length (stream_parts plans saved) ≡ length plans
-parts_long [] saved e = refl
-parts_long (x ∷ plans) [] e = let clash : 0 ≡ suc (length plans) = e in absurd (omega (arith, clash))
-parts_long (x ∷ plans) (y ∷ saved) e = let rest : suc (length saved) ≡ suc (length plans) = e in ap suc (parts_long plans saved (omega (arith, rest)))
+part_at : (version : Version) (plans : List PlanValue) (saved : List SavedStream) (s : ℕ) (part : StreamPartValue) → slice_get (stream_parts version plans saved) s ≡ Some part → IsStreamPart version plans saved s part
+part_at version [] saved s part r = absurd (none-some part r)
+part_at version (x ∷ plans) [] s part r = absurd (none-some part r)
+part_at version (x ∷ plans) (y ∷ saved) zero part r = record { plan = x; planned = refl; one = y; kept = refl; is = same_Some (stream_part version x y) part r }
+part_at version (x ∷ plans) (y ∷ saved) (suc s) part r =
+    let rest : IsStreamPart version plans saved s part = part_at version plans saved s part r in
+    record { plan = rest.plan; planned = rest.planned; one = rest.one; kept = rest.kept; is = rest.is }
 
-all_sound : (plans : List PlanValue) (saved : List SavedStream) → ((s : ℕ) (plan : PlanValue) (one : SavedStream) → slice_get plans s ≡ Some plan → slice_get saved s ≡ Some one → IsSoundStream (stream_part plan one))
-    → AllByRecursion IsSoundStream (stream_parts plans saved)
-all_sound [] saved h = tt
-all_sound (x ∷ plans) [] h = tt
-all_sound (x ∷ plans) (y ∷ saved) h = (h 0 x y refl refl, all_sound plans saved (λ s plan one p q. h (suc s) plan one p q))
+parts_long : (version : Version) (plans : List PlanValue) (saved : List SavedStream) → length saved ≡ length plans → length (stream_parts version plans saved) ≡ length plans
+parts_long version [] saved e = refl
+parts_long version (x ∷ plans) [] e = let clash : 0 ≡ suc (length plans) = e in absurd (omega (arith, clash))
+parts_long version (x ∷ plans) (y ∷ saved) e = let rest : suc (length saved) ≡ suc (length plans) = e in ap suc (parts_long version plans saved (omega (arith, rest)))
+
+all_sound : (version : Version) (plans : List PlanValue) (saved : List SavedStream)
+    → ((s : ℕ) (plan : PlanValue) (one : SavedStream) → slice_get plans s ≡ Some plan → slice_get saved s ≡ Some one → IsSoundStream (stream_part version plan one))
+    → AllByRecursion IsSoundStream (stream_parts version plans saved)
+all_sound version [] saved h = tt
+all_sound version (x ∷ plans) [] h = tt
+all_sound version (x ∷ plans) (y ∷ saved) h = (h 0 x y refl refl, all_sound version plans saved (λ s plan one p q. h (suc s) plan one p q))
+
+-- ---- what is kept, under other plans
+
+-- what is kept of a stream under its new plan, and what was kept of it
+record IsUnder (plans : List PlanValue) (saved : List SavedStream) (s : ℕ) (one : SavedStream) : Type 0 where
+  plan : PlanValue
+  planned : slice_get plans s ≡ Some plan
+  old : SavedStream
+  kept : slice_get saved s ≡ Some old
+  is : under_plan plan old ≡ one
+
+under_at : (plans : List PlanValue) (saved : List SavedStream) (s : ℕ) (one : SavedStream) → slice_get (under_plans plans saved) s ≡ Some one → IsUnder plans saved s one
+under_at [] saved s one e = absurd (none-some one e)
+under_at (x ∷ plans) [] s one e = absurd (none-some one e)
+under_at (x ∷ plans) (y ∷ saved) zero one e = record { plan = x; planned = refl; old = y; kept = refl; is = same_Some (under_plan x y) one e }
+under_at (x ∷ plans) (y ∷ saved) (suc s) one e =
+    let rest : IsUnder plans saved s one = under_at plans saved s one e in
+    record { plan = rest.plan; planned = rest.planned; old = rest.old; kept = rest.kept; is = rest.is }
+
+pub under_long : (plans : List PlanValue) (saved : List SavedStream) → length saved ≡ length plans → length (under_plans plans saved) ≡ length plans
+under_long [] saved e = refl
+under_long (x ∷ plans) [] e = let clash : 0 ≡ suc (length plans) = e in absurd (omega (arith, clash))
+under_long (x ∷ plans) (y ∷ saved) e = let rest : suc (length saved) ≡ suc (length plans) = e in ap suc (under_long plans saved (omega (arith, rest)))
+
+-- under their own plans nothing changes
+under_own : (plans : List PlanValue) (saved : List SavedStream) → length saved ≡ length plans
+    → ((s : ℕ) (plan : PlanValue) (one : SavedStream) → slice_get plans s ≡ Some plan → slice_get saved s ≡ Some one → one.marks.tables ≡ length plan.tables)
+    → under_plans plans saved ≡ saved
+under_own [] [] e h = refl
+under_own [] (y ∷ saved) e h = let clash : suc (length saved) ≡ 0 = e in absurd (omega (arith, clash))
+under_own (x ∷ plans) [] e h = let clash : 0 ≡ suc (length plans) = e in absurd (omega (arith, clash))
+under_own (x ∷ plans) (y ∷ saved) e h =
+    let rest : suc (length saved) ≡ suc (length plans) = e in
+    let tables : y.marks.tables ≡ length x.tables = h 0 x y refl refl in
+    let later : under_plans plans saved ≡ saved = under_own plans saved (omega (arith, rest)) (λ s plan one p q. h (suc s) plan one p q) in
+    let of_tables : ℕ → SavedStream = λ n. record { position = y.position; marks = marks_of_more n y.marks; rows = y.rows } in
+    let one : under_plan x y ≡ y = ap of_tables (sym tables) in
+    λ i. one i ∷ later i
 
 -- ---- the board
 
@@ -254,13 +397,17 @@ module _ (ties : Ties) (board : Meaning) (plans : AllByRecursion IsPlan (plans_o
         canonical = position_is state sound;
       }
 
+  planned_at : (s : ℕ) (state : State) (plan : PlanValue) → slice_get board.streams s ≡ Some state → slice_get (plans_of board) s ≡ Some plan → state.plan ≡ plan
+  planned_at s state plan here p =
+      same_Some state.plan plan (sym (slice_get-map (λ (state : State). state.plan) board.streams s ∙ ap (option_map (λ (state : State). state.plan)) here) ∙ p)
+
   known_at : (s : ℕ) (plan : PlanValue) (one : SavedStream) → slice_get (plans_of board) s ≡ Some plan → slice_get (saved_of board) s ≡ Some one → Known plan one
   known_at s plan one p q =
       let there : (state : State) × (slice_get board.streams s ≡ Some state) = at_same_place (plans_of board) board.streams s plan (length-map board.streams (λ (state : State). state.plan)) p in
       let none_more : 0 + s ≡ s = omega arith in
       let kept : saved_stream s there.0 board.rows ≡ one
       = ap (λ n. saved_stream n there.0 board.rows) (sym none_more) ∙ same_Some (saved_stream (0 + s) there.0 board.rows) one (sym (saved_at 0 board.streams board.rows s there.0 there.1) ∙ q) in
-      let planned : there.0.plan ≡ plan = same_Some there.0.plan plan (sym (slice_get-map (λ (state : State). state.plan) board.streams s ∙ ap (option_map (λ (state : State). state.plan)) there.1) ∙ p) in
+      let planned : there.0.plan ≡ plan = planned_at s there.0 plan there.1 p in
       subst (λ (x : PlanValue). Known x one) planned (subst (Known there.0.plan) kept (of_state s there.0 there.1))
 
   -- each of its plans is well-formed, and each stream within the limits
@@ -270,18 +417,88 @@ module _ (ties : Ties) (board : Meaning) (plans : AllByRecursion IsPlan (plans_o
   within_at : (s : ℕ) (one : SavedStream) → slice_get (saved_of board) s ≡ Some one → IsWithin one
   within_at s one q = all-at IsWithin (saved_of board) s one within q
 
-  sound_at : (s : ℕ) (plan : PlanValue) (one : SavedStream) → slice_get (plans_of board) s ≡ Some plan → slice_get (saved_of board) s ≡ Some one → IsSoundStream (stream_part plan one)
-  sound_at s plan one p q = let known : Known plan one = known_at s plan one p q in sound_stream plan (well_at s plan p) one (within_at s one q) known.sound.marks known.canonical
+  sound_at : (version : Version) (s : ℕ) (plan : PlanValue) (one : SavedStream) → slice_get (plans_of board) s ≡ Some plan → slice_get (saved_of board) s ≡ Some one → IsSoundStream (stream_part version plan one)
+  sound_at version s plan one p q = let known : Known plan one = known_at s plan one p q in sound_stream version plan (well_at s plan p) one (within_at s one q) known.sound.marks known.canonical
 
-  says_at : ReadsBack → (s : ℕ) (plan : PlanValue) (one : SavedStream) → slice_get (plans_of board) s ≡ Some plan → slice_get (saved_of board) s ≡ Some one → SaysStream plan one (stream_part plan one)
-  says_at reads s plan one p q = let known : Known plan one = known_at s plan one p q in says_stream reads plan one known.sound (within_at s one q) known.canonical
+  -- all streams have as many tables
+  one_count : (s t : ℕ) (x y : PlanValue) → slice_get (plans_of board) s ≡ Some x → slice_get (plans_of board) t ≡ Some y → length x.tables ≡ length y.tables
+  one_count s t x y p q =
+      let one : (state : State) × (slice_get board.streams s ≡ Some state) = at_same_place (plans_of board) board.streams s x (length-map board.streams (λ (state : State). state.plan)) p in
+      let other : (state : State) × (slice_get board.streams t ≡ Some state) = at_same_place (plans_of board) board.streams t y (length-map board.streams (λ (state : State). state.plan)) q in
+      ap (λ (plan : PlanValue). length plan.tables) (sym (planned_at s one.0 x one.1 p))
+      ∙ ap (λ (tables : List TableValue). length tables) (lawful.tables s t one.0 other.0 one.1 other.1)
+      ∙ ap (λ (plan : PlanValue). length plan.tables) (planned_at t other.0 y other.1 q)
+
+  many_of_two : HaveAsMany Two (stream_parts Two (plans_of board) (saved_of board))
+  many_of_two s t one other p q =
+      let x : IsStreamPart Two (plans_of board) (saved_of board) s one = part_at Two (plans_of board) (saved_of board) s one p in
+      let y : IsStreamPart Two (plans_of board) (saved_of board) t other = part_at Two (plans_of board) (saved_of board) t other q in
+      ap (λ (part : StreamPartValue). length part.tables) (sym x.is)
+      ∙ tables_long x.plan x.one
+      ∙ one_count s t x.plan y.plan x.planned y.planned
+      ∙ sym (tables_long y.plan y.one)
+      ∙ ap (λ (part : StreamPartValue). length part.tables) y.is
+    where
+      tables_long : (plan : PlanValue) (one : SavedStream) → length (stream_part Two plan one).tables ≡ length plan.tables
+      tables_long plan one = length-map (numbers_below (length plan.tables)) (table_part Two plan one) ∙ below_long (length plan.tables)
+
+  as_many : (version : Version) → HaveAsMany version (stream_parts version (plans_of board) (saved_of board))
+  as_many One = tt
+  as_many Two = many_of_two
+
+  -- under plans that begin with those of the board its checkpoint says what is kept of it
+  module _ (reads : ReadsBack) (version : Version) (news : List PlanValue) (count : length news ≡ length (plans_of board))
+      (front : (s : ℕ) (old new : PlanValue) → slice_get (plans_of board) s ≡ Some old → slice_get news s ≡ Some new → IsFront old new)
+      (many : (s : ℕ) (old new : PlanValue) → slice_get (plans_of board) s ≡ Some old → slice_get news s ≡ Some new → AreSoMany version new (length old.tables)) where
+    says_at : (s : ℕ) (plan : PlanValue) (one : SavedStream) (part : StreamPartValue) → slice_get news s ≡ Some plan → slice_get (under_plans news (saved_of board)) s ≡ Some one
+        → slice_get (stream_parts version (plans_of board) (saved_of board)) s ≡ Some part → SaysStream version plan one part
+    says_at s plan one part p q r =
+        let of : IsStreamPart version (plans_of board) (saved_of board) s part = part_at version (plans_of board) (saved_of board) s part r in
+        let under : IsUnder news (saved_of board) s one = under_at news (saved_of board) s one q in
+        let known : Known of.plan of.one = known_at s of.plan of.one of.planned of.kept in
+        let says : SaysStream version plan (under_plan plan of.one) (stream_part version of.plan of.one)
+        = says_stream reads version of.plan plan (front s of.plan plan of.planned p) (many s of.plan plan of.planned p) of.one known.sound (within_at s of.one of.kept) known.canonical in
+        let same_plan : under.plan ≡ plan = same_Some under.plan plan (sym under.planned ∙ p) in
+        let same_kept : under.old ≡ of.one = same_Some under.old of.one (sym under.kept ∙ of.kept) in
+        let is : under_plan plan of.one ≡ one = ap (under_plan plan) (sym same_kept) ∙ ap (λ (x : PlanValue). under_plan x under.old) (sym same_plan) ∙ under.is in
+        subst (SaysStream version plan one) of.is (subst (λ (x : SavedStream). SaysStream version plan x (stream_part version of.plan of.one)) is says)
+
+    says_all : StreamPartsAreReadAgain → length (checkpoint_in version board) < 2 ^ 64 → IsCheckpoint news (checkpoint_in version board) (under_plans news (saved_of board))
+    says_all parts_again short = record {
+      version = version;
+      parts = stream_parts version (plans_of board) (saved_of board);
+      are = checkpoints_read_again parts_again version (stream_parts version (plans_of board) (saved_of board)) (all_sound version (plans_of board) (saved_of board) (sound_at version)) short;
+      count = parts_long version (plans_of board) (saved_of board) long ∙ sym count;
+      same_count = under_long news (saved_of board) (long ∙ sym count);
+      as_many = as_many version;
+      each_stream = says_at;
+    }
+
+-- all tables of a plan
+all_tables : (version : Version) (plan : PlanValue) → IsPlan plan → AreSoMany version plan (length plan.tables)
+all_tables One plan is = refl
+all_tables Two plan is = (is.tables.count.0, omega arith)
 
 pub saved_boards : Ties → StreamPartsAreReadAgain → ReadsBack → SavedBoardsAreSaid
-saved_boards ties parts_again reads board plans lawful within short = record {
-  parts = stream_parts (plans_of board) (saved_of board);
-  are = checkpoints_read_again parts_again (stream_parts (plans_of board) (saved_of board)) (all_sound (plans_of board) (saved_of board) (sound_at ties board plans lawful within)) short;
-  count = parts_long (plans_of board) (saved_of board) (long ties board plans lawful within);
-  same_count = long ties board plans lawful within;
-  each_stream = λ s plan one part p q r.
-      subst (SaysStream plan one) (part_at (plans_of board) (saved_of board) s plan one part p q r) (says_at ties board plans lawful within reads s plan one p q);
+saved_boards ties parts_again reads version board plans lawful within short =
+    subst (IsCheckpoint (plans_of board) (checkpoint_in version board))
+    (under_own (plans_of board) (saved_of board) (long ties board plans lawful within) (λ s plan one p q. (known_at ties board plans lawful within s plan one p q).sound.tables))
+    (says_all ties board plans lawful within reads version (plans_of board) refl
+    (λ s old new p q. subst (IsFront old) (same_Some old new (sym p ∙ q)) (front_itself old))
+    (λ s old new p q. subst (λ (plan : PlanValue). AreSoMany version plan (length old.tables)) (same_Some old new (sym p ∙ q)) (all_tables version old (well_at ties board plans lawful within s old p)))
+    parts_again short)
+
+-- the tables of a plan stand in front of those of one that extends it
+front_extended : (old new : PlanValue) → IsExtended old new → IsFront old new
+front_extended old new more = record {
+  shard = more.shard;
+  fewer = omega (arith, more.more);
+  tables = λ t less. ap (λ (tables : List TableValue). slice_get tables t) (sym more.tables) ∙ get_in_front (length old.tables) new.tables t less;
 }
+
+pub saved_boards_of_more : Ties → StreamPartsAreReadAgain → ReadsBack → SavedBoardsAreSaidOfMore
+saved_boards_of_more ties parts_again reads board news plans lawful within short are =
+    says_all ties board plans lawful within reads Two news are.count
+    (λ s old new p q. front_extended old new (are.each_plan s old new p q))
+    (λ s old new p q. let more : IsExtended old new = are.each_plan s old new p q in ((well_at ties board plans lawful within s old p).tables.count.0, omega (arith, more.more)))
+    parts_again short

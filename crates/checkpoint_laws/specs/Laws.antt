@@ -15,8 +15,9 @@ use Rattle.board_laws.specs.Event.{restart}
 use Rattle.board_laws.specs.Runs.{sound_groups}
 use Rattle.board_laws.specs.StateAfter.{state_after}
 use Rattle.join_laws.specs.Compatible.{plans_of}
+use Rattle.checkpoint_laws.specs.declared.version.Version.{Version}
 use Rattle.checkpoint_laws.specs.Saved.{SavedStream, saved_of}
-use Rattle.checkpoint_laws.specs.Written.{position_text, written_checkpoint, checkpoint_of}
+use Rattle.checkpoint_laws.specs.Written.{position_text, written_checkpoint, checkpoint_in}
 use Rattle.checkpoint_laws.specs.Said as said
 use Rattle.checkpoint_laws.specs.Said.{IsCheckpoint}
 use Rattle.checkpoint_laws.specs.Resumed.{IsResumedBoard, AtEachPlace}
@@ -24,10 +25,11 @@ use Rattle.checkpoint_laws.specs.Refused.{plans_of_feeds}
 
 -- ---- parts
 
--- parts within the limits that are written are read as these parts
+-- parts within the limits that are written, in either version, are read as these parts
 abbrev pub CheckpointsAreReadAgain : Type 0
 CheckpointsAreReadAgain =
-    (parts : List StreamPartValue) → AllByRecursion IsSoundStream parts → length (written_checkpoint parts) < 2 ^ 64 → said.AreParts (written_checkpoint parts) parts
+    (version : Version) (parts : List StreamPartValue) → AllByRecursion IsSoundStream parts → length (written_checkpoint version parts) < 2 ^ 64
+    → said.AreParts version (written_checkpoint version parts) parts
 
 -- ---- what is said
 
@@ -47,12 +49,12 @@ pub record IsWithin (saved : SavedStream) : Type 0 where
 abbrev pub AreWithin : Meaning → Type 0
 AreWithin board = AllByRecursion IsWithin (saved_of board)
 
--- what is kept of a board within the limits, under well-formed plans, is what its checkpoint says, whose bytes can be
--- counted
+-- what is kept of a board within the limits, under well-formed plans, is what its checkpoint says in either version,
+-- whose bytes can be counted
 abbrev pub SavedBoardsAreSaid : Type 0
 SavedBoardsAreSaid =
-    (board : Meaning) → AllByRecursion IsPlan (plans_of board) → IsLawful board → AreWithin board → length (checkpoint_of board) < 2 ^ 64
-    → IsCheckpoint (plans_of board) (checkpoint_of board) (saved_of board)
+    (version : Version) (board : Meaning) → AllByRecursion IsPlan (plans_of board) → IsLawful board → AreWithin board → length (checkpoint_in version board) < 2 ^ 64
+    → IsCheckpoint (plans_of board) (checkpoint_in version board) (saved_of board)
 
 -- ---- the resumed board
 

@@ -5,3 +5,4 @@ pub mod Resumed
 pub mod Faults
 pub mod Refused
 pub mod Laws
+pub mod Added

@@ -1,7 +1,8 @@
--- How a checkpoint is written: eight bytes, then of each stream a part behind its length (this profile).
+-- How a checkpoint is written: eight bytes, then of each stream a part behind its length (this profile). What
+-- `save` writes is version 2; version 1 is the same without the tables' names.
 use Rattle.std.specs.Prelude.{ℕ, zero, suc, ◌==◌, List, [], ◌∷◌, ◌++◌, map, length, Option, Some, None, codes, slice_get}
 use Rattle.std.specs.List.{filter, filter_map, flat_map}
-use Rattle.std.specs.Option.{option_map}
+use Rattle.std.specs.Option.{option_map, option_map_or}
 use Rattle.filter_rule.specs.PlanTable.{ColumnValue}
 use Rattle.filter_rule.specs.PlanValue.{PlanValue, columns_of, key_columns_of}
 use Rattle.gtid_set.specs.Printed.{printed_position}
@@ -16,6 +17,8 @@ use Rattle.vevent.specs.EventValue.{FieldValue}
 use Rattle.vevent.specs.WrittenPart.{written_stream_part}
 use Rattle.board_laws.specs.Meaning.{Meaning}
 use Rattle.join_laws.specs.Compatible.{plans_of}
+use Rattle.checkpoint_laws.specs.declared.version.Version.{Version}
+use Rattle.checkpoint_laws.specs.declared.version.Version.TheVariants.{One, Two}
 use Rattle.checkpoint_laws.specs.Saved.{SavedStream, saved_of}
 
 -- ---- a table's part
@@ -31,6 +34,15 @@ fields_of_table plan t = map field_of (columns_of plan t)
 -- the columns of its key, in key order
 abbrev pub key_fields_of : PlanValue → ℕ → List FieldValue
 key_fields_of plan t = filter_map (λ place. option_map field_of (slice_get (columns_of plan t) place)) (key_columns_of plan t)
+
+-- the name of a table
+abbrev pub name_of_table : PlanValue → ℕ → List ℕ
+name_of_table plan t = option_map_or (λ table. table.name) (slice_get plan.tables t) []
+
+-- the name as a part has it
+abbrev pub name_in : Version → PlanValue → ℕ → List ℕ
+name_in One plan t = []
+name_in Two plan t = name_of_table plan t
 
 -- a position as it is written
 abbrev pub position_text : Position → List ℕ
@@ -53,8 +65,8 @@ abbrev pub rows_of_table : ℕ → ImageRows → ImageRows
 rows_of_table t rows = filter (λ row. row.0.table == t) rows
 
 -- the part of table t
-abbrev pub table_part : PlanValue → SavedStream → ℕ → TablePartValue
-table_part plan saved t = record {
+abbrev pub table_part : Version → PlanValue → SavedStream → ℕ → TablePartValue
+table_part version plan saved t = record {
   mark = number_of_mark (mark_of saved.marks t);
   answer = record {
     fields = fields_of_table plan t;
@@ -63,7 +75,7 @@ table_part plan saved t = record {
     rows = map (λ row. row.1) (rows_of_table t saved.rows);
     lastpk = last_row_of (mark_of saved.marks t);
   };
-  name = [];
+  name = name_in version plan t;
 }
 
 -- ---- a stream's part
@@ -74,24 +86,25 @@ numbers_below zero = []
 numbers_below (suc n) = numbers_below n ++ n ∷ []
 
 -- the parts of the first n tables
-abbrev pub table_parts : PlanValue → SavedStream → ℕ → List TablePartValue
-table_parts plan saved n = map (table_part plan saved) (numbers_below n)
+abbrev pub table_parts : Version → PlanValue → SavedStream → ℕ → List TablePartValue
+table_parts version plan saved n = map (table_part version plan saved) (numbers_below n)
 
 -- a stream's part: its shard, and a part for each table in order
-abbrev pub stream_part : PlanValue → SavedStream → StreamPartValue
-stream_part plan saved = record { shard = plan.shard; tables = table_parts plan saved (length plan.tables) }
+abbrev pub stream_part : Version → PlanValue → SavedStream → StreamPartValue
+stream_part version plan saved = record { shard = plan.shard; tables = table_parts version plan saved (length plan.tables) }
 
 -- the parts of streams, each by its plan
-abbrev pub stream_parts : List PlanValue → List SavedStream → List StreamPartValue
-stream_parts [] saved = []
-stream_parts (plan ∷ plans) [] = []
-stream_parts (plan ∷ plans) (one ∷ saved) = stream_part plan one ∷ stream_parts plans saved
+abbrev pub stream_parts : Version → List PlanValue → List SavedStream → List StreamPartValue
+stream_parts version [] saved = []
+stream_parts version (plan ∷ plans) [] = []
+stream_parts version (plan ∷ plans) (one ∷ saved) = stream_part version plan one ∷ stream_parts version plans saved
 
 -- ---- the checkpoint
 
--- the bytes with which every checkpoint begins
-abbrev pub opening : List ℕ
-opening = codes "VREPLCP1"
+-- the bytes with which every checkpoint of a version begins
+abbrev pub opening : Version → List ℕ
+opening One = codes "VREPLCP1"
+opening Two = codes "VREPLCP2"
 
 -- a message behind its length
 abbrev pub framed : List ℕ → List ℕ
@@ -102,9 +115,13 @@ abbrev pub written_parts : List StreamPartValue → List ℕ
 written_parts parts = flat_map (λ part. framed (written_stream_part part)) parts
 
 -- a checkpoint of these parts
-abbrev pub written_checkpoint : List StreamPartValue → List ℕ
-written_checkpoint parts = opening ++ written_parts parts
+abbrev pub written_checkpoint : Version → List StreamPartValue → List ℕ
+written_checkpoint version parts = opening version ++ written_parts parts
+
+-- the checkpoint of a board in a version
+abbrev pub checkpoint_in : Version → Meaning → List ℕ
+checkpoint_in version board = written_checkpoint version (stream_parts version (plans_of board) (saved_of board))
 
 -- the checkpoint of a board
 abbrev pub checkpoint_of : Meaning → List ℕ
-checkpoint_of board = written_checkpoint (stream_parts (plans_of board) (saved_of board))
+checkpoint_of board = checkpoint_in Two board

@@ -1,6 +1,7 @@
 //! Laws of checkpoints, each the contract of a function without a body: they hold of the values that
 //! contracts see boards as.
 
+ghost use Rattle.checkpoint_laws.specs.Added.{SavedBoardsAreSaidOfMore, ExtendedBoardsAreResumed};
 ghost use Rattle.checkpoint_laws.specs.Laws.{CheckpointsAreReadAgain, CheckpointsSayOneThing, ResumedBoardsAreLawful, RestartedBoardsAreResumed, SavedBoardsAreSaid};
 
 use gtid_set::printed_text_reads_back;
@@ -43,6 +44,24 @@ pub fn resumed_boards_are_lawful()
 /// each stream, and no other.
 pub fn restarted_boards_are_resumed()
     ensures { RestartedBoardsAreResumed }
+{
+    keys_tie_where_they_are_equal();
+}
+
+/// What is kept of a board within the limits is what its checkpoint says under plans with tables appended, and
+/// that these wait.
+pub fn saved_boards_are_said_of_more()
+    ensures { SavedBoardsAreSaidOfMore }
+{
+    stream_parts_are_read_again();
+    printed_text_reads_back();
+    keys_tie_where_they_are_equal();
+}
+
+/// Feeds that go on from a board, under plans with tables appended, and its checkpoint make the board to which
+/// the tables are added, and no other.
+pub fn extended_boards_are_resumed()
+    ensures { ExtendedBoardsAreResumed }
 {
     keys_tie_where_they_are_equal();
 }
