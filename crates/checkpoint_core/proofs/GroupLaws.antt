@@ -6,7 +6,6 @@ use Rattle.std.specs.Option.{option_map}
 use Rattle.std.specs.Prelude.{IfSome}
 use Rattle.std.specs.Result.{result_ok, ok_prefix}
 use Rattle.source_feed.specs.declared.fault.FeedFault.{FeedFault}
-use Rattle.source_feed.specs.declared.fault.FeedFault.TheVariants.{NoGroup}
 use Rattle.source_feed.specs.GroupValue.{Position}
 use Rattle.source_feed.specs.Planned.{PlannedGroupValue, FeedValue}
 use Rattle.source_feed.specs.Touches.{PreparedValue, group_at, prepared, prepared_if, prepared_at}
@@ -72,7 +71,7 @@ front_more {A} {E} (Ok y ∷ xs) (suc i) x fits e =
     (omega (arith, rest.0), ap (λ (zs : List A). y ∷ zs) rest.1)
 
 -- an error behind them is the first
-front_ends : {A E : Type 0} (xs : List (Result A E)) (i : ℕ) (d : E) → i ≤ length (ok_prefix xs) → slice_get xs i ≡ Some (Err d) → length (ok_prefix xs) ≡ i
+pub front_ends : {A E : Type 0} (xs : List (Result A E)) (i : ℕ) (d : E) → i ≤ length (ok_prefix xs) → slice_get xs i ≡ Some (Err d) → length (ok_prefix xs) ≡ i
 front_ends [] i d fits e = absurd (none-some (Err d) e)
 front_ends (Err c ∷ xs) zero d fits e = refl
 front_ends (Err c ∷ xs) (suc i) d fits e = absurd (omega (arith, fits))
@@ -82,7 +81,7 @@ front_ends (Ok y ∷ xs) (suc i) d fits e =
     ap suc (front_ends xs i d (omega (arith, less)) e)
 
 -- what is prepared at a number is one of the feed's groups
-there_at_number : (feed : FeedValue) (i : ℕ) (r : Result PreparedValue FeedFault) → i < length feed.groups → prepared_at feed (i + 1) ≡ r → slice_get (map (prepared feed.plan) feed.groups) i ≡ Some r
+pub there_at_number : (feed : FeedValue) (i : ℕ) (r : Result PreparedValue FeedFault) → i < length feed.groups → prepared_at feed (i + 1) ≡ r → slice_get (map (prepared feed.plan) feed.groups) i ≡ Some r
 there_at_number feed i r inside e = by (slice_get feed.groups i) refl
   where
     next : i + 1 ≡ suc i

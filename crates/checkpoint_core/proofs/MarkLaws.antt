@@ -87,6 +87,14 @@ open_at m t at = elim (cases_lt m.done t) [
       current_at m t is ∙ ap current_mark (at.unmarked (sym is)))
 ]
 
+-- and so of every table behind it
+open_behind : (m : Marks) (t u : ℕ) → IsOpenAt t m → t ≤ u → mark_of m u ≡ waiting
+open_behind m t u at most = open_at m u (record {
+  are = at.are;
+  within = omega (arith, at.within, most);
+  unmarked = λ e. at.unmarked (omega (arith, e, at.within, most));
+})
+
 -- a table waits
 pub more_waiting : (t : ℕ) (m : Marks) → IsOpenAt t m → IsMarkedMore t waiting m m
 more_waiting t m at =
@@ -146,6 +154,7 @@ past_open t m key inside at most table =
 
 pub none_yet : (plan : PlanValue) (tables : List TablePartValue) (m : Marks) → m ≡ record { tables = length plan.tables; done = 0; upto = None } → AreMarksBefore plan tables 0 m
 none_yet plan tables m is = record {
+  reached = omega arith;
   count = ap (λ (m : Marks). m.tables) is;
   upto = subst (λ (m : Marks). IfSome m.upto (IsTableKey plan)) (sym is) tt;
   behind = subst (IsOpenAt 0) (sym is) (record { are = record { within = omega arith; current = tt }; within = omega arith; unmarked = λ e. refl });
@@ -170,6 +179,7 @@ pub one_more : (plan : PlanValue) (tables : List TablePartValue) (t : ℕ) (part
     → ((last : KeyValue) → mark ≡ up_to last → IsTableKey plan last)
     → AreMarksBefore plan tables t old → IsMarkedMore t mark old new → AreMarksBefore plan tables (t + 1) new
 one_more plan tables t part mark old new there says keyed before more = record {
+  reached = let inside : t < length tables = slice_get_within tables t part there in omega (arith, inside);
   count = more.count ∙ before.count;
   upto = key_more plan mark old.upto new.upto before.upto keyed more.key;
   behind = more.behind;
@@ -184,12 +194,13 @@ one_more plan tables t part mark old new there says keyed before more = record {
   ];
 }
 
-pub all_marked : (plan : PlanValue) (tables : List TablePartValue) (t : ℕ) (m : Marks) → ((i : ℕ) (part : TablePartValue) → slice_get tables i ≡ Some part → i < t) → AreMarksBefore plan tables t m → AreMarksOf plan tables m
-all_marked plan tables t m inside before = record {
+pub all_marked : (plan : PlanValue) (tables : List TablePartValue) (t : ℕ) (m : Marks) → length tables ≤ t → AreMarksBefore plan tables t m → AreMarksOf plan tables m
+all_marked plan tables t m all before = record {
   count = before.count;
   are = before.behind.are;
   upto = before.upto;
-  each_table = λ i part there. before.each_table i part there (inside i part there);
+  each_table = λ i part there. before.each_table i part there (let inside : i < length tables = slice_get_within tables i part there in omega (arith, inside, all));
+  further = λ u most. open_behind m t u before.behind (omega (arith, most, before.reached));
 }
 
 -- ---- marks out of order

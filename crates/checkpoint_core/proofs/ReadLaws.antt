@@ -1,5 +1,5 @@
 -- What the parts of a checkpoint say of streams, put together of what was read of them.
-use Rattle.std.proofs.Common.{◌≡◌, ◌≢◌, ℕ, suc, ◌+◌, ◌<◌, ◌≤◌, inl, inr, List, [], ◌∷◌, ◌++◌, length, map, Option, Some, None, Result, Ok, Err, slice_get, append_assoc, append-nil, refl, sym, ap, subst, ◌∙◌, arith}
+use Rattle.std.proofs.Common.{◌≡◌, ◌≢◌, ℕ, suc, ◌+◌, ◌<◌, ◌≤◌, inl, inr, List, [], ◌∷◌, ◌++◌, length, map, Some, None, Result, Ok, slice_get, append_assoc, append-nil, sym, ap, subst, ◌∙◌, arith}
 use Rattle.std.proofs.lemmas.List.{append_cancel_left, map-append, length-map, length-append}
 use Rattle.std.proofs.lemmas.Option.{same_Some, none-some, slice_get_within}
 use Rattle.std.specs.Result.{result_ok}
@@ -11,13 +11,15 @@ use Rattle.source_feed.specs.GroupValue.{Position}
 use Rattle.vevent.specs.declared.fault.EventFault.{EventFault}
 use Rattle.vevent.specs.CheckpointPart.{TablePartValue, StreamPartValue, stream_part_at}
 use Rattle.board_laws.proofs.Lists.{slice_get-push}
+use Rattle.checkpoint_laws.specs.declared.version.Version.{Version}
+use Rattle.checkpoint_laws.specs.declared.version.Version.TheVariants.{One, Two}
 use Rattle.checkpoint_laws.specs.Saved.{SavedStream}
-use Rattle.checkpoint_laws.specs.Said.{AreParts, SaysTable, SaysStream, IsCheckpoint}
+use Rattle.checkpoint_laws.specs.Said.{AreParts, IsNamed, SaysTable, AreSoMany, SaysStream, HaveAsMany, IsCheckpoint}
 use Rattle.checkpoint_laws.specs.Written.{opening}
-use Rattle.checkpoint_laws.proofs.OneThing.{same_parts}
+use Rattle.checkpoint_laws.proofs.OneThing.{one_version, same_parts}
 use Rattle.checkpoint_laws.proofs.ResumedLaws.{at_inside}
-use Rattle.checkpoint_core.specs.Private.Reading.{OfEachTable, IsPartOf, AreFramed, AreSoManyParts, IsAtPosition, HasHead, SaysMark, AreMarksOf, AreRows, rows_from, AreTablesOf, SayTables, SayStreams}
-use Rattle.checkpoint_core.proofs.RowLaws.{rows_said, rows_only}
+use Rattle.checkpoint_core.specs.Private.Reading.{OfEachTable, IsPartOf, AreFramed, AreSoManyParts, IsAtPosition, HasHead, SaysMark, AreMarksOf, AreRows, rows_from, SayTables, SayStreams}
+use Rattle.checkpoint_core.proofs.RowLaws.{rows_said, rows_bare, rows_only}
 
 -- ---- parts
 
@@ -107,30 +109,39 @@ module _ (bytes : List ℕ) (count : ℕ) (frames : Reading (List ℕ) FrameFaul
           tail_of [] = []
           tail_of (r ∷ rs) = rs
 
-pub parts_there : (bytes rest : List ℕ) (count : ℕ) (parts : List StreamPartValue) → bytes ≡ opening ++ rest → AreFramed rest count parts → AreSoManyParts bytes count parts
-parts_there bytes rest count parts opened framed = record {
+pub parts_there : (version : Version) (bytes rest : List ℕ) (count : ℕ) (parts : List StreamPartValue) → bytes ≡ opening version ++ rest → AreFramed rest count parts → AreSoManyParts version bytes count parts
+parts_there version bytes rest count parts opened framed = record {
   are = record { rest = rest; opened = opened; messages = framed.messages; framed = framed.framed; read = framed.read };
   long = framed.long;
 }
 
-pub parts_framed : (bytes rest : List ℕ) (count : ℕ) (parts : List StreamPartValue) → bytes ≡ opening ++ rest → AreSoManyParts bytes count parts → AreFramed rest count parts
-parts_framed bytes rest count parts opened h = record {
-  messages = h.are.messages;
-  framed = ap frames_of (append_cancel_left opening rest h.are.rest (sym opened ∙ h.are.opened)) ∙ h.are.framed;
-  read = h.are.read;
-  long = h.long;
-}
+pub parts_framed : (version other : Version) (bytes rest : List ℕ) (count : ℕ) (parts : List StreamPartValue) → bytes ≡ opening version ++ rest → AreSoManyParts other bytes count parts → AreFramed rest count parts
+parts_framed version other bytes rest count parts opened h =
+    let same : other ≡ version = one_version bytes other version h.are.rest rest h.are.opened opened in
+    let also : bytes ≡ opening version ++ h.are.rest = subst (λ (v : Version). bytes ≡ opening v ++ h.are.rest) same h.are.opened in
+    record {
+      messages = h.are.messages;
+      framed = ap frames_of (append_cancel_left (opening version) rest h.are.rest (sym opened ∙ also)) ∙ h.are.framed;
+      read = h.are.read;
+      long = h.long;
+    }
+
+-- bytes that begin with neither version's first ones
+pub no_opening : (bytes : List ℕ) → ((rest : List ℕ) → ¬ (bytes ≡ opening One ++ rest)) → ((rest : List ℕ) → ¬ (bytes ≡ opening Two ++ rest)) → (found : Version × List ℕ) → ¬ (bytes ≡ opening found.0 ++ found.1)
+no_opening bytes one two (One, rest) h = one rest h
+no_opening bytes one two (Two, rest) h = two rest h
 
 -- ---- a stream
 
-pub tables_said : (plan : PlanValue) (tables : List TablePartValue) (saved : SavedStream) → OfEachTable (HasHead plan saved.position) tables → AreMarksOf plan tables saved.marks
-    → AreRows plan (rows_from 0 tables) saved.rows → SayTables plan tables saved
-tables_said plan tables saved heads marks rows = record {
+pub tables_said : (version : Version) (plan : PlanValue) (tables : List TablePartValue) (saved : SavedStream) → OfEachTable (IsNamed version plan) tables → OfEachTable (HasHead plan saved.position) tables → AreMarksOf plan tables saved.marks
+    → AreRows plan (rows_from 0 tables) saved.rows → SayTables version plan tables saved
+tables_said version plan tables saved names heads marks rows = record {
   sound = record { tables = marks.count; marks = marks.are; upto = marks.upto; rising = rows.rising; keyed = rows.keyed };
   each_table = λ t part there.
       let head : HasHead plan saved.position t part = heads t part there in
       let mark : SaysMark plan t _ part = marks.each_table t part there in
       record {
+        named = names t part there;
         mark = mark.number;
         answer = record {
           fields = head.fields;
@@ -140,27 +151,33 @@ tables_said plan tables saved heads marks rows = record {
           last = mark.last;
         };
       };
+  further = marks.further;
+  bare = rows_bare plan tables saved.rows rows;
 }
 
-module _ (plan : PlanValue) (tables : List TablePartValue) (saved : SavedStream) (says : SayTables plan tables saved) where
+module _ (version : Version) (plan : PlanValue) (tables : List TablePartValue) (saved : SavedStream) (says : SayTables version plan tables saved) where
+  pub names_of : OfEachTable (IsNamed version plan) tables
+  names_of t part there = let one : SaysTable version plan saved t part = says.each_table t part there in one.named
+
   pub heads_of : OfEachTable (HasHead plan saved.position) tables
   heads_of t part there =
-      let one : SaysTable plan saved t part = says.each_table t part there in
+      let one : SaysTable version plan saved t part = says.each_table t part there in
       record { fields = one.answer.fields; key_fields = one.answer.key_fields; stands = one.answer.position }
 
   pub position_of : OfEachTable (IsAtPosition saved.position) tables
-  position_of t part there = let one : SaysTable plan saved t part = says.each_table t part there in one.answer.position
+  position_of t part there = let one : SaysTable version plan saved t part = says.each_table t part there in one.answer.position
 
   pub marks_of : AreMarksOf plan tables saved.marks
   marks_of = record {
     count = says.sound.tables;
     are = says.sound.marks;
     upto = says.sound.upto;
-    each_table = λ t part there. let one : SaysTable plan saved t part = says.each_table t part there in record { number = one.mark; last = one.answer.last };
+    each_table = λ t part there. let one : SaysTable version plan saved t part = says.each_table t part there in record { number = one.mark; last = one.answer.last };
+    further = says.further;
   }
 
-  pub rows_of : length tables ≡ length plan.tables → AreRows plan (rows_from 0 tables) saved.rows
-  rows_of long = rows_only plan tables saved.rows long says.sound.rising says.sound.keyed (λ t part there. let one : SaysTable plan saved t part = says.each_table t part there in one.answer.rows)
+  pub rows_of : AreRows plan (rows_from 0 tables) saved.rows
+  rows_of = rows_only plan tables saved.rows says.bare says.sound.rising says.sound.keyed (λ t part there. let one : SaysTable version plan saved t part = says.each_table t part there in one.answer.rows)
 
   -- it is the position of the first table
   pub position_same : (position : Position) → 1 ≤ length tables → ((part : TablePartValue) → slice_get tables 0 ≡ Some part → IsAtPosition position 0 part) → saved.position ≡ position
@@ -172,35 +189,47 @@ module _ (plan : PlanValue) (tables : List TablePartValue) (saved : SavedStream)
   pub heads_at : (position : Position) → 1 ≤ length tables → ((part : TablePartValue) → slice_get tables 0 ≡ Some part → IsAtPosition position 0 part) → OfEachTable (HasHead plan position) tables
   heads_at position some first = subst (λ (p : Position). OfEachTable (HasHead plan p) tables) (position_same position some first) heads_of
 
-pub stream_said : (plan : PlanValue) (part : StreamPartValue) (tables : List TablePartValue) (saved : SavedStream) → part.shard ≡ plan.shard → AreTablesOf part (length plan.tables) tables
-    → SayTables plan tables saved → SaysStream plan saved part
-stream_said plan part tables saved shard are says = record {
-  sound = says.sound;
-  shard = shard;
-  count = ap length (sym are.are) ∙ are.long;
-  each_table = subst (OfEachTable (SaysTable plan saved)) are.are says.each_table;
-}
+pub stream_said : (version : Version) (plan : PlanValue) (part : StreamPartValue) (tables : List TablePartValue) (saved : SavedStream) → part.shard ≡ plan.shard → AreSoMany version plan (length part.tables) → tables ≡ part.tables
+    → SayTables version plan tables saved → SaysStream version plan saved part
+stream_said version plan part tables saved shard many are said =
+    let says : SayTables version plan part.tables saved = subst (λ (ts : List TablePartValue). SayTables version plan ts saved) are said in
+    record { sound = says.sound; shard = shard; count = many; each_table = says.each_table; further = says.further; bare = says.bare }
 
-pub tables_of_said : (plan : PlanValue) (part : StreamPartValue) (tables : List TablePartValue) (saved : SavedStream) → tables ≡ part.tables → SaysStream plan saved part → SayTables plan tables saved
-tables_of_said plan part tables saved are says = record { sound = says.sound; each_table = subst (OfEachTable (SaysTable plan saved)) (sym are) says.each_table }
+pub tables_of_said : (version : Version) (plan : PlanValue) (part : StreamPartValue) (tables : List TablePartValue) (saved : SavedStream) → tables ≡ part.tables → SaysStream version plan saved part → SayTables version plan tables saved
+tables_of_said version plan part tables saved are says =
+    let of_part : SayTables version plan part.tables saved = record { sound = says.sound; each_table = says.each_table; further = says.further; bare = says.bare } in
+    subst (λ (ts : List TablePartValue). SayTables version plan ts saved) (sym are) of_part
+
+-- a part of a table at least, and no more than there are
+pub some_tables : (version : Version) (plan : PlanValue) (n : ℕ) → 1 ≤ length plan.tables → AreSoMany version plan n → 1 ≤ n
+some_tables One plan n some many = omega (arith, some, many)
+some_tables Two plan n some many = many.0
+
+pub few_tables : (version : Version) (plan : PlanValue) (n : ℕ) → AreSoMany version plan n → n ≤ length plan.tables
+few_tables One plan n many = omega (arith, many)
+few_tables Two plan n many = many.1
+
+-- too many tables are none that a part may have
+pub too_many : (version : Version) (plan : PlanValue) (n : ℕ) → length plan.tables < n → AreSoMany version plan n → ⊥
+too_many version plan n more many = let few : n ≤ length plan.tables = few_tables version plan n many in omega (arith, more, few)
 
 -- ---- streams
 
 -- the parts of the first s streams say this of them
-pub record SayFirst (plans : List PlanValue) (parts : List StreamPartValue) (s : ℕ) (saved : List SavedStream) : Type 0 where
+pub record SayFirst (version : Version) (plans : List PlanValue) (parts : List StreamPartValue) (s : ℕ) (saved : List SavedStream) : Type 0 where
   pub count : length saved ≡ s
   pub each_stream : (i : ℕ) (plan : PlanValue) (one : SavedStream) (part : StreamPartValue)
-      → slice_get plans i ≡ Some plan → slice_get saved i ≡ Some one → slice_get parts i ≡ Some part → SaysStream plan one part
+      → slice_get plans i ≡ Some plan → slice_get saved i ≡ Some one → slice_get parts i ≡ Some part → SaysStream version plan one part
 
-pub say_none : (plans : List PlanValue) (parts : List StreamPartValue) (saved : List SavedStream) → saved ≡ [] → SayFirst plans parts 0 saved
-say_none plans parts saved none = record {
+pub say_none : (version : Version) (plans : List PlanValue) (parts : List StreamPartValue) (saved : List SavedStream) → saved ≡ [] → SayFirst version plans parts 0 saved
+say_none version plans parts saved none = record {
   count = ap length none;
   each_stream = λ i plan one part here there at. absurd (none-some one (ap (λ (xs : List SavedStream). slice_get xs i) (sym none) ∙ there));
 }
 
-pub say_more : (plans : List PlanValue) (parts : List StreamPartValue) (s : ℕ) (old new : List SavedStream) (plan : PlanValue) (one : SavedStream) (part : StreamPartValue) → slice_get plans s ≡ Some plan
-    → slice_get parts s ≡ Some part → SaysStream plan one part → new ≡ old ++ one ∷ [] → SayFirst plans parts s old → SayFirst plans parts (s + 1) new
-say_more plans parts s old new plan one part here at says pushed first = record {
+pub say_more : (version : Version) (plans : List PlanValue) (parts : List StreamPartValue) (s : ℕ) (old new : List SavedStream) (plan : PlanValue) (one : SavedStream) (part : StreamPartValue) → slice_get plans s ≡ Some plan
+    → slice_get parts s ≡ Some part → SaysStream version plan one part → new ≡ old ++ one ∷ [] → SayFirst version plans parts s old → SayFirst version plans parts (s + 1) new
+say_more version plans parts s old new plan one part here at says pushed first = record {
   count = let long : length old ≡ s = first.count in ap length pushed ∙ length-append old (one ∷ []) ∙ ap (λ n. n + 1) long;
   each_stream = λ i plan2 one2 part2 here2 there2 at2. elim (slice_get-push old one one2 i (ap (λ (xs : List SavedStream). slice_get xs i) (sym pushed) ∙ there2)) [
     | inl earlier ↦ first.each_stream i plan2 one2 part2 here2 earlier.1 at2
@@ -208,17 +237,17 @@ say_more plans parts s old new plan one part here at says pushed first = record 
         let is : i ≡ s = last.0 ∙ first.count in
         let plan_is : plan ≡ plan2 = same_Some plan plan2 (sym here ∙ ap (slice_get plans) (sym is) ∙ here2) in
         let part_is : part ≡ part2 = same_Some part part2 (sym at ∙ ap (slice_get parts) (sym is) ∙ at2) in
-        subst (λ (p : PlanValue). SaysStream p one2 part2) plan_is (subst (λ (x : SavedStream). SaysStream plan x part2) last.1 (subst (SaysStream plan one) part_is says)))
+        subst (λ (p : PlanValue). SaysStream version p one2 part2) plan_is (subst (λ (x : SavedStream). SaysStream version plan x part2) last.1 (subst (SaysStream version plan one) part_is says)))
   ];
 }
 
-pub say_all : (plans : List PlanValue) (parts : List StreamPartValue) (s : ℕ) (saved : List SavedStream) → s ≡ length plans → SayFirst plans parts s saved → SayStreams plans parts saved
-say_all plans parts s saved is first = record { count = first.count ∙ is; each_stream = first.each_stream }
+pub say_all : (version : Version) (plans : List PlanValue) (parts : List StreamPartValue) (s : ℕ) (saved : List SavedStream) → s ≡ length plans → SayFirst version plans parts s saved → SayStreams version plans parts saved
+say_all version plans parts s saved is first = record { count = first.count ∙ is; each_stream = first.each_stream }
 
 -- nothing is said of all where nothing is said of one
-pub not_one : (plans : List PlanValue) (parts : List StreamPartValue) (s : ℕ) (plan : PlanValue) (part : StreamPartValue) → slice_get plans s ≡ Some plan → slice_get parts s ≡ Some part
-    → ((one : SavedStream) → ¬ SaysStream plan one part) → (saved : List SavedStream) → ¬ SayStreams plans parts saved
-not_one plans parts s plan part here at none saved says =
+pub not_one : (version : Version) (plans : List PlanValue) (parts : List StreamPartValue) (s : ℕ) (plan : PlanValue) (part : StreamPartValue) → slice_get plans s ≡ Some plan → slice_get parts s ≡ Some part
+    → ((one : SavedStream) → ¬ SaysStream version plan one part) → (saved : List SavedStream) → ¬ SayStreams version plans parts saved
+not_one version plans parts s plan part here at none saved says =
     let inside : s < length plans = slice_get_within plans s plan here in
     let long : length saved ≡ length plans = says.count in
     let there : (one : SavedStream) × (slice_get saved s ≡ Some one) = at_inside saved s (omega (arith, inside, long)) in
@@ -226,13 +255,35 @@ not_one plans parts s plan part here at none saved says =
 
 -- ---- the checkpoint
 
-pub checkpoint_said : (plans : List PlanValue) (bytes : List ℕ) (parts : List StreamPartValue) (saved : List SavedStream) → AreSoManyParts bytes (length plans) parts → SayStreams plans parts saved → IsCheckpoint plans bytes saved
-checkpoint_said plans bytes parts saved are says = record { parts = parts; are = are.are; count = are.long; same_count = says.count; each_stream = says.each_stream }
+pub checkpoint_said : (version : Version) (plans : List PlanValue) (bytes : List ℕ) (parts : List StreamPartValue) (saved : List SavedStream) → AreSoManyParts version bytes (length plans) parts → HaveAsMany version parts
+    → SayStreams version plans parts saved → IsCheckpoint plans bytes saved
+checkpoint_said version plans bytes parts saved are many says = record {
+  version = version;
+  parts = parts;
+  are = are.are;
+  count = are.long;
+  same_count = says.count;
+  as_many = many;
+  each_stream = says.each_stream;
+}
 
-pub parts_of_checkpoint : (plans : List PlanValue) (bytes : List ℕ) (saved : List SavedStream) → (h : IsCheckpoint plans bytes saved) → AreSoManyParts bytes (length plans) h.parts
+-- what a checkpoint says, its parts do
+pub parts_of_checkpoint : (plans : List PlanValue) (bytes : List ℕ) (saved : List SavedStream) → (h : IsCheckpoint plans bytes saved) → AreSoManyParts h.version bytes (length plans) h.parts
 parts_of_checkpoint plans bytes saved h = record { are = h.are; long = h.count }
 
-pub streams_of_checkpoint : (plans : List PlanValue) (bytes : List ℕ) (parts : List StreamPartValue) (saved : List SavedStream) → AreParts bytes parts → IsCheckpoint plans bytes saved → SayStreams plans parts saved
-streams_of_checkpoint plans bytes parts saved are h =
-    let same : h.parts ≡ parts = same_parts bytes h.parts parts h.are are in
-    record { count = h.same_count; each_stream = λ s plan one part here there at. h.each_stream s plan one part here there (ap (λ (ps : List StreamPartValue). slice_get ps s) same ∙ at) }
+module _ (version : Version) (plans : List PlanValue) (bytes : List ℕ) (parts : List StreamPartValue) (saved : List SavedStream) (are : AreParts version bytes parts) (h : IsCheckpoint plans bytes saved) where
+  of_version : h.version ≡ version
+  of_version = one_version bytes h.version version h.are.rest are.rest h.are.opened are.opened
+
+  of_parts : h.parts ≡ parts
+  of_parts = same_parts version bytes h.parts parts (subst (λ (v : Version). AreParts v bytes h.parts) of_version h.are) are
+
+  pub streams_of_checkpoint : SayStreams version plans parts saved
+  streams_of_checkpoint = record {
+    count = h.same_count;
+    each_stream = λ s plan one part here there at.
+        subst (λ (v : Version). SaysStream v plan one part) of_version (h.each_stream s plan one part here there (ap (λ (ps : List StreamPartValue). slice_get ps s) of_parts ∙ at));
+  }
+
+  pub many_of_checkpoint : HaveAsMany version parts
+  many_of_checkpoint = subst (λ (v : Version). HaveAsMany v parts) of_version (subst (HaveAsMany h.version) of_parts h.as_many)

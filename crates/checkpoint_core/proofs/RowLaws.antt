@@ -1,5 +1,5 @@
 -- The rows of a stream, by the parts of its tables.
-use Rattle.std.proofs.Common.{◌≡◌, ◌≢◌, ◌==◌, ℕ, zero, suc, ◌+◌, ◌<◌, ◌≤◌, inl, inr, Bool, true, false, cond, List, [], ◌∷◌, ◌++◌, length, map, drop, Option, Some, None, Ok, slice_get, append_assoc, append-nil, refl, sym, ap, subst, ◌∙◌, le_refl, arith}
+use Rattle.std.proofs.Common.{◌≡◌, ◌≢◌, ◌==◌, ℕ, zero, suc, ◌+◌, ◌<◌, ◌≤◌, inl, inr, Bool, true, false, cond, List, [], ◌∷◌, ◌++◌, length, map, drop, Some, slice_get, append_assoc, append-nil, refl, sym, ap, subst, ◌∙◌, le_refl, arith}
 use Rattle.std.proofs.lemmas.Bool.{eqb-true, ne_eqb, cases_lt}
 use Rattle.std.proofs.lemmas.List.{drop_all, map-append}
 use Rattle.std.proofs.lemmas.Option.{same_Some, none-some}
@@ -298,11 +298,11 @@ none_from s t (part ∷ parts) most =
     ∙ ap (λ (xs : List Given). xs ++ of t (rows_from (s + 1) parts)) (of-others t s part.answer.rows (λ e. omega (arith, e, more)))
     ∙ none_from (s + 1) t parts (omega (arith, more))
 
-none_of_rows : (plan : PlanValue) (t : ℕ) (rows : ImageRows) → length plan.tables ≤ t → AllByRecursion (IsKeyed plan) rows → of t (map of_table rows) ≡ []
-none_of_rows plan t [] most h = refl
-none_of_rows plan t (row ∷ rows) most h =
-    let inside : row.0.table < length plan.tables = h.0.table in
-    ap (λ b. cond b (of_table row ∷ of t (map of_table rows)) (of t (map of_table rows))) (ne_eqb row.0.table t (λ e. omega (arith, e, inside, most))) ∙ none_of_rows plan t rows most h.1
+none_of_rows : (n t : ℕ) (rows : ImageRows) → n ≤ t → AllByRecursion (λ (row : Row). row.0.table < n) rows → of t (map of_table rows) ≡ []
+none_of_rows n t [] most h = refl
+none_of_rows n t (row ∷ rows) most h =
+    let inside : row.0.table < n = h.0 in
+    ap (λ b. cond b (of_table row ∷ of t (map of_table rows)) (of t (map of_table rows))) (ne_eqb row.0.table t (λ e. omega (arith, e, inside, most))) ∙ none_of_rows n t rows most h.1
 
 -- values of rows of one table say them
 all-of : (t : ℕ) (xs : List Given) → AllByRecursion (λ (g : Given). g.0 ≡ t) (of t xs)
@@ -327,10 +327,35 @@ same_values t (x ∷ xs) (y ∷ ys) p q e =
     later_values [] = []
     later_values (row ∷ rows) = rows
 
+-- the rows of parts are of no table behind them
+abbrev Below : ℕ → List Given → Type 0
+Below n xs = AllByRecursion (λ (g : Given). g.0 < n) xs
+
+below_both : (n : ℕ) (xs ys : List Given) → Below n xs → Below n ys → Below n (xs ++ ys)
+below_both n [] ys p q = q
+below_both n (x ∷ xs) ys p q = (p.0, below_both n xs ys p.1 q)
+
+below_in : (n t : ℕ) (rows : List RowValue) → t < n → Below n (rows_in t rows)
+below_in n t [] less = tt
+below_in n t (row ∷ rows) less = (less, below_in n t rows less)
+
+below_from : (n s : ℕ) (parts : List TablePartValue) → s + length parts ≤ n → Below n (rows_from s parts)
+below_from n s [] most = tt
+below_from n s (part ∷ parts) most =
+    let more : s + suc (length parts) ≤ n = most in
+    below_both n (rows_in s part.answer.rows) (rows_from (s + 1) parts) (below_in n s part.answer.rows (omega (arith, more))) (below_from n (s + 1) parts (omega (arith, more)))
+
+pub rows_bare : (plan : PlanValue) (parts : List TablePartValue) (rows : ImageRows) → AreRows plan (rows_from 0 parts) rows → AllByRecursion (λ (row : Row). row.0.table < length parts) rows
+rows_bare plan parts rows are = by rows (subst (Below (length parts)) (sym are.are) (below_from (length parts) 0 parts (omega arith)))
+  where
+    by : (xs : ImageRows) → Below (length parts) (map of_table xs) → AllByRecursion (λ (row : Row). row.0.table < length parts) xs
+    by [] h = tt
+    by (x ∷ xs) h = (h.0, by xs h.1)
+
 -- rows that are of each table those of its part are those of all tables, in order
-pub rows_only : (plan : PlanValue) (parts : List TablePartValue) (rows : ImageRows) → length parts ≡ length plan.tables → IsRising key_cmp rows → AllByRecursion (IsKeyed plan) rows
+pub rows_only : (plan : PlanValue) (parts : List TablePartValue) (rows : ImageRows) → AllByRecursion (λ (row : Row). row.0.table < length parts) rows → IsRising key_cmp rows → AllByRecursion (IsKeyed plan) rows
     → ((t : ℕ) (part : TablePartValue) → slice_get parts t ≡ Some part → part.answer.rows ≡ map (λ (row : Row). row.1) (rows_of_table t rows)) → AreRows plan (rows_from 0 parts) rows
-rows_only plan parts rows long rising keyed says = record {
+rows_only plan parts rows bare rising keyed says = record {
   rising = rising;
   keyed = keyed;
   are = same_given (map of_table rows) (rows_from 0 parts) (in_order_rows rows rising) (in_order_from 0 parts) each;
@@ -342,7 +367,7 @@ rows_only plan parts rows long rising keyed says = record {
           let there : (part : TablePartValue) × (slice_get parts t ≡ Some part) = at_inside parts t less in
           same_values t (of t (map of_table rows)) (of t (rows_from 0 parts)) (all-of t (map of_table rows)) (all-of t (rows_from 0 parts))
           (ap values (of-rows t rows) ∙ values-rows (rows_of_table t rows) ∙ sym (says t there.0 there.1) ∙ sym (of-part_at t parts there.0 there.1)))
-      | inr most ↦ none_of_rows plan t rows (omega (arith, most, long)) keyed ∙ sym (none_from 0 t parts (omega (arith, most)))
+      | inr most ↦ none_of_rows (length parts) t rows most bare ∙ sym (none_from 0 t parts (omega (arith, most)))
     ]
 
 -- ---- rows that are read one after another

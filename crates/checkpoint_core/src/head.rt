@@ -100,7 +100,7 @@ fn has_head(
     means(alloc, answer.gtid(), position)
 }
 
-/// Whether the parts of the plan's tables have the columns of their tables and keys, and this position. An
+/// Whether the parts of the plan's first tables have the columns of their tables and keys, and this position. An
 /// error is want of memory.
 pub(crate) fn have_heads(
     alloc: Global,
@@ -108,7 +108,7 @@ pub(crate) fn have_heads(
     tables: &[TablePart<'_>],
     position: &GtidSet,
 ) -> Result<bool, AllocError>
-    requires { length tables.now ≡ length plan.now.tables }
+    requires { length tables.now ≤ length plan.now.tables }
     ensures { IfOk result (λ yes. IsTrue yes ↔ OfEachTable (HasHead plan.now position.now) tables.now) }
 {
     plan.tables();

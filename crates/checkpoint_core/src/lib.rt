@@ -4,6 +4,7 @@
 mod fault;
 mod head;
 mod marks;
+mod names;
 mod numbers;
 mod parts;
 mod reading;

@@ -106,18 +106,17 @@ fn add_mark(marks: &mut CopyState, t: u8, mark: MarkRead) -> bool
     }
 }
 
-/// The marks of the plan's tables, by their parts.
+/// The marks of the plan's tables, by the parts of the first ones; the others wait.
 pub(crate) fn read_marks(
     alloc: Global,
     plan: &Plan,
     tables: &[TablePart<'_>],
 ) -> Result<CopyState, ReadFault>
-    requires { length tables.now ≡ length plan.now.tables }
+    requires { length tables.now ≤ length plan.now.tables }
     ensures ok { IfOk result (AreMarksOf plan.now tables.now) }
     ensures err { IfErr result (IsNothing (AreMarksOf plan.now tables.now)) }
 {
-    plan.tables();
-    let mut marks = CopyState::new(tables.len() as u8);
+    let mut marks = CopyState::new(plan.tables().len() as u8);
     for t in 0..tables.len() {
         let mark = read_mark(alloc, plan, t as u8, &tables[t])?;
         if !add_mark(&mut marks, t as u8, mark) {

@@ -1,23 +1,49 @@
 //! The parts of a checkpoint, one behind another.
 
 ghost use Rattle.std.specs.Prelude.{◌≡◌, ◌++◌, ℕ, List, IfOk, IfErr};
+ghost use Rattle.vevent.specs.CheckpointPart.{StreamPartValue};
+ghost use Rattle.checkpoint_laws.specs.declared.version.Version.{Version};
 ghost use Rattle.checkpoint_laws.specs.Written.{opening};
 ghost use Rattle.checkpoint_core.specs.Fault.{IsNothing};
 ghost use Rattle.checkpoint_core.specs.Private.Reading.{AreFramed, AreSoManyParts, IsPartOf};
 
 use crate::fault::ReadFault;
+use checkpoint_laws::Version;
 use proto_wire::Frames;
 use std::alloc::Global;
 use vevent::StreamPart;
 
-/// What stands behind the bytes with which every checkpoint begins.
-fn behind_opening(bytes: &[u8]) -> Result<&[u8], ReadFault>
-    ensures ok { IfOk result (λ rest. bytes.now ≡ opening ++ rest.now) }
-    ensures err { IfErr result (IsNothing (λ (rest : List ℕ). bytes.now ≡ opening ++ rest)) }
+/// The parts of a checkpoint of a version.
+#[derive(Drop)]
+pub(crate) struct Parts<'b> {
+    pub(crate) version: Version,
+    pub(crate) streams: Vec<StreamPart<'b>>,
+}
+
+/// The version of a checkpoint, and what stands behind its first bytes.
+#[derive(Clone, Copy)]
+struct Opened<'b> {
+    version: Version,
+    rest: &'b [u8],
+}
+
+/// The version of a checkpoint by the bytes with which it begins, and what stands behind them.
+fn behind_opening(bytes: &[u8]) -> Result<Opened<'_>, ReadFault>
+    ensures ok { IfOk result (λ found. bytes.now ≡ opening found.version ++ found.rest.now) }
+    ensures err { IfErr result (IsNothing (λ (found : Version × List ℕ). bytes.now ≡ opening found.0 ++ found.1)) }
 {
-    match bytes.strip_prefix(b"VREPLCP1") {
-        None => Err(ReadFault::Broken),
-        Some(rest) => Ok(rest),
+    match bytes.strip_prefix(b"VREPLCP2") {
+        Some(rest) => Ok(Opened {
+            version: Version::Two,
+            rest,
+        }),
+        None => match bytes.strip_prefix(b"VREPLCP1") {
+            Some(rest) => Ok(Opened {
+                version: Version::One,
+                rest,
+            }),
+            None => Err(ReadFault::Broken),
+        },
     }
 }
 
@@ -69,11 +95,14 @@ pub(crate) fn read_parts<'b>(
     alloc: Global,
     bytes: &'b [u8],
     count: usize,
-) -> Result<Vec<StreamPart<'b>>, ReadFault>
-    ensures ok { IfOk result (λ parts. AreSoManyParts bytes.now count parts.items) }
-    ensures err { IfErr result (IsNothing (AreSoManyParts bytes.now count)) }
+) -> Result<Parts<'b>, ReadFault>
+    ensures ok { IfOk result (λ parts. AreSoManyParts parts.version bytes.now count parts.streams.items) }
+    ensures err { IfErr result (IsNothing (λ (found : Version × List StreamPartValue). AreSoManyParts found.0 bytes.now count found.1)) }
 {
-    let rest = behind_opening(bytes)?;
-    let parts = framed_parts(alloc, rest, count)?;
-    Ok(parts)
+    let opened = behind_opening(bytes)?;
+    let streams = framed_parts(alloc, opened.rest, count)?;
+    Ok(Parts {
+        version: opened.version,
+        streams,
+    })
 }

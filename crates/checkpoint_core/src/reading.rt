@@ -8,17 +8,19 @@ ghost use Rattle.checkpoint_laws.specs.Saved.{SavedStream};
 ghost use Rattle.checkpoint_laws.specs.Said.{SaysStream, IsCheckpoint};
 ghost use Rattle.checkpoint_core.specs.Fault.{IsNothing};
 ghost use Rattle.checkpoint_core.specs.declared.fault.ReadFault.TheVariants.{Memory};
-ghost use Rattle.checkpoint_core.specs.Private.Reading.{OfEachTable, IsAtPosition, AreTablesOf, SayTables, SayStreams};
+ghost use Rattle.checkpoint_core.specs.Private.Reading.{OfEachTable, IsAtPosition, SayTables, SayStreams};
 
 use crate::fault::ReadFault;
 use crate::head::{have_heads, position_in};
 use crate::marks::read_marks;
+use crate::names::{has_so_many, have_as_many, have_names};
 use crate::parts::read_parts;
 use crate::rows::read_rows;
 use crate::saved::ReadStream;
+use checkpoint_laws::Version;
 use filter_rule::Plan;
 use gtid_set::GtidSet;
-use std::alloc::Global;
+use std::alloc::{AllocError, Global};
 use std::sync::Arc;
 use vevent::{StreamPart, TablePart};
 
@@ -34,17 +36,21 @@ fn first_position(alloc: Global, tables: &[TablePart<'_>]) -> Result<GtidSet, Re
     }
 }
 
-/// What the parts of a stream's tables say of it.
+/// What the parts of a stream's first tables say of it.
 fn read_tables<'b>(
     alloc: Global,
+    version: Version,
     plan: &Plan,
     tables: &[TablePart<'b>],
 ) -> Result<ReadStream<'b>, ReadFault>
-    requires { length tables.now ≡ length plan.now.tables }
-    ensures ok { IfOk result (SayTables plan.now tables.now) }
-    ensures err { IfErr result (IsNothing (SayTables plan.now tables.now)) }
+    requires some { 1 ≤ length tables.now }
+    requires few { length tables.now ≤ length plan.now.tables }
+    ensures ok { IfOk result (SayTables version plan.now tables.now) }
+    ensures err { IfErr result (IsNothing (SayTables version plan.now tables.now)) }
 {
-    plan.tables();
+    if !have_names(version, plan, tables) {
+        return Err(ReadFault::Broken);
+    }
     let position = first_position(alloc, tables)?;
     if !have_heads(alloc, plan, tables, &position)? {
         return Err(ReadFault::Broken);
@@ -58,26 +64,13 @@ fn read_tables<'b>(
     })
 }
 
-/// The parts of a stream's tables, of which there are so many.
-fn tables_of<'b>(
-    alloc: Global,
-    part: &StreamPart<'b>,
-    count: usize,
-) -> Result<Vec<TablePart<'b>>, ReadFault>
-    ensures ok { IfOk result (λ tables. AreTablesOf part.now count tables.items) }
-    ensures err { IfErr result (IsNothing (AreTablesOf part.now count)) }
+/// The parts of a stream's tables.
+fn tables_of<'b>(alloc: Global, part: &StreamPart<'b>) -> Result<Vec<TablePart<'b>>, AllocError>
+    ensures { IfOk result (λ tables. tables.items ≡ part.now.tables) }
 {
     let mut tables = Vec::new(alloc);
     for table in part.tables() {
-        if tables.len() == count {
-            return Err(ReadFault::Broken);
-        }
-        if tables.push(table).is_err() {
-            return Err(ReadFault::Memory);
-        }
-    }
-    if tables.len() != count {
-        return Err(ReadFault::Broken);
+        tables.push(table)?;
     }
     Ok(tables)
 }
@@ -92,17 +85,22 @@ fn is_of_shard(plan: &Plan, part: &StreamPart<'_>) -> bool
 /// What a stream's part says of it.
 fn read_stream<'b>(
     alloc: Global,
+    version: Version,
     plan: &Plan,
     part: &StreamPart<'b>,
 ) -> Result<ReadStream<'b>, ReadFault>
-    ensures ok { IfOk result (λ saved. SaysStream plan.now saved part.now) }
-    ensures err { IfErr result (IsNothing (λ (saved : SavedStream). SaysStream plan.now saved part.now)) }
+    ensures ok { IfOk result (λ saved. SaysStream version plan.now saved part.now) }
+    ensures err { IfErr result (IsNothing (λ (saved : SavedStream). SaysStream version plan.now saved part.now)) }
 {
     if !is_of_shard(plan, part) {
         return Err(ReadFault::Broken);
     }
-    let tables = tables_of(alloc, part, plan.tables().len())?;
-    let saved = read_tables(alloc, plan, &tables)?;
+    if !has_so_many(version, plan, part) {
+        return Err(ReadFault::Broken);
+    }
+    plan.tables();
+    let tables = tables_of(alloc, part)?;
+    let saved = read_tables(alloc, version, plan, &tables)?;
     Ok(saved)
 }
 
@@ -120,27 +118,30 @@ fn push_stream<'b>(saved: &mut Vec<ReadStream<'b>>, one: ReadStream<'b>) -> Resu
 /// What the parts of streams say of them, each by its plan.
 fn read_streams<'b>(
     alloc: Global,
+    version: Version,
     plans: &[Arc<Plan>],
     parts: &[StreamPart<'b>],
 ) -> Result<Vec<ReadStream<'b>>, ReadFault>
     requires { length parts.now ≡ length plans.now }
-    ensures ok { IfOk result (λ saved. SayStreams (map arc_value plans.now) parts.now saved.items) }
-    ensures err { IfErr result (IsNothing (SayStreams (map arc_value plans.now) parts.now)) }
+    ensures ok { IfOk result (λ saved. SayStreams version (map arc_value plans.now) parts.now saved.items) }
+    ensures err { IfErr result (IsNothing (SayStreams version (map arc_value plans.now) parts.now)) }
 {
     let mut saved = Vec::new(alloc);
     for s in 0..parts.len() {
-        let one = read_stream(alloc, &plans[s], &parts[s])?;
+        let one = read_stream(alloc, version, &plans[s], &parts[s])?;
         push_stream(&mut saved, one)?;
     }
     Ok(saved)
 }
 
-/// Reads a checkpoint of streams under these plans: of each its position, how far its tables are copied, and
-/// its rows by rising key, lent from the bytes. Fields come in any order, and others are skipped.
+/// Reads a checkpoint of streams under these plans, of version 1 or 2: of each its position, how far its tables
+/// are copied, and its rows by rising key, lent from the bytes. A version 2 may have parts of the first tables
+/// alone, as many in each stream; the others wait and have no rows. Fields come in any order, and others are
+/// skipped.
 ///
 /// `Broken` where the bytes are no checkpoint for these plans: other first bytes, a broken frame or message,
-/// bytes after the end, another number of parts; of a stream another shard, another number of tables, other
-/// columns, a position that can't be read or that differs between its tables, another mark or marks out of
+/// bytes after the end, another number of parts; of a stream another shard, in version 1 another number of tables,
+/// in version 2 none, more than there are, another number than in the first stream or another name; other columns, a position that can't be read or that differs between its tables, another mark or marks out of
 /// order, a last key that isn't one of its table or stands without its mark, rows of another width, without a
 /// key or whose keys don't rise. Any other error is want of memory. Takes memory for the keys and some words a
 /// row.
@@ -153,6 +154,9 @@ pub fn read_checkpoint<'b>(
     ensures refused { IfErr result (IsNothing (IsCheckpoint (map arc_value plans.now) bytes.now)) }
 {
     let parts = read_parts(alloc, bytes, plans.len())?;
-    let saved = read_streams(alloc, plans, &parts)?;
+    if !have_as_many(parts.version, &parts.streams) {
+        return Err(ReadFault::Broken);
+    }
+    let saved = read_streams(alloc, parts.version, plans, &parts.streams)?;
     Ok(saved)
 }

@@ -1,6 +1,6 @@
 //! The rows that a checkpoint says a stream has.
 
-ghost use Rattle.std.specs.Prelude.{◌≡◌, ◌<◌, ◌↔◌, [], ◌∷◌, ◌++◌, ℕ, List, map, length, IsTrue, IfOk, IfErr, OnOk, OnErr};
+ghost use Rattle.std.specs.Prelude.{◌≡◌, ◌<◌, ◌≤◌, ◌↔◌, [], ◌∷◌, ◌++◌, ℕ, List, map, length, IsTrue, IfOk, IfErr, OnOk, OnErr};
 ghost use Rattle.pk_copy.specs.KeyOrder.{key_cmp};
 ghost use Rattle.pk_copy.specs.KeyValue.{KeyValue};
 ghost use Rattle.source_feed.specs.History.{RowValue};
@@ -90,7 +90,7 @@ pub(crate) fn read_rows<'b>(
     plan: &Plan,
     tables: &[TablePart<'b>],
 ) -> Result<Vec<(Key, RowBytes<'b>)>, ReadFault>
-    requires { length tables.now ≡ length plan.now.tables }
+    requires { length tables.now ≤ length plan.now.tables }
     ensures ok { IfOk result (λ rows. AreRows plan.now (rows_from 0 tables.now) rows.items) }
     ensures err { IfErr result (IsNothing (AreRows plan.now (rows_from 0 tables.now))) }
 {

@@ -8,7 +8,7 @@ ghost use Rattle.source_feed.specs.Image.{lent_row};
 ghost use Rattle.vevent.specs.CheckpointPart.{mark_number};
 ghost use Rattle.vevent.specs.ColumnView.{field_value};
 ghost use Rattle.vevent.specs.ContentView.{table_content};
-ghost use Rattle.checkpoint_laws.specs.Written.{field_of, number_of_mark, last_row_of, rows_of_table};
+ghost use Rattle.checkpoint_laws.specs.Written.{field_of, name_of_table, number_of_mark, last_row_of, rows_of_table};
 ghost use Rattle.checkpoint_core.specs.Private.Texts.{fields_at, part_of_table, parts_of_tables, text_value};
 
 use filter_rule::{ColumnDef, Plan};
@@ -17,9 +17,11 @@ use row_view::{RowBuf, RowBytes};
 use std::alloc::{AllocError, Global};
 use vevent::{AnswerContent, ColumnField, TableContent, TableMark};
 
-/// What is written of a table: its mark, its columns and those of its key, its rows, and the key of the mark.
+/// What is written of a table: its name, its mark, its columns and those of its key, its rows, and the key of the
+/// mark.
 #[derive(Drop)]
 pub(crate) struct TableText<'a> {
+    name: &'a [u8],
     mark: TableMark,
     fields: Vec<ColumnField<'a>>,
     key_fields: Vec<ColumnField<'a>>,
@@ -50,8 +52,16 @@ pub(crate) fn content_of<'c>(text: &'c TableText<'_>, position: &'c str) -> Tabl
             rows: text.rows.as_slice(),
             lastpk: bytes_of(&text.last),
         },
-        name: &[],
+        name: text.name,
     }
+}
+
+/// The name of table `t`.
+pub(crate) fn name_of(plan: &Plan, t: u8) -> &[u8]
+    requires { t < length plan.now.tables }
+    ensures { result.now ≡ name_of_table plan.now t }
+{
+    plan.tables()[usize::from(t)].name().as_bytes()
 }
 
 /// A column as an answer names it.
@@ -154,6 +164,7 @@ fn table_text<'a>(
     ensures { IfOk result (λ text. (position : List ℕ) → text_value position text ≡ part_of_table plan.now t (mark_value mark.now) (map lent_row own.now) position) }
 {
     Ok(TableText {
+        name: name_of(plan, t),
         mark: kind_of(mark),
         fields: fields_of(alloc, plan.columns(t))?,
         key_fields: fields_at(alloc, plan.columns(t), plan.key_columns(t))?,

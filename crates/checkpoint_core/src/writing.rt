@@ -6,6 +6,7 @@ ghost use Rattle.std.specs.String.{string_bytes};
 ghost use Rattle.source_feed.specs.Image.{lent_row};
 ghost use Rattle.vevent.specs.ContentView.{table_content};
 ghost use Rattle.vevent.specs.WrittenPart.{written_stream_part};
+ghost use Rattle.checkpoint_laws.specs.declared.version.Version.TheVariants.{Two};
 ghost use Rattle.checkpoint_laws.specs.Written.{position_text, stream_part, framed};
 ghost use Rattle.checkpoint_core.specs.Private.Texts.{text_value};
 
@@ -58,8 +59,8 @@ fn put_framed<'x>(
     Ok(())
 }
 
-/// Appends a stream's part of a checkpoint behind its length: the shard of its plan, and of each table its
-/// columns, the position (none: the empty set), the stream's rows in it, which stand by rising key, and how
+/// Appends a stream's part of a checkpoint of version 2 behind its length: the shard of its plan, and of each
+/// table its name, its columns, the position (none: the empty set), the stream's rows in it, which stand by rising key, and how
 /// far it is copied. An error is want of memory.
 pub fn put_stream<'x>(
     alloc: Global,
@@ -69,7 +70,7 @@ pub fn put_stream<'x>(
     marks: &'x CopyState,
     rows: &'x [(&'x Key, &'x RowBuf)],
 ) -> Result<(), AllocError>
-    ensures { OnOk result (out.new.items ≡ out.old.items ++ framed (written_stream_part (stream_part plan.now (record { position = option_map_or (λ set. set.now) position.entry []; marks = marks.now; rows = map lent_row rows.now })))) }
+    ensures { OnOk result (out.new.items ≡ out.old.items ++ framed (written_stream_part (stream_part Two plan.now (record { position = option_map_or (λ set. set.now) position.entry []; marks = marks.now; rows = map lent_row rows.now })))) }
 {
     let gtid = position_text(alloc, position)?;
     let texts = table_texts(alloc, &*plan, &*marks, &*rows)?;

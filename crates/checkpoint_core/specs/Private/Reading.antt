@@ -14,6 +14,7 @@ use Rattle.source_feed.specs.Image.{ImageRows}
 use Rattle.target_tables.specs.Rising.{IsRising, AreBelow}
 use Rattle.vevent.specs.CheckpointPart.{TablePartValue, StreamPartValue, mark_number, stream_part_at}
 use Rattle.vevent.specs.declared.checkpoint_part.TableMark.{TableMark}
+use Rattle.checkpoint_laws.specs.declared.version.Version.{Version}
 use Rattle.checkpoint_laws.specs.Saved.{SavedStream}
 use Rattle.checkpoint_laws.specs.Said.{AreParts, SaysLast, SaysTable, IsKeyed, IsSaved, SaysStream}
 use Rattle.checkpoint_laws.specs.Written.{fields_of_table, key_fields_of, number_of_mark}
@@ -37,9 +38,9 @@ pub record AreFramed (bytes : List ℕ) (count : ℕ) (parts : List StreamPartVa
   pub read : map stream_part_at messages ≡ map Ok parts
   pub long : length parts ≡ count
 
--- so many parts of streams stand in the bytes of a checkpoint
-pub record AreSoManyParts (bytes : List ℕ) (count : ℕ) (parts : List StreamPartValue) : Type 0 where
-  pub are : AreParts bytes parts
+-- so many parts of streams stand in the bytes of a checkpoint of a version
+pub record AreSoManyParts (version : Version) (bytes : List ℕ) (count : ℕ) (parts : List StreamPartValue) : Type 0 where
+  pub are : AreParts version bytes parts
   pub long : length parts ≡ count
 
 -- ---- columns and position
@@ -106,17 +107,19 @@ pub record IsMarkedMore (t : ℕ) (mark : MarkValue) (old new : Marks) : Type 0 
 
 -- marks of the first t tables that their parts have
 pub record AreMarksBefore (plan : PlanValue) (tables : List TablePartValue) (t : ℕ) (marks : Marks) : Type 0 where
+  pub reached : t ≤ length tables
   pub count : marks.tables ≡ length plan.tables
   pub behind : IsOpenAt t marks
   pub upto : IfSome marks.upto (IsTableKey plan)
   pub each_table : OfEachTable (λ i part. i < t → SaysMark plan i (mark_of marks i) part) tables
 
--- marks of a plan's tables that the parts of these tables have
+-- marks of a plan's tables that the parts of the first ones have; the others wait
 pub record AreMarksOf (plan : PlanValue) (tables : List TablePartValue) (marks : Marks) : Type 0 where
   pub count : marks.tables ≡ length plan.tables
   pub are : AreMarks marks
   pub upto : IfSome marks.upto (IsTableKey plan)
   pub each_table : OfEachTable (λ t part. SaysMark plan t (mark_of marks t) part) tables
+  pub further : (t : ℕ) → length tables ≤ t → mark_of marks t ≡ waiting
 
 -- ---- rows
 
@@ -153,18 +156,15 @@ pub record IsNextRow (plan : PlanValue) (t : ℕ) (row : RowValue) (old new : Im
 
 -- ---- a stream
 
--- the parts of a stream's tables, of which there are so many
-pub record AreTablesOf (part : StreamPartValue) (count : ℕ) (tables : List TablePartValue) : Type 0 where
-  pub are : tables ≡ part.tables
-  pub long : length tables ≡ count
-
--- the parts of its tables say this of a stream
-pub record SayTables (plan : PlanValue) (tables : List TablePartValue) (saved : SavedStream) : Type 0 where
+-- the parts of its first tables say this of a stream, and there is nothing of the others
+pub record SayTables (version : Version) (plan : PlanValue) (tables : List TablePartValue) (saved : SavedStream) : Type 0 where
   pub sound : IsSaved plan saved
-  pub each_table : OfEachTable (SaysTable plan saved) tables
+  pub each_table : OfEachTable (SaysTable version plan saved) tables
+  pub further : (t : ℕ) → length tables ≤ t → mark_of saved.marks t ≡ waiting
+  pub bare : AllByRecursion (λ row. row.0.table < length tables) saved.rows
 
 -- the first parts say this of the first streams, each by its plan
-pub record SayStreams (plans : List PlanValue) (parts : List StreamPartValue) (saved : List SavedStream) : Type 0 where
+pub record SayStreams (version : Version) (plans : List PlanValue) (parts : List StreamPartValue) (saved : List SavedStream) : Type 0 where
   pub count : length saved ≡ length plans
   pub each_stream : (s : ℕ) (plan : PlanValue) (one : SavedStream) (part : StreamPartValue)
-      → slice_get plans s ≡ Some plan → slice_get saved s ≡ Some one → slice_get parts s ≡ Some part → SaysStream plan one part
+      → slice_get plans s ≡ Some plan → slice_get saved s ≡ Some one → slice_get parts s ≡ Some part → SaysStream version plan one part

@@ -1,5 +1,5 @@
 -- What is written of a table, before the texts of its stream are known.
-use Rattle.std.specs.Prelude.{ℕ, List, [], map, option_map, slice_get}
+use Rattle.std.specs.Prelude.{ℕ, List, map, option_map, slice_get}
 use Rattle.std.specs.List.{filter_map}
 use Rattle.filter_rule.specs.PlanTable.{ColumnValue}
 use Rattle.filter_rule.specs.PlanValue.{PlanValue}
@@ -8,7 +8,7 @@ use Rattle.source_feed.specs.Image.{ImageRows}
 use Rattle.vevent.specs.CheckpointPart.{TablePartValue, mark_number}
 use Rattle.vevent.specs.ColumnView.{field_value}
 use Rattle.vevent.specs.EventValue.{FieldValue}
-use Rattle.checkpoint_laws.specs.Written.{field_of, fields_of_table, key_fields_of, number_of_mark, last_row_of, rows_of_table, numbers_below}
+use Rattle.checkpoint_laws.specs.Written.{field_of, fields_of_table, key_fields_of, name_of_table, number_of_mark, last_row_of, rows_of_table, numbers_below}
 use Rattle.checkpoint_core.specs.declared.texts.TableText.{TableText}
 
 -- the columns at places, as an answer names them
@@ -26,7 +26,7 @@ part_of_table plan t mark rows position = record {
     rows = map (λ row. row.1) (rows_of_table t rows);
     lastpk = last_row_of mark;
   };
-  name = [];
+  name = name_of_table plan t;
 }
 
 -- the parts of the first n tables
@@ -44,5 +44,5 @@ text_value position text = record {
     rows = text.rows.items;
     lastpk = text.last;
   };
-  name = [];
+  name = text.name.now;
 }

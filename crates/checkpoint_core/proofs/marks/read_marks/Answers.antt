@@ -1,7 +1,6 @@
-use Rattle.std.proofs.Common.{◌∙◌, ◌<◌, length, arith, sym}
+use Rattle.std.proofs.Common.{◌∙◌, sym}
 use Rattle.std.proofs.lemmas.Bool.{true≢false}
 use Rattle.std.proofs.lemmas.Result.{err_from_is_err_and}
-use Rattle.std.proofs.lemmas.Option.{slice_get_within}
 use Rattle.pk_copy.specs.Marks.{mark_of}
 use Rattle.checkpoint_core.specs.Private.Reading.{SaysMark, AreMarksOf, mark_read}
 use Rattle.checkpoint_core.proofs.Items.{there_at, nothing_by}
@@ -28,8 +27,4 @@ loop-t-preserved c =
     (key_read c.args.plan.now c.in_ok-mark.mark c.in_ok-mark.ensures.ok.2) c.loop-t.invariant (c.add_mark.ensures.added c.if-not-add_mark.false)
 
 pub returns-clause-ok : goal.returns-clause-ok
-returns-clause-ok c =
-    all_marked c.args.plan.now c.args.tables.now c.loop-t.t c.loop-t.marks
-    (λ i part there.
-    let inside : i < length c.args.tables.now = slice_get_within c.args.tables.now i part there in
-    omega (arith, inside, c.loop-t-test.false)) c.loop-t.invariant
+returns-clause-ok c = all_marked c.args.plan.now c.args.tables.now c.loop-t.t c.loop-t.marks c.loop-t-test.false c.loop-t.invariant

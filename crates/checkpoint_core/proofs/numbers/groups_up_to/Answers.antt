@@ -1,9 +1,8 @@
-use Rattle.std.proofs.Common.{◌≡◌, ◌∙◌, ◌∷◌, [], ◌++◌, ◌<◌, List, length, map, sym, ap, arith}
+use Rattle.std.proofs.Common.{◌∙◌, ◌∷◌, [], ◌<◌, length, map, ap, arith}
 use Rattle.std.proofs.lemmas.List.{map-append}
 use Rattle.std.proofs.lemmas.Result.{err_from_is_err_and}
 use Rattle.std.specs.Arc.{arc_value}
 use Rattle.source_feed.specs.FaultNumber.{meant_of}
-use Rattle.source_feed.specs.Touches.{PreparedValue}
 use Rattle.checkpoint_core.proofs.GroupLaws.{first_more, first_stops, if_meant}
 use Rattle.checkpoint_core.proofs.numbers.groups_up_to.Goals as goal
 

@@ -1,8 +1,7 @@
-use Rattle.std.proofs.Common.{◌≡◌, ◌∙◌, sym}
 use Rattle.std.proofs.lemmas.Result.{err_from_is_err_and}
 use Rattle.checkpoint_core.specs.Private.Reading.{IsPartOf, AreFramed}
 use Rattle.checkpoint_core.proofs.Items.{nothing_by}
-use Rattle.checkpoint_core.proofs.ReadLaws.{no_part_yet, one_part_more, all_parts, no_broken_frame, no_fewer, no_more, no_broken_part}
+use Rattle.checkpoint_core.proofs.ReadLaws.{no_part_yet, no_broken_frame, no_broken_part}
 use Rattle.checkpoint_core.proofs.parts.framed_parts.Goals as goal
 
 pub loop-parts-init : goal.loop-parts-init

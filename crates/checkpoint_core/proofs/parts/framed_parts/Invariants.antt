@@ -1,4 +1,4 @@
-use Rattle.std.proofs.Common.{◌≡◌, ◌≤◌, length}
+use Rattle.std.proofs.Common.{length}
 use Rattle.checkpoint_core.proofs.ReadLaws.{AreParted}
 use Rattle.checkpoint_core.proofs.parts.framed_parts.Given as goal
 

@@ -1,4 +1,4 @@
-use Rattle.std.proofs.Common.{◌≡◌, ◌∙◌, ◌++◌, List, ℕ, map, append-nil, sym, ap, subst}
+use Rattle.std.proofs.Common.{◌++◌, map}
 use Rattle.checkpoint_core.specs.Private.Reading.{AreRows, IsRowOf, of_table, rows_in}
 use Rattle.std.proofs.lemmas.Result.{err_from_is_err_and}
 use Rattle.pk_copy.specs.KeyOrder.{key_cmp}
