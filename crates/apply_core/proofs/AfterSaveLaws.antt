@@ -149,7 +149,7 @@ module _ (ties : Ties) (said : SavedBoardsAreSaid) (one_thing : CheckpointsSayOn
   says =
       subst (λ (ps : List PlanValue). IsCheckpoint ps bytes (saved_of board)) (sym of.planned)
       (subst (λ (bs : List ℕ). IsCheckpoint (plans_of board) bs (saved_of board)) (sym of.written)
-      (said board (subst (AllByRecursion IsPlan) of.planned well) of.lawful of.within (subst (λ (bs : List ℕ). length bs < 2 ^ 64) of.written long)))
+      (said of.version board (subst (AllByRecursion IsPlan) of.planned well) of.lawful of.within (subst (λ (bs : List ℕ). length bs < 2 ^ 64) of.written long)))
 
   kept_is : (saved : List SavedStream) → IsCheckpoint (plans_of_feeds feeds) bytes saved → saved ≡ saved_of board
   kept_is saved check = one_thing plans bytes saved (saved_of board) well (subst (λ (ps : List PlanValue). IsCheckpoint ps bytes saved) (plans_are plans feeds bytes board of) check) says

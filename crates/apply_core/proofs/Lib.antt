@@ -3,6 +3,7 @@ pub mod PutLaws
 pub mod StreamLaws
 pub mod StepLaws
 pub mod BoardLaws
+pub mod AddLaws
 pub mod ApplyLaws
 pub mod CopyLaws
 pub mod ScheduleLaws
@@ -15,3 +16,4 @@ pub mod MeetingLaws
 pub mod ResumeLaws
 pub mod ReadLaws
 pub mod AfterSaveLaws
+pub mod AfterAddingLaws

@@ -6,3 +6,4 @@ pub mod Putting
 pub mod Private
 pub mod Shown
 pub mod Resuming
+pub mod Adding

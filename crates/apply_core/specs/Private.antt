@@ -8,3 +8,4 @@ pub mod Meeting
 pub mod Together
 pub mod Saving
 pub mod Resuming
+pub mod Adding

@@ -1,6 +1,8 @@
 //! The board: streams over one target, and the steps on it.
 #![tactic(auto)]
 
+mod added_streams;
+mod adding;
 mod applying;
 mod beside;
 mod board;
@@ -25,6 +27,8 @@ mod stream;
 mod taking;
 mod together;
 
+pub use added_laws::AddFault;
+pub use adding::{AddRefusal, add_tables};
 pub use board::Board;
 pub use board_laws::{Answer, Copied, Offered, Refusal, StepRefusal};
 pub use checkpoint_laws::ResumeFault;

@@ -13,7 +13,7 @@ ghost use Rattle.checkpoint_laws.specs.Refused.{plans_of_feeds, IsRefusedSaved, 
 ghost use Rattle.checkpoint_laws.specs.Said.{IsCheckpoint};
 ghost use Rattle.source_feed.specs.Planned.{FeedValue};
 ghost use Rattle.apply_core.specs.Feeds.{AreWhole, AreFed};
-ghost use Rattle.apply_core.specs.Resuming.{IsResumed, IsRefusedResume, IsSavedOf, Gives};
+ghost use Rattle.apply_core.specs.Resuming.{IsResumed, IsRefusedResume, IsSavedOf, Gives, IsSavedBefore, GivesMore};
 ghost use Rattle.apply_core.specs.Private.Resuming.{AreSaid, IsUnfed};
 
 use crate::board::Board;
@@ -23,8 +23,9 @@ use crate::resumed_streams::{numbers_of, streams_at};
 use crate::schedule::are_opened_under;
 use checkpoint_core::{ReadFault, ReadStream, read_checkpoint};
 use checkpoint_laws::{
-    ResumeFault, checkpoints_say_one_thing, restarted_boards_are_resumed,
-    resumed_boards_are_lawful, saved_boards_are_said,
+    ResumeFault, checkpoints_say_one_thing, extended_boards_are_resumed,
+    restarted_boards_are_resumed, resumed_boards_are_lawful, saved_boards_are_said,
+    saved_boards_are_said_of_more,
 };
 use filter_rule::Plan;
 use pk_copy::keys_tie_where_they_are_equal;
@@ -125,9 +126,10 @@ fn resumed_over<'h>(
     Ok(board)
 }
 
-/// The board that a checkpoint says, over the feeds of its streams, which stand in the order of the 1 to 64
-/// plans: each stream has read and applied its feed's groups up to the checkpoint's position, its tables are
-/// copied as far as the marks say, and its rows are those that the bytes say. No snapshot is open. The rows
+/// The board that a checkpoint of version 1 or 2 says, over the feeds of its streams, which stand in the order of
+/// the 1 to 64 plans: each stream has read and applied its feed's groups up to the checkpoint's position, its tables are
+/// copied as far as the marks say, and its rows are those that the bytes say. Tables of the plans behind those that
+/// a version 2 has wait. No snapshot is open. The rows
 /// are built again from the feeds and compared, one stream after another.
 ///
 /// Refused, in this order: 119 where there aren't as many feeds as plans; 111 where two plans differ in their
@@ -151,14 +153,18 @@ pub fn resume<'h>(
     // Each read list is a beginning of its feed's groups.
     ensures reads { IfOk result (AllReadTheirFeeds feeds.now) }
     ensures refused { IfErr result (IsRefusedResume (map arc_value plans.now) feeds.now bytes.now) }
-    // A board whose rows, keys and positions are within the limits and that was saved comes back as it was after a
-    // restart of each stream.
+    // A board whose rows, keys and positions are within the limits and that was saved, in either version, comes back as it
+    // was after a restart of each stream.
     ensures after_save { (board : Meaning) → IsSavedOf (map arc_value plans.now) feeds.now bytes.now board → Gives (restarted board) result }
+    // Under plans with tables appended such a board comes back with these tables added, which wait.
+    ensures after_adding { (board : Meaning) → IsSavedBefore (map arc_value plans.now) feeds.now bytes.now board → GivesMore feeds.now board result }
 {
     keys_tie_where_they_are_equal();
     saved_boards_are_said();
     checkpoints_say_one_thing();
     restarted_boards_are_resumed();
+    saved_boards_are_said_of_more();
+    extended_boards_are_resumed();
     know_plans(plans);
     know_length(bytes);
     judge_feeds(plans, feeds)?;

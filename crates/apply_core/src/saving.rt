@@ -3,6 +3,7 @@
 ghost use Rattle.std.specs.Prelude.{◌≡◌, ◌≤◌, ◌++◌, length, map, IfOk, OnOk};
 ghost use Rattle.source_feed.specs.Image.{lent_row};
 ghost use Rattle.vevent.specs.WrittenPart.{written_stream_part};
+ghost use Rattle.checkpoint_laws.specs.declared.version.Version.TheVariants.{Two};
 ghost use Rattle.checkpoint_laws.specs.Saved.{saved_stream};
 ghost use Rattle.checkpoint_laws.specs.Written.{stream_part, framed, written_parts, checkpoint_of};
 ghost use Rattle.apply_core.specs.Shown.{rows_of};
@@ -41,7 +42,7 @@ fn put_part(
     s: u8,
     rows: &Tables<Key, RowBuf>,
 ) -> Result<(), AllocError>
-    ensures { OnOk result (out.new.items ≡ out.old.items ++ framed (written_stream_part (stream_part stream.now.plan (saved_stream s stream.now rows.now.entries)))) }
+    ensures { OnOk result (out.new.items ≡ out.old.items ++ framed (written_stream_part (stream_part Two stream.now.plan (saved_stream s stream.now rows.now.entries)))) }
 {
     let own = own_rows(alloc, rows, s)?;
     put_stream(
@@ -71,14 +72,14 @@ fn put_parts(
     Ok(())
 }
 
-/// The checkpoint of a board: of each stream the position of the last applied group, how far its tables
+/// The checkpoint of a board, of version 2: of each stream the position of the last applied group, how far its tables
 /// are copied, and its rows in the target. What is read beyond the applied groups isn't kept, nor is an
 /// open snapshot. An error is want of memory.
 pub fn save(alloc: Global, board: &Board<'_>) -> Result<Vec<u8>, AllocError>
     ensures { IfOk result (λ bytes. bytes.items ≡ checkpoint_of board.now) }
 {
     board.is_lawful();
-    let mut out = Vec::from_slice(alloc, b"VREPLCP1")?;
+    let mut out = Vec::from_slice(alloc, b"VREPLCP2")?;
     put_parts(alloc, &mut out, &board.streams, &board.rows)?;
     Ok(out)
 }
