@@ -1,4 +1,4 @@
-//! A checkpoint of 105 bytes that is cut, or of which one byte is another.
+//! A checkpoint of 108 bytes that is cut, or of which one byte is another.
 
 use crate::feeds::{ONE, ONE_ROW, opened_under, plans_of, resumed};
 use crate::resumes::shows;
@@ -10,8 +10,8 @@ use std::sync::Arc;
 use std::test::*;
 
 /// One row, behind the first group.
-const CHECKPOINT: &[u8; 105] =
-    b"VREPLCP1`\n\x03-80\x12Y\x08\x02\x12U\n\x07\n\x02id\x10\x89\x02\n\x06\n\x01v\x10\x950\x12\x07\n\x02id\x10\x89\x02\x1a.MySQL56/3e11fa47-71ca-11e1-9e33-c80aa9429562:1\"\x09\n\x02\x02\x04\x12\x031ab";
+const CHECKPOINT: &[u8; 108] =
+    b"VREPLCP2c\n\x03-80\x12\\\x08\x02\x12U\n\x07\n\x02id\x10\x89\x02\n\x06\n\x01v\x10\x950\x12\x07\n\x02id\x10\x89\x02\x1a.MySQL56/3e11fa47-71ca-11e1-9e33-c80aa9429562:1\"\x09\n\x02\x02\x04\x12\x031ab\x1a\x01t";
 
 /// Whether bytes are refused 116.
 fn is_broken<'h>(alloc: Global, plans: &[Arc<Plan>], feeds: &[Feed<'h>], bytes: &[u8]) -> bool {

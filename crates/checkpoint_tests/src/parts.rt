@@ -56,11 +56,11 @@ fn part_of_nothing(alloc: Global, plan: &Plan) -> Result<Vec<u8>, AllocError> {
 
 /// Behind its length: a row up to whose key the table is copied, at the first group.
 const UP_TO_ONE: &[u8] =
-    b"g\n\x03-80\x12`\x08\x01\x12\\\n\x07\n\x02id\x10\x89\x02\n\x06\n\x01v\x10\x950\x12\x07\n\x02id\x10\x89\x02\x1a.MySQL56/3e11fa47-71ca-11e1-9e33-c80aa9429562:1\"\x08\n\x02\x02\x02\x12\x021a*\x06\n\x01\x02\x12\x011";
+    b"j\n\x03-80\x12c\x08\x01\x12\\\n\x07\n\x02id\x10\x89\x02\n\x06\n\x01v\x10\x950\x12\x07\n\x02id\x10\x89\x02\x1a.MySQL56/3e11fa47-71ca-11e1-9e33-c80aa9429562:1\"\x08\n\x02\x02\x02\x12\x021a*\x06\n\x01\x02\x12\x011\x1a\x01t";
 
 /// The empty position, and no row.
 const OF_NOTHING: &[u8] =
-    b"-\n\x03-80\x12&\x12$\n\x07\n\x02id\x10\x89\x02\n\x06\n\x01v\x10\x950\x12\x07\n\x02id\x10\x89\x02\x1a\x08MySQL56/";
+    b"0\n\x03-80\x12)\x12$\n\x07\n\x02id\x10\x89\x02\n\x06\n\x01v\x10\x950\x12\x07\n\x02id\x10\x89\x02\x1a\x08MySQL56/\x1a\x01t";
 
 /// Whether the part of a stream that is copied up to a row's key is written so.
 fn is_written_up_to(alloc: Global, plan: &Plan, message: &[u8], wanted: &[u8]) -> bool {

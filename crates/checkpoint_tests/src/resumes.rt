@@ -101,13 +101,13 @@ fn is_board(alloc: Global, saved: &Saved<'_>) -> bool {
     }
 }
 
-/// 105 bytes.
+/// 108 bytes.
 #[test]
 fn one_row_is_resumed(rt: HostRuntime) {
     let saved = Saved {
         workflow: ONE,
         feeds: (ONE_ROW, &[]),
-        bytes: b"VREPLCP1`\n\x03-80\x12Y\x08\x02\x12U\n\x07\n\x02id\x10\x89\x02\n\x06\n\x01v\x10\x950\x12\x07\n\x02id\x10\x89\x02\x1a.MySQL56/3e11fa47-71ca-11e1-9e33-c80aa9429562:1\"\x09\n\x02\x02\x04\x12\x031ab",
+        bytes: b"VREPLCP2c\n\x03-80\x12\\\x08\x02\x12U\n\x07\n\x02id\x10\x89\x02\n\x06\n\x01v\x10\x950\x12\x07\n\x02id\x10\x89\x02\x1a.MySQL56/3e11fa47-71ca-11e1-9e33-c80aa9429562:1\"\x09\n\x02\x02\x04\x12\x031ab\x1a\x01t",
         stand: (Phase::Running, 1, 1),
         rows: b"1ab;",
     };
@@ -120,7 +120,7 @@ fn resume_within_a_table(rt: HostRuntime) {
     let saved = Saved {
         workflow: ONE,
         feeds: (TWO_ROWS, &[]),
-        bytes: b"VREPLCP1g\n\x03-80\x12`\x08\x01\x12\\\n\x07\n\x02id\x10\x89\x02\n\x06\n\x01v\x10\x950\x12\x07\n\x02id\x10\x89\x02\x1a.MySQL56/3e11fa47-71ca-11e1-9e33-c80aa9429562:1\"\x08\n\x02\x02\x02\x12\x021a*\x06\n\x01\x02\x12\x011",
+        bytes: b"VREPLCP2j\n\x03-80\x12c\x08\x01\x12\\\n\x07\n\x02id\x10\x89\x02\n\x06\n\x01v\x10\x950\x12\x07\n\x02id\x10\x89\x02\x1a.MySQL56/3e11fa47-71ca-11e1-9e33-c80aa9429562:1\"\x08\n\x02\x02\x02\x12\x021a*\x06\n\x01\x02\x12\x011\x1a\x01t",
         stand: (Phase::CatchUp, 1, 0),
         rows: b"1a;",
     };
@@ -132,7 +132,7 @@ fn resume_before_the_first_group(rt: HostRuntime) {
     let saved = Saved {
         workflow: ONE,
         feeds: (ONE_ROW, &[]),
-        bytes: b"VREPLCP1-\n\x03-80\x12&\x12$\n\x07\n\x02id\x10\x89\x02\n\x06\n\x01v\x10\x950\x12\x07\n\x02id\x10\x89\x02\x1a\x08MySQL56/",
+        bytes: b"VREPLCP20\n\x03-80\x12)\x12$\n\x07\n\x02id\x10\x89\x02\n\x06\n\x01v\x10\x950\x12\x07\n\x02id\x10\x89\x02\x1a\x08MySQL56/\x1a\x01t",
         stand: (Phase::CatchUp, 0, 0),
         rows: b"",
     };
@@ -144,7 +144,7 @@ fn two_streams_are_resumed(rt: HostRuntime) {
     let saved = Saved {
         workflow: TWO,
         feeds: (LOWER, UPPER),
-        bytes: b"VREPLCP1_\n\x03-80\x12X\x08\x02\x12T\n\x07\n\x02id\x10\x89\x02\n\x06\n\x01v\x10\x950\x12\x07\n\x02id\x10\x89\x02\x1a.MySQL56/3e11fa47-71ca-11e1-9e33-c80aa9429562:1\"\x08\n\x02\x02\x02\x12\x021a_\n\x0380-\x12X\x08\x02\x12T\n\x07\n\x02id\x10\x89\x02\n\x06\n\x01v\x10\x950\x12\x07\n\x02id\x10\x89\x02\x1a.MySQL56/3e11fa47-71ca-11e1-9e33-c80aa9429563:1\"\x08\n\x02\x02\x02\x12\x022b",
+        bytes: b"VREPLCP2b\n\x03-80\x12[\x08\x02\x12T\n\x07\n\x02id\x10\x89\x02\n\x06\n\x01v\x10\x950\x12\x07\n\x02id\x10\x89\x02\x1a.MySQL56/3e11fa47-71ca-11e1-9e33-c80aa9429562:1\"\x08\n\x02\x02\x02\x12\x021a\x1a\x01tb\n\x0380-\x12[\x08\x02\x12T\n\x07\n\x02id\x10\x89\x02\n\x06\n\x01v\x10\x950\x12\x07\n\x02id\x10\x89\x02\x1a.MySQL56/3e11fa47-71ca-11e1-9e33-c80aa9429563:1\"\x08\n\x02\x02\x02\x12\x022b\x1a\x01t",
         stand: (Phase::Running, 1, 1),
         rows: b"1a;2b;",
     };
@@ -215,7 +215,7 @@ fn takes_the_third<'h>(alloc: Global, board: &mut Board<'h>, feeds: &[Feed<'h>])
 
 /// The checkpoint behind the first two of four groups.
 const TWO_SAVED: &[u8] =
-    b"VREPLCP1k\n\x03-80\x12d\x08\x02\x12`\n\x07\n\x02id\x10\x89\x02\n\x06\n\x01v\x10\x950\x12\x07\n\x02id\x10\x89\x02\x1a0MySQL56/3e11fa47-71ca-11e1-9e33-c80aa9429562:1-2\"\x08\n\x02\x02\x02\x12\x021a\"\x08\n\x02\x02\x02\x12\x022b";
+    b"VREPLCP2n\n\x03-80\x12g\x08\x02\x12`\n\x07\n\x02id\x10\x89\x02\n\x06\n\x01v\x10\x950\x12\x07\n\x02id\x10\x89\x02\x1a0MySQL56/3e11fa47-71ca-11e1-9e33-c80aa9429562:1-2\"\x08\n\x02\x02\x02\x12\x021a\"\x08\n\x02\x02\x02\x12\x022b\x1a\x01t";
 
 /// Whether the board of a checkpoint goes on with the third group.
 fn goes_on_from<'h>(alloc: Global, feeds: &[Feed<'h>], bytes: &[u8]) -> bool {

@@ -10,9 +10,9 @@ use vrepl_main::save;
 
 /// The checkpoint of the board that has copied and applied the group of one row.
 pub const SAVED: &[u8] =
-    b"VREPLCP1`\n\x03-80\x12Y\x08\x02\x12U\n\x07\n\x02id\x10\x89\x02\n\x06\n\x01v\x10\x950\x12\x07\n\x02id\x10\x89\x02\x1a.MySQL56/3e11fa47-71ca-11e1-9e33-c80aa9429562:1\"\x09\n\x02\x02\x04\x12\x031ab";
+    b"VREPLCP2c\n\x03-80\x12\\\x08\x02\x12U\n\x07\n\x02id\x10\x89\x02\n\x06\n\x01v\x10\x950\x12\x07\n\x02id\x10\x89\x02\x1a.MySQL56/3e11fa47-71ca-11e1-9e33-c80aa9429562:1\"\x09\n\x02\x02\x04\x12\x031ab\x1a\x01t";
 
-/// `save` prints its 105 bytes: the replies aren't among them.
+/// `save` prints its 108 bytes: the replies aren't among them.
 fn is_saved(alloc: Global) -> Result<bool, AllocError> {
     let feeds = feeds_of(alloc, &[ONE_ROW])?;
     let script = b"offer 0 1\nadvance 0\nopen 0 1\ncopy 0 1\nadvance 0\ndump\n";
