@@ -284,7 +284,7 @@ def signals_while_it_writes(room):
 
 def unreadable_feeds(room):
     os.mkdir(os.path.join(room.place, "folder"))
-    files = {"workflow": making.ONE, "it": checkpoint.MAGIC, "feed": making.ONE_ROW}
+    files = {"workflow": making.ONE, "it": checkpoint.MAGIC[2], "feed": making.ONE_ROW}
     for name in ("missing", "folder"):
         for words in (["show", name], *([it, "workflow", name] for it in ("step", "save", "run")), ["resume", "--checkpoint=it", "workflow", name]):
             said = room.run(words, files)

@@ -3,7 +3,7 @@ from . import Refused, wire
 from .board import Board, key_text
 from .feed import BadPosition, print_position, read_position
 
-MAGIC = b"VREPLCP1"
+MAGIC = {1: b"VREPLCP1", 2: b"VREPLCP2"}
 
 
 def put_varint(value):
@@ -35,11 +35,12 @@ def put_field(name, kind):
     return put_text(1, name) + put_number(2, kind)
 
 
-def save(board):
-    out = [MAGIC]
+def save(board, version=2, count=None):
+    """What a board saves: version 1 doesn't say the tables' names, and version 2 may have the parts of the first so many tables."""
+    out = [MAGIC[version]]
     for s, shard in enumerate(board.workflow.shards):
         part, rows = put_text(1, shard), board.rows_of(s)
-        for t, table in enumerate(board.workflow.tables):
+        for t, table in enumerate(board.workflow.tables[:count]):
             mark = board.streams[s].marks[t]
             answer = b"".join(put_message(1, put_field(*it)) for it in table.columns)
             answer += b"".join(put_message(2, put_field(*table.columns[it])) for it in table.key_places)
@@ -48,7 +49,8 @@ def save(board):
             if isinstance(mark, tuple):
                 answer += put_message(5, put_row([b"%d" % it if isinstance(it, int) else it for it in mark]))
             number = {"waits": 0, "done": 2}.get(mark, 1) if isinstance(mark, str) else 1
-            part += put_message(2, put_number(1, number) + put_message(2, answer))
+            name = put_text(3, table.name) if version == 2 else b""
+            part += put_message(2, put_number(1, number) + put_message(2, answer) + name)
         out.append(put_varint(len(part)) + part)
     return b"".join(out)
 
@@ -87,9 +89,10 @@ def columns(data, spans):
     return [(it.text(1), it.number(2)) for it in (message(data, span) for span in spans)]
 
 
-def table_part(data, span, table):
+def table_part(data, span, table, version):
     """The position, the mark and the rows by key that a table's part says."""
     part = message(data, span, (2,))
+    need(version == 1 or part.text(3) == table.name)
     answer = message(data, (part.spans(2) or [(0, 0)])[0], (5,))
     need(columns(data, answer.spans(1)) == table.columns)
     need(columns(data, answer.spans(2)) == [table.columns[it] for it in table.key_places])
@@ -121,26 +124,32 @@ def key_of_lastpk(table, said):
     return key
 
 
-def stream_part(data, span, workflow, s):
+def stream_part(data, span, workflow, s, version):
+    """What a stream's part says, and how many tables it has; further tables wait."""
     part = message(data, span)
-    need(part.text(1) == workflow.shards[s] and len(part.spans(2)) == len(workflow.tables))
-    said = [table_part(data, *it) for it in zip(part.spans(2), workflow.tables)]
+    count, whole = len(part.spans(2)), len(workflow.tables)
+    need(part.text(1) == workflow.shards[s] and (count == whole if version == 1 else 1 <= count <= whole))
+    said = [table_part(data, *it, version) for it in zip(part.spans(2), workflow.tables)]
     positions, marks = [it[0] for it in said], [it[1] for it in said]
     need(all(it == positions[0] for it in positions))
     order = ["done key waits".split().index(it if isinstance(it, str) else "key") for it in marks]
     need(order == sorted(order) and order.count(1) <= 1)
-    return positions[0], marks, {(t, key): it for t in range(len(said)) for key, it in said[t][2].items()}
+    marks += ["waits"] * (whole - count)
+    return count, (positions[0], marks, {(t, key): it for t in range(len(said)) for key, it in said[t][2].items()})
 
 
 def read(data, workflow):
-    need(data[:8] == MAGIC)
-    at, parts = 8, []
+    versions = [it for it in MAGIC if MAGIC[it] == data[:8]]
+    need(versions)
+    at, parts, counts = 8, [], set()
     for s in range(len(workflow.shards)):
         size, after = wire.varint(data, at, len(data))
         need(size is not None and size <= len(data) - after)
         at = after + size
-        parts.append(stream_part(data, (after, at), workflow, s))
-    need(at == len(data))
+        count, said = stream_part(data, (after, at), workflow, s, versions[0])
+        parts.append(said)
+        counts.add(count)
+    need(at == len(data) and len(counts) == 1)
     return parts
 
 

@@ -154,17 +154,19 @@ class Case(Feeds):
         return boards
 
     def checkpoint_of(self, board):
-        """What a board saves, or one that is bent; such a case isn't damaged further."""
+        """What a board saves in either version, maybe without its last tables, or one that is bent; such a case isn't damaged further."""
         is_bent = self.chance(self.bent)
+        version = self.r.choice([1, 2, 2])
+        count = self.r.randrange(1, len(board.workflow.tables) + 1) if board and version == 2 and self.chance(0.3) else None
         try:
-            said = checkpoint.save(Bent(self, board) if is_bent else board) if board else checkpoint.MAGIC
+            said = checkpoint.save(Bent(self, board) if is_bent else board, version, count) if board else checkpoint.MAGIC[version]
         except Refused:
-            said = checkpoint.save(board)
+            said = checkpoint.save(board, version, count)
         self.is_whole |= is_bent
         return self.respelled_checkpoint(said) if self.chance(0.5) else said
 
     def respelled_checkpoint(self, data):
-        at, out = len(checkpoint.MAGIC), [checkpoint.MAGIC]
+        at, out = 8, [data[:8]]
         while at < len(data):
             size, at = varint(data, at, len(data))
             part = self.respelled(data[at : at + size], "stream")

@@ -23,7 +23,7 @@ MESSAGES = {
     "vgtid": ({1: "entry"}, {}),
     "entry": ({}, {number: put_message(number, JUNK) for number in (1, 2, 3)}),
     "stream": ({2: "table"}, {1: put_message(1, JUNK)}),
-    "table": ({2: "answer"}, {1: put_number(1, 7)}),
+    "table": ({2: "answer"}, {1: put_number(1, 7), 3: put_message(3, JUNK)}),
     "answer": ({1: "column", 2: "column", 4: "row", 5: "row"}, {3: put_message(3, JUNK)}),
 }
 
