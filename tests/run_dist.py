@@ -282,7 +282,8 @@ def each_change_is_noticed(room):
                 fault = fault or refused(room.run(room.plain, *SHOW, PATH=places), said)
         if fault:
             return f"{make.__name__} {path}: {fault}"
-    return holds_from_now(room) or refused(room.run(room.plain, *SHOW, builds=True, RT_FAILS="1"), "vrepl isn't proved")
+    # what dist/ has counts under any toolchain
+    return holds_from_now(room) or wanted(room.run(room.plain, *SHOW, builds=True, RT_FAILS="1"))
 
 
 def tests_and_documents_do_not_count(room):
@@ -308,6 +309,22 @@ def gate_refuses_a_changed_program(room):
     shutil.copy(carried, other)
     change(other, 4096)
     ran = room.run(room.plain, other, command=check)
+    return fault or (None if ran[0] == 1 and b"./release" in ran[1] else f"status {ran[0]}, output {ran[1]!r}")
+
+
+def gate_compares_no_program_of_another_toolchain(room):
+    """A toolchain that has a name of its own, beside a program in dist/ that isn't the one given."""
+    kit, other = os.path.join(room.folder, "KIT-ID"), os.path.join(room.folder, "another")
+    shutil.copy(os.path.join(room.plain, CARRIED), other)
+    change(other, 4096)
+    write(kit, "another-kit\n")
+    ran = room.run(room.plain, other, command="scripts/is_released", builds=True)
+    os.remove(kit)
+    fault = None if ran[0] == 2 and b"another-kit: not compared" in ran[1] else f"status {ran[0]}, output {ran[1]!r}"
+    write(kit, "another-kit\n")
+    with longer(os.path.join(room.plain, SOURCE)):
+        ran = room.run(room.plain, other, command="scripts/is_released", builds=True)
+    os.remove(kit)
     return fault or (None if ran[0] == 1 and b"./release" in ran[1] else f"status {ran[0]}, output {ran[1]!r}")
 
 
@@ -350,7 +367,7 @@ CHECKS = [
     answers_at_once, answers_through_a_link, answers_many_at_a_time, words_and_status_are_the_programs,
     next_answer_needs_one_command, each_change_is_noticed,
     changed_program_is_never_run, program_of_other_sources_is_not_run, tests_and_documents_do_not_count,
-    gate_refuses_a_changed_program, gate_refuses_changed_sources, answers_from_a_read_only_folder,
+    gate_refuses_a_changed_program, gate_refuses_changed_sources, gate_compares_no_program_of_another_toolchain, answers_from_a_read_only_folder,
     checkout_without_dist_builds, build_that_fails_leaves_what_was_there,
 ]  # fmt: skip
 
