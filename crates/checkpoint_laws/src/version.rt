@@ -1,7 +1,7 @@
 //! The versions in which a checkpoint's bytes are written.
 
 /// The version of a checkpoint's bytes.
-#[derive(Clone, Copy, Debug, PartialEq, Eq)]
+#[derive(Clone, Copy)]
 pub enum Version {
     /// It begins with `VREPLCP1`: each stream has a part for each table of the workflow, which doesn't say
     /// the table's name.
