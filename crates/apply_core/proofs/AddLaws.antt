@@ -141,27 +141,17 @@ at_current m =
     ap (λ b. cond b copied (cond (m.done == m.done) (current_mark m.upto) waiting)) (le-ltb m.done m.done (le_refl m.done))
     ∙ ap (λ b. cond b (current_mark m.upto) waiting) (eq-eqb m.done m.done refl)
 
-number_of : MarkValue → ℕ
-number_of waiting = 0
-number_of (up_to key) = 1
-number_of copied = 2
-
 none_of : (o : Option KeyValue) → current_mark o ≡ waiting → o ≡ None
 none_of None e = refl
-none_of (Some key) e = let clash : 1 ≡ 0 = ap number_of e in absurd (omega (arith, clash))
-
-key_of_mark : MarkValue → Option KeyValue
-key_of_mark waiting = None
-key_of_mark (up_to key) = Some key
-key_of_mark copied = None
+none_of (Some key) e = let clash : up_to key ≡ waiting = e in absurd cc
 
 some_of : (o : Option KeyValue) (last : KeyValue) → current_mark o ≡ up_to last → o ≡ Some last
-some_of None last e = let clash : 0 ≡ 1 = ap number_of e in absurd (omega (arith, clash))
-some_of (Some key) last e = ap key_of_mark e
+some_of None last e = let clash : waiting ≡ up_to last = e in absurd cc
+some_of (Some key) last e = let same : up_to key ≡ up_to last = e in cc
 
 never_copied : {P : Type 0} (o : Option KeyValue) → current_mark o ≡ copied → P
-never_copied None e = let clash : 0 ≡ 2 = ap number_of e in absurd (omega (arith, clash))
-never_copied (Some key) e = let clash : 1 ≡ 2 = ap number_of e in absurd (omega (arith, clash))
+never_copied None e = let clash : waiting ≡ copied = e in absurd cc
+never_copied (Some key) e = let clash : up_to key ≡ copied = e in absurd cc
 
 pub waits_at : (m : Marks) (mark : MarkValue) → mark ≡ mark_of m m.done → mark ≡ waiting → m.upto ≡ None
 waits_at m mark is waits = none_of m.upto (sym (at_current m) ∙ sym is ∙ waits)
@@ -173,18 +163,18 @@ pub not_done_at : {P : Type 0} (m : Marks) (mark : MarkValue) → mark ≡ mark_
 not_done_at m mark is done = never_copied m.upto (sym (at_current m) ∙ sym is ∙ done)
 
 -- the key is still to be copied where the first tables are done and no key is marked
-pub past_there : (tables done : ℕ) (m more : Marks) (last : KeyValue) → more ≡ record { tables = tables; done = done; upto = None } → done ≡ m.done → m.tables ≤ tables → AreMarks m → m.upto ≡ Some last → IsTrue (is_past more last)
-past_there tables done m more last is at most are up =
+pub past_there : (tables done : ℕ) (m now : Marks) (last : KeyValue) → now ≡ record { tables = tables; done = done; upto = None } → done ≡ m.done → m.tables ≤ tables → AreMarks m → m.upto ≡ Some last → IsTrue (is_past now last)
+past_there tables done m now last is at most are up =
     let of : IsOfCurrent m last = subst (λ (o : Option KeyValue). IfSome o (IsOfCurrent m)) up are.current in
     let less : nat_lt done tables ≡ true = lt-ltb done tables (omega (arith, at, of.copying, most)) in
     let same : (last.table == done) ≡ true = eq-eqb last.table done (of.table ∙ sym at) in
     ap (λ (marks : Marks). is_past marks last) is ∙ ap (λ b. b && ((last.table == done) && true)) less ∙ ap (λ b. b && true) same
 
-pub marks_done : (tables done : ℕ) (marks more : Marks) → more ≡ record { tables = tables; done = done; upto = None } → done ≡ marks.done → marks.upto ≡ None → more ≡ marks_of_more tables marks
-marks_done tables done marks more is at none = is ∙ (λ i. record { tables = tables; done = at i; upto = sym none i })
+pub marks_done : (tables done : ℕ) (marks now : Marks) → now ≡ record { tables = tables; done = done; upto = None } → done ≡ marks.done → marks.upto ≡ None → now ≡ marks_of_more tables marks
+marks_done tables done marks now is at none = is ∙ (λ i. record { tables = tables; done = at i; upto = sym none i })
 
-pub marks_upto : (tables done : ℕ) (marks more : Marks) (last : KeyValue) → more ≡ record { tables = tables; done = done; upto = Some last } → done ≡ marks.done → marks.upto ≡ Some last → more ≡ marks_of_more tables marks
-marks_upto tables done marks more last is at up = is ∙ (λ i. record { tables = tables; done = at i; upto = sym up i })
+pub marks_upto : (tables done : ℕ) (marks now : Marks) (last : KeyValue) → now ≡ record { tables = tables; done = done; upto = Some last } → done ≡ marks.done → marks.upto ≡ Some last → now ≡ marks_of_more tables marks
+marks_upto tables done marks now last is at up = is ∙ (λ i. record { tables = tables; done = at i; upto = sym up i })
 
 -- the stream that is made
 module _ (feed : FeedValue) (state : State) (groups : List PreparedValue) (plan : PlanValue) (applied : ℕ) (marks : Marks) (again : AreAgain feed state state.applied groups) (planned : plan ≡ feed.plan) (at : applied ≡ state.applied)

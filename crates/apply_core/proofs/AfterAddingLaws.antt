@@ -1,6 +1,6 @@
 -- A board that is saved comes back under plans with more tables, with these added.
-use Rattle.std.proofs.Common.{◌≡◌, ◌⊎◌, ℕ, ◌^◌, ◌<◌, ◌≤◌, inl, inr, Bool, true, false, le_refl, List, [], ◌∷◌, length, map, Some, Result, Ok, Err, IfOk, IfErr, slice_get, refl, sym, ap, subst, ◌∙◌, arith}
-use Rattle.std.proofs.lemmas.Bool.{cases_lt, true≢false}
+use Rattle.std.proofs.Common.{◌≡◌, ◌⊎◌, ℕ, ◌^◌, ◌<◌, ◌≤◌, inl, inr, le_refl, List, [], ◌∷◌, length, map, Some, Result, Ok, Err, IfOk, IfErr, slice_get, refl, sym, ap, subst, ◌∙◌, arith}
+use Rattle.std.proofs.lemmas.Bool.{cases_lt}
 use Rattle.std.specs.List.{AllByRecursion}
 use Rattle.filter_rule.specs.PlanValue.{PlanValue}
 use Rattle.filter_rule.specs.WellFormed.{IsPlan}
@@ -38,16 +38,6 @@ after_restarts (f ∷ feeds) (x ∷ states) = ap (λ (xs : List State). extended
 
 after_restarts_board : (feeds : List FeedValue) (board : Meaning) → extended_board feeds board ≡ extended_board feeds (restarted board)
 after_restarts_board feeds board = ap (λ (streams : List State). record { streams = streams; rows = board.rows }) (sym (after_restarts feeds board.streams))
-
-is_memory : ResumeFault → Bool
-is_memory Memory = true
-is_memory FeedCount = false
-is_memory WrongPlan = false
-is_memory CheckpointBad = false
-is_memory (PositionUnknown s) = false
-is_memory (Unsound fault) = false
-is_memory (CheckpointDiffers s key) = false
-is_memory (OwnedByOther key owner) = false
 
 module _ (ties : Ties) (said : SavedBoardsAreSaidOfMore) (one_thing : CheckpointsSayOneThing) (extended : ExtendedBoardsAreResumed) (plans : List PlanValue) (well : AllByRecursion IsPlan plans) (feeds : List FeedValue) (bytes : List ℕ)
     (long : length bytes < 2 ^ 64) (board : Meaning) (of : IsSavedBefore plans feeds bytes board) (are : AreFeeds feeds) where
@@ -135,9 +125,9 @@ module _ (ties : Ties) (said : SavedBoardsAreSaidOfMore) (one_thing : Checkpoint
       absurd (h.fails (at.state.applied, known_at_stream feeds board are of.lawful of.histories s h.one h.other h.here at))
   refused_saved (Unsound fault) h = unsound fault h
   refused_saved (CheckpointDiffers s key) h =
-      absurd (true≢false (sym (ap is_memory (made_alone (resumed_go_on feeds board are of.lawful of.histories h.states h.resumed) (CheckpointDiffers s key) h))))
+      let clash : CheckpointDiffers s key ≡ Memory = made_alone (resumed_go_on feeds board are of.lawful of.histories h.states h.resumed) (CheckpointDiffers s key) h in absurd cc
   refused_saved (OwnedByOther key owner) h =
-      absurd (true≢false (sym (ap is_memory (made_alone (resumed_go_on feeds board are of.lawful of.histories h.states h.resumed) (OwnedByOther key owner) h))))
+      let clash : OwnedByOther key owner ≡ Memory = made_alone (resumed_go_on feeds board are of.lawful of.histories h.states h.resumed) (OwnedByOther key owner) h in absurd cc
   refused_saved Memory h = tt
 
   of_saved : (fault : ResumeFault) (saved : List SavedStream) → IsCheckpoint (plans_of_feeds feeds) bytes saved → IsRefusedSaved feeds saved fault → IsRefusedOfMore feeds board fault

@@ -21,15 +21,19 @@ fn more_marks(alloc: Global, marks: &CopyState, tables: u8) -> Result<CopyState,
 {
     let mut more = CopyState::new(tables);
     let done = marks.done();
+    let current = marks.mark(done);
     for _t in 0..done {
         more.finish_table();
     }
-    match marks.mark(done) {
-        Mark::Waiting => {}
-        Mark::Upto(last) => more.move_to(last.try_clone(alloc)?),
-        Mark::Done => {}
+    match current {
+        Mark::Waiting => Ok(more),
+        Mark::Upto(last) => {
+            let key = last.try_clone(alloc)?;
+            more.move_to(key);
+            Ok(more)
+        }
+        Mark::Done => Ok(more),
     }
-    Ok(more)
 }
 
 /// The same of a stream's marks.

@@ -126,11 +126,11 @@ fn resumed_over<'h>(
     Ok(board)
 }
 
-/// The board that a checkpoint of version 1 or 2 says, over the feeds of its streams, which stand in the order of
-/// the 1 to 64 plans: each stream has read and applied its feed's groups up to the checkpoint's position, its tables are
-/// copied as far as the marks say, and its rows are those that the bytes say. Tables of the plans behind those that
-/// a version 2 has wait. No snapshot is open. The rows
-/// are built again from the feeds and compared, one stream after another.
+/// The board that a checkpoint of version 1 or 2 says, over the feeds of its streams, which stand in the order
+/// of the 1 to 64 plans: each stream has read and applied its feed's groups up to the checkpoint's position, its
+/// tables are copied as far as the marks say, and its rows are those that the bytes say. Tables of the plans
+/// behind those that a version 2 has wait. No snapshot is open. The rows are built again from the feeds and
+/// compared, one stream after another.
 ///
 /// Refused, in this order: 119 where there aren't as many feeds as plans; 111 where two plans differ in their
 /// tables or a feed wasn't opened under its plan; 116 where the bytes are no checkpoint for these plans; 118
@@ -153,8 +153,8 @@ pub fn resume<'h>(
     // Each read list is a beginning of its feed's groups.
     ensures reads { IfOk result (AllReadTheirFeeds feeds.now) }
     ensures refused { IfErr result (IsRefusedResume (map arc_value plans.now) feeds.now bytes.now) }
-    // A board whose rows, keys and positions are within the limits and that was saved, in either version, comes back as it
-    // was after a restart of each stream.
+    // A board whose rows, keys and positions are within the limits and that was saved, in either version, comes
+    // back as it was after a restart of each stream.
     ensures after_save { (board : Meaning) → IsSavedOf (map arc_value plans.now) feeds.now bytes.now board → Gives (restarted board) result }
     // Under plans with tables appended such a board comes back with these tables added, which wait.
     ensures after_adding { (board : Meaning) → IsSavedBefore (map arc_value plans.now) feeds.now bytes.now board → GivesMore feeds.now board result }

@@ -72,8 +72,8 @@ fn put_parts(
     Ok(())
 }
 
-/// The checkpoint of a board, of version 2: of each stream the position of the last applied group, how far its tables
-/// are copied, and its rows in the target. What is read beyond the applied groups isn't kept, nor is an
+/// The checkpoint of a board, of version 2: of each stream the position of the last applied group, how far its
+/// tables are copied, and its rows in the target. What is read beyond the applied groups isn't kept, nor is an
 /// open snapshot. An error is want of memory.
 pub fn save(alloc: Global, board: &Board<'_>) -> Result<Vec<u8>, AllocError>
     ensures { IfOk result (λ bytes. bytes.items ≡ checkpoint_of board.now) }

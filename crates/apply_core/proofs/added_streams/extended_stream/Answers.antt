@@ -9,11 +9,11 @@ marks_with-requires c = omega (arith, c.is_sound.ensures.tables, c.requires.more
 
 pub invariant_of-result : goal.invariant_of-result
 invariant_of-result c =
-    made_stream c.args.feed.now c.args.stream.now (map arc_value c.in_ok-list.list.items) (arc_value c.in_ok-plan.plan) c.applied_of.result c.in_ok-marks.marks c.in_ok-list.ensures.ok (c.in_ok-plan.ensures.cases ∙ c.plan.ensures.value)
-    c.applied_of.ensures (c.in_ok-marks.ensures ∙ ap (λ n. marks_of_more n c.args.stream.now.marks) c.tables_under.ensures) c.extended_streams_are_sound.ensures.sound c.is_sound.ensures c.plan.ensures.whole c.requires c.new.result
+    made_stream c.args.feed.now c.args.stream.now (map arc_value c.in_ok-list.list.items) (arc_value c.in_ok-plan.plan) c.applied_of-applied.result c.in_ok-marks.marks c.in_ok-list.ensures.ok (c.in_ok-plan.ensures.cases ∙ c.plan.ensures.value)
+    c.applied_of-applied.ensures (c.in_ok-marks.ensures ∙ ap (λ n. marks_of_more n c.args.stream.now.marks) c.tables_under.ensures) c.extended_streams_are_sound.ensures.sound c.is_sound.ensures c.plan.ensures.whole c.requires c.new.result
     (c.new.ensures.kept (map arc_value c.in_ok-list.list.items))
 
 pub returns-clause-ok : goal.returns-clause-ok
 returns-clause-ok c =
-    made_extended c.args.feed.now c.args.stream.now (map arc_value c.in_ok-list.list.items) (arc_value c.in_ok-plan.plan) c.applied_of.result c.in_ok-marks.marks c.in_ok-list.ensures.ok (c.in_ok-plan.ensures.cases ∙ c.plan.ensures.value)
-    c.applied_of.ensures (c.in_ok-marks.ensures ∙ ap (λ n. marks_of_more n c.args.stream.now.marks) c.tables_under.ensures)
+    made_extended c.args.feed.now c.args.stream.now (map arc_value c.in_ok-list.list.items) (arc_value c.in_ok-plan.plan) c.applied_of-applied.result c.in_ok-marks.marks c.in_ok-list.ensures.ok (c.in_ok-plan.ensures.cases ∙ c.plan.ensures.value)
+    c.applied_of-applied.ensures (c.in_ok-marks.ensures ∙ ap (λ n. marks_of_more n c.args.stream.now.marks) c.tables_under.ensures)

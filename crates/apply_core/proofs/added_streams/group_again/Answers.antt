@@ -11,10 +11,12 @@ returns-in-Err-clause-err c = not_again_by c.args.tables c.args.feed.now c.args.
 pub returns-then-not-same_on-clause-err : goal.returns-then-not-same_on-clause-err
 returns-then-not-same_on-clause-err c = (
   refl,
-  arc_value c.in-Ok.group,
-  c.in-Ok.ensures.exact,
-  λ same. true≢false (sym (c.same_on.ensures.1 (subst (IsSameOn c.args.tables c.args.old.now) (sym c.deref.ensures) same)) ∙ c.if-not-same_on.true),
+  (
+    arc_value c.in-Ok.group,
+    c.in-Ok.ensures.exact,
+    λ same. true≢false (sym (c.same_on.ensures.1 (subst (IsSameOn c.args.tables c.args.old.now) (sym c.deref.ensures) same)) ∙ c.if-not-same_on.true),
+  ),
 )
 
-pub returns-in-Ok-clause-ok : goal.returns-in-Ok-clause-ok
-returns-in-Ok-clause-ok c = record { prepared_is = c.in-Ok.ensures.exact; same = subst (IsSameOn c.args.tables c.args.old.now) c.deref.ensures (c.same_on.ensures.0 c.if-not-same_on.false) }
+pub returns-else-not-same_on-clause-ok : goal.returns-else-not-same_on-clause-ok
+returns-else-not-same_on-clause-ok c = record { prepared_is = c.in-Ok.ensures.exact; same = subst (IsSameOn c.args.tables c.args.old.now) c.deref.ensures (c.same_on.ensures.0 c.if-not-same_on.false) }

@@ -7,6 +7,13 @@ use Rattle.added_laws.specs.Extended.{extended_states, extended_board, MayExtend
 use Rattle.apply_core.proofs.AddLaws.{as_many_as, may_extend, memory_alone, all_streams, extended_is}
 use Rattle.apply_core.proofs.adding.add_tables.Goals as goal
 
+pub with_streams-requires : goal.with_streams-requires
+with_streams-requires c =
+    let long = as_many_as (map arc_value c.args.plans.now) c.args.feeds.now c.args.board c.in-Ok.ensures.taken in
+    let may : MayExtend c.args.feeds.now c.args.board = may_extend (map arc_value c.args.plans.now) c.args.feeds.now c.args.board c.in-Ok.ensures.taken c.in-Ok.ensures.whole c.in-Ok.ensures.ok.before in
+    subst IsLawful (sym (extended_is c.args.feeds.now c.args.board c.in-Ok.streams.items c.args.board.rows (all_streams c.args.feeds.now c.args.board.streams c.in-Ok.streams.items long c.in-Ok.ensures.ok) refl))
+    (c.extended_boards_are_lawful.ensures.lawful c.args.feeds.now c.args.board c.is_lawful.ensures may)
+
 pub returns-in-Ok-clause-may : goal.returns-in-Ok-clause-may
 returns-in-Ok-clause-may c = may_extend (map arc_value c.args.plans.now) c.args.feeds.now c.args.board c.in-Ok.ensures.taken c.in-Ok.ensures.whole c.in-Ok.ensures.ok.before
 

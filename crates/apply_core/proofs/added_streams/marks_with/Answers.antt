@@ -1,0 +1,4 @@
+use Rattle.apply_core.proofs.added_streams.marks_with.Goals as goal
+
+pub returns : goal.returns
+returns c = c.more_marks.ensures
