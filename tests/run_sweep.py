@@ -15,7 +15,7 @@ once or twice for each growth that it asks for. A test may fail only with want o
 it ends with, or as what it compared.
 
 `run` of two feeds in threads, on 1, 2 and 4 processors, has the Nth growth refused, N from 1 until none is: it
-prints the dump or says `refused 72`.
+prints the dump or says `refused 72`. And the Nth thread, alone and with all behind it: it prints the dump.
 
 Scripts of steps on one board, some that stand in refused_steps.py and some at random, have each growth of each step
 refused: the step is made again each time, and at last answers what the plain model does.
@@ -47,6 +47,8 @@ SWEPT = {
     "program_tests": {"replies::": 3},
 }
 SCRIPTS_AT_RANDOM = 60
+# of a run of two streams: a reader for each, and a worker beside the first thread's
+FEWEST_THREADS = 3
 
 TESTS = os.path.dirname(os.path.abspath(__file__))
 ROOT = os.path.dirname(TESTS)
@@ -145,7 +147,7 @@ def sweep_scripts(pool, program, library):
 
 
 def sweep_run(program, library, processors):
-    """Answers why a run in threads on so many processors fails under some refused growth, or nothing."""
+    """Answers why a run in threads on so many processors fails under some refused growth or thread, or nothing."""
     files = {"workflow": making.TWO, "lower": making.LOWER, "upper": making.UPPER}
     words = ["run", *files]
     wanted = model.answers(words, files)
@@ -155,17 +157,30 @@ def sweep_run(program, library, processors):
         for name, data in files.items():
             with open(os.path.join(place, name), "wb") as file:
                 file.write(data)
+
+        def run(counted, **refused):
+            """What it says, and how many growths or threads it asks for."""
+            told = {"LD_PRELOAD": library, counted: os.path.join(place, "count"), **refused}
+            ran = subprocess.run([program, *words], cwd=place, env={**os.environ, **told}, **how)
+            with open(told[counted], encoding="ascii") as file:
+                return (ran.returncode, ran.stdout, ran.stderr), int(file.read())
+
         at, growths = 0, 1
         while at < growths:
             at += 1
-            told = {"LD_PRELOAD": library, "GROWTHS": os.path.join(place, "growths"), "REFUSE_GROWTH": f"{at}"}
-            ran = subprocess.run([program, *words], cwd=place, env={**os.environ, **told}, **how)
-            said = ran.returncode, ran.stdout, ran.stderr
+            said, growths = run("GROWTHS", REFUSE_GROWTH=f"{at}")
             if said not in [*wanted, REFUSED]:
                 return f"growth {at} refused: {said}"
-            with open(told["GROWTHS"], encoding="ascii") as file:
-                growths = int(file.read()) + (said == REFUSED)
-    print(f"run in threads on {processors} processors: {at - 1} growths refused, one by one")
+            growths += said == REFUSED
+        _, threads = run("THREADS")
+        if threads < FEWEST_THREADS:
+            return f"{threads} threads are made"
+        for one in range(1, threads + 1):
+            for refused in f"{one}", f"{one}+":
+                said, _ = run("THREADS", REFUSE_THREAD=refused)
+                if said not in wanted:
+                    return f"thread {refused} of {threads} refused: {said}"
+    print(f"run in threads on {processors} processors: {at - 1} growths refused, one by one, and {threads} threads, one by one and with all behind")
     return None
 
 
