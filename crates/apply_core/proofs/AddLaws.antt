@@ -27,12 +27,12 @@ use Rattle.added_laws.specs.Extended.{marks_of_more, extended_state, extended_st
 use Rattle.added_laws.specs.GoingOn.{GoesOnTo, GoesOn, MeetsUnsound, IsOfOtherHistory, GoOnBefore, StopsAt}
 use Rattle.added_laws.specs.Laws.{ExtendedStatesAreSound, FeedsThatGoOnArentStopped}
 use Rattle.added_laws.proofs.Boards.{becomes, as_many}
-use Rattle.join_laws.specs.Compatible.{plans_of}
+use Rattle.join_laws.specs.Compatible.{plans_of_board}
 use Rattle.checkpoint_laws.proofs.ResumedLaws.{at_same_place}
 use Rattle.checkpoint_core.specs.Groups.{AreFirst, StopsBefore}
 use Rattle.checkpoint_core.proofs.GroupLaws.{there_at_number, front_ends, first_more, first_stops}
 use Rattle.apply_core.specs.Adding.{AreTaken, IsRefusedAdd}
-use Rattle.apply_core.specs.Feeds.{AreWhole, AreFed}
+use Rattle.apply_core.specs.Feeds.{AreWholeFeeds, AreFed}
 use Rattle.apply_core.specs.Private.Adding.{fault_of_feed, IsGroupAgain, IsNotAgain, AreAgain, IsStoppedBy, IsExtendedBy, FeedsExtend, AreExtendedUpTo, AreStopped}
 use Rattle.apply_core.specs.Private.StreamState.{IsStream}
 
@@ -247,7 +247,7 @@ module _ (plans : List PlanValue) (feeds : List FeedValue) (board : Meaning) (ta
       (slice_get-map (λ (state : State). state.plan) board.streams s ∙ ap (option_map (λ (state : State). state.plan)) here)
       (plan_there s feed fed)
 
-  pub may_extend : AreWhole feeds → GoOnBefore feeds board.streams (length board.streams) → MayExtend feeds board
+  pub may_extend : AreWholeFeeds feeds → GoOnBefore feeds board.streams (length board.streams) → MayExtend feeds board
   may_extend whole before = record {
     count = as_many_as;
     whole = whole;

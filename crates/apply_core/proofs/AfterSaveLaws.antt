@@ -17,7 +17,7 @@ use Rattle.board_laws.specs.Cut.{cut_of}
 use Rattle.board_laws.specs.Meaning.{State, TargetRows, Meaning}
 use Rattle.board_laws.specs.Runs.{sound_groups}
 use Rattle.board_laws.proofs.Lookups.{Ties}
-use Rattle.join_laws.specs.Compatible.{AreApart, plans_of}
+use Rattle.join_laws.specs.Compatible.{AreApart, plans_of_board}
 use Rattle.join_laws.specs.Joined.{rows_from}
 use Rattle.join_laws.specs.Refused.{IsFirstClash}
 use Rattle.join_laws.proofs.Rows.{value_from, IsRowOf, whose}
@@ -30,10 +30,10 @@ use Rattle.checkpoint_laws.specs.Refused.{plans_of_feeds, IsRefusedSaved, IsRefu
 use Rattle.checkpoint_laws.specs.Laws.{AreFeeds, restarted, SavedBoardsAreSaid, CheckpointsSayOneThing, RestartedBoardsAreResumed}
 use Rattle.checkpoint_laws.proofs.ResumedLaws.{at_same_place}
 use Rattle.checkpoint_laws.proofs.RestartedLaws.{one_number, same_at_places}
-use Rattle.apply_core.specs.Feeds.{AreWhole, AreFed}
+use Rattle.apply_core.specs.Feeds.{AreWholeFeeds, AreFed}
 use Rattle.apply_core.specs.Private.Resuming.{AreOthers, HaveClash, IsUnfed}
 use Rattle.apply_core.specs.Private.Together.{AreTogether}
-use Rattle.apply_core.specs.Resuming.{IsResumed, IsRefusedResume, Gives, IsSavedOf}
+use Rattle.apply_core.specs.Resuming.{IsResumed, IsRefusedResume, GivesBoard, IsSavedOf}
 
 -- ---- streams that are apart don't clash
 
@@ -67,7 +67,7 @@ not_apart ties states key owner clash apart =
 
 -- ---- what makes a board isn't refused
 
-module _ (ties : Ties) (feeds : List FeedValue) (whole : AreWhole feeds) (saved : List SavedStream) (board : Meaning) (made : IsResumedBoard feeds saved board) where
+module _ (ties : Ties) (feeds : List FeedValue) (whole : AreWholeFeeds feeds) (saved : List SavedStream) (board : Meaning) (made : IsResumedBoard feeds saved board) where
   -- the state of a stream stands where the checkpoint says, and no other does
   record Stands (feed : FeedValue) (one : SavedStream) : Type 0 where
     state : State
@@ -108,10 +108,10 @@ module _ (plans : List PlanValue) (feeds : List FeedValue) (bytes : List ℕ) (b
   -- the feeds are those of the plans
   plans_are : plans_of_feeds feeds ≡ plans
   plans_are =
-      same_at_places (plans_of_feeds feeds) (plans_of board)
+      same_at_places (plans_of_feeds feeds) (plans_of_board board)
       (length-map feeds (λ (feed : FeedValue). feed.plan) ∙ of.begins.count ∙ sym (length-map board.streams (λ (state : State). state.plan))) (λ i x y p q.
       let feed : (feed : FeedValue) × (slice_get feeds i ≡ Some feed) = at_same_place (plans_of_feeds feeds) feeds i x (length-map feeds (λ (feed : FeedValue). feed.plan)) p in
-      let state : (state : State) × (slice_get board.streams i ≡ Some state) = at_same_place (plans_of board) board.streams i y (length-map board.streams (λ (state : State). state.plan)) q in
+      let state : (state : State) × (slice_get board.streams i ≡ Some state) = at_same_place (plans_of_board board) board.streams i y (length-map board.streams (λ (state : State). state.plan)) q in
       let planned : feed.0.plan ≡ x = same_Some feed.0.plan x (sym (slice_get-map (λ (feed : FeedValue). feed.plan) feeds i ∙ ap (option_map (λ (feed : FeedValue). feed.plan)) feed.1) ∙ p) in
       let kept : state.0.plan ≡ y = same_Some state.0.plan y (sym (slice_get-map (λ (state : State). state.plan) board.streams i ∙ ap (option_map (λ (state : State). state.plan)) state.1) ∙ q) in
       sym planned ∙ sym (of.begins.each_stream i feed.0 state.0 feed.1 state.1).plan ∙ kept)
@@ -125,8 +125,8 @@ module _ (plans : List PlanValue) (feeds : List FeedValue) (bytes : List ℕ) (b
 
   of_stream : (s : ℕ) (plan : PlanValue) → slice_get plans s ≡ Some plan → IsOfStream s plan
   of_stream s plan p =
-      let q : slice_get (plans_of board) s ≡ Some plan = ap (λ (ps : List PlanValue). slice_get ps s) (sym of.planned) ∙ p in
-      let state : (state : State) × (slice_get board.streams s ≡ Some state) = at_same_place (plans_of board) board.streams s plan (length-map board.streams (λ (state : State). state.plan)) q in
+      let q : slice_get (plans_of_board board) s ≡ Some plan = ap (λ (ps : List PlanValue). slice_get ps s) (sym of.planned) ∙ p in
+      let state : (state : State) × (slice_get board.streams s ≡ Some state) = at_same_place (plans_of_board board) board.streams s plan (length-map board.streams (λ (state : State). state.plan)) q in
       record {
         state = state.0;
         here = state.1;
@@ -148,7 +148,7 @@ module _ (ties : Ties) (said : SavedBoardsAreSaid) (one_thing : CheckpointsSayOn
   says : IsCheckpoint plans bytes (saved_of board)
   says =
       subst (λ (ps : List PlanValue). IsCheckpoint ps bytes (saved_of board)) (sym of.planned)
-      (subst (λ (bs : List ℕ). IsCheckpoint (plans_of board) bs (saved_of board)) (sym of.written)
+      (subst (λ (bs : List ℕ). IsCheckpoint (plans_of_board board) bs (saved_of board)) (sym of.written)
       (said of.version board (subst (AllByRecursion IsPlan) of.planned well) of.lawful of.within (subst (λ (bs : List ℕ). length bs < 2 ^ 64) of.written long)))
 
   kept_is : (saved : List SavedStream) → IsCheckpoint (plans_of_feeds feeds) bytes saved → saved ≡ saved_of board
@@ -171,13 +171,13 @@ module _ (ties : Ties) (said : SavedBoardsAreSaid) (one_thing : CheckpointsSayOn
   none_refused (CheckpointDiffers s key) h = of_saved (CheckpointDiffers s key) h.0 h.1 h.2
   none_refused (OwnedByOther key owner) h = of_saved (OwnedByOther key owner) h.0 h.1 h.2
 
-  pub comes_back : (result : Result Meaning ResumeFault) → IfOk result (IsResumed feeds bytes) → IfErr result (IsRefusedCheckpoint feeds bytes) → Gives (restarted board) result
+  pub comes_back : (result : Result Meaning ResumeFault) → IfOk result (IsResumed feeds bytes) → IfErr result (IsRefusedCheckpoint feeds bytes) → GivesBoard (restarted board) result
   comes_back (Ok other) h refused = (again feeds board are of.lawful of.begins).1 other (subst (λ (kept : List SavedStream). IsResumedBoard feeds kept other) (kept_is h.saved h.said) h.made)
   comes_back (Err fault) h refused = none_refused fault refused
 
 -- ---- plans and feeds
 
-pub are_feeds : (plans : List PlanValue) (feeds : List FeedValue) → 1 ≤ length plans → length plans ≤ 64 → AreFed plans feeds → AreWhole feeds → AreFeeds feeds
+pub are_feeds : (plans : List PlanValue) (feeds : List FeedValue) → 1 ≤ length plans → length plans ≤ 64 → AreFed plans feeds → AreWholeFeeds feeds → AreFeeds feeds
 are_feeds plans feeds some few fed whole =
     let long : length feeds ≡ length plans = sym (length-map feeds (λ (feed : FeedValue). feed.plan)) ∙ ap length fed.opened in
     let plan_at : (s : ℕ) (feed : FeedValue) → slice_get feeds s ≡ Some feed → slice_get plans s ≡ Some feed.plan =

@@ -19,7 +19,7 @@ use Rattle.board_laws.specs.Lawful.{IsLawful}
 use Rattle.board_laws.specs.Event.{Event, OnOffer}
 use Rattle.board_laws.specs.StateAfter.{state_after}
 use Rattle.board_laws.specs.Touching.{touch_of}
-use Rattle.board_laws.specs.Step.{takes_memory, IsMade, IsRefusedFor, IsRefused}
+use Rattle.board_laws.specs.Step.{takes_memory, IsMade, IsRefusedFor, IsRefusedOn}
 use Rattle.board_laws.specs.Laws.{MayStep, TouchesAreSteps, ClashesAreOfTheCut}
 use Rattle.apply_core.specs.Private.Changes.{refused_by}
 use Rattle.apply_core.specs.Private.StreamStep.{MayMake, MakesStep, ArePutsOf}
@@ -49,7 +49,7 @@ module _ (streams : List State) (rows : TargetRows) (s : ℕ) (event : Event) (p
       rising))
 
   -- the step is refused where its puts are
-  pub refused-by_puts : ClashesAreOfTheCut → ((state : State) → takes_memory state event ≡ true) → (fault : TableFault KeyValue) → IsRefusal key_cmp rows s (last_at key_cmp puts) fault → IsRefused met s event (refused_by fault)
+  pub refused-by_puts : ClashesAreOfTheCut → ((state : State) → takes_memory state event ≡ true) → (fault : TableFault KeyValue) → IsRefusal key_cmp rows s (last_at key_cmp puts) fault → IsRefusedOn met s event (refused_by fault)
   refused-by_puts clashes takes fault h =
       subst (λ (o : Option State). MatchOption o (refused_by fault ≡ NoStream) (λ state. IsRefusedFor met s state event (refused_by fault))) (sym are.may.stream) (by fault h)
     where
@@ -69,10 +69,10 @@ module _ (items : List State) (rows new : TargetRows) (s : ℕ) (event : Event) 
   -- the step of lent streams whose puts are refused is the board's
   pub lent-refused : ClashesAreOfTheCut → ((state : State) → takes_memory state event ≡ true) → (fault : TableFault KeyValue) → IsRefusal key_cmp rows s (last_at key_cmp puts) fault
       → (refusal : Refusal) → refusal ≡ refused_by fault → new ≡ rows → (board : Meaning) → ◌≡◌ {A = Meaning} (record { streams = items; rows = rows }) board
-      → IsRefused board s event refusal × (◌≡◌ {A = Meaning} (record { streams = items; rows = new }) board)
+      → IsRefusedOn board s event refusal × (◌≡◌ {A = Meaning} (record { streams = items; rows = new }) board)
   lent-refused clashes takes fault h refusal by unchanged board seen = (
-    subst (λ (b : Meaning). IsRefused b s event refusal) seen
-        (subst (λ (r : Refusal). IsRefused (record { streams = items; rows = rows }) s event r) (sym by)
+    subst (λ (b : Meaning). IsRefusedOn b s event refusal) seen
+        (subst (λ (r : Refusal). IsRefusedOn (record { streams = items; rows = rows }) s event r) (sym by)
         (refused-by_puts items rows s event puts lawful prepared here_puts clashes takes fault h)),
     ap (λ (there : TargetRows). record { streams = items; rows = there }) unchanged ∙ seen,
   )

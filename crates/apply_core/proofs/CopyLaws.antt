@@ -23,7 +23,7 @@ use Rattle.board_laws.specs.Allowed.{IsAllowed}
 use Rattle.board_laws.specs.Laws.{StatesStaySound, OneMoreTells}
 use Rattle.board_laws.proofs.Lookups.{Ties, rising-left}
 use Rattle.board_laws.proofs.Chunks.{left-rising, last-past}
-use Rattle.apply_core.specs.Chunks.{last_key_of, IsMoveOf, IsTaken, IsChunkFor}
+use Rattle.apply_core.specs.Chunks.{last_key_of, IsMoveOf, IsTakenChunk, IsChunkFor}
 use Rattle.apply_core.specs.Private.StreamState.{IsStream}
 use Rattle.apply_core.specs.Private.StreamStep.{MayMake, ArePutsOf}
 use Rattle.apply_core.specs.declared.taking.Chunk.{Chunk}
@@ -69,7 +69,7 @@ pub is-taken : OneMoreTells → (state : State) (c : ℕ) (found : LentRows) →
     → (rows first second : LentRows) → rows ≡ take c found → first ≡ rows → second ≡ rows
     → (puts : Vec (KeyValue × Option RowValue) Global) → ((key : KeyValue) → last_at key_cmp puts.items key ≡ put_by (map lent_row first) key)
     → (all : ℕ) → all ≡ length found → (count : ℕ) → count ≡ length rows → (last : Option KeyValue) → last ≡ last_key_of (map lent_row second)
-    → IsTaken state c (record { puts = puts; step = record { copied = record { rows = count; done = nat_le all c }; last = last } })
+    → IsTakenChunk state c (record { puts = puts; step = record { copied = record { rows = count; done = nat_le all c }; last = last } })
 is-taken tells state c found e rows first second cut one two puts put all of_found count of_rows last by_last =
     let taken : map lent_row rows ≡ rows_taken state c = ap (λ (xs : LentRows). map lent_row xs) cut ∙ taken-lent state c found e in
     let done : nat_le all c ≡ takes_all state c = ap (λ n. nat_le n c) of_found ∙ all-told tells state c found e in

@@ -48,7 +48,7 @@ use Rattle.checkpoint_laws.proofs.OwnRows.{cut-at, cut-rising}
 use Rattle.checkpoint_laws.proofs.ResumedLaws.{at_same_place, at_inside, resumed-sound}
 use Rattle.checkpoint_laws.proofs.RestartedLaws.{one_number}
 use Rattle.checkpoint_core.specs.Groups.{AreFirst, StopsBefore}
-use Rattle.apply_core.specs.Feeds.{AreWhole}
+use Rattle.apply_core.specs.Feeds.{AreWholeFeeds}
 use Rattle.apply_core.specs.Private.Changes.{put_row}
 use Rattle.apply_core.specs.Private.Resuming.{AtEachOfThree, IsNumberOf, AreNumbers, AreSaid, IsUnsoundAt, refusal_of_feed, AreOthers, AllRise}
 use Rattle.apply_core.specs.Private.StreamState.{IsStream}
@@ -170,7 +170,7 @@ said_long feeds saved said = said.is.same_count ∙ length-map feeds (λ (feed :
 pub all_resumed : (feeds : List FeedValue) (saved : List SavedStream) (n : ℕ) (states : List State) → AreSaid feeds saved → n ≡ length feeds → AreFirstResumed feeds saved n states → AreResumed feeds saved states
 all_resumed feeds saved n states said end h = record { count = h.count ∙ end; same_count = said_long feeds saved said; each_stream = h.each_stream }
 
-pub stops_at : (feeds : List FeedValue) (saved : List SavedStream) (n : ℕ) (numbers : List ℕ) (states : List State) (feed : FeedValue) (one : SavedStream) → AreWhole feeds → AreNumbers feeds saved (length feeds) numbers
+pub stops_at : (feeds : List FeedValue) (saved : List SavedStream) (n : ℕ) (numbers : List ℕ) (states : List State) (feed : FeedValue) (one : SavedStream) → AreWholeFeeds feeds → AreNumbers feeds saved (length feeds) numbers
     → slice_get feeds n ≡ Some feed → slice_get saved n ≡ Some one → AreFirstResumed feeds saved n states → (fault : ResumeFault) → IsUnsoundAt feed one fault → IsRefusedSaved feeds saved fault
 stops_at feeds saved n numbers states feed one whole known here there h (Unsound fault) unsound = record {
   known = all_known feeds saved numbers known;

@@ -16,18 +16,18 @@ use Rattle.board_laws.specs.Lawful.{start_of}
 use Rattle.board_laws.specs.Event.{Event}
 use Rattle.board_laws.specs.Reading.{AllReadTheirFeeds, HasFeed}
 use Rattle.board_laws.specs.RunLaws.{StreamsFollowTheirOwnSteps}
-use Rattle.board_laws.specs.Runs.{event_of}
+use Rattle.board_laws.specs.Runs.{event_of_step}
 use Rattle.board_laws.specs.Schedule.{Reply, WantsMemory, IsRefusedStep, IsReply, IsRun}
-use Rattle.board_laws.specs.Step.{IsRefused}
+use Rattle.board_laws.specs.Step.{IsRefusedOn}
 use Rattle.apply_core.specs.Fresh.{fresh_board}
-use Rattle.apply_core.specs.Feeds.{AreWhole}
+use Rattle.apply_core.specs.Feeds.{AreWholeFeeds}
 use Rattle.apply_core.specs.Schedules.{AllAreTaken}
 
 -- ---- one step
 
-module _ (feed : FeedValue) (old new : Meaning) (s : ℕ) (step : Step) (event : Event) (of_step : event_of feed step ≡ Some event) where
+module _ (feed : FeedValue) (old new : Meaning) (s : ℕ) (step : Step) (event : Event) (of_step : event_of_step feed step ≡ Some event) where
   -- a step that the board refuses is a refused step of the schedule
-  pub refused-step : (refusal : Refusal) → IsRefused old s event refusal → new ≡ old → IsRefusedStep feed old s step refusal new
+  pub refused-step : (refusal : Refusal) → IsRefusedOn old s event refusal → new ≡ old → IsRefusedStep feed old s step refusal new
   refused-step NoStream h same = record { event = event; of_step = of_step; stepped = (h, same) }
   refused-step WrongPlan h same = record { event = event; of_step = of_step; stepped = (h, same) }
   refused-step Diverged h same = record { event = event; of_step = of_step; stepped = (h, same) }
@@ -36,16 +36,16 @@ module _ (feed : FeedValue) (old new : Meaning) (s : ℕ) (step : Step) (event :
   refused-step FeedCount h same = record { event = event; of_step = of_step; stepped = (h, same) }
   refused-step Memory h same = (wanted step of_step, same)
     where
-      so : (o : Option Event) → o ≡ Some event → IsSomeAnd o (λ event. IsRefused old s event Memory)
-      so o is = subst (λ (o : Option Event). IsSomeAnd o (λ event. IsRefused old s event Memory)) (sym is) h
+      so : (o : Option Event) → o ≡ Some event → IsSomeAnd o (λ event. IsRefusedOn old s event Memory)
+      so o is = subst (λ (o : Option Event). IsSomeAnd o (λ event. IsRefusedOn old s event Memory)) (sym is) h
 
-      wanted : (step : Step) → event_of feed step ≡ Some event → WantsMemory feed old s step
+      wanted : (step : Step) → event_of_step feed step ≡ Some event → WantsMemory feed old s step
       wanted (Offer n) is = tt
-      wanted Advance is = so (event_of feed Advance) is
-      wanted (OpenAt m) is = so (event_of feed (OpenAt m)) is
-      wanted (CopyRows c) is = so (event_of feed (CopyRows c)) is
-      wanted Close is = so (event_of feed Close) is
-      wanted Restart is = so (event_of feed Restart) is
+      wanted Advance is = so (event_of_step feed Advance) is
+      wanted (OpenAt m) is = so (event_of_step feed (OpenAt m)) is
+      wanted (CopyRows c) is = so (event_of_step feed (CopyRows c)) is
+      wanted Close is = so (event_of_step feed Close) is
+      wanted Restart is = so (event_of_step feed Restart) is
 
 -- ---- a list of steps
 
@@ -82,7 +82,7 @@ module _ (feeds : List FeedValue) (plans : List PlanValue) (opened : plans_of fe
   start-at s feed fed = fresh-state s ∙ ap (λ o. option_map start_of (option_map (λ (feed : FeedValue). feed.plan) o)) fed
 
   -- nothing is a beginning of every feed
-  pub fresh-reads : AreWhole feeds → AllReadTheirFeeds feeds (fresh_board plans)
+  pub fresh-reads : AreWholeFeeds feeds → AllReadTheirFeeds feeds (fresh_board plans)
   fresh-reads whole s state here = by (slice_get feeds s) refl
     where
       by : (o : Option FeedValue) → slice_get feeds s ≡ o → HasFeed feeds s state
@@ -143,6 +143,6 @@ on-ok-by (Ok x) f h = f x h
 on-ok-by (Err e) f h = h
 
 -- a board of which nothing is read, if there is one, reads its feeds
-pub fresh-reading : {E : Type 0} (feeds : List FeedValue) (plans : List PlanValue) (r : Result Meaning E) → plans_of feeds ≡ plans → AreWhole feeds → IfOk r (λ board. board ≡ fresh_board plans) → IfOk r (AllReadTheirFeeds feeds)
+pub fresh-reading : {E : Type 0} (feeds : List FeedValue) (plans : List PlanValue) (r : Result Meaning E) → plans_of feeds ≡ plans → AreWholeFeeds feeds → IfOk r (λ board. board ≡ fresh_board plans) → IfOk r (AllReadTheirFeeds feeds)
 fresh-reading feeds plans (Ok board) opened whole is = subst (λ (b : Meaning). AllReadTheirFeeds feeds b) (sym is) (fresh-reads feeds plans opened whole)
 fresh-reading feeds plans (Err e) opened whole is = is

@@ -15,7 +15,7 @@ use Rattle.target_tables.proofs.Order.{before_middle}
 use Rattle.source_feed.specs.History.{RowValue}
 use Rattle.board_laws.specs.Meaning.{TargetRows}
 use Rattle.board_laws.proofs.Lookups.{all-filter}
-use Rattle.apply_core.specs.Shown.{unowned, all_rows, rows_of}
+use Rattle.apply_core.specs.Shown.{unowned, all_rows, rows_of_stream}
 use denote.Ref.{Bor}
 
 abbrev pub Lent : Type 0
@@ -58,22 +58,22 @@ all-unowned P (row ∷ rows) h = (h.0, all-unowned P rows h.1)
 pub behind_all : (key : KeyValue) (rows : TargetRows) → AreBelow key_cmp key rows → AreBelow key_cmp key (all_rows rows)
 behind_all key rows below = all-unowned (λ k. key_cmp k key ≡ Less) rows below
 
-pub behind_own : (key : KeyValue) (s : ℕ) (rows : TargetRows) → AreBelow key_cmp key rows → AreBelow key_cmp key (rows_of s rows)
+pub behind_own : (key : KeyValue) (s : ℕ) (rows : TargetRows) → AreBelow key_cmp key rows → AreBelow key_cmp key (rows_of_stream s rows)
 behind_own key s rows below = behind_all key _ (all-filter (λ row. key_cmp row.0 key ≡ Less) (λ row. row.1.0 == s) rows below)
 
 -- one row more
 pub more-all : (seen : List Lent) (next : Lent) → all_rows (map entry (seen ++ next ∷ [])) ≡ all_rows (map entry seen) ++ (next.0.now, next.2.now) ∷ []
 more-all seen next = ap all_rows (map-append entry seen (next ∷ [])) ∙ map-append unowned (map entry seen) (entry next ∷ [])
 
-more : (s : ℕ) (seen : List Lent) (next : Lent) → rows_of s (map entry (seen ++ next ∷ [])) ≡ rows_of s (map entry seen) ++ rows_of s (entry next ∷ [])
+more : (s : ℕ) (seen : List Lent) (next : Lent) → rows_of_stream s (map entry (seen ++ next ∷ [])) ≡ rows_of_stream s (map entry seen) ++ rows_of_stream s (entry next ∷ [])
 more s seen next =
-    ap (rows_of s) (map-append entry seen (next ∷ []))
+    ap (rows_of_stream s) (map-append entry seen (next ∷ []))
     ∙ ap all_rows (filter-append (λ row. row.1.0 == s) (map entry seen) (entry next ∷ []))
     ∙ map-append unowned (filter (λ row. row.1.0 == s) (map entry seen)) (filter (λ row. row.1.0 == s) (entry next ∷ []))
 
-pub more-own : (s : ℕ) (seen : List Lent) (next : Lent) → next.1 ≡ s → rows_of s (map entry (seen ++ next ∷ [])) ≡ rows_of s (map entry seen) ++ (next.0.now, next.2.now) ∷ []
-more-own s seen next is = more s seen next ∙ ap (λ (b : Bool). rows_of s (map entry seen) ++ all_rows (cond b (entry next ∷ []) [])) (eq-eqb next.1 s is)
+pub more-own : (s : ℕ) (seen : List Lent) (next : Lent) → next.1 ≡ s → rows_of_stream s (map entry (seen ++ next ∷ [])) ≡ rows_of_stream s (map entry seen) ++ (next.0.now, next.2.now) ∷ []
+more-own s seen next is = more s seen next ∙ ap (λ (b : Bool). rows_of_stream s (map entry seen) ++ all_rows (cond b (entry next ∷ []) [])) (eq-eqb next.1 s is)
 
-pub more-other : (s : ℕ) (seen : List Lent) (next : Lent) → (next.1 ≡ s → ⊥) → rows_of s (map entry (seen ++ next ∷ [])) ≡ rows_of s (map entry seen)
+pub more-other : (s : ℕ) (seen : List Lent) (next : Lent) → (next.1 ≡ s → ⊥) → rows_of_stream s (map entry (seen ++ next ∷ [])) ≡ rows_of_stream s (map entry seen)
 more-other s seen next is =
-    more s seen next ∙ ap (λ (b : Bool). rows_of s (map entry seen) ++ all_rows (cond b (entry next ∷ []) [])) (ne_eqb next.1 s is) ∙ append-nil (rows_of s (map entry seen))
+    more s seen next ∙ ap (λ (b : Bool). rows_of_stream s (map entry seen) ++ all_rows (cond b (entry next ∷ []) [])) (ne_eqb next.1 s is) ∙ append-nil (rows_of_stream s (map entry seen))

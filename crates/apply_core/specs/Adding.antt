@@ -7,7 +7,7 @@ use Rattle.added_laws.specs.declared.fault.AddFault.{AddFault}
 use Rattle.added_laws.specs.declared.fault.AddFault.TheVariants.{FeedCount, PlanNotExtended, WrongPlan, HistoriesDiffer, Unsound, Memory}
 use Rattle.added_laws.specs.Extended.{AreExtended}
 use Rattle.added_laws.specs.GoingOn.{MeetsUnsound, IsOfOtherHistory, StopsAt}
-use Rattle.join_laws.specs.Compatible.{plans_of}
+use Rattle.join_laws.specs.Compatible.{plans_of_board}
 use Rattle.apply_core.specs.Feeds.{AreFed}
 
 -- there is a plan for each stream, and a feed for each plan
@@ -16,7 +16,7 @@ HaveCounts plans feeds board = (length plans ≡ length board.streams) × (lengt
 
 -- the plans are those of the board with tables appended, all over the same tables, and the feeds were opened under them
 pub record AreTaken (plans : List PlanValue) (feeds : List FeedValue) (board : Meaning) : Type 0 where
-  pub extended : AreExtended (plans_of board) plans
+  pub extended : AreExtended (plans_of_board board) plans
   pub fed : AreFed plans feeds
 
 -- No tables are added: 119 exactly where there aren't as many plans as streams and feeds as plans, else 122 exactly
@@ -25,8 +25,8 @@ pub record AreTaken (plans : List PlanValue) (feeds : List FeedValue) (board : M
 -- want of memory.
 abbrev pub IsRefusedAdd : List PlanValue → List FeedValue → Meaning → AddFault → Type 0
 IsRefusedAdd plans feeds board FeedCount = ¬ HaveCounts plans feeds board
-IsRefusedAdd plans feeds board PlanNotExtended = HaveCounts plans feeds board × ¬ AreExtended (plans_of board) plans
-IsRefusedAdd plans feeds board WrongPlan = HaveCounts plans feeds board × AreExtended (plans_of board) plans × ¬ AreFed plans feeds
+IsRefusedAdd plans feeds board PlanNotExtended = HaveCounts plans feeds board × ¬ AreExtended (plans_of_board board) plans
+IsRefusedAdd plans feeds board WrongPlan = HaveCounts plans feeds board × AreExtended (plans_of_board board) plans × ¬ AreFed plans feeds
 IsRefusedAdd plans feeds board (HistoriesDiffer s) = AreTaken plans feeds board × StopsAt IsOfOtherHistory feeds board.streams s
 IsRefusedAdd plans feeds board (Unsound fault) = AreTaken plans feeds board × ((s : ℕ) × StopsAt (λ feed state. MeetsUnsound feed state fault) feeds board.streams s)
 IsRefusedAdd plans feeds board Memory = AreTaken plans feeds board

@@ -21,7 +21,7 @@ pub record IsMoveOf (state : State) (c : ℕ) (step : Move) : Type 0 where
   pub last : step.last ≡ last_key_of (rows_taken state c)
 
 -- the state's next chunk of up to c rows
-pub record IsTaken (state : State) (c : ℕ) (taken : Chunk) : Type 0 where
+pub record IsTakenChunk (state : State) (c : ℕ) (taken : Chunk) : Type 0 where
   pub puts : DoAsStep state (copy_rows c) taken.puts.items
   pub step : IsMoveOf state c taken.step
 
@@ -30,4 +30,4 @@ pub record IsChunkFor (streams : List State) (s : ℕ) (c : ℕ) (taken : Chunk)
   pub state : State
   pub stream : slice_get streams s ≡ Some state
   pub allowed : IsAllowed state (copy_rows c)
-  pub chunk : IsTaken state c taken
+  pub chunk : IsTakenChunk state c taken

@@ -7,8 +7,8 @@ use Rattle.board_laws.specs.declared.refusal.Refusal.TheVariants.{WrongPlan, Fee
 use Rattle.apply_core.specs.Fresh.{HaveSameTables}
 
 -- every feed is whole
-abbrev pub AreWhole : List FeedValue → Type 0
-AreWhole feeds = (s : ℕ) (feed : FeedValue) → slice_get feeds s ≡ Some feed → IsFeed feed
+abbrev pub AreWholeFeeds : List FeedValue → Type 0
+AreWholeFeeds feeds = (s : ℕ) (feed : FeedValue) → slice_get feeds s ≡ Some feed → IsFeed feed
 
 -- there is a feed for each plan, which was opened under that plan, and all plans have the same tables
 pub record AreFed (plans : List PlanValue) (feeds : List FeedValue) : Type 0 where

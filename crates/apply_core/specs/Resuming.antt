@@ -8,7 +8,7 @@ use Rattle.board_laws.specs.Lawful.{IsLawful}
 use Rattle.board_laws.specs.Meaning.{Meaning}
 use Rattle.added_laws.specs.Extended.{extended_board, MayExtend}
 use Rattle.added_laws.specs.GoingOn.{MeetsUnsound, StopsAt}
-use Rattle.join_laws.specs.Compatible.{plans_of}
+use Rattle.join_laws.specs.Compatible.{plans_of_board}
 use Rattle.checkpoint_laws.specs.declared.fault.ResumeFault.{ResumeFault}
 use Rattle.checkpoint_laws.specs.declared.fault.ResumeFault.TheVariants.{FeedCount, WrongPlan, CheckpointBad, PositionUnknown, Unsound, CheckpointDiffers, OwnedByOther, Memory}
 use Rattle.checkpoint_laws.specs.declared.version.Version.{Version}
@@ -42,15 +42,15 @@ IsRefusedResume plans feeds bytes fault = AreFed plans feeds × IsRefusedCheckpo
 pub record IsSavedOf (plans : List PlanValue) (feeds : List FeedValue) (bytes : List ℕ) (board : Meaning) : Type 0 where
   pub lawful : IsLawful board
   pub within : AreWithin board
-  pub planned : plans ≡ plans_of board
+  pub planned : plans ≡ plans_of_board board
   pub begins : BeginWithApplied feeds board
   pub version : Version
   pub written : bytes ≡ checkpoint_in version board
 
 -- the answer is this board, or there is want of memory
-abbrev pub Gives : Meaning → Result Meaning ResumeFault → Type 0
-Gives board (Ok other) = other ≡ board
-Gives board (Err fault) = fault ≡ Memory
+abbrev pub GivesBoard : Meaning → Result Meaning ResumeFault → Type 0
+GivesBoard board (Ok other) = other ≡ board
+GivesBoard board (Err fault) = fault ≡ Memory
 
 -- ---- a board that is saved, and resumed with more tables
 
@@ -59,7 +59,7 @@ Gives board (Err fault) = fault ≡ Memory
 -- that are applied.
 pub record IsSavedBefore (plans : List PlanValue) (feeds : List FeedValue) (bytes : List ℕ) (board : Meaning) : Type 0 where
   pub lawful : IsLawful board
-  pub well : AllByRecursion IsPlan (plans_of board)
+  pub well : AllByRecursion IsPlan (plans_of_board board)
   pub within : AreWithin board
   pub fed : AreFed plans feeds
   pub histories : AreOfSameHistories feeds board

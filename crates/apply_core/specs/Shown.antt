@@ -15,5 +15,5 @@ abbrev pub all_rows : TargetRows → RowsValue
 all_rows rows = map unowned rows
 
 -- the rows of stream s, by rising key
-abbrev pub rows_of : ℕ → TargetRows → RowsValue
-rows_of s rows = all_rows (filter (λ entry. entry.1.0 == s) rows)
+abbrev pub rows_of_stream : ℕ → TargetRows → RowsValue
+rows_of_stream s rows = all_rows (filter (λ entry. entry.1.0 == s) rows)

@@ -8,9 +8,9 @@ ghost use Rattle.board_laws.specs.Reading.{AllReadTheirFeeds};
 ghost use Rattle.added_laws.specs.Extended.{AreExtended, extended_board, MayExtend};
 ghost use Rattle.added_laws.specs.Laws.{AddedTablesAreBare, AddedTablesAreToCopy, CutsStay};
 ghost use Rattle.added_laws.specs.declared.fault.AddFault.TheVariants.{Memory};
-ghost use Rattle.join_laws.specs.Compatible.{plans_of};
+ghost use Rattle.join_laws.specs.Compatible.{plans_of_board};
 ghost use Rattle.apply_core.specs.Adding.{HaveCounts, AreTaken, IsRefusedAdd};
-ghost use Rattle.apply_core.specs.Feeds.{AreWhole};
+ghost use Rattle.apply_core.specs.Feeds.{AreWholeFeeds};
 ghost use Rattle.apply_core.specs.Private.Adding.{FeedsExtend, AreExtendedUpTo, AreStopped};
 ghost use Rattle.apply_core.specs.Private.Beside.{plans_in};
 
@@ -57,7 +57,7 @@ fn are_extended(streams: &[Stream<'_>], plans: &[Arc<Plan>]) -> bool
 /// The same of the plans of a board's streams.
 fn board_is_extended(board: &Board<'_>, plans: &[Arc<Plan>]) -> bool
     requires { length plans.now ≡ length board.now.streams }
-    ensures { IsTrue result ↔ AreExtended (plans_of board.now) (map arc_value plans.now) }
+    ensures { IsTrue result ↔ AreExtended (plans_of_board board.now) (map arc_value plans.now) }
 {
     are_extended(&board.streams, plans)
 }
@@ -73,7 +73,7 @@ fn have_counts(board: &Board<'_>, plans: &[Arc<Plan>], feeds: &[Feed<'_>]) -> bo
 /// `add_tables` is. Takes no memory.
 fn judge_plans(board: &Board<'_>, plans: &[Arc<Plan>], feeds: &[Feed<'_>]) -> Result<(), AddFault>
     ensures taken { OnOk result (AreTaken (map arc_value plans.now) feeds.now board.now) }
-    ensures whole { OnOk result (AreWhole feeds.now) }
+    ensures whole { OnOk result (AreWholeFeeds feeds.now) }
     ensures refused { IfErr result (IsRefusedAdd (map arc_value plans.now) feeds.now board.now) }
 {
     if !have_counts(board, plans, feeds) {
@@ -115,7 +115,7 @@ fn streams_with_tables<'h>(
     feeds: &[Feed<'h>],
 ) -> Result<Vec<Stream<'h>>, AddFault>
     ensures taken { IfOk result (λ _. AreTaken (map arc_value plans.now) feeds.now board.now) }
-    ensures whole { IfOk result (λ _. AreWhole feeds.now) }
+    ensures whole { IfOk result (λ _. AreWholeFeeds feeds.now) }
     ensures ok { IfOk result (λ new. AreExtendedUpTo feeds.now board.now.streams (length board.now.streams) new.items) }
     ensures refused { IfErr result (IsRefusedAdd (map arc_value plans.now) feeds.now board.now) }
 {

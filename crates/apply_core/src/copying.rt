@@ -6,7 +6,7 @@ ghost use Rattle.board_laws.specs.Event.{copy_rows};
 ghost use Rattle.board_laws.specs.StateAfter.{state_after};
 ghost use Rattle.board_laws.specs.Allowed.{IsAllowed};
 ghost use Rattle.board_laws.specs.declared.refusal.Refusal.TheVariants.{NoStream};
-ghost use Rattle.board_laws.specs.Step.{answered, IsRefused, IsStep};
+ghost use Rattle.board_laws.specs.Step.{answered, IsRefusedOn, IsStep};
 ghost use Rattle.apply_core.specs.Chunks.{IsMoveOf, IsChunkFor};
 ghost use Rattle.apply_core.specs.Private.StreamStep.{MayMake, MakesStep, IsRefusedAlone};
 
@@ -140,7 +140,7 @@ impl<'h> Board<'h> {
     /// row of another stream aside.
     pub fn next_chunk(&self, alloc: Global, s: u8, c: u32) -> Result<Chunk, Refusal>
         ensures chunk { IfOk result (IsChunkFor self.now.streams s c) }
-        ensures refused { IfErr result (IsRefused self.now s (copy_rows c)) }
+        ensures refused { IfErr result (IsRefusedOn self.now s (copy_rows c)) }
     {
         chunk_on(alloc, &self.streams, s, c)
     }

@@ -2,7 +2,7 @@
 
 ghost use Rattle.std.specs.Prelude.{◌≡◌, ◌↔◌, length, IfOk, IfErr, OnOk, IsTrue, MatchOption};
 ghost use Rattle.join_laws.specs.Chosen.{chosen, all_chosen};
-ghost use Rattle.join_laws.specs.Compatible.{plans_of, OfEachStream, AreAlike, AreCompatible};
+ghost use Rattle.join_laws.specs.Compatible.{plans_of_board, OfEachStream, AreAlike, AreCompatible};
 ghost use Rattle.join_laws.specs.Joined.{joined};
 ghost use Rattle.join_laws.specs.Laws.{JoinsCommute, JoinsWithItself, JoinsAssociate, RunningJoinsByWhatIsRead, DisjointFeedsCanBeJoined};
 ghost use Rattle.join_laws.specs.Refused.{IsFirstNot, IsRefusedJoin};
@@ -53,7 +53,7 @@ fn first_stream_not(test: Test, a: &Board<'_>, b: &Board<'_>) -> Option<u8>
 
 /// Whether the boards have the same plans. Takes no memory.
 fn have_same_plans(a: &Board<'_>, b: &Board<'_>) -> bool
-    ensures { IsTrue result ↔ (plans_of a.now ≡ plans_of b.now) }
+    ensures { IsTrue result ↔ (plans_of_board a.now ≡ plans_of_board b.now) }
 {
     if a.len() != b.len() {
         return false;

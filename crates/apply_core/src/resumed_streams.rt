@@ -6,7 +6,7 @@ ghost use Rattle.checkpoint_laws.specs.Said.{IsSaved};
 ghost use Rattle.board_laws.specs.Sources.{IsNumberAt};
 ghost use Rattle.checkpoint_laws.specs.Resumed.{IsResumedAt, AreResumed};
 ghost use Rattle.checkpoint_laws.specs.Refused.{IsRefusedSaved};
-ghost use Rattle.apply_core.specs.Feeds.{AreWhole};
+ghost use Rattle.apply_core.specs.Feeds.{AreWholeFeeds};
 ghost use Rattle.apply_core.specs.Private.Resuming.{AreNumbers, AreSaid, IsUnsoundAt, refusal_of_feed};
 
 use crate::stream::Stream;
@@ -108,7 +108,7 @@ pub(crate) fn streams_at<'h>(
     saved: &[ReadStream<'_>],
     numbers: &[u32],
 ) -> Result<Vec<Stream<'h>>, ResumeFault>
-    requires whole { AreWhole feeds.now }
+    requires whole { AreWholeFeeds feeds.now }
     requires said { AreSaid feeds.now saved.now }
     requires numbers { AreNumbers feeds.now saved.now (length feeds.now) numbers.now }
     ensures ok { IfOk result (λ streams. AreResumed feeds.now saved.now streams.items) }

@@ -12,8 +12,8 @@ ghost use Rattle.checkpoint_laws.specs.Resumed.{IsResumedBoard};
 ghost use Rattle.checkpoint_laws.specs.Refused.{plans_of_feeds, IsRefusedSaved, IsRefusedCheckpoint};
 ghost use Rattle.checkpoint_laws.specs.Said.{IsCheckpoint};
 ghost use Rattle.source_feed.specs.Planned.{FeedValue};
-ghost use Rattle.apply_core.specs.Feeds.{AreWhole, AreFed};
-ghost use Rattle.apply_core.specs.Resuming.{IsResumed, IsRefusedResume, IsSavedOf, Gives, IsSavedBefore, GivesMore};
+ghost use Rattle.apply_core.specs.Feeds.{AreWholeFeeds, AreFed};
+ghost use Rattle.apply_core.specs.Resuming.{IsResumed, IsRefusedResume, IsSavedOf, GivesBoard, IsSavedBefore, GivesMore};
 ghost use Rattle.apply_core.specs.Private.Resuming.{AreSaid, IsUnfed};
 
 use crate::board::Board;
@@ -37,7 +37,7 @@ use std::sync::Arc;
 /// two plans differ in their tables or a feed wasn't opened under its plan. Takes no memory.
 fn judge_feeds(plans: &[Arc<Plan>], feeds: &[Feed<'_>]) -> Result<(), ResumeFault>
     ensures fed { OnOk result (AreFed (map arc_value plans.now) feeds.now) }
-    ensures whole { OnOk result (AreWhole feeds.now) }
+    ensures whole { OnOk result (AreWholeFeeds feeds.now) }
     ensures refused { IfErr result (IsUnfed (map arc_value plans.now) feeds.now) }
 {
     if feeds.len() != plans.len() {
@@ -155,7 +155,7 @@ pub fn resume<'h>(
     ensures refused { IfErr result (IsRefusedResume (map arc_value plans.now) feeds.now bytes.now) }
     // A board whose rows, keys and positions are within the limits and that was saved, in either version, comes
     // back as it was after a restart of each stream.
-    ensures after_save { (board : Meaning) → IsSavedOf (map arc_value plans.now) feeds.now bytes.now board → Gives (restarted board) result }
+    ensures after_save { (board : Meaning) → IsSavedOf (map arc_value plans.now) feeds.now bytes.now board → GivesBoard (restarted board) result }
     // Under plans with tables appended such a board comes back with these tables added, which wait.
     ensures after_adding { (board : Meaning) → IsSavedBefore (map arc_value plans.now) feeds.now bytes.now board → GivesMore feeds.now board result }
 {

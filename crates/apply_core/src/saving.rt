@@ -6,7 +6,7 @@ ghost use Rattle.vevent.specs.WrittenPart.{written_stream_part};
 ghost use Rattle.checkpoint_laws.specs.declared.version.Version.TheVariants.{Two};
 ghost use Rattle.checkpoint_laws.specs.Saved.{saved_stream};
 ghost use Rattle.checkpoint_laws.specs.Written.{stream_part, framed, written_parts, checkpoint_of};
-ghost use Rattle.apply_core.specs.Shown.{rows_of};
+ghost use Rattle.apply_core.specs.Shown.{rows_of_stream};
 ghost use Rattle.apply_core.specs.Private.Saving.{parts_from};
 
 use crate::board::Board;
@@ -23,7 +23,7 @@ fn own_rows<'a>(
     rows: &'a Tables<Key, RowBuf>,
     s: u8,
 ) -> Result<Vec<(&'a Key, &'a RowBuf)>, AllocError>
-    ensures { IfOk result (λ own. map lent_row own.items ≡ rows_of s rows.now.entries) }
+    ensures { IfOk result (λ own. map lent_row own.items ≡ rows_of_stream s rows.now.entries) }
 {
     let mut own = Vec::new(alloc);
     for (key, owner, row) in rows.iter() {

@@ -10,7 +10,7 @@ ghost use Rattle.board_laws.specs.RunLaws.{DisjointFeedsNeverClash};
 ghost use Rattle.board_laws.specs.Schedule.{IsRun};
 ghost use Rattle.board_laws.specs.Sources.{AllShowTheirSources};
 ghost use Rattle.apply_core.specs.Fresh.{fresh_board};
-ghost use Rattle.apply_core.specs.Feeds.{AreWhole, AreFed, IsRefusedInput};
+ghost use Rattle.apply_core.specs.Feeds.{AreWholeFeeds, AreFed, IsRefusedInput};
 ghost use Rattle.apply_core.specs.Schedules.{AllAreTaken, AllFollow, RowsAreReplays};
 
 use crate::board::Board;
@@ -29,7 +29,7 @@ use stream_core::Step;
 pub(crate) fn are_opened_under(feeds: &[Feed<'_>], plans: &[Arc<Plan>]) -> bool
     requires { length feeds.now ≡ length plans.now }
     ensures opened { IsTrue result ↔ (map (λ (feed : FeedValue). feed.plan) feeds.now ≡ map arc_value plans.now) }
-    ensures whole { IsTrue result → AreWhole feeds.now }
+    ensures whole { IsTrue result → AreWholeFeeds feeds.now }
 {
     for i in 0..feeds.len() {
         if !feeds[i].plan().same(&plans[i]) {

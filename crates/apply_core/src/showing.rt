@@ -6,7 +6,7 @@ ghost use Rattle.pk_copy.specs.Marks.{mark_of};
 ghost use Rattle.pk_copy.specs.MarkView.{mark_value};
 ghost use Rattle.board_laws.specs.declared.refusal.Refusal.TheVariants.{NoStream, Memory};
 ghost use Rattle.board_laws.specs.Sources.{applied_position};
-ghost use Rattle.apply_core.specs.Shown.{all_rows, rows_of};
+ghost use Rattle.apply_core.specs.Shown.{all_rows, rows_of_stream};
 
 use crate::board::Board;
 use crate::stream::Stream;
@@ -32,7 +32,7 @@ fn copies_of_all(alloc: Global, rows: &Tables<Key, RowBuf>) -> Result<Rows, Allo
 
 /// Copies of the rows of stream `s`. An error is want of memory.
 fn copies_of_own(alloc: Global, rows: &Tables<Key, RowBuf>, s: u8) -> Result<Rows, AllocError>
-    ensures { IfOk result (λ copies. copies ≡ rows_of s rows.now.entries) }
+    ensures { IfOk result (λ copies. copies ≡ rows_of_stream s rows.now.entries) }
 {
     let mut copies = Rows::new(alloc);
     for (key, owner, row) in rows.iter() {
@@ -97,7 +97,7 @@ impl<'h> Board<'h> {
 
     /// Copies of the rows of stream `s`, by rising key. Refused 115, and for want of memory.
     pub fn rows_of(&self, alloc: Global, s: u8) -> Result<Rows, Refusal>
-        ensures rows { IfOk result (λ rows. IsSome (slice_get self.now.streams s) × (rows ≡ rows_of s self.now.rows)) }
+        ensures rows { IfOk result (λ rows. IsSome (slice_get self.now.streams s) × (rows ≡ rows_of_stream s self.now.rows)) }
         ensures refused { IfErr result (λ refusal. MatchOption (slice_get self.now.streams s) (refusal ≡ NoStream) (λ _. refusal ≡ Memory)) }
     {
         if self.stream(s).is_none() {

@@ -5,7 +5,7 @@ ghost use Rattle.source_feed.specs.Image.{lent_row};
 ghost use Rattle.board_laws.specs.Allowed.{IsAllowed};
 ghost use Rattle.board_laws.specs.Chunk.{rows_left};
 ghost use Rattle.board_laws.specs.Event.{copy_rows};
-ghost use Rattle.apply_core.specs.Chunks.{last_key_of, IsTaken};
+ghost use Rattle.apply_core.specs.Chunks.{last_key_of, IsTakenChunk};
 
 use crate::puts::puts_of_rows;
 use crate::stream::Stream;
@@ -82,7 +82,7 @@ impl<'h> Stream<'h> {
     /// is want of memory.
     pub(crate) fn take_chunk(&self, alloc: Global, c: u32) -> Result<Chunk, AllocError>
         requires { IsAllowed self.now (copy_rows c) }
-        ensures { IfOk result (IsTaken self.now c) }
+        ensures { IfOk result (IsTakenChunk self.now c) }
     {
         keys_tie_where_they_are_equal();
         chunks_are_of_the_rows_left();

@@ -31,8 +31,8 @@ use Rattle.board_laws.specs.Lawful.{IsLawful}
 use Rattle.board_laws.specs.Event.{Event, offer, advance, open_at, copy_rows, close, restart}
 use Rattle.board_laws.specs.StateAfter.{answer_to, state_after}
 use Rattle.board_laws.specs.Allowed.{IsDiverged, IsInPlace}
-use Rattle.board_laws.specs.Step.{due_at, IsMade, IsRefusedFor, IsRefused}
-use Rattle.board_laws.specs.Runs.{event_of}
+use Rattle.board_laws.specs.Step.{due_at, IsMade, IsRefusedFor, IsRefusedOn}
+use Rattle.board_laws.specs.Runs.{event_of_step}
 use Rattle.board_laws.specs.Schedule.{Reply, IsUnprepared, IsEventStep, IsRefusedStep, IsReplyBy, IsReply, IsRun}
 use Rattle.board_laws.specs.RunLaws.{NoneWantsMemory}
 use Rattle.board_laws.proofs.Lookups.{Ties}
@@ -110,7 +110,7 @@ module _ (ties : Ties) (old : Meaning) (s : ℕ) (state : State) (event : Event)
   one_refusal (OwnedByOther key owner) (OwnedByOther q other) h k m n = one_clash key q owner other h.least k.least
 
 -- a step that is made isn't refused
-made-not_refused : (old : Meaning) (s : ℕ) (event : Event) (answer : Answer) (new : Meaning) (refusal : Refusal) → IsMade old s event answer new → IsRefused old s event refusal → refusal ≢ Memory → ⊥
+made-not_refused : (old : Meaning) (s : ℕ) (event : Event) (answer : Answer) (new : Meaning) (refusal : Refusal) → IsMade old s event answer new → IsRefusedOn old s event refusal → refusal ≢ Memory → ⊥
 made-not_refused old s event answer new refusal made h m =
     by refusal (subst (λ (o : Option State). MatchOption o (refusal ≡ NoStream) (λ state. IsRefusedFor old s state event refusal)) made.stream h) m
   where
@@ -135,7 +135,7 @@ as_event feed old s step (OwnedByOther key owner) new h m = h
 as_event feed old s step FeedCount new h m = h
 as_event feed old s step Memory new h m = absurd (m refl)
 
-unprepared-no_event : (feed : FeedValue) (step : Step) (fault : FeedFault) (event : Event) → IsUnprepared feed step fault → event_of feed step ≡ Some event → ⊥
+unprepared-no_event : (feed : FeedValue) (step : Step) (fault : FeedFault) (event : Event) → IsUnprepared feed step fault → event_of_step feed step ≡ Some event → ⊥
 unprepared-no_event feed (Offer n) fault event h e = none-some event (sym (ap (λ (r : Result PreparedValue FeedFault). option_map offer (result_ok r)) h) ∙ e)
 unprepared-no_event feed Advance fault event h e = h
 unprepared-no_event feed (OpenAt m) fault event h e = h
@@ -156,7 +156,7 @@ abbrev pub NotMemory : Reply → Type 0
 NotMemory reply = reply ≢ refused_by (Refused Memory)
 
 module _ (ties : Ties) (old : Meaning) (lawful : IsLawful old) where
-  same_event : (feed : FeedValue) (step : Step) (e f : Event) → event_of feed step ≡ Some e → event_of feed step ≡ Some f → e ≡ f
+  same_event : (feed : FeedValue) (step : Step) (e f : Event) → event_of_step feed step ≡ Some e → event_of_step feed step ≡ Some f → e ≡ f
   same_event feed step e f a b = same_Some e f (sym a ∙ b)
 
   one_made : (s : ℕ) (event : Event) (a b : Answer) (one other : Meaning) → IsMade old s event a one → IsMade old s event b other → (answered a ≡ answered b) × (one ≡ other)
@@ -172,7 +172,7 @@ module _ (ties : Ties) (old : Meaning) (lawful : IsLawful old) where
       let free : r ≢ Memory = λ e. m (ap (λ x. refused_by (Refused x)) e) in
       let refused : IsEventStep feed old s step (Err r) other = as_event feed old s step r other k free in
       let same : refused.event ≡ h.event = same_event feed step refused.event h.event refused.of_step h.of_step in
-      made-not_refused old s h.event a one r h.stepped (subst (λ e. IsRefused old s e r) same refused.stepped.0) free
+      made-not_refused old s h.event a one r h.stepped (subst (λ e. IsRefusedOn old s e r) same refused.stepped.0) free
 
   one_refused : (feed : FeedValue) (s : ℕ) (step : Step) (r q : StepRefusal) (one other : Meaning) → IsReplyBy feed old s step (Err r) one → IsReplyBy feed old s step (Err q) other
       → NotMemory (refused_by r) → NotMemory (refused_by q) → r ≡ q
@@ -189,7 +189,7 @@ module _ (ties : Ties) (old : Meaning) (lawful : IsLawful old) where
       let a : IsEventStep feed old s step (Err r) one = as_event feed old s step r one h free in
       let b : IsEventStep feed old s step (Err q) other = as_event feed old s step q other k also in
       let same : b.event ≡ a.event = same_event feed step b.event a.event b.of_step a.of_step in
-      ap Refused (by a.event free also (slice_get old.streams s) a.stepped.0 (subst (λ e. IsRefused old s e q) same b.stepped.0))
+      ap Refused (by a.event free also (slice_get old.streams s) a.stepped.0 (subst (λ e. IsRefusedOn old s e q) same b.stepped.0))
     where
       by : (event : Event) → r ≢ Memory → q ≢ Memory → (o : Option State) → MatchOption o (r ≡ NoStream) (λ state. IsRefusedFor old s state event r) → MatchOption o (q ≡ NoStream) (λ state. IsRefusedFor old s state event q) → r ≡ q
       by event free also None a b = a ∙ sym b
@@ -201,7 +201,7 @@ module _ (ties : Ties) (old : Meaning) (lawful : IsLawful old) where
       let x : (feed : FeedValue) × (slice_get feeds step.0 ≡ Some feed) × IsEventStep feed old step.0 step.1 (Ok a) one = answered_by feeds old step a one h in
       let y : (feed : FeedValue) × (slice_get feeds step.0 ≡ Some feed) × IsEventStep feed old step.0 step.1 (Ok b) other = answered_by feeds old step b other k in
       let feed : y.0 ≡ x.0 = same_Some y.0 x.0 (sym y.1 ∙ x.1) in
-      let same : y.2.event ≡ x.2.event = same_event x.0 step.1 y.2.event x.2.event (ap (λ f. event_of f step.1) (sym feed) ∙ y.2.of_step) x.2.of_step in
+      let same : y.2.event ≡ x.2.event = same_event x.0 step.1 y.2.event x.2.event (ap (λ f. event_of_step f step.1) (sym feed) ∙ y.2.of_step) x.2.of_step in
       one_made step.0 x.2.event a b one other x.2.stepped (subst (λ e. IsMade old step.0 e b other) same y.2.stepped)
   one_reply feeds step (Ok a) (Err q) one other h k m n =
       let x : (feed : FeedValue) × (slice_get feeds step.0 ≡ Some feed) × IsEventStep feed old step.0 step.1 (Ok a) one = answered_by feeds old step a one h in

@@ -36,7 +36,7 @@ use Rattle.board_laws.specs.Chunk.{takes_all, rows_taken, marks_behind}
 use Rattle.board_laws.specs.StateAfter.{state_after}
 use Rattle.board_laws.specs.Allowed.{IsAllowed, IsNext}
 use Rattle.board_laws.specs.Step.{due_at, IsMade, IsRefusedFor, IsClash}
-use Rattle.board_laws.specs.Runs.{event_of, sound_groups, IsTouchedIn, AreDisjoint}
+use Rattle.board_laws.specs.Runs.{event_of_step, sound_groups, IsTouchedIn, AreDisjoint}
 use Rattle.board_laws.specs.Schedule.{Reply, IsEventStep, IsReplyBy, IsReply, IsRun}
 use Rattle.board_laws.specs.Lone.{is_hindrance, is_hindered}
 use Rattle.board_laws.specs.Reading.{ReadsFeed, HasFeed, AllReadTheirFeeds}
@@ -134,7 +134,7 @@ offered group restart = group
 no_offer : {P : Type 0} (event : Event) (group : PreparedValue) → is_offer event ≡ false → Some event ≡ Some (offer group) → P
 no_offer event group none h = absurd (true≢false (sym (ap is_offer (same_Some event (offer group) h)) ∙ none))
 
-of_offer : (feed : FeedValue) (step : Step) (group : PreparedValue) → event_of feed step ≡ Some (offer group) → (n : ℕ) × (prepared_at feed n ≡ Ok group)
+of_offer : (feed : FeedValue) (step : Step) (group : PreparedValue) → event_of_step feed step ≡ Some (offer group) → (n : ℕ) × (prepared_at feed n ≡ Ok group)
 of_offer feed (Offer n) group h = (n, by (prepared_at feed n) h)
   where
     by : (r : Result PreparedValue FeedFault) → option_map offer (result_ok r) ≡ Some (offer group) → r ≡ good group
@@ -162,7 +162,7 @@ module _ (feeds : List FeedValue) (s : ℕ) (state : State) (has : HasFeed feeds
   list-copied c =
       elim (takes_all state c) as (λ b. (cond b (record state { marks = next_table state.marks; snapshot = None }) (record state { marks = marks_behind (rows_taken state c) state.marks })).list ≡ state.list) [ true ↦ refl | false ↦ refl ]
 
-  has-after : (event : Event) (step : Step) → event_of has.feed step ≡ Some event → IsAllowed state event → HasFeed feeds s (state_after state event)
+  has-after : (event : Event) (step : Step) → event_of_step has.feed step ≡ Some event → IsAllowed state event → HasFeed feeds s (state_after state event)
   has-after (offer group) step of_step allowed = by (nat_le group.number (length state.list)) refl
     where
       of : (n : ℕ) × (prepared_at has.feed n ≡ Ok group)
@@ -205,11 +205,11 @@ module _ (feeds : List FeedValue) (s : ℕ) (state : State) (has : HasFeed feeds
       }
 
 -- the same where the step is of the feed of the stream's number
-has-behind : (feeds : List FeedValue) (s : ℕ) (state : State) (feed : FeedValue) (event : Event) (step : Step) → HasFeed feeds s state → slice_get feeds s ≡ Some feed → event_of feed step ≡ Some event → IsAllowed state event
+has-behind : (feeds : List FeedValue) (s : ℕ) (state : State) (feed : FeedValue) (event : Event) (step : Step) → HasFeed feeds s state → slice_get feeds s ≡ Some feed → event_of_step feed step ≡ Some event → IsAllowed state event
     → HasFeed feeds s (state_after state event)
 has-behind feeds s state feed event step has fed of_step allowed =
     let same : feed ≡ has.feed = same_Some feed has.feed (sym fed ∙ has.fed) in
-    has-after feeds s state has event step (ap (λ f. event_of f step) (sym same) ∙ of_step) allowed
+    has-after feeds s state has event step (ap (λ f. event_of_step f step) (sym same) ∙ of_step) allowed
 
 one-reads : (feeds : List FeedValue) (old : Meaning) (step : ℕ × Step) (reply : Reply) (new : Meaning) → IsReply feeds old step reply new → AllReadTheirFeeds feeds old → AllReadTheirFeeds feeds new
 one-reads feeds old step (Err refusal) new h all = subst (AllReadTheirFeeds feeds) (sym (unchanged feeds old step refusal new h)) all
@@ -273,7 +273,7 @@ in_the_way s (Some row) (Some x) owner h = (row, x, refl, refl, by (x.0 == s) re
     by false e h = eqb-false x.0 s e
 
 no_clash : (feeds : List FeedValue) (old : Meaning) (s : ℕ) (state : State) (feed : FeedValue) (event : Event) (step : Step) (key : KeyValue) (owner : ℕ) → AreDisjoint feeds → IsLawful old → AllReadTheirFeeds feeds old
-    → slice_get old.streams s ≡ Some state → slice_get feeds s ≡ Some feed → event_of feed step ≡ Some event → IsClash old.rows s state event key owner → ⊥
+    → slice_get old.streams s ≡ Some state → slice_get feeds s ≡ Some feed → event_of_step feed step ≡ Some event → IsClash old.rows s state event key owner → ⊥
 no_clash feeds old s state feed event step key owner disjoint lawful all here fed of_step clash =
     let way = in_the_way s (cut_of (state_after state event) key) (value_at key_cmp old.rows key) owner clash.least.here in
     let mine : HasFeed feeds s (state_after state event) = has-behind feeds s state feed event step (all s state here) fed of_step clash.allowed in
@@ -298,7 +298,7 @@ one-free feeds old step (Err (Refused FeedCount)) new disjoint lawful all h c = 
 one-free feeds old step (Err (Refused Memory)) new disjoint lawful all h c = c
 one-free feeds old step (Err (Refused (OwnedByOther key owner))) new disjoint lawful all h c = by (slice_get feeds step.0) refl h
   where
-    stands : (feed : FeedValue) → slice_get feeds step.0 ≡ Some feed → (event : Event) → event_of feed step.1 ≡ Some event → (o : Option State) → slice_get old.streams step.0 ≡ o
+    stands : (feed : FeedValue) → slice_get feeds step.0 ≡ Some feed → (event : Event) → event_of_step feed step.1 ≡ Some event → (o : Option State) → slice_get old.streams step.0 ≡ o
         → MatchOption o (OwnedByOther key owner ≡ NoStream) (λ state. IsRefusedFor old step.0 state event (OwnedByOther key owner)) → ⊥
     stands feed fed event of_step None at h = true≢false (ap (λ r. is_hindrance (Refused r)) h)
     stands feed fed event of_step (Some state) at h = no_clash feeds old step.0 state feed event step.1 key owner disjoint lawful all at fed of_step h

@@ -23,7 +23,7 @@ use Rattle.board_laws.specs.Lawful.{IsLawful}
 use Rattle.board_laws.specs.Event.{Event}
 use Rattle.board_laws.specs.StateAfter.{state_after}
 use Rattle.board_laws.specs.Step.{IsMade}
-use Rattle.board_laws.specs.Runs.{event_of, behind, taken, own}
+use Rattle.board_laws.specs.Runs.{event_of_step, state_behind, taken, own}
 use Rattle.board_laws.specs.Schedule.{Reply, IsEventStep, IsRefusedStep, IsReplyBy, IsReply, IsRun}
 use Rattle.board_laws.proofs.Lists.{slice_get-set_same, slice_get-set_other}
 use Rattle.board_laws.proofs.Lookups.{Ties, same_rows}
@@ -99,8 +99,8 @@ own-other s step steps answer replies e = ap (λ b. cond (b && true) (step.1 ∷
 own-first : (s : ℕ) (step : ℕ × Step) (steps : List (ℕ × Step)) (answer : Answer) (replies : List Reply) → (step.0 == s) ≡ true → own s (step ∷ steps) (Ok answer ∷ replies) ≡ step.1 ∷ own s steps replies
 own-first s step steps answer replies e = ap (λ b. cond (b && true) (step.1 ∷ own s steps replies) (own s steps replies)) e
 
-taken-first : (feed : FeedValue) (step : Step) (steps : List Step) (event : Event) (state : State) → event_of feed step ≡ Some event → taken feed (step ∷ steps) state ≡ taken feed steps (state_after state event)
-taken-first feed step steps event state e = ap (λ (o : Option Event). behind (cons_option o (filter_map (event_of feed) steps)) state) e
+taken-first : (feed : FeedValue) (step : Step) (steps : List Step) (event : Event) (state : State) → event_of_step feed step ≡ Some event → taken feed (step ∷ steps) state ≡ taken feed steps (state_after state event)
+taken-first feed step steps event state e = ap (λ (o : Option Event). state_behind (cons_option o (filter_map (event_of_step feed) steps)) state) e
 
 pub follows : (feeds : List FeedValue) (old new : Meaning) (steps : List (ℕ × Step)) (replies : List Reply) → IsRun feeds old steps replies new
     → (s : ℕ) (feed : FeedValue) (state : State) → slice_get feeds s ≡ Some feed → slice_get old.streams s ≡ Some state
@@ -123,7 +123,7 @@ follows feeds old new (step ∷ steps) (Ok answer ∷ replies) run s feed state 
     by rest true e =
         let at : step.0 ≡ s = eqb-true step.0 s e in
         let is : one.0 ≡ feed = same_Some one.0 feed (sym one.1 ∙ ap (slice_get feeds) at ∙ fed) in
-        let event : event_of feed step.1 ≡ Some one.2.event = ap (λ f. event_of f step.1) (sym is) ∙ one.2.of_step in
+        let event : event_of_step feed step.1 ≡ Some one.2.event = ap (λ f. event_of_step f step.1) (sym is) ∙ one.2.of_step in
         rest (state_after state one.2.event) (own-goes_on old run.0 step.0 s one.2.event answer state one.2.stepped e here)
         ∙ ap (λ (x : State). Some x) (sym (taken-first feed step.1 (own s steps replies) one.2.event state event))
         ∙ ap (λ (mine : List Step). Some (taken feed mine state)) (sym (own-first s step steps answer replies e))

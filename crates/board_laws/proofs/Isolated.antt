@@ -22,7 +22,7 @@ use Rattle.board_laws.specs.Cut.{cut_of, cut_in, own_row}
 use Rattle.board_laws.specs.Lawful.{IsSoundState, IsLawful}
 use Rattle.board_laws.specs.Event.{Event}
 use Rattle.board_laws.specs.StateAfter.{state_after}
-use Rattle.board_laws.specs.Step.{due_at, IsMade, IsRefusedFor, IsRefused}
+use Rattle.board_laws.specs.Step.{due_at, IsMade, IsRefusedFor, IsRefusedOn}
 use Rattle.board_laws.specs.Schedule.{Reply, IsEventStep, IsRefusedStep, IsReplyBy, IsReply, IsRun}
 use Rattle.board_laws.specs.Lone.{is_hindered, is_lone, lone_steps, lone_replies, IsAloneAs}
 use Rattle.board_laws.proofs.Lists.{slice_get-set, slice_get-set_same, slice_get-set_other}

@@ -7,7 +7,7 @@ use Rattle.std.specs.Prelude.{nat_lt, nat_le, IfSome, IsOk}
 use Rattle.std.specs.List.{AllByRecursion}
 use Rattle.std.specs.Option.{option_map_or}
 use Rattle.stream_core.specs.Standing.{Standing, IsSound, IsOpenAt, is_open_at}
-use Rattle.stream_core.specs.Rows.{first_of, NoneStands}
+use Rattle.stream_core.specs.Rows.{first_standing, NoneStands}
 use Rattle.stream_core.specs.StepTable.{row_of, decided}
 use Rattle.pk_copy.specs.KeyValue.{KeyValue}
 use Rattle.pk_copy.specs.Lastpk.{IsTableKey, KeysOfRowsAreTableKeys}
@@ -31,11 +31,11 @@ use Rattle.board_laws.proofs.Chunks.{and-left, and-right, last-past}
 -- ---- the step table
 
 -- where a row of the table answers, none of its refusals stands
-none_stands : {A R : Type 0} (refusals : List (Bool × R)) (answer : A) → IsOk (first_of refusals answer) → NoneStands refusals
+none_stands : {A R : Type 0} (refusals : List (Bool × R)) (answer : A) → IsOk (first_standing refusals answer) → NoneStands refusals
 none_stands [] answer h = tt
 none_stands ((stands, refusal) ∷ later) answer h = by stands h (λ rest. none_stands later answer rest)
   where
-    by : (b : Bool) → IsOk (cond b (Err refusal) (first_of later answer)) → (IsOk (first_of later answer) → NoneStands later) → (b ≡ false) × NoneStands later
+    by : (b : Bool) → IsOk (cond b (Err refusal) (first_standing later answer)) → (IsOk (first_standing later answer) → NoneStands later) → (b ≡ false) × NoneStands later
     by true h rest = absurd (false≢true h)
     by false h rest = (refl, rest h)
 

@@ -19,22 +19,22 @@ use Rattle.board_laws.specs.StateAfter.{state_after}
 
 -- the event of a step, where an offer is of the feed's group of that number; none where there is no such group or it
 -- isn't sound
-abbrev pub event_of : FeedValue → Step → Option Event
-event_of feed (Offer n) = option_map offer (result_ok (prepared_at feed n))
-event_of feed Advance = Some advance
-event_of feed (OpenAt m) = Some (open_at m)
-event_of feed (CopyRows c) = Some (copy_rows c)
-event_of feed Close = Some close
-event_of feed Restart = Some restart
+abbrev pub event_of_step : FeedValue → Step → Option Event
+event_of_step feed (Offer n) = option_map offer (result_ok (prepared_at feed n))
+event_of_step feed Advance = Some advance
+event_of_step feed (OpenAt m) = Some (open_at m)
+event_of_step feed (CopyRows c) = Some (copy_rows c)
+event_of_step feed Close = Some close
+event_of_step feed Restart = Some restart
 
 -- the state behind some events, one after another
-abbrev pub behind : List Event → State → State
-behind [] state = state
-behind (event ∷ later) state = behind later (state_after state event)
+abbrev pub state_behind : List Event → State → State
+state_behind [] state = state
+state_behind (event ∷ later) state = state_behind later (state_after state event)
 
 -- the state of a stream behind these steps, by its feed and the state before them alone
 abbrev pub taken : FeedValue → List Step → State → State
-taken feed steps state = behind (filter_map (event_of feed) steps) state
+taken feed steps state = state_behind (filter_map (event_of_step feed) steps) state
 
 -- ---- steps of several streams
 

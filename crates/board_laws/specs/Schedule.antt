@@ -12,8 +12,8 @@ use Rattle.board_laws.specs.declared.step_refusal.StepRefusal.{StepRefusal}
 use Rattle.board_laws.specs.declared.step_refusal.StepRefusal.TheVariants.{Unprepared, Refused}
 use Rattle.board_laws.specs.Meaning.{Meaning}
 use Rattle.board_laws.specs.Event.{Event}
-use Rattle.board_laws.specs.Runs.{event_of}
-use Rattle.board_laws.specs.Step.{IsRefused, IsStep}
+use Rattle.board_laws.specs.Runs.{event_of_step}
+use Rattle.board_laws.specs.Step.{IsRefusedOn, IsStep}
 
 -- what a step of a schedule answers
 abbrev pub Reply : Type 0
@@ -29,14 +29,14 @@ IsUnprepared feed step fault = ⊥
 -- a step as an event on stream s of the board, where an offer is of the feed's group of that number
 pub record IsEventStep (feed : FeedValue) (old : Meaning) (s : ℕ) (step : Step) (result : Result Answer Refusal) (new : Meaning) : Type 0 where
   pub event : Event
-  pub of_step : event_of feed step ≡ Some event
+  pub of_step : event_of_step feed step ≡ Some event
   pub stepped : IsStep old s event result new
 
 -- what stands where a step wants memory: an offer's group is prepared before the board judges it; any other step the
 -- board refuses so
 abbrev pub WantsMemory : FeedValue → Meaning → ℕ → Step → Type 0
 WantsMemory feed old s (Offer n) = Unit {0}
-WantsMemory feed old s step = IsSomeAnd (event_of feed step) (λ event. IsRefused old s event Memory)
+WantsMemory feed old s step = IsSomeAnd (event_of_step feed step) (λ event. IsRefusedOn old s event Memory)
 
 -- a step that the board refuses, or that wants memory, which changes nothing
 abbrev pub IsRefusedStep : FeedValue → Meaning → ℕ → Step → Refusal → Meaning → Type 0

@@ -61,8 +61,8 @@ IsRefusedFor old s state event FeedCount = ⊥
 IsRefusedFor old s state event Memory = IsAllowed state event × IsTrue (takes_memory state event)
 
 -- the same where there is such a stream, and else 115
-abbrev pub IsRefused : Meaning → ℕ → Event → Refusal → Type 0
-IsRefused old s event refusal = MatchOption (slice_get old.streams s) (refusal ≡ NoStream) (λ state. IsRefusedFor old s state event refusal)
+abbrev pub IsRefusedOn : Meaning → ℕ → Event → Refusal → Type 0
+IsRefusedOn old s event refusal = MatchOption (slice_get old.streams s) (refusal ≡ NoStream) (λ state. IsRefusedFor old s state event refusal)
 
 -- ---- a step
 
@@ -74,4 +74,4 @@ answered answer (Err refusal) = Err refusal
 -- the step of an event on stream s; a refused step leaves the board as it was
 abbrev pub IsStep : Meaning → ℕ → Event → Result Answer Refusal → Meaning → Type 0
 IsStep old s event (Ok answer) new = IsMade old s event answer new
-IsStep old s event (Err refusal) new = IsRefused old s event refusal × (new ≡ old)
+IsStep old s event (Err refusal) new = IsRefusedOn old s event refusal × (new ≡ old)

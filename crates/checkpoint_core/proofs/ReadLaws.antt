@@ -14,7 +14,7 @@ use Rattle.board_laws.proofs.Lists.{slice_get-push}
 use Rattle.checkpoint_laws.specs.declared.version.Version.{Version}
 use Rattle.checkpoint_laws.specs.declared.version.Version.TheVariants.{One, Two}
 use Rattle.checkpoint_laws.specs.Saved.{SavedStream}
-use Rattle.checkpoint_laws.specs.Said.{AreParts, IsNamed, SaysTable, AreSoMany, SaysStream, HaveAsMany, IsCheckpoint}
+use Rattle.checkpoint_laws.specs.Said.{AreStreamParts, IsNamed, SaysTable, AreSoMany, SaysStream, HaveAsMany, IsCheckpoint}
 use Rattle.checkpoint_laws.specs.Written.{opening}
 use Rattle.checkpoint_laws.proofs.OneThing.{one_version, same_parts}
 use Rattle.checkpoint_laws.proofs.ResumedLaws.{at_inside}
@@ -271,12 +271,12 @@ checkpoint_said version plans bytes parts saved are many says = record {
 pub parts_of_checkpoint : (plans : List PlanValue) (bytes : List ℕ) (saved : List SavedStream) → (h : IsCheckpoint plans bytes saved) → AreSoManyParts h.version bytes (length plans) h.parts
 parts_of_checkpoint plans bytes saved h = record { are = h.are; long = h.count }
 
-module _ (version : Version) (plans : List PlanValue) (bytes : List ℕ) (parts : List StreamPartValue) (saved : List SavedStream) (are : AreParts version bytes parts) (h : IsCheckpoint plans bytes saved) where
+module _ (version : Version) (plans : List PlanValue) (bytes : List ℕ) (parts : List StreamPartValue) (saved : List SavedStream) (are : AreStreamParts version bytes parts) (h : IsCheckpoint plans bytes saved) where
   of_version : h.version ≡ version
   of_version = one_version bytes h.version version h.are.rest are.rest h.are.opened are.opened
 
   of_parts : h.parts ≡ parts
-  of_parts = same_parts version bytes h.parts parts (subst (λ (v : Version). AreParts v bytes h.parts) of_version h.are) are
+  of_parts = same_parts version bytes h.parts parts (subst (λ (v : Version). AreStreamParts v bytes h.parts) of_version h.are) are
 
   pub streams_of_checkpoint : SayStreams version plans parts saved
   streams_of_checkpoint = record {

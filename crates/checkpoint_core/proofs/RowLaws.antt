@@ -19,7 +19,7 @@ use Rattle.source_feed.specs.Image.{ImageRows}
 use Rattle.target_tables.specs.Rising.{IsRising, AreBelow}
 use Rattle.checkpoint_core.proofs.BehindLaws.{rising_pushed}
 use Rattle.vevent.specs.CheckpointPart.{TablePartValue}
-use Rattle.checkpoint_laws.specs.Written.{rows_of_table}
+use Rattle.checkpoint_laws.specs.Written.{saved_rows_of_table}
 use Rattle.checkpoint_laws.specs.Said.{IsKeyed}
 use Rattle.checkpoint_laws.proofs.ResumedLaws.{at_inside}
 use Rattle.checkpoint_core.specs.declared.fault.ReadFault.{ReadFault}
@@ -181,12 +181,12 @@ of-part_at t parts part there =
     ap (λ (n : ℕ). values (of n (rows_from 0 parts))) at ∙ of-part 0 t parts part there
 
 -- of rows those of a table
-of-rows : (t : ℕ) (rows : ImageRows) → of t (map of_table rows) ≡ map of_table (rows_of_table t rows)
+of-rows : (t : ℕ) (rows : ImageRows) → of t (map of_table rows) ≡ map of_table (saved_rows_of_table t rows)
 of-rows t [] = refl
 of-rows t (row ∷ rows) = by (of-rows t rows) (row.0.table == t)
   where
-    by : of t (map of_table rows) ≡ map of_table (rows_of_table t rows)
-        → (b : Bool) → cond b (of_table row ∷ of t (map of_table rows)) (of t (map of_table rows)) ≡ map of_table (cond b (row ∷ rows_of_table t rows) (rows_of_table t rows))
+    by : of t (map of_table rows) ≡ map of_table (saved_rows_of_table t rows)
+        → (b : Bool) → cond b (of_table row ∷ of t (map of_table rows)) (of t (map of_table rows)) ≡ map of_table (cond b (row ∷ saved_rows_of_table t rows) (saved_rows_of_table t rows))
     by rest true = ap (λ (xs : List Given). of_table row ∷ xs) rest
     by rest false = rest
 
@@ -196,12 +196,12 @@ values-rows (row ∷ rows) = ap (λ (xs : List RowValue). row.1 ∷ xs) (values-
 
 -- the rows of all tables, read, are of each table those of its part
 pub rows_said : (plan : PlanValue) (parts : List TablePartValue) (rows : ImageRows) → AreRows plan (rows_from 0 parts) rows
-    → (t : ℕ) (part : TablePartValue) → slice_get parts t ≡ Some part → part.answer.rows ≡ map (λ (row : Row). row.1) (rows_of_table t rows)
+    → (t : ℕ) (part : TablePartValue) → slice_get parts t ≡ Some part → part.answer.rows ≡ map (λ (row : Row). row.1) (saved_rows_of_table t rows)
 rows_said plan parts rows are t part there =
     sym (of-part_at t parts part there)
     ∙ ap (λ (xs : List Given). values (of t xs)) (sym are.are)
     ∙ ap values (of-rows t rows)
-    ∙ values-rows (rows_of_table t rows)
+    ∙ values-rows (saved_rows_of_table t rows)
 
 -- ---- rows in the order of tables are said by those of each table
 
@@ -354,7 +354,7 @@ rows_bare plan parts rows are = by rows (subst (Below (length parts)) (sym are.a
 
 -- rows that are of each table those of its part are those of all tables, in order
 pub rows_only : (plan : PlanValue) (parts : List TablePartValue) (rows : ImageRows) → AllByRecursion (λ (row : Row). row.0.table < length parts) rows → IsRising key_cmp rows → AllByRecursion (IsKeyed plan) rows
-    → ((t : ℕ) (part : TablePartValue) → slice_get parts t ≡ Some part → part.answer.rows ≡ map (λ (row : Row). row.1) (rows_of_table t rows)) → AreRows plan (rows_from 0 parts) rows
+    → ((t : ℕ) (part : TablePartValue) → slice_get parts t ≡ Some part → part.answer.rows ≡ map (λ (row : Row). row.1) (saved_rows_of_table t rows)) → AreRows plan (rows_from 0 parts) rows
 rows_only plan parts rows bare rising keyed says = record {
   rising = rising;
   keyed = keyed;
@@ -366,7 +366,7 @@ rows_only plan parts rows bare rising keyed says = record {
       | inl less ↦ (
           let there : (part : TablePartValue) × (slice_get parts t ≡ Some part) = at_inside parts t less in
           same_values t (of t (map of_table rows)) (of t (rows_from 0 parts)) (all-of t (map of_table rows)) (all-of t (rows_from 0 parts))
-          (ap values (of-rows t rows) ∙ values-rows (rows_of_table t rows) ∙ sym (says t there.0 there.1) ∙ sym (of-part_at t parts there.0 there.1)))
+          (ap values (of-rows t rows) ∙ values-rows (saved_rows_of_table t rows) ∙ sym (says t there.0 there.1) ∙ sym (of-part_at t parts there.0 there.1)))
       | inr most ↦ none_of_rows (length parts) t rows most bare ∙ sym (none_from 0 t parts (omega (arith, most)))
     ]
 

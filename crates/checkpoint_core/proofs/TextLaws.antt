@@ -9,7 +9,7 @@ use Rattle.pk_copy.specs.Marks.{Marks, mark_of}
 use Rattle.vevent.specs.CheckpointPart.{TablePartValue}
 use Rattle.source_feed.specs.History.{RowValue}
 use Rattle.source_feed.specs.Image.{ImageRows, lent_row}
-use Rattle.checkpoint_laws.specs.Written.{rows_of_table, numbers_below}
+use Rattle.checkpoint_laws.specs.Written.{saved_rows_of_table, numbers_below}
 use Rattle.checkpoint_core.specs.Private.Texts.{part_of_table, parts_of_tables}
 use denote.Ref.{Bor}
 
@@ -27,16 +27,16 @@ abbrev pub Lent : Type 0
 Lent = Bor KeyValue × Bor RowValue
 
 abbrev pub rows_at : ℕ → List Lent → List RowValue
-rows_at t own = map (λ (row : KeyValue × RowValue). row.1) (rows_of_table t (map lent_row own))
+rows_at t own = map (λ (row : KeyValue × RowValue). row.1) (saved_rows_of_table t (map lent_row own))
 
 module _ (t : ℕ) (own : List Lent) (i : ℕ) (row : Lent) (at : drop i own ≡ row ∷ drop (i + 1) own) where
   others : ImageRows
-  others = rows_of_table t (map lent_row (drop (i + 1) own))
+  others = saved_rows_of_table t (map lent_row (drop (i + 1) own))
 
-  first : (b : Bool) → (row.0.now.table == t) ≡ b → rows_at t (drop i own) ≡ map (λ (row : KeyValue × RowValue). row.1) (cond b (lent_row row ∷ rows_of_table t (map lent_row (drop (i + 1) own))) (rows_of_table t (map lent_row (drop (i + 1) own))))
+  first : (b : Bool) → (row.0.now.table == t) ≡ b → rows_at t (drop i own) ≡ map (λ (row : KeyValue × RowValue). row.1) (cond b (lent_row row ∷ saved_rows_of_table t (map lent_row (drop (i + 1) own))) (saved_rows_of_table t (map lent_row (drop (i + 1) own))))
   first b e =
       ap (rows_at t) at
-      ∙ ap (λ b. map (λ (row : KeyValue × RowValue). row.1) (cond b (lent_row row ∷ rows_of_table t (map lent_row (drop (i + 1) own))) (rows_of_table t (map lent_row (drop (i + 1) own))))) e
+      ∙ ap (λ b. map (λ (row : KeyValue × RowValue). row.1) (cond b (lent_row row ∷ saved_rows_of_table t (map lent_row (drop (i + 1) own))) (saved_rows_of_table t (map lent_row (drop (i + 1) own))))) e
 
   pub rows_turn : (made new whole : List RowValue) → row.0.now.table ≡ t → new ≡ made ++ row.1.now ∷ [] → made ++ rows_at t (drop i own) ≡ whole → new ++ rows_at t (drop (i + 1) own) ≡ whole
   rows_turn made new whole mine is so_far =

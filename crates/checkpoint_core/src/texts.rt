@@ -2,13 +2,13 @@
 
 ghost use Rattle.std.specs.Prelude.{◌≡◌, ◌<◌, ℕ, List, Some, map, length, slice_get, IfOk};
 ghost use Rattle.std.specs.Option.{option_map};
-ghost use Rattle.filter_rule.specs.WellFormed.{ArePlaces};
+ghost use Rattle.filter_rule.specs.WellFormed.{AreColumnPlaces};
 ghost use Rattle.pk_copy.specs.MarkView.{mark_value};
 ghost use Rattle.source_feed.specs.Image.{lent_row};
 ghost use Rattle.vevent.specs.CheckpointPart.{mark_number};
 ghost use Rattle.vevent.specs.ColumnView.{field_value};
 ghost use Rattle.vevent.specs.ContentView.{table_content};
-ghost use Rattle.checkpoint_laws.specs.Written.{field_of, name_of_table, number_of_mark, last_row_of, rows_of_table};
+ghost use Rattle.checkpoint_laws.specs.Written.{field_of, table_name, number_of_mark, last_row_of, saved_rows_of_table};
 ghost use Rattle.checkpoint_core.specs.Private.Texts.{fields_at, part_of_table, parts_of_tables, text_value};
 
 use filter_rule::{ColumnDef, Plan};
@@ -59,7 +59,7 @@ pub(crate) fn content_of<'c>(text: &'c TableText<'_>, position: &'c str) -> Tabl
 /// The name of table `t`.
 pub(crate) fn name_of(plan: &Plan, t: u8) -> &[u8]
     requires { t < length plan.now.tables }
-    ensures { result.now ≡ name_of_table plan.now t }
+    ensures { result.now ≡ table_name plan.now t }
 {
     plan.tables()[usize::from(t)].name().as_bytes()
 }
@@ -102,7 +102,7 @@ pub(crate) fn fields_at<'a>(
     columns: &'a [ColumnDef],
     places: &[u8],
 ) -> Result<Vec<ColumnField<'a>>, AllocError>
-    requires { ArePlaces columns.now places.now }
+    requires { AreColumnPlaces columns.now places.now }
     ensures { IfOk result (λ fields. map field_value fields.items ≡ fields_at columns.now places.now) }
 {
     let mut fields = Vec::new(alloc);
@@ -118,7 +118,7 @@ fn table_rows<'a>(
     own: &'a [(&'a Key, &'a RowBuf)],
     t: u8,
 ) -> Result<Vec<RowBytes<'a>>, AllocError>
-    ensures { IfOk result (λ rows. rows.items ≡ map (λ row. row.1) (rows_of_table t (map lent_row own.now))) }
+    ensures { IfOk result (λ rows. rows.items ≡ map (λ row. row.1) (saved_rows_of_table t (map lent_row own.now))) }
 {
     let mut rows = Vec::new(alloc);
     for i in 0..own.len() {

@@ -23,8 +23,8 @@ use Rattle.board_laws.proofs.Lookups.{Ties, all-filter, filter-passes, lookup-fi
 use Rattle.checkpoint_laws.specs.declared.version.Version.{Version}
 use Rattle.checkpoint_laws.specs.declared.version.Version.TheVariants.{One, Two}
 use Rattle.checkpoint_laws.specs.Saved.{SavedStream}
-use Rattle.checkpoint_laws.specs.Written.{number_of_mark, rows_of_table, opening}
-use Rattle.checkpoint_laws.specs.Said.{AreParts, SaysLast, SaysTable, IsKeyed, AreSoMany, SaysStream}
+use Rattle.checkpoint_laws.specs.Written.{number_of_mark, saved_rows_of_table, opening}
+use Rattle.checkpoint_laws.specs.Said.{AreStreamParts, SaysLast, SaysTable, IsKeyed, AreSoMany, SaysStream}
 use Rattle.checkpoint_laws.specs.Laws.{CheckpointsSayOneThing}
 use Rattle.checkpoint_laws.proofs.ResumedLaws.{at_same_place, at_inside}
 use Rattle.checkpoint_laws.proofs.RestartedLaws.{same_at_places}
@@ -69,7 +69,7 @@ one_version bytes Two One r s p q =
     absurd (omega (arith, same))
 
 -- the parts of bytes are one list
-pub same_parts : (version : Version) (bytes : List ℕ) (xs ys : List StreamPartValue) → AreParts version bytes xs → AreParts version bytes ys → xs ≡ ys
+pub same_parts : (version : Version) (bytes : List ℕ) (xs ys : List StreamPartValue) → AreStreamParts version bytes xs → AreStreamParts version bytes ys → xs ≡ ys
 same_parts version bytes xs ys p q =
     let rest : p.rest ≡ q.rest = append_cancel_left (opening version) p.rest q.rest (sym p.opened ∙ q.opened) in
     let messages : p.messages ≡ q.messages = ap (λ (r : Reading (List ℕ) FrameFault). r.items) (sym p.framed ∙ ap frames_of rest ∙ q.framed) in
@@ -146,13 +146,13 @@ same_keyed plan t (x ∷ xs) (y ∷ ys) a b c d e =
     let later : xs ≡ ys = same_keyed plan t xs ys a.1 b.1 c.1 d.1 (ap others e) in
     λ i. (key i, row i) ∷ later i
 
-none_of : (n t : ℕ) (rows : ImageRows) → n ≤ t → AllByRecursion (λ (row : Row). row.0.table < n) rows → rows_of_table t rows ≡ []
+none_of : (n t : ℕ) (rows : ImageRows) → n ≤ t → AllByRecursion (λ (row : Row). row.0.table < n) rows → saved_rows_of_table t rows ≡ []
 none_of n t [] most h = refl
 none_of n t (row ∷ rows) most h =
     let inside : row.0.table < n = h.0 in
-    ap (λ b. cond b (row ∷ rows_of_table t rows) (rows_of_table t rows)) (ne_eqb row.0.table t (λ e. absurd (omega (arith, e, inside, most)))) ∙ none_of n t rows most h.1
+    ap (λ b. cond b (row ∷ saved_rows_of_table t rows) (saved_rows_of_table t rows)) (ne_eqb row.0.table t (λ e. absurd (omega (arith, e, inside, most)))) ∙ none_of n t rows most h.1
 
-in_table : (ties : Ties) (rows : ImageRows) (q : KeyValue) → row_in (rows_of_table q.table rows) q ≡ row_in rows q
+in_table : (ties : Ties) (rows : ImageRows) (q : KeyValue) → row_in (saved_rows_of_table q.table rows) q ≡ row_in rows q
 in_table ties rows q =
     lookup-filter ties (λ k. k.table == q.table) rows q ∙ ap (λ b. cond b (row_in rows q) None) (eq-eqb q.table q.table refl)
 
@@ -203,11 +203,11 @@ module _ (ties : Ties) (version : Version) (plan : PlanValue) (some : 1 ≤ leng
         unmarked x.marks.upto (sym (current_at x.marks) ∙ p.further x.marks.done most) ∙ sym (unmarked y.marks.upto (sym y_at ∙ q.further x.marks.done most)))
   ]
 
-  same_tables : (t : ℕ) → rows_of_table t x.rows ≡ rows_of_table t y.rows
+  same_tables : (t : ℕ) → saved_rows_of_table t x.rows ≡ saved_rows_of_table t y.rows
   same_tables t = elim (cases_lt t (length part.tables)) [
     | inl less ↦ (
         let table : Table t = table_at t less in
-        same_keyed plan t (rows_of_table t x.rows) (rows_of_table t y.rows) (all-filter (IsKeyed plan) (λ row. row.0.table == t) x.rows p.sound.keyed) (all-filter (IsKeyed plan) (λ row. row.0.table == t) y.rows q.sound.keyed)
+        same_keyed plan t (saved_rows_of_table t x.rows) (saved_rows_of_table t y.rows) (all-filter (IsKeyed plan) (λ row. row.0.table == t) x.rows p.sound.keyed) (all-filter (IsKeyed plan) (λ row. row.0.table == t) y.rows q.sound.keyed)
         (filter-passes (λ (row : Row). row.0.table == t) x.rows) (filter-passes (λ (row : Row). row.0.table == t) y.rows) (sym table.one.answer.rows ∙ table.other.answer.rows))
     | inr most ↦ none_of (length part.tables) t x.rows most p.bare ∙ sym (none_of (length part.tables) t y.rows most q.bare)
   ]
@@ -234,7 +234,7 @@ one_thing ties plans bytes one other well p q = same_at_places one other (p.same
     let plan : (plan : PlanValue) × (slice_get plans s ≡ Some plan) = at_same_place one plans s x p.same_count here in
     let part : (part : StreamPartValue) × (slice_get p.parts s ≡ Some part) = at_same_place plans p.parts s plan.0 (sym p.count) plan.1 in
     let version : q.version ≡ p.version = one_version bytes q.version p.version q.are.rest p.are.rest q.are.opened p.are.opened in
-    let are : AreParts p.version bytes q.parts = subst (λ (v : Version). AreParts v bytes q.parts) version q.are in
+    let are : AreStreamParts p.version bytes q.parts = subst (λ (v : Version). AreStreamParts v bytes q.parts) version q.are in
     let also : slice_get q.parts s ≡ Some part.0 = ap (λ (parts : List StreamPartValue). slice_get parts s) (same_parts p.version bytes q.parts p.parts are p.are) ∙ part.1 in
     one_stream ties p.version plan.0 (plan_at plans s plan.0 well plan.1).tables.count.0 x y part.0 (p.each_stream s plan.0 x part.0 plan.1 here part.1)
     (subst (λ (v : Version). SaysStream v plan.0 y part.0) version (q.each_stream s plan.0 y part.0 plan.1 there also)))

@@ -34,16 +34,16 @@ use Rattle.board_laws.proofs.Lists.{slice_get-push}
 use Rattle.board_laws.proofs.Lookups.{Ties, each, all-at, all-filter}
 use Rattle.board_laws.proofs.RowsUnder.{IsRowUnder, kept-under}
 use Rattle.added_laws.specs.Extended.{marks_of_more}
-use Rattle.join_laws.specs.Compatible.{plans_of}
+use Rattle.join_laws.specs.Compatible.{plans_of_board}
 use Rattle.join_laws.specs.Joined.{cut_rows}
 use Rattle.board_laws.specs.Sources.{applied_position}
 use Rattle.checkpoint_laws.specs.declared.version.Version.{Version}
 use Rattle.checkpoint_laws.specs.declared.version.Version.TheVariants.{One, Two}
 use Rattle.checkpoint_laws.specs.Added.{under_plan, under_plans, SavedBoardsAreSaidOfMore}
 use Rattle.checkpoint_laws.specs.Saved.{SavedStream, own_rows, saved_stream, saved_of}
-use Rattle.checkpoint_laws.specs.Written.{field_of, fields_of_table, position_text, number_of_mark, last_row_of, rows_of_table, table_part, numbers_below, table_parts, stream_part, stream_parts, checkpoint_in}
+use Rattle.checkpoint_laws.specs.Written.{field_of, fields_of_table, position_text, number_of_mark, last_row_of, saved_rows_of_table, table_part, numbers_below, table_parts, stream_part, stream_parts, checkpoint_in}
 use Rattle.checkpoint_laws.specs.Said.{SaysLast, IsNamed, SaysTable, IsKeyed, IsSaved, AreSoMany, SaysStream, HaveAsMany, IsCheckpoint}
-use Rattle.checkpoint_laws.specs.Laws.{IsWithin, SavedBoardsAreSaid, AreWithin}
+use Rattle.checkpoint_laws.specs.Laws.{IsStreamWithin, SavedBoardsAreSaid, AreWithin}
 use Rattle.checkpoint_laws.proofs.PartLaws.{checkpoints_read_again}
 use Rattle.checkpoint_laws.proofs.OwnRows.{own-rising, own-is_cut}
 use Rattle.checkpoint_laws.proofs.PositionText.{position_utf8}
@@ -135,7 +135,7 @@ last_within t waiting h = tt
 last_within t (up_to key) h = h.0
 last_within t copied h = tt
 
-module _ (version : Version) (plan : PlanValue) (well : IsPlan plan) (saved : SavedStream) (within : IsWithin saved) (marks : AreMarks saved.marks) (canonical : IsCanonical saved.position) where
+module _ (version : Version) (plan : PlanValue) (well : IsPlan plan) (saved : SavedStream) (within : IsStreamWithin saved) (marks : AreMarks saved.marks) (canonical : IsCanonical saved.position) where
   sound_table : (t : ℕ) → IsSoundTable (table_part version plan saved t)
   sound_table t = record {
     mark = small (mark_of saved.marks t);
@@ -143,7 +143,7 @@ module _ (version : Version) (plan : PlanValue) (well : IsPlan plan) (saved : Sa
       fields = plan_columns plan well t;
       pkfields = key_columns (columns_of plan t) (key_columns_of plan t) (plan_columns plan well t);
       gtid = position_utf8 saved.position canonical;
-      rows = values_within (rows_of_table t saved.rows) (all-filter (λ (row : KeyValue × RowValue). IsWithinLimits row.1) (λ row. row.0.table == t) saved.rows within.rows);
+      rows = values_within (saved_rows_of_table t saved.rows) (all-filter (λ (row : KeyValue × RowValue). IsWithinLimits row.1) (λ row. row.0.table == t) saved.rows within.rows);
       lastpk = last_within t (mark_of saved.marks t) (of_mark (λ key. IsWithinLimits (lastpk_of key)) saved.marks t marks within.last);
     };
   }
@@ -207,7 +207,7 @@ waits_behind m n t are tables most = by (nat_lt t m.done) refl (t == m.done) ref
     by false d true e (Some key) h = let at : t ≡ m.done = eqb-true t m.done e in absurd (omega (arith, at, h.copying, tables, most))
 
 module _ (reads : ReadsBack) (version : Version) (old new : PlanValue) (front : IsFront old new) (many : AreSoMany version new (length old.tables))
-    (saved : SavedStream) (sound : IsSaved old saved) (within : IsWithin saved) (canonical : IsCanonical saved.position) where
+    (saved : SavedStream) (sound : IsSaved old saved) (within : IsStreamWithin saved) (canonical : IsCanonical saved.position) where
   key_there : (key : KeyValue) → IsTableKey old key → IsTableKey new key
   key_there key is =
       let same : slice_get old.tables key.table ≡ slice_get new.tables key.table = front.tables key.table is.table in
@@ -384,8 +384,8 @@ cut_keyed ties state sound =
     (each (IsRowUnder state.plan) (IsKeyed state.plan) (λ row under. record { table = under.table; width = under.width; key = under.key }) (kept_rows state.list state.applied)
     (kept-under ties state.plan state.list state.applied sound.list))
 
-module _ (ties : Ties) (board : Meaning) (plans : AllByRecursion IsPlan (plans_of board)) (lawful : IsLawful board) (within : AreWithin board) where
-  long : length (saved_of board) ≡ length (plans_of board)
+module _ (ties : Ties) (board : Meaning) (plans : AllByRecursion IsPlan (plans_of_board board)) (lawful : IsLawful board) (within : AreWithin board) where
+  long : length (saved_of board) ≡ length (plans_of_board board)
   long = saved_long 0 board.streams board.rows ∙ sym (length-map board.streams (λ (state : State). state.plan))
 
   of_state : (s : ℕ) (state : State) → slice_get board.streams s ≡ Some state → Known state.plan (saved_stream s state board.rows)
@@ -397,13 +397,13 @@ module _ (ties : Ties) (board : Meaning) (plans : AllByRecursion IsPlan (plans_o
         canonical = position_is state sound;
       }
 
-  planned_at : (s : ℕ) (state : State) (plan : PlanValue) → slice_get board.streams s ≡ Some state → slice_get (plans_of board) s ≡ Some plan → state.plan ≡ plan
+  planned_at : (s : ℕ) (state : State) (plan : PlanValue) → slice_get board.streams s ≡ Some state → slice_get (plans_of_board board) s ≡ Some plan → state.plan ≡ plan
   planned_at s state plan here p =
       same_Some state.plan plan (sym (slice_get-map (λ (state : State). state.plan) board.streams s ∙ ap (option_map (λ (state : State). state.plan)) here) ∙ p)
 
-  known_at : (s : ℕ) (plan : PlanValue) (one : SavedStream) → slice_get (plans_of board) s ≡ Some plan → slice_get (saved_of board) s ≡ Some one → Known plan one
+  known_at : (s : ℕ) (plan : PlanValue) (one : SavedStream) → slice_get (plans_of_board board) s ≡ Some plan → slice_get (saved_of board) s ≡ Some one → Known plan one
   known_at s plan one p q =
-      let there : (state : State) × (slice_get board.streams s ≡ Some state) = at_same_place (plans_of board) board.streams s plan (length-map board.streams (λ (state : State). state.plan)) p in
+      let there : (state : State) × (slice_get board.streams s ≡ Some state) = at_same_place (plans_of_board board) board.streams s plan (length-map board.streams (λ (state : State). state.plan)) p in
       let none_more : 0 + s ≡ s = omega arith in
       let kept : saved_stream s there.0 board.rows ≡ one
       = ap (λ n. saved_stream n there.0 board.rows) (sym none_more) ∙ same_Some (saved_stream (0 + s) there.0 board.rows) one (sym (saved_at 0 board.streams board.rows s there.0 there.1) ∙ q) in
@@ -411,28 +411,28 @@ module _ (ties : Ties) (board : Meaning) (plans : AllByRecursion IsPlan (plans_o
       subst (λ (x : PlanValue). Known x one) planned (subst (Known there.0.plan) kept (of_state s there.0 there.1))
 
   -- each of its plans is well-formed, and each stream within the limits
-  well_at : (s : ℕ) (plan : PlanValue) → slice_get (plans_of board) s ≡ Some plan → IsPlan plan
-  well_at s plan p = all-at IsPlan (plans_of board) s plan plans p
+  well_at : (s : ℕ) (plan : PlanValue) → slice_get (plans_of_board board) s ≡ Some plan → IsPlan plan
+  well_at s plan p = all-at IsPlan (plans_of_board board) s plan plans p
 
-  within_at : (s : ℕ) (one : SavedStream) → slice_get (saved_of board) s ≡ Some one → IsWithin one
-  within_at s one q = all-at IsWithin (saved_of board) s one within q
+  within_at : (s : ℕ) (one : SavedStream) → slice_get (saved_of board) s ≡ Some one → IsStreamWithin one
+  within_at s one q = all-at IsStreamWithin (saved_of board) s one within q
 
-  sound_at : (version : Version) (s : ℕ) (plan : PlanValue) (one : SavedStream) → slice_get (plans_of board) s ≡ Some plan → slice_get (saved_of board) s ≡ Some one → IsSoundStream (stream_part version plan one)
+  sound_at : (version : Version) (s : ℕ) (plan : PlanValue) (one : SavedStream) → slice_get (plans_of_board board) s ≡ Some plan → slice_get (saved_of board) s ≡ Some one → IsSoundStream (stream_part version plan one)
   sound_at version s plan one p q = let known : Known plan one = known_at s plan one p q in sound_stream version plan (well_at s plan p) one (within_at s one q) known.sound.marks known.canonical
 
   -- all streams have as many tables
-  one_count : (s t : ℕ) (x y : PlanValue) → slice_get (plans_of board) s ≡ Some x → slice_get (plans_of board) t ≡ Some y → length x.tables ≡ length y.tables
+  one_count : (s t : ℕ) (x y : PlanValue) → slice_get (plans_of_board board) s ≡ Some x → slice_get (plans_of_board board) t ≡ Some y → length x.tables ≡ length y.tables
   one_count s t x y p q =
-      let one : (state : State) × (slice_get board.streams s ≡ Some state) = at_same_place (plans_of board) board.streams s x (length-map board.streams (λ (state : State). state.plan)) p in
-      let other : (state : State) × (slice_get board.streams t ≡ Some state) = at_same_place (plans_of board) board.streams t y (length-map board.streams (λ (state : State). state.plan)) q in
+      let one : (state : State) × (slice_get board.streams s ≡ Some state) = at_same_place (plans_of_board board) board.streams s x (length-map board.streams (λ (state : State). state.plan)) p in
+      let other : (state : State) × (slice_get board.streams t ≡ Some state) = at_same_place (plans_of_board board) board.streams t y (length-map board.streams (λ (state : State). state.plan)) q in
       ap (λ (plan : PlanValue). length plan.tables) (sym (planned_at s one.0 x one.1 p))
       ∙ ap (λ (tables : List TableValue). length tables) (lawful.tables s t one.0 other.0 one.1 other.1)
       ∙ ap (λ (plan : PlanValue). length plan.tables) (planned_at t other.0 y other.1 q)
 
-  many_of_two : HaveAsMany Two (stream_parts Two (plans_of board) (saved_of board))
+  many_of_two : HaveAsMany Two (stream_parts Two (plans_of_board board) (saved_of board))
   many_of_two s t one other p q =
-      let x : IsStreamPart Two (plans_of board) (saved_of board) s one = part_at Two (plans_of board) (saved_of board) s one p in
-      let y : IsStreamPart Two (plans_of board) (saved_of board) t other = part_at Two (plans_of board) (saved_of board) t other q in
+      let x : IsStreamPart Two (plans_of_board board) (saved_of board) s one = part_at Two (plans_of_board board) (saved_of board) s one p in
+      let y : IsStreamPart Two (plans_of_board board) (saved_of board) t other = part_at Two (plans_of_board board) (saved_of board) t other q in
       ap (λ (part : StreamPartValue). length part.tables) (sym x.is)
       ∙ tables_long x.plan x.one
       ∙ one_count s t x.plan y.plan x.planned y.planned
@@ -442,18 +442,18 @@ module _ (ties : Ties) (board : Meaning) (plans : AllByRecursion IsPlan (plans_o
       tables_long : (plan : PlanValue) (one : SavedStream) → length (stream_part Two plan one).tables ≡ length plan.tables
       tables_long plan one = length-map (numbers_below (length plan.tables)) (table_part Two plan one) ∙ below_long (length plan.tables)
 
-  as_many : (version : Version) → HaveAsMany version (stream_parts version (plans_of board) (saved_of board))
+  as_many : (version : Version) → HaveAsMany version (stream_parts version (plans_of_board board) (saved_of board))
   as_many One = tt
   as_many Two = many_of_two
 
   -- under plans that begin with those of the board its checkpoint says what is kept of it
-  module _ (reads : ReadsBack) (version : Version) (news : List PlanValue) (count : length news ≡ length (plans_of board))
-      (front : (s : ℕ) (old new : PlanValue) → slice_get (plans_of board) s ≡ Some old → slice_get news s ≡ Some new → IsFront old new)
-      (many : (s : ℕ) (old new : PlanValue) → slice_get (plans_of board) s ≡ Some old → slice_get news s ≡ Some new → AreSoMany version new (length old.tables)) where
+  module _ (reads : ReadsBack) (version : Version) (news : List PlanValue) (count : length news ≡ length (plans_of_board board))
+      (front : (s : ℕ) (old new : PlanValue) → slice_get (plans_of_board board) s ≡ Some old → slice_get news s ≡ Some new → IsFront old new)
+      (many : (s : ℕ) (old new : PlanValue) → slice_get (plans_of_board board) s ≡ Some old → slice_get news s ≡ Some new → AreSoMany version new (length old.tables)) where
     says_at : (s : ℕ) (plan : PlanValue) (one : SavedStream) (part : StreamPartValue) → slice_get news s ≡ Some plan → slice_get (under_plans news (saved_of board)) s ≡ Some one
-        → slice_get (stream_parts version (plans_of board) (saved_of board)) s ≡ Some part → SaysStream version plan one part
+        → slice_get (stream_parts version (plans_of_board board) (saved_of board)) s ≡ Some part → SaysStream version plan one part
     says_at s plan one part p q r =
-        let of : IsStreamPart version (plans_of board) (saved_of board) s part = part_at version (plans_of board) (saved_of board) s part r in
+        let of : IsStreamPart version (plans_of_board board) (saved_of board) s part = part_at version (plans_of_board board) (saved_of board) s part r in
         let under : IsUnder news (saved_of board) s one = under_at news (saved_of board) s one q in
         let known : Known of.plan of.one = known_at s of.plan of.one of.planned of.kept in
         let says : SaysStream version plan (under_plan plan of.one) (stream_part version of.plan of.one)
@@ -466,9 +466,9 @@ module _ (ties : Ties) (board : Meaning) (plans : AllByRecursion IsPlan (plans_o
     says_all : StreamPartsAreReadAgain → length (checkpoint_in version board) < 2 ^ 64 → IsCheckpoint news (checkpoint_in version board) (under_plans news (saved_of board))
     says_all parts_again short = record {
       version = version;
-      parts = stream_parts version (plans_of board) (saved_of board);
-      are = checkpoints_read_again parts_again version (stream_parts version (plans_of board) (saved_of board)) (all_sound version (plans_of board) (saved_of board) (sound_at version)) short;
-      count = parts_long version (plans_of board) (saved_of board) long ∙ sym count;
+      parts = stream_parts version (plans_of_board board) (saved_of board);
+      are = checkpoints_read_again parts_again version (stream_parts version (plans_of_board board) (saved_of board)) (all_sound version (plans_of_board board) (saved_of board) (sound_at version)) short;
+      count = parts_long version (plans_of_board board) (saved_of board) long ∙ sym count;
       same_count = under_long news (saved_of board) (long ∙ sym count);
       as_many = as_many version;
       each_stream = says_at;
@@ -481,9 +481,9 @@ all_tables Two plan is = (is.tables.count.0, omega arith)
 
 pub saved_boards : Ties → StreamPartsAreReadAgain → ReadsBack → SavedBoardsAreSaid
 saved_boards ties parts_again reads version board plans lawful within short =
-    subst (IsCheckpoint (plans_of board) (checkpoint_in version board))
-    (under_own (plans_of board) (saved_of board) (long ties board plans lawful within) (λ s plan one p q. (known_at ties board plans lawful within s plan one p q).sound.tables))
-    (says_all ties board plans lawful within reads version (plans_of board) refl
+    subst (IsCheckpoint (plans_of_board board) (checkpoint_in version board))
+    (under_own (plans_of_board board) (saved_of board) (long ties board plans lawful within) (λ s plan one p q. (known_at ties board plans lawful within s plan one p q).sound.tables))
+    (says_all ties board plans lawful within reads version (plans_of_board board) refl
     (λ s old new p q. subst (IsFront old) (same_Some old new (sym p ∙ q)) (front_itself old))
     (λ s old new p q. subst (λ (plan : PlanValue). AreSoMany version plan (length old.tables)) (same_Some old new (sym p ∙ q)) (all_tables version old (well_at ties board plans lawful within s old p)))
     parts_again short)

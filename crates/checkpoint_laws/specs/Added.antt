@@ -11,7 +11,7 @@ use Rattle.board_laws.specs.Lawful.{IsLawful}
 use Rattle.board_laws.specs.Meaning.{State, Meaning}
 use Rattle.board_laws.specs.Runs.{sound_groups}
 use Rattle.added_laws.specs.Extended.{marks_of_more, AreExtended, extended_board, MayExtend}
-use Rattle.join_laws.specs.Compatible.{plans_of}
+use Rattle.join_laws.specs.Compatible.{plans_of_board}
 use Rattle.checkpoint_laws.specs.Laws.{AreWithin, AreFeeds}
 use Rattle.checkpoint_laws.specs.Refused.{plans_of_feeds}
 use Rattle.checkpoint_laws.specs.Resumed.{IsResumedBoard}
@@ -35,8 +35,8 @@ under_plans (plan ∷ plans) (one ∷ saved) = under_plan plan one ∷ under_pla
 -- wait
 abbrev pub SavedBoardsAreSaidOfMore : Type 0
 SavedBoardsAreSaidOfMore =
-    (board : Meaning) (plans : List PlanValue) → AllByRecursion IsPlan (plans_of board) → IsLawful board → AreWithin board → length (checkpoint_of board) < 2 ^ 64
-    → AreExtended (plans_of board) plans → IsCheckpoint plans (checkpoint_of board) (under_plans plans (saved_of board))
+    (board : Meaning) (plans : List PlanValue) → AllByRecursion IsPlan (plans_of_board board) → IsLawful board → AreWithin board → length (checkpoint_of board) < 2 ^ 64
+    → AreExtended (plans_of_board board) plans → IsCheckpoint plans (checkpoint_of board) (under_plans plans (saved_of board))
 
 -- ---- the board
 
@@ -60,5 +60,5 @@ pub record IsOfSameHistory (feed : FeedValue) (state : State) : Type 0 where
 
 -- the same of each stream
 pub record AreOfSameHistories (feeds : List FeedValue) (board : Meaning) : Type 0 where
-  pub extended : AreExtended (plans_of board) (plans_of_feeds feeds)
+  pub extended : AreExtended (plans_of_board board) (plans_of_feeds feeds)
   pub each_stream : (s : ℕ) (feed : FeedValue) (state : State) → slice_get feeds s ≡ Some feed → slice_get board.streams s ≡ Some state → IsOfSameHistory feed state

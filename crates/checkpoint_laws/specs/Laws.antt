@@ -14,7 +14,7 @@ use Rattle.board_laws.specs.Lawful.{IsLawful}
 use Rattle.board_laws.specs.Event.{restart}
 use Rattle.board_laws.specs.Runs.{sound_groups}
 use Rattle.board_laws.specs.StateAfter.{state_after}
-use Rattle.join_laws.specs.Compatible.{plans_of}
+use Rattle.join_laws.specs.Compatible.{plans_of_board}
 use Rattle.checkpoint_laws.specs.declared.version.Version.{Version}
 use Rattle.checkpoint_laws.specs.Saved.{SavedStream, saved_of}
 use Rattle.checkpoint_laws.specs.Written.{position_text, written_checkpoint, checkpoint_in}
@@ -29,7 +29,7 @@ use Rattle.checkpoint_laws.specs.Refused.{plans_of_feeds}
 abbrev pub CheckpointsAreReadAgain : Type 0
 CheckpointsAreReadAgain =
     (version : Version) (parts : List StreamPartValue) → AllByRecursion IsSoundStream parts → length (written_checkpoint version parts) < 2 ^ 64
-    → said.AreParts version (written_checkpoint version parts) parts
+    → said.AreStreamParts version (written_checkpoint version parts) parts
 
 -- ---- what is said
 
@@ -40,21 +40,21 @@ CheckpointsSayOneThing =
 
 -- what is kept of a stream is within the limits: the position's text, the rows and the key of a mark, as a row, aren't
 -- too long
-pub record IsWithin (saved : SavedStream) : Type 0 where
+pub record IsStreamWithin (saved : SavedStream) : Type 0 where
   pub short : length (position_text saved.position) ≤ text_limit
   pub rows : AllByRecursion (λ row. IsWithinLimits row.1) saved.rows
   pub last : IfSome saved.marks.upto (λ key. IsWithinLimits (lastpk_of key))
 
 -- the same of every stream of a board
 abbrev pub AreWithin : Meaning → Type 0
-AreWithin board = AllByRecursion IsWithin (saved_of board)
+AreWithin board = AllByRecursion IsStreamWithin (saved_of board)
 
 -- what is kept of a board within the limits, under well-formed plans, is what its checkpoint says in either version,
 -- whose bytes can be counted
 abbrev pub SavedBoardsAreSaid : Type 0
 SavedBoardsAreSaid =
-    (version : Version) (board : Meaning) → AllByRecursion IsPlan (plans_of board) → IsLawful board → AreWithin board → length (checkpoint_in version board) < 2 ^ 64
-    → IsCheckpoint (plans_of board) (checkpoint_in version board) (saved_of board)
+    (version : Version) (board : Meaning) → AllByRecursion IsPlan (plans_of_board board) → IsLawful board → AreWithin board → length (checkpoint_in version board) < 2 ^ 64
+    → IsCheckpoint (plans_of_board board) (checkpoint_in version board) (saved_of board)
 
 -- ---- the resumed board
 

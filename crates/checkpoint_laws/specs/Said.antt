@@ -17,12 +17,12 @@ use Rattle.vevent.specs.CheckpointPart.{TablePartValue, StreamPartValue, stream_
 use Rattle.checkpoint_laws.specs.declared.version.Version.{Version}
 use Rattle.checkpoint_laws.specs.declared.version.Version.TheVariants.{One, Two}
 use Rattle.checkpoint_laws.specs.Saved.{SavedStream}
-use Rattle.checkpoint_laws.specs.Written.{fields_of_table, key_fields_of, name_of_table, number_of_mark, rows_of_table, opening}
+use Rattle.checkpoint_laws.specs.Written.{fields_of_table, key_fields_of, table_name, number_of_mark, saved_rows_of_table, opening}
 
 -- ---- the parts
 
 -- the bytes are the eight first ones of a version, then these parts, each behind its length, and nothing after them
-pub record AreParts (version : Version) (bytes : List ℕ) (parts : List StreamPartValue) : Type 0 where
+pub record AreStreamParts (version : Version) (bytes : List ℕ) (parts : List StreamPartValue) : Type 0 where
   pub rest : List ℕ
   pub opened : bytes ≡ opening version ++ rest
   pub messages : List (List ℕ)
@@ -43,13 +43,13 @@ pub record SaysAnswer (plan : PlanValue) (saved : SavedStream) (t : ℕ) (answer
   pub fields : answer.fields ≡ fields_of_table plan t
   pub key_fields : answer.pkfields ≡ key_fields_of plan t
   pub position : position_of_text answer.gtid ≡ Ok saved.position
-  pub rows : answer.rows ≡ map (λ row. row.1) (rows_of_table t saved.rows)
+  pub rows : answer.rows ≡ map (λ row. row.1) (saved_rows_of_table t saved.rows)
   pub last : SaysLast plan t (mark_of saved.marks t) answer.lastpk
 
 -- the part of table t has the table's name; in version 1 the name is unknown and isn't looked at
 abbrev pub IsNamed : Version → PlanValue → ℕ → TablePartValue → Type 0
 IsNamed One plan t part = Unit {0}
-IsNamed Two plan t part = part.name ≡ name_of_table plan t
+IsNamed Two plan t part = part.name ≡ table_name plan t
 
 -- the part of table t has its name, its mark and its answer
 pub record SaysTable (version : Version) (plan : PlanValue) (saved : SavedStream) (t : ℕ) (part : TablePartValue) : Type 0 where
@@ -100,7 +100,7 @@ HaveAsMany Two parts = (s t : ℕ) (one other : StreamPartValue) → slice_get p
 pub record IsCheckpoint (plans : List PlanValue) (bytes : List ℕ) (saved : List SavedStream) : Type 0 where
   pub version : Version
   pub parts : List StreamPartValue
-  pub are : AreParts version bytes parts
+  pub are : AreStreamParts version bytes parts
   pub count : length parts ≡ length plans
   pub same_count : length saved ≡ length plans
   pub as_many : HaveAsMany version parts

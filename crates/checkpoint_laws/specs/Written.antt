@@ -16,7 +16,7 @@ use Rattle.vevent.specs.CheckpointPart.{TablePartValue, StreamPartValue}
 use Rattle.vevent.specs.EventValue.{FieldValue}
 use Rattle.vevent.specs.WrittenPart.{written_stream_part}
 use Rattle.board_laws.specs.Meaning.{Meaning}
-use Rattle.join_laws.specs.Compatible.{plans_of}
+use Rattle.join_laws.specs.Compatible.{plans_of_board}
 use Rattle.checkpoint_laws.specs.declared.version.Version.{Version}
 use Rattle.checkpoint_laws.specs.declared.version.Version.TheVariants.{One, Two}
 use Rattle.checkpoint_laws.specs.Saved.{SavedStream, saved_of}
@@ -36,13 +36,13 @@ abbrev pub key_fields_of : PlanValue → ℕ → List FieldValue
 key_fields_of plan t = filter_map (λ place. option_map field_of (slice_get (columns_of plan t) place)) (key_columns_of plan t)
 
 -- the name of a table
-abbrev pub name_of_table : PlanValue → ℕ → List ℕ
-name_of_table plan t = option_map_or (λ table. table.name) (slice_get plan.tables t) []
+abbrev pub table_name : PlanValue → ℕ → List ℕ
+table_name plan t = option_map_or (λ table. table.name) (slice_get plan.tables t) []
 
 -- the name as a part has it
 abbrev pub name_in : Version → PlanValue → ℕ → List ℕ
 name_in One plan t = []
-name_in Two plan t = name_of_table plan t
+name_in Two plan t = table_name plan t
 
 -- a position as it is written
 abbrev pub position_text : Position → List ℕ
@@ -61,8 +61,8 @@ last_row_of (up_to key) = Some (lastpk_of key)
 last_row_of copied = None
 
 -- the rows that are of table t
-abbrev pub rows_of_table : ℕ → ImageRows → ImageRows
-rows_of_table t rows = filter (λ row. row.0.table == t) rows
+abbrev pub saved_rows_of_table : ℕ → ImageRows → ImageRows
+saved_rows_of_table t rows = filter (λ row. row.0.table == t) rows
 
 -- the part of table t
 abbrev pub table_part : Version → PlanValue → SavedStream → ℕ → TablePartValue
@@ -72,7 +72,7 @@ table_part version plan saved t = record {
     fields = fields_of_table plan t;
     pkfields = key_fields_of plan t;
     gtid = position_text saved.position;
-    rows = map (λ row. row.1) (rows_of_table t saved.rows);
+    rows = map (λ row. row.1) (saved_rows_of_table t saved.rows);
     lastpk = last_row_of (mark_of saved.marks t);
   };
   name = name_in version plan t;
@@ -120,7 +120,7 @@ written_checkpoint version parts = opening version ++ written_parts parts
 
 -- the checkpoint of a board in a version
 abbrev pub checkpoint_in : Version → Meaning → List ℕ
-checkpoint_in version board = written_checkpoint version (stream_parts version (plans_of board) (saved_of board))
+checkpoint_in version board = written_checkpoint version (stream_parts version (plans_of_board board) (saved_of board))
 
 -- the checkpoint of a board
 abbrev pub checkpoint_of : Meaning → List ℕ

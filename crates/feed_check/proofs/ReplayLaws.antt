@@ -8,7 +8,7 @@ use Rattle.pk_copy.specs.KeyValue.{KeyValue}
 use Rattle.target_tables.specs.Touches.{last_at}
 use Rattle.source_feed.specs.History.{RowValue}
 use Rattle.feed_check.specs.KeyedChanges.{KeyedRowValue, KeyedChangeValue}
-use Rattle.feed_check.specs.Replay.{touches_of, left_at, row_left}
+use Rattle.feed_check.specs.Replay.{touches_of_keyed, left_at, row_left}
 use Rattle.feed_check.specs.Findings.{FindingValue, has_key, why_before, why_after, told, found_before, found_after, findings_in}
 use Rattle.feed_check.specs.Private.Replayed.{row_in, IsReplayed}
 
@@ -31,10 +31,10 @@ same_after change rows others same = by change.after
 pub replayed_more : (change : KeyedChangeValue) (past : List KeyedChangeValue) (old new : List KeyedRowValue) (found between more : List FindingValue) (before after : Option FindingValue)
     → before ≡ found_before change (row_in old) → after ≡ found_after change (row_in old)
     → between ≡ found ++ option_to_list before → more ≡ between ++ option_to_list after
-    → ((key : KeyValue) → row_in new key ≡ left_at (last_at key_cmp (touches_of change) key) (row_in old key))
+    → ((key : KeyValue) → row_in new key ≡ left_at (last_at key_cmp (touches_of_keyed change) key) (row_in old key))
     → IsReplayed past old found → IsReplayed (change ∷ past) new more
 replayed_more change past old new found between more before after b a bs ends touched h = record {
-  standing = λ key. touched key ∙ ap (λ (there : Option RowValue). left_at (last_at key_cmp (touches_of change) key) there) (h.standing key);
+  standing = λ key. touched key ∙ ap (λ (there : Option RowValue). left_at (last_at key_cmp (touches_of_keyed change) key) there) (h.standing key);
   found =
       ends
       ∙ ap (λ (front : List FindingValue). front ++ option_to_list after) bs

@@ -55,5 +55,5 @@ passes_in_table t touch = touch.0.table == t && is_passing touch.1
 abbrev pub touching : ℕ → List PreparedValue → ℕ
 touching t history = count_by (λ group. list_any (touches_table t) group.touches) history
 
-abbrev pub passing : ℕ → List PreparedValue → ℕ
-passing t history = count_by (λ group. list_any (passes_in_table t) group.touches) history
+abbrev pub passing_groups : ℕ → List PreparedValue → ℕ
+passing_groups t history = count_by (λ group. list_any (passes_in_table t) group.touches) history

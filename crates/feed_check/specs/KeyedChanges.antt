@@ -21,14 +21,14 @@ pub record KeyedChangeValue : Type 0 where
   pub after : Option KeyedRowValue
 
 -- a row with the key that it has, if it has one
-abbrev pub with_key : RowValue → Result KeyValue KeyFault → Option KeyedRowValue
-with_key row (Ok key) = Some (key, row)
-with_key row (Err fault) = None
+abbrev pub keyed_row_of : RowValue → Result KeyValue KeyFault → Option KeyedRowValue
+keyed_row_of row (Ok key) = Some (key, row)
+keyed_row_of row (Err fault) = None
 
 -- a row of table t with its key: it has one where it has the table's columns, as each row of an opened feed,
 -- and where they give one, as each row of a sound group
 abbrev pub keyed_row : PlanValue → ℕ → RowValue → Option KeyedRowValue
-keyed_row plan t row = if length row == length (columns_of plan t) then with_key row (key_of plan t row) else None
+keyed_row plan t row = if length row == length (columns_of plan t) then keyed_row_of row (key_of plan t row) else None
 
 -- the same of a row that there may be
 abbrev pub keyed_image : PlanValue → ℕ → Option RowValue → Option KeyedRowValue

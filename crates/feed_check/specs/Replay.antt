@@ -17,8 +17,8 @@ put None = []
 put (Some image) = (image.0, Some image.1) ∷ []
 
 -- what a change does to keys: first the row before, then the row after
-abbrev pub touches_of : KeyedChangeValue → List (KeyValue × Option RowValue)
-touches_of change = removal change.before ++ put change.after
+abbrev pub touches_of_keyed : KeyedChangeValue → List (KeyValue × Option RowValue)
+touches_of_keyed change = removal change.before ++ put change.after
 
 -- what a last touch leaves at a key: without a touch what stood there
 abbrev pub left_at : Option (Option RowValue) → Option RowValue → Option RowValue
@@ -28,4 +28,4 @@ left_at (Some left) there = left
 -- the row that a history of changes leaves at a key; before the first change no row stands
 abbrev pub row_left : List KeyedChangeValue → KeyValue → Option RowValue
 row_left [] key = None
-row_left (change ∷ earlier) key = left_at (last_at key_cmp (touches_of change) key) (row_left earlier key)
+row_left (change ∷ earlier) key = left_at (last_at key_cmp (touches_of_keyed change) key) (row_left earlier key)

@@ -10,7 +10,7 @@ use Rattle.pk_copy.specs.KeyValue.{Part, KeyValue}
 use Rattle.pk_copy.specs.Lastpk.{part_text}
 use Rattle.source_feed.specs.GroupValue.{Position}
 use Rattle.source_feed.specs.Touches.{PreparedValue}
-use Rattle.feed_check.specs.Checked.{CheckedValue, touching, passing}
+use Rattle.feed_check.specs.Checked.{CheckedValue, touching, passing_groups}
 use Rattle.feed_check.specs.Findings.{FindingValue}
 use Rattle.feed_check.specs.Skipped.{SkippedValue}
 use Rattle.feed_check.specs.declared.finding.Doubt.{Doubt}
@@ -37,13 +37,13 @@ name_of_table tables t = option_map_or (λ table. table.name) (slice_get tables 
 -- ---- lines
 
 -- a group's position behind a word, if there is that group
-abbrev pub place_text : List ℕ → Option PreparedValue → List ℕ
-place_text word None = []
-place_text word (Some group) = word ++ printed_position group.position
+abbrev pub group_place_text : List ℕ → Option PreparedValue → List ℕ
+group_place_text word None = []
+group_place_text word (Some group) = word ++ printed_position group.position
 
 -- the positions of the first group and of the last
 abbrev pub places_text : List PreparedValue → List ℕ
-places_text history = place_text (codes " first ") (slice_get history 0) ++ place_text (codes " last ") (slice_get history (length history - 1))
+places_text history = group_place_text (codes " first ") (slice_get history 0) ++ group_place_text (codes " last ") (slice_get history (length history - 1))
 
 -- the name of a stream's file by its number
 abbrev pub file_name : List (List ℕ) → ℕ → List ℕ
@@ -58,18 +58,18 @@ abbrev pub stream_line : ℕ → List ℕ → CheckedValue → List ℕ
 stream_line i file check = stream_head i file check ++ places_text check.history ++ 10 ∷ []
 
 -- a table of a stream: how many groups touch it, and how many put a row that passes the stream's filter
-abbrev pub table_line : CheckedValue → ℕ → List ℕ → List ℕ
-table_line check t name = codes "table " ++ name ++ codes " groups " ++ decimal (touching t check.history) ++ codes " passing " ++ decimal (passing t check.history) ++ 10 ∷ []
+abbrev pub checked_table_line : CheckedValue → ℕ → List ℕ → List ℕ
+checked_table_line check t name = codes "table " ++ name ++ codes " groups " ++ decimal (touching t check.history) ++ codes " passing_groups " ++ decimal (passing_groups t check.history) ++ 10 ∷ []
 
 -- the tables from one on
-abbrev pub table_lines : CheckedValue → ℕ → List TableValue → List ℕ
-table_lines check t [] = []
-table_lines check t (table ∷ later) = table_line check t table.name ++ table_lines check (t + 1) later
+abbrev pub checked_table_lines : CheckedValue → ℕ → List TableValue → List ℕ
+checked_table_lines check t [] = []
+checked_table_lines check t (table ∷ later) = checked_table_line check t table.name ++ checked_table_lines check (t + 1) later
 
 -- the streams from one on
 abbrev pub lines_from : List (List ℕ) → ℕ → List CheckedValue → List ℕ
 lines_from files i [] = []
-lines_from files i (check ∷ later) = (stream_line i (file_name files i) check ++ table_lines check 0 check.plan.tables) ++ lines_from files (i + 1) later
+lines_from files i (check ∷ later) = (stream_line i (file_name files i) check ++ checked_table_lines check 0 check.plan.tables) ++ lines_from files (i + 1) later
 
 -- ---- warnings
 
@@ -92,7 +92,7 @@ table_warning i name (suc n) (suc m) = []
 
 abbrev pub table_warnings : ℕ → CheckedValue → ℕ → List TableValue → List ℕ
 table_warnings i check t [] = []
-table_warnings i check t (table ∷ later) = table_warning i table.name (touching t check.history) (passing t check.history) ++ table_warnings i check (t + 1) later
+table_warnings i check t (table ∷ later) = table_warning i table.name (touching t check.history) (passing_groups t check.history) ++ table_warnings i check (t + 1) later
 
 -- a position that is the first of its source: that of its transaction 1 alone
 abbrev pub is_start : Position → Bool
@@ -117,8 +117,8 @@ abbrev pub shown_byte : ℕ → ℕ
 shown_byte byte = if nat_le 32 byte && nat_le byte 126 then byte else 63
 
 -- the first 200 bytes of a statement
-unfoldable pub shown : List ℕ → List ℕ
-shown statement = map shown_byte (take 200 statement)
+unfoldable pub shown_statement : List ℕ → List ℕ
+shown_statement statement = map shown_byte (take 200 statement)
 
 -- the types of events by their names (`binlogdata.proto`, VEventType)
 unfoldable pub kind_text : ℕ → List ℕ
@@ -130,7 +130,7 @@ skipped_head event = codes "skipped message " ++ decimal event.message ++ codes 
 
 -- behind that its statement
 abbrev pub skipped_text : SkippedValue → List ℕ
-skipped_text event = skipped_head event ++ codes " " ++ shown event.statement
+skipped_text event = skipped_head event ++ codes " " ++ shown_statement event.statement
 
 -- how many events are passed over, if any
 abbrev pub skipped_count : ℕ → ℕ → List ℕ
@@ -212,5 +212,5 @@ has_some [] = false
 has_some (byte ∷ bytes) = true
 
 -- the lines of all streams, whose files have these names, and behind them all warnings
-abbrev pub report_of : List (List ℕ) → List CheckedValue → ReportValue
-report_of files checks = record { text = lines_from files 0 checks ++ warnings_from 0 checks; warned = has_some (warnings_from 0 checks) }
+abbrev pub check_report_of : List (List ℕ) → List CheckedValue → ReportValue
+check_report_of files checks = record { text = lines_from files 0 checks ++ warnings_from 0 checks; warned = has_some (warnings_from 0 checks) }

@@ -6,7 +6,7 @@ ghost use Rattle.std.specs.Arc.{arc_value};
 ghost use Rattle.std.specs.List.{list_any};
 ghost use Rattle.outcome.specs.Outcome.{GivesUnless};
 ghost use Rattle.source_feed.specs.FaultNumber.{meant_of};
-ghost use Rattle.feed_check.specs.Checked.{checked, checked_feeds, history_of, is_passing, touches_table, passes_in_table, touching, passing};
+ghost use Rattle.feed_check.specs.Checked.{checked, checked_feeds, history_of, is_passing, touches_table, passes_in_table, touching, passing_groups};
 
 use crate::before_images::findings_of;
 use crate::finding::Finding;
@@ -132,7 +132,7 @@ fn touching(groups: &[Arc<Prepared<'_>>], t: usize) -> usize
 
 /// How many groups put a row of table `t` that passes the filter.
 fn passing(groups: &[Arc<Prepared<'_>>], t: usize) -> usize
-    ensures { result ≡ passing t (map arc_value groups.now) }
+    ensures { result ≡ passing_groups t (map arc_value groups.now) }
 {
     let mut count = 0;
     for group in groups {
@@ -255,7 +255,7 @@ impl<'h> Checked<'h> {
 
     /// How many groups put a row of table `t` that passes the stream's filter.
     pub fn passing(&self, t: usize) -> usize
-        ensures { result ≡ passing t self.now.history }
+        ensures { result ≡ passing_groups t self.now.history }
     {
         passing(self.groups.as_slice(), t)
     }

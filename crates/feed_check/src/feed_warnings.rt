@@ -4,7 +4,7 @@ ghost use Rattle.std.specs.Prelude.{◌≡◌, ◌==◌, ◌<◌, ◌++◌, OnOk
 ghost use Rattle.std.specs.Option.{option_copied};
 ghost use Rattle.std.specs.List.{after_first};
 ghost use Rattle.std.specs.String.{string_bytes};
-ghost use Rattle.feed_check.specs.Report.{is_start, kind_text, name_warnings, nearest_text, shown, shown_byte, skipped_count, skipped_head, skipped_lines, skipped_text, skipped_warnings, start_warning, warning};
+ghost use Rattle.feed_check.specs.Report.{is_start, kind_text, name_warnings, nearest_text, shown_statement, shown_byte, skipped_count, skipped_head, skipped_lines, skipped_text, skipped_warnings, start_warning, warning};
 
 use crate::skipped::Skipped;
 use crate::warnings::{TOLD, push_warning};
@@ -124,9 +124,9 @@ fn front(bytes: &[u8], most: usize) -> &[u8]
 }
 
 /// The beginning of a statement, printable.
-#[tactic(auto, unfolding(crate::specs::Report::shown))]
+#[tactic(auto, unfolding(crate::specs::Report::shown_statement))]
 fn shown(alloc: Global, statement: &[u8]) -> Result<String, AllocError>
-    ensures { IfOk result (λ text. string_bytes text ≡ shown statement.now) }
+    ensures { IfOk result (λ text. string_bytes text ≡ shown_statement statement.now) }
 {
     let mut text = String::new(alloc);
     push_shown(front(statement, STATEMENT), &mut text)?;

@@ -3,7 +3,7 @@
 ghost use Rattle.std.specs.Prelude.{◌≡◌, ◌∷◌, ◌++◌, List, IfOk, OnOk};
 ghost use Rattle.std.specs.Option.{option_copied, option_to_list};
 ghost use Rattle.feed_check.specs.KeyedChanges.{KeyedChangeValue};
-ghost use Rattle.feed_check.specs.Replay.{put, removal, touches_of};
+ghost use Rattle.feed_check.specs.Replay.{put, removal, touches_of_keyed};
 ghost use Rattle.feed_check.specs.Findings.{row_eq, has_key, why_before, why_after, found_before, found_after};
 ghost use Rattle.feed_check.specs.Private.Replayed.{row_in, IsReplayed};
 
@@ -143,7 +143,7 @@ fn touches_of<'h>(
     alloc: Global,
     change: KeyedChange<'h>,
 ) -> Result<Vec<(LentKey<'h>, Option<RowBytes<'h>>)>, AllocError>
-    ensures { IfOk result (λ touches. touches.items ≡ touches_of change.entry) }
+    ensures { IfOk result (λ touches. touches.items ≡ touches_of_keyed change.entry) }
 {
     let KeyedChange {
         group: _,

@@ -3,7 +3,7 @@
 ghost use Rattle.std.specs.Prelude.{◌≡◌, ◌++◌, OnOk, IfOk, map};
 ghost use Rattle.std.specs.Option.{option_copied};
 ghost use Rattle.std.specs.String.{string_bytes};
-ghost use Rattle.feed_check.specs.Report.{file_name, stream_head, stream_line, places_text, table_line, table_lines, place_text, lines_from, warnings_from, has_some, report_of};
+ghost use Rattle.feed_check.specs.Report.{file_name, stream_head, stream_line, places_text, checked_table_line, checked_table_lines, group_place_text, lines_from, warnings_from, has_some, check_report_of};
 
 use crate::checked::Checked;
 use crate::warnings::push_stream_warnings;
@@ -31,7 +31,7 @@ impl Report {
     /// What checks of a workflow's streams say, in their order; their files have these names. An error is
     /// want of memory.
     pub fn of(alloc: Global, files: &[&str], checks: &[Checked<'_>]) -> Result<Report, AllocError>
-        ensures { IfOk result (λ report. report ≡ report_of (map (λ file. file.now) files.now) checks.now) }
+        ensures { IfOk result (λ report. report ≡ check_report_of (map (λ file. file.now) files.now) checks.now) }
     {
         let mut text = all_lines(alloc, files, checks)?;
         let warnings = all_warnings(alloc, checks)?;
@@ -66,7 +66,7 @@ fn has_some(text: &str) -> bool
 
 /// A group's position behind a word, if there is that group.
 fn place_text(alloc: Global, word: &str, group: Option<&Prepared<'_>>) -> Result<String, AllocError>
-    ensures { IfOk result (λ text. string_bytes text ≡ place_text word.now (option_copied group.entry)) }
+    ensures { IfOk result (λ text. string_bytes text ≡ group_place_text word.now (option_copied group.entry)) }
 {
     match group {
         None => Ok(String::new(alloc)),
@@ -134,7 +134,7 @@ fn table_line(
     t: usize,
     name: &str,
 ) -> Result<String, AllocError>
-    ensures { IfOk result (λ text. string_bytes text ≡ table_line check.now t name.now) }
+    ensures { IfOk result (λ text. string_bytes text ≡ checked_table_line check.now t name.now) }
 {
     let touching = check.touching(t);
     let passing = check.passing(t);
@@ -144,7 +144,7 @@ fn table_line(
 
 /// Puts the lines of a stream's tables behind a text.
 fn push_tables(alloc: Global, check: &Checked<'_>, text: &mut String) -> Result<(), AllocError>
-    ensures { OnOk result (string_bytes text.new ≡ string_bytes text.old ++ table_lines check.now 0 check.now.plan.tables) }
+    ensures { OnOk result (string_bytes text.new ≡ string_bytes text.old ++ checked_table_lines check.now 0 check.now.plan.tables) }
 {
     let tables = check.tables();
     for t in 0..tables.len() {
@@ -162,7 +162,7 @@ fn push_lines(
     check: &Checked<'_>,
     text: &mut String,
 ) -> Result<(), AllocError>
-    ensures { OnOk result (string_bytes text.new ≡ string_bytes text.old ++ (stream_line i file.now check.now ++ table_lines check.now 0 check.now.plan.tables)) }
+    ensures { OnOk result (string_bytes text.new ≡ string_bytes text.old ++ (stream_line i file.now check.now ++ checked_table_lines check.now 0 check.now.plan.tables)) }
 {
     let line = stream_line(alloc, i, file, check)?;
     text.push_str(&line)?;

@@ -6,16 +6,16 @@ use Rattle.std.proofs.lemmas.Option.{slice_get_cases, slice_get_read}
 use Rattle.filter_rule.specs.Private.Accepted.{IsWithin}
 use Rattle.filter_rule.specs.PlanTable.{TableValue}
 use Rattle.filter_rule.specs.PlanValue.{PlanValue, columns_of, key_columns_of}
-use Rattle.filter_rule.specs.WellFormed.{ArePlaces, FitsTable, IsPlan}
+use Rattle.filter_rule.specs.WellFormed.{AreColumnPlaces, FitsTable, IsPlan}
 use Rattle.filter_rule.specs.declared.decision.Decision.{Decision}
 use Rattle.filter_rule.specs.declared.decision.Decision.TheVariants.{NoRule, EveryRow, InRange}
 
 places_at : (plan : PlanValue) (t : ℕ) (o : Option TableValue) → IsPlan plan → slice_get plan.tables t ≡ o
-    → ArePlaces (option_map_or (λ (table : TableValue). table.columns) o []) (option_map_or (λ (table : TableValue). table.key) o [])
+    → AreColumnPlaces (option_map_or (λ (table : TableValue). table.columns) o []) (option_map_or (λ (table : TableValue). table.key) o [])
 places_at plan t None fit is i place there = cc
 places_at plan t (Some table) fit is i place there = ((fit.tables.each_table t table is).key_columns i place there).within
 
-pub key_places : (plan : PlanValue) (t : ℕ) → IsPlan plan → ArePlaces (columns_of plan t) (key_columns_of plan t)
+pub key_places : (plan : PlanValue) (t : ℕ) → IsPlan plan → AreColumnPlaces (columns_of plan t) (key_columns_of plan t)
 key_places plan t fit = places_at plan t (slice_get plan.tables t) fit refl
 
 fits_width : (table : TableValue) (d : Decision) → FitsTable table d → IsWithin (length table.columns) d

@@ -3,7 +3,7 @@ use Rattle.std.proofs.Common.{◌≡◌, ℕ, List, [], ◌∷◌, Bool, true, f
 use Rattle.serde_json.specs.Data.{Data}
 use Rattle.serde_json.specs.Find.{get, as_str}
 use Rattle.vindex.specs.KeyspaceId.{vindex_of_name}
-use Rattle.filter_rule.specs.Document.{found, member_in, text_of, list_of, text_in, list_in, two_of, pair_of, is_name, name_of, type_by, type_of, column_of, vindex_of, vindex_if, vindex_in, filter_if, filter_in, rule_of, stream_of, has_twice, distinct, list_apart, table_of, document_of}
+use Rattle.filter_rule.specs.Document.{found, member_in, text_of, list_of, text_in, list_in, two_of, pair_of, is_name, name_of, type_by, type_said, column_of, vindex_of, vindex_if, vindex_said, filter_if, filter_in, rule_of, stream_of, has_twice, distinct, list_apart, table_of, document_of}
 use Rattle.outcome.specs.Outcome.{◌>>=◌, each}
 use Rattle.filter_rule.specs.Faults.{Fault, shape}
 use Rattle.filter_rule.proofs.RefusedSteps.{failed, same_fault}
@@ -61,13 +61,13 @@ type_by_only : (o : Option (List ℕ)) (d : Data) → ShapeOnly (type_by o d)
 type_by_only None d = found_only _
 type_by_only (Some s) d = found_only _
 
-kind_only : (d : Data) → ShapeOnly (type_of d)
-unfolding type_of
+kind_only : (d : Data) → ShapeOnly (type_said d)
+unfolding type_said
 kind_only d = type_by_only (as_str d) d
 
 column_of_only : (d : Data) → ShapeOnly (column_of d)
 unfolding column_of
-column_of_only d = then_only _ (pair_of d) (pair_only d) (λ p. then_only _ (name_of p.0) (name_only p.0) (λ name. then_only _ (type_of p.1) (kind_only p.1) (λ number. ok_only (record { name = name; type_number = number }))))
+column_of_only d = then_only _ (pair_of d) (pair_only d) (λ p. then_only _ (name_of p.0) (name_only p.0) (λ name. then_only _ (type_said p.1) (kind_only p.1) (λ number. ok_only (record { name = name; type_number = number }))))
 
 vindex_of_only : (d : Data) → ShapeOnly (vindex_of d)
 unfolding vindex_of
@@ -77,8 +77,8 @@ vindex_if_only : (o : Option Data) → ShapeOnly (vindex_if o)
 vindex_if_only None = ok_only None
 vindex_if_only (Some d) = then_only _ (vindex_of d) (vindex_of_only d) (λ v. ok_only (Some v))
 
-vindex_in_only : (d : Data) → ShapeOnly (vindex_in d)
-unfolding vindex_in
+vindex_in_only : (d : Data) → ShapeOnly (vindex_said d)
+unfolding vindex_said
 vindex_in_only d = vindex_if_only (get (codes "vindex") d)
 
 filter_if_only : (o : Option Data) → ShapeOnly (filter_if o)
@@ -107,7 +107,7 @@ list_apart_only name reads key d k =
 
 table_of_only : (d : Data) → ShapeOnly (table_of d)
 unfolding table_of
-table_of_only d = then_only _ (member_in (codes "name") d) (found_only _) (λ a. then_only _ (name_of a) (name_only a) (λ name. then_only _ (vindex_in d) (vindex_in_only d) (λ vindex.
+table_of_only d = then_only _ (member_in (codes "name") d) (found_only _) (λ a. then_only _ (name_of a) (name_only a) (λ name. then_only _ (vindex_said d) (vindex_in_only d) (λ vindex.
     then_only _ (list_apart (λ c. c.name) column_of (codes "columns") d) (list_apart_only (λ c. c.name) column_of (codes "columns") d column_of_only) (λ columns.
     then_only _ (list_apart (λ n. n) name_of (codes "key") d) (list_apart_only (λ n. n) name_of (codes "key") d name_only) (λ key.
     ok_only (record { name = name; columns = columns; key = key; vindex = vindex }))))))

@@ -6,7 +6,7 @@ use Rattle.vindex.specs.declared.vindexes.Vindex.{Vindex}
 use Rattle.filter_rule.specs.Document.{RuleSaid, StreamSaid, TableSaid, DocumentSaid}
 use Rattle.outcome.specs.Outcome.{each}
 use Rattle.filter_rule.specs.Faults.{Fault, bad_rule, key_type}
-use Rattle.filter_text.specs.FilterText.{RowsSaid, every_row, in_own_range, in_range_of, Meaning, filter_of}
+use Rattle.filter_text.specs.FilterText.{RowsSaid, every_row, in_own_range, in_range_of, FilterMeaning, filter_of}
 use Rattle.filter_text.specs.RuleScope.{scope_of, is_for, agrees}
 use Rattle.filter_rule.specs.FirstRule.{is_match, first_match}
 use Rattle.filter_rule.specs.PlanTable.{TableValue}
@@ -27,7 +27,7 @@ use Rattle.filter_rule.proofs.TableLaws.{resolved_parts}
 bad_is : {A : Type 0} (s n : ℕ) (o : Option A) (e : Fault) → or_bad s n o ≡ Err e → bad_rule s n ≡ e
 bad_is s n o e h = (none_from_err o (bad_rule s n) e h).1
 
-disagrees : (s n : ℕ) (b : Bool) (filter : Meaning) (e : Fault) → cond b (read_as filter) (Err (bad_rule s n)) ≡ Err e → bad_rule s n ≡ e
+disagrees : (s n : ℕ) (b : Bool) (filter : FilterMeaning) (e : Fault) → cond b (read_as filter) (Err (bad_rule s n)) ≡ Err e → bad_rule s n ≡ e
 disagrees s n b filter e h = (refused_type b filter (bad_rule s n) e h).1
 
 no_form_is : (s n : ℕ) (r : RuleSaid) (e : Fault) → form_of s n r ≡ Err e → bad_rule s n ≡ e

@@ -13,7 +13,7 @@ use Rattle.std.proofs.lemmas.Slice.Eq.{bytes_eq-Decides}
 use Rattle.serde_json.specs.Data.{Data}
 use Rattle.vindex.specs.declared.vindexes.Vindex.{Vindex}
 use Rattle.filter_rule.specs.Private.Accepted.{IsAccepted}
-use Rattle.filter_rule.specs.Document.{StreamSaid, TableSaid, DocumentSaid, member_in, text_in, list_in, name_of, column_of, vindex_in, rule_of, stream_of, list_apart, table_of, distinct, document_of}
+use Rattle.filter_rule.specs.Document.{StreamSaid, TableSaid, DocumentSaid, member_in, text_in, list_in, name_of, column_of, vindex_said, rule_of, stream_of, list_apart, table_of, distinct, document_of}
 use Rattle.outcome.specs.Outcome.{each}
 use Rattle.filter_rule.specs.Faults.{Fault, key_type, limit, no_such_column}
 use Rattle.filter_rule.specs.Limits.{is_up_to, is_table_within, is_within}
@@ -53,7 +53,7 @@ unfolding table_of
 table_names d t h =
     then_ok _ (member_in (codes "name") d) t h (λ a a_is h1.
     then_ok _ (name_of a) t h1 (λ name name_is h2.
-    then_ok _ (vindex_in d) t h2 (λ vindex vindex_is h3.
+    then_ok _ (vindex_said d) t h2 (λ vindex vindex_is h3.
     then_ok _ (list_apart (λ (c : ColumnValue). c.name) column_of (codes "columns") d) t h3 (λ columns columns_is h4.
     then_ok _ (list_apart (λ (n : List ℕ). n) name_of (codes "key") d) t h4 (λ key key_is h5.
     subst HasDistinctNames (same_ok (record { name = name; columns = columns; key = key; vindex = vindex }) t h5) (
@@ -71,7 +71,7 @@ unfolding table_of
 texts_of_table d t h =
     then_ok _ (member_in (codes "name") d) t h (λ a a_is h1.
     then_ok _ (name_of a) t h1 (λ name name_is h2.
-    then_ok _ (vindex_in d) t h2 (λ vindex vindex_is h3.
+    then_ok _ (vindex_said d) t h2 (λ vindex vindex_is h3.
     then_ok _ (list_apart (λ (c : ColumnValue). c.name) column_of (codes "columns") d) t h3 (λ columns columns_is h4.
     then_ok _ (list_apart (λ (n : List ℕ). n) name_of (codes "key") d) t h4 (λ key key_is h5.
     let said = (list_apart-Ok (λ (c : ColumnValue). c.name) column_of (codes "columns") d columns columns_is).1 in

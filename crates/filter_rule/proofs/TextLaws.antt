@@ -8,7 +8,7 @@ use Rattle.std.proofs.lemmas.Bool.{and_parts}
 use Rattle.std.proofs.lemmas.Bool.Decides.{nat_tests}
 use Rattle.serde_json.specs.Data.{Data}
 use Rattle.serde_json.specs.Find.{as_str, as_number, as_u64}
-use Rattle.filter_rule.specs.Document.{found, in_utf8, text_of, member_in, text_in, is_name, name_of, in_32_bits, type_by, type_of, pair_of, column_of}
+use Rattle.filter_rule.specs.Document.{found, in_utf8, text_of, member_in, text_in, is_name, name_of, in_32_bits, type_by, type_said, pair_of, column_of}
 use Rattle.filter_rule.specs.Faults.{shape}
 use Rattle.filter_rule.specs.PlanTable.{ColumnValue}
 use Rattle.filter_rule.specs.TypeNumbers.{TypeName, type_names, type_of_name}
@@ -87,13 +87,13 @@ type_bits_by None d n h =
 below : (n : ℕ) → has_32_bits n ≡ true → n < 2 ^ 32
 below n h = grind (arith, nat_tests)
 
-type_bits : (d : Data) (n : ℕ) → type_of d ≡ Ok n → n < 2 ^ 32
-unfolding type_of
+type_bits : (d : Data) (n : ℕ) → type_said d ≡ Ok n → n < 2 ^ 32
+unfolding type_said
 type_bits d n h = below n (type_bits_by (as_str d) d n h)
 
 pub column_def : (d : Data) (c : ColumnValue) → column_of d ≡ Ok c → IsColumnDef c
 unfolding column_of
 column_def d c h =
-    then_ok _ (pair_of d) c h (λ p p_is h1. then_ok _ (name_of p.0) c h1 (λ name name_is h2. then_ok _ (type_of p.1) c h2 (λ number number_is h3.
+    then_ok _ (pair_of d) c h (λ p p_is h1. then_ok _ (name_of p.0) c h1 (λ name name_is h2. then_ok _ (type_said p.1) c h2 (λ number number_is h3.
     subst IsColumnDef (same_ok (record { name = name; type_number = number }) c h3)
     (record { name_text = name_text p.0 name name_is; type_bits = type_bits p.1 number number_is }))))

@@ -5,7 +5,7 @@ use Rattle.std.specs.Str.{is_utf8}
 use Rattle.std.proofs.lemmas.List.{length-map}
 use Rattle.filter_rule.specs.Document.{StreamSaid, DocumentSaid, document_of}
 use Rattle.outcome.specs.Outcome.{◌>>=◌, each}
-use Rattle.filter_rule.specs.Faults.{Gives}
+use Rattle.filter_rule.specs.Faults.{GivesOrFails}
 use Rattle.filter_rule.specs.FirstRule.{document_in}
 use Rattle.filter_rule.specs.Limits.{is_within, within_limits}
 use Rattle.filter_rule.specs.PlanTable.{TableValue}
@@ -122,10 +122,10 @@ made_streams text plans whole document says =
           (here.0, whole.tables_are ∙ ap Ok (sym here.1));
     })
 
-pub are_plans : (text : List ℕ) (r : Result Plans PlanFault) → Gives values r (plans_of text) → IfOk r (λ v. ArePlans (values v))
+pub are_plans : (text : List ℕ) (r : Result Plans PlanFault) → GivesOrFails values r (plans_of text) → IfOk r (λ v. ArePlans (values v))
 are_plans text (Ok v) h = made_plans text (values v) (whole_at text (values v) h)
 are_plans text (Err e) h = tt
 
-pub are_of_streams : (text : List ℕ) (r : Result Plans PlanFault) → Gives values r (plans_of text) → IfOk r (λ v. FollowStreams text (values v))
+pub are_of_streams : (text : List ℕ) (r : Result Plans PlanFault) → GivesOrFails values r (plans_of text) → IfOk r (λ v. FollowStreams text (values v))
 are_of_streams text (Ok v) h = made_streams text (values v) (whole_at text (values v) h)
 are_of_streams text (Err e) h = tt

@@ -105,15 +105,15 @@ type_by (Some name) d = found (type_of_name name)
 type_by None d = found (option_and_then in_32_bits (option_and_then as_u64 (as_number d)))
 
 -- a type by its name or its number
-unfoldable pub type_of : Data → Result ℕ Fault
-type_of d = type_by (as_str d) d
+unfoldable pub type_said : Data → Result ℕ Fault
+type_said d = type_by (as_str d) d
 
 -- a column as a pair of its name and its type
 unfoldable pub column_of : Data → Result ColumnValue Fault
 column_of d = do
   p ← pair_of d
   name ← name_of p.0
-  number ← type_of p.1
+  number ← type_said p.1
   Ok (record { name = name; type_number = number })
 
 -- a vindex as a pair of a column's name and its own
@@ -131,8 +131,8 @@ vindex_if None = Ok None
 vindex_if (Some d) = vindex_of d >>= λ v. Ok (Some v)
 
 -- the vindex of a table, if it has one
-unfoldable pub vindex_in : Data → Result (Option (List ℕ × Vindex)) Fault
-vindex_in d = vindex_if (get (codes "vindex") d)
+unfoldable pub vindex_said : Data → Result (Option (List ℕ × Vindex)) Fault
+vindex_said d = vindex_if (get (codes "vindex") d)
 
 -- an absent filter is the empty text
 abbrev pub filter_if : Option Data → Result (List ℕ) Fault
@@ -186,7 +186,7 @@ unfoldable pub table_of : Data → Result TableSaid Fault
 table_of d = do
   name_d ← member_in (codes "name") d
   name ← name_of name_d
-  vindex ← vindex_in d
+  vindex ← vindex_said d
   columns ← list_apart (λ c. c.name) column_of (codes "columns") d
   key ← list_apart (λ n. n) name_of (codes "key") d
   Ok (record { name = name; columns = columns; key = key; vindex = vindex })

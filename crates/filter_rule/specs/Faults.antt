@@ -13,14 +13,14 @@ pub data Fault : Type 0 where
   bad_rule : ℕ → ℕ → Fault
 
 -- the fault that is meant, none for want of memory
-abbrev pub meant : PlanFault → Option Fault
-meant errors.Memory = None
-meant errors.Json = Some json
-meant errors.Shape = Some shape
-meant errors.Limit = Some limit
-meant (errors.NoSuchColumn table column) = Some (no_such_column (string_bytes table) (string_bytes column))
-meant (errors.KeyType table column) = Some (key_type (string_bytes table) (string_bytes column))
-meant (errors.BadRule stream rule) = Some (bad_rule stream rule)
+abbrev pub definition_fault_of : PlanFault → Option Fault
+definition_fault_of errors.Memory = None
+definition_fault_of errors.Json = Some json
+definition_fault_of errors.Shape = Some shape
+definition_fault_of errors.Limit = Some limit
+definition_fault_of (errors.NoSuchColumn table column) = Some (no_such_column (string_bytes table) (string_bytes column))
+definition_fault_of (errors.KeyType table column) = Some (key_type (string_bytes table) (string_bytes column))
+definition_fault_of (errors.BadRule stream rule) = Some (bad_rule stream rule)
 
 -- what is wrong, unless memory ran out
 abbrev pub Fails : {Y : Type 0} → PlanFault → Result Y Fault → Type 0
@@ -33,9 +33,9 @@ Fails (errors.KeyType table column) read = read ≡ Err (key_type (string_bytes 
 Fails (errors.BadRule stream rule) read = read ≡ Err (bad_rule stream rule)
 
 -- What a function returned, seen by view, is what reading gives, unless memory ran out.
-abbrev pub Gives : {X Y : Type 0} → (X → Y) → Result X PlanFault → Result Y Fault → Type 0
-Gives view (Ok x) read = read ≡ Ok (view x)
-Gives view (Err e) read = Fails e read
+abbrev pub GivesOrFails : {X Y : Type 0} → (X → Y) → Result X PlanFault → Result Y Fault → Type 0
+GivesOrFails view (Ok x) read = read ≡ Ok (view x)
+GivesOrFails view (Err e) read = Fails e read
 
 -- the number by which a refusal is known
 abbrev pub number_of : PlanFault → ℕ

@@ -3,7 +3,7 @@ use Rattle.std.specs.Prelude.{ℕ, List, [], ◌∷◌, Option, Some, None, Resu
 use Rattle.std.specs.Option.{ok_or}
 use Rattle.vindex.specs.Bounds.{Bounds}
 use Rattle.vindex.specs.declared.vindexes.Vindex.{Vindex}
-use Rattle.filter_text.specs.FilterText.{RowsSaid, every_row, in_own_range, in_range_of, Meaning, filter_of}
+use Rattle.filter_text.specs.FilterText.{RowsSaid, every_row, in_own_range, in_range_of, FilterMeaning, filter_of}
 use Rattle.filter_text.specs.RuleScope.{TablesSaid, scope_of, is_for, agrees}
 use Rattle.filter_rule.specs.Document.{RuleSaid}
 use Rattle.outcome.specs.Outcome.{◌>>=◌}
@@ -24,7 +24,7 @@ module _ (stream rule : ℕ) where
   or_bad o = ok_or o (bad_rule stream rule)
 
   -- a filter that selects from a table stands under that table's name
-  abbrev pub agreeing : TablesSaid → Meaning → Result Meaning Fault
+  abbrev pub agreeing : TablesSaid → FilterMeaning → Result FilterMeaning Fault
   agreeing scope filter = if agrees scope filter.table then Ok filter else Err (bad_rule stream rule)
 
   -- the form of a rule

@@ -8,8 +8,8 @@ pub record TypeName : Type 0 where
   pub name : List ℕ
   pub number : ℕ
 
-abbrev pub named : List ℕ → ℕ → TypeName
-named name number = record { name = name; number = number }
+abbrev pub named_type : List ℕ → ℕ → TypeName
+named_type name number = record { name = name; number = number }
 
 -- whole numbers, which travel as decimal text
 abbrev pub whole_numbers : List ℕ
@@ -25,10 +25,10 @@ long_texts = 6163 ∷ 10260 ∷ []
 
 abbrev pub type_names : List TypeName
 type_names =
-    named (codes "INT8") 257 ∷ named (codes "INT16") 259 ∷ named (codes "INT24") 261 ∷ named (codes "INT32") 263 ∷ named (codes "INT64") 265
-    ∷ named (codes "UINT8") 770 ∷ named (codes "UINT16") 772 ∷ named (codes "UINT24") 774 ∷ named (codes "UINT32") 776 ∷ named (codes "UINT64") 778
-    ∷ named (codes "TEXT") 6163 ∷ named (codes "VARCHAR") 6165 ∷ named (codes "CHAR") 6167
-    ∷ named (codes "BLOB") 10260 ∷ named (codes "VARBINARY") 10262 ∷ named (codes "BINARY") 10264 ∷ []
+    named_type (codes "INT8") 257 ∷ named_type (codes "INT16") 259 ∷ named_type (codes "INT24") 261 ∷ named_type (codes "INT32") 263 ∷ named_type (codes "INT64") 265
+    ∷ named_type (codes "UINT8") 770 ∷ named_type (codes "UINT16") 772 ∷ named_type (codes "UINT24") 774 ∷ named_type (codes "UINT32") 776 ∷ named_type (codes "UINT64") 778
+    ∷ named_type (codes "TEXT") 6163 ∷ named_type (codes "VARCHAR") 6165 ∷ named_type (codes "CHAR") 6167
+    ∷ named_type (codes "BLOB") 10260 ∷ named_type (codes "VARBINARY") 10262 ∷ named_type (codes "BINARY") 10264 ∷ []
 
 abbrev pub type_of_name : List ℕ → Option ℕ
 type_of_name name = option_map (λ t. t.number) (find (λ t. bytes_eq name t.name) type_names)

@@ -21,8 +21,8 @@ abbrev pub type_at : List ColumnValue → ℕ → ℕ
 type_at columns place = option_map_or (λ column. column.type_number) (slice_get columns place) 0
 
 -- each place is that of a column
-abbrev pub ArePlaces : List ColumnValue → List ℕ → Type 0
-ArePlaces columns places = (i place : ℕ) → slice_get places i ≡ Some place → place < length columns
+abbrev pub AreColumnPlaces : List ColumnValue → List ℕ → Type 0
+AreColumnPlaces columns places = (i place : ℕ) → slice_get places i ≡ Some place → place < length columns
 
 -- a column of a type that fits stands at the place
 pub record HasColumn (fits : ℕ → Bool) (columns : List ColumnValue) (place : ℕ) : Type 0 where

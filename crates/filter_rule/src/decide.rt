@@ -1,7 +1,7 @@
 //! What a rule decides of a table.
 
 ghost use Rattle.std.specs.Prelude.{◌≡◌, length};
-ghost use Rattle.filter_rule.specs.Faults.{Gives};
+ghost use Rattle.filter_rule.specs.Faults.{GivesOrFails};
 ghost use Rattle.filter_rule.specs.Rules.{own_decision, decide, decide_once, decide_each};
 ghost use Rattle.filter_text.specs.Views.{rows_said};
 ghost use Rattle.filter_rule.specs.Private.RuleViews.{form_seen};
@@ -22,7 +22,7 @@ fn own_decision(
     range: &KeyRange,
     table: &Table,
 ) -> Result<Decision, PlanFault>
-    ensures { Gives (λ d. d) result (own_decision place.stream place.rule range.now table.now.vindex) }
+    ensures { GivesOrFails (λ d. d) result (own_decision place.stream place.rule range.now table.now.vindex) }
 {
     match table.vindex() {
         None => Err(place.fault()),
@@ -44,7 +44,7 @@ fn decide(
     rows: &Rows<'_>,
     table: &Table,
 ) -> Result<Decision, PlanFault>
-    ensures { Gives (λ d. d) result (decide place.stream place.rule (rows_said rows.now) table.now) }
+    ensures { GivesOrFails (λ d. d) result (decide place.stream place.rule (rows_said rows.now) table.now) }
 {
     match rows {
         Rows::EveryRow => Ok(Decision::EveryRow),
@@ -74,7 +74,7 @@ fn decide_once(
     table: &Table,
     decision: &mut Decision,
 ) -> Result<(), PlanFault>
-    ensures { Gives (λ _. decision.new) result (decide_once place.stream place.rule (form_seen form.now) table.now decision.old) }
+    ensures { GivesOrFails (λ _. decision.new) result (decide_once place.stream place.rule (form_seen form.now) table.now decision.old) }
 {
     if let Decision::NoRule = decision {
         if form.scope.is_for(table.name()) {
@@ -93,7 +93,7 @@ pub(crate) fn decide_each(
     decisions: &mut [Decision],
 ) -> Result<(), PlanFault>
     requires { length decisions.old ≡ length tables.now }
-    ensures decided { Gives (λ _. decisions.new) result (decide_each place.stream place.rule (form_seen form.now) tables.now decisions.old) }
+    ensures decided { GivesOrFails (λ _. decisions.new) result (decide_each place.stream place.rule (form_seen form.now) tables.now decisions.old) }
     ensures count { length decisions.new ≡ length decisions.old }
 {
     for i in 0..tables.len() {

@@ -1,7 +1,7 @@
 //! That no two of a list have the same name.
 
 ghost use Rattle.std.specs.Prelude.{◌≡◌, map};
-ghost use Rattle.filter_rule.specs.Faults.{Gives};
+ghost use Rattle.filter_rule.specs.Faults.{GivesOrFails};
 ghost use Rattle.filter_rule.specs.Document.{distinct};
 
 use crate::fault::PlanFault;
@@ -21,7 +21,7 @@ pub(crate) trait HasName {
 
 /// Refuses two of the same name.
 pub(crate) fn check_distinct<T: HasName>(alloc: Global, items: &[T]) -> Result<(), PlanFault>
-    ensures { Gives (λ _. map T.name items.now) result (distinct (map T.name items.now)) }
+    ensures { GivesOrFails (λ _. map T.name items.now) result (distinct (map T.name items.now)) }
 {
     let mut seen: HashSet<&str> = HashSet::new(alloc);
     for item in items {

@@ -3,8 +3,8 @@
 ghost use Rattle.std.specs.Prelude.{◌≡◌, List, ℕ, Result, map};
 ghost use Rattle.serde_json.specs.View.{view};
 ghost use Rattle.outcome.specs.Outcome.{each};
-ghost use Rattle.filter_rule.specs.Faults.{Gives};
-ghost use Rattle.filter_rule.specs.Document.{type_of, column_of, vindex_of, vindex_in, filter_in, rule_of, stream_of, list_apart, table_of, document_of};
+ghost use Rattle.filter_rule.specs.Faults.{GivesOrFails};
+ghost use Rattle.filter_rule.specs.Document.{type_said, column_of, vindex_of, vindex_said, filter_in, rule_of, stream_of, list_apart, table_of, document_of};
 
 use crate::distinct::{HasName, check_distinct};
 use crate::fault::PlanFault;
@@ -26,7 +26,7 @@ pub(crate) trait FromJson<'v>: Sized {
     ghost reads: { Data → Result Self Fault };
 
     fn from_json(alloc: Global, value: &'v Value) -> Result<Self, PlanFault>
-        ensures { Gives (λ x. x) result (reads (view value.now)) };
+        ensures { GivesOrFails (λ x. x) result (reads (view value.now)) };
 }
 
 /// Each value in order, up to the first fault.
@@ -34,7 +34,7 @@ pub(crate) fn each<'v, T: FromJson<'v> + Drop>(
     alloc: Global,
     values: &'v [Value],
 ) -> Result<Vec<T>, PlanFault>
-    ensures { Gives (λ v. v.items) result (each T.reads (map view values.now)) }
+    ensures { GivesOrFails (λ v. v.items) result (each T.reads (map view values.now)) }
 {
     let mut found = Vec::new(alloc);
     for value in values {
@@ -50,7 +50,7 @@ fn list_apart<'v, T: FromJson<'v> + HasName + Drop>(
     value: &'v Value,
     key: &str,
 ) -> Result<Vec<T>, PlanFault>
-    ensures { Gives (λ v. v.items) result (list_apart T.name T.reads key.now (view value.now)) }
+    ensures { GivesOrFails (λ v. v.items) result (list_apart T.name T.reads key.now (view value.now)) }
 {
     let values = list_in(value, key)?;
     let items = each(alloc, values)?;
@@ -69,9 +69,9 @@ impl<'v> FromJson<'v> for Name<'v> {
 }
 
 /// A type by its name or its number.
-#[tactic(auto, unfolding(crate::specs::Document::type_of))]
+#[tactic(auto, unfolding(crate::specs::Document::type_said))]
 fn type_of(value: &Value) -> Result<u32, PlanFault>
-    ensures { Gives (λ n. n) result (type_of (view value.now)) }
+    ensures { GivesOrFails (λ n. n) result (type_said (view value.now)) }
 {
     if let Some(name) = value.as_str() {
         return match type_named(name) {
@@ -134,7 +134,7 @@ impl<'v> Model for TableText<'v> {
 /// A vindex: its column's name, and its own.
 #[tactic(auto, unfolding(crate::specs::Document::vindex_of))]
 fn vindex_of(value: &Value) -> Result<(Name<'_>, Vindex), PlanFault>
-    ensures { Gives (λ p. p) result (vindex_of (view value.now)) }
+    ensures { GivesOrFails (λ p. p) result (vindex_of (view value.now)) }
 {
     let (column, name) = pair(value)?;
     let column = name_of(column)?;
@@ -145,9 +145,9 @@ fn vindex_of(value: &Value) -> Result<(Name<'_>, Vindex), PlanFault>
 }
 
 /// The vindex of a table, if it has one.
-#[tactic(auto, unfolding(crate::specs::Document::vindex_in))]
+#[tactic(auto, unfolding(crate::specs::Document::vindex_said))]
 fn vindex_in(value: &Value) -> Result<Option<(Name<'_>, Vindex)>, PlanFault>
-    ensures { Gives (λ o. o) result (vindex_in (view value.now)) }
+    ensures { GivesOrFails (λ o. o) result (vindex_said (view value.now)) }
 {
     match value.get("vindex") {
         None => Ok(None),
@@ -173,7 +173,7 @@ impl<'v> Model for RuleText<'v> {
 /// The filter of a rule, nothing where it is absent.
 #[tactic(auto, unfolding(crate::specs::Document::filter_in))]
 fn filter_in(value: &Value) -> Result<&str, PlanFault>
-    ensures { Gives (λ s. s.now) result (filter_in (view value.now)) }
+    ensures { GivesOrFails (λ s. s.now) result (filter_in (view value.now)) }
 {
     match value.get("filter") {
         None => Ok(""),
@@ -294,7 +294,7 @@ impl<'v> Model for Document<'v> {
 /// What the file's JSON value says, or that it has another shape.
 #[tactic(auto, unfolding(crate::specs::Document::document_of))]
 pub(crate) fn document_of(alloc: Global, value: &Value) -> Result<Document<'_>, PlanFault>
-    ensures { Gives (λ d. d) result (document_of (view value.now)) }
+    ensures { GivesOrFails (λ d. d) result (document_of (view value.now)) }
 {
     let keyspace = text_in(value, "keyspace")?;
     let tables = list_apart(alloc, value, "tables")?;

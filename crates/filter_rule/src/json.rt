@@ -2,7 +2,7 @@
 
 ghost use Rattle.std.specs.Prelude.{◌≡◌, Some, map};
 ghost use Rattle.serde_json.specs.View.{view};
-ghost use Rattle.filter_rule.specs.Faults.{Gives};
+ghost use Rattle.filter_rule.specs.Faults.{GivesOrFails};
 ghost use Rattle.filter_rule.specs.Document.{member_in, in_utf8, text_of, list_of, text_in, list_in, pair_of};
 
 use crate::fault::PlanFault;
@@ -10,7 +10,7 @@ use serde_json::Value;
 
 /// The member of an object, which is to be there.
 pub(crate) fn member<'v>(value: &'v Value, key: &str) -> Result<&'v Value, PlanFault>
-    ensures { Gives (λ v. view v.now) result (member_in key.now (view value.now)) }
+    ensures { GivesOrFails (λ v. view v.now) result (member_in key.now (view value.now)) }
 {
     match value.get(key) {
         Some(found) => Ok(found),
@@ -27,7 +27,7 @@ fn in_utf8(text: &str) -> &str
 
 /// A value that is to be a text.
 pub(crate) fn text(value: &Value) -> Result<&str, PlanFault>
-    ensures { Gives (λ s. s.now) result (text_of (view value.now)) }
+    ensures { GivesOrFails (λ s. s.now) result (text_of (view value.now)) }
 {
     match value.as_str() {
         Some(text) => Ok(in_utf8(text)),
@@ -37,7 +37,7 @@ pub(crate) fn text(value: &Value) -> Result<&str, PlanFault>
 
 /// A value that is to be a list.
 pub(crate) fn list(value: &Value) -> Result<&[Value], PlanFault>
-    ensures { Gives (λ vs. map view vs.now) result (list_of (view value.now)) }
+    ensures { GivesOrFails (λ vs. map view vs.now) result (list_of (view value.now)) }
 {
     match value.as_array() {
         Some(values) => Ok(values.as_slice()),
@@ -48,7 +48,7 @@ pub(crate) fn list(value: &Value) -> Result<&[Value], PlanFault>
 /// A member that is to be a text.
 #[tactic(auto, unfolding(crate::specs::Document::text_in))]
 pub(crate) fn text_in<'v>(value: &'v Value, key: &str) -> Result<&'v str, PlanFault>
-    ensures { Gives (λ s. s.now) result (text_in key.now (view value.now)) }
+    ensures { GivesOrFails (λ s. s.now) result (text_in key.now (view value.now)) }
 {
     text(member(value, key)?)
 }
@@ -56,7 +56,7 @@ pub(crate) fn text_in<'v>(value: &'v Value, key: &str) -> Result<&'v str, PlanFa
 /// A member that is to be a list.
 #[tactic(auto, unfolding(crate::specs::Document::list_in))]
 pub(crate) fn list_in<'v>(value: &'v Value, key: &str) -> Result<&'v [Value], PlanFault>
-    ensures { Gives (λ vs. map view vs.now) result (list_in key.now (view value.now)) }
+    ensures { GivesOrFails (λ vs. map view vs.now) result (list_in key.now (view value.now)) }
 {
     list(member(value, key)?)
 }
@@ -64,7 +64,7 @@ pub(crate) fn list_in<'v>(value: &'v Value, key: &str) -> Result<&'v [Value], Pl
 /// A value that is to be a list of two.
 #[tactic(auto, unfolding(crate::specs::Document::pair_of))]
 pub(crate) fn pair(value: &Value) -> Result<(&Value, &Value), PlanFault>
-    ensures { Gives (λ p. (view p.0.now, view p.1.now)) result (pair_of (view value.now)) }
+    ensures { GivesOrFails (λ p. (view p.0.now, view p.1.now)) result (pair_of (view value.now)) }
 {
     match list(value)? {
         [first, second] => Ok((first, second)),

@@ -2,7 +2,7 @@
 
 ghost use Rattle.std.specs.Prelude.{◌≡◌};
 ghost use Rattle.std.specs.List.{list_all};
-ghost use Rattle.filter_rule.specs.Faults.{Gives};
+ghost use Rattle.filter_rule.specs.Faults.{GivesOrFails};
 ghost use Rattle.filter_rule.specs.Limits.{is_up_to, is_table_within, is_within, within_limits};
 
 use crate::document::{Document, TableText};
@@ -48,7 +48,7 @@ fn is_within(document: &Document<'_>) -> bool
 
 /// Refuses a document with too few or too many of something.
 pub(crate) fn within_limits(document: Document<'_>) -> Result<Document<'_>, PlanFault>
-    ensures { Gives (λ d. d) result (within_limits document.entry) }
+    ensures { GivesOrFails (λ d. d) result (within_limits document.entry) }
 {
     if is_within(&document) {
         Ok(document)

@@ -3,7 +3,7 @@
 ghost use Rattle.std.specs.Prelude.{◌≡◌, List, ℕ};
 ghost use Rattle.std.specs.List.{list_all};
 ghost use Rattle.serde_json.specs.View.{view};
-ghost use Rattle.filter_rule.specs.Faults.{Gives};
+ghost use Rattle.filter_rule.specs.Faults.{GivesOrFails};
 ghost use Rattle.filter_rule.specs.Document.{is_fit, is_name, name_of};
 
 use crate::fault::PlanFault;
@@ -56,7 +56,7 @@ fn is_name(text: &str) -> bool
 /// A value that is to be a name.
 #[tactic(auto, unfolding(crate::specs::Document::name_of))]
 pub(crate) fn name_of(value: &Value) -> Result<Name<'_>, PlanFault>
-    ensures { Gives (λ n. n) result (name_of (view value.now)) }
+    ensures { GivesOrFails (λ n. n) result (name_of (view value.now)) }
 {
     let text = text(value)?;
     if is_name(text) {

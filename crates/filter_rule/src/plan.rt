@@ -3,7 +3,7 @@
 ghost use Rattle.std.specs.Prelude.{◌≡◌, ◌↔◌, IsTrue, ℕ, ◌<◌, length, position, IfSome};
 ghost use Rattle.std.specs.Str.{bytes_eq};
 ghost use Rattle.filter_rule.specs.Private.PlanParts.{plan_value};
-ghost use Rattle.filter_rule.specs.WellFormed.{IsPlan, ArePlaces};
+ghost use Rattle.filter_rule.specs.WellFormed.{IsPlan, AreColumnPlaces};
 ghost use Rattle.filter_rule.specs.Extending.{IsExtended};
 ghost use Rattle.filter_rule.specs.Splitting.{SplitRow};
 ghost use Rattle.filter_rule.specs.PlanValue.{PlanValue, columns_of, key_columns_of, table_of_name, passes_of};
@@ -107,7 +107,7 @@ impl Plan {
     pub fn key_columns(&self, t: u8) -> &[u8]
         requires { t < length self.now.tables }
         ensures places { result.now ≡ key_columns_of self.now t }
-        ensures within { ArePlaces (columns_of self.now t) (key_columns_of self.now t) }
+        ensures within { AreColumnPlaces (columns_of self.now t) (key_columns_of self.now t) }
     {
         self.schema.tables[usize::from(t)].key()
     }

@@ -3,7 +3,7 @@
 ghost use Rattle.std.specs.Prelude.{◌≡◌, ◌⊎◌, IsErrAnd, List, Ok, Err, IfOk, IfErr, IfSome, map, string_bytes};
 ghost use Rattle.std.specs.Arc.{arc_value};
 ghost use Rattle.outcome.specs.Outcome.{each};
-ghost use Rattle.filter_rule.specs.Faults.{Gives, meant};
+ghost use Rattle.filter_rule.specs.Faults.{GivesOrFails, definition_fault_of};
 ghost use Rattle.filter_rule.specs.FirstRule.{FollowFirstRules};
 ghost use Rattle.filter_rule.specs.Private.Accepted.{AreNarrow, IsAccepted};
 ghost use Rattle.filter_rule.specs.Standing.{Stands};
@@ -28,7 +28,7 @@ use std::sync::Arc;
 /// The JSON value of a text.
 #[tactic(auto, unfolding(crate::specs::Reading::json_of))]
 fn json_of(alloc: Global, text: &[u8]) -> Result<Value, PlanFault>
-    ensures { Gives view result (json_of text.now) }
+    ensures { GivesOrFails view result (json_of text.now) }
 {
     match Value::from_slice(alloc, text) {
         Ok(value) => Ok(value),
@@ -40,7 +40,7 @@ fn json_of(alloc: Global, text: &[u8]) -> Result<Value, PlanFault>
 /// The tables of the plans.
 fn tables_of(alloc: Global, tables: &[TableText<'_>]) -> Result<Vec<Table>, PlanFault>
     requires { AreNarrow tables.now }
-    ensures { Gives (λ v. v.items) result (each resolved tables.now) }
+    ensures { GivesOrFails (λ v. v.items) result (each resolved tables.now) }
 {
     let mut found = Vec::new(alloc);
     for table in tables {
@@ -58,7 +58,7 @@ fn plan_of(
     stream: &StreamText<'_>,
 ) -> Result<Arc<Plan>, PlanFault>
     requires { AreTables (arc_value schema.now).tables.items }
-    ensures { Gives arc_value result
+    ensures { GivesOrFails arc_value result
         (plan_of (string_bytes (arc_value schema.now).keyspace) (arc_value schema.now).tables.items n stream.now) }
 {
     let decisions = decisions_of(alloc, n, &schema.tables, &stream.rules)?;
@@ -74,7 +74,7 @@ fn plans_from(
     streams: &[StreamText<'_>],
 ) -> Result<Vec<Arc<Plan>>, PlanFault>
     requires { AreTables (arc_value schema.now).tables.items }
-    ensures { Gives (λ v. map arc_value v.items) result
+    ensures { GivesOrFails (λ v. map arc_value v.items) result
         (plans_from (string_bytes (arc_value schema.now).keyspace) (arc_value schema.now).tables.items 0 streams.now) }
 {
     let mut plans = Vec::new(alloc);
@@ -88,7 +88,7 @@ fn plans_from(
 #[tactic(auto, unfolding(crate::specs::Reading::plans_of_document))]
 fn plans_of_document(alloc: Global, document: &Document<'_>) -> Result<Vec<Arc<Plan>>, PlanFault>
     requires { IsAccepted document.now }
-    ensures { Gives (λ v. map arc_value v.items) result (plans_of_document document.now) }
+    ensures { GivesOrFails (λ v. map arc_value v.items) result (plans_of_document document.now) }
 {
     let tables = tables_of(alloc, &document.tables)?;
     let keyspace = String::from_str(alloc, document.keyspace)?;
@@ -98,7 +98,7 @@ fn plans_of_document(alloc: Global, document: &Document<'_>) -> Result<Vec<Arc<P
 
 /// The plans of the file's JSON value.
 fn plans_of_value(alloc: Global, value: &Value) -> Result<Vec<Arc<Plan>>, PlanFault>
-    ensures { Gives (λ v. map arc_value v.items) result (plans_of_value (view value.now)) }
+    ensures { GivesOrFails (λ v. map arc_value v.items) result (plans_of_value (view value.now)) }
 {
     let said = document_of(alloc, value)?;
     let document = within_limits(said)?;
@@ -108,7 +108,7 @@ fn plans_of_value(alloc: Global, value: &Value) -> Result<Vec<Arc<Plan>>, PlanFa
 /// The plans of the file's text.
 #[tactic(auto, unfolding(crate::specs::Reading::plans_of))]
 fn plans_of(alloc: Global, text: &[u8]) -> Result<Vec<Arc<Plan>>, PlanFault>
-    ensures { Gives (λ v. map arc_value v.items) result (plans_of text.now) }
+    ensures { GivesOrFails (λ v. map arc_value v.items) result (plans_of text.now) }
 {
     let value = json_of(alloc, text)?;
     plans_of_value(alloc, &value)
@@ -122,7 +122,7 @@ impl Plan {
     /// first to match `BadRule`, `NoSuchColumn`, `KeyType`. `Memory` is for want of memory alone, and
     /// then stands in place of what would have been found later.
     pub fn read_all(alloc: Global, text: &[u8]) -> Result<Vec<Arc<Plan>>, PlanFault>
-        ensures reads { Gives (λ v. map arc_value v.items) result (plans_of text.now) }
+        ensures reads { GivesOrFails (λ v. map arc_value v.items) result (plans_of text.now) }
         // A text is refused as no JSON exactly where it is none, unless memory ran out.
         ensures no_json { result ≡ Err PlanFault.Json → IsNoJson text.now }
         ensures json { IsNoJson text.now → IsErrAnd result (λ fault. (fault ≡ PlanFault.Json) ⊎ (fault ≡ PlanFault.Memory)) }
@@ -131,7 +131,7 @@ impl Plan {
         // They are those of the file's streams, in order, over its keyspace and tables.
         ensures streams { IfOk result (λ v. FollowStreams text.now (map arc_value v.items)) }
         // What a refusal says of the file stands in it.
-        ensures stands { IfErr result (λ fault. IfSome (meant fault) (Stands text.now)) }
+        ensures stands { IfErr result (λ fault. IfSome (definition_fault_of fault) (Stands text.now)) }
         // The first rule of a stream that matches a table decides it.
         ensures first_rule { IfOk result (λ v. FollowFirstRules text.now (map arc_value v.items)) }
     {

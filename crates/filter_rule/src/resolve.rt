@@ -3,7 +3,7 @@
 ghost use Rattle.std.specs.Prelude.{◌≡◌, ℕ, List, None, Ok, find, position, not, option_map, Err, ◌<◌, ◌≤◌, length, IfSome, IfOk};
 ghost use Rattle.std.specs.Str.{bytes_eq};
 ghost use Rattle.outcome.specs.Outcome.{each};
-ghost use Rattle.filter_rule.specs.Faults.{Gives, no_such_column, key_type, Fault};
+ghost use Rattle.filter_rule.specs.Faults.{GivesOrFails, no_such_column, key_type, Fault};
 ghost use Rattle.filter_rule.specs.PlanTable.{ColumnValue, TableValue};
 ghost use Rattle.filter_rule.specs.Resolving.{is_key_type, is_vindex_type, place_in, type_in, unfit_key, refuse_type, vindex_place, vindex_type, own_vindex_type, resolved};
 
@@ -34,7 +34,7 @@ fn is_vindex_type(vindex: Vindex, type_number: u32) -> bool
 
 /// The refusal of a column that isn't there.
 fn absent(alloc: Global, table: &str, column: &str) -> PlanFault
-    ensures { Gives {X = ℕ} {Y = ℕ} (λ n. n) (Err result) (Err (no_such_column table.now column.now)) }
+    ensures { GivesOrFails {X = ℕ} {Y = ℕ} (λ n. n) (Err result) (Err (no_such_column table.now column.now)) }
 {
     let Ok(table) = String::from_str(alloc, table) else {
         return PlanFault::Memory;
@@ -47,7 +47,7 @@ fn absent(alloc: Global, table: &str, column: &str) -> PlanFault
 
 /// The refusal of a column's type.
 fn unfit(alloc: Global, table: &str, column: &str) -> PlanFault
-    ensures { Gives {X = ℕ} {Y = ℕ} (λ n. n) (Err result) (Err (key_type table.now column.now)) }
+    ensures { GivesOrFails {X = ℕ} {Y = ℕ} (λ n. n) (Err result) (Err (key_type table.now column.now)) }
 {
     let Ok(table) = String::from_str(alloc, table) else {
         return PlanFault::Memory;
@@ -72,7 +72,7 @@ pub(crate) fn place_in(
     columns: &[ColumnDef],
     name: &str,
 ) -> Result<usize, PlanFault>
-    ensures place { Gives (λ n. n) result (place_in table.now columns.now name.now) }
+    ensures place { GivesOrFails (λ n. n) result (place_in table.now columns.now name.now) }
     ensures within { IfOk result (λ place. place < length columns.now) }
 {
     match place_of(columns, name) {
@@ -104,7 +104,7 @@ pub(crate) fn check_vindex_type(
     name: &str,
     vindex: Vindex,
 ) -> Result<(), PlanFault>
-    ensures { Gives (λ _. name.now) result (vindex_type table.now columns.now name.now vindex) }
+    ensures { GivesOrFails (λ _. name.now) result (vindex_type table.now columns.now name.now vindex) }
 {
     if is_vindex_type(vindex, type_in(columns, name)) {
         Ok(())
@@ -129,7 +129,7 @@ fn places_of(
     names: &[Name<'_>],
 ) -> Result<Vec<u8>, PlanFault>
     requires { length columns.now ≤ 256 }
-    ensures { Gives (λ v. v.items) result (each (place_in table.now columns.now) names.now) }
+    ensures { GivesOrFails (λ v. v.items) result (each (place_in table.now columns.now) names.now) }
 {
     let mut places = Vec::new(alloc);
     for name in names {
@@ -141,7 +141,7 @@ fn places_of(
 
 /// Copies of columns.
 fn copied(alloc: Global, columns: &[ColumnText<'_>]) -> Result<Vec<ColumnDef>, PlanFault>
-    ensures { Gives {Y = List ColumnValue} (λ v. v.items) result (Ok columns.now) }
+    ensures { GivesOrFails {Y = List ColumnValue} (λ v. v.items) result (Ok columns.now) }
 {
     let mut copies = Vec::new(alloc);
     for column in columns {
@@ -156,7 +156,7 @@ fn check_key_types(
     columns: &[ColumnDef],
     names: &[Name<'_>],
 ) -> Result<(), PlanFault>
-    ensures { Gives (λ _. None) result (refuse_type table.now (unfit_key columns.now names.now)) }
+    ensures { GivesOrFails (λ _. None) result (refuse_type table.now (unfit_key columns.now names.now)) }
 {
     match unfit_key(columns, names) {
         None => Ok(()),
@@ -170,7 +170,7 @@ fn vindex_place(
     columns: &[ColumnDef],
     vindex: &Option<(Name<'_>, Vindex)>,
 ) -> Result<Option<(usize, Vindex)>, PlanFault>
-    ensures { Gives (λ o. o) result (vindex_place table.now columns.now vindex.now) }
+    ensures { GivesOrFails (λ o. o) result (vindex_place table.now columns.now vindex.now) }
 {
     match vindex {
         None => Ok(None),
@@ -187,7 +187,7 @@ fn check_own_vindex(
     columns: &[ColumnDef],
     vindex: &Option<(Name<'_>, Vindex)>,
 ) -> Result<(), PlanFault>
-    ensures { Gives (λ _. option_map (λ v. v.0) vindex.now) result (own_vindex_type table.now columns.now vindex.now) }
+    ensures { GivesOrFails (λ _. option_map (λ v. v.0) vindex.now) result (own_vindex_type table.now columns.now vindex.now) }
 {
     match vindex {
         None => Ok(()),
@@ -199,7 +199,7 @@ fn check_own_vindex(
 #[tactic(auto, unfolding(crate::specs::Resolving::resolved))]
 pub(crate) fn resolved(alloc: Global, table: &TableText<'_>) -> Result<Table, PlanFault>
     requires { length table.now.columns ≤ 256 }
-    ensures { Gives (λ t. t) result (resolved table.now) }
+    ensures { GivesOrFails (λ t. t) result (resolved table.now) }
 {
     let name = table.name.as_str();
     let columns = copied(alloc, &table.columns)?;

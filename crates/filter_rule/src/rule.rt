@@ -3,7 +3,7 @@
 ghost use Rattle.std.specs.Prelude.{◌≡◌};
 ghost use Rattle.filter_text.specs.FilterText.{filter_of};
 ghost use Rattle.filter_text.specs.Views.{meaning};
-ghost use Rattle.filter_rule.specs.Faults.{Gives};
+ghost use Rattle.filter_rule.specs.Faults.{GivesOrFails};
 ghost use Rattle.filter_rule.specs.Private.RuleViews.{form_seen};
 ghost use Rattle.filter_rule.specs.Rules.{or_bad, form_of};
 
@@ -38,7 +38,7 @@ impl Place {
     }
 
     fn or_bad<T>(self, found: Option<T>) -> Result<T, PlanFault>
-        ensures { Gives (λ x. x) result (or_bad self.stream self.rule found) }
+        ensures { GivesOrFails (λ x. x) result (or_bad self.stream self.rule found) }
     {
         match found {
             Some(value) => Ok(value),
@@ -48,7 +48,7 @@ impl Place {
 
     /// What the rule's filter says.
     fn filter(self, alloc: Global, text: &str) -> Result<Filter<'_>, PlanFault>
-        ensures { Gives meaning result (or_bad self.stream self.rule (filter_of text.now)) }
+        ensures { GivesOrFails meaning result (or_bad self.stream self.rule (filter_of text.now)) }
     {
         match Filter::parse(alloc, text) {
             Ok(filter) => Ok(filter),
@@ -65,7 +65,7 @@ pub(crate) fn form_of<'v>(
     place: Place,
     rule: &RuleText<'v>,
 ) -> Result<RuleForm<'v>, PlanFault>
-    ensures { Gives form_seen result (form_of place.stream place.rule rule.now) }
+    ensures { GivesOrFails form_seen result (form_of place.stream place.rule rule.now) }
 {
     let scope = place.or_bad(Scope::parse(rule.matches))?;
     let Filter { table, rows } = place.filter(alloc, rule.filter)?;

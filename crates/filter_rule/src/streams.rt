@@ -1,7 +1,7 @@
 //! Rules of a stream to the decisions of its plan.
 
 ghost use Rattle.std.specs.Prelude.{◌≡◌, length, List, Ok, map};
-ghost use Rattle.filter_rule.specs.Faults.{Gives};
+ghost use Rattle.filter_rule.specs.Faults.{GivesOrFails};
 ghost use Rattle.filter_rule.specs.Reading.{rule_over, undecided, decisions_of};
 ghost use Rattle.filter_rule.specs.declared.decision.Decision.{Decision};
 
@@ -15,7 +15,7 @@ use std::alloc::Global;
 
 /// No table is decided yet.
 fn undecided(alloc: Global, tables: &[Table]) -> Result<Vec<Decision>, PlanFault>
-    ensures { Gives {Y = List Decision} (λ v. v.items) result (Ok (undecided tables.now)) }
+    ensures { GivesOrFails {Y = List Decision} (λ v. v.items) result (Ok (undecided tables.now)) }
 {
     let mut decisions = Vec::new(alloc);
     for _table in tables {
@@ -33,7 +33,7 @@ fn take_rule(
     decisions: &mut [Decision],
 ) -> Result<(), PlanFault>
     requires { length decisions.old ≡ length tables.now }
-    ensures decided { Gives (λ _. decisions.new) result (rule_over place.stream place.rule tables.now rule.now decisions.old) }
+    ensures decided { GivesOrFails (λ _. decisions.new) result (rule_over place.stream place.rule tables.now rule.now decisions.old) }
     ensures count { length decisions.new ≡ length decisions.old }
 {
     let form = form_of(alloc, place, rule)?;
@@ -47,7 +47,7 @@ pub(crate) fn decisions_of(
     tables: &[Table],
     rules: &[RuleText<'_>],
 ) -> Result<Vec<Decision>, PlanFault>
-    ensures { Gives (λ v. v.items) result (decisions_of stream tables.now rules.now) }
+    ensures { GivesOrFails (λ v. v.items) result (decisions_of stream tables.now rules.now) }
 {
     let mut decisions = undecided(alloc, tables)?;
     for n in 0..rules.len() {

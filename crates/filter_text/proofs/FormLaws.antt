@@ -9,8 +9,8 @@ use Rattle.vindex.specs.KeyspaceId.{vindex_of_name, vindex_name}
 use Rattle.vindex.specs.declared.vindexes.Vindex.{Vindex}
 use Rattle.vindex.specs.declared.vindexes.Vindex.TheVariants.{Numeric, ReverseBits, Binary, BinaryMd5}
 use Rattle.filter_text.specs.Lexemes.{Lexeme, word, name, quoted, mark, is_key, is_this_mark, named, text_in_quotes}
-use Rattle.filter_text.specs.Tokens.{Spells, tokens_of}
-use Rattle.filter_text.specs.FilterText.{RowsSaid, every_row, in_own_range, in_range_of, Meaning, without_table, selected, begins_with_select, Place, key, a_name, in_quotes, a_mark, Fill, condition_places, selection_places, WritesRange, Says, says_nothing, gives_range, selects, range_in, vindex_in, own_rows, named_rows, are_between, arguments_of, opens_condition, rows_of, opens_selection, table_rows, selection_of, filter_of}
+use Rattle.filter_text.specs.Tokens.{SpellsTokens, tokens_of}
+use Rattle.filter_text.specs.FilterText.{RowsSaid, every_row, in_own_range, in_range_of, FilterMeaning, without_table, selected, begins_with_select, Place, key, a_name, in_quotes, a_mark, Fill, condition_places, selection_places, WritesRange, Says, says_nothing, gives_range, selects, range_in, vindex_in, rows_of_own_range, named_rows, are_between, arguments_of, opens_condition, rows_of, opens_selection, table_rows, selection_of, filter_of}
 use Rattle.filter_text.specs.Views.{Reads, meaning}
 use Rattle.filter_text.specs.declared.filter.Filter.{Filter}
 use Rattle.filter_text.specs.declared.fault.FilterFault.{FilterFault}
@@ -24,7 +24,7 @@ vindex_back ReverseBits = refl
 vindex_back Binary = refl
 vindex_back BinaryMd5 = refl
 
-own_read : (r c : Lexeme) (range : List ℕ) (bounds : Bounds) → text_in_quotes r ≡ Some range → is_this_mark 41 c ≡ true → key_range_of_text range ≡ Some bounds → own_rows r c ≡ Some (in_own_range bounds)
+own_read : (r c : Lexeme) (range : List ℕ) (bounds : Bounds) → text_in_quotes r ≡ Some range → is_this_mark 41 c ≡ true → key_range_of_text range ≡ Some bounds → rows_of_own_range r c ≡ Some (in_own_range bounds)
 own_read r c range bounds q m h = rw (m, q, h) refl
 
 own_back : (ts : List Lexeme) (range : List ℕ) (bounds : Bounds) → Fill ts (in_quotes range ∷ a_mark 41 ∷ []) → key_range_of_text range ≡ Some bounds → arguments_of ts ≡ Some (in_own_range bounds)
@@ -89,7 +89,7 @@ selection_back (a ∷ b ∷ c ∷ t ∷ ts) table range rows f w =
     ap (λ x. cond x (table_rows t ts) None) (selection_opens a b c f.0 f.1.0 f.1.1.0)
     ∙ table_read t ts table rows f.1.1.1.0 (rows_back ts range rows f.1.1.1.1 w)
 
-selects_first : (ts : List Lexeme) (text : List ℕ) (places : List Place) → Spells ts text → Fill ts (key (codes "select") ∷ places) → begins_with_select text ≡ true
+selects_first : (ts : List Lexeme) (text : List ℕ) (places : List Place) → SpellsTokens ts text → Fill ts (key (codes "select") ∷ places) → begins_with_select text ≡ true
 selects_first [] text places spells f = absurd f
 selects_first (word w ∷ ts) text places spells f = ap (λ x. str_eq_ignore_ascii_case x (codes "select")) (first_word_is text w spells.0 spells.1) ∙ f.0
 selects_first (name n ∷ ts) text places spells f = let h : false ≡ true = f.0 in cc
@@ -103,7 +103,7 @@ begins_not_empty : (text : List ℕ) → begins_with_select text ≡ true → (l
 begins_not_empty [] h = let e : false ≡ true = h in cc
 begins_not_empty (b ∷ text) h = some_length (b ∷ text) (λ e. cons_apart b text e)
 
-pub filter_of_says : (text : List ℕ) (said : Meaning) → Says text said → filter_of text ≡ Some said
+pub filter_of_says : (text : List ℕ) (said : FilterMeaning) → Says text said → filter_of text ≡ Some said
 unfolding filter_of
 filter_of_says text said (says_nothing empty is) = rw (empty, is) refl
 filter_of_says text said (gives_range bounds some other read is) = rw (some_length text some, other, read, is) refl
@@ -137,7 +137,7 @@ own_found : (o : Option Bounds) (rows : RowsSaid) → option_map in_own_range o 
 own_found None rows h = cc
 own_found (Some bounds) rows h = (bounds, refl, same_some (in_own_range bounds) rows h)
 
-own_parts : (r c : Lexeme) (rows : RowsSaid) → own_rows r c ≡ Some rows → Arguments (r ∷ c ∷ []) rows
+own_parts : (r c : Lexeme) (rows : RowsSaid) → rows_of_own_range r c ≡ Some rows → Arguments (r ∷ c ∷ []) rows
 own_parts r c rows h =
     let marked = chosen (is_this_mark 41 c) (option_map in_own_range (range_in r)) rows h in
     let found = own_found (range_in r) rows marked.1 in
@@ -227,19 +227,19 @@ rows_parts (a ∷ []) rows h = cc
 rows_parts (a ∷ b ∷ []) rows h = cc
 rows_parts (a ∷ b ∷ c ∷ ts) rows h = condition_at a b c ts rows h
 
-pub record TableFound (t : Option (List ℕ)) (r : Option RowsSaid) (said : Meaning) : Type 0 where
+pub record TableFound (t : Option (List ℕ)) (r : Option RowsSaid) (said : FilterMeaning) : Type 0 where
   pub table : List ℕ
   pub rows : RowsSaid
   pub table_is : t ≡ Some table
   pub rows_is : r ≡ Some rows
   pub is : selected table rows ≡ said
 
-table_found : (t : Option (List ℕ)) (r : Option RowsSaid) (said : Meaning) → option_and_then (λ table. option_and_then (λ rows. Some (selected table rows)) r) t ≡ Some said → TableFound t r said
+table_found : (t : Option (List ℕ)) (r : Option RowsSaid) (said : FilterMeaning) → option_and_then (λ table. option_and_then (λ rows. Some (selected table rows)) r) t ≡ Some said → TableFound t r said
 table_found None r said h = cc
 table_found (Some table) None said h = cc
 table_found (Some table) (Some rows) said h = record { table = table; rows = rows; table_is = refl; rows_is = refl; is = same_some (selected table rows) said h }
 
-selection_at : (a b c t : Lexeme) (ts : List Lexeme) (text : List ℕ) (said : Meaning) → Spells (a ∷ b ∷ c ∷ t ∷ ts) text → cond (opens_selection a b c) (table_rows t ts) None ≡ Some said → Says text said
+selection_at : (a b c t : Lexeme) (ts : List Lexeme) (text : List ℕ) (said : FilterMeaning) → SpellsTokens (a ∷ b ∷ c ∷ t ∷ ts) text → cond (opens_selection a b c) (table_rows t ts) None ≡ Some said → Says text said
 selection_at a b c t ts text said spells h =
     let opened = chosen (opens_selection a b c) (table_rows t ts) said h in
     let three = all_three (is_key (codes "select") a) (is_this_mark 42 b) (is_key (codes "from") c) opened.0 in
@@ -247,7 +247,7 @@ selection_at a b c t ts text said spells h =
     let parts = rows_parts ts found.rows found.rows_is in
     selects (a ∷ b ∷ c ∷ t ∷ ts) found.table parts.range found.rows spells (three.0, (three.1, (three.2, (found.table_is, parts.fill)))) parts.writes (sym found.is)
 
-selection_says : (ts : List Lexeme) (text : List ℕ) (said : Meaning) → Spells ts text → selection_of ts ≡ Some said → Says text said
+selection_says : (ts : List Lexeme) (text : List ℕ) (said : FilterMeaning) → SpellsTokens ts text → selection_of ts ≡ Some said → Says text said
 unfolding selection_of
 selection_says [] text said spells h = cc
 selection_says (a ∷ []) text said spells h = cc
@@ -255,11 +255,11 @@ selection_says (a ∷ b ∷ []) text said spells h = cc
 selection_says (a ∷ b ∷ c ∷ []) text said spells h = cc
 selection_says (a ∷ b ∷ c ∷ t ∷ ts) text said spells h = selection_at a b c t ts text said spells h
 
-tokens_say : (o : Option (List Lexeme)) (text : List ℕ) (said : Meaning) → tokens_of text ≡ o → option_and_then selection_of o ≡ Some said → Says text said
+tokens_say : (o : Option (List Lexeme)) (text : List ℕ) (said : FilterMeaning) → tokens_of text ≡ o → option_and_then selection_of o ≡ Some said → Says text said
 tokens_say None text said is h = cc
 tokens_say (Some ts) text said is h = selection_says ts text said (spells_of_read text ts is) h
 
-range_says : (o : Option Bounds) (text : List ℕ) (said : Meaning) → (text ≡ [] → ⊥) → begins_with_select text ≡ false → key_range_of_text text ≡ o → option_map (λ bounds. without_table (in_own_range bounds)) o ≡ Some said → Says text said
+range_says : (o : Option Bounds) (text : List ℕ) (said : FilterMeaning) → (text ≡ [] → ⊥) → begins_with_select text ≡ false → key_range_of_text text ≡ o → option_map (λ bounds. without_table (in_own_range bounds)) o ≡ Some said → Says text said
 range_says None text said some other is h = cc
 range_says (Some bounds) text said some other is h = gives_range bounds some other is (sym (same_some (without_table (in_own_range bounds)) said h))
 
@@ -271,13 +271,13 @@ not_empty : (text : List ℕ) → (length text == 0) ≡ false → text ≡ [] �
 not_empty [] h e = cc
 not_empty (b ∷ text) h e = cons_apart b text e
 
-says_at : (x y : Bool) (text : List ℕ) (said : Meaning) → (length text == 0) ≡ x → begins_with_select text ≡ y
+says_at : (x y : Bool) (text : List ℕ) (said : FilterMeaning) → (length text == 0) ≡ x → begins_with_select text ≡ y
     → cond x (Some (without_table every_row)) (cond y (option_and_then selection_of (tokens_of text)) (option_map (λ bounds. without_table (in_own_range bounds)) (key_range_of_text text))) ≡ Some said → Says text said
 says_at true y text said empty first h = says_nothing (empty_of_length text empty) (sym (same_some (without_table every_row) said h))
 says_at false true text said some first h = tokens_say (tokens_of text) text said refl h
 says_at false false text said some first h = range_says (key_range_of_text text) text said (not_empty text some) first refl h
 
-pub says_of_filter : (text : List ℕ) (said : Meaning) → filter_of text ≡ Some said → Says text said
+pub says_of_filter : (text : List ℕ) (said : FilterMeaning) → filter_of text ≡ Some said → Says text said
 unfolding filter_of
 says_of_filter text said h = says_at (length text == 0) (begins_with_select text) text said refl refl h
 
@@ -287,5 +287,5 @@ pub says_of_read : (text : List ℕ) (r : Result Filter FilterFault) → Reads m
 says_of_read text (Ok filter) h = says_of_filter text (meaning filter) h
 says_of_read text (Err fault) h = tt
 
-pub read_of_says : (text : List ℕ) (r : Result Filter FilterFault) (said : Meaning) → Reads meaning r (filter_of text) → Says text said → Reads meaning r (Some said)
-read_of_says text r said h says = subst (λ (o : Option Meaning). Reads meaning r o) (filter_of_says text said says) h
+pub read_of_says : (text : List ℕ) (r : Result Filter FilterFault) (said : FilterMeaning) → Reads meaning r (filter_of text) → Says text said → Reads meaning r (Some said)
+read_of_says text r said h says = subst (λ (o : Option FilterMeaning). Reads meaning r o) (filter_of_says text said says) h

@@ -2,7 +2,7 @@
 use Rattle.std.proofs.Common.{◌≡◌, ℕ, ◌<◌, ◌≤◌, List, [], ◌∷◌, length, map, Bool, true, false, cond, Option, Some, None, Result, refl, sym, ap, subst, ◌∙◌, arith}
 use Rattle.std.specs.Prelude.{◌==◌, IfSome, option_and_then}
 use Rattle.filter_text.specs.Lexemes.{Lexeme, named}
-use Rattle.filter_text.specs.FilterText.{◌>>=◌, RowsSaid, every_row, Meaning, selected, own_rows, named_rows, are_between, arguments_of, opens_condition, rows_of, opens_selection, table_rows, selection_of, begins_with_select, filter_of}
+use Rattle.filter_text.specs.FilterText.{◌>>=◌, RowsSaid, every_row, FilterMeaning, selected, rows_of_own_range, named_rows, are_between, arguments_of, opens_condition, rows_of, opens_selection, table_rows, selection_of, begins_with_select, filter_of}
 use Rattle.filter_text.specs.Tokens.{tokens_of}
 use Rattle.filter_text.specs.Views.{Reads, lexeme, rows_said, meaning}
 use Rattle.filter_text.specs.declared.token.Token.{Token}
@@ -72,7 +72,7 @@ four (a ∷ b ∷ c ∷ d ∷ ts) h = record { a = a; b = b; c = c; d = d; rest 
 
 -- ---- the arguments
 
-pub two_read : (a b : Token) (r : Result Rows FilterFault) → Reads rows_said r (own_rows (lexeme a) (lexeme b)) → Reads rows_said r (arguments_of (map lexeme (a ∷ b ∷ [])))
+pub two_read : (a b : Token) (r : Result Rows FilterFault) → Reads rows_said r (rows_of_own_range (lexeme a) (lexeme b)) → Reads rows_said r (arguments_of (map lexeme (a ∷ b ∷ [])))
 unfolding arguments_of
 two_read a b r h = h
 
@@ -133,7 +133,7 @@ pub selection_read : (a b c d : Token) (ts rest : List Token) (r : Result Filter
     → Reads meaning r (selection_of (map lexeme (a ∷ b ∷ c ∷ d ∷ ts)))
 unfolding selection_of
 selection_read a b c d ts rest r opens h same =
-    subst (λ (o : Option Meaning). Reads meaning r o) (ap (λ (s : List Token). table_rows (lexeme d) (map lexeme s)) same ∙ sym (ap (λ x. cond x (table_rows (lexeme d) (map lexeme ts)) None) opens)) h
+    subst (λ (o : Option FilterMeaning). Reads meaning r o) (ap (λ (s : List Token). table_rows (lexeme d) (map lexeme s)) same ∙ sym (ap (λ x. cond x (table_rows (lexeme d) (map lexeme ts)) None) opens)) h
 
 pub selection_not : (a b c d : Token) (ts : List Token) → opens_selection (lexeme a) (lexeme b) (lexeme c) ≡ false → selection_of (map lexeme (a ∷ b ∷ c ∷ d ∷ ts)) ≡ None
 unfolding selection_of
@@ -179,7 +179,7 @@ no_selection : (o : Option (List Lexeme)) → IfSome o (λ ts. 13 < length ts) �
 no_selection None h = refl
 no_selection (Some ts) h = long_selection ts h
 
-selects_none : (empty selects : Bool) (nothing selection range : Option Meaning) → empty ≡ false → selects ≡ true → selection ≡ None → cond empty nothing (cond selects selection range) ≡ None
+selects_none : (empty selects : Bool) (nothing selection range : Option FilterMeaning) → empty ≡ false → selects ≡ true → selection ≡ None → cond empty nothing (cond selects selection range) ≡ None
 selects_none true selects nothing selection range e s none = cc
 selects_none false true nothing selection range e s none = none
 selects_none false false nothing selection range e s none = cc

@@ -5,7 +5,7 @@ use Rattle.std.specs.List.{list_all}
 use Rattle.std.proofs.lemmas.List.{append-nil, length-drop, length-append}
 use Rattle.std.proofs.lemmas.Bool.Decides.{nat_tests}
 use Rattle.filter_text.specs.Lexemes.{Lexeme, word, name, quoted, mark, is_blank, is_word_byte, is_mark}
-use Rattle.filter_text.specs.Tokens.{tokens_of, until, with_token, with_first, nothing_first, as_name, as_quoted, begins_in_word, after_blanks, word_in_front, first_word, IsWritten, EndsAt, Begins, Spells}
+use Rattle.filter_text.specs.Tokens.{tokens_of, until, with_token, with_first_byte, nothing_first, as_name, as_quoted, begins_in_word, after_blanks, word_in_front, first_word, IsTokenText, EndsAt, BeginsWithToken, SpellsTokens}
 use Rattle.filter_text.proofs.ByteLaws.{same_byte, word_apart}
 use Rattle.filter_text.proofs.SpanLaws.{all_parts, span_len, span_all, span_stops}
 use Rattle.filter_text.proofs.TokenLaws.{blank_first, mark_first, name_first, quoted_first, other_first, word_read, blanks_read, until_cut, named_at, quoted_at}
@@ -37,14 +37,14 @@ quoted_back q rest none =
     ∙ ap (option_map as_quoted) (until_cut 39 q rest refl none)
     ∙ quoted_at q (tokens_of rest)
 
-pub written_read : (t : Lexeme) (front rest : List ℕ) → IsWritten t front → EndsAt t rest → tokens_of (front ++ rest) ≡ with_token t (tokens_of rest)
+pub written_read : (t : Lexeme) (front rest : List ℕ) → IsTokenText t front → EndsAt t rest → tokens_of (front ++ rest) ≡ with_token t (tokens_of rest)
 written_read (word []) front rest w e = absurd (w.1 refl)
 written_read (word (b ∷ v)) front rest w e = ap (λ s. tokens_of (s ++ rest)) w.0 ∙ word_read b v rest w.2 e
 written_read (name n) front rest w e = ap (λ s. tokens_of (s ++ rest)) w.0 ∙ name_back n rest w.1 w.2
 written_read (quoted q) front rest w e = ap (λ s. tokens_of (s ++ rest)) w.0 ∙ quoted_back q rest w.1
 written_read (mark m) front rest w e = ap (λ s. tokens_of (s ++ rest)) w.0 ∙ mark_first m rest w.1
 
-pub read_of_spelled : (ts : List Lexeme) (text : List ℕ) → Spells ts text → tokens_of text ≡ Some ts
+pub read_of_spelled : (ts : List Lexeme) (text : List ℕ) → SpellsTokens ts text → tokens_of text ≡ Some ts
 unfolding tokens_of
 read_of_spelled [] text h = ap tokens_of (sym (append-nil text)) ∙ blanks_read text [] h
 read_of_spelled (t ∷ ts) text h =
@@ -58,12 +58,12 @@ read_of_spelled (t ∷ ts) text h =
 pub same_some : {A : Type 0} (x y : A) → Some x ≡ Some y → x ≡ y
 same_some x y e = cc
 
-token_spells : (text rest : List ℕ) (t : Lexeme) (ts : List Lexeme) (o : Option (List Lexeme)) → tokens_of rest ≡ o → Begins text t rest → ((more : List Lexeme) → tokens_of rest ≡ Some more → Spells more rest) → with_token t o ≡ Some ts → Spells ts text
+token_spells : (text rest : List ℕ) (t : Lexeme) (ts : List Lexeme) (o : Option (List Lexeme)) → tokens_of rest ≡ o → BeginsWithToken text t rest → ((more : List Lexeme) → tokens_of rest ≡ Some more → SpellsTokens more rest) → with_token t o ≡ Some ts → SpellsTokens ts text
 token_spells text rest t ts None is begins spells e = cc
-token_spells text rest t ts (Some more) is begins spells e = subst (λ (x : List Lexeme). Spells x text) (same_some (t ∷ more) ts e) (rest, begins, spells more is)
+token_spells text rest t ts (Some more) is begins spells e = subst (λ (x : List Lexeme). SpellsTokens x text) (same_some (t ∷ more) ts e) (rest, begins, spells more is)
 
 -- a token in front of the tokens of what follows
-front_spells : (text rest : List ℕ) (t : Lexeme) (ts : List Lexeme) → Begins text t rest → ((more : List Lexeme) → tokens_of rest ≡ Some more → Spells more rest) → with_token t (tokens_of rest) ≡ Some ts → Spells ts text
+front_spells : (text rest : List ℕ) (t : Lexeme) (ts : List Lexeme) → BeginsWithToken text t rest → ((more : List Lexeme) → tokens_of rest ≡ Some more → SpellsTokens more rest) → with_token t (tokens_of rest) ≡ Some ts → SpellsTokens ts text
 front_spells text rest t ts begins spells e = token_spells text rest t ts (tokens_of rest) refl begins spells e
 
 -- the bytes before the first `end` and the tokens behind it, where they lie
@@ -88,7 +88,7 @@ until_here end b s front ts (Some more) same is e =
     let tokens : ts ≡ more = sym (ap tokens_in e) in
     record { rest = s; whole = rw (no_front, same) refl; none = rw no_front refl; read = is ∙ ap Some (sym tokens) }
 
-until_further : (end b : ℕ) (s front : List ℕ) (ts : List Lexeme) (o : Option (List ℕ × List Lexeme)) → (b == end) ≡ false → ((f : List ℕ) (more : List Lexeme) → o ≡ Some (f, more) → IsUntilEnd end s f more) → option_map (with_first b) o ≡ Some (front, ts) → IsUntilEnd end (b ∷ s) front ts
+until_further : (end b : ℕ) (s front : List ℕ) (ts : List Lexeme) (o : Option (List ℕ × List Lexeme)) → (b == end) ≡ false → ((f : List ℕ) (more : List Lexeme) → o ≡ Some (f, more) → IsUntilEnd end s f more) → option_map (with_first_byte b) o ≡ Some (front, ts) → IsUntilEnd end (b ∷ s) front ts
 until_further end b s front ts None other below e = cc
 until_further end b s front ts (Some p) other below e =
     let first : front ≡ b ∷ p.0 = sym (ap front_in e) in
@@ -97,7 +97,7 @@ until_further end b s front ts (Some p) other below e =
     record { rest = tail.rest; whole = rw first (ap (λ x. b ∷ x) tail.whole); none = rw (first, other) tail.none; read = tail.read ∙ ap Some (sym tokens) }
 
 until_at : (x : Bool) (end b : ℕ) (s front : List ℕ) (ts : List Lexeme) → (b == end) ≡ x → ((f : List ℕ) (more : List Lexeme) → until end s ≡ Some (f, more) → IsUntilEnd end s f more)
-    → cond x (option_map nothing_first (tokens_of s)) (option_map (with_first b) (until end s)) ≡ Some (front, ts) → IsUntilEnd end (b ∷ s) front ts
+    → cond x (option_map nothing_first (tokens_of s)) (option_map (with_first_byte b) (until end s)) ≡ Some (front, ts) → IsUntilEnd end (b ∷ s) front ts
 until_at true end b s front ts is below h = until_here end b s front ts (tokens_of s) (same_byte b end is) refl h
 until_at false end b s front ts is below h = until_further end b s front ts (until end s) is below h
 
@@ -108,7 +108,7 @@ until_parts end (b ∷ s) front ts e = until_at (b == end) end b s front ts refl
 
 -- texts of at most n bytes are spelled by the tokens that are read from them
 abbrev Below : ℕ → Type 0
-Below n = (r : List ℕ) (xs : List Lexeme) → length r ≤ n → tokens_of r ≡ Some xs → Spells xs r
+Below n = (r : List ℕ) (xs : List Lexeme) → length r ≤ n → tokens_of r ≡ Some xs → SpellsTokens xs r
 
 rest_shorter : (end n : ℕ) (s front rest : List ℕ) → s ≡ front ++ end ∷ rest → length s ≤ n → length rest ≤ n
 rest_shorter end n s front rest e h = let l : length s ≡ length front + length (end ∷ rest) = ap length e ∙ length-append front (end ∷ rest) in omega arith
@@ -117,10 +117,10 @@ some_bytes : (n : List ℕ) → (length n == 0) ≡ false → n ≡ [] → ⊥
 some_bytes [] h e = cc
 some_bytes (x ∷ xs) h e = cc
 
-name_found : (x : Bool) (n : ℕ) (s : List ℕ) (ts : List Lexeme) (f : List ℕ) (more : List Lexeme) → (length f == 0) ≡ x → IsUntilEnd 96 s f more → length s ≤ n → Below n → cond x None (Some (name f ∷ more)) ≡ Some ts → Spells ts (96 ∷ s)
+name_found : (x : Bool) (n : ℕ) (s : List ℕ) (ts : List Lexeme) (f : List ℕ) (more : List Lexeme) → (length f == 0) ≡ x → IsUntilEnd 96 s f more → length s ≤ n → Below n → cond x None (Some (name f ∷ more)) ≡ Some ts → SpellsTokens ts (96 ∷ s)
 name_found true n s ts f more none u within below e = cc
 name_found false n s ts f more some u within below e =
-    subst (λ (x : List Lexeme). Spells x (96 ∷ s)) (same_some (name f ∷ more) ts e) (
+    subst (λ (x : List Lexeme). SpellsTokens x (96 ∷ s)) (same_some (name f ∷ more) ts e) (
       u.rest,
       record {
         blanks = [];
@@ -133,13 +133,13 @@ name_found false n s ts f more some u within below e =
       below u.rest more (rest_shorter 96 n s f u.rest u.whole within) u.read,
     )
 
-name_spells : (n : ℕ) (s : List ℕ) (ts : List Lexeme) (o : Option (List ℕ × List Lexeme)) → until 96 s ≡ o → length s ≤ n → Below n → option_and_then as_name o ≡ Some ts → Spells ts (96 ∷ s)
+name_spells : (n : ℕ) (s : List ℕ) (ts : List Lexeme) (o : Option (List ℕ × List Lexeme)) → until 96 s ≡ o → length s ≤ n → Below n → option_and_then as_name o ≡ Some ts → SpellsTokens ts (96 ∷ s)
 name_spells n s ts None is within below e = cc
 name_spells n s ts (Some p) is within below e = name_found (length p.0 == 0) n s ts p.0 p.1 refl (until_parts 96 s p.0 p.1 is) within below e
 
-quoted_found : (n : ℕ) (s : List ℕ) (ts : List Lexeme) (f : List ℕ) (more : List Lexeme) → IsUntilEnd 39 s f more → length s ≤ n → Below n → Some (quoted f ∷ more) ≡ Some ts → Spells ts (39 ∷ s)
+quoted_found : (n : ℕ) (s : List ℕ) (ts : List Lexeme) (f : List ℕ) (more : List Lexeme) → IsUntilEnd 39 s f more → length s ≤ n → Below n → Some (quoted f ∷ more) ≡ Some ts → SpellsTokens ts (39 ∷ s)
 quoted_found n s ts f more u within below e =
-    subst (λ (x : List Lexeme). Spells x (39 ∷ s)) (same_some (quoted f ∷ more) ts e) (
+    subst (λ (x : List Lexeme). SpellsTokens x (39 ∷ s)) (same_some (quoted f ∷ more) ts e) (
       u.rest,
       record {
         blanks = [];
@@ -152,11 +152,11 @@ quoted_found n s ts f more u within below e =
       below u.rest more (rest_shorter 39 n s f u.rest u.whole within) u.read,
     )
 
-quoted_spells : (n : ℕ) (s : List ℕ) (ts : List Lexeme) (o : Option (List ℕ × List Lexeme)) → until 39 s ≡ o → length s ≤ n → Below n → option_map as_quoted o ≡ Some ts → Spells ts (39 ∷ s)
+quoted_spells : (n : ℕ) (s : List ℕ) (ts : List Lexeme) (o : Option (List ℕ × List Lexeme)) → until 39 s ≡ o → length s ≤ n → Below n → option_map as_quoted o ≡ Some ts → SpellsTokens ts (39 ∷ s)
 quoted_spells n s ts None is within below e = cc
 quoted_spells n s ts (Some p) is within below e = quoted_found n s ts p.0 p.1 (until_parts 39 s p.0 p.1 is) within below e
 
-mark_spells : (n b : ℕ) (s : List ℕ) (ts : List Lexeme) → is_mark b ≡ true → length s ≤ n → Below n → tokens_of (b ∷ s) ≡ Some ts → Spells ts (b ∷ s)
+mark_spells : (n b : ℕ) (s : List ℕ) (ts : List Lexeme) → is_mark b ≡ true → length s ≤ n → Below n → tokens_of (b ∷ s) ≡ Some ts → SpellsTokens ts (b ∷ s)
 mark_spells n b s ts is within below e =
     front_spells (b ∷ s) s (mark b) ts (record { blanks = []; front = b ∷ []; whole = refl; are_blanks = refl; written = (refl, is); ends = tt })
     (λ more read. below s more within read) (sym (mark_first b s is) ∙ e)
@@ -172,7 +172,7 @@ word_shorter n b s h within =
     let l : length (drop (span_len is_word_byte (b ∷ s)) (b ∷ s)) ≡ length s - span_len is_word_byte s = ap length (behind_word b s h) ∙ length-drop (span_len is_word_byte s) s in
     omega arith
 
-word_spells : (n b : ℕ) (s : List ℕ) (ts : List Lexeme) → is_word_byte b ≡ true → length s ≤ n → Below n → tokens_of (b ∷ s) ≡ Some ts → Spells ts (b ∷ s)
+word_spells : (n b : ℕ) (s : List ℕ) (ts : List Lexeme) → is_word_byte b ≡ true → length s ≤ n → Below n → tokens_of (b ∷ s) ≡ Some ts → SpellsTokens ts (b ∷ s)
 word_spells n b s ts is within below e =
     let m : ℕ = span_len is_word_byte (b ∷ s) in
     let all = span_all is_word_byte (b ∷ s) in
@@ -182,7 +182,7 @@ word_spells n b s ts is within below e =
     (λ more read. below (drop m (b ∷ s)) more (word_shorter n b s is within) read)
     (sym (cut_word (b ∷ s) (take m (b ∷ s)) (drop m (b ∷ s)) is (take_drop m (b ∷ s)) all ends) ∙ e)
 
-blank_spells : (b : ℕ) (ts : List Lexeme) (s : List ℕ) → is_blank b ≡ true → Spells ts s → Spells ts (b ∷ s)
+blank_spells : (b : ℕ) (ts : List Lexeme) (s : List ℕ) → is_blank b ≡ true → SpellsTokens ts s → SpellsTokens ts (b ∷ s)
 blank_spells b [] s h spells = rw h spells
 blank_spells b (t ∷ ts) s h spells = (
   spells.0,
@@ -198,27 +198,27 @@ blank_spells b (t ∷ ts) s h spells = (
 )
 
 spells_at : (x y z u v : Bool) (n b : ℕ) (s : List ℕ) (ts : List Lexeme) → is_blank b ≡ x → is_mark b ≡ y → is_word_byte b ≡ z → (b == 96) ≡ u → (b == 39) ≡ v
-    → length s ≤ n → Below n → tokens_of (b ∷ s) ≡ Some ts → Spells ts (b ∷ s)
+    → length s ≤ n → Below n → tokens_of (b ∷ s) ≡ Some ts → SpellsTokens ts (b ∷ s)
 spells_at true y z u v n b s ts f g h i j within below e = blank_spells b ts s f (below s ts within (sym (blank_first b s f) ∙ e))
 spells_at false true z u v n b s ts f g h i j within below e = mark_spells n b s ts g within below e
 spells_at false false true u v n b s ts f g h i j within below e = word_spells n b s ts h within below e
 spells_at false false false true v n b s ts f g h i j within below e =
     let byte : b ≡ 96 = same_byte b 96 i in
-    subst (λ (x : ℕ). Spells ts (x ∷ s)) (sym byte) (name_spells n s ts (until 96 s) refl within below (sym (name_first s) ∙ ap (λ x. tokens_of (x ∷ s)) (sym byte) ∙ e))
+    subst (λ (x : ℕ). SpellsTokens ts (x ∷ s)) (sym byte) (name_spells n s ts (until 96 s) refl within below (sym (name_first s) ∙ ap (λ x. tokens_of (x ∷ s)) (sym byte) ∙ e))
 spells_at false false false false true n b s ts f g h i j within below e =
     let byte : b ≡ 39 = same_byte b 39 j in
-    subst (λ (x : ℕ). Spells ts (x ∷ s)) (sym byte) (quoted_spells n s ts (until 39 s) refl within below (sym (quoted_first s) ∙ ap (λ x. tokens_of (x ∷ s)) (sym byte) ∙ e))
+    subst (λ (x : ℕ). SpellsTokens ts (x ∷ s)) (sym byte) (quoted_spells n s ts (until 39 s) refl within below (sym (quoted_first s) ∙ ap (λ x. tokens_of (x ∷ s)) (sym byte) ∙ e))
 spells_at false false false false false n b s ts f g h i j within below e =
     let none : tokens_of (b ∷ s) ≡ None = other_first b s f g h i j in
     let neither : None ≡ Some ts = sym none ∙ e in
     cc
 
-nothing_spells : (ts : List Lexeme) → tokens_of [] ≡ Some ts → Spells ts []
+nothing_spells : (ts : List Lexeme) → tokens_of [] ≡ Some ts → SpellsTokens ts []
 unfolding tokens_of
 nothing_spells [] e = refl
 nothing_spells (t ∷ ts) e = cc
 
-spells_within : (n : ℕ) (text : List ℕ) (ts : List Lexeme) → length text ≤ n → tokens_of text ≡ Some ts → Spells ts text
+spells_within : (n : ℕ) (text : List ℕ) (ts : List Lexeme) → length text ≤ n → tokens_of text ≡ Some ts → SpellsTokens ts text
 spells_within zero [] ts h e = nothing_spells ts e
 spells_within zero (b ∷ s) ts h e = absurd (omega arith)
 spells_within (suc n) [] ts h e = nothing_spells ts e
@@ -226,7 +226,7 @@ spells_within (suc n) (b ∷ s) ts h e =
     let within : length s ≤ n = omega arith in
     spells_at (is_blank b) (is_mark b) (is_word_byte b) (b == 96) (b == 39) n b s ts refl refl refl refl refl within (λ r xs small is. spells_within n r xs small is) e
 
-pub spells_of_read : (text : List ℕ) (ts : List Lexeme) → tokens_of text ≡ Some ts → Spells ts text
+pub spells_of_read : (text : List ℕ) (ts : List Lexeme) → tokens_of text ≡ Some ts → SpellsTokens ts text
 spells_of_read text ts e = spells_within (length text) text ts (omega arith) e
 
 -- ---- the first word
@@ -244,7 +244,7 @@ front_run (b ∷ w) rest h e =
     let parts = all_parts is_word_byte b w h in
     rw parts.0 (ap (λ s. b ∷ s) (front_run w rest parts.1 e))
 
-pub first_word_is : (text w rest : List ℕ) → Begins text (word w) rest → first_word text ≡ w
+pub first_word_is : (text w rest : List ℕ) → BeginsWithToken text (word w) rest → first_word text ≡ w
 first_word_is text [] rest b = absurd (b.written.1 refl)
 first_word_is text (x ∷ w) rest b =
     let parts = all_parts is_word_byte x w b.written.2 in

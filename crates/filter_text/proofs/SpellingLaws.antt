@@ -6,7 +6,7 @@ use Rattle.vindex.specs.KeyspaceId.{vindex_name}
 use Rattle.vindex.specs.declared.vindexes.Vindex.{Vindex}
 use Rattle.vindex.specs.declared.vindexes.Vindex.TheVariants.{Numeric, ReverseBits, Binary, BinaryMd5}
 use Rattle.filter_text.specs.Lexemes.{Lexeme, word, name, quoted, mark, is_word_byte, is_mark}
-use Rattle.filter_text.specs.Tokens.{tokens_of, with_token, IsWritten, EndsAt}
+use Rattle.filter_text.specs.Tokens.{tokens_of, with_token, IsTokenText, EndsAt}
 use Rattle.filter_text.specs.FilterText.{RowsSaid, every_row, in_own_range, in_range_of, selected, Place, key, a_name, in_quotes, a_mark, Fill, condition_places, selection_places, Says, selects}
 use Rattle.filter_text.specs.Spelling.{spelled_place, spelled, IsName, NamesColumn, IsSpelling}
 use Rattle.filter_text.specs.Views.{Reads, meaning}
@@ -35,7 +35,7 @@ abbrev AreFit : List Place → Type 0
 AreFit [] = Unit {0}
 AreFit (place ∷ places) = IsFit place × AreFit places
 
-front_read : (t : Lexeme) (front rest : List ℕ) → IsWritten t front → EndsAt t (32 ∷ rest) → tokens_of ((front ++ 32 ∷ []) ++ rest) ≡ with_token t (tokens_of rest)
+front_read : (t : Lexeme) (front rest : List ℕ) → IsTokenText t front → EndsAt t (32 ∷ rest) → tokens_of ((front ++ 32 ∷ []) ++ rest) ≡ with_token t (tokens_of rest)
 front_read t front rest w e =
     ap tokens_of (append_assoc front (32 ∷ []) rest)
     ∙ written_read t front (32 ∷ rest) w e

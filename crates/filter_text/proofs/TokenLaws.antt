@@ -4,7 +4,7 @@ use Rattle.std.specs.Prelude.{not, ◌≢◌, ◌==◌}
 use Rattle.std.specs.Borrow.{Bor}
 use Rattle.std.specs.List.{list_all}
 use Rattle.filter_text.specs.Lexemes.{Lexeme, word, name, quoted, mark, is_blank, is_word_byte, is_mark}
-use Rattle.filter_text.specs.Tokens.{tokens_of, until, with_token, with_byte, as_name, as_quoted, with_first, nothing_first, begins_in_word}
+use Rattle.filter_text.specs.Tokens.{tokens_of, until, with_token, with_byte, as_name, as_quoted, with_first_byte, nothing_first, begins_in_word}
 use Rattle.std.proofs.lemmas.Str.Pattern.{IsSplitOnceResult, split_parts}
 use Rattle.std.proofs.lemmas.Bool.Decides.{nat_tests}
 use Rattle.filter_text.specs.Private.Cutting.{behind, IsUntil}
@@ -69,7 +69,7 @@ blanks_read (b ∷ blanks) rest h =
 
 -- ---- names and quoted texts
 
-more_behind : (b : ℕ) (front : List ℕ) (o : Option (List Lexeme)) → option_map (with_first b) (option_map (behind front) o) ≡ option_map (behind (b ∷ front)) o
+more_behind : (b : ℕ) (front : List ℕ) (o : Option (List Lexeme)) → option_map (with_first_byte b) (option_map (behind front) o) ≡ option_map (behind (b ∷ front)) o
 more_behind b front None = refl
 more_behind b front (Some ts) = refl
 
@@ -77,7 +77,7 @@ pub until_end : (end : ℕ) (rest : List ℕ) → (end == end) ≡ true → unti
 unfolding until
 until_end end rest h = rw h
 
-pub until_other : (end b : ℕ) (rest : List ℕ) → (b == end) ≡ false → until end (b ∷ rest) ≡ option_map (with_first b) (until end rest)
+pub until_other : (end b : ℕ) (rest : List ℕ) → (b == end) ≡ false → until end (b ∷ rest) ≡ option_map (with_first_byte b) (until end rest)
 unfolding until
 until_other end b rest h = rw h
 
@@ -90,7 +90,7 @@ until_cut end [] rest same h = until_end end rest same
 until_cut end (b ∷ front) rest same h =
     let parts = all_parts (λ b. not (b == end)) b front h in
     until_other end b (front ++ end ∷ rest) (not_true (b == end) parts.0)
-    ∙ ap (option_map (with_first b)) (until_cut end front rest same parts.1)
+    ∙ ap (option_map (with_first_byte b)) (until_cut end front rest same parts.1)
     ∙ more_behind b front (tokens_of rest)
 
 pub until_none : (end : ℕ) (s : List ℕ) → list_all (λ b. not (b == end)) s ≡ true → until end s ≡ None

@@ -7,7 +7,7 @@ use Rattle.vindex.specs.RangeText.{key_range_of_text}
 use Rattle.vindex.specs.KeyspaceId.{vindex_of_name, vindex_name}
 use Rattle.vindex.specs.declared.vindexes.Vindex.{Vindex}
 use Rattle.filter_text.specs.Lexemes.{Lexeme, is_key, is_this_mark, named, text_in_quotes}
-use Rattle.filter_text.specs.Tokens.{Spells, tokens_of, first_word}
+use Rattle.filter_text.specs.Tokens.{SpellsTokens, tokens_of, first_word}
 
 infixl 10 ◌>>=◌
 abbrev pub ◌>>=◌ : {A B : Type 0} → Option A → (A → Option B) → Option B
@@ -21,14 +21,14 @@ pub data RowsSaid : Type 0 where
   in_range_of : List ℕ → Vindex → Bounds → RowsSaid
 
 -- the table that a filter selects from, if it does, and the rows
-pub record Meaning : Type 0 where
+pub record FilterMeaning : Type 0 where
   pub table : Option (List ℕ)
   pub rows : RowsSaid
 
-abbrev pub without_table : RowsSaid → Meaning
+abbrev pub without_table : RowsSaid → FilterMeaning
 without_table rows = record { table = None; rows = rows }
 
-abbrev pub selected : List ℕ → RowsSaid → Meaning
+abbrev pub selected : List ℕ → RowsSaid → FilterMeaning
 selected table rows = record { table = Some table; rows = rows }
 
 -- the first word is `select`
@@ -77,10 +77,10 @@ WritesRange range (in_range_of column vindex bounds) = key_range_of_text range �
 
 -- What a filter's text says. A text whose first word is `select` is read by its tokens, any other that
 -- isn't empty as a key range under the table's own vindex.
-pub data Says (text : List ℕ) (said : Meaning) : Type 0 where
+pub data Says (text : List ℕ) (said : FilterMeaning) : Type 0 where
   says_nothing : text ≡ [] → said ≡ without_table every_row → Says text said
   gives_range : (bounds : Bounds) → text ≢ [] → begins_with_select text ≡ false → key_range_of_text text ≡ Some bounds → said ≡ without_table (in_own_range bounds) → Says text said
-  selects : (tokens : List Lexeme) (table range : List ℕ) (rows : RowsSaid) → Spells tokens text → Fill tokens (selection_places table range rows) → WritesRange range rows → said ≡ selected table rows → Says text said
+  selects : (tokens : List Lexeme) (table range : List ℕ) (rows : RowsSaid) → SpellsTokens tokens text → Fill tokens (selection_places table range rows) → WritesRange range rows → said ≡ selected table rows → Says text said
 
 -- ---- what tokens and texts say
 
@@ -91,8 +91,8 @@ abbrev pub vindex_in : Lexeme → Option Vindex
 vindex_in token = text_in_quotes token >>= vindex_of_name
 
 -- `'range')`
-abbrev pub own_rows : Lexeme → Lexeme → Option RowsSaid
-own_rows range close = if is_this_mark 41 close then option_map in_own_range (range_in range) else None
+abbrev pub rows_of_own_range : Lexeme → Lexeme → Option RowsSaid
+rows_of_own_range range close = if is_this_mark 41 close then option_map in_own_range (range_in range) else None
 
 -- the column, the vindex and the range of `column, 'vindex', 'range')`, and its marks
 abbrev pub named_rows : Lexeme → Lexeme → Lexeme → Option RowsSaid
@@ -107,7 +107,7 @@ are_between comma second close = is_this_mark 44 comma && is_this_mark 44 second
 
 -- the arguments of `in_keyrange`
 unfoldable pub arguments_of : List Lexeme → Option RowsSaid
-arguments_of (range ∷ close ∷ []) = own_rows range close
+arguments_of (range ∷ close ∷ []) = rows_of_own_range range close
 arguments_of (column ∷ comma ∷ vindex ∷ second ∷ range ∷ close ∷ []) = if are_between comma second close then named_rows column vindex range else None
 arguments_of _ = None
 
@@ -125,19 +125,19 @@ rows_of _ = None
 abbrev pub opens_selection : Lexeme → Lexeme → Lexeme → Bool
 opens_selection first star from = is_key (codes "select") first && is_this_mark 42 star && is_key (codes "from") from
 
-abbrev pub table_rows : Lexeme → List Lexeme → Option Meaning
+abbrev pub table_rows : Lexeme → List Lexeme → Option FilterMeaning
 table_rows table rest = do
   t ← named table
   rows ← rows_of rest
   Some (selected t rows)
 
 -- the selection that tokens write
-unfoldable pub selection_of : List Lexeme → Option Meaning
+unfoldable pub selection_of : List Lexeme → Option FilterMeaning
 selection_of (first ∷ star ∷ from ∷ table ∷ rest) = if opens_selection first star from then table_rows table rest else None
 selection_of _ = None
 
 -- what a text says
-unfoldable pub filter_of : List ℕ → Option Meaning
+unfoldable pub filter_of : List ℕ → Option FilterMeaning
 filter_of text =
     if length text == 0 then Some (without_table every_row)
     else if begins_with_select text then tokens_of text >>= selection_of

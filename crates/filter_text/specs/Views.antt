@@ -1,7 +1,7 @@
 -- What the types of this crate are, apart from where their texts lie, and what a call's answer means.
 use Rattle.std.specs.Prelude.{◌≡◌, Option, Some, None, Result, Ok, Err, option_map, IsSome}
 use Rattle.filter_text.specs.Lexemes.{Lexeme, word, name, quoted, mark}
-use Rattle.filter_text.specs.FilterText.{RowsSaid, every_row, in_own_range, in_range_of, Meaning}
+use Rattle.filter_text.specs.FilterText.{RowsSaid, every_row, in_own_range, in_range_of, FilterMeaning}
 use Rattle.filter_text.specs.RuleScope.{TablesSaid, every_table, one_table}
 use Rattle.filter_text.specs.declared.token.Token.{Token}
 use Rattle.filter_text.specs.declared.token.Token.TheVariants.{Word, Name, Quoted, Mark}
@@ -25,7 +25,7 @@ rows_said (OwnVindex range) = in_own_range range
 rows_said (Named column vindex range) = in_range_of column.now vindex range
 
 -- what a filter that was read says
-abbrev pub meaning : Filter → Meaning
+abbrev pub meaning : Filter → FilterMeaning
 meaning filter = record { table = option_map (λ t. t.now) filter.table; rows = rows_said filter.rows }
 
 abbrev pub scope_said : Scope → TablesSaid

@@ -1,7 +1,7 @@
 //! What a filter's text says.
 
 ghost use Rattle.std.specs.Prelude.{◌≡◌, ℕ, List, IfOk, Some};
-ghost use Rattle.filter_text.specs.FilterText.{RowsSaid, Meaning, selected, Says, begins_with_select, filter_of};
+ghost use Rattle.filter_text.specs.FilterText.{RowsSaid, FilterMeaning, selected, Says, begins_with_select, filter_of};
 ghost use Rattle.filter_text.specs.Spelling.{IsSpelling};
 ghost use Rattle.filter_text.specs.Views.{Reads, meaning};
 
@@ -60,7 +60,7 @@ impl<'t> Filter<'t> {
         // What is read is what the text says.
         ensures says { IfOk result (λ filter. Says text.now (meaning filter)) }
         // What a text says is read, unless memory ran out; what says nothing is refused as such.
-        ensures only { (said : Meaning) → Says text.now said → Reads meaning result (Some said) }
+        ensures only { (said : FilterMeaning) → Says text.now said → Reads meaning result (Some said) }
         // Each selection has a text, and that text is read as it.
         ensures spelled { (table range : List ℕ) (rows : RowsSaid)
             → IsSpelling text.now table range rows → Reads meaning result (Some (selected table rows)) }

@@ -2,7 +2,7 @@
 
 ghost use Rattle.std.specs.Prelude.{◌≡◌, map, option_map};
 ghost use Rattle.vindex.specs.RangeText.{key_range_of_text};
-ghost use Rattle.filter_text.specs.FilterText.{range_in, vindex_in, own_rows, named_rows, are_between, arguments_of, table_rows, opens_condition, rows_of, opens_selection, selection_of};
+ghost use Rattle.filter_text.specs.FilterText.{range_in, vindex_in, rows_of_own_range, named_rows, are_between, arguments_of, table_rows, opens_condition, rows_of, opens_selection, selection_of};
 ghost use Rattle.filter_text.specs.Lexemes.{named, text_in_quotes};
 ghost use Rattle.filter_text.specs.Views.{Reads, lexeme, rows_said, meaning};
 
@@ -46,7 +46,7 @@ fn own_rows<'t>(
     range: &Token<'t>,
     close: &Token<'t>,
 ) -> Result<Rows<'t>, FilterFault>
-    ensures { Reads rows_said result (own_rows (lexeme range.now) (lexeme close.now)) }
+    ensures { Reads rows_said result (rows_of_own_range (lexeme range.now) (lexeme close.now)) }
 {
     if !close.is_mark(b')') {
         return Err(FilterFault::BadForm);

@@ -4,7 +4,7 @@ use Rattle.std.specs.List.{insert, remove}
 use Rattle.std.proofs.lemmas.Bool.{cond-true, cond-false, or_from}
 use Rattle.std.proofs.lemmas.Bool.Decides.{nat_tests}
 use Rattle.gtid_set.specs.declared.interval.Interval.{Interval}
-use Rattle.gtid_set.specs.Position.{holds, has, ends_before, hull, joined, IsInterval, IsCanonical, StandsApart}
+use Rattle.gtid_set.specs.Position.{holds, has, ends_before, hull, with_interval, IsInterval, IsCanonical, StandsApart}
 use Rattle.gtid_set.specs.Inner.Order.{AllEndBefore, wider, merged_front, widened}
 use Rattle.gtid_set.proofs.Joined.{joined-front, joined-place, joined-merge, one_uuid, all_end-trans}
 use Rattle.gtid_set.proofs.Same.{same_interval, not_behind}
@@ -14,7 +14,7 @@ use Rattle.gtid_set.proofs.Same.{same_interval, not_behind}
 not_both : (a b : Interval) → IsInterval a → IsInterval b → ends_before a b ≡ true → ends_before b a ≡ false
 not_both a b ia ib e = let h = ia.holds_first in let k = ib.holds_first in grind (arith, nat_tests)
 
-pub insert-joined : (s : List Interval) (place : ℕ) (new : Interval) → place ≤ length s → IsCanonical s → IsInterval new → AllEndBefore new (take place s) → (place < length s → (d : Interval) → ends_before new (get_or s place d) ≡ true) → insert s place new ≡ joined s new
+pub insert-joined : (s : List Interval) (place : ℕ) (new : Interval) → place ≤ length s → IsCanonical s → IsInterval new → AllEndBefore new (take place s) → (place < length s → (d : Interval) → ends_before new (get_or s place d) ≡ true) → insert s place new ≡ with_interval s new
 insert-joined [] zero new le c one all next = refl
 insert-joined [] (suc place) new le c one all next = absurd (omega arith)
 insert-joined (x ∷ s) zero new le c one all next =
@@ -57,7 +57,7 @@ not_ends_behind : (x y z : Interval) (number : ℕ) → Touches x y number → I
 not_ends_behind x y z number t one f =
     let b = t.behind in let h = t.first_one.holds_first in let k = t.second_one.holds_first in let l = one.holds_first in grind (arith, nat_tests)
 
-joined-merged_front : (x : Interval) (s : List Interval) (number : ℕ) → IsCanonical (x ∷ s) → number ≤ x.last + 1 → joined s (wider x number) ≡ merged_front (wider x number) s
+joined-merged_front : (x : Interval) (s : List Interval) (number : ℕ) → IsCanonical (x ∷ s) → number ≤ x.last + 1 → with_interval s (wider x number) ≡ merged_front (wider x number) s
 joined-merged_front x [] number c near = refl
 joined-merged_front x (y ∷ s) number c near =
     let t : Touches x y number = record { behind = c.1.0; near = near; first_one = c.0; second_one = c.2.0 } in
@@ -66,16 +66,16 @@ joined-merged_front x (y ∷ s) number c near =
     by_test (ends_before w y) refl t out
   where
     last_part : (x y : Interval) (s : List Interval) (number : ℕ) → Touches x y number → IsCanonical (y ∷ s) → ends_before (wider x number) y ≡ false
-        → joined s (record { uuid = x.uuid; first = min x.first number; last = y.last }) ≡ record { uuid = x.uuid; first = min x.first number; last = y.last } ∷ s
+        → with_interval s (record { uuid = x.uuid; first = min x.first number; last = y.last }) ≡ record { uuid = x.uuid; first = min x.first number; last = y.last } ∷ s
     last_part x y [] number t c e = refl
     last_part x y (z ∷ s) number t c e =
         joined-place z s (record { uuid = x.uuid; first = min x.first number; last = y.last }) (not_ends_behind x y z number t c.2.0 c.1.0) (ends_behind x y z number t e c.1.0)
 
-    by_test : (b : Bool) → ends_before (wider x number) y ≡ b → Touches x y number → ends_before y (wider x number) ≡ false → joined (y ∷ s) (wider x number) ≡ merged_front (wider x number) (y ∷ s)
+    by_test : (b : Bool) → ends_before (wider x number) y ≡ b → Touches x y number → ends_before y (wider x number) ≡ false → with_interval (y ∷ s) (wider x number) ≡ merged_front (wider x number) (y ∷ s)
     by_test true e t out = joined-place y s (wider x number) out e ∙ sym (cond-true (ends_before (wider x number) y) _ _ e)
     by_test false e t out =
         joined-merge y s (wider x number) out e
-        ∙ ap (λ h. joined s h) (hull-next x y number t e)
+        ∙ ap (λ h. with_interval s h) (hull-next x y number t e)
         ∙ last_part x y s number t c.2 e
         ∙ sym (cond-false (ends_before (wider x number) y) _ _ e)
 
@@ -83,13 +83,13 @@ near_enough : (x : Interval) (uuid number : ℕ) → ends_before x (pair_at uuid
 near_enough x uuid number e f = grind (arith, nat_tests)
 
 pub widened-joined : (s : List Interval) (place uuid number : ℕ) (x : Interval) → place < length s → x ≡ get_or s place x → IsCanonical s → AllEndBefore (pair_at uuid number) (take place s)
-    → ends_before x (pair_at uuid number) ≡ false → ends_before (pair_at uuid number) x ≡ false → widened s place number ≡ joined s (pair_at uuid number)
+    → ends_before x (pair_at uuid number) ≡ false → ends_before (pair_at uuid number) x ≡ false → widened s place number ≡ with_interval s (pair_at uuid number)
 widened-joined [] place uuid number x lt at c all e f = absurd (omega arith)
 widened-joined (y ∷ s) zero uuid number x lt at c all e f =
     let e' : ends_before y (pair_at uuid number) ≡ false = subst (λ (i : Interval). ends_before i (pair_at uuid number) ≡ false) at e in
     let f' : ends_before (pair_at uuid number) y ≡ false = subst (λ (i : Interval). ends_before (pair_at uuid number) i ≡ false) at f in
     sym (joined-merged_front y s number c (near_enough y uuid number e' f'))
-    ∙ sym (joined-merge y s (pair_at uuid number) e' f' ∙ ap (λ h. joined s h) (hull-wider y uuid number e' f'))
+    ∙ sym (joined-merge y s (pair_at uuid number) e' f' ∙ ap (λ h. with_interval s h) (hull-wider y uuid number e' f'))
 widened-joined (y ∷ s) (suc place) uuid number x lt at c all e f =
     ap (λ t. y ∷ t) (widened-joined s place uuid number x (omega arith) at c.2 all.1 e f)
     ∙ sym (joined-front y s (pair_at uuid number) all.0)

@@ -6,42 +6,42 @@ use Rattle.std.proofs.lemmas.Bool.{or_from}
 use Rattle.std.proofs.lemmas.Bool.Decides.{nat_tests}
 use Rattle.std.proofs.lemmas.List.{take-append-drop, take_all}
 use Rattle.gtid_set.specs.declared.interval.Interval.{Interval}
-use Rattle.gtid_set.specs.Position.{ends_before, covers, IsInterval, IsCanonical}
+use Rattle.gtid_set.specs.Position.{ends_before, holds_interval, IsInterval, IsCanonical}
 use Rattle.gtid_set.specs.Inner.Order.{AllEndBefore}
 use Rattle.gtid_set.proofs.IntervalFacts.{ends-trans}
 use Rattle.gtid_set.proofs.Joined.{AllEnd, canonical-intervals}
 use Rattle.gtid_set.proofs.Merging.{drop-front, canonical-drop, interval-at}
 
 abbrev pub covered_by : Interval → List Interval → Bool
-covered_by x set = list_any (λ j. covers j x) set
+covered_by x set = list_any (λ j. holds_interval j x) set
 
-not_covering : (j x : Interval) → x.first ≤ x.last → ends_before j x ≡ true → covers j x ≡ false
+not_covering : (j x : Interval) → x.first ≤ x.last → ends_before j x ≡ true → holds_interval j x ≡ false
 not_covering j x some e = grind (arith, nat_tests)
 
 none-before : (front back : List Interval) (x : Interval) → x.first ≤ x.last → AllEndBefore x front → covered_by x (front ++ back) ≡ covered_by x back
 none-before [] back x some all = refl
 none-before (j ∷ front) back x some all = ap (λ b. b || covered_by x (front ++ back)) (not_covering j x some all.0) ∙ none-before front back x some all.1
 
-not_later : (j k x : Interval) → ends_before j k ≡ true → ends_before j x ≡ false → covers k x ≡ false
+not_later : (j k x : Interval) → ends_before j k ≡ true → ends_before j x ≡ false → holds_interval k x ≡ false
 not_later j k x e f = grind (arith, nat_tests)
 
 none-behind : (j : Interval) (later : List Interval) (x : Interval) → AllEnd j later → ends_before j x ≡ false → covered_by x later ≡ false
 none-behind j [] x all e = refl
-none-behind j (k ∷ later) x all e = or_from (covers k x) (covered_by x later) (not_later j k x all.0 e) (none-behind j later x all.1 e)
+none-behind j (k ∷ later) x all e = or_from (holds_interval k x) (covered_by x later) (not_later j k x all.0 e) (none-behind j later x all.1 e)
 
 or_nothing : (a b : Bool) → b ≡ false → (a || b) ≡ a
 or_nothing true b e = refl
 or_nothing false b e = e
 
 pub covered-at : (set : List Interval) (k : ℕ) (j x : Interval) → k < length set → j ≡ get_or set k j → IsCanonical set → x.first ≤ x.last → AllEndBefore x (take k set) → ends_before j x ≡ false
-    → covered_by x set ≡ covers j x
+    → covered_by x set ≡ holds_interval j x
 covered-at set k j x lt e c some all not_ends =
     let d = drop-front set k j lt e in
     let rest : IsCanonical (j ∷ drop (k + 1) set) = rw d at (canonical-drop k set c) in
     ap (λ s. covered_by x s) (sym (take-append-drop k set))
     ∙ none-before (take k set) (drop k set) x some all
     ∙ ap (λ s. covered_by x s) d
-    ∙ or_nothing (covers j x) (covered_by x (drop (k + 1) set)) (none-behind j (drop (k + 1) set) x rest.1 not_ends)
+    ∙ or_nothing (holds_interval j x) (covered_by x (drop (k + 1) set)) (none-behind j (drop (k + 1) set) x rest.1 not_ends)
 
 pub covered-nowhere : (set : List Interval) (k : ℕ) (x : Interval) → length set ≤ k → x.first ≤ x.last → AllEndBefore x (take k set) → covered_by x set ≡ false
 covered-nowhere set k x le some all =
@@ -50,7 +50,7 @@ covered-nowhere set k x le some all =
   where
     nowhere : (set : List Interval) (x : Interval) → x.first ≤ x.last → AllEndBefore x set → covered_by x set ≡ false
     nowhere [] x some all = refl
-    nowhere (j ∷ set) x some all = or_from (covers j x) (covered_by x set) (not_covering j x some all.0) (nowhere set x some all.1)
+    nowhere (j ∷ set) x some all = or_from (holds_interval j x) (covered_by x set) (not_covering j x some all.0) (nowhere set x some all.1)
 
 -- ---- the intervals that were passed end before all later ones
 

@@ -4,27 +4,27 @@ use Rattle.std.specs.List.{AllByRecursion}
 use Rattle.std.proofs.lemmas.Bool.{cases_Bool, cond-true, cond-false}
 use Rattle.std.proofs.lemmas.Bool.Decides.{nat_tests}
 use Rattle.gtid_set.specs.declared.interval.Interval.{Interval}
-use Rattle.gtid_set.specs.Position.{holds, has, ends_before, hull, joined, union_of, IsInterval, IsCanonical}
+use Rattle.gtid_set.specs.Position.{holds, has, ends_before, hull, with_interval, union_of, IsInterval, IsCanonical}
 use Rattle.gtid_set.proofs.IntervalFacts.{holds-hull, ends-trans}
 
 -- ---- the three cases
 
-pub joined-front : (x : Interval) (s : List Interval) (i : Interval) → ends_before x i ≡ true → joined (x ∷ s) i ≡ x ∷ joined s i
+pub joined-front : (x : Interval) (s : List Interval) (i : Interval) → ends_before x i ≡ true → with_interval (x ∷ s) i ≡ x ∷ with_interval s i
 joined-front x s i e = cond-true (ends_before x i) _ _ e
 
-pub joined-place : (x : Interval) (s : List Interval) (i : Interval) → ends_before x i ≡ false → ends_before i x ≡ true → joined (x ∷ s) i ≡ i ∷ x ∷ s
+pub joined-place : (x : Interval) (s : List Interval) (i : Interval) → ends_before x i ≡ false → ends_before i x ≡ true → with_interval (x ∷ s) i ≡ i ∷ x ∷ s
 joined-place x s i e f = cond-false (ends_before x i) _ _ e ∙ cond-true (ends_before i x) _ _ f
 
-pub joined-merge : (x : Interval) (s : List Interval) (i : Interval) → ends_before x i ≡ false → ends_before i x ≡ false → joined (x ∷ s) i ≡ joined s (hull i x)
+pub joined-merge : (x : Interval) (s : List Interval) (i : Interval) → ends_before x i ≡ false → ends_before i x ≡ false → with_interval (x ∷ s) i ≡ with_interval s (hull i x)
 joined-merge x s i e f = cond-false (ends_before x i) _ _ e ∙ cond-false (ends_before i x) _ _ f
 
 -- a fact of what is joined, from the three cases
 pub by_joined : (P : List Interval → Interval → List Interval → Type 0)
     → ((i : Interval) → P [] i (i ∷ []))
-    → ((x : Interval) (s : List Interval) (i : Interval) → ends_before x i ≡ true → P s i (joined s i) → P (x ∷ s) i (x ∷ joined s i))
+    → ((x : Interval) (s : List Interval) (i : Interval) → ends_before x i ≡ true → P s i (with_interval s i) → P (x ∷ s) i (x ∷ with_interval s i))
     → ((x : Interval) (s : List Interval) (i : Interval) → ends_before x i ≡ false → ends_before i x ≡ true → P (x ∷ s) i (i ∷ x ∷ s))
-    → ((x : Interval) (s : List Interval) (i : Interval) → ends_before x i ≡ false → ends_before i x ≡ false → P s (hull i x) (joined s (hull i x)) → P (x ∷ s) i (joined s (hull i x)))
-    → (s : List Interval) (i : Interval) → P s i (joined s i)
+    → ((x : Interval) (s : List Interval) (i : Interval) → ends_before x i ≡ false → ends_before i x ≡ false → P s (hull i x) (with_interval s (hull i x)) → P (x ∷ s) i (with_interval s (hull i x)))
+    → (s : List Interval) (i : Interval) → P s i (with_interval s i)
 by_joined P none front place merge [] i = none i
 by_joined P none front place merge (x ∷ s) i =
     elim (cases_Bool (ends_before x i)) [
@@ -52,7 +52,7 @@ or_over true false c = refl
 or_over false true c = refl
 or_over false false c = refl
 
-pub has-joined : (s : List Interval) (i : Interval) (u n : ℕ) → AllByRecursion IsInterval s → IsInterval i → has (joined s i) u n ≡ (holds i u n || has s u n)
+pub has-joined : (s : List Interval) (i : Interval) (u n : ℕ) → AllByRecursion IsInterval s → IsInterval i → has (with_interval s i) u n ≡ (holds i u n || has s u n)
 has-joined s i u n each one =
     by_joined (λ s i j. AllByRecursion IsInterval s → IsInterval i → has j u n ≡ (holds i u n || has s u n))
     (λ i each one. refl)
@@ -64,7 +64,7 @@ has-joined s i u n each one =
     ∙ or_swap (holds x u n) (holds i u n) (has s u n))
     s i each one
 
-pub joined-intervals : (s : List Interval) (i : Interval) → AllByRecursion IsInterval s → IsInterval i → AllByRecursion IsInterval (joined s i)
+pub joined-intervals : (s : List Interval) (i : Interval) → AllByRecursion IsInterval s → IsInterval i → AllByRecursion IsInterval (with_interval s i)
 joined-intervals s i each one =
     by_joined (λ s i j. AllByRecursion IsInterval s → IsInterval i → AllByRecursion IsInterval j)
     (λ i each one. (one, tt))
@@ -89,7 +89,7 @@ one_uuid a b p q = grind (arith, nat_tests)
 pub ends-hull : (a b c : Interval) → b.uuid ≡ c.uuid → ends_before a b ≡ true → ends_before a c ≡ true → ends_before a (hull b c) ≡ true
 ends-hull a b c same p q = grind (arith, nat_tests)
 
-pub all_end-joined : (x : Interval) (s : List Interval) (i : Interval) → AllEnd x s → ends_before x i ≡ true → AllEnd x (joined s i)
+pub all_end-joined : (x : Interval) (s : List Interval) (i : Interval) → AllEnd x s → ends_before x i ≡ true → AllEnd x (with_interval s i)
 all_end-joined x s i all e =
     by_joined (λ s i j. AllEnd x s → ends_before x i ≡ true → AllEnd x j)
     (λ i all e. (e, tt))
@@ -102,7 +102,7 @@ pub all_end-trans : (x y : Interval) (s : List Interval) → IsInterval y → en
 all_end-trans x y [] one e all = tt
 all_end-trans x y (z ∷ s) one e all = (ends-trans x y z one e all.0, all_end-trans x y s one e all.1)
 
-pub joined-canonical : (s : List Interval) (i : Interval) → IsCanonical s → IsInterval i → IsCanonical (joined s i)
+pub joined-canonical : (s : List Interval) (i : Interval) → IsCanonical s → IsInterval i → IsCanonical (with_interval s i)
 joined-canonical s i c one =
     by_joined (λ s i j. IsCanonical s → IsInterval i → IsCanonical j)
     (λ i c one. (one, tt, tt))
@@ -115,7 +115,7 @@ joined-canonical s i c one =
 
 pub union-canonical : (s more : List Interval) → IsCanonical s → AllByRecursion IsInterval more → IsCanonical (union_of s more)
 union-canonical s [] c each = c
-union-canonical s (i ∷ more) c each = union-canonical (joined s i) more (joined-canonical s i c each.0) each.1
+union-canonical s (i ∷ more) c each = union-canonical (with_interval s i) more (joined-canonical s i c each.0) each.1
 
 pub has-union_of : (s more : List Interval) (u n : ℕ) → AllByRecursion IsInterval s → AllByRecursion IsInterval more → has (union_of s more) u n ≡ (has s u n || has more u n)
 has-union_of s [] u n all each = sym (or_nothing (has s u n))
@@ -124,6 +124,6 @@ has-union_of s [] u n all each = sym (or_nothing (has s u n))
     or_nothing true = refl
     or_nothing false = refl
 has-union_of s (i ∷ more) u n all each =
-    has-union_of (joined s i) more u n (joined-intervals s i all each.0) each.1
+    has-union_of (with_interval s i) more u n (joined-intervals s i all each.0) each.1
     ∙ ap (λ b. b || has more u n) (has-joined s i u n all each.0)
     ∙ or_swap (holds i u n) (has s u n) (has more u n)

@@ -4,8 +4,8 @@ use Rattle.std.specs.List.{AllByRecursion}
 use Rattle.std.proofs.lemmas.Bool.Decides.{nat_tests}
 use Rattle.std.proofs.lemmas.List.{drop-drop, get_or-drop}
 use Rattle.gtid_set.specs.declared.interval.Interval.{Interval}
-use Rattle.gtid_set.specs.Position.{holds, has, ends_before, starts_by, hull, joined, union_of, IsInterval, IsCanonical}
-use Rattle.gtid_set.specs.Inner.Order.{AllStartBy, AllStartOver, IsRising}
+use Rattle.gtid_set.specs.Position.{holds, has, ends_before, starts_by, hull, with_interval, union_of, IsInterval, IsCanonical}
+use Rattle.gtid_set.specs.Inner.Order.{AllStartBy, AllStartOver, IsRisingByStart}
 use Rattle.gtid_set.proofs.Joined.{AllEnd, by_joined, one_uuid, has-joined, joined-canonical, canonical-intervals}
 use Rattle.gtid_set.proofs.Same.{equal_sets}
 use Rattle.gtid_set.proofs.Within.{union-pairs, canonical-union}
@@ -13,7 +13,7 @@ use Rattle.gtid_set.proofs.Within.{union-pairs, canonical-union}
 starts-hull : (a b y : Interval) → a.uuid ≡ b.uuid → starts_by a y ≡ true → starts_by b y ≡ true → starts_by (hull a b) y ≡ true
 starts-hull a b y same p q = grind (arith, nat_tests)
 
-pub start-joined : (y : Interval) (s : List Interval) (i : Interval) → AllStartBy y s → starts_by i y ≡ true → AllStartBy y (joined s i)
+pub start-joined : (y : Interval) (s : List Interval) (i : Interval) → AllStartBy y s → starts_by i y ≡ true → AllStartBy y (with_interval s i)
 start-joined y s i all e =
     by_joined (λ s i j. AllStartBy y s → starts_by i y ≡ true → AllStartBy y j)
     (λ i all e. (e, tt))
@@ -26,7 +26,7 @@ start-joined y s i all e =
 abbrev pub StartsAll : Interval → List Interval → Type 0
 StartsAll x list = AllByRecursion (λ y. IsTrue (starts_by x y)) list
 
-pub over-joined : (s : List Interval) (x : Interval) (list : List Interval) → AllStartOver s list → StartsAll x list → AllStartOver (joined s x) list
+pub over-joined : (s : List Interval) (x : Interval) (list : List Interval) → AllStartOver s list → StartsAll x list → AllStartOver (with_interval s x) list
 over-joined s x [] over starts = tt
 over-joined s x (y ∷ list) over starts = (start-joined y s x over.0 starts.0, over-joined s x list over.1 starts.1)
 
@@ -37,7 +37,7 @@ StartsAll-ends : (x : Interval) (s : List Interval) → IsInterval x → AllEnd 
 StartsAll-ends x [] one all = tt
 StartsAll-ends x (y ∷ s) one all = (starts-ends x y one all.0, StartsAll-ends x s one all.1)
 
-pub canonical-rising : (s : List Interval) → IsCanonical s → IsRising s
+pub canonical-rising : (s : List Interval) → IsCanonical s → IsRisingByStart s
 canonical-rising [] c = tt
 canonical-rising (x ∷ s) c = (StartsAll-ends x s c.0 c.1, canonical-rising s c.2)
 
@@ -65,7 +65,7 @@ intervals-drop zero s each = each
 intervals-drop (suc k) [] each = tt
 intervals-drop (suc k) (x ∷ s) each = intervals-drop k s each.1
 
-pub rising-drop : (k : ℕ) (s : List Interval) → IsRising s → IsRising (drop k s)
+pub rising-drop : (k : ℕ) (s : List Interval) → IsRisingByStart s → IsRisingByStart (drop k s)
 rising-drop zero s up = up
 rising-drop (suc k) [] up = tt
 rising-drop (suc k) (x ∷ s) up = rising-drop k s up.1
@@ -81,17 +81,17 @@ pub record Next (new list : List Interval) : Type 0 where
   pub canonical : IsCanonical new
   pub starts : AllStartOver new list
 
-next-front : (set : List Interval) (x : Interval) (list : List Interval) → IsCanonical set → IsInterval x → IsRising (x ∷ list) → AllStartOver set (x ∷ list) → Next (joined set x) list
+next-front : (set : List Interval) (x : Interval) (list : List Interval) → IsCanonical set → IsInterval x → IsRisingByStart (x ∷ list) → AllStartOver set (x ∷ list) → Next (with_interval set x) list
 next-front set x list c one up over = record { canonical = joined-canonical set x c one; starts = over-joined set x list over.1 up.0 }
 
-pub next_of : (set rising new : List Interval) (k : ℕ) (x : Interval) → k < length rising → x ≡ get_or rising k x → IsCanonical set → AllByRecursion IsInterval rising → IsRising rising → AllStartOver set (drop k rising) → new ≡ joined set x
+pub next_of : (set rising new : List Interval) (k : ℕ) (x : Interval) → k < length rising → x ≡ get_or rising k x → IsCanonical set → AllByRecursion IsInterval rising → IsRisingByStart rising → AllStartOver set (drop k rising) → new ≡ with_interval set x
     → Next new (drop (k + 1) rising) × (union_of new (drop (k + 1) rising) ≡ union_of set (drop k rising))
 next_of set rising new k x lt e c each up over is =
     let d = drop-front rising k x lt e in
     let one : AllByRecursion IsInterval (x ∷ drop (k + 1) rising) = rw d at (intervals-drop k rising each) in
-    let rise : IsRising (x ∷ drop (k + 1) rising) = rw d at (rising-drop k rising up) in
+    let rise : IsRisingByStart (x ∷ drop (k + 1) rising) = rw d at (rising-drop k rising up) in
     let start : AllStartOver set (x ∷ drop (k + 1) rising) = rw d at over in
-    let next : Next (joined set x) (drop (k + 1) rising) = next-front set x (drop (k + 1) rising) c one.0 rise start in
+    let next : Next (with_interval set x) (drop (k + 1) rising) = next-front set x (drop (k + 1) rising) c one.0 rise start in
     (rw is next, rw (d, is) refl)
 
 pub interval-at : (s : List Interval) (k : ℕ) (d : Interval) → k < length s → AllByRecursion IsInterval s → IsInterval (get_or s k d)
@@ -140,7 +140,7 @@ regroup true true c d = refl
 regroup true false c d = refl
 regroup false b c d = refl
 
-merged-front : (both : List Interval) (x : Interval) (one other : List Interval) → IsCanonical both → IsCanonical (x ∷ one) → AllStartOver both (x ∷ one) → AllStartOver both other → StartsAll x other → Merged both (x ∷ one) other (joined both x) one other
+merged-front : (both : List Interval) (x : Interval) (one other : List Interval) → IsCanonical both → IsCanonical (x ∷ one) → AllStartOver both (x ∷ one) → AllStartOver both other → StartsAll x other → Merged both (x ∷ one) other (with_interval both x) one other
 merged-front both x one other c d over_one over_other first = record {
   canonical = joined-canonical both x c d.0;
   starts_one = over-joined both x one over_one.1 (canonical-rising (x ∷ one) d).0;
@@ -151,16 +151,16 @@ merged-front both x one other c d over_one over_other first = record {
 }
 
 pub merged-one : (both one other new : List Interval) (i j : ℕ) (x y : Interval) → i < length one → j < length other → x ≡ get_or one i x → y ≡ get_or other j y
-    → IsCanonical both → IsCanonical one → IsCanonical other → AllStartOver both (drop i one) → AllStartOver both (drop j other) → starts_by x y ≡ true → new ≡ joined both x
+    → IsCanonical both → IsCanonical one → IsCanonical other → AllStartOver both (drop i one) → AllStartOver both (drop j other) → starts_by x y ≡ true → new ≡ with_interval both x
     → Merged both (drop i one) (drop j other) new (drop (i + 1) one) (drop j other)
 merged-one both one other new i j x y lt lt' e e' c d f over_one over_other first is =
     let p = drop-front one i x lt e in
     let q = drop-front other j y lt' e' in
     let rest : IsCanonical (x ∷ drop (i + 1) one) = rw p at (canonical-drop i one d) in
     let start : AllStartOver both (x ∷ drop (i + 1) one) = rw p at over_one in
-    let behind : IsRising (y ∷ drop (j + 1) other) = rw q at (canonical-rising (drop j other) (canonical-drop j other f)) in
+    let behind : IsRisingByStart (y ∷ drop (j + 1) other) = rw q at (canonical-rising (drop j other) (canonical-drop j other f)) in
     let all : StartsAll x (drop j other) = rw q (first, StartsAll-trans x y (drop (j + 1) other) first behind.0) in
-    let made : Merged both (x ∷ drop (i + 1) one) (drop j other) (joined both x) (drop (i + 1) one) (drop j other) = merged-front both x (drop (i + 1) one) (drop j other) c rest start over_other all in
+    let made : Merged both (x ∷ drop (i + 1) one) (drop j other) (with_interval both x) (drop (i + 1) one) (drop j other) = merged-front both x (drop (i + 1) one) (drop j other) c rest start over_other all in
     rw (is, p) made
 
 or_comm_behind : (a b c : Bool) → (a || (b || c)) ≡ (a || (c || b))

@@ -15,7 +15,7 @@ use Rattle.gtid_set.specs.declared.fault.GtidFault.{GtidFault}
 use Rattle.gtid_set.specs.declared.fault.GtidFault.TheVariants.{BadNumber, Syntax}
 use Rattle.outcome.specs.Outcome.{◌>>=◌}
 use Rattle.gtid_set.specs.Position.{holds, starts_by, last_number, IsInterval, SamePairs, union_of}
-use Rattle.gtid_set.specs.Inner.Order.{IsRising}
+use Rattle.gtid_set.specs.Inner.Order.{IsRisingByStart}
 use Rattle.gtid_set.specs.Blank.{trimmed, cut, parts_between}
 use Rattle.gtid_set.specs.Digits.{hex_digit_of, number_behind, decimal_of, is_hyphenated, uuid_of}
 use Rattle.gtid_set.specs.Text.{all_of, number_from, upper_from, interval_list, intervals_of_piece, intervals_behind, intervals_for, intervals_of_part, without_flavor, intervals_of_text}
@@ -213,11 +213,11 @@ interval_cmp a b = ordering_then (nat_cmp a.uuid b.uuid) (ordering_then (nat_cmp
 starts-sorted : (a b : Interval) → is_lt (interval_cmp b a) ≡ false → starts_by a b ≡ true
 starts-sorted a b e = grind (arith, nat_tests)
 
-pub sorted-rising : (s : List Interval) → IsSortedBy (λ a b. is_lt (interval_cmp a b)) s → IsRising s
+pub sorted-rising : (s : List Interval) → IsSortedBy (λ a b. is_lt (interval_cmp a b)) s → IsRisingByStart s
 sorted-rising [] h = tt
 sorted-rising (a ∷ []) h = (tt, tt)
 sorted-rising (a ∷ b ∷ s) h =
-    let rest : IsRising (b ∷ s) = sorted-rising (b ∷ s) (λ k d low high.
+    let rest : IsRisingByStart (b ∷ s) = sorted-rising (b ∷ s) (λ k d low high.
     let e : suc k + 1 ≡ suc (k + 1) = omega arith in
     subst (λ (j : ℕ). is_lt (interval_cmp (get_or (a ∷ b ∷ s) j d) (get_or (b ∷ s) k d)) ≡ false) e (h (suc k) d (omega arith) (omega arith))) in
     let first : starts_by a b ≡ true = starts-sorted a b (h 0 a (omega arith) (omega arith)) in

@@ -4,20 +4,20 @@ use Rattle.std.specs.List.{AllByRecursion, list_any}
 use Rattle.std.proofs.lemmas.Bool.{cases_Bool, or_cases, and_from, or_left, or_right, false≢true, and_parts}
 use Rattle.std.proofs.lemmas.Bool.Decides.{nat_tests}
 use Rattle.gtid_set.specs.declared.interval.Interval.{Interval}
-use Rattle.gtid_set.specs.Position.{holds, has, covers, union_of, IsInterval, IsCanonical, IsWithin, HasBoth, within_of}
+use Rattle.gtid_set.specs.Position.{holds, has, holds_interval, union_of, IsInterval, IsCanonical, IsWithin, HasBoth, within_of}
 use Rattle.gtid_set.proofs.IntervalFacts.{Holds, holds-true, true-holds}
 use Rattle.gtid_set.proofs.Joined.{AllEnd, canonical-intervals, union-canonical, has-union_of}
 use Rattle.gtid_set.proofs.Same.{not_behind, pair_behind, equal_sets}
 
 -- ---- subset, computed
 
-covers-holds : (j i : Interval) (u n : ℕ) → covers j i ≡ true → holds i u n ≡ true → holds j u n ≡ true
+covers-holds : (j i : Interval) (u n : ℕ) → holds_interval j i ≡ true → holds i u n ≡ true → holds j u n ≡ true
 covers-holds j i u n e h = grind (arith, nat_tests)
 
-covered-has : (b : List Interval) (i : Interval) (u n : ℕ) → list_any (λ j. covers j i) b ≡ true → holds i u n ≡ true → has b u n ≡ true
+covered-has : (b : List Interval) (i : Interval) (u n : ℕ) → list_any (λ j. holds_interval j i) b ≡ true → holds i u n ≡ true → has b u n ≡ true
 covered-has [] i u n e h = absurd (false≢true e)
 covered-has (j ∷ b) i u n e h =
-    elim (or_cases (covers j i) (list_any (λ j. covers j i) b) e) [
+    elim (or_cases (holds_interval j i) (list_any (λ j. holds_interval j i) b) e) [
       | inl here ↦ or_left (holds j u n) (has b u n) (covers-holds j i u n here h)
       | inr there ↦ or_right (holds j u n) (has b u n) (covered-has b i u n there h)
     ]
@@ -25,7 +25,7 @@ covered-has (j ∷ b) i u n e h =
 pub within-pairs : (a b : List Interval) → within_of a b ≡ true → IsWithin a b
 within-pairs [] b e u n h = absurd (false≢true h)
 within-pairs (i ∷ a) b e u n h =
-    let p = and_parts (list_any (λ j. covers j i) b) (within_of a b) e in
+    let p = and_parts (list_any (λ j. holds_interval j i) b) (within_of a b) e in
     elim (or_cases (holds i u n) (has a u n) h) [
       | inl here ↦ covered-has b i u n p.0 here
       | inr there ↦ within-pairs a b p.1 u n there
@@ -33,7 +33,7 @@ within-pairs (i ∷ a) b e u n h =
 
 -- an interval all of whose numbers are in a canonical set lies in one of its intervals
 not_split : (y : Interval) (t : List Interval) (i : Interval) (n : ℕ) → IsInterval y → AllEnd y t → IsInterval i
-    → ((n : ℕ) → i.first ≤ n → n ≤ i.last → has (y ∷ t) i.uuid n ≡ true) → covers y i ≡ false → i.first ≤ n → n ≤ i.last → holds y i.uuid n ≡ true → ⊥
+    → ((n : ℕ) → i.first ≤ n → n ≤ i.last → has (y ∷ t) i.uuid n ≡ true) → holds_interval y i ≡ false → i.first ≤ n → n ≤ i.last → holds y i.uuid n ≡ true → ⊥
 not_split y t i n one all whole inside not_covered low high held =
     let k = holds-true y i.uuid n held in
     let h = one.holds_first in
@@ -53,15 +53,15 @@ not_split y t i n one all whole inside not_covered low high held =
           ]
     ]
   where
-    split : (y i : Interval) (n : ℕ) → Holds y i.uuid n → covers y i ≡ false → i.first ≤ n → n ≤ i.last → (i.first < y.first) ⊎ (y.last < i.last)
+    split : (y i : Interval) (n : ℕ) → Holds y i.uuid n → holds_interval y i ≡ false → i.first ≤ n → n ≤ i.last → (i.first < y.first) ⊎ (y.last < i.last)
     split y i n k c low high = grind (arith, nat_tests)
 
-covered : (b : List Interval) (i : Interval) → IsCanonical b → IsInterval i → ((n : ℕ) → i.first ≤ n → n ≤ i.last → has b i.uuid n ≡ true) → list_any (λ j. covers j i) b ≡ true
+covered : (b : List Interval) (i : Interval) → IsCanonical b → IsInterval i → ((n : ℕ) → i.first ≤ n → n ≤ i.last → has b i.uuid n ≡ true) → list_any (λ j. holds_interval j i) b ≡ true
 covered [] i c one inside = absurd (false≢true (inside i.first (omega arith) one.holds_first))
 covered (y ∷ t) i c one inside =
-    elim (cases_Bool (covers y i)) [
-      | inl here ↦ or_left (covers y i) (list_any (λ j. covers j i) t) here
-      | inr there ↦ or_right (covers y i) (list_any (λ j. covers j i) t) (covered t i c.2 one (λ n low high.
+    elim (cases_Bool (holds_interval y i)) [
+      | inl here ↦ or_left (holds_interval y i) (list_any (λ j. holds_interval j i) t) here
+      | inr there ↦ or_right (holds_interval y i) (list_any (λ j. holds_interval j i) t) (covered t i c.2 one (λ n low high.
           elim (or_cases (holds y i.uuid n) (has t i.uuid n) (inside n low high)) [
             | inl held ↦ absurd (not_split y t i n c.0 c.1 one inside there low high held)
             | inr behind ↦ behind
@@ -71,7 +71,7 @@ covered (y ∷ t) i c one inside =
 pub pairs-within : (a b : List Interval) → AllByRecursion IsInterval a → IsCanonical b → IsWithin a b → within_of a b ≡ true
 pairs-within [] b each c w = refl
 pairs-within (i ∷ a) b each c w =
-    and_from (list_any (λ j. covers j i) b) (within_of a b)
+    and_from (list_any (λ j. holds_interval j i) b) (within_of a b)
     (covered b i c each.0 (λ n low high. w i.uuid n (or_left (holds i i.uuid n) (has a i.uuid n) (true-holds i i.uuid n (refl, low, high)))))
     (pairs-within a b each.1 c (λ u n h. w u n (or_right (holds i u n) (has a u n) h)))
 

@@ -56,29 +56,29 @@ abbrev pub hull : Interval → Interval → Interval
 hull one other = record { uuid = one.uuid; first = min one.first other.first; last = max one.last other.last }
 
 -- a set and one interval more: what overlaps or touches it is merged with it
-abbrev pub joined : List Interval → Interval → List Interval
-joined [] new = new ∷ []
-joined (i ∷ set) new =
-    if ends_before i new then i ∷ joined set new else (if ends_before new i then new ∷ i ∷ set else joined set (hull new i))
+abbrev pub with_interval : List Interval → Interval → List Interval
+with_interval [] new = new ∷ []
+with_interval (i ∷ set) new =
+    if ends_before i new then i ∷ with_interval set new else (if ends_before new i then new ∷ i ∷ set else with_interval set (hull new i))
 
 -- a set and all intervals of a list
 abbrev pub union_of : List Interval → List Interval → List Interval
 union_of set [] = set
-union_of set (i ∷ more) = union_of (joined set i) more
+union_of set (i ∷ more) = union_of (with_interval set i) more
 
 -- a set and one pair more
 abbrev pub with_pair : List Interval → ℕ → ℕ → List Interval
-with_pair set uuid number = joined set (record { uuid = uuid; first = number; last = number })
+with_pair set uuid number = with_interval set (record { uuid = uuid; first = number; last = number })
 
 -- ---- subset, computed
 
 -- each number of the one interval is in the other
-abbrev pub covers : Interval → Interval → Bool
-covers one other = one.uuid == other.uuid && (nat_le one.first other.first && nat_le other.last one.last)
+abbrev pub holds_interval : Interval → Interval → Bool
+holds_interval one other = one.uuid == other.uuid && (nat_le one.first other.first && nat_le other.last one.last)
 
 -- each interval of the one set lies in one of the other
 abbrev pub within_of : List Interval → List Interval → Bool
-within_of some all = list_all (λ i. list_any (λ j. covers j i) all) some
+within_of some all = list_all (λ i. list_any (λ j. holds_interval j i) all) some
 
 -- ---- what a call leaves
 

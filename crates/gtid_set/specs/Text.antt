@@ -73,8 +73,8 @@ intervals_of_text text = do
   all_of (λ part. intervals_of_part (trimmed part)) (parts_between 44 parts)
 
 -- a list in front of what a reading gives
-abbrev pub behind : List Interval → Result (List Interval) GtidFault → Result (List Interval) GtidFault
-behind front reading = reading >>= λ more. Ok (front ++ more)
+abbrev pub put_before : List Interval → Result (List Interval) GtidFault → Result (List Interval) GtidFault
+put_before front reading = reading >>= λ more. Ok (front ++ more)
 
 -- the same of a text within the limit
 unfoldable pub within_limit : List ℕ → Result (List Interval) GtidFault

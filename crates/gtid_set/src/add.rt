@@ -2,7 +2,7 @@
 
 ghost use Rattle.std.specs.Prelude.{◌≡◌, ◌≤◌, ◌<◌, ◌^◌, OnOk, OnErr, length, vec_len};
 ghost use Rattle.gtid_set.specs.Position.{IsCanonical, StandsApart, last_number, with_pair};
-ghost use Rattle.gtid_set.specs.Inner.Kept.{listed};
+ghost use Rattle.gtid_set.specs.Inner.Kept.{intervals_listed};
 ghost use Rattle.gtid_set.specs.Inner.Order.{widened};
 
 use crate::interval::Interval;
@@ -17,14 +17,14 @@ pub fn add_pair(
     uuid: u128,
     number: u64,
 ) -> Result<(), AllocError>
-    requires canonical { IsCanonical (listed set.old) }
+    requires canonical { IsCanonical (intervals_listed set.old) }
     requires uuid { uuid < 2 ^ 128 }
     requires from_one { 1 ≤ number }
     requires to_last { number ≤ last_number }
-    ensures ok { OnOk result (listed set.new ≡ with_pair (listed set.old) uuid number) }
-    ensures err { OnErr result (listed set.new ≡ listed set.old) }
-    ensures some { OnErr result (1 ≤ length (listed set.old)) }
-    ensures apart { OnErr result (StandsApart (listed set.old) uuid number) }
+    ensures ok { OnOk result (intervals_listed set.new ≡ with_pair (intervals_listed set.old) uuid number) }
+    ensures err { OnErr result (intervals_listed set.new ≡ intervals_listed set.old) }
+    ensures some { OnErr result (1 ≤ length (intervals_listed set.old)) }
+    ensures apart { OnErr result (StandsApart (intervals_listed set.old) uuid number) }
 {
     let pair = Interval {
         uuid,
@@ -43,8 +43,8 @@ pub fn add_pair(
 /// Makes the interval at `place` hold a number that it holds or that is next to it, and merges it
 /// with the one behind it where they touch.
 fn widen(set: &mut Intervals, place: usize, number: u64)
-    requires inside { place < length (listed set.old) }
-    ensures { listed set.new ≡ widened (listed set.old) place number }
+    requires inside { place < length (intervals_listed set.old) }
+    ensures { intervals_listed set.new ≡ widened (intervals_listed set.old) place number }
 {
     match set {
         Intervals::Empty => {}

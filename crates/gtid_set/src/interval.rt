@@ -11,7 +11,7 @@ pub struct Interval {
 
 impl Interval {
     ghost use Rattle.std.specs.Prelude.{◌≡◌};
-    ghost use Rattle.gtid_set.specs.Position.{holds, ends_before, starts_by, covers};
+    ghost use Rattle.gtid_set.specs.Position.{holds, ends_before, starts_by, holds_interval};
     ghost use Rattle.gtid_set.specs.Inner.Order.{wider};
 
     /// The number of the uuid is in the interval.
@@ -50,7 +50,7 @@ impl Interval {
 
     /// Each number of the other interval is in this one.
     pub fn covers(&self, other: &Interval) -> bool
-        ensures { result ≡ covers self.now other.now }
+        ensures { result ≡ holds_interval self.now other.now }
     {
         self.uuid == other.uuid && self.first <= other.first && other.last <= self.last
     }

@@ -2,7 +2,7 @@
 
 ghost use Rattle.std.specs.Prelude.{◌≡◌, ◌≤◌, [], IfOk, OnOk, OnErr, length};
 ghost use Rattle.std.specs.List.{insert};
-ghost use Rattle.gtid_set.specs.Inner.Kept.{listed};
+ghost use Rattle.gtid_set.specs.Inner.Kept.{intervals_listed};
 
 use crate::interval::Interval;
 use std::alloc::{AllocError, Global};
@@ -19,7 +19,7 @@ pub enum Intervals {
 impl Intervals {
     /// The intervals in their order.
     pub fn as_slice(&self) -> &[Interval]
-        ensures { result.now ≡ listed self.now }
+        ensures { result.now ≡ intervals_listed self.now }
     {
         match self {
             Intervals::Empty => &[],
@@ -30,7 +30,7 @@ impl Intervals {
 
     /// The same intervals, of which a single one gives its block back.
     pub fn from_vec(intervals: Vec<Interval>) -> Intervals
-        ensures { listed result ≡ intervals.items }
+        ensures { intervals_listed result ≡ intervals.items }
     {
         match intervals.as_slice() {
             [] => Intervals::Empty,
@@ -41,7 +41,7 @@ impl Intervals {
 
     /// A copy of some intervals. Fails for want of memory alone, and for two intervals or more.
     pub fn copied(alloc: Global, intervals: &[Interval]) -> Result<Intervals, AllocError>
-        ensures value { IfOk result (λ copy. listed copy ≡ intervals.now) }
+        ensures value { IfOk result (λ copy. intervals_listed copy ≡ intervals.now) }
         ensures err { OnErr result (2 ≤ length intervals.now) }
     {
         match intervals {
@@ -59,10 +59,10 @@ impl Intervals {
         place: usize,
         interval: Interval,
     ) -> Result<(), AllocError>
-        requires { place ≤ length (listed self.old) }
-        ensures ok { OnOk result (listed self.new ≡ insert (listed self.old) place interval) }
-        ensures err { OnErr result (listed self.new ≡ listed self.old) }
-        ensures memory { OnErr result (1 ≤ length (listed self.old)) }
+        requires { place ≤ length (intervals_listed self.old) }
+        ensures ok { OnOk result (intervals_listed self.new ≡ insert (intervals_listed self.old) place interval) }
+        ensures err { OnErr result (intervals_listed self.new ≡ intervals_listed self.old) }
+        ensures memory { OnErr result (1 ≤ length (intervals_listed self.old)) }
     {
         match self {
             Intervals::One(only) => {

@@ -2,10 +2,10 @@
 
 ghost use Rattle.std.specs.Prelude.{◌≡◌, ◌+◌, ◌≤◌, ◌<◌, [], IfOk, OnOk, OnErr, length, take, drop};
 ghost use Rattle.std.specs.List.{AllByRecursion};
-ghost use Rattle.gtid_set.specs.Position.{IsInterval, IsCanonical, joined, union_of};
+ghost use Rattle.gtid_set.specs.Position.{IsInterval, IsCanonical, with_interval, union_of};
 ghost use Rattle.gtid_set.specs.Text.{set_of};
-ghost use Rattle.gtid_set.specs.Inner.Kept.{listed};
-ghost use Rattle.gtid_set.specs.Inner.Order.{AllStartBy, AllStartOver, IsRising};
+ghost use Rattle.gtid_set.specs.Inner.Kept.{intervals_listed};
+ghost use Rattle.gtid_set.specs.Inner.Order.{AllStartBy, AllStartOver, IsRisingByStart};
 
 use crate::interval::Interval;
 use crate::intervals::Intervals;
@@ -16,7 +16,7 @@ fn append(set: &mut Vec<Interval>, next: Interval) -> Result<(), AllocError>
     requires canonical { IsCanonical set.old.items }
     requires interval { IsInterval next }
     requires starts { AllStartBy next set.old.items }
-    ensures ok { OnOk result (set.new.items ≡ joined set.old.items next) }
+    ensures ok { OnOk result (set.new.items ≡ with_interval set.old.items next) }
     ensures err { OnErr result (set.new.items ≡ set.old.items) }
 {
     let count = set.len();
@@ -39,7 +39,7 @@ fn append(set: &mut Vec<Interval>, next: Interval) -> Result<(), AllocError>
 fn append_all(set: &mut Vec<Interval>, rising: &[Interval]) -> Result<(), AllocError>
     requires canonical { IsCanonical set.old.items }
     requires each { AllByRecursion IsInterval rising.now }
-    requires rising { IsRising rising.now }
+    requires rising { IsRisingByStart rising.now }
     requires starts { AllStartOver set.old.items rising.now }
     ensures { OnOk result (set.new.items ≡ union_of set.old.items rising.now) }
 {
@@ -56,7 +56,7 @@ fn append_in_place(set: &mut Vec<Interval>, kept: usize, next: Interval) -> usiz
     requires canonical { IsCanonical (take kept set.old.items) }
     requires interval { IsInterval next }
     requires starts { AllStartBy next (take kept set.old.items) }
-    ensures joined { take result set.new.items ≡ joined (take kept set.old.items) next }
+    ensures joined { take result set.new.items ≡ with_interval (take kept set.old.items) next }
     ensures left { drop (kept + 1) set.new.items ≡ drop (kept + 1) set.old.items }
     ensures length { length set.new.items ≡ length set.old.items }
     ensures bound { result ≤ kept + 1 }
@@ -76,7 +76,7 @@ fn append_in_place(set: &mut Vec<Interval>, kept: usize, next: Interval) -> usiz
 /// can.
 fn merge(intervals: &mut Vec<Interval>)
     requires each { AllByRecursion IsInterval intervals.old.items }
-    requires rising { IsRising intervals.old.items }
+    requires rising { IsRisingByStart intervals.old.items }
     ensures { intervals.new.items ≡ union_of [] intervals.old.items }
 {
     let mut kept = 0;
@@ -89,8 +89,8 @@ fn merge(intervals: &mut Vec<Interval>)
 
 /// The set of some intervals, in any order.
 pub fn merged(intervals: Intervals) -> Intervals
-    requires { AllByRecursion IsInterval (listed intervals) }
-    ensures { listed result ≡ set_of (listed intervals) }
+    requires { AllByRecursion IsInterval (intervals_listed intervals) }
+    ensures { intervals_listed result ≡ set_of (intervals_listed intervals) }
 {
     match intervals {
         Intervals::Empty => Intervals::Empty,

@@ -2,10 +2,10 @@
 
 ghost use Rattle.std.specs.Prelude.{◌≡◌, List, Ok, IfOk, IfErr};
 ghost use Rattle.gtid_set.specs.declared.interval.Interval.{Interval as IntervalValue};
-ghost use Rattle.gtid_set.specs.Inner.Kept.{listed, Keeps, Reads, RefusedBy};
+ghost use Rattle.gtid_set.specs.Inner.Kept.{intervals_listed, Keeps, ReadsIntervals, RefusedBy};
 ghost use Rattle.outcome.specs.Outcome.{Gives};
 ghost use Rattle.gtid_set.specs.Blank.{parts_between};
-ghost use Rattle.gtid_set.specs.Text.{all_of, intervals_of_piece, intervals_behind, intervals_of_part, without_flavor, intervals_of_text, behind, within_limit};
+ghost use Rattle.gtid_set.specs.Text.{all_of, intervals_of_piece, intervals_behind, intervals_of_part, without_flavor, intervals_of_text, put_before, within_limit};
 
 use crate::digits::{number, uuid};
 use crate::fault::GtidFault;
@@ -21,7 +21,7 @@ const TEXT_LIMIT: usize = 1_048_576;
 /// Adds the interval `m` or `m-n` of a uuid, if it holds a number.
 #[tactic(auto, unfolding(crate::specs::Text::intervals_of_piece))]
 fn push_piece(named: &mut Named, alloc: Global, uuid: u128, piece: &[u8]) -> Result<(), GtidFault>
-    ensures { (front : List IntervalValue) → Keeps named.old front → Reads result named.new (behind front (intervals_of_piece uuid piece.now)) }
+    ensures { (front : List IntervalValue) → Keeps named.old front → ReadsIntervals result named.new (put_before front (intervals_of_piece uuid piece.now)) }
 {
     let (lower, upper) = cut(piece, b'-');
     let first = number(lower, 1)?;
@@ -37,7 +37,7 @@ fn push_piece(named: &mut Named, alloc: Global, uuid: u128, piece: &[u8]) -> Res
 
 /// Adds the intervals of a uuid that stand between colons.
 fn push_pieces(named: &mut Named, alloc: Global, uuid: u128, text: &[u8]) -> Result<(), GtidFault>
-    ensures { (front : List IntervalValue) → Keeps named.old front → Reads result named.new (behind front (all_of (intervals_of_piece uuid) (parts_between 58 text.now))) }
+    ensures { (front : List IntervalValue) → Keeps named.old front → ReadsIntervals result named.new (put_before front (all_of (intervals_of_piece uuid) (parts_between 58 text.now))) }
 {
     let mut rest = Some(text);
     while let Some(pieces) = rest {
@@ -50,7 +50,7 @@ fn push_pieces(named: &mut Named, alloc: Global, uuid: u128, text: &[u8]) -> Res
 
 /// Adds the intervals of a part, which has no blanks at its ends.
 fn push_part(named: &mut Named, alloc: Global, part: &[u8]) -> Result<(), GtidFault>
-    ensures { (front : List IntervalValue) → Keeps named.old front → Reads result named.new (behind front (intervals_of_part part.now)) }
+    ensures { (front : List IntervalValue) → Keeps named.old front → ReadsIntervals result named.new (put_before front (intervals_of_part part.now)) }
 {
     if part.is_empty() {
         return Ok(());
@@ -82,7 +82,7 @@ fn without_flavor(text: &[u8]) -> Result<&[u8], GtidFault>
 /// which comes only where it names two intervals or more.
 #[tactic(auto, unfolding(crate::specs::Text::within_limit, crate::specs::Text::intervals_of_text))]
 pub fn intervals_of(alloc: Global, text: &[u8]) -> Result<Intervals, GtidFault>
-    ensures named { IfOk result (λ intervals. within_limit text.now ≡ Ok (listed intervals)) }
+    ensures named { IfOk result (λ intervals. within_limit text.now ≡ Ok (intervals_listed intervals)) }
     ensures refused { IfErr result (λ fault. RefusedBy fault (within_limit text.now)) }
 {
     if text.len() > TEXT_LIMIT {

@@ -33,13 +33,13 @@ impl Model for GtidSet {
     ghost use Rattle.std.specs.Prelude.{List};
     ghost use Rattle.gtid_set.specs.declared.interval.Interval.{Interval};
     ghost use Rattle.gtid_set.specs.Position.{IsCanonical};
-    ghost use Rattle.gtid_set.specs.Inner.Kept.{listed};
+    ghost use Rattle.gtid_set.specs.Inner.Kept.{intervals_listed};
 
     ghost Value = { List Interval };
 
-    ghost view = { λ s. listed s.intervals };
+    ghost view = { λ s. intervals_listed s.intervals };
 
-    ghost invariant = { λ s. IsCanonical (listed s.intervals) };
+    ghost invariant = { λ s. IsCanonical (intervals_listed s.intervals) };
 }
 
 impl GtidSet {

@@ -17,14 +17,14 @@ use Rattle.board_laws.proofs.Lookups.{Ties}
 use Rattle.join_laws.specs.Order.{state_cmp, running_cmp}
 use Rattle.join_laws.specs.Chosen.{chosen, all_chosen, chosen_running, all_chosen_running}
 use Rattle.join_laws.specs.Joined.{board_of, joined}
-use Rattle.join_laws.specs.Compatible.{plans_of, OfEachStream, AreRunning, IsBeginning, AreOfOneHistory, AreApart, AreCompatible}
+use Rattle.join_laws.specs.Compatible.{plans_of_board, OfEachStream, AreRunning, IsBeginning, AreOfOneHistory, AreApart, AreCompatible}
 use Rattle.join_laws.proofs.States.{states_tie, running_states}
 use Rattle.join_laws.proofs.Pairs.{plans, same_plan, partner, one_of_two, chosen_plans, chosen_comm, chosen_itself, chosen_assoc, ChosenInTwo, chosen_in_two}
 use Rattle.join_laws.proofs.Rows.{cut_if, states-lawful}
 
 -- ---- a joined board is lawful
 
-as_many : (a b : Meaning) → plans_of a ≡ plans_of b → length (all_chosen a.streams b.streams) ≡ length a.streams
+as_many : (a b : Meaning) → plans_of_board a ≡ plans_of_board b → length (all_chosen a.streams b.streams) ≡ length a.streams
 as_many a b e =
     sym (length-map (all_chosen a.streams b.streams) (λ (state : State). state.plan))
     ∙ ap (λ (ps : List PlanValue). length ps) (chosen_plans a.streams b.streams e)
@@ -53,7 +53,7 @@ joined-lawful ties a b la lb compatible =
 turned_history : (x y : State) → AreOfOneHistory x y → AreOfOneHistory y x
 turned_history x y one = elim one [ inl left ↦ inr left | inr right ↦ inl right ]
 
-ties_of : (ties : Ties) (a b : Meaning) → IsLawful a → IsLawful b → plans_of a ≡ plans_of b → OfEachStream AreOfOneHistory a.streams b.streams → OfEachStream (λ x y. state_cmp x y ≡ Equal → x ≡ y) a.streams b.streams
+ties_of : (ties : Ties) (a b : Meaning) → IsLawful a → IsLawful b → plans_of_board a ≡ plans_of_board b → OfEachStream AreOfOneHistory a.streams b.streams → OfEachStream (λ x y. state_cmp x y ≡ Equal → x ≡ y) a.streams b.streams
 ties_of ties a b la lb plans histories =
     λ s x y p q tie. states_tie ties x y (la.sound s x p) (lb.sound s y q) (same_plan a.streams b.streams plans s x y p q) (histories s x y p q) tie
 

@@ -23,7 +23,7 @@ use Rattle.board_laws.proofs.Lookups.{Ties}
 use Rattle.join_laws.specs.declared.fault.JoinFault.{JoinFault}
 use Rattle.join_laws.specs.declared.fault.JoinFault.TheVariants.{WrongPlan, HistoriesDiffer, OwnedByOther, Memory}
 use Rattle.join_laws.specs.Chosen.{all_chosen}
-use Rattle.join_laws.specs.Compatible.{plans_of, OfEachStream, IsBeginning, AreOfOneHistory, AreApart, AreCompatible}
+use Rattle.join_laws.specs.Compatible.{plans_of_board, OfEachStream, IsBeginning, AreOfOneHistory, AreApart, AreCompatible}
 use Rattle.join_laws.specs.Joined.{rows_from}
 use Rattle.join_laws.specs.Refused.{IsFirstNot, IsFirstClash, IsRefusedJoin}
 use Rattle.join_laws.proofs.Pairs.{one_of_two}
@@ -77,7 +77,7 @@ one_feed feeds s x y p q =
     ]
 
 pub feeds_joined : (feeds : List FeedValue) (a b : Meaning) → AllReadTheirFeeds feeds a → AllReadTheirFeeds feeds b → AreDisjoint feeds
-    → plans_of a ≡ plans_of b → AreCompatible a b
+    → plans_of_board a ≡ plans_of_board b → AreCompatible a b
 feeds_joined feeds a b reads_a reads_b disjoint plans = record {
   plans = plans;
   histories = λ s x y p q. one_feed feeds s x y (reads_a s x p) (reads_b s y q);

@@ -9,8 +9,8 @@ use Rattle.join_laws.specs.Order.{IsRunning}
 use Rattle.join_laws.specs.Chosen.{all_chosen}
 
 -- the plans of a board's streams
-abbrev pub plans_of : Meaning → List PlanValue
-plans_of board = map (λ state. state.plan) board.streams
+abbrev pub plans_of_board : Meaning → List PlanValue
+plans_of_board board = map (λ state. state.plan) board.streams
 
 -- a fact of the two states of every stream
 abbrev pub OfEachStream : (State → State → Type 0) → List State → List State → Type 0
@@ -30,7 +30,7 @@ AreOfOneHistory x y = IsBeginning x.list y.list ⊎ IsBeginning y.list x.list
 
 -- what can be asked of two boards' streams, rows aside
 pub record AreAlike (a b : Meaning) : Type 0 where
-  pub plans : plans_of a ≡ plans_of b
+  pub plans : plans_of_board a ≡ plans_of_board b
   pub histories : OfEachStream AreOfOneHistory a.streams b.streams
 
 -- no key has a row in the cuts of two streams
@@ -40,6 +40,6 @@ AreApart states =
 
 -- two boards can be joined: streams may still copy
 pub record AreCompatible (a b : Meaning) : Type 0 where
-  pub plans : plans_of a ≡ plans_of b
+  pub plans : plans_of_board a ≡ plans_of_board b
   pub histories : OfEachStream AreOfOneHistory a.streams b.streams
   pub apart : AreApart (all_chosen a.streams b.streams)

@@ -12,7 +12,7 @@ use Rattle.join_laws.specs.declared.fault.JoinFault.TheVariants.{Memory}
 use Rattle.join_laws.specs.Order.{state_cmp, running_cmp}
 use Rattle.join_laws.specs.Chosen.{all_chosen_running}
 use Rattle.join_laws.specs.Joined.{board_of, joined}
-use Rattle.join_laws.specs.Compatible.{plans_of, OfEachStream, AreRunning, AreOfOneHistory, AreApart, AreCompatible}
+use Rattle.join_laws.specs.Compatible.{plans_of_board, OfEachStream, AreRunning, AreOfOneHistory, AreApart, AreCompatible}
 use Rattle.join_laws.specs.Refused.{IsRefusedJoin}
 
 -- ---- the order of states
@@ -67,7 +67,7 @@ JoinsAssociate =
 -- boards whose streams read the same feeds, which share no key, can be joined, however far their tables are copied
 abbrev pub DisjointFeedsCanBeJoined : Type 0
 DisjointFeedsCanBeJoined =
-    (feeds : List FeedValue) (a b : Meaning) → AllReadTheirFeeds feeds a → AllReadTheirFeeds feeds b → AreDisjoint feeds → plans_of a ≡ plans_of b → AreCompatible a b
+    (feeds : List FeedValue) (a b : Meaning) → AllReadTheirFeeds feeds a → AllReadTheirFeeds feeds b → AreDisjoint feeds → plans_of_board a ≡ plans_of_board b → AreCompatible a b
 
 -- ---- refusals
 

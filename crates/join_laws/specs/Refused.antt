@@ -8,7 +8,7 @@ use Rattle.board_laws.specs.Step.{due_at}
 use Rattle.join_laws.specs.declared.fault.JoinFault.{JoinFault}
 use Rattle.join_laws.specs.declared.fault.JoinFault.TheVariants.{WrongPlan, HistoriesDiffer, OwnedByOther, Memory}
 use Rattle.join_laws.specs.Chosen.{all_chosen}
-use Rattle.join_laws.specs.Compatible.{plans_of, OfEachStream, AreOfOneHistory, AreAlike, AreApart}
+use Rattle.join_laws.specs.Compatible.{plans_of_board, OfEachStream, AreOfOneHistory, AreAlike, AreApart}
 use Rattle.join_laws.specs.Joined.{rows_from}
 
 -- stream s is the first whose two states don't have the fact
@@ -31,18 +31,18 @@ pub record IsFirstClash (states : List State) (key : KeyValue) (owner : ℕ) : T
 
 -- the plans are the same, and of a stream neither read list is a beginning of the other
 pub record AreOfOtherHistories (a b : Meaning) (s : ℕ) : Type 0 where
-  pub plans : plans_of a ≡ plans_of b
+  pub plans : plans_of_board a ≡ plans_of_board b
   pub first : IsFirstNot AreOfOneHistory a.streams b.streams s
 
 -- every stream's lists are of one history, and the chosen states of two streams have rows at one key
 pub record HaveClash (a b : Meaning) (key : KeyValue) (owner : ℕ) : Type 0 where
-  pub plans : plans_of a ≡ plans_of b
+  pub plans : plans_of_board a ≡ plans_of_board b
   pub histories : OfEachStream AreOfOneHistory a.streams b.streams
   pub first : IsFirstClash (all_chosen a.streams b.streams) key owner
 
 -- what stands where a join is refused; memory is asked for only where the plans and the histories are right
 abbrev pub IsRefusedJoin : Meaning → Meaning → JoinFault → Type 0
-IsRefusedJoin a b WrongPlan = plans_of a ≢ plans_of b
+IsRefusedJoin a b WrongPlan = plans_of_board a ≢ plans_of_board b
 IsRefusedJoin a b (HistoriesDiffer s) = AreOfOtherHistories a b s
 IsRefusedJoin a b (OwnedByOther key owner) = HaveClash a b key owner
 IsRefusedJoin a b Memory = AreAlike a b

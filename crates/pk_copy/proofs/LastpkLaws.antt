@@ -11,7 +11,7 @@ use Rattle.filter_rule.specs.PlanValue.{PlanValue, columns_of, key_columns_of, c
 use Rattle.filter_rule.specs.TypeNumbers.{is_whole_number}
 use Rattle.filter_rule.specs.WellFormed.{type_at}
 use Rattle.pk_copy.specs.KeyValue.{Part, number, bytes, KeyValue, IsPart, AreParts}
-use Rattle.pk_copy.specs.KeyOf.{KeyCell, part_of, cell_at, key_cells, key_of, IsKeyOf}
+use Rattle.pk_copy.specs.KeyOf.{KeyCell, key_part_of, cell_at, key_cells, key_of, IsKeyOf}
 use Rattle.pk_copy.specs.Lastpk.{part_text, lastpk_of, key_cell, lastpk_cells, last_cells, key_of_lastpk, LastpksAreReadAgain, IsTableKey, KeysOfRowsAreTableKeys, KeysReadAreTableKeys}
 use Rattle.pk_copy.proofs.RelationLaws.{key-stands}
 
@@ -27,8 +27,8 @@ of_text law true (bytes b) text is e = absurd (no_bytes (number_of_text text) b 
 of_text law false (number value) text is e = absurd cc
 of_text law false (bytes b) text is e = refl
 
-of_value : ShortestTextsAreReadBack → (type_number : ℕ) (part : Part) (value : Option (List ℕ)) → IsPart part → part_of (record { type_number = type_number; value = value }) ≡ Some part
-    → part_of (record { type_number = type_number; value = Some (part_text part) }) ≡ Some part
+of_value : ShortestTextsAreReadBack → (type_number : ℕ) (part : Part) (value : Option (List ℕ)) → IsPart part → key_part_of (record { type_number = type_number; value = value }) ≡ Some part
+    → key_part_of (record { type_number = type_number; value = Some (part_text part) }) ≡ Some part
 of_value law type_number part None is e = absurd cc
 of_value law type_number part (Some text) is e = of_text law (is_whole_number type_number) part text is e
 
@@ -37,14 +37,14 @@ cons_same {A} x y xs ys e f = ap (λ (z : A). z ∷ xs) e ∙ ap (λ (zs : List 
 
 -- parts that a row of key columns gives are given again by the row of their texts
 parts_again : ShortestTextsAreReadBack → (columns : List ColumnValue) (places : List ℕ) (row : List (Option (List ℕ))) (parts : List Part) → AllByRecursion IsPart parts
-    → map Some parts ≡ map part_of (lastpk_cells columns places row) → map Some parts ≡ map part_of (lastpk_cells columns places (map (λ part. Some (part_text part)) parts))
+    → map Some parts ≡ map key_part_of (lastpk_cells columns places row) → map Some parts ≡ map key_part_of (lastpk_cells columns places (map (λ part. Some (part_text part)) parts))
 parts_again law columns places row [] is e = refl
 parts_again law columns places [] (q ∷ qs) is e = absurd cc
 parts_again law columns [] (value ∷ row) (q ∷ qs) is e = absurd cc
 parts_again law columns (p ∷ ps) (value ∷ row) (q ∷ qs) is e =
-    let here : part_of (key_cell columns p value) ≡ Some q = cc in
-    let rest : map Some qs ≡ map part_of (lastpk_cells columns ps row) = cc in
-    cons_same (Some q) (part_of (key_cell columns p (Some (part_text q)))) (map Some qs) (map part_of (lastpk_cells columns ps (map (λ part. Some (part_text part)) qs)))
+    let here : key_part_of (key_cell columns p value) ≡ Some q = cc in
+    let rest : map Some qs ≡ map key_part_of (lastpk_cells columns ps row) = cc in
+    cons_same (Some q) (key_part_of (key_cell columns p (Some (part_text q)))) (map Some qs) (map key_part_of (lastpk_cells columns ps (map (λ part. Some (part_text part)) qs)))
     (sym (of_value law (type_at columns p) q value is.0 here)) (parts_again law columns ps row qs is.1 rest)
 
 read_again : ShortestTextsAreReadBack → (plan : PlanValue) (t : ℕ) (row : List (Option (List ℕ))) (key : KeyValue) → AreParts key.parts
@@ -81,7 +81,7 @@ table_key : ShortestTextsAreReadBack → (plan : PlanValue) (t : ℕ) (row : Lis
 table_key law plan t row key within long parts is =
     let cells = last_cells plan t row in
     let count : length key.parts ≡ length (key_columns_of plan t)
-    = sym (length-map key.parts Some) ∙ ap length is.parts ∙ length-map cells part_of ∙ cells_long (columns_of plan t) (key_columns_of plan t) row long in
+    = sym (length-map key.parts Some) ∙ ap length is.parts ∙ length-map cells key_part_of ∙ cells_long (columns_of plan t) (key_columns_of plan t) row long in
     record {
       table = subst (λ n. n < length plan.tables) (sym is.table) within;
       count = count ∙ ap (λ n. length (key_columns_of plan n)) (sym is.table);

@@ -14,7 +14,7 @@ use Rattle.filter_rule.specs.PlanValue.{PlanValue, columns_of, key_columns_of}
 use Rattle.filter_rule.specs.TypeNumbers.{is_whole_number}
 use Rattle.filter_rule.specs.WellFormed.{IsPlan}
 use Rattle.pk_copy.specs.KeyValue.{Part, number, bytes, KeyValue, IsPart, AreParts}
-use Rattle.pk_copy.specs.KeyOf.{KeyCell, part_of, cell_at, key_cells, key_of}
+use Rattle.pk_copy.specs.KeyOf.{KeyCell, key_part_of, cell_at, key_cells, key_of}
 use Rattle.pk_copy.proofs.RelationLaws.{key-stands}
 
 -- ---- numbers
@@ -71,16 +71,16 @@ text_part false text part e =
     let same : bytes text ≡ part = cc in
     subst IsPart same tt
 
-cell_part : (type_number : ℕ) (value : Option (List ℕ)) (part : Part) → part_of (record { type_number = type_number; value = value }) ≡ Some part → IsPart part
+cell_part : (type_number : ℕ) (value : Option (List ℕ)) (part : Part) → key_part_of (record { type_number = type_number; value = value }) ≡ Some part → IsPart part
 cell_part type_number None part e = cc
 cell_part type_number (Some text) part e = text_part (is_whole_number type_number) text part e
 
-cell_parts : (cells : List KeyCell) (parts : List Part) → map Some parts ≡ map part_of cells → AllByRecursion IsPart parts
+cell_parts : (cells : List KeyCell) (parts : List Part) → map Some parts ≡ map key_part_of cells → AllByRecursion IsPart parts
 cell_parts cells [] e = tt
 cell_parts [] (part ∷ parts) e = cc
 cell_parts (cell ∷ cells) (part ∷ parts) e =
-    let here : part_of cell ≡ Some part = cc in
-    let rest : map Some parts ≡ map part_of cells = cc in
+    let here : key_part_of cell ≡ Some part = cc in
+    let rest : map Some parts ≡ map key_part_of cells = cc in
     (cell_part cell.type_number cell.value part here, cell_parts cells parts rest)
 
 few_columns : (tables : List TableValue) (t : ℕ) → t < length tables → ((i : ℕ) (table : TableValue) → slice_get tables i ≡ Some table → length table.key ≤ 8)
@@ -93,7 +93,7 @@ pub key_parts : (plan : PlanValue) (t : ℕ) (row : List (Option (List ℕ))) (k
 key_parts plan t row key whole within e =
     let is = (key-stands t (key_cells plan t row) key).0 e in
     let long : length key.parts ≡ length (key_columns_of plan t) =
-    sym (length-map key.parts Some) ∙ ap length is.parts ∙ length-map (key_cells plan t row) part_of ∙ length-map (key_columns_of plan t) (cell_at (columns_of plan t) row) in
+    sym (length-map key.parts Some) ∙ ap length is.parts ∙ length-map (key_cells plan t row) key_part_of ∙ length-map (key_columns_of plan t) (cell_at (columns_of plan t) row) in
     let few : length (key_columns_of plan t) ≤ 8 = few_columns plan.tables t within (λ i table at. (whole.tables.each_table i table at).key_count.1) in
     record {
       few = omega (arith, long, few);

@@ -8,9 +8,9 @@ use Rattle.std.proofs.lemmas.List.{append-nil, append_assoc}
 use Rattle.std.proofs.lemmas.Option.{slice_get_read}
 use Rattle.filter_rule.specs.PlanTable.{TableValue}
 use Rattle.filter_rule.specs.PlanValue.{PlanValue, columns_of, key_columns_of}
-use Rattle.filter_rule.specs.WellFormed.{IsPlan, ArePlaces}
+use Rattle.filter_rule.specs.WellFormed.{IsPlan, AreColumnPlaces}
 use Rattle.pk_copy.specs.KeyValue.{Part, KeyValue}
-use Rattle.pk_copy.specs.KeyOf.{KeyCell, part_of, is_null, has_no_part}
+use Rattle.pk_copy.specs.KeyOf.{KeyCell, key_part_of, is_null, has_no_part}
 use Rattle.pk_copy.specs.declared.fault.KeyFault.{KeyFault}
 use Rattle.pk_copy.specs.declared.fault.KeyFault.TheVariants.{NullKey, BadKey}
 
@@ -19,7 +19,7 @@ abbrev pub key_behind : ℕ → List Part → Bool → List KeyCell → Result K
 key_behind t parts is_bad cells =
     if list_any is_null cells then Err NullKey else
     if is_bad || list_any has_no_part cells then Err BadKey else
-    Ok (record { table = t; parts = parts ++ filter_map part_of cells })
+    Ok (record { table = t; parts = parts ++ filter_map key_part_of cells })
 
 pub key_behind-end : (t : ℕ) (parts : List Part) → key_behind t parts false [] ≡ Ok (record { table = t; parts = parts })
 key_behind-end t parts = ap (λ (all : List Part). Ok (record { table = t; parts = all })) (append-nil parts)
@@ -27,18 +27,18 @@ key_behind-end t parts = ap (λ (all : List Part). Ok (record { table = t; parts
 pub key_behind-null : (t : ℕ) (parts : List Part) (is_bad : Bool) (cell : KeyCell) (cells : List KeyCell) → cell.value ≡ None → key_behind t parts is_bad (cell ∷ cells) ≡ Err NullKey
 key_behind-null t parts is_bad cell cells null = rw null
 
-part-by : (t : ℕ) (parts : List Part) (is_bad : Bool) (type_number : ℕ) (value : Option (List ℕ)) (cells : List KeyCell) (part : Part) → part_of (record { type_number = type_number; value = value }) ≡ Some part
+part-by : (t : ℕ) (parts : List Part) (is_bad : Bool) (type_number : ℕ) (value : Option (List ℕ)) (cells : List KeyCell) (part : Part) → key_part_of (record { type_number = type_number; value = value }) ≡ Some part
     → key_behind t parts is_bad (record { type_number = type_number; value = value } ∷ cells) ≡ key_behind t (parts ++ part ∷ []) is_bad cells
 part-by t parts is_bad type_number None cells part found = absurd (false≢true (ap is_some found))
-part-by t parts is_bad type_number (Some text) cells part found = rw (found, append_assoc parts (part ∷ []) (filter_map part_of cells))
+part-by t parts is_bad type_number (Some text) cells part found = rw (found, append_assoc parts (part ∷ []) (filter_map key_part_of cells))
 
 -- a cell that gives a part
-pub key_behind-part : (t : ℕ) (parts : List Part) (is_bad : Bool) (cell : KeyCell) (cells : List KeyCell) (part : Part) → part_of cell ≡ Some part
+pub key_behind-part : (t : ℕ) (parts : List Part) (is_bad : Bool) (cell : KeyCell) (cells : List KeyCell) (part : Part) → key_part_of cell ≡ Some part
     → key_behind t parts is_bad (cell ∷ cells) ≡ key_behind t (parts ++ part ∷ []) is_bad cells
 key_behind-part t parts is_bad cell cells part found = part-by t parts is_bad cell.type_number cell.value cells part found
 
 -- a cell that isn't NULL and gives none
-pub key_behind-bad : (t : ℕ) (parts : List Part) (is_bad : Bool) (cell : KeyCell) (cells : List KeyCell) → is_null cell ≡ false → part_of cell ≡ None
+pub key_behind-bad : (t : ℕ) (parts : List Part) (is_bad : Bool) (cell : KeyCell) (cells : List KeyCell) → is_null cell ≡ false → key_part_of cell ≡ None
     → key_behind t parts is_bad (cell ∷ cells) ≡ key_behind t parts true cells
 key_behind-bad t parts true cell cells stands none = rw stands
 key_behind-bad t parts false cell cells stands none = rw (stands, none)
@@ -51,7 +51,7 @@ columns_of-at plan t table stands = ap (λ found. option_map_or (λ (table : Tab
 pub key_columns_of-at : (plan : PlanValue) (t : ℕ) (table : TableValue) → slice_get plan.tables t ≡ Some table → key_columns_of plan t ≡ table.key
 key_columns_of-at plan t table stands = ap (λ found. option_map_or (λ (table : TableValue). table.key) found []) stands
 
-pub key_places : (plan : PlanValue) (t : ℕ) (table : TableValue) → IsPlan plan → slice_get plan.tables t ≡ Some table → ArePlaces table.columns table.key
+pub key_places : (plan : PlanValue) (t : ℕ) (table : TableValue) → IsPlan plan → slice_get plan.tables t ≡ Some table → AreColumnPlaces table.columns table.key
 key_places plan t table sound stands i place at = ((sound.tables.each_table t table stands).key_columns i place at).within
 
 pub key_few : (plan : PlanValue) (t : ℕ) (table : TableValue) → IsPlan plan → slice_get plan.tables t ≡ Some table → length table.key ≤ 8

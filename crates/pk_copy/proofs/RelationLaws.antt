@@ -5,7 +5,7 @@ use Rattle.std.proofs.Common.{refl, sym, ap, ◌∙◌}
 use Rattle.std.proofs.lemmas.Bool.{true≢false}
 use Rattle.std.proofs.lemmas.List.Folds.{Any-from_list_any, list_any-from_Any}
 use Rattle.pk_copy.specs.KeyValue.{Part, KeyValue}
-use Rattle.pk_copy.specs.KeyOf.{KeyCell, part_of, is_null, has_no_part, key_in, HoldsNull, LacksPart, IsKeyOf}
+use Rattle.pk_copy.specs.KeyOf.{KeyCell, key_part_of, is_null, has_no_part, key_in, HoldsNull, LacksPart, IsKeyOf}
 use Rattle.pk_copy.specs.declared.fault.KeyFault.{KeyFault}
 use Rattle.pk_copy.specs.declared.fault.KeyFault.TheVariants.{NullKey, BadKey}
 
@@ -63,18 +63,18 @@ one_part None lacking parts all rest e = absurd (true≢false e)
 one_part (Some part) lacking parts all rest e = ap (λ (more : List (Option Part)). Some part ∷ more) (rest e)
 
 -- where no cell lacks its part, these are the parts
-all_parts : (cells : List KeyCell) → list_any has_no_part cells ≡ false → map Some (filter_map part_of cells) ≡ map part_of cells
+all_parts : (cells : List KeyCell) → list_any has_no_part cells ≡ false → map Some (filter_map key_part_of cells) ≡ map key_part_of cells
 all_parts [] e = refl
-all_parts (cell ∷ cells) e = one_part (part_of cell) (list_any has_no_part cells) (filter_map part_of cells) (map part_of cells) (all_parts cells) e
+all_parts (cell ∷ cells) e = one_part (key_part_of cell) (list_any has_no_part cells) (filter_map key_part_of cells) (map key_part_of cells) (all_parts cells) e
 
 -- cells of which each has its part
-parts_all : (cells : List KeyCell) (parts : List Part) → map Some parts ≡ map part_of cells → (list_any has_no_part cells ≡ false) × (filter_map part_of cells ≡ parts)
+parts_all : (cells : List KeyCell) (parts : List Part) → map Some parts ≡ map key_part_of cells → (list_any has_no_part cells ≡ false) × (filter_map key_part_of cells ≡ parts)
 parts_all [] [] e = (refl, refl)
 parts_all [] (part ∷ parts) e = cc
 parts_all (cell ∷ cells) [] e = cc
 parts_all (cell ∷ cells) (part ∷ parts) e =
-    let found : part_of cell ≡ Some part = cc in
-    let others : map Some parts ≡ map part_of cells = cc in
+    let found : key_part_of cell ≡ Some part = cc in
+    let others : map Some parts ≡ map key_part_of cells = cc in
     let rest = parts_all cells parts others in
     (rw found rest.0, rw found (ap (λ (more : List Part). part ∷ more) rest.1))
 
@@ -91,13 +91,13 @@ none_null (cell ∷ cells) e = one_value cell.type_number cell.value (list_any i
 pub key-stands : (t : ℕ) (cells : List KeyCell) (key : KeyValue) → (key_in t cells ≡ Ok key) ↔ IsKeyOf t cells key
 key-stands t cells key = (
   λ e.
-      let tests = answer-key (list_any is_null cells) (list_any has_no_part cells) (record { table = t; parts = filter_map part_of cells }) key e in
+      let tests = answer-key (list_any is_null cells) (list_any has_no_part cells) (record { table = t; parts = filter_map key_part_of cells }) key e in
       record {
         table = ap (λ (key : KeyValue). key.table) (sym tests.1);
         parts = ap (λ (key : KeyValue). map Some key.parts) (sym tests.1) ∙ all_parts cells tests.0;
       },
   λ is.
       let found = parts_all cells key.parts is.parts in
-      let same : record { table = t; parts = filter_map part_of cells } ≡ key = λ i. record { table = sym is.table i; parts = found.1 i } in
+      let same : record { table = t; parts = filter_map key_part_of cells } ≡ key = λ i. record { table = sym is.table i; parts = found.1 i } in
       rw (none_null cells found.0, found.0) (ap Ok same),
 )

@@ -31,14 +31,14 @@ part_of_text type_number text =
     if is_whole_number type_number then option_map number (number_of_text text) else Some (bytes text)
 
 -- the part that a cell gives the key; NULL gives none
-abbrev pub part_of : KeyCell → Option Part
-part_of cell = option_and_then (part_of_text cell.type_number) cell.value
+abbrev pub key_part_of : KeyCell → Option Part
+key_part_of cell = option_and_then (part_of_text cell.type_number) cell.value
 
 abbrev pub is_null : KeyCell → Bool
 is_null cell = is_none cell.value
 
 abbrev pub has_no_part : KeyCell → Bool
-has_no_part cell = is_none (part_of cell)
+has_no_part cell = is_none (key_part_of cell)
 
 -- the key of table t with these cells: refused where any is NULL, else where any holds no number text that
 -- should
@@ -46,7 +46,7 @@ abbrev pub key_in : ℕ → List KeyCell → Result KeyValue KeyFault
 key_in t cells =
     if list_any is_null cells then Err NullKey else
     if list_any has_no_part cells then Err BadKey else
-    Ok (record { table = t; parts = filter_map part_of cells })
+    Ok (record { table = t; parts = filter_map key_part_of cells })
 
 -- the key of a row of table t, or why it has none
 abbrev pub key_of : PlanValue → ℕ → List (Option (List ℕ)) → Result KeyValue KeyFault
@@ -65,4 +65,4 @@ LacksPart = Any (λ cell. IsTrue (has_no_part cell))
 -- the key is of table t, and has each cell's part in order
 pub record IsKeyOf (t : ℕ) (cells : List KeyCell) (key : KeyValue) : Type 0 where
   pub table : key.table ≡ t
-  pub parts : map Some key.parts ≡ map part_of cells
+  pub parts : map Some key.parts ≡ map key_part_of cells

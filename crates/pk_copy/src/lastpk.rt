@@ -2,10 +2,10 @@
 
 ghost use Rattle.std.specs.Prelude.{◌≡◌, ◌↔◌, ◌≤◌, ◌<◌, false, length, None, Some, Ok, Err, IfOk};
 ghost use Rattle.filter_rule.specs.PlanValue.{columns_of, key_columns_of};
-ghost use Rattle.filter_rule.specs.WellFormed.{ArePlaces};
+ghost use Rattle.filter_rule.specs.WellFormed.{AreColumnPlaces};
 ghost use Rattle.row_view.specs.ColumnValue.{column_value};
 ghost use Rattle.pk_copy.specs.KeyValue.{KeyValue, IsPart};
-ghost use Rattle.pk_copy.specs.KeyOf.{part_of, is_null, key_in, HoldsNull, LacksPart, IsKeyOf};
+ghost use Rattle.pk_copy.specs.KeyOf.{key_part_of, is_null, key_in, HoldsNull, LacksPart, IsKeyOf};
 ghost use Rattle.pk_copy.specs.PartValue.{part_value};
 ghost use Rattle.pk_copy.specs.Lastpk.{key_cell, lastpk_cells, last_cells, key_of_lastpk, LastpksAreReadAgain};
 
@@ -49,7 +49,7 @@ fn key_under<'b>(
     row: &RowView<'b>,
 ) -> Result<KeyView<'b>, KeyFault>
     requires few { length places.now ≤ 8 }
-    requires places { ArePlaces columns.now places.now }
+    requires places { AreColumnPlaces columns.now places.now }
     requires width { length row.now ≡ length places.now }
     ensures { result ≡ key_in t (lastpk_cells columns.now places.now row.now) }
 {
@@ -78,11 +78,11 @@ fn part_in<'b>(
 ) -> Result<KeyPart<'b>, KeyFault>
     requires { place < length columns.now }
     ensures part { let cell = key_cell columns.now place (column_value column.now) in
-        IfOk result (λ part. (part_of cell ≡ Some (part_value part)) × IsPart (part_value part)) }
+        IfOk result (λ part. (key_part_of cell ≡ Some (part_value part)) × IsPart (part_value part)) }
     ensures null { let cell = key_cell columns.now place (column_value column.now) in
         result ≡ Err KeyFault.NullKey → cell.value ≡ None }
     ensures bad { let cell = key_cell columns.now place (column_value column.now) in
-        result ≡ Err KeyFault.BadKey → (is_null cell ≡ false) × (part_of cell ≡ None) }
+        result ≡ Err KeyFault.BadKey → (is_null cell ≡ false) × (key_part_of cell ≡ None) }
 {
     match column {
         Column::Null => Err(KeyFault::NullKey),

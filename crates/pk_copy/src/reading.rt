@@ -3,9 +3,9 @@
 ghost use Rattle.std.specs.Prelude.{◌≡◌, ◌↔◌, ◌≤◌, ◌<◌, false, length, map, Some, None, Ok, Err, IfSome, IfOk};
 ghost use Rattle.std.specs.Option.{option_map};
 ghost use Rattle.filter_rule.specs.PlanValue.{columns_of};
-ghost use Rattle.filter_rule.specs.WellFormed.{ArePlaces};
+ghost use Rattle.filter_rule.specs.WellFormed.{AreColumnPlaces};
 ghost use Rattle.pk_copy.specs.KeyValue.{KeyValue, IsPart};
-ghost use Rattle.pk_copy.specs.KeyOf.{part_of_text, part_of, is_null, cell_at, key_cells, key_in, key_of, HoldsNull, LacksPart, IsKeyOf};
+ghost use Rattle.pk_copy.specs.KeyOf.{part_of_text, key_part_of, is_null, cell_at, key_cells, key_in, key_of, HoldsNull, LacksPart, IsKeyOf};
 ghost use Rattle.pk_copy.specs.PartValue.{part_value};
 
 use crate::fault::KeyFault;
@@ -45,7 +45,7 @@ fn key_at<'b>(
     row: &RowView<'b>,
 ) -> Result<KeyView<'b>, KeyFault>
     requires few { length places.now ≤ 8 }
-    requires places { ArePlaces columns.now places.now }
+    requires places { AreColumnPlaces columns.now places.now }
     requires width { length row.now ≡ length columns.now }
     ensures { result ≡ key_in t (map (cell_at columns.now row.now) places.now) }
 {
@@ -75,11 +75,11 @@ fn part_at<'b>(columns: &[ColumnDef], row: &RowView<'b>, place: u8) -> Result<Ke
     requires place { place < length columns.now }
     requires width { length row.now ≡ length columns.now }
     ensures part { let cell = cell_at columns.now row.now place in
-        IfOk result (λ part. (part_of cell ≡ Some (part_value part)) × IsPart (part_value part)) }
+        IfOk result (λ part. (key_part_of cell ≡ Some (part_value part)) × IsPart (part_value part)) }
     ensures null { let cell = cell_at columns.now row.now place in
         result ≡ Err KeyFault.NullKey → cell.value ≡ None }
     ensures bad { let cell = cell_at columns.now row.now place in
-        result ≡ Err KeyFault.BadKey → (is_null cell ≡ false) × (part_of cell ≡ None) }
+        result ≡ Err KeyFault.BadKey → (is_null cell ≡ false) × (key_part_of cell ≡ None) }
 {
     let place = usize::from(place);
     match row.column(place) {

@@ -118,14 +118,14 @@ files_texts =
     []
 
 -- the text of a number, if it has one
-abbrev pub text_of : ℕ → Option (List ℕ)
-text_of number = option_or (option_or (option_or (option_or (option_or (option_or (text_among wire_texts number) (text_among position_texts number)) (text_among workflow_texts number)) (text_among target_texts number)) (text_among feed_texts number)) (text_among steps_texts number)) (text_among files_texts number)
+abbrev pub text_of_number : ℕ → Option (List ℕ)
+text_of_number number = option_or (option_or (option_or (option_or (option_or (option_or (text_among wire_texts number) (text_among position_texts number)) (text_among workflow_texts number)) (text_among target_texts number)) (text_among feed_texts number)) (text_among steps_texts number)) (text_among files_texts number)
 
 -- something is said of the number
 abbrev pub has_text : ℕ → Bool
-has_text number = is_some (text_of number)
+has_text number = is_some (text_of_number number)
 
 -- what is printed of a number; the list of all where none is asked for
 abbrev pub explained : Option ℕ → List ℕ
 explained None = LIST.now
-explained (Some number) = unwrap_or (text_of number) []
+explained (Some number) = unwrap_or (text_of_number number) []

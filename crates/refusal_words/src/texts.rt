@@ -1,7 +1,7 @@
 //! The texts, by their numbers.
 
 ghost use Rattle.std.specs.Prelude.{◌≡◌, option_map};
-ghost use Rattle.refusal_words.specs.Texts.{explained, has_text, text_of};
+ghost use Rattle.refusal_words.specs.Texts.{explained, has_text, text_of_number};
 
 use crate::list::LIST;
 use crate::{feed, files, position, steps, target, wire, workflow};
@@ -9,7 +9,7 @@ use crate::{feed, files, position, steps, target, wire, workflow};
 /// What is said of a number: its line in `LIST`, an empty line, what it means, the usual causes and what to
 /// do next. Each line ends with LF and has at most 80 bytes. None for any other number.
 pub fn text_of(number: u64) -> Option<&'static str>
-    ensures { option_map (λ text. text.now) result ≡ text_of number }
+    ensures { option_map (λ text. text.now) result ≡ text_of_number number }
 {
     wire::text_of(number)
         .or(position::text_of(number))

@@ -9,7 +9,7 @@ use Rattle.source_feed.specs.declared.fault.FeedFault.TheVariants.{FeedTooLong, 
 use Rattle.source_feed.specs.FaultNumber.{meant_of}
 use Rattle.source_feed.specs.GroupValue.{GroupValue}
 use Rattle.source_feed.specs.SourceValue.{SourceValue}
-use Rattle.source_feed.specs.EventList.{events_of}
+use Rattle.source_feed.specs.EventList.{events_of_feed}
 use Rattle.source_feed.specs.PastEvents.{PastEvents, is_open}
 use Rattle.source_feed.specs.Groups.{groups_of, first_fault, closed, groups_in, groups}
 use Rattle.source_feed.specs.Private.SetLaws.{SetLaws}
@@ -31,14 +31,14 @@ closed_well source past None None all e =
           let ok : Ok (groups_of source past) ≡ Ok all = sym (cond-false (is_open past) (Err OpenAtEnd) (Ok (groups_of source past)) shut) ∙ e in (refl, cc)
     ]
 
-pub defined : (feed : List ℕ) (source : SourceValue) (all : List GroupValue) → groups feed source ≡ Ok all → Defined source (events_of feed).items all
+pub defined : (feed : List ℕ) (source : SourceValue) (all : List GroupValue) → groups feed source ≡ Ok all → Defined source (events_of_feed feed).items all
 defined feed source all e =
     elim (cases_Bool (nat_lt (length feed) (2 ^ 31))) [
       | inl short ↦
-          let w = closed_well source (reverse (events_of feed).items) (first_fault source (reverse (events_of feed).items)) (events_of feed).fault all
-          (sym (cond-true (nat_lt (length feed) (2 ^ 31)) (groups_in source (events_of feed)) (Err FeedTooLong) short) ∙ e) in
+          let w = closed_well source (reverse (events_of_feed feed).items) (first_fault source (reverse (events_of_feed feed).items)) (events_of_feed feed).fault all
+          (sym (cond-true (nat_lt (length feed) (2 ^ 31)) (groups_in source (events_of_feed feed)) (Err FeedTooLong) short) ∙ e) in
           record { faultless = w.0; groups = w.1 }
-      | inr long ↦ let err : Err FeedTooLong ≡ Ok all = sym (cond-false (nat_lt (length feed) (2 ^ 31)) (groups_in source (events_of feed)) (Err FeedTooLong) long) ∙ e in cc
+      | inr long ↦ let err : Err FeedTooLong ≡ Ok all = sym (cond-false (nat_lt (length feed) (2 ^ 31)) (groups_in source (events_of_feed feed)) (Err FeedTooLong) long) ∙ e in cc
     ]
 
 -- the groups that a call gives are in order
@@ -46,5 +46,5 @@ pub in_order : SetLaws → {X : Type 0} (view : X → List GroupValue) (feed : L
     → GivesUnless meant_of view result (groups feed source) → IfOk result (λ all. InOrder (view all))
 in_order laws view feed source (Err fault) g = tt
 in_order laws view feed source (Ok all) g =
-    let w : Defined source (events_of feed).items (view all) = defined feed source (view all) g in
-    rw w.groups at (grown laws source (reverse (events_of feed).items) w.faultless).order
+    let w : Defined source (events_of_feed feed).items (view all) = defined feed source (view all) g in
+    rw w.groups at (grown laws source (reverse (events_of_feed feed).items) w.faultless).order

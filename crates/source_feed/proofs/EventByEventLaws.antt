@@ -12,7 +12,7 @@ use Rattle.source_feed.specs.declared.fault.FeedFault.TheVariants.{Event}
 use Rattle.outcome.specs.Outcome.{◌>>=◌, unless, GivesUnless}
 use Rattle.source_feed.specs.FaultNumber.{meant_of}
 use Rattle.source_feed.specs.SourceValue.{SourceValue}
-use Rattle.source_feed.specs.EventList.{end_of_message, events_then, events_of}
+use Rattle.source_feed.specs.EventList.{end_of_message, events_then, events_of_feed}
 use Rattle.source_feed.specs.PastEvents.{PastEvents}
 use Rattle.source_feed.specs.Groups.{fault_at, first_fault, closed, groups_in, groups}
 use Rattle.source_feed.specs.Private.EventByEvent.{past_behind, groups_at_end}
@@ -77,8 +77,8 @@ past_behind-events_then source history events (Some fault) others = past_behind-
 -- ---- a whole feed
 
 pub groups-run : (feed : List ℕ) (source : SourceValue) → length feed < 2 ^ 31
-    → groups feed source ≡ groups_at_end source (past_behind source [] (events_of feed).items (events_of feed).fault)
-groups-run feed source short = cond-true (nat_lt (length feed) (2 ^ 31)) _ _ (grind (arith, nat_tests)) ∙ groups_in-run source (events_of feed)
+    → groups feed source ≡ groups_at_end source (past_behind source [] (events_of_feed feed).items (events_of_feed feed).fault)
+groups-run feed source short = cond-true (nat_lt (length feed) (2 ^ 31)) _ _ (grind (arith, nat_tests)) ∙ groups_in-run source (events_of_feed feed)
 
 pub gives_along : {X Y : Type 0} (view : X → Y) (result : Result X FeedFault) (one other : Result Y FeedFault) → one ≡ other → GivesUnless meant_of view result other → GivesUnless meant_of view result one
 gives_along {X = X} {Y = Y} view result one other e g = let P : Result Y FeedFault → Type 0 = λ d. GivesUnless meant_of view result d in subst P (sym e) g

@@ -12,7 +12,7 @@ use Rattle.outcome.specs.Outcome.{GivesUnless, Refuses}
 use Rattle.source_feed.specs.FaultNumber.{meant_of}
 use Rattle.source_feed.specs.GroupValue.{GroupValue}
 use Rattle.source_feed.specs.SourceValue.{SourceValue}
-use Rattle.source_feed.specs.EventList.{events_of}
+use Rattle.source_feed.specs.EventList.{events_of_feed}
 use Rattle.source_feed.specs.PastEvents.{PastEvents, is_open}
 use Rattle.source_feed.specs.Groups.{first_fault, fault_at, closed, groups_in, groups_of, groups}
 use Rattle.source_feed.specs.FirstFault.{AtEvent, AtEnd, StandsIn}
@@ -99,10 +99,10 @@ stands : (feed : List ℕ) (source : SourceValue) (fault : FeedFault) → groups
 stands feed source fault e =
     elim (cases_Bool (nat_lt (length feed) (2 ^ 31))) [
       | inl short ↦
-          let at : groups_in source (events_of feed) ≡ Err fault = sym (cond-true (nat_lt (length feed) (2 ^ 31)) (groups_in source (events_of feed)) (Err FeedTooLong) short) ∙ e in
-          inr (ltb-true (length feed) (2 ^ 31) short, stands_in_events source (events_of feed) fault at)
+          let at : groups_in source (events_of_feed feed) ≡ Err fault = sym (cond-true (nat_lt (length feed) (2 ^ 31)) (groups_in source (events_of_feed feed)) (Err FeedTooLong) short) ∙ e in
+          inr (ltb-true (length feed) (2 ^ 31) short, stands_in_events source (events_of_feed feed) fault at)
       | inr long ↦
-          let at : refused FeedTooLong ≡ refused fault = sym (cond-false (nat_lt (length feed) (2 ^ 31)) (groups_in source (events_of feed)) (Err FeedTooLong) long) ∙ e in
+          let at : refused FeedTooLong ≡ refused fault = sym (cond-false (nat_lt (length feed) (2 ^ 31)) (groups_in source (events_of_feed feed)) (Err FeedTooLong) long) ∙ e in
           inl (sym (same_err FeedTooLong fault at), ltb-false (length feed) (2 ^ 31) long)
     ]
 

@@ -10,7 +10,7 @@ use Rattle.source_feed.specs.SourceValue.{SourceValue}
 use Rattle.source_feed.specs.PastEvents.{PastEvents}
 use Rattle.source_feed.specs.Groups.{Block, block_at, with_block, seen, group_of_block, groups_of}
 use Rattle.source_feed.specs.Grammar.{blocks}
-use Rattle.source_feed.specs.KeptBlocks.{union_with, kept_count, union_before, kept_before, group_as, IsKept, AreKeptBlocks}
+use Rattle.source_feed.specs.KeptBlocks.{union_with, kept_count, union_before, kept_before, group_as, IsKeptBlock, AreKeptBlocks}
 use Rattle.source_feed.proofs.OrderLaws.{slice_get-push}
 
 -- ---- one block more
@@ -59,8 +59,8 @@ slice_get-front (z ∷ xs) x y (suc i) e = slice_get-front xs x y i e
 record Kept (all : List Block) (groups : List GroupValue) (seen : Position) : Type 0 where
   union : seen ≡ union_with [] all
   count : length groups ≡ kept_count [] all
-  each_block : (i : ℕ) (block : Block) → IsKept all i block → slice_get groups (kept_before all i) ≡ Some (group_as (kept_before all i + 1) block)
-  each_group : (n : ℕ) (group : GroupValue) → slice_get groups n ≡ Some group → (i : ℕ) × (block : Block) × IsKept all i block × (kept_before all i ≡ n) × (group ≡ group_as (n + 1) block)
+  each_block : (i : ℕ) (block : Block) → IsKeptBlock all i block → slice_get groups (kept_before all i) ≡ Some (group_as (kept_before all i + 1) block)
+  each_group : (n : ℕ) (group : GroupValue) → slice_get groups n ≡ Some group → (i : ℕ) × (block : Block) × IsKeptBlock all i block × (kept_before all i ≡ n) × (group ≡ group_as (n + 1) block)
 
 none_yet : Kept [] [] []
 none_yet = record {
@@ -77,8 +77,8 @@ none_yet = record {
     no_group n group e = cc
 
 -- a kept block is one before the last, or the last
-kept_push : (all : List Block) (last block : Block) (i : ℕ) → IsKept (all ++ last ∷ []) i block
-    → ((i < length all) × IsKept all i block) ⊎ ((i ≡ length all) × (last ≡ block) × (within_of block.position (union_with [] all) ≡ false))
+kept_push : (all : List Block) (last block : Block) (i : ℕ) → IsKeptBlock (all ++ last ∷ []) i block
+    → ((i < length all) × IsKeptBlock all i block) ⊎ ((i ≡ length all) × (last ≡ block) × (within_of block.position (union_with [] all) ≡ false))
 kept_push all last block i k =
     elim (slice_get-push all last block i k.here) [
       | inl old ↦ inl (old.0, record { here = old.1; more = rw (union_before-push all last i (omega (arith, old.0))) at k.more })
@@ -89,7 +89,7 @@ kept_push all last block i k =
     ]
 
 -- a kept block stays one
-kept_front : (all : List Block) (last block : Block) (i : ℕ) → IsKept all i block → IsKept (all ++ last ∷ []) i block
+kept_front : (all : List Block) (last block : Block) (i : ℕ) → IsKeptBlock all i block → IsKeptBlock (all ++ last ∷ []) i block
 kept_front all last block i k =
     let within : i < length all = slice_get_within all i block k.here in
     record { here = slice_get-front all last block i k.here; more = ap (within_of block.position) (union_before-push all last i (omega (arith, within))) ∙ k.more }

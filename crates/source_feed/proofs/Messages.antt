@@ -18,7 +18,7 @@ use Rattle.source_feed.specs.declared.fault.FeedFault.TheVariants.{Memory}
 use Rattle.outcome.specs.Outcome.{◌>>=◌, unless, Refuses}
 use Rattle.source_feed.specs.FaultNumber.{meant_of}
 use Rattle.source_feed.specs.SourceValue.{SourceValue}
-use Rattle.source_feed.specs.EventList.{end_of_message, events_then, events_in}
+use Rattle.source_feed.specs.EventList.{end_of_message, events_then, events_in_messages}
 use Rattle.source_feed.specs.PastEvents.{PastEvents}
 use Rattle.source_feed.specs.Groups.{fault_at}
 use Rattle.source_feed.specs.Private.EventByEvent.{past_behind}
@@ -33,26 +33,26 @@ refuses_along fault one other h r = h r
 -- ---- messages of a feed
 
 pub split_message : (message : List ℕ) (old new : Reading (List ℕ) FrameFault) → old.items ≡ message ∷ new.items → old.fault ≡ new.fault
-    → events_in old.items old.fault ≡ events_then (response_of message).items (response_of message).fault (events_in new.items new.fault)
-split_message message old new i f = ap (λ items. events_in items old.fault) i ∙ ap (λ fault. events_in (message ∷ new.items) fault) f
+    → events_in_messages old.items old.fault ≡ events_then (response_of message).items (response_of message).fault (events_in_messages new.items new.fault)
+split_message message old new i f = ap (λ items. events_in_messages items old.fault) i ∙ ap (λ fault. events_in_messages (message ∷ new.items) fault) f
 
 pub took_message : (source : SourceValue) (whole : Result PastEvents FeedFault) (history next : PastEvents) (message : List ℕ) (old new : Reading (List ℕ) FrameFault)
-    → whole ≡ past_behind source history (events_in old.items old.fault).items (events_in old.items old.fault).fault → old.items ≡ message ∷ new.items → old.fault ≡ new.fault
+    → whole ≡ past_behind source history (events_in_messages old.items old.fault).items (events_in_messages old.items old.fault).fault → old.items ≡ message ∷ new.items → old.fault ≡ new.fault
     → past_behind source history (response_of message).items (end_of_message (response_of message).fault) ≡ Ok next
-    → whole ≡ past_behind source next (events_in new.items new.fault).items (events_in new.items new.fault).fault
+    → whole ≡ past_behind source next (events_in_messages new.items new.fault).items (events_in_messages new.items new.fault).fault
 took_message source whole history next message old new w i f ok =
     w ∙ ap (λ (all : Reading EventValue FeedFault). past_behind source history all.items all.fault) (split_message message old new i f)
-    ∙ past_behind-events_then source history (response_of message).items (response_of message).fault (events_in new.items new.fault)
-    ∙ ap (λ first. first >>= λ h. past_behind source h (events_in new.items new.fault).items (events_in new.items new.fault).fault) ok
+    ∙ past_behind-events_then source history (response_of message).items (response_of message).fault (events_in_messages new.items new.fault)
+    ∙ ap (λ first. first >>= λ h. past_behind source h (events_in_messages new.items new.fault).items (events_in_messages new.items new.fault).fault) ok
 
 pub refused_message : (source : SourceValue) (whole : Result PastEvents FeedFault) (history : PastEvents) (message : List ℕ) (old new : Reading (List ℕ) FrameFault) (fault : FeedFault)
-    → whole ≡ past_behind source history (events_in old.items old.fault).items (events_in old.items old.fault).fault → old.items ≡ message ∷ new.items → old.fault ≡ new.fault
+    → whole ≡ past_behind source history (events_in_messages old.items old.fault).items (events_in_messages old.items old.fault).fault → old.items ≡ message ∷ new.items → old.fault ≡ new.fault
     → past_behind source history (response_of message).items (end_of_message (response_of message).fault) ≡ Err fault
     → whole ≡ Err fault
 refused_message source whole history message old new fault w i f err =
     w ∙ ap (λ (all : Reading EventValue FeedFault). past_behind source history all.items all.fault) (split_message message old new i f)
-    ∙ past_behind-events_then source history (response_of message).items (response_of message).fault (events_in new.items new.fault)
-    ∙ ap (λ first. first >>= λ h. past_behind source h (events_in new.items new.fault).items (events_in new.items new.fault).fault) err
+    ∙ past_behind-events_then source history (response_of message).items (response_of message).fault (events_in_messages new.items new.fault)
+    ∙ ap (λ first. first >>= λ h. past_behind source h (events_in_messages new.items new.fault).items (events_in_messages new.items new.fault).fault) err
 
 -- ---- how many events there are
 
@@ -109,11 +109,11 @@ total : List (List ℕ) → ℕ
 total [] = 0
 total (message ∷ messages) = length message + total messages
 
-length-events_in : (messages : List (List ℕ)) (end : Option FrameFault) → length (events_in messages end).items ≤ total messages
+length-events_in : (messages : List (List ℕ)) (end : Option FrameFault) → length (events_in_messages messages end).items ≤ total messages
 unfolding total
 length-events_in [] end = omega arith
 length-events_in (message ∷ messages) end =
-    omega (arith, length-events_then (response_of message).items (response_of message).fault (events_in messages end), length-response_of message, length-events_in messages end)
+    omega (arith, length-events_then (response_of message).items (response_of message).fault (events_in_messages messages end), length-response_of message, length-events_in messages end)
 
 total-frames : (NoItem : List ℕ → FrameFault → Type 0) (bytes : List ℕ) (messages : List (List ℕ)) (end : Option FrameFault) → Spells IsFrame NoItem bytes messages end → total messages ≤ length bytes
 unfolding total
@@ -122,7 +122,7 @@ total-frames NoItem bytes (message ∷ messages) end s =
     omega (arith, total-frames NoItem s.1 messages end s.4, ap length s.2, ap length s.3.2, length-append s.0 s.1, length-append s.3.0 message)
 
 -- the events of a feed aren't more than its bytes
-pub length-feed : (feed : List ℕ) (frames : Reading (List ℕ) FrameFault) → AreFrames feed frames → length (events_in frames.items frames.fault).items ≤ length feed
+pub length-feed : (feed : List ℕ) (frames : Reading (List ℕ) FrameFault) → AreFrames feed frames → length (events_in_messages frames.items frames.fault).items ≤ length feed
 length-feed feed frames s = omega (arith, length-events_in frames.items frames.fault, total-frames (NoFrame (length feed)) feed frames.items frames.fault s)
 
 -- a fault that ends some events leaves no history behind them
@@ -137,9 +137,9 @@ ended_badly source next (event ∷ items) fault history e = never_unless (fault_
 -- and those behind it are as many less, unless the message ends them
 pub events_behind : (source : SourceValue) (history next : PastEvents) (message : List ℕ) (old new : Reading (List ℕ) FrameFault) → old.items ≡ message ∷ new.items → old.fault ≡ new.fault
     → past_behind source history (response_of message).items (end_of_message (response_of message).fault) ≡ Ok next
-    → length (response_of message).items + length (events_in new.items new.fault).items ≡ length (events_in old.items old.fault).items
+    → length (response_of message).items + length (events_in_messages new.items new.fault).items ≡ length (events_in_messages old.items old.fault).items
 events_behind source history next message old new i f ok =
-    rw (split_message message old new i f) (behind (response_of message).items (response_of message).fault (events_in new.items new.fault) history ok)
+    rw (split_message message old new i f) (behind (response_of message).items (response_of message).fault (events_in_messages new.items new.fault) history ok)
   where
     behind : (items : List EventValue) (fault : Option EventFault) (others : Reading EventValue FeedFault) (history : PastEvents)
         → past_behind source history items (end_of_message fault) ≡ Ok next → length items + length others.items ≡ length (events_then items fault others).items
@@ -149,9 +149,9 @@ events_behind source history next message old new i f ok =
 -- what holds of one of the events to come holds of one of the message or of one behind it
 pub any_behind : (P : EventValue → Bool) (source : SourceValue) (history next : PastEvents) (message : List ℕ) (old new : Reading (List ℕ) FrameFault) → old.items ≡ message ∷ new.items → old.fault ≡ new.fault
     → past_behind source history (response_of message).items (end_of_message (response_of message).fault) ≡ Ok next
-    → list_any P (events_in old.items old.fault).items ≡ (list_any P (response_of message).items || list_any P (events_in new.items new.fault).items)
+    → list_any P (events_in_messages old.items old.fault).items ≡ (list_any P (response_of message).items || list_any P (events_in_messages new.items new.fault).items)
 any_behind P source history next message old new i f ok =
-    rw (split_message message old new i f) (behind (response_of message).items (response_of message).fault (events_in new.items new.fault) ok)
+    rw (split_message message old new i f) (behind (response_of message).items (response_of message).fault (events_in_messages new.items new.fault) ok)
   where
     behind : (items : List EventValue) (fault : Option EventFault) (others : Reading EventValue FeedFault)
         → past_behind source history items (end_of_message fault) ≡ Ok next → list_any P (events_then items fault others).items ≡ (list_any P items || list_any P others.items)

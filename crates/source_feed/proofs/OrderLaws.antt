@@ -9,7 +9,7 @@ use Rattle.vevent.specs.EventValue.{EventValue, Gtid, Begin, Commit, Rollback, R
 use Rattle.source_feed.specs.declared.fault.FeedFault.TheVariants.{Diverged}
 use Rattle.source_feed.specs.GroupValue.{Position, TableChangeValue, GroupValue}
 use Rattle.source_feed.specs.SourceValue.{SourceValue, own_gtid}
-use Rattle.source_feed.specs.PastEvents.{PastEvents, is_open, set_of, set_of_text, position_of, body_position, body_changes}
+use Rattle.source_feed.specs.PastEvents.{PastEvents, is_open, past_set, past_set_of_text, position_of, body_position, body_changes}
 use Rattle.source_feed.specs.Groups.{Block, block_at, block_at_position, with_block, seen, group_of_block, groups_of, block_fault, position_fault, entry_fault, commit_fault, fault_at, first_fault}
 use Rattle.source_feed.specs.GroupOrder.{AreInOrder}
 use Rattle.source_feed.specs.Private.SetLaws.{SetLaws}
@@ -109,11 +109,11 @@ pushed laws groups seen block g p beyond around =
 
 -- ---- the position of a block
 
-position_canonical-of : SetLaws → (text : List ℕ) (read : Result Position GtidFault) (position : Position) → position_of_text text ≡ read → set_of read ≡ Some position → IsCanonical position
+position_canonical-of : SetLaws → (text : List ℕ) (read : Result Position GtidFault) (position : Position) → position_of_text text ≡ read → past_set read ≡ Some position → IsCanonical position
 position_canonical-of laws text (Ok set) position r e = rw (← same_Some set position e) (laws.canonical text set r)
 position_canonical-of laws text (Err fault) position r e = cc
 
-text_canonical : SetLaws → (text : Option (List ℕ)) (position : Position) → set_of_text text ≡ Some position → IsCanonical position
+text_canonical : SetLaws → (text : Option (List ℕ)) (position : Position) → past_set_of_text text ≡ Some position → IsCanonical position
 text_canonical laws None position e = cc
 text_canonical laws (Some text) position e = position_canonical-of laws text (position_of_text text) position refl e
 
@@ -148,12 +148,12 @@ ends_with source earlier position changes block e p f =
     record { canonical = rw (← same) p; faultless = rw (← same) f }
 
 ends_by_text : SetLaws → (source : SourceValue) (earlier : PastEvents) (text : List ℕ) (read : Result Position GtidFault) (block : Block) → position_of_text text ≡ read → is_open earlier ≡ false
-    → block_at_position (set_of read) [] ≡ Some block → position_fault source earlier read ≡ None → EndsWell source earlier block
+    → block_at_position (past_set read) [] ≡ Some block → position_fault source earlier read ≡ None → EndsWell source earlier block
 ends_by_text laws source earlier text (Ok set) block r shut e f = ends_with source earlier set [] block e (laws.canonical text set r) (sym (cond-false (is_open earlier) _ _ shut) ∙ f)
 ends_by_text laws source earlier text (Err fault) block r shut e f = cc
 
 ends_by_entry : SetLaws → (source : SourceValue) (earlier : PastEvents) (text : Option (List ℕ)) (block : Block) → is_open earlier ≡ false
-    → block_at_position (set_of_text text) [] ≡ Some block → entry_fault source earlier text ≡ None → EndsWell source earlier block
+    → block_at_position (past_set_of_text text) [] ≡ Some block → entry_fault source earlier text ≡ None → EndsWell source earlier block
 ends_by_entry laws source earlier None block shut e f = cc
 ends_by_entry laws source earlier (Some text) block shut e f = ends_by_text laws source earlier text (position_of_text text) block refl shut e f
 

@@ -11,7 +11,7 @@ use Rattle.source_feed.proofs.FrameLaws.{Ending, frames_end, front_whole, front_
 use Rattle.source_feed.specs.declared.fault.FeedFault.{FeedFault}
 use Rattle.source_feed.specs.declared.fault.FeedFault.TheVariants.{FeedTooLong, Frame}
 use Rattle.source_feed.specs.FaultNumber.{meant_of}
-use Rattle.source_feed.specs.Pieces.{AreWhole, IsLongestWhole, IsFront, is_no_length, broken_by, messages_in, WholeByBytes}
+use Rattle.source_feed.specs.Pieces.{AreWhole, IsLongestWhole, IsWholeFront, is_no_length, broken_by, messages_in, WholeByBytes}
 
 -- ---- lists
 
@@ -59,17 +59,17 @@ one_longest bytes one other a b =
 
 -- ---- where it ends
 
-front_here : (bytes : List ℕ) (end : ℕ) → end ≤ length bytes → take end bytes ≡ (frames_end bytes).front → IsFront bytes end
+front_here : (bytes : List ℕ) (end : ℕ) → end ≤ length bytes → take end bytes ≡ (frames_end bytes).front → IsWholeFront bytes end
 front_here bytes end le e = record { within = le; longest = subst (IsLongestWhole bytes) (sym e) (longest_is bytes) }
 
-pub front_all : (bytes : List ℕ) (end : ℕ) → (frames_of bytes).fault ≡ None → end ≡ length bytes → IsFront bytes end
+pub front_all : (bytes : List ℕ) (end : ℕ) → (frames_of bytes).fault ≡ None → end ≡ length bytes → IsWholeFront bytes end
 front_all bytes end e at = front_here bytes end (omega (arith, at)) (take-all end bytes at ∙ sym (front_none bytes e))
 
-pub front_place : (bytes : List ℕ) (f : FrameFault) → (frames_of bytes).fault ≡ Some f → IsFront bytes f.place
+pub front_place : (bytes : List ℕ) (f : FrameFault) → (frames_of bytes).fault ≡ Some f → IsWholeFront bytes f.place
 front_place bytes f e = let at = front_at bytes f e in front_here bytes f.place at.0 at.1
 
 -- where the other's first whole messages end
-pub front_is : (bytes : List ℕ) (end : ℕ) → IsFront bytes end → take end bytes ≡ (frames_end bytes).front
+pub front_is : (bytes : List ℕ) (end : ℕ) → IsWholeFront bytes end → take end bytes ≡ (frames_end bytes).front
 front_is bytes end h = one_longest bytes (take end bytes) (frames_end bytes).front h.longest (longest_is bytes)
 
 -- ---- one piece more
@@ -91,7 +91,7 @@ same_cause n None = refl
 same_cause n (Some f) = refl
 
 -- the bytes so far, one piece more, and what stands behind the whole messages of before
-module _ (bytes piece rest : List ℕ) (end : ℕ) (front : IsFront bytes end) (are : rest ≡ take (length (bytes ++ piece) - end) (drop end (bytes ++ piece))) where
+module _ (bytes piece rest : List ℕ) (end : ℕ) (front : IsWholeFront bytes end) (are : rest ≡ take (length (bytes ++ piece) - end) (drop end (bytes ++ piece))) where
   abbrev whole : List ℕ
   whole = take end bytes
 
@@ -110,7 +110,7 @@ module _ (bytes piece rest : List ℕ) (end : ℕ) (front : IsFront bytes end) (
   reads : frames_of (bytes ++ piece) ≡ record { items = (frames_of whole).items ++ (frames_of rest).items; fault = option_map (moved (length whole)) (frames_of rest).fault }
   reads = ap frames_of parts ∙ read_behind whole rest none
 
-  pub more_front : (end_of_rest : ℕ) → IsFront rest end_of_rest → IsFront (bytes ++ piece) (end + end_of_rest)
+  pub more_front : (end_of_rest : ℕ) → IsWholeFront rest end_of_rest → IsWholeFront (bytes ++ piece) (end + end_of_rest)
   more_front more h =
       let size : length (bytes ++ piece) ≡ length whole + length rest = ap length parts ∙ length-append whole rest in
       let within : more ≤ length rest = h.within in
@@ -153,7 +153,7 @@ messages_said bytes n e = by (nat_lt (length bytes) (2 ^ 31)) (broken_by (frames
 
 -- ---- no piece yet
 
-pub empty_front : IsFront [] 0
+pub empty_front : IsWholeFront [] 0
 empty_front = front_all [] 0 (ap (λ r. r.fault) frames_none) refl
 
 pub empty_messages : messages_in [] ≡ Ok 0

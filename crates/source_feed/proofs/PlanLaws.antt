@@ -15,8 +15,8 @@ use Rattle.vevent.specs.Columns.{has_columns, have_columns}
 use Rattle.vevent.specs.EventValue.{ChangeValue, FieldValue, EventValue, Begin, Commit, Row, Field}
 use Rattle.source_feed.specs.declared.fault.FeedFault.TheVariants.{Misplaced, ColumnCount}
 use Rattle.source_feed.specs.GroupValue.{Position, TableChangeValue, GroupValue}
-use Rattle.source_feed.specs.SourceValue.{table_of}
-use Rattle.source_feed.specs.EventList.{events_of}
+use Rattle.source_feed.specs.SourceValue.{table_in_source}
+use Rattle.source_feed.specs.EventList.{events_of_feed}
 use Rattle.source_feed.specs.PastEvents.{PastEvents, is_open, last_field, body_position, body_changes, change_in, changes_in, position_of}
 use Rattle.source_feed.specs.Groups.{Block, block_at, block_at_position, seen, group_of_block, groups_of, row_fault, fault_at, first_fault, groups}
 use Rattle.source_feed.specs.GroupOrder.{AreInOrder}
@@ -66,13 +66,13 @@ field_agrees : (plan : PlanValue) (past : PastEvents) (table : List ℕ) (t : �
 field_agrees plan [] table t fields d n e = cc
 field_agrees plan (Field name columns ∷ earlier) table t fields d n e =
     let both = neither (differs plan (Field name columns)) (list_any (differs plan) earlier) d in
-    elim (cases_Bool (bytes_eq (table_of (source_of plan) name) table)) [
+    elim (cases_Bool (bytes_eq (table_in_source (source_of plan) name) table)) [
       | inl holds ↦
-          let same : table_of (source_of plan) name ≡ table = same_text (table_of (source_of plan) name) table (sym holds) in
-          let here : columns ≡ fields = same_Some columns fields (sym (cond-true (bytes_eq (table_of (source_of plan) name) table) (Some columns) (last_field (source_of plan) earlier table) holds) ∙ e) in
-          ap length (sym here) ∙ agrees plan t (table_of_name plan (table_of (source_of plan) name)) columns (ap (table_of_name plan) same ∙ n) both.0
+          let same : table_in_source (source_of plan) name ≡ table = same_text (table_in_source (source_of plan) name) table (sym holds) in
+          let here : columns ≡ fields = same_Some columns fields (sym (cond-true (bytes_eq (table_in_source (source_of plan) name) table) (Some columns) (last_field (source_of plan) earlier table) holds) ∙ e) in
+          ap length (sym here) ∙ agrees plan t (table_of_name plan (table_in_source (source_of plan) name)) columns (ap (table_of_name plan) same ∙ n) both.0
       | inr beyond ↦
-          field_agrees plan earlier table t fields both.1 n (sym (cond-false (bytes_eq (table_of (source_of plan) name) table) (Some columns) (last_field (source_of plan) earlier table) beyond) ∙ e)
+          field_agrees plan earlier table t fields both.1 n (sym (cond-false (bytes_eq (table_in_source (source_of plan) name) table) (Some columns) (last_field (source_of plan) earlier table) beyond) ∙ e)
     ]
 field_agrees plan (event ∷ earlier) table t fields d n e = field_agrees plan earlier table t fields d n e
 
@@ -123,7 +123,7 @@ body_fits plan [] none d = tt
 body_fits plan (Begin ∷ earlier) none d = tt
 body_fits plan (Row name changes ∷ earlier) none d =
     let n = option_or-nothing (first_fault (source_of plan) earlier) (fault_at (source_of plan) earlier (Row name changes)) none in
-    let table : List ℕ = table_of (source_of plan) name in
+    let table : List ℕ = table_in_source (source_of plan) name in
     All-append (Fits plan) (body_changes (source_of plan) earlier) (changes_in table changes) (body_fits plan earlier n.0 d)
     (elim (cases_Bool (is_open earlier)) [
       | inl opened ↦
@@ -240,10 +240,10 @@ length-planned plan [] = refl
 length-planned plan (group ∷ more) = ap suc (length-planned plan more)
 
 is_feed : (plan : PlanValue) (feed : List ℕ) (all : List GroupValue) → IsPlan plan → InOrder all → length all < 2 ^ 31 → groups feed (source_of plan) ≡ Ok all
-    → list_any (differs plan) (events_of feed).items ≡ false → IsFeed (record { plan = plan; groups = map (planned_group plan) all })
+    → list_any (differs plan) (events_of_feed feed).items ≡ false → IsFeed (record { plan = plan; groups = map (planned_group plan) all })
 is_feed plan feed all p o few e d =
-    let w : Defined (source_of plan) (events_of feed).items all = defined feed (source_of plan) all e in
-    let fit : AllByRecursion (GroupFits plan) all = rw w.groups at (groups_fit plan (reverse (events_of feed).items) w.faultless (list_any-reverse (differs plan) (events_of feed).items d)) in
+    let w : Defined (source_of plan) (events_of_feed feed).items all = defined feed (source_of plan) all e in
+    let fit : AllByRecursion (GroupFits plan) all = rw w.groups at (groups_fit plan (reverse (events_of_feed feed).items) w.faultless (list_any-reverse (differs plan) (events_of_feed feed).items d)) in
     record {
       plan = p;
       order = planned_order plan all o;
@@ -265,7 +265,7 @@ none_differs plan given before after events g f e =
 -- a feed that was opened under its plan, whole
 pub opened_feed : (plan given : PlanValue) (feed : List ℕ) (all : List GroupValue) (under : List PlannedGroupValue) (checked : Option PlanValue) (before after : Bool)
     → IsPlan plan → given ≡ plan → under ≡ map (planned_group plan) all → InOrder all → length all < 2 ^ 31 → groups feed (source_of plan) ≡ Ok all
-    → checked ≡ Some plan → after ≡ false → after ≡ (before || list_any (differs_from checked) (events_of feed).items)
+    → checked ≡ Some plan → after ≡ false → after ≡ (before || list_any (differs_from checked) (events_of_feed feed).items)
     → IsFeed (record { plan = given; groups = under })
 opened_feed plan given feed all under checked before after w p u o few e c f d =
-    rw (p, u) (is_feed plan feed all w o few e (none_differs plan checked before after (events_of feed).items c f d))
+    rw (p, u) (is_feed plan feed all w o few e (none_differs plan checked before after (events_of_feed feed).items c f d))

@@ -13,13 +13,13 @@ use Rattle.filter_rule.specs.WellFormed.{IsPlan}
 use Rattle.pk_copy.proofs.PartLaws.{key_parts}
 use Rattle.pk_copy.specs.FaultNumber as keys
 use Rattle.pk_copy.specs.KeyValue.{KeyValue}
-use Rattle.pk_copy.specs.KeyOf.{key_cells, is_null, has_no_part, part_of, key_of}
+use Rattle.pk_copy.specs.KeyOf.{key_cells, is_null, has_no_part, key_part_of, key_of}
 use Rattle.vevent.specs.Columns.{has_columns}
 use Rattle.source_feed.specs.declared.fault.FeedFault.{FeedFault}
 use Rattle.source_feed.specs.GroupValue.{Position}
 use Rattle.source_feed.specs.Planned.{FeedValue, PlannedGroupValue, PlannedChangeValue, IsFeed, IsChangeUnder}
 use Rattle.source_feed.specs.Prepared.{IsTouchUnder, IsPrepared}
-use Rattle.source_feed.specs.Touches.{PutValue, TouchValue, group_at, in_group, key_in, passes_in, touches_before, touches_after, touches_of_change, touches_of}
+use Rattle.source_feed.specs.Touches.{PutValue, TouchValue, group_at, in_group, key_in_group, passes_in, touches_before, touches_after, touches_of_change, touches_of}
 use Rattle.source_feed.proofs.PlanLaws.{All-append}
 
 pub group_at-place : (feed : FeedValue) (number : ℕ) → 0 < number → group_at feed number ≡ slice_get feed.groups (number - 1)
@@ -43,14 +43,14 @@ made-table false false made key e = cc
 key_of-table : (plan : PlanValue) (t : ℕ) (row : List (Option (List ℕ))) (key : KeyValue) → key_of plan t row ≡ Ok key → t ≡ key.table
 key_of-table plan t row key e =
     ap (λ (k : KeyValue). k.table)
-    (made-table (list_any is_null (key_cells plan t row)) (list_any has_no_part (key_cells plan t row)) (record { table = t; parts = filter_map part_of (key_cells plan t row) }) key e)
+    (made-table (list_any is_null (key_cells plan t row)) (list_any has_no_part (key_cells plan t row)) (record { table = t; parts = filter_map key_part_of (key_cells plan t row) }) key e)
 
 -- what is answered of a group's row is answered of the row
 in_group-answer : {A F : Type 0} (number : F → ℕ) (n t : ℕ) (r : Result A F) (x : A) → in_group number n t r ≡ Ok x → r ≡ Ok x
 in_group-answer number n t (Ok y) x e = cc
 in_group-answer number n t (Err fault) x e = cc
 
-key_in-key : (plan : PlanValue) (n t : ℕ) (row : List (Option (List ℕ))) (key : KeyValue) → key_in plan n t row ≡ Ok key → key_of plan t row ≡ Ok key
+key_in-key : (plan : PlanValue) (n t : ℕ) (row : List (Option (List ℕ))) (key : KeyValue) → key_in_group plan n t row ≡ Ok key → key_of plan t row ≡ Ok key
 key_in-key plan n t row key e = in_group-answer keys.number_of n t (key_of plan t row) key e
 
 passes_in-answer : (plan : PlanValue) (n t : ℕ) (row : List (Option (List ℕ))) (passes : Bool) → passes_in plan n t row ≡ Ok passes → passes_of plan t row ≡ Ok passes
@@ -58,7 +58,7 @@ passes_in-answer plan n t row passes e = in_group-answer filter.number_of_fault 
 
 -- the touch of a row is one under the plan
 touch_under : (plan : PlanValue) (n t : ℕ) (row : List (Option (List ℕ))) (key : KeyValue) (put : Option PutValue) → IsPlan plan → t < length plan.tables → length row ≡ length (columns_of plan t)
-    → key_in plan n t row ≡ Ok key → IfSome put (λ p. (p.row ≡ row) × (passes_in plan n t row ≡ Ok p.passes)) → IsTouchUnder plan (key, put)
+    → key_in_group plan n t row ≡ Ok key → IfSome put (λ p. (p.row ≡ row) × (passes_in plan n t row ≡ Ok p.passes)) → IsTouchUnder plan (key, put)
 touch_under plan n t row key put whole within wide k answered =
     let at : key_of plan t row ≡ Ok key = key_in-key plan n t row key k in
     let same : t ≡ key.table = key_of-table plan t row key at in
@@ -80,9 +80,9 @@ module _ (plan : PlanValue) (whole : IsPlan plan) (n t : ℕ) (within : t < leng
   before_under : (row : Option (List (Option (List ℕ)))) (touches : List TouchValue) → IsTrue (has_columns (length (columns_of plan t)) row) → touches_before plan n t row ≡ Ok touches
       → AllByRecursion (IsTouchUnder plan) touches
   before_under None touches wide e = let none : [] ≡ touches = cc in subst (AllByRecursion (IsTouchUnder plan)) none tt
-  before_under (Some row) touches wide e = by (key_in plan n t row) refl e
+  before_under (Some row) touches wide e = by (key_in_group plan n t row) refl e
     where
-      by : (r : Result KeyValue FeedFault) → key_in plan n t row ≡ r → ((r >>= λ key. Ok (key, None)) >>= λ touch. Ok (touch ∷ [])) ≡ Ok touches → AllByRecursion (IsTouchUnder plan) touches
+      by : (r : Result KeyValue FeedFault) → key_in_group plan n t row ≡ r → ((r >>= λ key. Ok (key, None)) >>= λ touch. Ok (touch ∷ [])) ≡ Ok touches → AllByRecursion (IsTouchUnder plan) touches
       by (Ok key) k e =
           let width : length row ≡ length (columns_of plan t) = eqb-true (length row) (length (columns_of plan t)) wide in
           let one : (key, None) ∷ [] ≡ touches = cc in
@@ -92,9 +92,9 @@ module _ (plan : PlanValue) (whole : IsPlan plan) (n t : ℕ) (within : t < leng
   after_under : (row : Option (List (Option (List ℕ)))) (touches : List TouchValue) → IsTrue (has_columns (length (columns_of plan t)) row) → touches_after plan n t row ≡ Ok touches
       → AllByRecursion (IsTouchUnder plan) touches
   after_under None touches wide e = let none : [] ≡ touches = cc in subst (AllByRecursion (IsTouchUnder plan)) none tt
-  after_under (Some row) touches wide e = by (key_in plan n t row) (passes_in plan n t row) refl refl e
+  after_under (Some row) touches wide e = by (key_in_group plan n t row) (passes_in plan n t row) refl refl e
     where
-      by : (r : Result KeyValue FeedFault) (p : Result Bool FeedFault) → key_in plan n t row ≡ r → passes_in plan n t row ≡ p
+      by : (r : Result KeyValue FeedFault) (p : Result Bool FeedFault) → key_in_group plan n t row ≡ r → passes_in plan n t row ≡ p
           → ((r >>= λ key. p >>= λ passes. Ok (key, Some (record { row = row; passes = passes }))) >>= λ touch. Ok (touch ∷ [])) ≡ Ok touches → AllByRecursion (IsTouchUnder plan) touches
       by (Ok key) (Ok passes) k a e =
           let width : length row ≡ length (columns_of plan t) = eqb-true (length row) (length (columns_of plan t)) wide in

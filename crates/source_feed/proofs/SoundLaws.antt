@@ -14,7 +14,7 @@ use Rattle.pk_copy.specs.KeyOf.{key_of}
 use Rattle.source_feed.specs.declared.fault.FeedFault.{FeedFault}
 use Rattle.source_feed.specs.declared.fault.FeedFault.TheVariants.{BadRow}
 use Rattle.source_feed.specs.Planned.{PlannedChangeValue}
-use Rattle.source_feed.specs.Sound.{Row, IsRemoval, IsPut, AreOfBefore, AreOfAfter, AreOfChange, AreOfChanges, HasKey, HasAnswer, LacksKey, LacksAnswer, IsSound, FirstCause, IsFirstUnsound, TouchesByChange}
+use Rattle.source_feed.specs.Sound.{ChangeRow, IsRemoval, IsPut, AreOfBefore, AreOfAfter, AreOfChange, AreOfChanges, HasKey, HasAnswer, LacksKey, LacksAnswer, IsSoundChange, FirstCause, IsFirstUnsound, TouchesByChange}
 use Rattle.source_feed.specs.Touches.{TouchValue, in_group, touches_before, touches_after, touches_of_change, touches_of}
 
 abbrev pub Answer : Type 0
@@ -46,10 +46,10 @@ some-is : {A : Type 0} (x y : A) → Some x ≡ Some y → x ≡ y
 some-is x y e = cc
 
 module _ (plan : PlanValue) (n t : ℕ) where
-  has-lacks : (row : Option Row) (cause : ℕ) → HasKey plan t row → LacksKey plan t row cause → ⊥
+  has-lacks : (row : Option ChangeRow) (cause : ℕ) → HasKey plan t row → LacksKey plan t row cause → ⊥
   has-lacks row cause has lacks = is_ok-err (key_of plan t lacks.there) lacks.fault lacks.refused (subst (HasKey plan t) lacks.is has)
 
-  answer-lacks : (row : Option Row) (cause : ℕ) → HasAnswer plan t row → LacksAnswer plan t row cause → ⊥
+  answer-lacks : (row : Option ChangeRow) (cause : ℕ) → HasAnswer plan t row → LacksAnswer plan t row cause → ⊥
   answer-lacks row cause has lacks = is_ok-err (passes_of plan t lacks.there) lacks.fault lacks.refused (subst (HasAnswer plan t) lacks.is has)
 
   -- ---- the row before a change
@@ -57,7 +57,7 @@ module _ (plan : PlanValue) (n t : ℕ) where
   abbrev before_by : Result KeyValue KeyFault → Answer
   before_by r = (in_group keys.number_of n t r >>= λ key. Ok (key, None)) >>= λ touch. Ok (touch ∷ [])
 
-  pub before-told : (row : Option Row) → Told (λ touches. AreOfBefore plan t row touches × HasKey plan t row) (Caused n t (LacksKey plan t row)) (touches_before plan n t row)
+  pub before-told : (row : Option ChangeRow) → Told (λ touches. AreOfBefore plan t row touches × HasKey plan t row) (Caused n t (LacksKey plan t row)) (touches_before plan n t row)
   before-told None = (refl, tt)
   before-told (Some row) = by (key_of plan t row) refl
     where
@@ -66,14 +66,14 @@ module _ (plan : PlanValue) (n t : ℕ) where
       by (Ok key) e = (record { key = key; has = e; only = refl }, ap is_ok e)
       by (Err fault) e = record { cause = keys.number_of fault; here = record { there = row; fault = fault; is = refl; refused = e; number = refl }; named = refl }
 
-  pub before-made : (row : Option Row) (touches : List TouchValue) → AreOfBefore plan t row touches → touches_before plan n t row ≡ Ok touches
+  pub before-made : (row : Option ChangeRow) (touches : List TouchValue) → AreOfBefore plan t row touches → touches_before plan n t row ≡ Ok touches
   before-made None touches h = let none : [] ≡ touches = sym h in ap Ok none
   before-made (Some row) touches h = ap before_by h.has ∙ ap Ok (sym h.only)
 
-  pub before-refused : (row : Option Row) (cause : ℕ) → LacksKey plan t row cause → touches_before plan n t row ≡ Err (BadRow n t cause)
+  pub before-refused : (row : Option ChangeRow) (cause : ℕ) → LacksKey plan t row cause → touches_before plan n t row ≡ Err (BadRow n t cause)
   before-refused row cause h = ap (touches_before plan n t) h.is ∙ ap before_by h.refused ∙ ap (λ c. Err (BadRow n t c)) (sym h.number)
 
-  pub before-sound : (row : Option Row) → HasKey plan t row → (touches : List TouchValue) × (touches_before plan n t row ≡ Ok touches)
+  pub before-sound : (row : Option ChangeRow) → HasKey plan t row → (touches : List TouchValue) × (touches_before plan n t row ≡ Ok touches)
   before-sound row has = by (touches_before plan n t row) (before-told row)
     where
       by : (r : Answer) → Told (λ touches. AreOfBefore plan t row touches × HasKey plan t row) (Caused n t (LacksKey plan t row)) r → (touches : List TouchValue) × (r ≡ Ok touches)
@@ -82,14 +82,14 @@ module _ (plan : PlanValue) (n t : ℕ) where
 
   -- ---- the row after a change
 
-  abbrev pub AfterCause : Option Row → ℕ → Type 0
+  abbrev pub AfterCause : Option ChangeRow → ℕ → Type 0
   AfterCause row cause = LacksKey plan t row cause ⊎ (HasKey plan t row × LacksAnswer plan t row cause)
 
-  abbrev after_by : Row → Result KeyValue KeyFault → Result Bool VindexFault → Answer
+  abbrev after_by : ChangeRow → Result KeyValue KeyFault → Result Bool VindexFault → Answer
   after_by row r p =
       (in_group keys.number_of n t r >>= λ key. in_group filter.number_of_fault n t p >>= λ passes. Ok (key, Some (record { row = row; passes = passes }))) >>= λ touch. Ok (touch ∷ [])
 
-  pub after-told : (row : Option Row)
+  pub after-told : (row : Option ChangeRow)
       → Told (λ touches. AreOfAfter plan t row touches × (HasKey plan t row × HasAnswer plan t row)) (Caused n t (AfterCause row)) (touches_after plan n t row)
   after-told None = (refl, (tt, tt))
   after-told (Some row) = by (key_of plan t row) (passes_of plan t row) refl refl
@@ -104,11 +104,11 @@ module _ (plan : PlanValue) (n t : ℕ) where
       }
       by (Err fault) p e a = record { cause = keys.number_of fault; here = inl (record { there = row; fault = fault; is = refl; refused = e; number = refl }); named = refl }
 
-  pub after-made : (row : Option Row) (touches : List TouchValue) → AreOfAfter plan t row touches → touches_after plan n t row ≡ Ok touches
+  pub after-made : (row : Option ChangeRow) (touches : List TouchValue) → AreOfAfter plan t row touches → touches_after plan n t row ≡ Ok touches
   after-made None touches h = let none : [] ≡ touches = sym h in ap Ok none
   after-made (Some row) touches h = ap (λ r. after_by row r (passes_of plan t row)) h.has ∙ ap (λ p. after_by row (Ok h.key) p) h.answer ∙ ap Ok (sym h.only)
 
-  pub after-refused : (row : Option Row) (cause : ℕ) → AfterCause row cause → touches_after plan n t row ≡ Err (BadRow n t cause)
+  pub after-refused : (row : Option ChangeRow) (cause : ℕ) → AfterCause row cause → touches_after plan n t row ≡ Err (BadRow n t cause)
   after-refused row cause (inl h) =
       ap (touches_after plan n t) h.is ∙ ap (λ r. after_by h.there r (passes_of plan t h.there)) h.refused ∙ ap (λ c. Err (BadRow n t c)) (sym h.number)
   after-refused row cause (inr both) =
@@ -126,7 +126,7 @@ both_by r s = r >>= λ some. s >>= λ others. Ok (some ++ others)
 
 module _ (plan : PlanValue) (n : ℕ) where
   change-told : (change : PlannedChangeValue)
-      → Told (λ touches. AreOfChange plan change touches × IsSound plan change) (Caused n change.table (FirstCause plan change)) (touches_of_change plan n change)
+      → Told (λ touches. AreOfChange plan change touches × IsSoundChange plan change) (Caused n change.table (FirstCause plan change)) (touches_of_change plan n change)
   change-told change =
       by (touches_before plan n change.table change.before) (touches_after plan n change.table change.after) (before-told plan n change.table change.before)
       (after-told plan n change.table change.after)
@@ -134,7 +134,7 @@ module _ (plan : PlanValue) (n : ℕ) where
       by : (r s : Answer) → Told (λ touches. AreOfBefore plan change.table change.before touches × HasKey plan change.table change.before) (Caused n change.table (LacksKey plan change.table change.before)) r
           → Told (λ touches. AreOfAfter plan change.table change.after touches × (HasKey plan change.table change.after × HasAnswer plan change.table change.after))
           (Caused n change.table (AfterCause plan n change.table change.after)) s
-          → Told (λ touches. AreOfChange plan change touches × IsSound plan change) (Caused n change.table (FirstCause plan change)) (both_by r s)
+          → Told (λ touches. AreOfChange plan change touches × IsSoundChange plan change) (Caused n change.table (FirstCause plan change)) (both_by r s)
       by (Ok removed) (Ok put) b a =
           (record { removed = removed; put = put; before = b.0; after = a.0; order = refl }, record { before = b.1; after = a.1.0; answer = a.1.1 })
       by (Ok removed) (Err fault) b a = record { cause = a.cause; here = inr (elim a.here [ inl key ↦ inl (b.1, key) | inr answer ↦ inr (b.1, answer.0, answer.1) ]); named = a.named }
@@ -159,15 +159,15 @@ module _ (plan : PlanValue) (n : ℕ) where
   change-refused change cause (inr (inl h)) = later-refused change cause h.0 (inl h.1)
   change-refused change cause (inr (inr h)) = later-refused change cause h.0 (inr (h.1, h.2))
 
-  sound-no_cause : (change : PlannedChangeValue) (cause : ℕ) → IsSound plan change → FirstCause plan change cause → ⊥
+  sound-no_cause : (change : PlannedChangeValue) (cause : ℕ) → IsSoundChange plan change → FirstCause plan change cause → ⊥
   sound-no_cause change cause sound (inl h) = has-lacks plan n change.table change.before cause sound.before h
   sound-no_cause change cause sound (inr (inl h)) = has-lacks plan n change.table change.after cause sound.after h.1
   sound-no_cause change cause sound (inr (inr h)) = answer-lacks plan n change.table change.after cause sound.answer h.2
 
-  change-sound : (change : PlannedChangeValue) → IsSound plan change → (touches : List TouchValue) × (touches_of_change plan n change ≡ Ok touches)
+  change-sound : (change : PlannedChangeValue) → IsSoundChange plan change → (touches : List TouchValue) × (touches_of_change plan n change ≡ Ok touches)
   change-sound change sound = by (touches_of_change plan n change) (change-told change)
     where
-      by : (r : Answer) → Told (λ touches. AreOfChange plan change touches × IsSound plan change) (Caused n change.table (FirstCause plan change)) r → (touches : List TouchValue) × (r ≡ Ok touches)
+      by : (r : Answer) → Told (λ touches. AreOfChange plan change touches × IsSoundChange plan change) (Caused n change.table (FirstCause plan change)) r → (touches : List TouchValue) × (r ≡ Ok touches)
       by (Ok touches) told = (touches, refl)
       by (Err fault) told = absurd (sound-no_cause change told.cause sound told.here)
 
@@ -177,7 +177,7 @@ module _ (plan : PlanValue) (n : ℕ) where
   changes-told [] = record { parts = []; whole = refl; many = refl; each = λ i change part at there. absurd (none-is-some change at) }
   changes-told (c ∷ cs) = by (touches_of_change plan n c) (touches_of plan n cs) (change-told c) (changes-told cs)
     where
-      by : (r s : Answer) → Told (λ touches. AreOfChange plan c touches × IsSound plan c) (Caused n c.table (FirstCause plan c)) r
+      by : (r s : Answer) → Told (λ touches. AreOfChange plan c touches × IsSoundChange plan c) (Caused n c.table (FirstCause plan c)) r
           → Told (AreOfChanges plan cs) (IsFirstUnsound plan n cs) s → Told (AreOfChanges plan (c ∷ cs)) (IsFirstUnsound plan n (c ∷ cs)) (both_by r s)
       by (Ok some) (Ok others) here rest = record {
         parts = some ∷ rest.parts;
@@ -215,7 +215,7 @@ module _ (plan : PlanValue) (n : ℕ) where
       ap (λ r. both_by r (touches_of plan n cs)) (change-made c p (each 0 c p refl refl))
       ∙ ap (λ s. both_by (Ok p) s) (changes-made cs ps fewer (λ i. each (suc i)))
 
-  unsound-made : (earlier : List PlannedChangeValue) (change : PlannedChangeValue) (later : List PlannedChangeValue) (cause : ℕ) → AllByRecursion (IsSound plan) earlier
+  unsound-made : (earlier : List PlannedChangeValue) (change : PlannedChangeValue) (later : List PlannedChangeValue) (cause : ℕ) → AllByRecursion (IsSoundChange plan) earlier
       → FirstCause plan change cause → touches_of plan n (earlier ++ change ∷ later) ≡ Err (BadRow n change.table cause)
   unsound-made [] change later cause sound here = ap (λ r. both_by r (touches_of plan n later)) (change-refused change cause here)
   unsound-made (c ∷ cs) change later cause sound here =

@@ -12,7 +12,7 @@ use Rattle.outcome.specs.Outcome.{Refuses, IsFault, GivesUnless}
 use Rattle.source_feed.specs.FaultNumber.{meant_of}
 use Rattle.source_feed.specs.GroupValue.{Position, TableChangeValue}
 use Rattle.source_feed.specs.SourceValue.{SourceValue, own_gtid}
-use Rattle.source_feed.specs.PastEvents.{PastEvents, is_open, width_of, set_of, set_of_text, body_position, body_changes}
+use Rattle.source_feed.specs.PastEvents.{PastEvents, is_open, width_of, past_set, past_set_of_text, body_position, body_changes}
 use Rattle.source_feed.specs.Groups.{block_at, block_at_position, block_fault, position_fault, entry_fault, commit_fault, fault_at}
 use Rattle.source_feed.specs.Private.BlockEnd.{block_end}
 use Rattle.source_feed.specs.Private.TableWidths.{width_in, counted}
@@ -102,8 +102,8 @@ commit-puts laws source earlier old new (Err fault) position changes m b n w g =
 pub record Carries (source : SourceValue) (event : EventValue) (text : List ℕ) : Type 0 where
   pub same_open : (earlier : PastEvents) → is_open (event ∷ earlier) ≡ is_open earlier
   pub widths : (earlier : PastEvents) (table : List ℕ) → width_of source (event ∷ earlier) table ≡ width_of source earlier table
-  pub position : (earlier : PastEvents) → body_position source (event ∷ earlier) ≡ option_or (set_of (position_of_text text)) (body_position source earlier)
-  pub block : (earlier : PastEvents) → block_at source earlier event ≡ cond (is_open earlier) None (block_at_position (set_of (position_of_text text)) [])
+  pub position : (earlier : PastEvents) → body_position source (event ∷ earlier) ≡ option_or (past_set (position_of_text text)) (body_position source earlier)
+  pub block : (earlier : PastEvents) → block_at source earlier event ≡ cond (is_open earlier) None (block_at_position (past_set (position_of_text text)) [])
   pub fault : (earlier : PastEvents) → fault_at source earlier event ≡ position_fault source earlier (position_of_text text)
 
 pub carries-gtid : (source : SourceValue) (text : List ℕ) → Carries source (Gtid text) text
@@ -113,8 +113,8 @@ pub carries-vgtid : (source : SourceValue) (entries : List ShardGtidValue) (text
 carries-vgtid source entries text own = record {
   same_open = λ earlier. refl;
   widths = λ earlier table. refl;
-  position = λ earlier. ap (λ o. option_or (set_of_text o) (body_position source earlier)) own;
-  block = λ earlier. ap (λ o. cond (is_open earlier) None (block_at_position (set_of_text o) [])) own;
+  position = λ earlier. ap (λ o. option_or (past_set_of_text o) (body_position source earlier)) own;
+  block = λ earlier. ap (λ o. cond (is_open earlier) None (block_at_position (past_set_of_text o) [])) own;
   fault = λ earlier. ap (entry_fault source earlier) own;
 }
 
@@ -127,7 +127,7 @@ pub position-puts : SetLaws → {X : Type 0} (source : SourceValue) (earlier : P
 position-puts laws {X = X} source earlier event text old new result position carries read p m b n w g =
     let closed : is_open earlier ≡ false = closed_from source earlier (sym b ∙ m.body) in
     let block : block_at source earlier event ≡ Some (record { position = position; changes = [] })
-    = carries.block earlier ∙ cond-false (is_open earlier) _ _ closed ∙ ap (λ r. block_at_position (set_of r) []) read in
+    = carries.block earlier ∙ cond-false (is_open earlier) _ _ closed ∙ ap (λ r. block_at_position (past_set r) []) read in
     let fault : fault_at source earlier event ≡ block_fault source earlier position
     = carries.fault earlier ∙ ap (position_fault source earlier) read ∙ cond-false (is_open earlier) _ _ closed in
     let all : BlockEnds source earlier event old.groups.items position [] (block_end old.groups.items position [])
@@ -142,7 +142,7 @@ position-puts laws {X = X} source earlier event text old new result position car
         → TakesEvent source earlier event result new
     by_result (Ok x) g all closed fault =
         let ends : BlockEnds source earlier event old.groups.items position [] (Ok new.groups.items) = rw g at all in
-        let last : body_position source (event ∷ earlier) ≡ Some position = carries.position earlier ∙ ap (λ r. option_or (set_of r) (body_position source earlier)) read in (
+        let last : body_position source (event ∷ earlier) ≡ Some position = carries.position earlier ∙ ap (λ r. option_or (past_set r) (body_position source earlier)) read in (
           fault ∙ ends.0,
           record {
             body = n ∙ sym (cond-false (is_open (event ∷ earlier)) _ _ (carries.same_open earlier ∙ closed));

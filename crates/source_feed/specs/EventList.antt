@@ -10,9 +10,9 @@ use Rattle.source_feed.specs.declared.fault.FeedFault.{FeedFault}
 use Rattle.source_feed.specs.declared.fault.FeedFault.TheVariants.{Frame, Event}
 
 -- the end of the messages: a broken one is refused at its first byte
-abbrev pub end_of : Option FrameFault → Option FeedFault
-end_of None = None
-end_of (Some fault) = Some Frame
+abbrev pub fault_of_frame : Option FrameFault → Option FeedFault
+fault_of_frame None = None
+fault_of_frame (Some fault) = Some Frame
 
 -- the end of a message's events: what is no list of fields, or no event, is refused in its place
 abbrev pub end_of_message : Option EventFault → Option FeedFault
@@ -25,10 +25,10 @@ events_then events None others = record { items = events ++ others.items; fault 
 events_then events (Some fault) others = record { items = events; fault = Some (Event fault) }
 
 -- the events of some messages, where the messages end so
-abbrev pub events_in : List (List ℕ) → Option FrameFault → Reading EventValue FeedFault
-events_in [] end = record { items = []; fault = end_of end }
-events_in (message ∷ messages) end = events_then (response_of message).items (response_of message).fault (events_in messages end)
+abbrev pub events_in_messages : List (List ℕ) → Option FrameFault → Reading EventValue FeedFault
+events_in_messages [] end = record { items = []; fault = fault_of_frame end }
+events_in_messages (message ∷ messages) end = events_then (response_of message).items (response_of message).fault (events_in_messages messages end)
 
 -- the events of a feed, and the fault that ends them, if one does
-abbrev pub events_of : List ℕ → Reading EventValue FeedFault
-events_of feed = events_in (frames_of feed).items (frames_of feed).fault
+abbrev pub events_of_feed : List ℕ → Reading EventValue FeedFault
+events_of_feed feed = events_in_messages (frames_of feed).items (frames_of feed).fault

@@ -5,7 +5,7 @@ use Rattle.vevent.specs.EventValue.{EventValue}
 use Rattle.source_feed.specs.declared.fault.FeedFault.{FeedFault}
 use Rattle.source_feed.specs.declared.fault.FeedFault.TheVariants.{FeedTooLong, OpenAtEnd}
 use Rattle.source_feed.specs.SourceValue.{SourceValue}
-use Rattle.source_feed.specs.EventList.{events_of}
+use Rattle.source_feed.specs.EventList.{events_of_feed}
 use Rattle.source_feed.specs.PastEvents.{PastEvents, is_open}
 use Rattle.source_feed.specs.Groups.{first_fault, fault_at}
 
@@ -27,4 +27,4 @@ pub record AtEnd (source : SourceValue) (events : Reading EventValue FeedFault) 
 -- what a refusal says stands in the feed
 abbrev pub StandsIn : List ℕ → SourceValue → FeedFault → Type 0
 StandsIn feed source fault = ((fault ≡ FeedTooLong) × (2 ^ 31 ≤ length feed))
-    ⊎ ((length feed < 2 ^ 31) × (AtEvent source (events_of feed).items fault ⊎ AtEnd source (events_of feed) fault))
+    ⊎ ((length feed < 2 ^ 31) × (AtEvent source (events_of_feed feed).items fault ⊎ AtEnd source (events_of_feed feed) fault))

@@ -7,7 +7,7 @@ use Rattle.std.specs.Option.{option_to_list, option_or}
 use Rattle.vevent.specs.declared.ignored.IgnoredEvent.{IgnoredEvent}
 use Rattle.vevent.specs.EventValue.{EventValue, Begin, Commit, Rollback, Row, Field, Ignored}
 use Rattle.source_feed.specs.GroupValue.{Position, TableChangeValue}
-use Rattle.source_feed.specs.SourceValue.{SourceValue, table_of}
+use Rattle.source_feed.specs.SourceValue.{SourceValue, table_in_source}
 use Rattle.source_feed.specs.PastEvents.{PastEvents, is_open, last_field, position_of, changes_in}
 use Rattle.source_feed.specs.Groups.{Block, block_at, block_at_position}
 
@@ -30,7 +30,7 @@ last_position_in source (event ∷ body) = option_or (last_position_in source bo
 
 -- the changes of an event
 abbrev pub changes_at : SourceValue → EventValue → List TableChangeValue
-changes_at source (Row name changes) = changes_in (table_of source name) changes
+changes_at source (Row name changes) = changes_in (table_in_source source name) changes
 changes_at source event = []
 
 -- behind BEGIN and a body, before it `earlier`; a history has its latest event first

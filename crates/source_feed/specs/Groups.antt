@@ -12,9 +12,9 @@ use Rattle.vevent.specs.Columns.{have_columns}
 use Rattle.vevent.specs.EventValue.{ChangeValue, EventValue, Gtid, Begin, Commit, Row, Vgtid}
 use Rattle.source_feed.specs.declared.fault.FeedFault.{FeedFault}
 use Rattle.source_feed.specs.declared.fault.FeedFault.TheVariants.{FeedTooLong, BadPosition, NoPosition, Diverged, NoFields, ColumnCount, OpenAtEnd, ShardMissing, Misplaced}
-use Rattle.source_feed.specs.SourceValue.{SourceValue, table_of, own_gtid}
+use Rattle.source_feed.specs.SourceValue.{SourceValue, table_in_source, own_gtid}
 use Rattle.source_feed.specs.GroupValue.{Position, TableChangeValue, GroupValue}
-use Rattle.source_feed.specs.EventList.{events_of}
+use Rattle.source_feed.specs.EventList.{events_of_feed}
 use Rattle.source_feed.specs.PastEvents.{PastEvents, is_open, width_of, position_of, body_position, body_changes}
 
 -- ---- blocks
@@ -85,7 +85,7 @@ commit_fault source earlier (Some position) = block_fault source earlier positio
 -- the fault of an event behind a history, the first in the order of its type's rule
 abbrev pub fault_at : SourceValue → PastEvents → EventValue → Option FeedFault
 fault_at source earlier Begin = if is_open earlier then Some Misplaced else None
-fault_at source earlier (Row name changes) = if is_open earlier then row_fault (width_of source earlier (table_of source name)) changes else Some Misplaced
+fault_at source earlier (Row name changes) = if is_open earlier then row_fault (width_of source earlier (table_in_source source name)) changes else Some Misplaced
 fault_at source earlier (Gtid text) = position_fault source earlier (position_of_text text)
 fault_at source earlier (Vgtid entries) = entry_fault source earlier (own_gtid source entries)
 fault_at source earlier Commit = if is_open earlier then commit_fault source earlier (body_position source earlier) else None
@@ -109,4 +109,4 @@ groups_in source events = closed source (reverse events.items) (option_or (first
 
 -- the groups of a feed, or its fault: more than 2^31 - 1 bytes before all, else the first from the left
 abbrev pub groups : List ℕ → SourceValue → Result (List GroupValue) FeedFault
-groups feed source = if nat_lt (length feed) (2 ^ 31) then groups_in source (events_of feed) else Err FeedTooLong
+groups feed source = if nat_lt (length feed) (2 ^ 31) then groups_in source (events_of_feed feed) else Err FeedTooLong

@@ -30,14 +30,14 @@ abbrev pub group_as : ℕ → Block → GroupValue
 group_as number block = record { number = number; position = block.position; changes = block.changes }
 
 -- block i is one that is kept: its position isn't within the union of the positions before it
-pub record IsKept (all : List Block) (i : ℕ) (block : Block) : Type 0 where
+pub record IsKeptBlock (all : List Block) (i : ℕ) (block : Block) : Type 0 where
   pub here : slice_get all i ≡ Some block
   pub more : within_of block.position (union_before all i) ≡ false
 
 -- The groups are the blocks that are kept: each such block is a group, whose number is 1 plus the
 -- number of kept blocks before it, and each group is such a block.
 pub record AreKeptBlocks (source : SourceValue) (past : PastEvents) : Type 0 where
-  pub each_block : (i : ℕ) (block : Block) → IsKept (blocks source past) i block
+  pub each_block : (i : ℕ) (block : Block) → IsKeptBlock (blocks source past) i block
       → slice_get (groups_of source past) (kept_before (blocks source past) i) ≡ Some (group_as (kept_before (blocks source past) i + 1) block)
   pub each_group : (n : ℕ) (group : GroupValue) → slice_get (groups_of source past) n ≡ Some group
-      → (i : ℕ) × (block : Block) × IsKept (blocks source past) i block × (kept_before (blocks source past) i ≡ n) × (group ≡ group_as (n + 1) block)
+      → (i : ℕ) × (block : Block) × IsKeptBlock (blocks source past) i block × (kept_before (blocks source past) i ≡ n) × (group ≡ group_as (n + 1) block)

@@ -6,7 +6,7 @@ use Rattle.gtid_set.specs.Text.{position_of_text}
 use Rattle.gtid_set.specs.declared.interval.Interval.{Interval}
 use Rattle.gtid_set.specs.declared.fault.GtidFault.{GtidFault}
 use Rattle.vevent.specs.EventValue.{ChangeValue, FieldValue, EventValue, Gtid, Begin, Commit, Rollback, Row, Field, Vgtid}
-use Rattle.source_feed.specs.SourceValue.{SourceValue, table_of, own_gtid}
+use Rattle.source_feed.specs.SourceValue.{SourceValue, table_in_source, own_gtid}
 use Rattle.source_feed.specs.GroupValue.{Position, TableChangeValue}
 
 -- the events before a place, the latest one first
@@ -24,7 +24,7 @@ is_open (event ∷ earlier) = is_open earlier
 -- the columns of a table: those of its last FIELD, wherever that stands
 abbrev pub last_field : SourceValue → PastEvents → List ℕ → Option (List FieldValue)
 last_field source [] table = None
-last_field source (Field name columns ∷ earlier) table = if bytes_eq (table_of source name) table then Some columns else last_field source earlier table
+last_field source (Field name columns ∷ earlier) table = if bytes_eq (table_in_source source name) table then Some columns else last_field source earlier table
 last_field source (event ∷ earlier) table = last_field source earlier table
 
 -- how many columns a table has
@@ -32,18 +32,18 @@ abbrev pub width_of : SourceValue → PastEvents → List ℕ → Option ℕ
 width_of source history table = option_map length (last_field source history table)
 
 -- the set of a position text, where it is one
-abbrev pub set_of : Result (List Interval) GtidFault → Option Position
-set_of (Ok set) = Some set
-set_of (Err fault) = None
+abbrev pub past_set : Result (List Interval) GtidFault → Option Position
+past_set (Ok set) = Some set
+past_set (Err fault) = None
 
-abbrev pub set_of_text : Option (List ℕ) → Option Position
-set_of_text None = None
-set_of_text (Some text) = set_of (position_of_text text)
+abbrev pub past_set_of_text : Option (List ℕ) → Option Position
+past_set_of_text None = None
+past_set_of_text (Some text) = past_set (position_of_text text)
 
 -- the position that an event carries: a GTID's, or a VGTID's of the feed's own shard
 abbrev pub position_of : SourceValue → EventValue → Option Position
-position_of source (Gtid text) = set_of_text (Some text)
-position_of source (Vgtid entries) = set_of_text (own_gtid source entries)
+position_of source (Gtid text) = past_set_of_text (Some text)
+position_of source (Vgtid entries) = past_set_of_text (own_gtid source entries)
 position_of source event = None
 
 -- the last position since the last BEGIN
@@ -69,5 +69,5 @@ changes_in table (change ∷ more) = change_in table change ++ changes_in table 
 abbrev pub body_changes : SourceValue → PastEvents → List TableChangeValue
 body_changes source [] = []
 body_changes source (Begin ∷ earlier) = []
-body_changes source (Row name changes ∷ earlier) = body_changes source earlier ++ changes_in (table_of source name) changes
+body_changes source (Row name changes ∷ earlier) = body_changes source earlier ++ changes_in (table_in_source source name) changes
 body_changes source (event ∷ earlier) = body_changes source earlier

@@ -21,7 +21,7 @@ pub record IsLongestWhole (bytes whole : List ℕ) : Type 0 where
   pub longest : (longer behind : List ℕ) → bytes ≡ longer ++ behind → AreWhole longer → length longer ≤ length whole
 
 -- the longest beginning that is whole messages ends at this place
-pub record IsFront (bytes : List ℕ) (end : ℕ) : Type 0 where
+pub record IsWholeFront (bytes : List ℕ) (end : ℕ) : Type 0 where
   pub within : end ≤ length bytes
   pub longest : IsLongestWhole bytes (take end bytes)
 

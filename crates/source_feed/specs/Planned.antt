@@ -14,8 +14,8 @@ use Rattle.source_feed.specs.declared.fault.FeedFault.{FeedFault}
 use Rattle.source_feed.specs.declared.fault.FeedFault.TheVariants.{FieldsDiffer}
 use Rattle.source_feed.specs.GroupValue.{Position, TableChangeValue, GroupValue}
 use Rattle.source_feed.specs.GroupOrder.{AreInOrder}
-use Rattle.source_feed.specs.SourceValue.{SourceValue, table_of}
-use Rattle.source_feed.specs.EventList.{events_of}
+use Rattle.source_feed.specs.SourceValue.{SourceValue, table_in_source}
+use Rattle.source_feed.specs.EventList.{events_of_feed}
 use Rattle.source_feed.specs.Groups.{groups}
 
 -- the source that a plan is for
@@ -39,7 +39,7 @@ differs_at plan (Some t) fields = not (same_columns (columns_of plan t) fields)
 
 -- a FIELD event of a planned table whose columns aren't the plan's
 abbrev pub differs : PlanValue → EventValue → Bool
-differs plan (Field name fields) = differs_at plan (table_of_name plan (table_of (source_of plan) name)) fields
+differs plan (Field name fields) = differs_at plan (table_of_name plan (table_in_source (source_of plan) name)) fields
 differs plan event = false
 
 -- the same, where there is a plan to agree with
@@ -77,7 +77,7 @@ planned_groups plan events (Ok all) = if list_any (differs plan) events then Err
 
 -- the groups of a feed under a plan, or its fault
 abbrev pub groups_under : List ℕ → PlanValue → Result (List PlannedGroupValue) FeedFault
-groups_under feed plan = planned_groups plan (events_of feed).items (groups feed (source_of plan))
+groups_under feed plan = planned_groups plan (events_of_feed feed).items (groups feed (source_of plan))
 
 -- ---- what is true of every feed under a plan
 

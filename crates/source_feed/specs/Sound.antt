@@ -14,19 +14,19 @@ use Rattle.source_feed.specs.declared.fault.FeedFault.TheVariants.{BadRow}
 use Rattle.source_feed.specs.Planned.{PlannedChangeValue}
 use Rattle.source_feed.specs.Touches.{TouchValue, touches_of}
 
-abbrev pub Row : Type 0
-Row = List (Option (List ℕ))
+abbrev pub ChangeRow : Type 0
+ChangeRow = List (Option (List ℕ))
 
 -- ---- the touches of a change
 
 -- a row before a change leaves nothing at its key
-pub record IsRemoval (plan : PlanValue) (t : ℕ) (row : Row) (touches : List TouchValue) : Type 0 where
+pub record IsRemoval (plan : PlanValue) (t : ℕ) (row : ChangeRow) (touches : List TouchValue) : Type 0 where
   pub key : KeyValue
   pub has : key_of plan t row ≡ Ok key
   pub only : touches ≡ (key, None) ∷ []
 
 -- a row after a change is put at its key, with the filter's answer
-pub record IsPut (plan : PlanValue) (t : ℕ) (row : Row) (touches : List TouchValue) : Type 0 where
+pub record IsPut (plan : PlanValue) (t : ℕ) (row : ChangeRow) (touches : List TouchValue) : Type 0 where
   pub key : KeyValue
   pub passes : Bool
   pub has : key_of plan t row ≡ Ok key
@@ -34,11 +34,11 @@ pub record IsPut (plan : PlanValue) (t : ℕ) (row : Row) (touches : List TouchV
   pub only : touches ≡ (key, Some (record { row = row; passes = passes })) ∷ []
 
 -- the same where there may be no row: then there is no touch
-abbrev pub AreOfBefore : PlanValue → ℕ → Option Row → List TouchValue → Type 0
+abbrev pub AreOfBefore : PlanValue → ℕ → Option ChangeRow → List TouchValue → Type 0
 AreOfBefore plan t None touches = touches ≡ []
 AreOfBefore plan t (Some row) touches = IsRemoval plan t row touches
 
-abbrev pub AreOfAfter : PlanValue → ℕ → Option Row → List TouchValue → Type 0
+abbrev pub AreOfAfter : PlanValue → ℕ → Option ChangeRow → List TouchValue → Type 0
 AreOfAfter plan t None touches = touches ≡ []
 AreOfAfter plan t (Some row) touches = IsPut plan t row touches
 
@@ -60,31 +60,31 @@ pub record AreOfChanges (plan : PlanValue) (changes : List PlannedChangeValue) (
 -- ---- what stands in a group that isn't sound
 
 -- a row that there may be has a key; the filter answers of it
-abbrev pub HasKey : PlanValue → ℕ → Option Row → Type 0
+abbrev pub HasKey : PlanValue → ℕ → Option ChangeRow → Type 0
 HasKey plan t None = Unit {0}
 HasKey plan t (Some row) = IsOk (key_of plan t row)
 
-abbrev pub HasAnswer : PlanValue → ℕ → Option Row → Type 0
+abbrev pub HasAnswer : PlanValue → ℕ → Option ChangeRow → Type 0
 HasAnswer plan t None = Unit {0}
 HasAnswer plan t (Some row) = IsOk (passes_of plan t row)
 
 -- there is a row, and it has no key, by the number of the cause; the filter has no answer of it
-pub record LacksKey (plan : PlanValue) (t : ℕ) (row : Option Row) (cause : ℕ) : Type 0 where
-  pub there : Row
+pub record LacksKey (plan : PlanValue) (t : ℕ) (row : Option ChangeRow) (cause : ℕ) : Type 0 where
+  pub there : ChangeRow
   pub fault : KeyFault
   pub is : row ≡ Some there
   pub refused : key_of plan t there ≡ Err fault
   pub number : cause ≡ keys.number_of fault
 
-pub record LacksAnswer (plan : PlanValue) (t : ℕ) (row : Option Row) (cause : ℕ) : Type 0 where
-  pub there : Row
+pub record LacksAnswer (plan : PlanValue) (t : ℕ) (row : Option ChangeRow) (cause : ℕ) : Type 0 where
+  pub there : ChangeRow
   pub fault : VindexFault
   pub is : row ≡ Some there
   pub refused : passes_of plan t there ≡ Err fault
   pub number : cause ≡ filter.number_of_fault fault
 
 -- a change is sound: its rows have keys, and the filter answers of the row after
-pub record IsSound (plan : PlanValue) (change : PlannedChangeValue) : Type 0 where
+pub record IsSoundChange (plan : PlanValue) (change : PlannedChangeValue) : Type 0 where
   pub before : HasKey plan change.table change.before
   pub after : HasKey plan change.table change.after
   pub answer : HasAnswer plan change.table change.after
@@ -104,7 +104,7 @@ pub record IsFirstUnsound (plan : PlanValue) (group : ℕ) (changes : List Plann
   pub later : List PlannedChangeValue
   pub cause : ℕ
   pub split : changes ≡ earlier ++ change ∷ later
-  pub sound : AllByRecursion (IsSound plan) earlier
+  pub sound : AllByRecursion (IsSoundChange plan) earlier
   pub here : FirstCause plan change cause
   pub named : fault ≡ BadRow group change.table cause
 

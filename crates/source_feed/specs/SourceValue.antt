@@ -18,8 +18,8 @@ abbrev pub short_name : List ℕ → List ℕ → List ℕ
 short_name [] name = name
 short_name (b ∷ keyspace) name = without_prefix ((b ∷ keyspace) ++ 46 ∷ []) name
 
-abbrev pub table_of : SourceValue → List ℕ → List ℕ
-table_of source name = short_name source.keyspace name
+abbrev pub table_in_source : SourceValue → List ℕ → List ℕ
+table_in_source source name = short_name source.keyspace name
 
 -- the position text of a VGTID: it has exactly one entry, that of the feed's own keyspace and shard
 abbrev pub own_gtid : SourceValue → List ShardGtidValue → Option (List ℕ)

@@ -36,8 +36,8 @@ in_group number group t (Ok x) = Ok x
 in_group number group t (Err fault) = Err (BadRow group t (number fault))
 
 -- the key of a row of a group's change
-abbrev pub key_in : PlanValue → ℕ → ℕ → List (Option (List ℕ)) → Result KeyValue FeedFault
-key_in plan group t row = in_group keys.number_of group t (key_of plan t row)
+abbrev pub key_in_group : PlanValue → ℕ → ℕ → List (Option (List ℕ)) → Result KeyValue FeedFault
+key_in_group plan group t row = in_group keys.number_of group t (key_of plan t row)
 
 -- what the filter answers of a row of a group's change
 abbrev pub passes_in : PlanValue → ℕ → ℕ → List (Option (List ℕ)) → Result Bool FeedFault
@@ -45,12 +45,12 @@ passes_in plan group t row = in_group filter.number_of_fault group t (passes_of 
 
 -- a row before a change touches its key with nothing; its filter isn't asked
 abbrev pub removal_of : PlanValue → ℕ → ℕ → List (Option (List ℕ)) → Result TouchValue FeedFault
-removal_of plan group t row = key_in plan group t row >>= λ key. Ok (key, None)
+removal_of plan group t row = key_in_group plan group t row >>= λ key. Ok (key, None)
 
 -- a row after a change touches its key with itself
 abbrev pub put_of : PlanValue → ℕ → ℕ → List (Option (List ℕ)) → Result TouchValue FeedFault
 put_of plan group t row =
-    key_in plan group t row >>= λ key.
+    key_in_group plan group t row >>= λ key.
     passes_in plan group t row >>= λ passes.
     Ok (key, Some (record { row = row; passes = passes }))
 

@@ -5,7 +5,7 @@ ghost use Rattle.std.specs.List.{list_any};
 ghost use Rattle.vevent.specs.Response.{response_of};
 ghost use Rattle.outcome.specs.Outcome.{GivesUnless, Refuses};
 ghost use Rattle.source_feed.specs.FaultNumber.{meant_of};
-ghost use Rattle.source_feed.specs.EventList.{end_of_message, events_of};
+ghost use Rattle.source_feed.specs.EventList.{end_of_message, events_of_feed};
 ghost use Rattle.source_feed.specs.PastEvents.{PastEvents};
 ghost use Rattle.source_feed.specs.declared.fault.FeedFault.TheVariants.{FeedTooLong};
 ghost use Rattle.source_feed.specs.GroupValue.{GroupValue};
@@ -60,10 +60,10 @@ fn put_feed<'h>(
     feed: &'h [u8],
 ) -> Result<GroupReader<'h>, FeedFault>
     requires { length feed.now < 2 ^ 31 }
-    ensures ok { IfOk result (λ reader. TakesEvents source.now (past_behind source.now [] (events_of feed.now).items (events_of feed.now).fault) result reader) }
+    ensures ok { IfOk result (λ reader. TakesEvents source.now (past_behind source.now [] (events_of_feed feed.now).items (events_of_feed feed.now).fault) result reader) }
     ensures few { IfOk result (λ reader. length reader.groups.items < 2 ^ 31) }
-    ensures err { IfErr result (λ fault. Refuses meant_of fault (past_behind source.now [] (events_of feed.now).items (events_of feed.now).fault)) }
-    ensures seen { OnOk result (field_check.new.differs ≡ (field_check.old.differs || list_any (differs_from (option_copied field_check.old.plan)) (events_of feed.now).items)) }
+    ensures err { IfErr result (λ fault. Refuses meant_of fault (past_behind source.now [] (events_of_feed feed.now).items (events_of_feed feed.now).fault)) }
+    ensures seen { OnOk result (field_check.new.differs ≡ (field_check.old.differs || list_any (differs_from (option_copied field_check.old.plan)) (events_of_feed feed.now).items)) }
 {
     let mut reader = GroupReader::new(alloc);
     let mut frames = Frames::new(feed);
@@ -83,7 +83,7 @@ pub(crate) fn read<'h>(
     ensures groups { GivesUnless meant_of (λ all. all.items) result (groups feed.now source.now) }
     ensures order { IfOk result (λ all. AreInOrder (λ (g : GroupValue). g.number) (λ (g : GroupValue). g.position) all.items) }
     ensures few { IfOk result (λ all. length all.items < 2 ^ 31) }
-    ensures seen { OnOk result (field_check.new.differs ≡ (field_check.old.differs || list_any (differs_from (option_copied field_check.old.plan)) (events_of feed.now).items)) }
+    ensures seen { OnOk result (field_check.new.differs ≡ (field_check.old.differs || list_any (differs_from (option_copied field_check.old.plan)) (events_of_feed feed.now).items)) }
     ensures too_long { 2 ^ 31 ≤ length feed.now → result ≡ Err FeedTooLong }
 {
     if feed.len() > FEED_BYTES {

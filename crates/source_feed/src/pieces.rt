@@ -4,7 +4,7 @@ ghost use Rattle.std.specs.Prelude.{◌≡◌, ◌^◌, ◌<◌, ◌≤◌, ℕ,
 ghost use Rattle.outcome.specs.Outcome.{GivesUnless};
 ghost use Rattle.proto_wire.specs.Frame.{frames_of};
 ghost use Rattle.source_feed.specs.FaultNumber.{meant_of};
-ghost use Rattle.source_feed.specs.Pieces.{IsLongestWhole, IsFront, is_no_length, broken_by, messages_in};
+ghost use Rattle.source_feed.specs.Pieces.{IsLongestWhole, IsWholeFront, is_no_length, broken_by, messages_in};
 ghost use Rattle.source_feed.specs.declared.fault.FeedFault.TheVariants.{FeedTooLong};
 
 use crate::fault::FeedFault;
@@ -26,14 +26,14 @@ pub struct FeedBuilder {
 
 impl Model for FeedBuilder {
     ghost use Rattle.std.specs.Prelude.{◌≡◌, ℕ, List, Ok};
-    ghost use Rattle.source_feed.specs.Pieces.{IsFront, messages_in};
+    ghost use Rattle.source_feed.specs.Pieces.{IsWholeFront, messages_in};
 
     ghost Value = { List ℕ };
 
     ghost view = { λ b. b.bytes.items };
 
     // what is taken is within the limit and no length in it is broken, and so many messages end there
-    ghost invariant = { λ b. IsFront b.bytes.items b.end × (messages_in b.bytes.items ≡ Ok b.messages) };
+    ghost invariant = { λ b. IsWholeFront b.bytes.items b.end × (messages_in b.bytes.items ≡ Ok b.messages) };
 }
 
 /// Where the whole messages at the front end, and how many they are.
@@ -53,7 +53,7 @@ fn is_no_length(cause: WireFault) -> bool
 /// The whole messages at the front. Refused where what stands behind them is a length that is no varint.
 fn front_of(bytes: &[u8]) -> Result<Front, FeedFault>
     requires { length bytes.now < 2 ^ 31 }
-    ensures front { IfOk result (λ front. IsFront bytes.now front.end) }
+    ensures front { IfOk result (λ front. IsWholeFront bytes.now front.end) }
     ensures messages { IfOk result (λ front. front.messages ≡ length (frames_of bytes.now).items) }
     ensures sound { OnOk result (broken_by (frames_of bytes.now).fault ≡ None) }
     ensures refused { IfErr result (λ fault. broken_by (frames_of bytes.now).fault ≡ Some fault) }

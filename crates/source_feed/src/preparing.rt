@@ -6,7 +6,7 @@ ghost use Rattle.vevent.specs.Columns.{has_columns};
 ghost use Rattle.filter_rule.specs.PlanValue.{columns_of};
 ghost use Rattle.source_feed.specs.FaultNumber.{meant_of};
 ghost use Rattle.source_feed.specs.Planned.{PlannedChangeValue, IsChangeUnder};
-ghost use Rattle.source_feed.specs.Touches.{key_in, passes_in, removal_of, put_of, touches_before, touches_after, touches_of_change, touches_of};
+ghost use Rattle.source_feed.specs.Touches.{key_in_group, passes_in, removal_of, put_of, touches_before, touches_after, touches_of_change, touches_of};
 ghost use Rattle.source_feed.specs.Private.TouchesBehind.{behind};
 
 use crate::fault::FeedFault;
@@ -41,7 +41,7 @@ impl Place<'_> {
     fn key<'h>(&self, alloc: Global, row: &RowView<'h>) -> Result<LentKey<'h>, FeedFault>
         requires table { self.now.table < length self.now.plan.now.tables }
         requires columns { length row.now ≡ length (columns_of self.now.plan.now self.now.table) }
-        ensures { GivesUnless meant_of (λ key. key) result (key_in self.now.plan.now self.now.group self.now.table row.now) }
+        ensures { GivesUnless meant_of (λ key. key) result (key_in_group self.now.plan.now self.now.group self.now.table row.now) }
     {
         match key_of(self.plan, self.table, row) {
             Ok(key) => Ok(LentKey::from_view(alloc, &key)?),

@@ -1,7 +1,7 @@
 //! Whose feed it is.
 
 ghost use Rattle.std.specs.Prelude.{◌≡◌, ◌≢◌, ℕ, List, [], ◌∷◌, ◌++◌, IfSome, IfNone, Some, None};
-ghost use Rattle.source_feed.specs.SourceValue.{table_of, own_gtid};
+ghost use Rattle.source_feed.specs.SourceValue.{table_in_source, own_gtid};
 
 use std::marker::Model;
 use vevent::VGtid;
@@ -32,7 +32,7 @@ fn behind_keyspace<'h>(keyspace: &str, name: &'h str) -> Option<&'h str>
 impl<'k> Source<'k> {
     /// A table's name without the keyspace and its dot.
     pub(crate) fn table<'h>(&self, name: &'h str) -> &'h str
-        ensures { result.now ≡ table_of self.now name.now }
+        ensures { result.now ≡ table_in_source self.now name.now }
     {
         if self.keyspace.is_empty() {
             return name;

@@ -2,7 +2,7 @@
 use Rattle.std.proofs.Common.{◌≡◌, Bool, true, false, List, [], ◌∷◌, ◌++◌, Result, Ok, Err, refl, sym, ap, subst, ◌∙◌}
 use Rattle.std.specs.Prelude.{MatchResult, if◌then◌else◌}
 use Rattle.std.specs.List.{AllByRecursion}
-use Rattle.stream_core.specs.Rows.{Row, first_of, decides, NoneStands, StandsFirst}
+use Rattle.stream_core.specs.Rows.{Row, first_standing, decides, NoneStands, StandsFirst}
 
 module _ {A R : Type 0} where
   -- what is known of a row's refusals and its answer
@@ -18,10 +18,10 @@ module _ {A R : Type 0} where
     none_before = (refl, h.none_before);
   }
 
-  pub first_in_order : (refusals : List (Bool × R)) (answer : A) → InOrder refusals answer (first_of refusals answer)
+  pub first_in_order : (refusals : List (Bool × R)) (answer : A) → InOrder refusals answer (first_standing refusals answer)
   first_in_order [] answer = (tt, refl)
   first_in_order ((true, refusal) ∷ later) answer = record { earlier = []; later = later; place = refl; none_before = tt }
-  first_in_order ((false, refusal) ∷ later) answer = passed refusal later answer (first_of later answer) (first_in_order later answer)
+  first_in_order ((false, refusal) ∷ later) answer = passed refusal later answer (first_standing later answer) (first_in_order later answer)
 
   -- a result that is what the row decides
   pub in_order : (row : Row A R) (result : Result A R) → result ≡ decides row → InOrder row.refusals row.otherwise result

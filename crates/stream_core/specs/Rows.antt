@@ -8,13 +8,13 @@ pub record Row (A R : Type 0) : Type 0 where
   pub otherwise : A
 
 -- the first refusal whose condition holds, else the answer
-abbrev pub first_of : {A R : Type 0} → List (Bool × R) → A → Result A R
-first_of [] answer = Ok answer
-first_of (refusal ∷ later) answer = if refusal.0 then Err refusal.1 else first_of later answer
+abbrev pub first_standing : {A R : Type 0} → List (Bool × R) → A → Result A R
+first_standing [] answer = Ok answer
+first_standing (refusal ∷ later) answer = if refusal.0 then Err refusal.1 else first_standing later answer
 
 -- what the row decides
 abbrev pub decides : {A R : Type 0} → Row A R → Result A R
-decides row = first_of row.refusals row.otherwise
+decides row = first_standing row.refusals row.otherwise
 
 -- none of these refusals' conditions holds
 abbrev pub NoneStands : {R : Type 0} → List (Bool × R) → Type 0

@@ -26,12 +26,12 @@ use Rattle.board_laws.specs.Chunk.{takes_all, copied_state}
 use Rattle.board_laws.specs.StateAfter.{state_after}
 use Rattle.board_laws.specs.declared.answer.Answer.TheVariants.{Applied}
 use Rattle.board_laws.specs.Cut.{own_row}
-use Rattle.board_laws.specs.Step.{IsMade, IsRefusedFor, IsRefused, IsStep}
+use Rattle.board_laws.specs.Step.{IsMade, IsRefusedFor, IsRefusedOn, IsStep}
 use Rattle.apply_core.specs.Chunks.{IsChunkFor}
 use Rattle.apply_core.specs.Putting.{DoAsStep}
 use Rattle.apply_core.specs.declared.taking.Chunk.{Chunk}
 use Rattle.stream_worker.specs.Knowing.{Laid, names}
-use Rattle.stream_worker.specs.Rule.{GoesOn, AllGoOn, IsOwnChange}
+use Rattle.stream_worker.specs.Rule.{StateGoesOn, AllGoOn, IsOwnChange}
 use Rattle.stream_worker.specs.Outlines.{IsNextOf}
 use Rattle.stream_worker.specs.declared.outline.Next.{Next}
 use Rattle.stream_worker.specs.Seats.{IsBoardStep, IsReceiptOf, own_cut}
@@ -44,18 +44,18 @@ front-stays zero xs ys h = refl
 front-stays (suc n) [] ys h = absurd (omega arith)
 front-stays {A} (suc n) (x ∷ xs) ys h = ap (λ (zs : List A). x ∷ zs) (front-stays n xs ys (omega arith))
 
-goes_on_copy : (state : State) (c : ℕ) → GoesOn state (copied_state state c)
+goes_on_copy : (state : State) (c : ℕ) → StateGoesOn state (copied_state state c)
 goes_on_copy state c = by (takes_all state c) refl
   where
-    by : (b : Bool) → takes_all state c ≡ b → GoesOn state (copied_state state c)
+    by : (b : Bool) → takes_all state c ≡ b → StateGoesOn state (copied_state state c)
     by true e = rw e (record { plan = refl; applied = omega arith; groups = refl })
     by false e = rw e (record { plan = refl; applied = omega arith; groups = refl })
 
 -- a stream goes on behind each step that it may make
-pub goes_on_step : (state : State) (event : Event) → state.applied ≤ length state.list → GoesOn state (state_after state event)
+pub goes_on_step : (state : State) (event : Event) → state.applied ≤ length state.list → StateGoesOn state (state_after state event)
 goes_on_step state (offer group) within = by (nat_le group.number (length state.list)) refl
   where
-    by : (b : Bool) → nat_le group.number (length state.list) ≡ b → GoesOn state (state_after state (offer group))
+    by : (b : Bool) → nat_le group.number (length state.list) ≡ b → StateGoesOn state (state_after state (offer group))
     by true e = rw e (goes_on-refl state)
     by false e = rw e (record { plan = refl; applied = omega arith; groups = front-stays state.applied state.list (group ∷ []) within })
 goes_on_step state advance within = record { plan = refl; applied = omega arith; groups = refl }
@@ -79,15 +79,15 @@ set_same (z ∷ xs) zero x y e = refl
 set_same (z ∷ xs) (suc s) x y e = set_same xs s x y e
 
 -- a board with another state of one stream, which goes on
-with_one : (board : List State) (s : ℕ) (state next : State) → slice_get board s ≡ Some state → GoesOn state next → AllGoOn board (set board s next)
+with_one : (board : List State) (s : ℕ) (state next : State) → slice_get board s ≡ Some state → StateGoesOn state next → AllGoOn board (set board s next)
 with_one board s state next here on t other e = by (t == s) refl
   where
-    by : (b : Bool) → (t == s) ≡ b → IsSomeAnd (slice_get (set board s next) t) (GoesOn other)
+    by : (b : Bool) → (t == s) ≡ b → IsSomeAnd (slice_get (set board s next) t) (StateGoesOn other)
     by true same =
         let at : t ≡ s = eqb-true t s same in
         let is : state ≡ other = same_Some state other (sym here ∙ ap (slice_get board) (sym at) ∙ e) in
         let there : slice_get (set board s next) t ≡ Some next = ap (slice_get (set board s next)) at ∙ set_same board s next state here in
-        subst (λ (o : Option State). IsSomeAnd o (GoesOn other)) (sym there) (subst (λ (one : State). GoesOn one next) is on)
+        subst (λ (o : Option State). IsSomeAnd o (StateGoesOn other)) (sym there) (subst (λ (one : State). StateGoesOn one next) is on)
     by false ne = same_goes_on (slice_get (set board s next) t) other (set_other board s next t (eqb-false t s ne) ∙ e)
 
 not_named : (s t : ℕ) → names (s ∷ []) t ≡ false → t ≢ s
@@ -238,7 +238,7 @@ own_none board s key lawful there = ap (own_row s) (sym there) ∙ lawful.cuts s
 -- ---- a call that changes nothing
 
 -- a refusal that was found before the step is made leaves the board
-pub refused_here : (old : Meaning) (now : Laid) (given s : ℕ) (event : Event) (refusal : Refusal) → laid_of old given ≡ now → IsLawful old → IsRefused old s event refusal
+pub refused_here : (old : Meaning) (now : Laid) (given s : ℕ) (event : Event) (refusal : Refusal) → laid_of old given ≡ now → IsLawful old → IsRefusedOn old s event refusal
     → IsBoardStep now s event (Err refusal) now
 refused_here old now given s event refusal is lawful refused =
     subst (λ (laid : Laid). IsBoardStep laid s event (Err refusal) laid) is

@@ -9,8 +9,8 @@ use Rattle.board_laws.specs.Meaning.{State}
 use Rattle.board_laws.specs.Lawful.{standing_of}
 use Rattle.stream_worker.specs.declared.seat.Seat.{Seat}
 use Rattle.stream_worker.specs.declared.shared.Shared.{Shared}
-use Rattle.stream_worker.specs.Knowing.{Laid, Knows, IsAmong, boards_of, names, with_states, states_joined, states_seen, joined, state_seen}
-use Rattle.stream_worker.specs.Rule.{IsSaid, IsTaken}
+use Rattle.stream_worker.specs.Knowing.{Laid, Knows, IsAmong, boards_of, names, with_states, states_joined, states_seen, joined_knowing, state_seen}
+use Rattle.stream_worker.specs.Rule.{IsSaid, IsBoardTaken}
 use Rattle.stream_worker.specs.SeatOf.{known, seat_state, IsSeatOf, AreSeatsOf, AreApartSeats, AreStatesOf, AreAllKnown, AllGoOnFromSeen, SawAsMany}
 use Rattle.stream_worker.proofs.Passes.{named_before, named_behind}
 use Rattle.stream_worker.proofs.ToldLaws.{among_before, among_behind, saw_among, told_among, from_boards}
@@ -74,7 +74,7 @@ first_known seats n seat last there =
 -- ---- one seat more
 
 -- the states that a joined pass saw
-joined_state : (v w : Knows) (mine : Laid) (s : ℕ) → v.seen ≡ Some mine → state_seen (joined v w) s ≡ slice_get (states_joined w.streams 0 (states_seen w.seen) mine.board) s
+joined_state : (v w : Knows) (mine : Laid) (s : ℕ) → v.seen ≡ Some mine → state_seen (joined_knowing v w) s ≡ slice_get (states_joined w.streams 0 (states_seen w.seen) mine.board) s
 joined_state v w mine s e = ap (λ (o : Option Laid). option_and_then (λ (laid : Laid). slice_get laid.board s) (option_map {T = Laid} (with_states w.streams w.seen) o)) e
 
 seen_states : (o : Option Laid) (s : ℕ) (state : State) → option_and_then (λ (laid : Laid). slice_get laid.board s) o ≡ Some state → slice_get (states_seen o) s ≡ Some state
@@ -84,23 +84,23 @@ seen_states (Some laid) s state e = e
 start : (s : ℕ) → s ≡ 0 + s
 start s = omega arith
 
-takes_theirs : (v w : Knows) (s : ℕ) (state : State) → IsSome v.seen → names w.streams s ≡ true → state_seen w s ≡ Some state → state_seen (joined v w) s ≡ Some state
+takes_theirs : (v w : Knows) (s : ℕ) (state : State) → IsSome v.seen → names w.streams s ≡ true → state_seen w s ≡ Some state → state_seen (joined_knowing v w) s ≡ Some state
 takes_theirs v w s state some name there = by v.seen refl some
   where
-    by : (o : Option Laid) → v.seen ≡ o → IsSome o → state_seen (joined v w) s ≡ Some state
+    by : (o : Option Laid) → v.seen ≡ o → IsSome o → state_seen (joined_knowing v w) s ≡ Some state
     by None e h = absurd (true≢false (sym h))
     by (Some mine) e h =
         joined_state v w mine s e ∙ joined_theirs w.streams 0 (states_seen w.seen) mine.board s s state (start s) name (seen_states w.seen s state there)
 
-keeps_ours : (v w : Knows) (s : ℕ) (state : State) → names w.streams s ≡ false → state_seen v s ≡ Some state → state_seen (joined v w) s ≡ Some state
+keeps_ours : (v w : Knows) (s : ℕ) (state : State) → names w.streams s ≡ false → state_seen v s ≡ Some state → state_seen (joined_knowing v w) s ≡ Some state
 keeps_ours v w s state name there = by v.seen refl there
   where
-    by : (o : Option Laid) → v.seen ≡ o → option_and_then (λ (laid : Laid). slice_get laid.board s) o ≡ Some state → state_seen (joined v w) s ≡ Some state
+    by : (o : Option Laid) → v.seen ≡ o → option_and_then (λ (laid : Laid). slice_get laid.board s) o ≡ Some state → state_seen (joined_knowing v w) s ≡ Some state
     by None e h = cc
     by (Some mine) e h = joined_state v w mine s e ∙ joined_ours w.streams 0 (states_seen w.seen) mine.board s s state (start s) name h
 
 pub joined_known : (shared : Shared) (seats : List Seat) (n : ℕ) (v : Knows) (seat : Seat) → AreApartSeats shared seats → AreAllKnown seats (n + 1) v → slice_get seats n ≡ Some seat
-    → AreAllKnown seats n (joined v (view seat.pass))
+    → AreAllKnown seats n (joined_knowing v (view seat.pass))
 joined_known shared seats n v seat all known_before there =
     record {
       holds = known_before.holds;
@@ -137,26 +137,26 @@ joined_known shared seats n v seat all known_before there =
         ⊎_elim (λ (is : k ≡ n). subst (λ (one : Seat). names (v.streams ++ w.streams) one.stream ≡ true) (here k other is at) (named_behind v.streams w.streams seat.stream (seat_names seat)))
         (λ (past : n + 1 ≤ k). named_before v.streams w.streams other.stream (known_before.own k other past at)) (at_or_behind k le)
 
-    states : (k : ℕ) (other : Seat) → n ≤ k → slice_get seats k ≡ Some other → state_seen (joined v w) other.stream ≡ seat_state other
+    states : (k : ℕ) (other : Seat) → n ≤ k → slice_get seats k ≡ Some other → state_seen (joined_knowing v w) other.stream ≡ seat_state other
     states k other le at =
         ⊎_elim
         (λ (is : k ≡ n).
-        subst (λ (one : Seat). state_seen (joined v w) one.stream ≡ seat_state one) (here k other is at)
+        subst (λ (one : Seat). state_seen (joined_knowing v w) one.stream ≡ seat_state one) (here k other is at)
         (takes_theirs v w seat.stream (seat_has seat).0 known_before.seen (seat_names seat) (seat_has seat).1 ∙ sym (seat_has seat).1))
         (λ (past : n + 1 ≤ k).
         keeps_ours v w other.stream (seat_has other).0 (apart k other past at) (known_before.states k other past at ∙ (seat_has other).1) ∙ sym (seat_has other).1)
         (at_or_behind k le)
 
-    told : (k : ℕ) (other : Seat) (laid : Laid) → n ≤ k → slice_get seats k ≡ Some other → (known other).seen ≡ Some laid → IsAmong laid.board (boards_of (joined v w))
+    told : (k : ℕ) (other : Seat) (laid : Laid) → n ≤ k → slice_get seats k ≡ Some other → (known other).seen ≡ Some laid → IsAmong laid.board (boards_of (joined_knowing v w))
     told k other laid le at saw =
-        told_among (joined v w) laid.board
+        told_among (joined_knowing v w) laid.board
         (⊎_elim (λ (is : k ≡ n). among_behind (boards_of v) (boards_of w) laid.board (saw_among w laid (ap (λ (one : Seat). (known one).seen) (here k other is at) ∙ saw)))
         (λ (past : n + 1 ≤ k). among_before (boards_of v) (boards_of w) laid.board (known_before.told k other laid past at saw)) (at_or_behind k le))
 
 -- ---- the end
 
 -- the board that such a pass takes has the states that the seats know
-pub ended : (seats : List Seat) (v holding : Knows) (deal : Laid) → AreAllKnown seats 0 v → IsTaken v deal holding → AreStatesOf seats deal.board
+pub ended : (seats : List Seat) (v holding : Knows) (deal : Laid) → AreAllKnown seats 0 v → IsBoardTaken v deal holding → AreStatesOf seats deal.board
 ended seats v holding deal all h k seat at = by v.seen refl h.says
   where
     zero_le : 0 ≤ k
@@ -170,10 +170,10 @@ ended seats v holding deal all h k seat at = by v.seen refl h.says
         ∙ all.states k seat zero_le at
 
 -- it goes on from what each of them saw
-pub ended_on : (seats : List Seat) (v holding : Knows) (deal : Laid) → AreAllKnown seats 0 v → IsTaken v deal holding → AllGoOnFromSeen seats deal.board
+pub ended_on : (seats : List Seat) (v holding : Knows) (deal : Laid) → AreAllKnown seats 0 v → IsBoardTaken v deal holding → AllGoOnFromSeen seats deal.board
 ended_on seats v holding deal all h k seat laid at saw = (from_boards v deal h.says h.told laid.board (all.told k seat laid (omega arith) at saw)).every
 
-pub ended_many : (seats : List Seat) (v holding : Knows) (deal : Laid) → AreAllKnown seats 0 v → IsTaken v deal holding → SawAsMany seats (length deal.board)
+pub ended_many : (seats : List Seat) (v holding : Knows) (deal : Laid) → AreAllKnown seats 0 v → IsBoardTaken v deal holding → SawAsMany seats (length deal.board)
 ended_many seats v holding deal all h k seat laid at saw = sym (from_boards v deal h.says h.told laid.board (all.told k seat laid (omega arith) at saw)).long
 
 -- ---- seats taken off the end
@@ -205,7 +205,7 @@ first_popped shared all rest n x each split long =
 
 -- the last of the first seats, and those before it
 pub next_popped : (shared : Shared) (all items rest : List Seat) (m n : ℕ) (x : Seat) (v : Knows) → AreApartSeats shared all → items ≡ take m all → items ≡ rest ++ x ∷ [] → m ≡ n + 1 → length rest ≡ n
-    → AreAllKnown all m v → IsSeatOf shared x × (rest ≡ take n all) × AreAllKnown all n (joined v (view x.pass))
+    → AreAllKnown all m v → IsSeatOf shared x × (rest ≡ take n all) × AreAllKnown all n (joined_knowing v (view x.pass))
 next_popped shared all items rest m n x v each front split more long all_known =
     let is : m ≡ suc n = omega (arith, more) in
     let cut : items ≡ take (suc n) all = front ∙ ap (λ (k : ℕ). take k all) is in

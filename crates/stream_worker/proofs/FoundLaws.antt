@@ -7,7 +7,7 @@ use Rattle.std.specs.Prelude.{IsOk, nat_lt}
 use Rattle.std.specs.Option.{option_map}
 use Rattle.stream_core.specs.declared.refusal.CoreRefusal.TheVariants.{Gap}
 use Rattle.stream_core.specs.declared.step.Step.TheVariants.{Offer}
-use Rattle.stream_core.specs.Rows.{first_of}
+use Rattle.stream_core.specs.Rows.{first_standing}
 use Rattle.stream_core.specs.Standing.{Standing}
 use Rattle.stream_core.specs.StepTable.{row_of, decided}
 use Rattle.source_feed.specs.Prepared.{IsPrepared}
@@ -27,7 +27,7 @@ use Rattle.board_laws.specs.Laws.{with_state, StillSteps}
 use Rattle.stream_worker.specs.declared.found.Found.{Found}
 use Rattle.stream_worker.specs.declared.found.Found.TheVariants.{Same, OtherPlan, OtherGroup}
 use Rattle.stream_worker.specs.Knowing.{Laid, Knows, state_seen}
-use Rattle.stream_worker.specs.Rule.{IsTaken}
+use Rattle.stream_worker.specs.Rule.{IsBoardTaken}
 use Rattle.stream_worker.specs.Outlines.{Outlined, outline_of}
 use Rattle.stream_worker.specs.Private.FoundGroups.{IsBeside, IsFound, answer_of}
 use Rattle.stream_worker.specs.Seats.{IsBoardStep}
@@ -36,7 +36,7 @@ use Rattle.stream_worker.proofs.SeatLaws.{own_as_seen}
 
 -- ---- the step table
 
-none-refuses : {A R : Type 0} (refusal : R) (answer : A) (b : Bool) → b ≡ false → IsOk (first_of ((b, refusal) ∷ []) answer)
+none-refuses : {A R : Type 0} (refusal : R) (answer : A) (b : Bool) → b ≡ false → IsOk (first_standing ((b, refusal) ∷ []) answer)
 none-refuses refusal answer true e = absurd (true≢false e)
 none-refuses refusal answer false e = refl
 
@@ -120,7 +120,7 @@ found_in inside outline n group there read found is number at same h =
 -- ---- a seat
 
 -- what a seat found of a group in its outline is so of its stream on the board that it took
-pub found_taken : (before : Knows) (s : ℕ) (taken : Laid) (holding : Knows) (standing : Standing) (outline : Outlined) (group : PreparedValue) (found : Found) → before.streams ≡ s ∷ [] → IsTaken before taken holding
+pub found_taken : (before : Knows) (s : ℕ) (taken : Laid) (holding : Knows) (standing : Standing) (outline : Outlined) (group : PreparedValue) (found : Found) → before.streams ≡ s ∷ [] → IsBoardTaken before taken holding
     → option_map standing_of (state_seen before s) ≡ Some standing → option_map outline_of (state_seen before s) ≡ Some outline → IsFound outline.list group found
     → IsSomeAnd (slice_get taken.board s) (λ state. IsFound state.list group found)
 found_taken before s taken holding standing outline group found own h numbers is fact = by (state_seen before s) refl is

@@ -18,7 +18,7 @@ use Rattle.stream_worker.specs.declared.run_refusal.RunRefusal.{RunRefusal}
 use Rattle.stream_worker.specs.declared.run_refusal.RunRefusal.TheVariants.{FeedCount, WrongPlan, Unsound, OwnedByOther, Memory}
 use Rattle.stream_worker.specs.Ended.{HasEnded, IsFedBoard, AllHaveEnded}
 use Rattle.stream_worker.specs.Knowing.{Laid}
-use Rattle.stream_worker.specs.Rule.{GoesOn}
+use Rattle.stream_worker.specs.Rule.{StateGoesOn}
 use Rattle.stream_worker.specs.RunRefused.{TouchesKey, BothTouch, EndsRun, IsLowest, refused_stream}
 use Rattle.stream_worker.specs.SeatOf.{known, seat_state, IsSeatOf, AreSeatsOf, AreStatesOf, AllGoOnFromSeen, SawAsMany, IsOpened}
 use Rattle.stream_worker.specs.Worked.{HasCome, MeetsRow, EndsSeat}
@@ -223,7 +223,7 @@ module _ (feeds : List FeedValue) (old : Meaning) (fed : IsFedBoard feeds old) (
       → BothTouch feeds stream owner key
   met k one at stream key owner same row =
       let is : IsRan shared feeds k one = ran k one at in
-      let later : (x : State) × (slice_get board.streams owner ≡ Some x) × GoesOn row.state x = the-one (slice_get board.streams owner) (GoesOn row.state) (seen k one.seat row.laid (seat-at rans k one at) row.seen owner row.state row.there) in
+      let later : (x : State) × (slice_get board.streams owner ≡ Some x) × StateGoesOn row.state x = the-one (slice_get board.streams owner) (StateGoesOn row.state) (seen k one.seat row.laid (seat-at rans k one at) row.seen owner row.state row.there) in
       let has : HasFeed feeds owner later.0 = reads owner later.0 later.1 in
       let theirs : IsTouchedIn (sound_groups has.feed) key
       = read_touched has.feed later.0 row.state.applied key has.reads

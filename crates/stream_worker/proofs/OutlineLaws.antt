@@ -19,7 +19,7 @@ use Rattle.board_laws.specs.Chunk.{takes_all, copied_state}
 use Rattle.board_laws.specs.StateAfter.{state_after}
 use Rattle.stream_worker.specs.declared.outline.Next.{Next}
 use Rattle.stream_worker.specs.Knowing.{Laid, Knows, state_seen}
-use Rattle.stream_worker.specs.Rule.{IsTaken, IsPut}
+use Rattle.stream_worker.specs.Rule.{IsBoardTaken, IsBoardPut}
 use Rattle.stream_worker.specs.Outlines.{Outlined, outline_of, IsNextIn, IsNextOf}
 use Rattle.stream_worker.specs.Seats.{IsBoardStep}
 use Rattle.stream_worker.proofs.BoardSteps.{behind, step_leaves}
@@ -45,7 +45,7 @@ outlines_more streams s n outlines more one is so_far e count =
 
 module _ (before holding after : Knows) (s : ℕ) (taken left : Laid) (event : Event) (result : Result Answer Refusal) (standing : Standing) (outline : Outlined) where
   -- what is true of every outline behind the call is true of the seat's
-  pub put_outline : (kept : Outlined) → IsPut holding left after → IsBoardStep taken s event result left → IsTaken before taken holding → before.streams ≡ s ∷ []
+  pub put_outline : (kept : Outlined) → IsBoardPut holding left after → IsBoardStep taken s event result left → IsBoardTaken before taken holding → before.streams ≡ s ∷ []
       → option_map standing_of (state_seen before s) ≡ Some standing → option_map outline_of (state_seen before s) ≡ Some outline
       → ((state : State) → slice_get taken.board s ≡ Some state → outline_of state ≡ outline → slice_get left.board s ≡ Some (behind state event result) → outline_of (behind state event result) ≡ kept)
       → option_map outline_of (state_seen after s) ≡ Some kept
@@ -79,8 +79,8 @@ same_outline state (copy_rows c) (Ok answer) e = cc
 same_outline state close (Ok answer) e = refl
 same_outline state restart (Ok answer) e = cc
 
-pub still_outlined : (before holding after : Knows) (s : ℕ) (taken left : Laid) (event : Event) (result : Result Answer Refusal) (standing : Standing) (outline : Outlined) → IsPut holding left after
-    → IsBoardStep taken s event result left → IsTaken before taken holding → before.streams ≡ s ∷ [] → option_map standing_of (state_seen before s) ≡ Some standing
+pub still_outlined : (before holding after : Knows) (s : ℕ) (taken left : Laid) (event : Event) (result : Result Answer Refusal) (standing : Standing) (outline : Outlined) → IsBoardPut holding left after
+    → IsBoardStep taken s event result left → IsBoardTaken before taken holding → before.streams ≡ s ∷ [] → option_map standing_of (state_seen before s) ≡ Some standing
     → option_map outline_of (state_seen before s) ≡ Some outline → leaves_outline event ≡ true → option_map outline_of (state_seen after s) ≡ Some outline
 still_outlined before holding after s taken left event result standing outline put step h own numbers is leaves =
     put_outline before holding after s taken left event result standing outline outline put step h own numbers is (λ state here one there. same_outline state event result leaves ∙ one)
@@ -130,8 +130,8 @@ numbers_there : (o : Option State) (next : State) (standing : Standing) → o �
 numbers_there o next standing e numbers = same_Some (standing_of next) standing (sym (ap (option_map standing_of) e) ∙ numbers)
 
 module _ (before holding after : Knows) (s : ℕ) (taken left : Laid) (result : Result Answer Refusal) (standing cursor : Standing) (outline pushed kept : Outlined) (own : before.streams ≡ s ∷ [])
-    (numbers : option_map standing_of (state_seen before s) ≡ Some standing) (is : option_map outline_of (state_seen before s) ≡ Some outline) (h : IsTaken before taken holding)
-    (put : IsPut holding left after) (there : option_map standing_of (slice_get left.board s) ≡ Some cursor) where
+    (numbers : option_map standing_of (state_seen before s) ≡ Some standing) (is : option_map outline_of (state_seen before s) ≡ Some outline) (h : IsBoardTaken before taken holding)
+    (put : IsBoardPut holding left after) (there : option_map standing_of (slice_get left.board s) ≡ Some cursor) where
   pub offer_outlined : (group : PreparedValue) → IsBoardStep taken s (offer group) result left → pushed ≡ outlined (outline.list ++ group ∷ []) outline.marks → kept ≡ outlined (take cursor.read pushed.list) pushed.marks
       → option_map outline_of (state_seen after s) ≡ Some kept
   offer_outlined group step more e =
@@ -160,8 +160,8 @@ copy_keeps state c = by (takes_all state c) refl
     by true e = rw e refl
     by false e = rw e refl
 
-pub copy_outlined : (before holding after : Knows) (s : ℕ) (taken left : Laid) (c : ℕ) (answer : Answer) (standing : Standing) (outline kept : Outlined) (marks : Marks) → IsPut holding left after
-    → IsBoardStep taken s (copy_rows c) (Ok answer) left → IsTaken before taken holding → before.streams ≡ s ∷ [] → option_map standing_of (state_seen before s) ≡ Some standing
+pub copy_outlined : (before holding after : Knows) (s : ℕ) (taken left : Laid) (c : ℕ) (answer : Answer) (standing : Standing) (outline kept : Outlined) (marks : Marks) → IsBoardPut holding left after
+    → IsBoardStep taken s (copy_rows c) (Ok answer) left → IsBoardTaken before taken holding → before.streams ≡ s ∷ [] → option_map standing_of (state_seen before s) ≡ Some standing
     → option_map outline_of (state_seen before s) ≡ Some outline → IsSomeAnd (slice_get taken.board s) (λ state. marks ≡ (state_after state (copy_rows c)).marks)
     → kept ≡ outlined outline.list marks → option_map outline_of (state_seen after s) ≡ Some kept
 copy_outlined before holding after s taken left c answer standing outline kept marks put step h own numbers is moved e =
@@ -174,8 +174,8 @@ copy_outlined before holding after s taken left c answer standing outline kept m
     ∙ sym e)
 
 -- a chunk that is refused leaves it
-pub refused_outlined : (before holding after : Knows) (s : ℕ) (taken left : Laid) (event : Event) (refusal : Refusal) (standing : Standing) (outline : Outlined) → IsPut holding left after
-    → IsBoardStep taken s event (Err refusal) left → IsTaken before taken holding → before.streams ≡ s ∷ [] → option_map standing_of (state_seen before s) ≡ Some standing
+pub refused_outlined : (before holding after : Knows) (s : ℕ) (taken left : Laid) (event : Event) (refusal : Refusal) (standing : Standing) (outline : Outlined) → IsBoardPut holding left after
+    → IsBoardStep taken s event (Err refusal) left → IsBoardTaken before taken holding → before.streams ≡ s ∷ [] → option_map standing_of (state_seen before s) ≡ Some standing
     → option_map outline_of (state_seen before s) ≡ Some outline → option_map outline_of (state_seen after s) ≡ Some outline
 refused_outlined before holding after s taken left event refusal standing outline put step h own numbers is =
     put_outline before holding after s taken left event (Err refusal) standing outline outline put step h own numbers is (λ state here one there. one)
@@ -190,7 +190,7 @@ next_in outline inside applied group next is there same puts =
     (record { group = same ∙ sym there; puts = λ key. puts key ∙ sym (ap (option_and_then (λ (value : PreparedValue). left_by inside.marks value key)) there) })
 
 -- what a seat built of its outline is what its stream applies next on the board that it took
-pub next_taken : (before : Knows) (s : ℕ) (taken : Laid) (holding : Knows) (standing : Standing) (outline : Outlined) (next : Next) → before.streams ≡ s ∷ [] → IsTaken before taken holding
+pub next_taken : (before : Knows) (s : ℕ) (taken : Laid) (holding : Knows) (standing : Standing) (outline : Outlined) (next : Next) → before.streams ≡ s ∷ [] → IsBoardTaken before taken holding
     → option_map standing_of (state_seen before s) ≡ Some standing → option_map outline_of (state_seen before s) ≡ Some outline → IsNextIn outline standing.applied next
     → IsSomeAnd (slice_get taken.board s) (λ state. IsNextOf state next)
 next_taken before s taken holding standing outline next own h numbers is built = by (state_seen before s) refl numbers is

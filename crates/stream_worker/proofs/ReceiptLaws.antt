@@ -13,7 +13,7 @@ use Rattle.board_laws.specs.Meaning.{State}
 use Rattle.board_laws.specs.Event.{Event, offer, advance, open_at, copy_rows, close}
 use Rattle.board_laws.specs.Chunk.{takes_all, rows_taken, marks_behind}
 use Rattle.board_laws.specs.StateAfter.{state_after}
-use Rattle.board_laws.specs.Runs.{event_of}
+use Rattle.board_laws.specs.Runs.{event_of_step}
 use Rattle.stream_worker.specs.declared.receipt.Receipt.{Receipt}
 use Rattle.stream_worker.specs.Seats.{IsReceiptOf}
 use Rattle.stream_worker.specs.Worked.{IsReceiptBehind, AreReceiptsSince}
@@ -57,7 +57,7 @@ module _ (feed : FeedValue) (state : State) where
       by true = same-list state _ refl refl
       by false = same-list state _ refl refl
 
-  pub comes : (step : Step) (event : Event) (at : Standing) (groups was is : ℕ) → LeadsOn at groups was is step → event_of feed step ≡ Some event → Comes step state (state_after state event)
+  pub comes : (step : Step) (event : Event) (at : Standing) (groups was is : ℕ) → LeadsOn at groups was is step → event_of_step feed step ≡ Some event → Comes step state (state_after state event)
   comes (Offer n) event at groups was is leads h =
       let one : (group : PreparedValue) × (prepared_at feed n ≡ Ok group) × (offer group ≡ event) = of_offer feed n event h in
       subst (λ e. IsNoAdvance state (state_after state e)) one.2 (comes-offer one.0)

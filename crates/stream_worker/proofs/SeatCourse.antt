@@ -28,7 +28,7 @@ use Rattle.board_laws.specs.Schedule.{Reply, IsUnprepared}
 use Rattle.board_laws.proofs.Lists.{slice_get-set_same}
 use Rattle.stream_worker.specs.Knowing.{Laid, Knows, SawStreams, state_seen}
 use Rattle.stream_worker.specs.Rule.{IsSaid}
-use Rattle.stream_worker.specs.RunRefused.{IsFirstUnsound}
+use Rattle.stream_worker.specs.RunRefused.{IsFirstUnsoundGroup}
 use Rattle.stream_worker.specs.Seats.{IsSeatStep}
 use Rattle.stream_worker.specs.Private.Courses.{LeadsOn}
 use Rattle.stream_worker.specs.Worked.{MeetsRow}
@@ -158,10 +158,10 @@ module _ (feed : FeedValue) (before after : Knows) (s : ℕ) (own : before.strea
     ends-by-board FeedCount h = hinders FeedCount h
     ends-by-board Memory h = tt
 
-    unsound : (fault : FeedFault) → IsUnprepared feed step fault → IsFirstUnsound feed fault
+    unsound : (fault : FeedFault) → IsUnprepared feed step fault → IsFirstUnsoundGroup feed fault
     unsound fault u = by step leads u
       where
-        by : (st : Step) → LeadsOn (standing_of state) (length feed.groups) was is st → IsUnprepared feed st fault → IsFirstUnsound feed fault
+        by : (st : Step) → LeadsOn (standing_of state) (length feed.groups) was is st → IsUnprepared feed st fault → IsFirstUnsoundGroup feed fault
         by (Offer n) l u = first-unsound feed state whole reads fault l.1 (ap (prepared_at feed) (sym (l.0 ∙ plus_one (length state.list))) ∙ u)
         by Advance l u = absurd u
         by (OpenAt m) l u = absurd u

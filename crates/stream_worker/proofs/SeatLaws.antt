@@ -10,26 +10,26 @@ use Rattle.board_laws.specs.Meaning.{State}
 use Rattle.board_laws.specs.Lawful.{standing_of}
 use Rattle.board_laws.specs.Event.{Event}
 use Rattle.stream_worker.specs.Knowing.{Laid, Knows, names, state_seen}
-use Rattle.stream_worker.specs.Rule.{GoesOn, IsSaid, Says, IsTaken, IsOwnChange, CountsSeats, MayPut, IsPut}
+use Rattle.stream_worker.specs.Rule.{StateGoesOn, IsSaid, SaysOfBoard, IsBoardTaken, IsOwnChange, CountsSeats, MayPut, IsBoardPut}
 use Rattle.stream_worker.specs.Seats.{IsBoardStep, IsSeatStep}
 use Rattle.stream_worker.proofs.BoardSteps.{step_changes}
 
 -- a pass that took the board holds it, and saw it
-pub taken_holds : (before holding : Knows) (taken : Laid) → IsTaken before taken holding → holding.holds ≡ true
+pub taken_holds : (before holding : Knows) (taken : Laid) → IsBoardTaken before taken holding → holding.holds ≡ true
 taken_holds before holding taken h = ap (λ (v : Knows). v.holds) h.view
 
-pub taken_seen : (before holding : Knows) (taken : Laid) → IsTaken before taken holding → holding.seen ≡ Some taken
+pub taken_seen : (before holding : Knows) (taken : Laid) → IsBoardTaken before taken holding → holding.seen ≡ Some taken
 taken_seen before holding taken h = ap (λ (v : Knows). v.seen) h.view
 
-pub taken_streams : (before holding : Knows) (taken : Laid) → IsTaken before taken holding → holding.streams ≡ before.streams
+pub taken_streams : (before holding : Knows) (taken : Laid) → IsBoardTaken before taken holding → holding.streams ≡ before.streams
 taken_streams before holding taken h = ap (λ (v : Knows). v.streams) h.view
 
 -- a change of the board that was taken may be put back
-pub may_put_change : (before holding : Knows) (taken left : Laid) → IsTaken before taken holding → IsOwnChange before.streams taken left → CountsSeats before.streams taken left → MayPut holding left
+pub may_put_change : (before holding : Knows) (taken left : Laid) → IsBoardTaken before taken holding → IsOwnChange before.streams taken left → CountsSeats before.streams taken left → MayPut holding left
 may_put_change before holding taken left h change counts = subst (λ (v : Knows). MayPut v left) (sym h.view) (change, counts)
 
 -- behind a step on the seat's stream
-pub may_put : (before holding : Knows) (s : ℕ) (taken left : Laid) (event : Event) (result : Result Answer Refusal) → before.streams ≡ s ∷ [] → IsTaken before taken holding
+pub may_put : (before holding : Knows) (s : ℕ) (taken left : Laid) (event : Event) (result : Result Answer Refusal) → before.streams ≡ s ∷ [] → IsBoardTaken before taken holding
     → IsBoardStep taken s event result left → MayPut holding left
 may_put before holding s taken left event result own h step =
     may_put_change before holding taken left h (subst (λ (l : List ℕ). IsOwnChange l taken left) (sym own) (step_changes taken left s event result step)) (inl step.given)
@@ -38,7 +38,7 @@ named_itself : (s : ℕ) → names (s ∷ []) s ≡ true
 named_itself s = or_left (s == s) false (eq-eqb s s refl)
 
 -- the seat's own stream is as the seat knew it
-pub own_as_seen : (before : Knows) (s : ℕ) (taken : Laid) (standing : Standing) → before.streams ≡ s ∷ [] → Says before taken
+pub own_as_seen : (before : Knows) (s : ℕ) (taken : Laid) (standing : Standing) → before.streams ≡ s ∷ [] → SaysOfBoard before taken
     → option_map standing_of (state_seen before s) ≡ Some standing → slice_get taken.board s ≡ state_seen before s
 own_as_seen before s taken standing own says numbers = by before.seen says numbers
   where
@@ -48,14 +48,14 @@ own_as_seen before s taken standing own says numbers = by before.seen says numbe
     by (Some seen) said e = said.own s (ap (λ (l : List ℕ). names l s) own ∙ named_itself s)
 
 -- behind the step its stream is there
-pub still_there : (before : Knows) (s : ℕ) (taken left : Laid) (event : Event) (result : Result Answer Refusal) (standing : Standing) → before.streams ≡ s ∷ [] → Says before taken
+pub still_there : (before : Knows) (s : ℕ) (taken left : Laid) (event : Event) (result : Result Answer Refusal) (standing : Standing) → before.streams ≡ s ∷ [] → SaysOfBoard before taken
     → option_map standing_of (state_seen before s) ≡ Some standing → IsBoardStep taken s event result left → IsSome (slice_get left.board s)
 still_there before s taken left event result standing own says numbers step = by (slice_get taken.board s) refl was
   where
     was : option_map standing_of (slice_get taken.board s) ≡ Some standing
     was = ap (option_map standing_of) (own_as_seen before s taken standing own says numbers) ∙ numbers
 
-    some : (o : Option State) (state : State) → IsSomeAnd o (GoesOn state) → IsSome o
+    some : (o : Option State) (state : State) → IsSomeAnd o (StateGoesOn state) → IsSome o
     some None state h = absurd h
     some (Some next) state h = refl
 
@@ -65,15 +65,15 @@ still_there before s taken left event result standing own says numbers step = by
 
 -- ---- what the seat then is
 
-pub put_streams : (before holding after : Knows) (s : ℕ) (taken left : Laid) → before.streams ≡ s ∷ [] → IsTaken before taken holding → left.given ≡ taken.given → IsPut holding left after
+pub put_streams : (before holding after : Knows) (s : ℕ) (taken left : Laid) → before.streams ≡ s ∷ [] → IsBoardTaken before taken holding → left.given ≡ taken.given → IsBoardPut holding left after
     → after.streams ≡ s ∷ []
 put_streams before holding after s taken left own h many put = put.same taken (taken_seen before holding taken h) many ∙ taken_streams before holding taken h ∙ own
 
-pub put_numbers : (holding after : Knows) (s : ℕ) (left : Laid) (standing : Standing) → IsPut holding left after → option_map standing_of (slice_get left.board s) ≡ Some standing
+pub put_numbers : (holding after : Knows) (s : ℕ) (left : Laid) (standing : Standing) → IsBoardPut holding left after → option_map standing_of (slice_get left.board s) ≡ Some standing
     → option_map standing_of (state_seen after s) ≡ Some standing
 put_numbers holding after s left standing put numbers =
     ap (λ (o : Option Laid). option_map standing_of (option_and_then (λ (laid : Laid). slice_get laid.board s) o)) put.seen ∙ numbers
 
-pub seat_step : (before holding after : Knows) (s : ℕ) (taken left : Laid) (event : Event) (result : Result Answer Refusal) → IsTaken before taken holding → IsBoardStep taken s event result left
-    → IsPut holding left after → IsSeatStep before s event result after
+pub seat_step : (before holding after : Knows) (s : ℕ) (taken left : Laid) (event : Event) (result : Result Answer Refusal) → IsBoardTaken before taken holding → IsBoardStep taken s event result left
+    → IsBoardPut holding left after → IsSeatStep before s event result after
 seat_step before holding after s taken left event result h step put = record { taken = taken; left = left; says = h.says; step = step; seen = put.seen }

@@ -2,7 +2,7 @@
 use Rattle.std.proofs.Common.{◌≡◌, ℕ, zero, suc, ◌+◌, ◌≤◌, Bool, true, false, true≢false, List, [], ◌∷◌, length, take, Option, Some, None, IsSomeAnd, slice_get, refl, sym, ap, ◌∙◌, subst, arith, if◌then◌else◌}
 use Rattle.board_laws.specs.Meaning.{State}
 use Rattle.stream_worker.specs.Knowing.{names, states_joined}
-use Rattle.stream_worker.specs.Rule.{GoesOn, AllGoOn}
+use Rattle.stream_worker.specs.Rule.{StateGoesOn, AllGoOn}
 
 -- ---- streams that go on
 
@@ -13,10 +13,10 @@ take-fewer (suc m) zero xs h = absurd (omega arith)
 take-fewer (suc m) (suc n) [] h = refl
 take-fewer {A} (suc m) (suc n) (x ∷ xs) h = ap (λ (ys : List A). x ∷ ys) (take-fewer m n xs (omega arith))
 
-pub goes_on-refl : (state : State) → GoesOn state state
+pub goes_on-refl : (state : State) → StateGoesOn state state
 goes_on-refl state = record { plan = refl; applied = omega arith; groups = refl }
 
-pub goes_on-trans : (a b c : State) → GoesOn a b → GoesOn b c → GoesOn a c
+pub goes_on-trans : (a b c : State) → StateGoesOn a b → StateGoesOn b c → StateGoesOn a c
 goes_on-trans a b c one two =
     record {
       plan = two.plan ∙ one.plan;
@@ -29,8 +29,8 @@ goes_on-trans a b c one two =
     }
 
 -- a stream that is there goes on from itself
-pub same_goes_on : (o : Option State) (state : State) → o ≡ Some state → IsSomeAnd o (GoesOn state)
-same_goes_on o state e = subst (λ (p : Option State). IsSomeAnd p (GoesOn state)) (sym e) (goes_on-refl state)
+pub same_goes_on : (o : Option State) (state : State) → o ≡ Some state → IsSomeAnd o (StateGoesOn state)
+same_goes_on o state e = subst (λ (p : Option State). IsSomeAnd p (StateGoesOn state)) (sym e) (goes_on-refl state)
 
 pub all_go_on-refl : (board : List State) → AllGoOn board board
 all_go_on-refl board s state e = same_goes_on (slice_get board s) state e
@@ -41,11 +41,11 @@ all_go_on-same one two e = subst (λ (board : List State). AllGoOn one board) (s
 pub all_go_on-trans : (one two three : List State) → AllGoOn one two → AllGoOn two three → AllGoOn one three
 all_go_on-trans one two three f g s state e = by (slice_get two s) refl (f s state e)
   where
-    behind : (o : Option State) (mid : State) → GoesOn state mid → IsSomeAnd o (GoesOn mid) → IsSomeAnd o (GoesOn state)
+    behind : (o : Option State) (mid : State) → StateGoesOn state mid → IsSomeAnd o (StateGoesOn mid) → IsSomeAnd o (StateGoesOn state)
     behind None mid h k = k
     behind (Some last) mid h k = goes_on-trans state mid last h k
 
-    by : (o : Option State) → slice_get two s ≡ o → IsSomeAnd o (GoesOn state) → IsSomeAnd (slice_get three s) (GoesOn state)
+    by : (o : Option State) → slice_get two s ≡ o → IsSomeAnd o (StateGoesOn state) → IsSomeAnd (slice_get three s) (StateGoesOn state)
     by None e h = absurd h
     by (Some mid) e h = behind (slice_get three s) mid h (g s mid e)
 

@@ -9,8 +9,8 @@ use Rattle.crossbeam_channel.specs.Fifo.{Pushes, Pops, Forks, Merges}
 use Rattle.std.specs.Option.{option_map}
 use Rattle.atomic_table.proofs.Lists.{at_set, set_else, set_again, at_longer}
 use Rattle.board_laws.specs.Meaning.{State}
-use Rattle.stream_worker.specs.Knowing.{Laid, Knows, first_view, names, with_board, without_board, copy_of, with_states, states_joined, joined, spent_view}
-use Rattle.stream_worker.specs.Rule.{GoesOn, IsSaid, Says, SaysOf, ToldOf, IsPassOf, EachPass, IsFree, IsHeld, OneBoard, IsTaken, IsOwnChange, CountsSeats, MayPut, IsPut}
+use Rattle.stream_worker.specs.Knowing.{Laid, Knows, first_view, names, with_board, without_board, copy_of, with_states, states_joined, joined_knowing, spent_view}
+use Rattle.stream_worker.specs.Rule.{StateGoesOn, IsSaid, SaysOfBoard, SaysOf, ToldOf, IsPassOf, EachPass, IsBoardFree, IsHeld, OneBoard, IsBoardTaken, IsOwnChange, CountsSeats, MayPut, IsBoardPut}
 use Rattle.stream_worker.proofs.Passes.{set_there, each_set, each_added, named_either, none_named, no_list}
 use Rattle.stream_worker.proofs.ToldLaws.{from_none, told_nothing, from_further, from_boards, from_joined}
 use Rattle.stream_worker.proofs.States.{same_goes_on, all_go_on-refl, all_go_on-trans, joined_long, joined_named, joined_other}
@@ -18,7 +18,7 @@ use Rattle.stream_worker.proofs.States.{same_goes_on, all_go_on-refl, all_go_on-
 -- ---- what a pass says
 
 -- the streams of a pass that says something have seats
-pub says_given : (v : Knows) (now : Laid) → Says v now → (s : ℕ) → names v.streams s ≡ true → s < now.given
+pub says_given : (v : Knows) (now : Laid) → SaysOfBoard v now → (s : ℕ) → names v.streams s ≡ true → s < now.given
 says_given v now h s e = by v.seen h
   where
     by : (o : Option Laid) → MatchOption o (v.streams ≡ []) (λ seen. IsSaid v.streams seen now) → s < now.given
@@ -65,19 +65,19 @@ free_item x board items e =
     let rest : items ≡ [] = cc in
     (here, rest)
 
-pub takes : (pass : ℕ) (v : Knows) → Pops OneBoard pass v (λ x w. IsTaken v x w)
+pub takes : (pass : ℕ) (v : Knows) → Pops OneBoard pass v (λ x w. IsBoardTaken v x w)
 takes pass v x items views h at = ⊎_elim free held h.place
   where
-    held : IsHeld (x ∷ items) views h.now → (w : Knows) × OneBoard items (set views pass w) × IsTaken v x w
+    held : IsHeld (x ∷ items) views h.now → (w : Knows) × OneBoard items (set views pass w) × IsBoardTaken v x w
     held p = let e : x ∷ items ≡ [] = p.empty in cc
 
-    free : IsFree (x ∷ items) views h.now → (w : Knows) × OneBoard items (set views pass w) × IsTaken v x w
+    free : IsBoardFree (x ∷ items) views h.now → (w : Knows) × OneBoard items (set views pass w) × IsBoardTaken v x w
     free p =
         let there = free_item x p.board items p.item in
         let is : h.now ≡ Some x = p.is ∙ ap Some there.0 in
         let w : Knows = with_board v.streams x in
         let mine : IsPassOf h.owner h.now pass v = h.each pass v at in
-        let said : Says v x = subst (SaysOf v) is mine.says in
+        let said : SaysOfBoard v x = subst (SaysOf v) is mine.says in
         let own : IsPassOf h.owner h.now pass w =
         record { own = mine.own; says = subst (SaysOf w) (sym is) (said_itself v.streams x (says_given v x said)); told = told_nothing w h.now refl } in (
           w,
@@ -149,11 +149,11 @@ laid_back pass v x w items views owner empty alone down mine others =
 
 -- the pass that holds the board is the only one, and it is as that pass saw it
 its_holder : (pass : ℕ) (v : Knows) (views : List Knows) (items : List Laid) (now : Option Laid) → get_elem? views pass ≡ some v → v.holds ≡ true
-    → IsFree items views now ⊎ IsHeld items views now
+    → IsBoardFree items views now ⊎ IsHeld items views now
     → (items ≡ []) × (v.seen ≡ now) × EachPass (λ q u. u.holds ≡ true → q ≡ pass) views
 its_holder pass v views items now at holds place = ⊎_elim free held place
   where
-    free : IsFree items views now → (items ≡ []) × (v.seen ≡ now) × EachPass (λ q u. u.holds ≡ true → q ≡ pass) views
+    free : IsBoardFree items views now → (items ≡ []) × (v.seen ≡ now) × EachPass (λ q u. u.holds ≡ true → q ≡ pass) views
     free p = absurd (true≢false (sym holds ∙ p.none pass v at))
 
     held : IsHeld items views now → (items ≡ []) × (v.seen ≡ now) × EachPass (λ q u. u.holds ≡ true → q ≡ pass) views
@@ -180,10 +180,10 @@ one_name : (seat s : ℕ) → names (seat ∷ []) s ≡ true → s ≡ seat
 one_name seat s e = ⊎_elim (λ (x : (seat == s) ≡ true). sym (eqb-true seat s x)) (λ (x : false ≡ true). absurd (true≢false (sym x))) (or_cases (seat == s) false e)
 
 -- a pass without streams and without a board says nothing of any board
-silent : (u : Knows) (x : Laid) → SaysOf u None → Says u x
+silent : (u : Knows) (x : Laid) → SaysOf u None → SaysOfBoard u x
 silent u x h = subst (λ (o : Option Laid). MatchOption o (u.streams ≡ []) (λ seen. IsSaid u.streams seen x)) (sym h.1) h.0
 
-pub puts : (n pass : ℕ) (v : Knows) (x : Laid) → v.holds ≡ true → MayPut v x → Pushes OneBoard n pass v x (λ w. IsPut v x w)
+pub puts : (n pass : ℕ) (v : Knows) (x : Laid) → v.holds ≡ true → MayPut v x → Pushes OneBoard n pass v x (λ w. IsBoardPut v x w)
 puts n pass v x holds may items views room h at = by v.seen refl may
   where
     of_holder : (items ≡ []) × (v.seen ≡ h.now) × EachPass (λ q u. u.holds ≡ true → q ≡ pass) views
@@ -192,7 +192,7 @@ puts n pass v x holds may items views room h at = by v.seen refl may
     mine : IsPassOf h.owner h.now pass v
     mine = h.each pass v at
 
-    first : v.seen ≡ None → (w : Knows) × OneBoard (items ++ x ∷ []) (set views pass w) × IsPut v x w
+    first : v.seen ≡ None → (w : Knows) × OneBoard (items ++ x ∷ []) (set views pass w) × IsBoardPut v x w
     first none =
         let now : h.now ≡ None = sym of_holder.1 ∙ none in
         let w : Knows = without_board [] x in (
@@ -210,7 +210,7 @@ puts n pass v x holds may items views room h at = by v.seen refl may
         )
 
     later : (taken : Laid) → v.seen ≡ Some taken → IsOwnChange v.streams taken x → CountsSeats v.streams taken x
-        → (w : Knows) × OneBoard (items ++ x ∷ []) (set views pass w) × IsPut v x w
+        → (w : Knows) × OneBoard (items ++ x ∷ []) (set views pass w) × IsBoardPut v x w
     later taken there change counts = ⊎_elim same counted counts
       where
         now : h.now ≡ Some taken
@@ -219,13 +219,13 @@ puts n pass v x holds may items views room h at = by v.seen refl may
         given : (s : ℕ) → names v.streams s ≡ true → s < taken.given
         given = says_given v taken (subst (SaysOf v) now mine.says)
 
-        theirs_still : (q : ℕ) (u : Knows) → q ≢ pass → get_elem? views q ≡ some u → Says u x
+        theirs_still : (q : ℕ) (u : Knows) → q ≢ pass → get_elem? views q ≡ some u → SaysOfBoard u x
         theirs_still q u other e = still u.seen said
           where
             theirs : IsPassOf h.owner h.now q u
             theirs = h.each q u e
 
-            said : Says u taken
+            said : SaysOfBoard u taken
             said = subst (SaysOf u) now theirs.says
 
             still : (o : Option Laid) → MatchOption o (u.streams ≡ []) (λ seen. IsSaid u.streams seen taken) → MatchOption o (u.streams ≡ []) (λ seen. IsSaid u.streams seen x)
@@ -236,7 +236,7 @@ puts n pass v x holds may items views room h at = by v.seen refl may
         told_still : (q : ℕ) (u : Knows) → get_elem? views q ≡ some u → ToldOf u (Some x)
         told_still q u e = from_further u.told v.streams taken x change (subst (ToldOf u) now (h.each q u e).told)
 
-        same : x.given ≡ taken.given → (w : Knows) × OneBoard (items ++ x ∷ []) (set views pass w) × IsPut v x w
+        same : x.given ≡ taken.given → (w : Knows) × OneBoard (items ++ x ∷ []) (set views pass w) × IsBoardPut v x w
         same as_many =
             let w : Knows = without_board v.streams x in (
               w,
@@ -252,7 +252,7 @@ puts n pass v x holds may items views room h at = by v.seen refl may
               },
             )
 
-        counted : (x.given ≡ taken.given + 1) × (v.streams ≡ []) → (w : Knows) × OneBoard (items ++ x ∷ []) (set views pass w) × IsPut v x w
+        counted : (x.given ≡ taken.given + 1) × (v.streams ≡ []) → (w : Knows) × OneBoard (items ++ x ∷ []) (set views pass w) × IsBoardPut v x w
         counted one_more =
             let w : Knows = without_board (taken.given ∷ []) x in
             let owner : ℕ → ℕ = with_owner taken.given pass h.owner in (
@@ -282,7 +282,7 @@ puts n pass v x holds may items views room h at = by v.seen refl may
             )
 
     by : (o : Option Laid) → v.seen ≡ o → MatchOption o (Unit {0}) (λ taken. IsOwnChange v.streams taken x × CountsSeats v.streams taken x)
-        → (w : Knows) × OneBoard (items ++ x ∷ []) (set views pass w) × IsPut v x w
+        → (w : Knows) × OneBoard (items ++ x ∷ []) (set views pass w) × IsBoardPut v x w
     by None e so = first e
     by (Some taken) e so = later taken e so.0 so.1
 
@@ -299,7 +299,7 @@ forks pass v none items views h at =
       each = each_added (IsPassOf h.owner h.now) views (copy_of v) (λ q. record { own = λ s e. absurd (true≢false (sym e)); says = says h.now (h.each pass v at).says; told = told_nothing (copy_of v) h.now refl }) h.each;
     })
   where
-    free : IsFree items views h.now → IsFree items (views ++ copy_of v ∷ []) h.now
+    free : IsBoardFree items views h.now → IsBoardFree items (views ++ copy_of v ∷ []) h.now
     free p = record { board = p.board; is = p.is; item = p.item; none = each_added (λ q u. u.holds ≡ false) views (copy_of v) (λ q. refl) p.none }
 
     held : IsHeld items views h.now → IsHeld items (views ++ copy_of v ∷ []) h.now
@@ -352,7 +352,7 @@ said_together mine theirs seen saw now said says =
     own s true t e = says.own s t ∙ sym (joined_named theirs 0 saw.board seen.board s s long (start s) t)
     own s false t e = said.own s (in_mine s t e) ∙ sym (joined_other theirs 0 saw.board seen.board s s long (start s) t)
 
-    every : (s : ℕ) (state : State) (b : Bool) → names theirs s ≡ b → slice_get (states_joined theirs 0 saw.board seen.board) s ≡ Some state → IsSomeAnd (slice_get now.board s) (GoesOn state)
+    every : (s : ℕ) (state : State) (b : Bool) → names theirs s ≡ b → slice_get (states_joined theirs 0 saw.board seen.board) s ≡ Some state → IsSomeAnd (slice_get now.board s) (StateGoesOn state)
     every s state true t e = same_goes_on (slice_get now.board s) state (says.own s t ∙ sym (joined_named theirs 0 saw.board seen.board s s long (start s) t) ∙ e)
     every s state false t e = said.every s state (sym (joined_other theirs 0 saw.board seen.board s s long (start s) t) ∙ e)
 
@@ -372,7 +372,7 @@ moved_not other pass owner s q e ne = by (owner s == other) refl
 
 -- a pass that holds nothing takes the streams of another that holds nothing
 pub merges : (pass : ℕ) (v : Knows) (other : ℕ) (w : Knows) (mine theirs : Laid) → v.seen ≡ Some mine → v.holds ≡ false → w.seen ≡ Some theirs → w.holds ≡ false
-    → Merges OneBoard pass v other w (joined v w) spent_view
+    → Merges OneBoard pass v other w (joined_knowing v w) spent_view
 merges pass v other w mine theirs my my_down their their_down items views h at apart at_other =
     record {
       now = h.now;
@@ -385,19 +385,19 @@ merges pass v other w mine theirs my my_down their their_down items views h at a
     owner = moved other pass h.owner
 
     before : get_elem? views other ≡ some w
-    before = sym (set_else views pass other (joined v w) apart) ∙ at_other
+    before = sym (set_else views pass other (joined_knowing v w) apart) ∙ at_other
 
     -- a fact of each pass, from the two and the others
-    over : (P : ℕ → Knows → Type 0) → P pass (joined v w) → P other spent_view
-        → ((q : ℕ) (u : Knows) → get_elem? views q ≡ some u → q ≢ pass → q ≢ other → P q u) → EachPass P (set (set views pass (joined v w)) other spent_view)
+    over : (P : ℕ → Knows → Type 0) → P pass (joined_knowing v w) → P other spent_view
+        → ((q : ℕ) (u : Knows) → get_elem? views q ≡ some u → q ≢ pass → q ≢ other → P q u) → EachPass P (set (set views pass (joined_knowing v w)) other spent_view)
     over P one two others =
-        each_set P (set views pass (joined v w)) other spent_view two
+        each_set P (set views pass (joined_knowing v w)) other spent_view two
         (λ q u ne e.
-        ⊎_elim (λ (x : (q ≡ pass) × (joined v w ≡ u)). subst (λ (y : ℕ × Knows). P y.0 y.1) (λ i. (sym x.0 i, x.1 i)) one)
-        (λ (x : (q ≢ pass) × (get_elem? views q ≡ some u)). others q u x.1 x.0 ne) (at_set views pass q (joined v w) u e))
+        ⊎_elim (λ (x : (q ≡ pass) × (joined_knowing v w ≡ u)). subst (λ (y : ℕ × Knows). P y.0 y.1) (λ i. (sym x.0 i, x.1 i)) one)
+        (λ (x : (q ≢ pass) × (get_elem? views q ≡ some u)). others q u x.1 x.0 ne) (at_set views pass q (joined_knowing v w) u e))
 
     -- there is a board, since one of them saw it
-    says : (now : Option Laid) → SaysOf v now → SaysOf w now → SaysOf (joined v w) now
+    says : (now : Option Laid) → SaysOf v now → SaysOf w now → SaysOf (joined_knowing v w) now
     says None one two = let no : Some mine ≡ None = sym my ∙ one.1 in absurd cc
     says (Some now) one two =
         let so : IsSaid v.streams mine now = subst (λ (o : Option Laid). MatchOption o (v.streams ≡ []) (λ seen. IsSaid v.streams seen now)) my one in
@@ -406,11 +406,11 @@ merges pass v other w mine theirs my my_down their their_down items views h at a
         subst (λ (o : Option Laid). MatchOption (option_map {T = Laid} (with_states w.streams o) v.seen) (v.streams ++ w.streams ≡ []) (λ seen. IsSaid (v.streams ++ w.streams) seen now)) (sym their)
         (subst (λ (o : Option Laid). MatchOption (option_map {T = Laid} (with_states w.streams (Some theirs)) o) (v.streams ++ w.streams ≡ []) (λ seen. IsSaid (v.streams ++ w.streams) seen now)) (sym my) as_one)
 
-    told : (now : Option Laid) → SaysOf v now → SaysOf w now → ToldOf v now → ToldOf w now → ToldOf (joined v w) now
+    told : (now : Option Laid) → SaysOf v now → SaysOf w now → ToldOf v now → ToldOf w now → ToldOf (joined_knowing v w) now
     told None one two mine_told their_told = let no : Some mine ≡ None = sym my ∙ one.1 in absurd cc
     told (Some now) one two mine_told their_told = from_joined v w now (from_boards v now one mine_told) (from_boards w now two their_told)
 
-    both : IsPassOf owner h.now pass (joined v w)
+    both : IsPassOf owner h.now pass (joined_knowing v w)
     both =
         record {
           own =
@@ -428,16 +428,16 @@ merges pass v other w mine theirs my my_down their their_down items views h at a
     spent : IsPassOf owner h.now other spent_view
     spent = record { own = λ s e. absurd (true≢false (sym e)); says = nothing h.now; told = told_nothing spent_view h.now refl }
 
-    free : IsFree items views h.now → IsFree items (set (set views pass (joined v w)) other spent_view) h.now
+    free : IsBoardFree items views h.now → IsBoardFree items (set (set views pass (joined_knowing v w)) other spent_view) h.now
     free p = record { board = p.board; is = p.is; item = p.item; none = over (λ q u. u.holds ≡ false) my_down refl (λ q u e here there. p.none q u e) }
 
-    held : IsHeld items views h.now → IsHeld items (set (set views pass (joined v w)) other spent_view) h.now
+    held : IsHeld items views h.now → IsHeld items (set (set views pass (joined_knowing v w)) other spent_view) h.now
     held p =
         record {
           empty = p.empty;
           holder = p.holder;
           view = p.view;
-          there = set_else (set views pass (joined v w)) other p.holder spent_view not_other ∙ set_else views pass p.holder (joined v w) not_pass ∙ p.there;
+          there = set_else (set views pass (joined_knowing v w)) other p.holder spent_view not_other ∙ set_else views pass p.holder (joined_knowing v w) not_pass ∙ p.there;
           holds = p.holds;
           seen = p.seen;
           alone = over (λ q u. u.holds ≡ true → q ≡ p.holder) (λ e. absurd (true≢false (sym e ∙ my_down))) (λ e. absurd (true≢false (sym e))) (λ q u e here there. p.alone q u e);
@@ -453,13 +453,13 @@ merges pass v other w mine theirs my my_down their their_down items views h at a
             let is : p.view ≡ w = some-injective p.view w (sym p.there ∙ ap (get_elem? views) same ∙ before) in
             true≢false (sym p.holds ∙ ap (λ (u : Knows). u.holds) is ∙ their_down)
 
-pub merges_some : (pass : ℕ) (v : Knows) (other : ℕ) (w : Knows) → IsSome v.seen → v.holds ≡ false → IsSome w.seen → w.holds ≡ false → Merges OneBoard pass v other w (joined v w) spent_view
+pub merges_some : (pass : ℕ) (v : Knows) (other : ℕ) (w : Knows) → IsSome v.seen → v.holds ≡ false → IsSome w.seen → w.holds ≡ false → Merges OneBoard pass v other w (joined_knowing v w) spent_view
 merges_some pass v other w my my_down their their_down = one v.seen refl my
   where
-    two : (mine : Laid) → v.seen ≡ Some mine → (o : Option Laid) → w.seen ≡ o → IsSome o → Merges OneBoard pass v other w (joined v w) spent_view
+    two : (mine : Laid) → v.seen ≡ Some mine → (o : Option Laid) → w.seen ≡ o → IsSome o → Merges OneBoard pass v other w (joined_knowing v w) spent_view
     two mine e None at h = absurd (true≢false (sym h))
     two mine e (Some theirs) at h = merges pass v other w mine theirs e my_down at their_down
 
-    one : (o : Option Laid) → v.seen ≡ o → IsSome o → Merges OneBoard pass v other w (joined v w) spent_view
+    one : (o : Option Laid) → v.seen ≡ o → IsSome o → Merges OneBoard pass v other w (joined_knowing v w) spent_view
     one None e h = absurd (true≢false (sym h))
     one (Some mine) e h = two mine e w.seen refl their

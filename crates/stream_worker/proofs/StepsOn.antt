@@ -10,7 +10,7 @@ use Rattle.std.specs.Result.{result_ok, ok_prefix}
 use Rattle.stream_core.specs.declared.step.Step.{Step}
 use Rattle.stream_core.specs.declared.step.Step.TheVariants.{Offer, Advance, OpenAt, CopyRows, Close, Restart}
 use Rattle.stream_core.specs.Standing.{is_open_at}
-use Rattle.stream_core.specs.Rows.{first_of, NoneStands}
+use Rattle.stream_core.specs.Rows.{first_standing, NoneStands}
 use Rattle.stream_core.specs.StepTable.{row_of}
 use Rattle.outcome.specs.Outcome.{◌>>=◌}
 use Rattle.source_feed.specs.declared.fault.FeedFault.{FeedFault}
@@ -27,11 +27,11 @@ use Rattle.board_laws.specs.StateAfter.{state_after}
 use Rattle.board_laws.specs.Allowed.{last_position, IsAllowed, IsDiverged, IsInPlace}
 use Rattle.board_laws.specs.Step.{IsRefusedFor}
 use Rattle.board_laws.specs.Reading.{ReadsFeed}
-use Rattle.board_laws.specs.Runs.{event_of, sound_groups}
+use Rattle.board_laws.specs.Runs.{event_of_step, sound_groups}
 use Rattle.board_laws.proofs.Lookups.{Ties}
 use Rattle.board_laws.proofs.Sound.{copying}
 use Rattle.stream_worker.specs.Ended.{HasEnded}
-use Rattle.stream_worker.specs.RunRefused.{IsFirstUnsound}
+use Rattle.stream_worker.specs.RunRefused.{IsFirstUnsoundGroup}
 use Rattle.stream_worker.specs.Private.Courses.{LeadsOn, IsAtEnd, turns, left_of}
 use Rattle.stream_worker.proofs.Progress.{copy-less, read-most, less-left, same-left, read-nearer, open-nearer, close-nearer}
 
@@ -128,7 +128,7 @@ module _ (feed : FeedValue) (state : State) (whole : IsFeed feed) (reads : Reads
           subst (λ (p : Position). IsProperPart p planned.position) (sym one.2.position) (whole.order.growing (length state.list - 1) (length state.list) one.0 planned before one.1 at)
 
   -- the fault of the next group is that of the first one that isn't sound
-  pub first-unsound : (fault : FeedFault) → length state.list < length feed.groups → prepared_at feed (suc (length state.list)) ≡ Err fault → IsFirstUnsound feed fault
+  pub first-unsound : (fault : FeedFault) → length state.list < length feed.groups → prepared_at feed (suc (length state.list)) ≡ Err fault → IsFirstUnsoundGroup feed fault
   first-unsound fault less h =
       let one : (planned : PlannedGroupValue) × (slice_get feed.groups (length state.list) ≡ Some planned) × (prepared feed.plan planned ≡ Err fault) = at_number feed (length state.list) (Err fault) less h in
       let read : length state.list ≡ length (take reads.length_read (sound_groups feed)) = ap (λ (xs : List PreparedValue). length xs) reads.list in
@@ -142,16 +142,16 @@ module _ (feed : FeedValue) (state : State) (whole : IsFeed feed) (reads : Reads
 
 -- ---- the step table
 
-answers : {A R : Type 0} (refusals : List (Bool × R)) (answer : A) → NoneStands refusals → IsOk (first_of refusals answer)
+answers : {A R : Type 0} (refusals : List (Bool × R)) (answer : A) → NoneStands refusals → IsOk (first_standing refusals answer)
 answers [] answer h = refl
 answers (refusal ∷ later) answer h = by refusal.0 h.0 (answers later answer h.1)
   where
-    by : (b : Bool) → b ≡ false → IsOk (first_of later answer) → IsOk (cond b (Err refusal.1) (first_of later answer))
+    by : (b : Bool) → b ≡ false → IsOk (first_standing later answer) → IsOk (cond b (Err refusal.1) (first_standing later answer))
     by true e rest = absurd (true≢false e)
     by false e rest = rest
 
 -- what an offer and every other step is as an event
-pub of_offer : (feed : FeedValue) (n : ℕ) (event : Event) → event_of feed (Offer n) ≡ Some event → (group : PreparedValue) × (prepared_at feed n ≡ Ok group) × (offer group ≡ event)
+pub of_offer : (feed : FeedValue) (n : ℕ) (event : Event) → event_of_step feed (Offer n) ≡ Some event → (group : PreparedValue) × (prepared_at feed n ≡ Ok group) × (offer group ≡ event)
 of_offer feed n event h = by (prepared_at feed n) refl h
   where
     by : (r : Result PreparedValue FeedFault) → prepared_at feed n ≡ r → option_map offer (result_ok r) ≡ Some event → (group : PreparedValue) × (prepared_at feed n ≡ Ok group) × (offer group ≡ event)
@@ -203,7 +203,7 @@ module _ (feed : FeedValue) (state : State) (whole : IsFeed feed) (reads : Reads
             (read-nearer state.snapshot was is (length state.list) (length feed.groups) leads.2 leads.3 leads.1))
 
   -- nothing in the stream's own state is against a step on its course
-  pub allowed-on : (step : Step) (event : Event) → Leads step → event_of feed step ≡ Some event → IsAllowed state event
+  pub allowed-on : (step : Step) (event : Event) → Leads step → event_of_step feed step ≡ Some event → IsAllowed state event
   allowed-on (Offer n) event leads h =
       let one : (group : PreparedValue) × (prepared_at feed n ≡ Ok group) × (offer group ≡ event) = of_offer feed n event h in
       subst (IsAllowed state) one.2 (allowed-offer n leads one.0 one.1)
@@ -244,7 +244,7 @@ module _ (feed : FeedValue) (state : State) (whole : IsFeed feed) (reads : Reads
   allowed-on Restart event leads h = absurd leads
 
   -- each step makes less what is left
-  pub left-on : (ties : Ties) (step : Step) (event : Event) → Leads step → event_of feed step ≡ Some event → left_of feed (state_after state event) is < left_of feed state was
+  pub left-on : (ties : Ties) (step : Step) (event : Event) → Leads step → event_of_step feed step ≡ Some event → left_of feed (state_after state event) is < left_of feed state was
   left-on ties (Offer n) event leads h =
       let one : (group : PreparedValue) × (prepared_at feed n ≡ Ok group) × (offer group ≡ event) = of_offer feed n event h in
       subst (λ e. left_of feed (state_after state e) is < left_of feed state was) one.2 (left-offer n leads one.0 one.1)

@@ -2,8 +2,8 @@
 use Rattle.std.proofs.Common.{◌≡◌, ◌⊎◌, ℕ, List, [], ◌∷◌, ◌++◌, Option, Some, None, MatchOption, inl, inr, ⊎_elim, refl, sym, ◌∙◌, subst}
 use Rattle.std.specs.Option.{option_map_or}
 use Rattle.board_laws.specs.Meaning.{State}
-use Rattle.stream_worker.specs.Knowing.{Laid, Knows, IsAmong, boards_of, joined}
-use Rattle.stream_worker.specs.Rule.{BoardGoesOn, GoesOnFromAll, IsSaid, Says, ToldOf, IsOwnChange}
+use Rattle.stream_worker.specs.Knowing.{Laid, Knows, IsAmong, boards_of, joined_knowing}
+use Rattle.stream_worker.specs.Rule.{BoardGoesOn, GoesOnFromAll, IsSaid, SaysOfBoard, ToldOf, IsOwnChange}
 use Rattle.stream_worker.proofs.States.{all_go_on-trans}
 
 -- ---- boards among others
@@ -52,7 +52,7 @@ from_further told streams taken left change from earlier among =
     record { every = all_go_on-trans earlier taken.board left.board before.every change.every; long = change.long ∙ before.long }
 
 -- the board goes on from all that a pass saw or was told of
-pub from_boards : (v : Knows) (now : Laid) → Says v now → GoesOnFromAll v.told now.board → GoesOnFromAll (boards_of v) now.board
+pub from_boards : (v : Knows) (now : Laid) → SaysOfBoard v now → GoesOnFromAll v.told now.board → GoesOnFromAll (boards_of v) now.board
 from_boards v now says told = by v.seen says
   where
     by : (o : Option Laid) → MatchOption o (v.streams ≡ []) (λ seen. IsSaid v.streams seen now) → GoesOnFromAll (option_map_or (λ (x : Laid). x.board ∷ v.told) o v.told) now.board
@@ -63,6 +63,6 @@ from_boards v now says told = by v.seen says
         (λ (later : IsAmong earlier v.told). told earlier later) among
 
 -- and from what two passes saw
-pub from_joined : (v w : Knows) (now : Laid) → GoesOnFromAll (boards_of v) now.board → GoesOnFromAll (boards_of w) now.board → GoesOnFromAll (joined v w).told now.board
+pub from_joined : (v w : Knows) (now : Laid) → GoesOnFromAll (boards_of v) now.board → GoesOnFromAll (boards_of w) now.board → GoesOnFromAll (joined_knowing v w).told now.board
 from_joined v w now mine theirs earlier among =
     ⊎_elim (λ (one : IsAmong earlier (boards_of v)). mine earlier one) (λ (two : IsAmong earlier (boards_of w)). theirs earlier two) (among_either (boards_of v) (boards_of w) earlier among)

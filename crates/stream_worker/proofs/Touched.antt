@@ -25,7 +25,7 @@ use Rattle.board_laws.specs.Event.{Event, offer, advance, open_at, copy_rows, cl
 use Rattle.board_laws.specs.Chunk.{takes_all, rows_taken, marks_behind}
 use Rattle.board_laws.specs.StateAfter.{state_after}
 use Rattle.board_laws.specs.Reading.{ReadsFeed}
-use Rattle.board_laws.specs.Runs.{event_of, sound_groups, IsTouchedIn}
+use Rattle.board_laws.specs.Runs.{event_of_step, sound_groups, IsTouchedIn}
 use Rattle.board_laws.proofs.Making.{plan-after}
 use Rattle.stream_worker.specs.Private.Courses.{LeadsOn}
 use Rattle.stream_worker.proofs.StepsOn.{plus_one, at_number, of_offer}
@@ -79,7 +79,7 @@ module _ (feed : FeedValue) (state : State) (reads : ReadsFeed feed state) (was 
       }
 
   -- behind a step on its course a stream still reads its feed
-  pub reads-on : (step : Step) (event : Event) → LeadsOn (standing_of state) (length feed.groups) was is step → event_of feed step ≡ Some event → ReadsFeed feed (state_after state event)
+  pub reads-on : (step : Step) (event : Event) → LeadsOn (standing_of state) (length feed.groups) was is step → event_of_step feed step ≡ Some event → ReadsFeed feed (state_after state event)
   reads-on (Offer n) event leads h =
       let one : (group : PreparedValue) × (prepared_at feed n ≡ Ok group) × (offer group ≡ event) = of_offer feed n event h in
       subst (λ e. ReadsFeed feed (state_after state e)) one.2 (reads-offer n leads one.0 one.1)

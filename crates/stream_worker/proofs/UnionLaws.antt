@@ -18,7 +18,7 @@ use Rattle.source_feed.specs.History.{RowValue, touches_in, passing, kept_at}
 use Rattle.source_feed.specs.Planned.{FeedValue}
 use Rattle.source_feed.specs.Prepared.{IsTouchUnder}
 use Rattle.source_feed.specs.Touches.{PutValue, TouchValue, PreparedValue}
-use Rattle.vdiff_core.specs.RowsValue.{RowsValue, row_at}
+use Rattle.vdiff_core.specs.RowsValue.{RowsValue, row_with_key}
 use Rattle.board_laws.specs.Meaning.{State, TargetRows, Meaning}
 use Rattle.board_laws.specs.Cut.{cut_of, own_row}
 use Rattle.board_laws.specs.Lawful.{standing_of, IsSoundState}
@@ -123,10 +123,10 @@ one-kept (first ∷ later) key (suc s) feed row at e others =
 
 -- ---- the rows of a target
 
-at-unowned : (rows : TargetRows) (key : KeyValue) → row_at (all_rows rows) key ≡ option_map (λ (there : ℕ × RowValue). there.1) (value_at key_cmp rows key)
+at-unowned : (rows : TargetRows) (key : KeyValue) → row_with_key (all_rows rows) key ≡ option_map (λ (there : ℕ × RowValue). there.1) (value_at key_cmp rows key)
 at-unowned [] key = refl
 at-unowned (entry ∷ rows) key =
-    elim (is_key key entry.0) as (λ b. cond b (Some entry.1.1) (row_at (all_rows rows) key) ≡ option_map (λ (there : ℕ × RowValue). there.1) (cond b (Some entry.1) (value_at key_cmp rows key))) [
+    elim (is_key key entry.0) as (λ b. cond b (Some entry.1.1) (row_with_key (all_rows rows) key) ≡ option_map (λ (there : ℕ × RowValue). there.1) (cond b (Some entry.1) (value_at key_cmp rows key))) [
       | true ↦ refl
       | false ↦ at-unowned rows key
     ]

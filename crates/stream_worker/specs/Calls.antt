@@ -6,7 +6,7 @@ use Rattle.board_laws.specs.declared.refusal.Refusal.{Refusal}
 use Rattle.board_laws.specs.Meaning.{State}
 use Rattle.board_laws.specs.Event.{Event}
 use Rattle.stream_worker.specs.Knowing.{Laid, Knows}
-use Rattle.stream_worker.specs.Rule.{GoesOn, AllGoOn}
+use Rattle.stream_worker.specs.Rule.{StateGoesOn, AllGoOn}
 use Rattle.stream_worker.specs.Seats.{IsSeatStep}
 
 -- a call of a seat, and what it answered
@@ -25,4 +25,4 @@ CallsGoOn = (s : ℕ) (calls : List Call) (before after : Knows) (seen : Laid) �
 
 -- where a stream goes on, a group that was applied stays at its place
 abbrev pub AppliedGroupsStay : Type 0
-AppliedGroupsStay = (earlier later : State) (i : ℕ) (group : PreparedValue) → GoesOn earlier later → i < earlier.applied → slice_get earlier.list i ≡ Some group → slice_get later.list i ≡ Some group
+AppliedGroupsStay = (earlier later : State) (i : ℕ) (group : PreparedValue) → StateGoesOn earlier later → i < earlier.applied → slice_get earlier.list i ≡ Some group → slice_get later.list i ≡ Some group

@@ -6,7 +6,7 @@ use Rattle.pk_copy.specs.KeyValue.{KeyValue}
 use Rattle.stream_core.specs.declared.phase.Phase.TheVariants.{Running}
 use Rattle.stream_core.specs.Standing.{phase_of}
 use Rattle.target_tables.specs.Rising.{IsRising}
-use Rattle.vdiff_core.specs.RowsValue.{RowsValue, row_at}
+use Rattle.vdiff_core.specs.RowsValue.{RowsValue, row_with_key}
 use Rattle.source_feed.specs.History.{RowValue, kept_at}
 use Rattle.source_feed.specs.Planned.{FeedValue}
 use Rattle.board_laws.specs.Meaning.{State, Meaning}
@@ -53,7 +53,7 @@ KeepApart feeds =
 -- rows by rising key that are just those which the feeds keep, each of one feed alone
 pub record IsRowsUnion (feeds : List FeedValue) (rows : RowsValue) : Type 0 where
   pub rising : IsRising key_cmp rows
-  pub each_key : (key : KeyValue) → row_at rows key ≡ kept_by feeds key
+  pub each_key : (key : KeyValue) → row_with_key rows key ≡ kept_by feeds key
   pub apart : KeepApart feeds
 
 -- ---- laws

@@ -62,8 +62,8 @@ IsAmong board [] = ⊥
 IsAmong board (one ∷ others) = (one ≡ board) ⊎ IsAmong board others
 
 -- a pass takes the streams of another, with their states; it is told of what both saw
-abbrev pub joined : Knows → Knows → Knows
-joined v w = record {
+abbrev pub joined_knowing : Knows → Knows → Knows
+joined_knowing v w = record {
   streams = v.streams ++ w.streams;
   holds = v.holds;
   seen = option_map {T = Laid} (with_states w.streams w.seen) v.seen;

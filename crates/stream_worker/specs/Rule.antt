@@ -9,14 +9,14 @@ use Rattle.stream_worker.specs.Knowing.{Laid, Knows, IsAmong, names, with_board}
 
 -- a stream goes on from an earlier state: its plan is the same, no fewer groups are applied, and those that were
 -- applied then still stand first
-pub record GoesOn (earlier later : State) : Type 0 where
+pub record StateGoesOn (earlier later : State) : Type 0 where
   pub plan : later.plan ≡ earlier.plan
   pub applied : earlier.applied ≤ later.applied
   pub groups : take earlier.applied later.list ≡ take earlier.applied earlier.list
 
 -- every stream of a board goes on from the earlier board
 abbrev pub AllGoOn : List State → List State → Type 0
-AllGoOn earlier later = (s : ℕ) (state : State) → slice_get earlier s ≡ Some state → IsSomeAnd (slice_get later s) (GoesOn state)
+AllGoOn earlier later = (s : ℕ) (state : State) → slice_get earlier s ≡ Some state → IsSomeAnd (slice_get later s) (StateGoesOn state)
 
 -- a board goes on from an earlier one: it has as many streams, and each goes on
 pub record BoardGoesOn (earlier later : List State) : Type 0 where
@@ -39,13 +39,13 @@ pub record IsSaid (streams : List ℕ) (seen now : Laid) : Type 0 where
   pub without_seat : streams ≡ [] → (s : ℕ) → now.given ≤ s → slice_get now.board s ≡ slice_get seen.board s
 
 -- a pass that saw no board has no stream and says nothing
-abbrev pub Says : Knows → Laid → Type 0
-Says v now = MatchOption v.seen (v.streams ≡ []) (λ seen. IsSaid v.streams seen now)
+abbrev pub SaysOfBoard : Knows → Laid → Type 0
+SaysOfBoard v now = MatchOption v.seen (v.streams ≡ []) (λ seen. IsSaid v.streams seen now)
 
 -- before the opener's first step there is no board to tell of, and no pass knows anything
 abbrev pub SaysOf : Knows → Option Laid → Type 0
 SaysOf v None = (v.streams ≡ []) × (v.seen ≡ None)
-SaysOf v (Some now) = Says v now
+SaysOf v (Some now) = SaysOfBoard v now
 
 -- what a pass was told of, the board now goes on from; before the opener's first step no pass was told of any
 abbrev pub ToldOf : Knows → Option Laid → Type 0
@@ -64,7 +64,7 @@ abbrev pub EachPass : (ℕ → Knows → Type 0) → List Knows → Type 0
 EachPass P views = (pass : ℕ) (v : Knows) → get_elem? views pass ≡ some v → P pass v
 
 -- the board lies in the channel, and no pass holds it
-pub record IsFree (items : List Laid) (views : List Knows) (now : Option Laid) : Type 0 where
+pub record IsBoardFree (items : List Laid) (views : List Knows) (now : Option Laid) : Type 0 where
   pub board : Laid
   pub is : now ≡ Some board
   pub item : items ≡ board ∷ []
@@ -87,15 +87,15 @@ pub record IsHeld (items : List Laid) (views : List Knows) (now : Option Laid) :
 pub record OneBoard (items : List Laid) (views : List Knows) : Type 0 where
   pub now : Option Laid
   pub owner : ℕ → ℕ
-  pub place : IsFree items views now ⊎ IsHeld items views now
+  pub place : IsBoardFree items views now ⊎ IsHeld items views now
   pub each : EachPass (IsPassOf owner now) views
 
 -- ---- the two steps
 
 -- take: the pass holds the board, which is as it said, and goes on from what it was told
-pub record IsTaken (before : Knows) (board : Laid) (after : Knows) : Type 0 where
+pub record IsBoardTaken (before : Knows) (board : Laid) (after : Knows) : Type 0 where
   pub view : after ≡ with_board before.streams board
-  pub says : Says before board
+  pub says : SaysOfBoard before board
   pub told : GoesOnFromAll before.told board.board
 
 -- what a pass of these streams may change of the board that it took: its own streams, each of which goes on
@@ -114,7 +114,7 @@ abbrev pub MayPut : Knows → Laid → Type 0
 MayPut before board = MatchOption before.seen (Unit {0}) (λ taken. IsOwnChange before.streams taken board × CountsSeats before.streams taken board)
 
 -- put back: the pass doesn't hold the board any more, and a seat that it counted is its own
-pub record IsPut (before : Knows) (board : Laid) (after : Knows) : Type 0 where
+pub record IsBoardPut (before : Knows) (board : Laid) (after : Knows) : Type 0 where
   pub holds : after.holds ≡ false
   pub seen : after.seen ≡ Some board
   pub same : (taken : Laid) → before.seen ≡ Some taken → board.given ≡ taken.given → after.streams ≡ before.streams

@@ -19,7 +19,7 @@ number_of_run (OwnedByOther stream key owner) = 71
 number_of_run Memory = 72
 
 -- the fault of the first group of a feed that isn't sound
-pub record IsFirstUnsound (feed : FeedValue) (fault : FeedFault) : Type 0 where
+pub record IsFirstUnsoundGroup (feed : FeedValue) (fault : FeedFault) : Type 0 where
   pub group : PlannedGroupValue
   pub place : slice_get feed.groups (length (sound_groups feed)) ≡ Some group
   pub refused : prepared feed.plan group ≡ Err fault
@@ -28,7 +28,7 @@ pub record IsFirstUnsound (feed : FeedValue) (fault : FeedFault) : Type 0 where
 pub record HasUnsound (feeds : List FeedValue) (s : ℕ) (fault : FeedFault) : Type 0 where
   pub feed : FeedValue
   pub fed : slice_get feeds s ≡ Some feed
-  pub first : IsFirstUnsound feed fault
+  pub first : IsFirstUnsoundGroup feed fault
 
 -- the feed of stream s touches the key before its first unsound group
 pub record TouchesKey (feeds : List FeedValue) (s : ℕ) (key : KeyValue) : Type 0 where

@@ -12,7 +12,7 @@ use Rattle.board_laws.specs.Lawful.{IsLawful}
 use Rattle.board_laws.specs.Event.{Event}
 use Rattle.board_laws.specs.Step.{IsStep}
 use Rattle.stream_worker.specs.Knowing.{Laid, Knows}
-use Rattle.stream_worker.specs.Rule.{Says}
+use Rattle.stream_worker.specs.Rule.{SaysOfBoard}
 
 -- The step of an event on stream s of a lawful board with these streams, and with the rows that such a board has; as
 -- many seats are given out as before.
@@ -28,7 +28,7 @@ pub record IsBoardStep (taken : Laid) (s : ℕ) (event : Event) (result : Result
 pub record IsSeatStep (before : Knows) (s : ℕ) (event : Event) (result : Result Answer Refusal) (after : Knows) : Type 0 where
   pub taken : Laid
   pub left : Laid
-  pub says : Says before taken
+  pub says : SaysOfBoard before taken
   pub step : IsBoardStep taken s event result left
   pub seen : after.seen ≡ Some left
 

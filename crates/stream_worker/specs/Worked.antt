@@ -14,7 +14,7 @@ use Rattle.stream_worker.specs.declared.run_refusal.RunRefusal.{RunRefusal}
 use Rattle.stream_worker.specs.declared.run_refusal.RunRefusal.TheVariants.{FeedCount, WrongPlan, Unsound, OwnedByOther, Memory}
 use Rattle.stream_worker.specs.Ended.{HasEnded}
 use Rattle.stream_worker.specs.Knowing.{Laid, Knows}
-use Rattle.stream_worker.specs.RunRefused.{IsFirstUnsound}
+use Rattle.stream_worker.specs.RunRefused.{IsFirstUnsoundGroup}
 use Rattle.stream_worker.specs.SeatOf.{known, seat_state}
 
 -- ---- a seat's stream and its feed
@@ -45,7 +45,7 @@ pub record MeetsRow (feed : FeedValue) (after : Knows) (s : ℕ) (key : KeyValue
 abbrev pub EndsSeat : FeedValue → Seat → RunRefusal → Type 0
 EndsSeat feed seat FeedCount = ⊥
 EndsSeat feed seat WrongPlan = ⊥
-EndsSeat feed seat (Unsound stream fault) = (stream ≡ seat.stream) × IsFirstUnsound feed fault
+EndsSeat feed seat (Unsound stream fault) = (stream ≡ seat.stream) × IsFirstUnsoundGroup feed fault
 EndsSeat feed seat (OwnedByOther stream key owner) = (stream ≡ seat.stream) × MeetsRow feed (known seat) seat.stream key owner
 EndsSeat feed seat Memory = Unit {0}
 

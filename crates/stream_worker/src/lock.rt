@@ -3,8 +3,8 @@
 ghost use Rattle.std.specs.Prelude.{◌≡◌, [], true, false, IfOk, IsSome};
 ghost use Rattle.crossbeam_channel.specs.Claims.{view, IsSeatAt};
 ghost use Rattle.crossbeam_channel.specs.Ends.{sends_on, receives_on};
-ghost use Rattle.stream_worker.specs.Knowing.{first_view, copy_of, joined};
-ghost use Rattle.stream_worker.specs.Rule.{IsTaken, MayPut, IsPut};
+ghost use Rattle.stream_worker.specs.Knowing.{first_view, copy_of, joined_knowing};
+ghost use Rattle.stream_worker.specs.Rule.{IsBoardTaken, MayPut, IsBoardPut};
 
 use crate::deal::Deal;
 use crossbeam_channel::protocol::{Join, Lesson, Outcome, Protocol, Split};
@@ -48,9 +48,9 @@ impl<'h> Protocol<Deal<'h>, Known> for LockRule {
 pub(crate) struct Take;
 
 impl<'h> Outcome<Deal<'h>, Known> for Take {
-    ghost use Rattle.stream_worker.specs.Rule.{IsTaken};
+    ghost use Rattle.stream_worker.specs.Rule.{IsBoardTaken};
 
-    ghost then = { λ v x w. IsTaken v x w };
+    ghost then = { λ v x w. IsBoardTaken v x w };
 }
 
 impl<'h> Lesson<Deal<'h>, Known> for Take {
@@ -63,9 +63,9 @@ impl<'h> Lesson<Deal<'h>, Known> for Take {
 pub(crate) struct PutBack;
 
 impl<'h> Outcome<Deal<'h>, Known> for PutBack {
-    ghost use Rattle.stream_worker.specs.Rule.{IsPut};
+    ghost use Rattle.stream_worker.specs.Rule.{IsBoardPut};
 
-    ghost then = { λ v x w. IsPut v x w };
+    ghost then = { λ v x w. IsBoardPut v x w };
 }
 
 impl<'h> Lesson<Deal<'h>, Known> for PutBack {
@@ -86,9 +86,9 @@ impl Split<Known> for Passing {
 }
 
 impl Join<Known> for Passing {
-    ghost use Rattle.stream_worker.specs.Knowing.{joined, spent_view};
+    ghost use Rattle.stream_worker.specs.Knowing.{joined_knowing, spent_view};
 
-    ghost both = { λ v w. joined v w };
+    ghost both = { λ v w. joined_knowing v w };
 
     ghost spent = { spent_view };
 }
@@ -118,7 +118,7 @@ impl<'h> Lock<'h> {
     pub(crate) fn take<R: Wait>(&self, rt: &R, pass: &mut LockPass<'h>) -> Deal<'h>
         requires { IsSeatAt (sends_on self.now.sender) pass.old }
         ensures pass { IsSeatAt (sends_on self.now.sender) pass.new }
-        ensures taken { IsTaken (view pass.old) result (view pass.new) }
+        ensures taken { IsBoardTaken (view pass.old) result (view pass.new) }
     {
         let mut tries = 0;
         for _ in rt.forever() {
@@ -141,7 +141,7 @@ impl<'h> Lock<'h> {
         requires holds { (view pass.old).holds ≡ true }
         requires may { MayPut (view pass.old) deal }
         ensures pass { IsSeatAt (sends_on self.now.sender) pass.new }
-        ensures put { IsPut (view pass.old) deal.entry (view pass.new) }
+        ensures put { IsBoardPut (view pass.old) deal.entry (view pass.new) }
     {
         for _ in rt.forever() {
             match self.sender.try_send_as::<PutBack, R>(rt, pass, deal) {
@@ -169,7 +169,7 @@ impl<'h> Lock<'h> {
         requires mine { ((view pass.old).holds ≡ false) × IsSome (view pass.old).seen }
         requires theirs { ((view other).holds ≡ false) × IsSome (view other).seen }
         ensures pass { IsSeatAt (sends_on self.now.sender) pass.new }
-        ensures view { view pass.new ≡ joined (view pass.old) (view other.entry) }
+        ensures view { view pass.new ≡ joined_knowing (view pass.old) (view other.entry) }
     {
         self.sender.absorb::<Passing>(pass, other)
     }

@@ -10,7 +10,7 @@ use Rattle.std.proofs.lemmas.Bool.Decides.{nat_tests}
 use Rattle.hex.specs.Hex.{encode_lower, encode_with, lower_digits}
 use Rattle.vdiff_core.specs.Cells.{cell, cells}
 use Rattle.vdiff_core.specs.Dump.{row_line}
-use Rattle.vdiff_core.specs.DumpReading.{AreBytes}
+use Rattle.vdiff_core.specs.DumpReading.{AreByteValues}
 use Rattle.vdiff_core.specs.Private.Reading.{digit_of, with_pair, bytes_front, cell_front, behind_byte, pair_front, with_column, with_columns, cells_front, row_front, TakesCell, TakesCells, TakesSoFar, IsRowLine, TakesRow, NoRowIn}
 use Rattle.vdiff_core.specs.RowsValue.{RowValue}
 
@@ -191,7 +191,7 @@ ends : (cs : RowValue) (r : List ℕ) → (s : ℕ) × (others : List ℕ) × (d
 ends [] r = (10, r, refl, refl)
 ends (c ∷ cs) r = (9, cell c ++ (cells cs ++ 10 ∷ r), refl, cells_first c cs (10 ∷ r))
 
-cells_there : (cs : RowValue) (r : List ℕ) → AreBytes cs → cells_front (length cs) (cells cs ++ 10 ∷ r) ≡ Some (cs, 10 ∷ r)
+cells_there : (cs : RowValue) (r : List ℕ) → AreByteValues cs → cells_front (length cs) (cells cs ++ 10 ∷ r) ≡ Some (cs, 10 ∷ r)
 cells_there [] r all = refl
 cells_there (c ∷ cs) r all =
     let behind = ends cs r in
@@ -202,7 +202,7 @@ cells_there (c ∷ cs) r all =
     ∙ ap (with_column c) (cells_there cs r all.1)
 
 abbrev AreCells : ℕ → List ℕ → RowValue × List ℕ → Type 0
-AreCells n text p = (text ≡ cells p.0 ++ p.1) × (length p.0 ≡ n) × AreBytes p.0
+AreCells n text p = (text ≡ cells p.0 ++ p.1) × (length p.0 ≡ n) × AreByteValues p.0
 
 cells_more : (n : ℕ) (text t u w : List ℕ) (c : Option (List ℕ)) (ds : RowValue) → text ≡ 9 ∷ t → IsCell t (c, u) → AreCells n u (ds, w) → AreCells (suc n) text (c ∷ ds, w)
 cells_more n text t u w c ds tab first others = (
@@ -237,7 +237,7 @@ line_parts : (c : Option (List ℕ)) (cs : RowValue) (r : List ℕ) → row_line
 line_parts c cs r = append_assoc (cell c ++ cells cs) (10 ∷ []) r ∙ append_assoc (cell c) (cells cs) (10 ∷ r)
 
 -- a row's line in front is read as the row
-pub row_there : (n : ℕ) (row : RowValue) (r : List ℕ) → length row ≡ suc n → AreBytes row → row_front n (row_line row ++ r) ≡ Some (row, r)
+pub row_there : (n : ℕ) (row : RowValue) (r : List ℕ) → length row ≡ suc n → AreByteValues row → row_front n (row_line row ++ r) ≡ Some (row, r)
 row_there n [] r width all = absurd (omega arith)
 row_there n (c ∷ cs) r width all =
     let behind = ends cs r in
@@ -251,7 +251,7 @@ row_there n (c ∷ cs) r width all =
 
 -- what is read as a row is its line
 pub row_is : (n : ℕ) (text t u rest : List ℕ) (c : Option (List ℕ)) (cs : RowValue) → cell_front text ≡ Some (c, t) → cells_front n t ≡ Some (cs, u) → behind_byte 10 u ≡ Some rest
-    → (text ≡ row_line (c ∷ cs) ++ rest) × (length (c ∷ cs) ≡ suc n) × AreBytes (c ∷ cs)
+    → (text ≡ row_line (c ∷ cs) ++ rest) × (length (c ∷ cs) ≡ suc n) × AreByteValues (c ∷ cs)
 row_is n text t u rest c cs first others end =
     let a = cell_is text (c, t) first in
     let b = cells_are n t (cs, u) others in

@@ -16,7 +16,7 @@ use Rattle.target_tables.proofs.Order.{each}
 use Rattle.target_tables.proofs.Values.{none_above}
 use Rattle.vdiff_core.specs.Report.{column_eq, row_eq, is_matched, is_mismatched, is_missing, count_beside, report_of, IsFirstDifference}
 use Rattle.vdiff_core.specs.declared.report.Report.{Report}
-use Rattle.vdiff_core.specs.RowsValue.{RowValue, RowsValue, row_at}
+use Rattle.vdiff_core.specs.RowsValue.{RowValue, RowsValue, row_with_key}
 
 column_eq-Decides : (a b : Option (List ℕ)) → Decides (column_eq a b) (a ≡ b)
 column_eq-Decides None None = (λ e. refl, λ e. refl)
@@ -33,37 +33,37 @@ row_eq-Decides a b = slice_eq-Decides column_eq-Decides a b (row_eq a b) refl
 -- ---- a key that is less than all
 
 -- there is no row at it
-pub none_at : (key : KeyValue) (rows : RowsValue) → AreAbove key_cmp key rows → row_at rows key ≡ None
+pub none_at : (key : KeyValue) (rows : RowsValue) → AreAbove key_cmp key rows → row_with_key rows key ≡ None
 none_at key rows above = none_above key_cmp_total key key rows (tied_itself key_cmp_total key) above
 
 -- what stands at a greater key is found behind it
-behind : (key : KeyValue) (row : RowValue) (others : RowsValue) (later : KeyValue) → key_cmp key later ≡ Less → row_at ((key, row) ∷ others) later ≡ row_at others later
+behind : (key : KeyValue) (row : RowValue) (others : RowsValue) (later : KeyValue) → key_cmp key later ≡ Less → row_with_key ((key, row) ∷ others) later ≡ row_with_key others later
 behind key row others later less =
     let greater : key_cmp later key ≡ Greater = key_cmp_total.antisymm later key ∙ ap ordering_reverse less in
-    ap (λ o. cond (is_eq o) (Some row) (row_at others later)) greater
+    ap (λ o. cond (is_eq o) (Some row) (row_with_key others later)) greater
 
 -- what the first row counts, and the others
-counts_first : (test : Option RowValue → RowValue → Bool) (others : RowsValue) (key : KeyValue) (row : RowValue) (rows : RowsValue) (there : Option RowValue) (n : ℕ) → row_at others key ≡ there → cond (test there row) 1 0 ≡ n
+counts_first : (test : Option RowValue → RowValue → Bool) (others : RowsValue) (key : KeyValue) (row : RowValue) (rows : RowsValue) (there : Option RowValue) (n : ℕ) → row_with_key others key ≡ there → cond (test there row) 1 0 ≡ n
     → count_beside test others ((key, row) ∷ rows) ≡ n + count_beside test others rows
 counts_first test others key row rows there n is one =
-    sum_by-cons (λ (e : KeyValue × RowValue). cond (test (row_at others e.0) e.1) 1 0) (key, row) rows
+    sum_by-cons (λ (e : KeyValue × RowValue). cond (test (row_with_key others e.0) e.1) 1 0) (key, row) rows
     ∙ ap (λ (m : ℕ). m + count_beside test others rows) (ap (λ o. cond (test o row) 1 0) is ∙ one)
 
 -- rows at greater keys are counted as without it
 pub count_behind : (test : Option RowValue → RowValue → Bool) (key : KeyValue) (row : RowValue) (others rows : RowsValue) → AreAbove key_cmp key rows → count_beside test ((key, row) ∷ others) rows ≡ count_beside test others rows
 count_behind test key row others [] above = refl
 count_behind test key row others (e ∷ rows) above =
-    counts_first test ((key, row) ∷ others) e.0 e.1 rows (row_at others e.0) _ (behind key row others e.0 above.0) refl
-    ∙ ap (λ (m : ℕ). cond (test (row_at others e.0) e.1) 1 0 + m) (count_behind test key row others rows above.1)
-    ∙ sym (counts_first test others e.0 e.1 rows (row_at others e.0) _ refl refl)
+    counts_first test ((key, row) ∷ others) e.0 e.1 rows (row_with_key others e.0) _ (behind key row others e.0 above.0) refl
+    ∙ ap (λ (m : ℕ). cond (test (row_with_key others e.0) e.1) 1 0 + m) (count_behind test key row others rows above.1)
+    ∙ sym (counts_first test others e.0 e.1 rows (row_with_key others e.0) _ refl refl)
 
 -- where the first key is greater, all are
 pub all_above : (key : KeyValue) (first : KeyValue × RowValue) (rows : RowsValue) → IsRising key_cmp (first ∷ rows) → key_cmp key first.0 ≡ Less → AreAbove key_cmp key (first ∷ rows)
 all_above key first rows rising less = (less, each (λ later. key_cmp first.0 later.0 ≡ Less) (λ later. key_cmp key later.0 ≡ Less) (λ later l. key_cmp_total.trans key first.0 later.0 less l) rows rising.0)
 
 -- the key itself is found at once
-here : (key : KeyValue) (row : RowValue) (others : RowsValue) → row_at ((key, row) ∷ others) key ≡ Some row
-here key row others = ap (λ o. cond (is_eq o) (Some row) (row_at others key)) (tied_itself key_cmp_total key)
+here : (key : KeyValue) (row : RowValue) (others : RowsValue) → row_with_key ((key, row) ∷ others) key ≡ Some row
+here key row others = ap (λ o. cond (is_eq o) (Some row) (row_with_key others key)) (tied_itself key_cmp_total key)
 
 -- ---- one step of the walk
 
@@ -155,7 +155,7 @@ above_lesser : (lesser key : KeyValue) (rows : RowsValue) → key_cmp lesser key
 above_lesser lesser key rows less above = each (λ later. key_cmp key later.0 ≡ Less) (λ later. key_cmp lesser later.0 ≡ Less) (λ later l. key_cmp_total.trans lesser key later.0 less l) rows above
 
 -- a key that ties with the row before them isn't among them
-pub tied_none : (x : KeyValue × RowValue) (rows : RowsValue) (key : KeyValue) → AreAbove key_cmp x.0 rows → key_cmp key x.0 ≡ Equal → row_at rows key ≡ None
+pub tied_none : (x : KeyValue × RowValue) (rows : RowsValue) (key : KeyValue) → AreAbove key_cmp x.0 rows → key_cmp key x.0 ≡ Equal → row_with_key rows key ≡ None
 tied_none x rows key above tied = none_above key_cmp_total x.0 key rows (tied_back key_cmp_total key x.0 tied) above
 
 pub is_equal : (o : Ordering) → is_eq o ≡ true → o ≡ Equal
@@ -163,8 +163,8 @@ is_equal Less e = cc
 is_equal Equal e = refl
 is_equal Greater e = cc
 
-differs_behind : (x : KeyValue × RowValue) (lefts rights : RowsValue) (key : KeyValue) → AreAbove key_cmp x.0 lefts → AreAbove key_cmp x.0 rights → (row_at lefts key ≡ row_at rights key → ⊥)
-    → (b : Bool) → eq_by_cmp key_cmp key x.0 ≡ b → row_at (x ∷ lefts) key ≡ row_at (x ∷ rights) key → ⊥
+differs_behind : (x : KeyValue × RowValue) (lefts rights : RowsValue) (key : KeyValue) → AreAbove key_cmp x.0 lefts → AreAbove key_cmp x.0 rights → (row_with_key lefts key ≡ row_with_key rights key → ⊥)
+    → (b : Bool) → eq_by_cmp key_cmp key x.0 ≡ b → row_with_key (x ∷ lefts) key ≡ row_with_key (x ∷ rights) key → ⊥
 differs_behind x lefts rights key above beyond differ true e same =
     let tied : key_cmp key x.0 ≡ Equal = is_equal (key_cmp key x.0) e in
     differ (tied_none x lefts key above tied ∙ sym (tied_none x rights key beyond tied))

@@ -13,7 +13,7 @@ use Rattle.target_tables.specs.Rising.{IsRising, AreBelow}
 use Rattle.target_tables.proofs.Order.{each, all_join, all_right, before_middle, ordered_with, split_at}
 use Rattle.target_tables.specs.Places.{IsAt, IsGap}
 use Rattle.target_tables.proofs.Values.{found, absent}
-use Rattle.vdiff_core.specs.RowsValue.{RowValue, RowsValue, row_at}
+use Rattle.vdiff_core.specs.RowsValue.{RowValue, RowsValue, row_with_key}
 
 -- a row behind the others at a greater key
 pub rising_pushed : (rows : RowsValue) (row : KeyValue × RowValue) → IsRising key_cmp rows → AreBelow key_cmp row.0 rows → IsRising key_cmp (rows ++ row ∷ [])
@@ -61,12 +61,12 @@ behind_last rows last key rising e =
 
 -- ---- the row at a key
 
-pub row_there : (rows : RowsValue) (key : KeyValue) (i : ℕ) (row : KeyValue × RowValue) → IsAt key_cmp rows key i → row ≡ get_or rows i row → Some row.1 ≡ row_at rows key
+pub row_there : (rows : RowsValue) (key : KeyValue) (i : ℕ) (row : KeyValue × RowValue) → IsAt key_cmp rows key i → row ≡ get_or rows i row → Some row.1 ≡ row_with_key rows key
 row_there rows key i row at is =
     let same : key_cmp row.0 key ≡ Equal = ap (λ (e : KeyValue × RowValue). key_cmp e.0 key) is ∙ at.here row in
     let parts : rows ≡ take i rows ++ row ∷ drop (i + 1) rows = split_at rows i row at.inside is in
-    sym (ap (λ (all : RowsValue). row_at all key) parts ∙ found key_cmp_total (take i rows) row (drop (i + 1) rows) key key at.below same (tied_itself key_cmp_total key))
+    sym (ap (λ (all : RowsValue). row_with_key all key) parts ∙ found key_cmp_total (take i rows) row (drop (i + 1) rows) key key at.below same (tied_itself key_cmp_total key))
 
-pub no_row_there : (rows : RowsValue) (key : KeyValue) (i : ℕ) → IsGap key_cmp rows key i → None ≡ row_at rows key
+pub no_row_there : (rows : RowsValue) (key : KeyValue) (i : ℕ) → IsGap key_cmp rows key i → None ≡ row_with_key rows key
 no_row_there rows key i gap =
-    sym (ap (λ (all : RowsValue). row_at all key) (sym (take-append-drop i rows)) ∙ absent key_cmp_total (take i rows) (drop i rows) key key gap.below gap.above (tied_itself key_cmp_total key))
+    sym (ap (λ (all : RowsValue). row_with_key all key) (sym (take-append-drop i rows)) ∙ absent key_cmp_total (take i rows) (drop i rows) key key gap.below gap.above (tied_itself key_cmp_total key))

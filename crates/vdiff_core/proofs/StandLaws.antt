@@ -20,7 +20,7 @@ use Rattle.pk_copy.specs.KeyValue.{KeyValue}
 use Rattle.target_tables.specs.Rising.{AreAbove, AreBelow}
 use Rattle.target_tables.proofs.Order.{all_join, all_right, before_middle, behind_middle, each}
 use Rattle.vdiff_core.specs.Dump.{row_line, row_lines, rows_of_table, table_line, table_lines}
-use Rattle.vdiff_core.specs.DumpReading.{AreBytes, FitsPlan, AreRowsOf, IsDump, Behind, BeginsTable, AddsRow, CanStand, Stand, NoneStands, IsFirstBad, AreReadOnce, at_front, joined, name_of}
+use Rattle.vdiff_core.specs.DumpReading.{AreByteValues, FitsPlan, AreRowsOf, IsDump, Behind, BeginsTable, AddsRow, CanStand, Stand, NoLineStands, IsFirstBad, AreReadOnce, at_front, joined_lines, table_name}
 use Rattle.vdiff_core.specs.Private.Reading.{row_front, IsReadSoFar, NoRowIn, NoRowStands, TakesLine, TakesRow, TakesRowLine}
 use Rattle.vdiff_core.specs.RowsValue.{RowValue, RowsValue}
 use Rattle.vdiff_core.proofs.ReadingLaws.{row_there, some_pair}
@@ -36,7 +36,7 @@ not_both name r (None ∷ cs) q e = true≢false (sym (ap (λ (l : List ℕ). ge
 not_both name r (Some v ∷ cs) q e = true≢false (sym (ap (λ (l : List ℕ). get_or l 0 0 == 120) e))
 
 -- rows of as many columns that are spelled in front of one text are one
-same_columns : (x y : RowValue) (r q : List ℕ) → length x ≡ length y → AreBytes x → AreBytes y → row_line x ++ r ≡ row_line y ++ q → (x ≡ y) × (r ≡ q)
+same_columns : (x y : RowValue) (r q : List ℕ) → length x ≡ length y → AreByteValues x → AreByteValues y → row_line x ++ r ≡ row_line y ++ q → (x ≡ y) × (r ≡ q)
 same_columns [] [] r q w p s e = (refl, append_cancel_left (10 ∷ []) r q e)
 same_columns [] (d ∷ ds) r q w p s e = absurd (omega arith)
 same_columns (c ∷ cs) [] r q w p s e = absurd (omega arith)
@@ -61,9 +61,9 @@ same_line plan s n m l k r q (inl x) (inl y) e =
     let lines : l ≡ k = x.is_line ∙ sym y.is_line in
     (x.is_new ∙ sym y.is_new, append_cancel_left l r q (e ∙ ap (λ (z : List ℕ). z ++ q) (sym lines)))
 same_line plan s n m l k r q (inl x) (inr y) e =
-    absurd (not_both (name_of plan s.begun) r y.row.1 q (ap (λ (z : List ℕ). z ++ r) (sym x.is_line) ∙ e ∙ ap (λ (z : List ℕ). z ++ q) y.is_line))
+    absurd (not_both (table_name plan s.begun) r y.row.1 q (ap (λ (z : List ℕ). z ++ r) (sym x.is_line) ∙ e ∙ ap (λ (z : List ℕ). z ++ q) y.is_line))
 same_line plan s n m l k r q (inr x) (inl y) e =
-    absurd (not_both (name_of plan s.begun) q x.row.1 r (ap (λ (z : List ℕ). z ++ q) (sym y.is_line) ∙ sym e ∙ ap (λ (z : List ℕ). z ++ r) x.is_line))
+    absurd (not_both (table_name plan s.begun) q x.row.1 r (ap (λ (z : List ℕ). z ++ q) (sym y.is_line) ∙ sym e ∙ ap (λ (z : List ℕ). z ++ r) x.is_line))
 same_line plan s n m l k r q (inr x) (inr y) e =
     let tables : x.row.0.table ≡ y.row.0.table = omega (arith, x.begun_last, y.begun_last) in
     let same = same_row plan x.row y.row r q x.fits y.fits tables (ap (λ (z : List ℕ). z ++ r) (sym x.is_line) ∙ e ∙ ap (λ (z : List ℕ). z ++ q) y.is_line) in
@@ -76,7 +76,7 @@ row_line_some (None ∷ cs) e = cc
 row_line_some (Some v ∷ cs) e = cc
 
 line_some : (plan : PlanValue) (s n : Behind) → CanStand plan s n [] → ⊥
-line_some plan s n (inl x) = let e : [] ≡ table_line (name_of plan s.begun) = x.is_line in cc
+line_some plan s n (inl x) = let e : [] ≡ table_line (table_name plan s.begun) = x.is_line in cc
 line_some plan s n (inr x) = row_line_some x.row.1 x.is_line
 
 length_some : (l : List ℕ) → (l ≡ [] → ⊥) → 0 < length l
@@ -86,23 +86,23 @@ length_some (b ∷ l) h = omega arith
 line_length : (plan : PlanValue) (s n : Behind) (line : List ℕ) → CanStand plan s n line → 0 < length line
 line_length plan s n line can = length_some line (λ e. line_some plan s n (subst (CanStand plan s n) e can))
 
-pub none_at_end : (plan : PlanValue) (s : Behind) → NoneStands plan s []
+pub none_at_end : (plan : PlanValue) (s : Behind) → NoLineStands plan s []
 none_at_end plan s [] others new e can = line_some plan s new can
 none_at_end plan s (b ∷ line) others new e can = cc
 
-joined_first : (l : List ℕ) (ls : List (List ℕ)) (r : List ℕ) → joined (l ∷ ls) ++ r ≡ l ++ (joined ls ++ r)
-joined_first l ls r = ap (λ (t : List ℕ). t ++ r) (flat_map-cons (λ (line : List ℕ). line) l ls) ∙ append_assoc l (joined ls) r
+joined_first : (l : List ℕ) (ls : List (List ℕ)) (r : List ℕ) → joined_lines (l ∷ ls) ++ r ≡ l ++ (joined_lines ls ++ r)
+joined_first l ls r = ap (λ (t : List ℕ). t ++ r) (flat_map-cons (λ (line : List ℕ). line) l ls) ∙ append_assoc l (joined_lines ls) r
 
 -- lines that can stand up to where none can are the only ones
-pub same_end : (plan : PlanValue) (ls ms : List (List ℕ)) (s e f : Behind) (r q : List ℕ) → Stand plan s ls e → Stand plan s ms f → joined ls ++ r ≡ joined ms ++ q → NoneStands plan e r → NoneStands plan f q
+pub same_end : (plan : PlanValue) (ls ms : List (List ℕ)) (s e f : Behind) (r q : List ℕ) → Stand plan s ls e → Stand plan s ms f → joined_lines ls ++ r ≡ joined_lines ms ++ q → NoLineStands plan e r → NoLineStands plan f q
     → (e ≡ f) × (r ≡ q) × (length ls ≡ length ms)
 same_end plan [] [] s e f r q one two is stops ends = (sym one ∙ two, is, refl)
 same_end plan [] (m ∷ ms) s e f r q one (now, can, others) is stops ends =
-    absurd (stops m (joined ms ++ q) now (is ∙ joined_first m ms q) (subst (λ (z : Behind). CanStand plan z now m) one can))
+    absurd (stops m (joined_lines ms ++ q) now (is ∙ joined_first m ms q) (subst (λ (z : Behind). CanStand plan z now m) one can))
 same_end plan (l ∷ ls) [] s e f r q (now, can, others) two is stops ends =
-    absurd (ends l (joined ls ++ r) now (sym is ∙ joined_first l ls r) (subst (λ (z : Behind). CanStand plan z now l) two can))
+    absurd (ends l (joined_lines ls ++ r) now (sym is ∙ joined_first l ls r) (subst (λ (z : Behind). CanStand plan z now l) two can))
 same_end plan (l ∷ ls) (m ∷ ms) s e f r q (now, can, others) (then, may, rest) is stops ends =
-    let line = same_line plan s now then l m (joined ls ++ r) (joined ms ++ q) can may (sym (joined_first l ls r) ∙ is ∙ joined_first m ms q) in
+    let line = same_line plan s now then l m (joined_lines ls ++ r) (joined_lines ms ++ q) can may (sym (joined_first l ls r) ∙ is ∙ joined_first m ms q) in
     let tail = same_end plan ls ms now e f r q others (subst (λ (z : Behind). Stand plan z ms f) (sym line.0) rest) line.1 stops ends in
     (tail.0, tail.1, ap suc tail.2)
 
@@ -140,12 +140,12 @@ table_there [] b lt = absurd (omega arith)
 table_there (x ∷ xs) b lt = (get_or (x ∷ xs) b x, slice_get-get_or (x ∷ xs) b x lt, take_more (x ∷ xs) b x lt)
 
 -- the line of the next table's name adds to the text
-table_adds : (plan : PlanValue) (s : Behind) → IsSound plan s → s.begun < length plan.tables → table_lines 0 (take (s.begun + 1) plan.tables) s.rows ≡ written plan s ++ table_line (name_of plan s.begun)
+table_adds : (plan : PlanValue) (s : Behind) → IsSound plan s → s.begun < length plan.tables → table_lines 0 (take (s.begun + 1) plan.tables) s.rows ≡ written plan s ++ table_line (table_name plan s.begun)
 table_adds plan s sound lt =
     let there = table_there plan.tables s.begun lt in
     let place : 0 + length (take s.begun plan.tables) ≡ s.begun = omega (arith, length-take-le s.begun plan.tables sound.few) in
     let none = no_rows s.begun s.rows sound.under in
-    let name : there.0.name ≡ name_of plan s.begun = ap (λ (o : Option TableValue). option_map_or (λ table. table.name) o []) (sym there.1) in
+    let name : there.0.name ≡ table_name plan s.begun = ap (λ (o : Option TableValue). option_map_or (λ table. table.name) o []) (sym there.1) in
     ap (λ (l : List TableValue). table_lines 0 l s.rows) there.2
     ∙ lines_append 0 (take s.begun plan.tables) (there.0 ∷ []) s.rows
     ∙ ap (λ (k : ℕ). written plan s ++ table_lines k (there.0 ∷ []) s.rows) place
@@ -215,7 +215,7 @@ line_steps : (plan : PlanValue) (s n : Behind) (line : List ℕ) → IsSound pla
 line_steps plan s n line sound (inl x) = table_steps plan s n line sound x
 line_steps plan s n line sound (inr x) = row_steps plan s n line sound x
 
-stand_steps : (plan : PlanValue) (lines : List (List ℕ)) (s e : Behind) → IsSound plan s → Stand plan s lines e → IsStep plan s e (joined lines)
+stand_steps : (plan : PlanValue) (lines : List (List ℕ)) (s e : Behind) → IsSound plan s → Stand plan s lines e → IsStep plan s e (joined_lines lines)
 stand_steps plan [] s e sound is = subst (λ (z : Behind). IsStep plan s z []) is record { sound = sound; text = sym (append-nil (written plan s)) }
 stand_steps plan (line ∷ lines) s e sound (now, can, others) =
     let first = line_steps plan s now line sound can in
@@ -223,12 +223,12 @@ stand_steps plan (line ∷ lines) s e sound (now, can, others) =
     record {
       sound = rest.sound;
       text =
-          rest.text ∙ ap (λ (l : List ℕ). l ++ joined lines) first.text ∙ append_assoc (written plan s) line (joined lines)
+          rest.text ∙ ap (λ (l : List ℕ). l ++ joined_lines lines) first.text ∙ append_assoc (written plan s) line (joined_lines lines)
           ∙ ap (λ (l : List ℕ). written plan s ++ l) (sym (flat_map-cons (λ (l : List ℕ). l) line lines));
     }
 
 -- lines that can stand and begin all tables are a dump
-pub stand_is_dump : (plan : PlanValue) (lines : List (List ℕ)) (e : Behind) (text : List ℕ) → Stand plan at_front lines e → text ≡ joined lines → length plan.tables ≤ e.begun → IsDump plan e.rows text
+pub stand_is_dump : (plan : PlanValue) (lines : List (List ℕ)) (e : Behind) (text : List ℕ) → Stand plan at_front lines e → text ≡ joined_lines lines → length plan.tables ≤ e.begun → IsDump plan e.rows text
 stand_is_dump plan lines e text stand is all =
     let step = stand_steps plan lines at_front e (sound_front plan) stand in
     record {
@@ -244,7 +244,7 @@ StandFrom plan begun done rest = (lines : List (List ℕ)) × Stand plan (record
 -- the next table begins
 then_table : (plan : PlanValue) (begun : ℕ) (done rest : RowsValue) → begun < length plan.tables → StandFrom plan (begun + 1) done rest → StandFrom plan begun done rest
 then_table plan begun done rest lt (lines, stand) =
-    (table_line (name_of plan begun) ∷ lines, (record { begun = begun + 1; rows = done }, inl record { more = lt; is_line = refl; is_new = refl }, stand))
+    (table_line (table_name plan begun) ∷ lines, (record { begun = begun + 1; rows = done }, inl record { more = lt; is_line = refl; is_new = refl }, stand))
 
 -- a row of the table that began last is added
 then_row : (plan : PlanValue) (begun : ℕ) (done : RowsValue) (row : KeyValue × RowValue) (rest : RowsValue) → FitsPlan plan row → row.0.table + 1 ≡ begun → AreBelow key_cmp row.0 done → StandFrom plan begun (done ++ row ∷ []) rest
@@ -298,19 +298,19 @@ all_not_before (row ∷ rows) = (omega arith, all_not_before rows)
 pub record IsLines (plan : PlanValue) (rows : RowsValue) (text : List ℕ) : Type 0 where
   pub lines : List (List ℕ)
   pub stand : Stand plan at_front lines (record { begun = length plan.tables; rows = rows })
-  pub is_text : text ≡ joined lines
+  pub is_text : text ≡ joined_lines lines
 
 pub dump_lines : (plan : PlanValue) (rows : RowsValue) (text : List ℕ) → IsDump plan rows text → IsLines plan rows text
 dump_lines plan rows text dump =
     let lead = leads (length plan.tables + length rows) plan 0 [] rows (omega arith) (omega arith) dump.rows_of_plan (all_not_before rows) in
-    let again = stand_is_dump plan lead.0 (record { begun = length plan.tables; rows = rows }) (joined lead.0) lead.1 refl (omega arith) in
+    let again = stand_is_dump plan lead.0 (record { begun = length plan.tables; rows = rows }) (joined_lines lead.0) lead.1 refl (omega arith) in
     record { lines = lead.0; stand = lead.1; is_text = dump.is_text ∙ sym again.is_text }
 
 pub dumps_determine : (plan : PlanValue) (text : List ℕ) (rows others : RowsValue) → IsDump plan rows text → IsDump plan others text → rows ≡ others
 dumps_determine plan text rows others one two =
     let a = dump_lines plan rows text one in
     let b = dump_lines plan others text two in
-    let ends : joined a.lines ++ [] ≡ joined b.lines ++ [] = ap (λ (l : List ℕ). l ++ []) (sym a.is_text ∙ b.is_text) in
+    let ends : joined_lines a.lines ++ [] ≡ joined_lines b.lines ++ [] = ap (λ (l : List ℕ). l ++ []) (sym a.is_text ∙ b.is_text) in
     let same = same_end plan a.lines b.lines at_front _ _ [] [] a.stand b.stand ends (none_at_end plan _) (none_at_end plan _) in
     ap (λ (s : Behind). s.rows) same.0
 
@@ -318,7 +318,7 @@ dumps_determine plan text rows others one two =
 pub no_dump : (plan : PlanValue) (rows : RowsValue) (text : List ℕ) (n : ℕ) → IsFirstBad plan text n → IsDump plan rows text → ⊥
 no_dump plan rows text n bad dump =
     let a = dump_lines plan rows text dump in
-    let ends : joined bad.lines ++ bad.rest ≡ joined a.lines ++ [] = sym bad.parts ∙ a.is_text ∙ sym (append-nil (joined a.lines)) in
+    let ends : joined_lines bad.lines ++ bad.rest ≡ joined_lines a.lines ++ [] = sym bad.parts ∙ a.is_text ∙ sym (append-nil (joined_lines a.lines)) in
     let same = same_end plan bad.lines a.lines at_front bad.now _ bad.rest [] bad.stand a.stand ends bad.stops (none_at_end plan _) in
     bad.unfinished (same.1, ap (λ (s : Behind). s.begun) same.0)
 
@@ -349,15 +349,15 @@ read_more plan text now new rest behind n so_far taken =
     record {
       lines = so_far.lines ++ taken.line ∷ [];
       parts =
-          so_far.parts ∙ ap (λ (l : List ℕ). joined so_far.lines ++ l) taken.parts ∙ sym (append_assoc (joined so_far.lines) taken.line behind)
-          ∙ ap (λ (l : List ℕ). l ++ behind) (sym (flat_map-append (λ (l : List ℕ). l) so_far.lines (taken.line ∷ []) ∙ ap (λ (l : List ℕ). joined so_far.lines ++ l) (flat_map-cons (λ (l : List ℕ). l) taken.line [] ∙ append-nil taken.line)));
+          so_far.parts ∙ ap (λ (l : List ℕ). joined_lines so_far.lines ++ l) taken.parts ∙ sym (append_assoc (joined_lines so_far.lines) taken.line behind)
+          ∙ ap (λ (l : List ℕ). l ++ behind) (sym (flat_map-append (λ (l : List ℕ). l) so_far.lines (taken.line ∷ []) ∙ ap (λ (l : List ℕ). joined_lines so_far.lines ++ l) (flat_map-cons (λ (l : List ℕ). l) taken.line [] ∙ append-nil taken.line)));
       stand = stand_more plan so_far.lines at_front now new taken.line so_far.stand taken.can;
       number = omega (arith, so_far.number, length-append so_far.lines (taken.line ∷ []));
       bound = omega (arith, so_far.bound, some, ap length taken.parts, length-append taken.line behind);
     }
 
 -- no line that can stand is in front of what is left
-pub bad_line : (plan : PlanValue) (text : List ℕ) (now : Behind) (rest : List ℕ) (n : ℕ) → IsReadSoFar plan text now rest n → NoneStands plan now rest → 0 < length rest → IsFirstBad plan text n
+pub bad_line : (plan : PlanValue) (text : List ℕ) (now : Behind) (rest : List ℕ) (n : ℕ) → IsReadSoFar plan text now rest n → NoLineStands plan now rest → 0 < length rest → IsFirstBad plan text n
 bad_line plan text now rest n so_far stops some = record {
   lines = so_far.lines;
   now = now;
@@ -380,14 +380,14 @@ missing_line plan text now rest n so_far none lt = record {
   rest = rest;
   parts = so_far.parts;
   stand = so_far.stand;
-  stops = subst (NoneStands plan now) (sym (nothing_left rest none)) (none_at_end plan now);
+  stops = subst (NoLineStands plan now) (sym (nothing_left rest none)) (none_at_end plan now);
   unfinished = λ both. absurd (omega (arith, both.1));
   number = so_far.number;
 }
 
 pub read_all : (plan : PlanValue) (text : List ℕ) (now : Behind) (rest : List ℕ) (n : ℕ) → IsReadSoFar plan text now rest n → length rest ≡ 0 → length plan.tables ≤ now.begun → IsDump plan now.rows text
 read_all plan text now rest n so_far none all =
-    stand_is_dump plan so_far.lines now text so_far.stand (so_far.parts ∙ ap (λ (l : List ℕ). joined so_far.lines ++ l) (nothing_left rest none) ∙ append-nil (joined so_far.lines)) all
+    stand_is_dump plan so_far.lines now text so_far.stand (so_far.parts ∙ ap (λ (l : List ℕ). joined_lines so_far.lines ++ l) (nothing_left rest none) ∙ append-nil (joined_lines so_far.lines)) all
 
 -- ---- the line of a row
 
@@ -444,17 +444,17 @@ row_is_added plan old t width row text behind key taken wide last lt is_key tabl
 
 -- ---- one line
 
-pub table_begins : (plan : PlanValue) (old : Behind) (text rest : List ℕ) → old.begun < length plan.tables → text ≡ table_line (name_of plan old.begun) ++ rest → TakesLine plan old (record { begun = old.begun + 1; rows = old.rows }) text rest
-table_begins plan old text rest lt is = record { line = table_line (name_of plan old.begun); parts = is; can = inl record { more = lt; is_line = refl; is_new = refl } }
+pub table_begins : (plan : PlanValue) (old : Behind) (text rest : List ℕ) → old.begun < length plan.tables → text ≡ table_line (table_name plan old.begun) ++ rest → TakesLine plan old (record { begun = old.begun + 1; rows = old.rows }) text rest
+table_begins plan old text rest lt is = record { line = table_line (table_name plan old.begun); parts = is; can = inl record { more = lt; is_line = refl; is_new = refl } }
 
 pub row_stands : (plan : PlanValue) (old new : Behind) (text rest : List ℕ) → TakesRowLine plan old new text rest → TakesLine plan old new text rest
 row_stands plan old new text rest taken = record { line = taken.line; parts = taken.parts; can = inr taken.adds }
 
-pub none_stands : (plan : PlanValue) (old : Behind) (text : List ℕ) → (old.begun < length plan.tables → (rest : List ℕ) → text ≡ table_line (name_of plan old.begun) ++ rest → ⊥) → NoRowStands plan old text → NoneStands plan old text
+pub none_stands : (plan : PlanValue) (old : Behind) (text : List ℕ) → (old.begun < length plan.tables → (rest : List ℕ) → text ≡ table_line (table_name plan old.begun) ++ rest → ⊥) → NoRowStands plan old text → NoLineStands plan old text
 none_stands plan old text no_table no_row line others new is (inl x) = no_table x.more others (is ∙ ap (λ (l : List ℕ). l ++ others) x.is_line)
 none_stands plan old text no_table no_row line others new is (inr x) = no_row line others new is x
 
-pub name_at : (plan : PlanValue) (t : ℕ) (table : TableValue) → t < length plan.tables → table ≡ get_or plan.tables t table → table.name ≡ name_of plan t
+pub name_at : (plan : PlanValue) (t : ℕ) (table : TableValue) → t < length plan.tables → table ≡ get_or plan.tables t table → table.name ≡ table_name plan t
 name_at plan t table lt is =
     let there : slice_get plan.tables t ≡ Some table = slice_get-get_or plan.tables t table lt ∙ ap Some (sym is) in
     ap (λ (o : Option TableValue). option_map_or (λ z. z.name) o []) (sym there)

@@ -9,7 +9,7 @@ use Rattle.pk_copy.specs.KeyOrderLaws.{key_cmp_total}
 use Rattle.pk_copy.specs.KeyValue.{KeyValue}
 use Rattle.target_tables.specs.Rising.{IsRising, AreAbove}
 use Rattle.vdiff_core.specs.Report.{row_eq, report_of, AreTogether, HaveKeys}
-use Rattle.vdiff_core.specs.RowsValue.{RowValue, RowsValue, row_at}
+use Rattle.vdiff_core.specs.RowsValue.{RowValue, RowsValue, row_with_key}
 use Rattle.vdiff_core.proofs.ReportLaws.{all_above, both_have, counts_rest, is_equal, source_alone, target_alone, tied_none}
 
 -- these are the rows of both, and as many as are processed
@@ -44,7 +44,7 @@ left_first x lefts right both above beyond is =
     record {
       together = record {
         rising = (is.above x.0 above beyond, is.together.rising);
-        each_key = λ key. left_at (eq_by_cmp key_cmp key x.0) x.1 (row_at both key) (row_at lefts key) (row_at right key) (is.together.each_key key);
+        each_key = λ key. left_at (eq_by_cmp key_cmp key x.0) x.1 (row_with_key both key) (row_with_key lefts key) (row_with_key right key) (is.together.each_key key);
       };
       above = λ key a b. (a.0, is.above key a.1 b);
       count = omega (arith, step.matching_is, step.mismatched_is, step.extra_source_is, step.extra_target_is, is.count);
@@ -56,7 +56,7 @@ right_first y left rights both above beyond is =
     record {
       together = record {
         rising = (is.above y.0 above beyond, is.together.rising);
-        each_key = λ key. right_at (eq_by_cmp key_cmp key y.0) y.1 (row_at both key) (row_at left key) (row_at rights key)
+        each_key = λ key. right_at (eq_by_cmp key_cmp key y.0) y.1 (row_with_key both key) (row_with_key left key) (row_with_key rights key)
             (λ e. tied_none y left key above (is_equal (key_cmp key y.0) e)) (is.together.each_key key);
       };
       above = λ key a b. (b.0, is.above key a b.1);
@@ -73,7 +73,7 @@ both_first key a b lefts rights both above beyond is =
     record {
       together = record {
         rising = (is.above key above beyond, is.together.rising);
-        each_key = λ other. both_at (eq_by_cmp key_cmp other key) a b (row_at both other) (row_at lefts other) (row_at rights other) (is.together.each_key other);
+        each_key = λ other. both_at (eq_by_cmp key_cmp other key) a b (row_with_key both other) (row_with_key lefts other) (row_with_key rights other) (is.together.each_key other);
       };
       above = λ other l r. (l.0, is.above other l.1 r.1);
       count = omega (arith, step.matching_is, step.mismatched_is, step.extra_source_is, step.extra_target_is, one_of_two (row_eq a b), is.count);
@@ -94,7 +94,7 @@ none_right : (left : RowsValue) → IsRising key_cmp left → IsCounted left [] 
 none_right left rising =
     let step = counts_rest left [] (inr refl) in
     record {
-      together = record { rising = rising; each_key = λ key. or_none (row_at left key) };
+      together = record { rising = rising; each_key = λ key. or_none (row_with_key left key) };
       above = λ key a b. a;
       count = omega (arith, step.matching_is, step.mismatched_is, step.extra_source_is, step.extra_target_is);
     }

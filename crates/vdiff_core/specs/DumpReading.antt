@@ -13,8 +13,8 @@ use Rattle.vdiff_core.specs.Dump.{dump_of, row_line, table_line}
 use Rattle.vdiff_core.specs.RowsValue.{RowValue, RowsValue}
 
 -- each value is of bytes
-abbrev pub AreBytes : RowValue → Type 0
-AreBytes row = AllByRecursion (λ column. IfSome column (AllByRecursion (λ byte. byte < 256))) row
+abbrev pub AreByteValues : RowValue → Type 0
+AreByteValues row = AllByRecursion (λ column. IfSome column (AllByRecursion (λ byte. byte < 256))) row
 
 -- a row that a dump of the plan's tables can have: of one of them, as wide as it, at the key that its columns
 -- give, and within the limits of a row
@@ -23,7 +23,7 @@ pub record FitsPlan (plan : PlanValue) (row : KeyValue × RowValue) : Type 0 whe
   pub width : length row.1 ≡ length (columns_of plan row.0.table)
   pub key : key_of plan row.0.table row.1 ≡ Ok row.0
   pub limits : IsWithinLimits row.1
-  pub bytes : AreBytes row.1
+  pub bytes : AreByteValues row.1
 
 -- rows that a dump can have: by rising key, and each fits
 pub record AreRowsOf (plan : PlanValue) (rows : RowsValue) : Type 0 where
@@ -42,13 +42,13 @@ pub record Behind : Type 0 where
   pub begun : ℕ
   pub rows : RowsValue
 
-abbrev pub name_of : PlanValue → ℕ → List ℕ
-name_of plan t = option_map_or (λ table. table.name) (slice_get plan.tables t) []
+abbrev pub table_name : PlanValue → ℕ → List ℕ
+table_name plan t = option_map_or (λ table. table.name) (slice_get plan.tables t) []
 
 -- the line of the next table's name
 pub record BeginsTable (plan : PlanValue) (old new : Behind) (line : List ℕ) : Type 0 where
   pub more : old.begun < length plan.tables
-  pub is_line : line ≡ table_line (name_of plan old.begun)
+  pub is_line : line ≡ table_line (table_name plan old.begun)
   pub is_new : new ≡ record { begun = old.begun + 1; rows = old.rows }
 
 -- the line of a row of the table that began last, at a greater key than those so far
@@ -70,11 +70,11 @@ Stand plan old [] new = old ≡ new
 Stand plan old (line ∷ lines) new = (now : Behind) × CanStand plan old now line × Stand plan now lines new
 
 -- no line that can stand there is in front
-abbrev pub NoneStands : PlanValue → Behind → List ℕ → Type 0
-NoneStands plan now rest = (line others : List ℕ) (new : Behind) → rest ≡ line ++ others → CanStand plan now new line → ⊥
+abbrev pub NoLineStands : PlanValue → Behind → List ℕ → Type 0
+NoLineStands plan now rest = (line others : List ℕ) (new : Behind) → rest ≡ line ++ others → CanStand plan now new line → ⊥
 
-abbrev pub joined : List (List ℕ) → List ℕ
-joined lines = flat_map (λ line. line) lines
+abbrev pub joined_lines : List (List ℕ) → List ℕ
+joined_lines lines = flat_map (λ line. line) lines
 
 -- where no line stands yet
 abbrev pub at_front : Behind
@@ -86,19 +86,19 @@ pub record IsFirstBad (plan : PlanValue) (text : List ℕ) (n : ℕ) : Type 0 wh
   pub lines : List (List ℕ)
   pub now : Behind
   pub rest : List ℕ
-  pub parts : text ≡ joined lines ++ rest
+  pub parts : text ≡ joined_lines lines ++ rest
   pub stand : Stand plan at_front lines now
-  pub stops : NoneStands plan now rest
+  pub stops : NoLineStands plan now rest
   pub unfinished : (rest ≡ []) × (now.begun ≡ length plan.tables) → ⊥
   pub number : n ≡ length lines + 1
 
 -- ---- what a text is read as
 
 -- the rows of a dump, or the number of the first line that can't stand
-abbrev pub IsRead : PlanValue → List ℕ → Result RowsValue ℕ → Type 0
-IsRead plan text (Ok rows) = IsDump plan rows text
-IsRead plan text (Err line) = IsFirstBad plan text line
+abbrev pub IsDumpReading : PlanValue → List ℕ → Result RowsValue ℕ → Type 0
+IsDumpReading plan text (Ok rows) = IsDump plan rows text
+IsDumpReading plan text (Err line) = IsFirstBad plan text line
 
 -- under a plan each text is read as one thing alone: a dump determines its rows, and no dump has a line that can't stand
 abbrev pub AreReadOnce : Type 0
-AreReadOnce = (plan : PlanValue) (text : List ℕ) (one other : Result RowsValue ℕ) → IsRead plan text one → IsRead plan text other → one ≡ other
+AreReadOnce = (plan : PlanValue) (text : List ℕ) (one other : Result RowsValue ℕ) → IsDumpReading plan text one → IsDumpReading plan text other → one ≡ other

@@ -9,7 +9,7 @@ use Rattle.pk_copy.specs.KeyOrder.{key_cmp}
 use Rattle.pk_copy.specs.KeyValue.{KeyValue}
 use Rattle.target_tables.specs.Rising.{IsRising}
 use Rattle.vdiff_core.specs.declared.report.Report.{Report}
-use Rattle.vdiff_core.specs.RowsValue.{RowValue, RowsValue, row_at}
+use Rattle.vdiff_core.specs.RowsValue.{RowValue, RowsValue, row_with_key}
 
 -- whether two columns are equal, NULL and the empty value told apart
 abbrev pub column_eq : Option (List ℕ) → Option (List ℕ) → Bool
@@ -36,7 +36,7 @@ is_missing (Some other) row = false
 
 -- how many rows meet this beside what there is at their key in others
 abbrev pub count_beside : (Option RowValue → RowValue → Bool) → RowsValue → RowsValue → ℕ
-count_beside test others rows = count_by (λ row. test (row_at others row.0) row.1) rows
+count_beside test others rows = count_by (λ row. test (row_with_key others row.0) row.1) rows
 
 -- how many keys are in both with equal columns, in both with others, in the source alone and in the target
 -- alone, and how many there are in either
@@ -50,15 +50,15 @@ report_of source target =
 
 -- the least key at which the two differ: there they do, and at no lesser key
 pub record IsFirstDifference (source target : RowsValue) (key : KeyValue) : Type 0 where
-  pub differ : row_at source key ≢ row_at target key
-  pub same_before : (lesser : KeyValue) → key_cmp lesser key ≡ Less → row_at source lesser ≡ row_at target lesser
+  pub differ : row_with_key source key ≢ row_with_key target key
+  pub same_before : (lesser : KeyValue) → key_cmp lesser key ≡ Less → row_with_key source lesser ≡ row_with_key target lesser
 
 -- ---- the sum
 
 -- the rows of both together, each key once: at a key the source's row, or else the target's
 pub record AreTogether (source target both : RowsValue) : Type 0 where
   pub rising : IsRising key_cmp both
-  pub each_key : (key : KeyValue) → row_at both key ≡ option_or (row_at source key) (row_at target key)
+  pub each_key : (key : KeyValue) → row_with_key both key ≡ option_or (row_with_key source key) (row_with_key target key)
 
 -- so many keys stand in either
 abbrev pub HaveKeys : RowsValue → RowsValue → ℕ → Type 0

@@ -11,5 +11,5 @@ abbrev pub RowsValue : Type 0
 RowsValue = List (KeyValue × RowValue)
 
 -- the row at a key
-abbrev pub row_at : RowsValue → KeyValue → Option RowValue
-row_at rows key = lookup (eq_by_cmp key_cmp key) rows
+abbrev pub row_with_key : RowsValue → KeyValue → Option RowValue
+row_with_key rows key = lookup (eq_by_cmp key_cmp key) rows

@@ -4,7 +4,7 @@ ghost use Rattle.std.specs.Prelude.{◌≡◌, ◌⊎◌, ℕ, ◌+◌, ◌<◌,
 ghost use Rattle.filter_rule.specs.PlanValue.{columns_of};
 ghost use Rattle.pk_copy.specs.KeyOf.{key_of};
 ghost use Rattle.vdiff_core.specs.Dump.{table_line};
-ghost use Rattle.vdiff_core.specs.DumpReading.{IsDump, IsFirstBad, NoneStands, AreReadOnce, name_of};
+ghost use Rattle.vdiff_core.specs.DumpReading.{IsDump, IsFirstBad, NoLineStands, AreReadOnce, table_name};
 ghost use Rattle.vdiff_core.specs.DumpFaults.{number_of};
 ghost use Rattle.vdiff_core.specs.RowsValue.{RowsValue};
 ghost use Rattle.vdiff_core.specs.Private.Reading.{TakesLine, TakesRowLine, NoRowStands};
@@ -63,7 +63,7 @@ impl DumpRows {
         text: &'t [u8],
     ) -> Result<&'t [u8], LineFault>
         ensures taken { IfOk result (λ rest. TakesLine plan.now self.old self.new text.now rest.now) }
-        ensures bad { result ≡ Err LineFault.Bad → NoneStands plan.now self.old text.now }
+        ensures bad { result ≡ Err LineFault.Bad → NoLineStands plan.now self.old text.now }
     {
         if let Some(rest) = behind_table_line(plan, self.begun, text) {
             self.begun += 1;
@@ -151,8 +151,8 @@ pub fn texts_are_read_once()
 /// What stands behind the line of a table's name in front.
 fn behind_table_line<'t>(plan: &Plan, t: usize, text: &'t [u8]) -> Option<&'t [u8]>
     ensures line { MatchOption result
-        (t < length plan.now.tables → (rest : List ℕ) → text.now ≡ table_line (name_of plan.now t) ++ rest → ⊥)
-        (λ rest. (t < length plan.now.tables) × (text.now ≡ table_line (name_of plan.now t) ++ rest.now)) }
+        (t < length plan.now.tables → (rest : List ℕ) → text.now ≡ table_line (table_name plan.now t) ++ rest → ⊥)
+        (λ rest. (t < length plan.now.tables) × (text.now ≡ table_line (table_name plan.now t) ++ rest.now)) }
     ensures few { IfSome result (λ rest. t < 64) }
 {
     let tables = plan.tables();

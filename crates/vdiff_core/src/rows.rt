@@ -3,7 +3,7 @@
 ghost use Rattle.std.specs.Prelude.{◌≡◌, ◌↔◌, [], ◌∷◌, ◌++◌, IsTrue, IfOk, OnOk, OnErr, length, option_copied};
 ghost use Rattle.pk_copy.specs.KeyOrder.{key_cmp};
 ghost use Rattle.target_tables.specs.Rising.{IsRising, AreBelow};
-ghost use Rattle.vdiff_core.specs.RowsValue.{row_at};
+ghost use Rattle.vdiff_core.specs.RowsValue.{row_with_key};
 
 use crate::places::place_of;
 use pk_copy::{Key, KeyView};
@@ -87,7 +87,7 @@ impl Rows {
 
     /// The row at a key, if there is one, found by halves. Takes no memory.
     pub fn get(&self, key: &KeyView<'_>) -> Option<&RowBuf>
-        ensures { option_copied result ≡ row_at self.now key.now }
+        ensures { option_copied result ≡ row_with_key self.now key.now }
     {
         match place_of(&self.pairs, key) {
             Ok(place) => Some(&self.pairs[place].1),

@@ -14,27 +14,27 @@ use Rattle.vdiff_core.specs.Report.{row_eq}
 use Rattle.vdiff_core.specs.RowsValue.{RowValue, RowsValue}
 use Rattle.vdiff_core.proofs.PrintLaws.{adds_none, added_more, added_breaks, adding_breaks}
 use Rattle.vdiff_core.proofs.ReportLaws.{all_above, row_eq-Decides}
-use Rattle.vdiff_tables.specs.Differences.{Difference, IsLeast, AreFirst, behind}
-use Rattle.vdiff_tables.specs.Found.{IsNext}
+use Rattle.vdiff_tables.specs.Differences.{Difference, IsLeast, AreFirstDifferences, rows_past}
+use Rattle.vdiff_tables.specs.Found.{IsNextDifference}
 use Rattle.vdiff_tables.specs.Texts.{difference_text, differences_text}
 use Rattle.vdiff_tables.proofs.WalkLaws.{next_of_both, next_of_source, next_of_target, next_through, same_at_first, same_for_longer}
 
 -- ---- rows at greater keys rise
 
 -- one row more
-above_more : (key first : KeyValue) (row : KeyValue × RowValue) (rows : RowsValue) (b : Bool) → is_lt (key_cmp key row.0) ≡ b → key_cmp first row.0 ≡ Less → AreAbove key_cmp first (behind key rows) → AreAbove key_cmp first (behind key (row ∷ rows))
+above_more : (key first : KeyValue) (row : KeyValue × RowValue) (rows : RowsValue) (b : Bool) → is_lt (key_cmp key row.0) ≡ b → key_cmp first row.0 ≡ Less → AreAbove key_cmp first (rows_past key rows) → AreAbove key_cmp first (rows_past key (row ∷ rows))
 above_more key first row rows true e less others = rw e (less, others)
 above_more key first row rows false e less others = rw e others
 
-above_each : (key first : KeyValue) (rows : RowsValue) → AreAbove key_cmp first rows → AreAbove key_cmp first (behind key rows)
+above_each : (key first : KeyValue) (rows : RowsValue) → AreAbove key_cmp first rows → AreAbove key_cmp first (rows_past key rows)
 above_each key first [] above = tt
 above_each key first (row ∷ rows) above = above_more key first row rows (is_lt (key_cmp key row.0)) refl above.0 (above_each key first rows above.1)
 
-rising_more : (key : KeyValue) (row : KeyValue × RowValue) (rows : RowsValue) (b : Bool) → is_lt (key_cmp key row.0) ≡ b → AreAbove key_cmp row.0 (behind key rows) → IsRising key_cmp (behind key rows) → IsRising key_cmp (behind key (row ∷ rows))
+rising_more : (key : KeyValue) (row : KeyValue × RowValue) (rows : RowsValue) (b : Bool) → is_lt (key_cmp key row.0) ≡ b → AreAbove key_cmp row.0 (rows_past key rows) → IsRising key_cmp (rows_past key rows) → IsRising key_cmp (rows_past key (row ∷ rows))
 rising_more key row rows true e above others = rw e (above, others)
 rising_more key row rows false e above others = rw e others
 
-pub rising_behind : (key : KeyValue) (rows : RowsValue) → IsRising key_cmp rows → IsRising key_cmp (behind key rows)
+pub rising_behind : (key : KeyValue) (rows : RowsValue) → IsRising key_cmp rows → IsRising key_cmp (rows_past key rows)
 rising_behind key [] rising = tt
 rising_behind key (row ∷ rows) rising = rising_more key row rows (is_lt (key_cmp key row.0)) refl (above_each key row.0 rows rising.0) (rising_behind key rows rising.1)
 
@@ -49,7 +49,7 @@ record HasNext (source target : RowsValue) : Type 0 where
   pub least : Difference
   pub source_left : RowsValue
   pub target_left : RowsValue
-  pub next : IsNext source target least source_left target_left
+  pub next : IsNextDifference source target least source_left target_left
 
 abbrev SameOrNext : RowsValue → RowsValue → Type 0
 SameOrNext source target = (source ≡ target) ⊎ HasNext source target
@@ -85,14 +85,14 @@ same_or_next tie (x ∷ lefts) [] rising rises = inr (record { least = _; source
 same_or_next tie [] (y ∷ rights) rising rises = inr (record { least = _; source_left = []; target_left = rights; next = next_of_target y.0 y.1 [] rights rises tt })
 same_or_next tie (x ∷ lefts) (y ∷ rights) rising rises = by_keys x y lefts rights tie rising rises (same_or_next tie lefts rights rising.1 rises.1) (key_cmp x.0 y.0) refl
 
-some_by : (n : ℕ) (source target : RowsValue) → ((least : Difference) → (found : List Difference) × AreFirst n (behind least.key source) (behind least.key target) found) → SameOrNext source target → (found : List Difference) × AreFirst (suc n) source target found
+some_by : (n : ℕ) (source target : RowsValue) → ((least : Difference) → (found : List Difference) × AreFirstDifferences n (rows_past least.key source) (rows_past least.key target) found) → SameOrNext source target → (found : List Difference) × AreFirstDifferences (suc n) source target found
 some_by n source target others (inl same) = ([], same)
 some_by n source target others (inr has) = (has.least ∷ (others has.least).0, (has.next.is_least, (others has.least).1))
 
-pub some_first : Tie → (n : ℕ) (source target : RowsValue) → IsRising key_cmp source → IsRising key_cmp target → (found : List Difference) × AreFirst n source target found
+pub some_first : Tie → (n : ℕ) (source target : RowsValue) → IsRising key_cmp source → IsRising key_cmp target → (found : List Difference) × AreFirstDifferences n source target found
 some_first tie zero source target rising rises = ([], tt)
 some_first tie (suc n) source target rising rises =
-    some_by n source target (λ least. some_first tie n (behind least.key source) (behind least.key target) (rising_behind least.key source rising) (rising_behind least.key target rises))
+    some_by n source target (λ least. some_first tie n (rows_past least.key source) (rows_past least.key target) (rising_behind least.key source rising) (rising_behind least.key target rises))
     (same_or_next tie source target rising rises)
 
 -- ---- the loop over them
@@ -100,40 +100,40 @@ some_first tie (suc n) source target rising rises =
 -- so many are found, and those of what is left are the others
 pub record AreFoundTo (n i : ℕ) (source target left right : RowsValue) (found : List Difference) : Type 0 where
   pub within : i ≤ n
-  pub others : (more : List Difference) → AreFirst (n - i) left right more → AreFirst n source target (found ++ more)
+  pub others : (more : List Difference) → AreFirstDifferences (n - i) left right more → AreFirstDifferences n source target (found ++ more)
   pub left_rises : IsRising key_cmp left
   pub right_rises : IsRising key_cmp right
 
 pub found_none : (n : ℕ) (source target : RowsValue) → IsRising key_cmp source → IsRising key_cmp target → AreFoundTo n 0 source target source target []
 found_none n source target rising rises =
     let all : n - 0 ≡ n = omega arith in
-    record { within = omega arith; others = λ more first. subst (λ (m : ℕ). AreFirst m source target more) all first; left_rises = rising; right_rises = rises }
+    record { within = omega arith; others = λ more first. subst (λ (m : ℕ). AreFirstDifferences m source target more) all first; left_rises = rising; right_rises = rises }
 
 -- one more, and those behind it
 one_more : (n i k : ℕ) (source target left right : RowsValue) (found : List Difference) (least : Difference) (more : List Difference) → n - i ≡ suc k → AreFoundTo n i source target left right found → IsLeast left right least
-    → AreFirst k (behind least.key left) (behind least.key right) more → AreFirst n source target (found ++ (least ∷ more))
+    → AreFirstDifferences k (rows_past least.key left) (rows_past least.key right) more → AreFirstDifferences n source target (found ++ (least ∷ more))
 one_more n i k source target left right found least more is so_far first others =
-    so_far.others (least ∷ more) (subst (λ (m : ℕ). AreFirst m left right (least ∷ more)) (sym is) (first, others))
+    so_far.others (least ∷ more) (subst (λ (m : ℕ). AreFirstDifferences m left right (least ∷ more)) (sym is) (first, others))
 
-pub found_more : (n i : ℕ) (source target left right : RowsValue) (found : List Difference) (least : Difference) (lefts rights : RowsValue) → i < n → AreFoundTo n i source target left right found → IsNext left right least lefts rights
+pub found_more : (n i : ℕ) (source target left right : RowsValue) (found : List Difference) (least : Difference) (lefts rights : RowsValue) → i < n → AreFoundTo n i source target left right found → IsNextDifference left right least lefts rights
     → AreFoundTo n (i + 1) source target lefts rights (found ++ least ∷ [])
 found_more n i source target left right found least lefts rights lt so_far next =
     rw (next.source_behind, next.target_behind) (record {
       within = omega (arith, lt);
-      others = λ more first. subst (AreFirst n source target) (sym (append_assoc found (least ∷ []) more))
+      others = λ more first. subst (AreFirstDifferences n source target) (sym (append_assoc found (least ∷ []) more))
           (one_more n i (n - (i + 1)) source target left right found least more (omega (arith, lt)) so_far next.is_least first);
       left_rises = rising_behind least.key left so_far.left_rises;
       right_rises = rising_behind least.key right so_far.right_rises;
     })
 
 -- there are no others
-pub found_all : (n i : ℕ) (source target left right : RowsValue) (found : List Difference) → (n ≤ i) ⊎ ((i < n) × (left ≡ right)) → AreFoundTo n i source target left right found → AreFirst n source target found
+pub found_all : (n i : ℕ) (source target left right : RowsValue) (found : List Difference) → (n ≤ i) ⊎ ((i < n) × (left ≡ right)) → AreFoundTo n i source target left right found → AreFirstDifferences n source target found
 found_all n i source target left right found (inl le) so_far =
     let none : n - i ≡ 0 = omega (arith, le) in
-    subst (AreFirst n source target) (append-nil found) (so_far.others [] (subst (λ (m : ℕ). AreFirst m left right []) (sym none) tt))
+    subst (AreFirstDifferences n source target) (append-nil found) (so_far.others [] (subst (λ (m : ℕ). AreFirstDifferences m left right []) (sym none) tt))
 found_all n i source target left right found (inr (lt, same)) so_far =
     let some : n - i ≡ suc (n - (i + 1)) = omega (arith, lt) in
-    subst (AreFirst n source target) (append-nil found) (so_far.others [] (subst (λ (m : ℕ). AreFirst m left right []) (sym some) same))
+    subst (AreFirstDifferences n source target) (append-nil found) (so_far.others [] (subst (λ (m : ℕ). AreFirstDifferences m left right []) (sym some) same))
 
 -- ---- and over their texts
 
@@ -153,7 +153,7 @@ one_text : (tables : List TableValue) (found : List Difference) (least : Differe
 one_text tables found least = text_more tables found least [] ∙ ap (λ (l : List ℕ). differences_text tables found ++ l) (append-nil (difference_text tables least))
 
 module _ (tables : List TableValue) (n i : ℕ) (source target left right : RowsValue) (old : Written) (waited : List ℕ) (now : Written) (waiting : List ℕ) (so_far : AreAddedTo tables n i source target left right old waited now waiting) where
-  pub adding_more : (least : Difference) (lefts rights : RowsValue) (new : Written) (waits : List ℕ) → i < n → IsNext left right least lefts rights → IsAdded now waiting new waits (difference_text tables least)
+  pub adding_more : (least : Difference) (lefts rights : RowsValue) (new : Written) (waits : List ℕ) → i < n → IsNextDifference left right least lefts rights → IsAdded now waiting new waits (difference_text tables least)
       → AreAddedTo tables n (i + 1) source target lefts rights old waited new waits
   adding_more least lefts rights new waits lt next added = record {
     found = so_far.found ++ least ∷ [];
@@ -161,10 +161,10 @@ module _ (tables : List TableValue) (n i : ℕ) (source target left right : Rows
     added = subst (IsAdded old waited new waits) (sym (one_text tables so_far.found least)) (added_more old waited now waiting new waits _ _ so_far.added added);
   }
 
-  pub adding_breaks_at : (least : Difference) (lefts rights : RowsValue) (new : Written) → Tie → i < n → IsNext left right least lefts rights → BreaksOff now new (waiting ++ difference_text tables least)
-      → (found : List Difference) × AreFirst n source target found × BreaksOff old new (waited ++ differences_text tables found)
+  pub adding_breaks_at : (least : Difference) (lefts rights : RowsValue) (new : Written) → Tie → i < n → IsNextDifference left right least lefts rights → BreaksOff now new (waiting ++ difference_text tables least)
+      → (found : List Difference) × AreFirstDifferences n source target found × BreaksOff old new (waited ++ differences_text tables found)
   adding_breaks_at least lefts rights new tie lt next broken =
-      let more = some_first tie (n - (i + 1)) (behind least.key left) (behind least.key right) (rising_behind least.key left so_far.are_found.left_rises) (rising_behind least.key right so_far.are_found.right_rises) in (
+      let more = some_first tie (n - (i + 1)) (rows_past least.key left) (rows_past least.key right) (rising_behind least.key left so_far.are_found.left_rises) (rising_behind least.key right so_far.are_found.right_rises) in (
         so_far.found ++ (least ∷ more.0),
         one_more n i (n - (i + 1)) source target left right so_far.found least more.0 (omega (arith, lt)) so_far.are_found next.is_least more.1,
         subst (λ (l : List ℕ). BreaksOff old new (waited ++ l)) (sym (text_more tables so_far.found least more.0))

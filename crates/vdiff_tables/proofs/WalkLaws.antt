@@ -8,26 +8,26 @@ use Rattle.pk_copy.specs.KeyOrderLaws.{key_cmp_total}
 use Rattle.pk_copy.specs.KeyValue.{KeyValue}
 use Rattle.target_tables.specs.Rising.{IsRising, AreAbove}
 use Rattle.target_tables.proofs.Order.{each}
-use Rattle.vdiff_core.specs.RowsValue.{RowValue, RowsValue, row_at}
+use Rattle.vdiff_core.specs.RowsValue.{RowValue, RowsValue, row_with_key}
 use Rattle.vdiff_core.proofs.ReportLaws.{all_above, none_at, tied_none, source_first, target_first, rows_first, first_behind}
-use Rattle.vdiff_tables.specs.Differences.{Difference, behind}
-use Rattle.vdiff_tables.specs.Found.{IsNext}
+use Rattle.vdiff_tables.specs.Differences.{Difference, rows_past}
+use Rattle.vdiff_tables.specs.Found.{IsNextDifference}
 use Rattle.vdiff_tables.specs.Private.Same.{Differ, IsBehindSame}
 
 -- ---- rows at greater keys
 
 -- where all are greater they are all
-pub behind_all : (key : KeyValue) (rows : RowsValue) → AreAbove key_cmp key rows → behind key rows ≡ rows
+pub behind_all : (key : KeyValue) (rows : RowsValue) → AreAbove key_cmp key rows → rows_past key rows ≡ rows
 behind_all key [] above = refl
 behind_all key (row ∷ rows) above = rw above.0 (ap (λ (l : RowsValue). row ∷ l) (behind_all key rows above.1))
 
 -- the row at the key itself isn't among them
-pub behind_itself : (key : KeyValue) (row : RowValue) (rows : RowsValue) → AreAbove key_cmp key rows → behind key ((key, row) ∷ rows) ≡ rows
+pub behind_itself : (key : KeyValue) (row : RowValue) (rows : RowsValue) → AreAbove key_cmp key rows → rows_past key ((key, row) ∷ rows) ≡ rows
 behind_itself key row rows above = rw (tied_itself key_cmp_total key) (behind_all key rows above)
 
 -- the row at the key itself
-here : (key : KeyValue) (row : RowValue) (others : RowsValue) → row_at ((key, row) ∷ others) key ≡ Some row
-here key row others = ap (λ o. cond (is_eq o) (Some row) (row_at others key)) (tied_itself key_cmp_total key)
+here : (key : KeyValue) (row : RowValue) (others : RowsValue) → row_with_key ((key, row) ∷ others) key ≡ Some row
+here key row others = ap (λ o. cond (is_eq o) (Some row) (row_with_key others key)) (tied_itself key_cmp_total key)
 
 -- a lesser key than the first is less than all
 pub above_of_greater : (x y : KeyValue × RowValue) (lefts : RowsValue) → IsRising key_cmp (x ∷ lefts) → key_cmp x.0 y.0 ≡ Greater → AreAbove key_cmp y.0 (x ∷ lefts)
@@ -38,7 +38,7 @@ above_of_greater x y lefts rising greater =
 -- ---- the first of what is left is the next
 
 pub next_of_source : (key : KeyValue) (row : RowValue) (lefts right : RowsValue) → IsRising key_cmp ((key, row) ∷ lefts) → AreAbove key_cmp key right
-    → IsNext ((key, row) ∷ lefts) right (record { key = key; source = Some row; target = None }) lefts right
+    → IsNextDifference ((key, row) ∷ lefts) right (record { key = key; source = Some row; target = None }) lefts right
 next_of_source key row lefts right rising above = record {
   is_least = record { first = source_first key row lefts right rising above; source_row = sym (here key row lefts); target_row = sym (none_at key right above) };
   source_behind = sym (behind_itself key row lefts rising.0);
@@ -46,7 +46,7 @@ next_of_source key row lefts right rising above = record {
 }
 
 pub next_of_target : (key : KeyValue) (row : RowValue) (left rights : RowsValue) → IsRising key_cmp ((key, row) ∷ rights) → AreAbove key_cmp key left
-    → IsNext left ((key, row) ∷ rights) (record { key = key; source = None; target = Some row }) left rights
+    → IsNextDifference left ((key, row) ∷ rights) (record { key = key; source = None; target = Some row }) left rights
 next_of_target key row left rights rising above = record {
   is_least = record { first = target_first key row left rights rising above; source_row = sym (none_at key left above); target_row = sym (here key row rights) };
   source_behind = sym (behind_all key left above);
@@ -54,10 +54,10 @@ next_of_target key row left rights rising above = record {
 }
 
 pub next_of_both : (key other : KeyValue) (a b : RowValue) (lefts rights : RowsValue) → IsRising key_cmp ((key, a) ∷ lefts) → IsRising key_cmp ((other, b) ∷ rights) → key ≡ other → (a ≡ b → ⊥)
-    → IsNext ((key, a) ∷ lefts) ((other, b) ∷ rights) (record { key = key; source = Some a; target = Some b }) lefts rights
+    → IsNextDifference ((key, a) ∷ lefts) ((other, b) ∷ rights) (record { key = key; source = Some a; target = Some b }) lefts rights
 next_of_both key other a b lefts rights rising rises same differ =
     let beyond : AreAbove key_cmp key rights = subst (λ (k : KeyValue). AreAbove key_cmp k rights) (sym same) rises.0 in
-    subst (λ (k : KeyValue). IsNext ((key, a) ∷ lefts) ((k, b) ∷ rights) (record { key = key; source = Some a; target = Some b }) lefts rights) same
+    subst (λ (k : KeyValue). IsNextDifference ((key, a) ∷ lefts) ((k, b) ∷ rights) (record { key = key; source = Some a; target = Some b }) lefts rights) same
     (record {
       is_least = record { first = rows_first key a b lefts rights differ rising.0 beyond; source_row = sym (here key a lefts); target_row = sym (here key b rights) };
       source_behind = sym (behind_itself key a lefts rising.0);
@@ -65,7 +65,7 @@ next_of_both key other a b lefts rights rising rises same differ =
     })
 
 -- what is next behind the same is next of the whole
-pub next_through : (source target left right : RowsValue) (least : Difference) (source_left target_left : RowsValue) → IsBehindSame source target left right → IsNext left right least source_left target_left → IsNext source target least source_left target_left
+pub next_through : (source target left right : RowsValue) (least : Difference) (source_left target_left : RowsValue) → IsBehindSame source target left right → IsNextDifference left right least source_left target_left → IsNextDifference source target least source_left target_left
 next_through source target left right least source_left target_left walked next = record {
   is_least = record {
     first = walked.first least.key next.is_least.first;
@@ -100,11 +100,11 @@ module _ (x : KeyValue × RowValue) (lefts rights : RowsValue) (key : KeyValue) 
   greater above beyond differ Greater e = refl
 
 -- what stands at a greater key stands behind it
-row_behind : (x : KeyValue × RowValue) (rows : RowsValue) (key : KeyValue) → key_cmp key x.0 ≡ Greater → row_at (x ∷ rows) key ≡ row_at rows key
-row_behind x rows key e = ap (λ o. cond (is_eq o) (Some x.1) (row_at rows key)) e
+row_behind : (x : KeyValue × RowValue) (rows : RowsValue) (key : KeyValue) → key_cmp key x.0 ≡ Greater → row_with_key (x ∷ rows) key ≡ row_with_key rows key
+row_behind x rows key e = ap (λ o. cond (is_eq o) (Some x.1) (row_with_key rows key)) e
 
-rows_behind : (x : KeyValue × RowValue) (rows : RowsValue) (key : KeyValue) → key_cmp key x.0 ≡ Greater → behind key (x ∷ rows) ≡ behind key rows
-rows_behind x rows key e = ap (λ o. cond (is_lt o) (x ∷ behind key rows) (behind key rows)) e
+rows_behind : (x : KeyValue × RowValue) (rows : RowsValue) (key : KeyValue) → key_cmp key x.0 ≡ Greater → rows_past key (x ∷ rows) ≡ rows_past key rows
+rows_behind x rows key e = ap (λ o. cond (is_lt o) (x ∷ rows_past key rows) (rows_past key rows)) e
 
 longer : (source target : RowsValue) (x : KeyValue × RowValue) (lefts rights : RowsValue) → IsBehindSame source target (x ∷ lefts) (x ∷ rights) → IsBehindSame source target lefts rights
 longer source target x lefts rights w =

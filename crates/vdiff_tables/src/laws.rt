@@ -1,14 +1,14 @@
 //! What is true of the first differences of any two sets of rows.
 
 ghost use Rattle.std.specs.Prelude.{List};
-ghost use Rattle.vdiff_tables.specs.Differences.{AreFirst, Difference};
+ghost use Rattle.vdiff_tables.specs.Differences.{AreFirstDifferences, Difference};
 
 use pk_copy::keys_tie_where_they_are_equal;
 use vdiff_core::Rows;
 
 /// There are first differences, however many are asked for.
 pub fn first_differences_are_there(source: &Rows, target: &Rows, count: u32)
-    ensures { (found : List Difference) × AreFirst count source.now target.now found }
+    ensures { (found : List Difference) × AreFirstDifferences count source.now target.now found }
 {
     keys_tie_where_they_are_equal();
     let _source = source.as_slice();

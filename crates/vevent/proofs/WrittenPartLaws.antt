@@ -19,7 +19,7 @@ use Rattle.row_view.specs.WrittenRow.{written_row, IsWithinLimits, RowsAreReadAg
 use Rattle.vevent.specs.EventValue.{FieldValue}
 use Rattle.vevent.specs.Fault.{first_in, wire_fault_by}
 use Rattle.vevent.specs.Message.{image_of, column_field_of}
-use Rattle.vevent.specs.Judging.{IsWhole}
+use Rattle.vevent.specs.Judging.{HasNoFault}
 use Rattle.vevent.specs.Answer.{AnswerValue, answer_of, in_answer, are_names, are_answer_texts, in_rows, answer_row_fault, answer_conditions, answer_at}
 use Rattle.vevent.specs.CheckpointPart.{TablePartValue, StreamPartValue, table_part_of, stream_part_of, in_table, table_wire_fault, repeats_in_table, are_table_texts, table_row_fault, in_stream, first_in_tables, table_conditions, stream_conditions, table_part_at, stream_part_at}
 use Rattle.vevent.specs.WrittenEvent.{message_fields, row_field, written_column}
@@ -354,7 +354,7 @@ stream_parts_back law rows s is short =
     let ts = tables_back law rows s.tables is.tables (named_short s.shard messages short) in
     let wire = none_both in_stream (text_field 1 s.shard) (message_fields 2 messages) (text_none in_stream 1 s.shard refl) (messages_none in_stream 2 messages ts.wire) in
     let texts = and_both (is_utf8 (text 1 bytes)) (list_all are_table_texts (parts 2 bytes)) (ap is_utf8 h.name_is ∙ is.shard) (ap (λ (ms : List (List ℕ)). list_all are_table_texts ms) h.parts_are ∙ ts.texts) in
-    let whole : IsWhole stream_conditions bytes = record {
+    let whole : HasNoFault stream_conditions bytes = record {
       wire = wire_is bytes list h.read in_stream ∙ wire;
       once = ap (λ (ms : List (List ℕ)). list_any repeats_in_table ms) h.parts_are ∙ ts.once;
       texts = texts;

@@ -18,7 +18,7 @@ pub record Conditions : Type 0 where
 -- ---- as a relation
 
 -- nothing is at fault
-pub record IsWhole (c : Conditions) (message : List ℕ) : Type 0 where
+pub record HasNoFault (c : Conditions) (message : List ℕ) : Type 0 where
   pub wire : c.wire message ≡ None
   pub once : c.repeats message ≡ false
   pub texts : c.texts message ≡ true
@@ -26,7 +26,7 @@ pub record IsWhole (c : Conditions) (message : List ℕ) : Type 0 where
 
 -- the message is this value
 abbrev pub IsValue : {A : Type 0} → Conditions → (List ℕ → A) → List ℕ → A → Type 0
-IsValue c meaning message value = IsWhole c message × (value ≡ meaning message)
+IsValue c meaning message value = HasNoFault c message × (value ≡ meaning message)
 
 -- what stands in a message that is refused so; each comes where none of the earlier ones does
 abbrev pub IsAtFault : Conditions → List ℕ → EventFault → Type 0

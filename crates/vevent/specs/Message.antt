@@ -34,8 +34,8 @@ abbrev pub shard_gtid_of : List ℕ → ShardGtidValue
 shard_gtid_of entry = record { keyspace = text 1 entry; shard = text 2 entry; gtid = text 3 entry }
 
 -- VGtid: shard_gtids = 1
-abbrev pub entries_of : List ℕ → List ShardGtidValue
-entries_of vgtid = map shard_gtid_of (parts 1 vgtid)
+abbrev pub shard_gtids_of : List ℕ → List ShardGtidValue
+shard_gtids_of vgtid = map shard_gtid_of (parts 1 vgtid)
 
 -- VEvent: type = 1, gtid = 3, row_event = 5, field_event = 6, vgtid = 7
 abbrev pub event_of : EventKind → List ℕ → EventValue
@@ -45,5 +45,5 @@ event_of kind.Commit event = Commit
 event_of kind.Rollback event = Rollback
 event_of kind.Row event = Row (text 1 (embedded 5 event)) (changes_of (embedded 5 event))
 event_of kind.Field event = Field (text 1 (embedded 6 event)) (column_fields_of (embedded 6 event))
-event_of kind.Vgtid event = Vgtid (entries_of (embedded 7 event))
+event_of kind.Vgtid event = Vgtid (shard_gtids_of (embedded 7 event))
 event_of (kind.Ignored which) event = Ignored which

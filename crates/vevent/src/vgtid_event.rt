@@ -5,7 +5,7 @@ ghost use Rattle.std.specs.Iterator.{YieldsFirstBy, item_count};
 ghost use Rattle.std.specs.List.{list_all};
 ghost use Rattle.proto_wire.specs.Parts.{parts};
 ghost use Rattle.vevent.specs.Fault.{are_entry_texts};
-ghost use Rattle.vevent.specs.Message.{entries_of};
+ghost use Rattle.vevent.specs.Message.{shard_gtids_of};
 ghost use Rattle.vevent.specs.ShardGtidView.{shard_gtid_value};
 
 use crate::text::text_of;
@@ -25,11 +25,11 @@ impl<'b> Model for VGtid<'b> {
     ghost use Rattle.vevent.specs.EventValue.{ShardGtidValue};
     ghost use Rattle.proto_wire.specs.Parts.{parts};
     ghost use Rattle.vevent.specs.Fault.{are_entry_texts};
-    ghost use Rattle.vevent.specs.Message.{entries_of};
+    ghost use Rattle.vevent.specs.Message.{shard_gtids_of};
 
     ghost Value = { List ShardGtidValue };
 
-    ghost view = { λ a. entries_of a.message.now };
+    ghost view = { λ a. shard_gtids_of a.message.now };
 
     ghost invariant = { λ a. list_all are_entry_texts (parts 1 a.message.now) ≡ true };
 }
@@ -38,7 +38,7 @@ impl<'b> VGtid<'b> {
     /// The VGTID of a message whose texts are ones.
     pub(crate) fn new(message: &'b [u8]) -> VGtid<'b>
         requires { list_all are_entry_texts (parts 1 message.now) ≡ true }
-        ensures { result ≡ entries_of message.now }
+        ensures { result ≡ shard_gtids_of message.now }
     {
         VGtid { message }
     }

@@ -13,18 +13,18 @@ use Rattle.hex.specs.declared.error.FromHexError.{FromHexError}
 use Rattle.hex.proofs.HexLemmas.{decode_of-even, decode_of-odd, decode_of-ok}
 use Rattle.hex.proofs.Pairs.{cons_byte, decode_pairs-ok_pair}
 use Rattle.std.specs.Option.{option_map}
-use Rattle.vindex.specs.Bounds.{trimmed}
-use Rattle.vindex.specs.BoundDigits.{digit_of, bytes_of_pairs}
+use Rattle.vindex.specs.Bounds.{without_end_zeros}
+use Rattle.vindex.specs.BoundDigits.{hex_value_of, bytes_of_pairs}
 use Rattle.vindex.specs.RangeText.{bytes_of_hex}
 
-digit_or_error-some : (c i : ℕ) (value : Option ℕ) → hex_digit_value c ≡ value → is_hex_digit c ≡ true → digit_or_error c i value ≡ Ok (digit_of c)
+digit_or_error-some : (c i : ℕ) (value : Option ℕ) → hex_digit_value c ≡ value → is_hex_digit c ≡ true → digit_or_error c i value ≡ Ok (hex_value_of c)
 digit_or_error-some c i (Some v) is digit = cc
 digit_or_error-some c i None is digit = absurd (cc)
 
-pair_value-digits : (high low i : ℕ) → is_hex_digit high ≡ true → is_hex_digit low ≡ true → pair_value high low i ≡ Ok (digit_of high * 16 + digit_of low)
+pair_value-digits : (high low i : ℕ) → is_hex_digit high ≡ true → is_hex_digit low ≡ true → pair_value high low i ≡ Ok (hex_value_of high * 16 + hex_value_of low)
 pair_value-digits high low i is_high is_low =
-    let h : value_at high i ≡ Ok (digit_of high) = digit_or_error-some high i (hex_digit_value high) refl is_high in
-    let l : value_at low (i + 1) ≡ Ok (digit_of low) = digit_or_error-some low (i + 1) (hex_digit_value low) refl is_low in
+    let h : value_at high i ≡ Ok (hex_value_of high) = digit_or_error-some high i (hex_digit_value high) refl is_high in
+    let l : value_at low (i + 1) ≡ Ok (hex_value_of low) = digit_or_error-some low (i + 1) (hex_digit_value low) refl is_low in
     rw (h, l) refl
 
 decode_pairs-digits : (i : ℕ) (s : List ℕ) → length s % 2 ≡ 0 → list_all is_hex_digit s ≡ true → decode_pairs i s ≡ Ok (bytes_of_pairs s)
@@ -35,7 +35,7 @@ decode_pairs-digits i (high ∷ low ∷ rest) even digits =
     let first = and_parts (is_hex_digit high) (list_all is_hex_digit (low ∷ rest)) digits in
     let second = and_parts (is_hex_digit low) (list_all is_hex_digit rest) first.1 in
     decode_pairs-ok_pair i high low _ rest (pair_value-digits high low i first.0 second.0)
-    ∙ ap (cons_byte (digit_of high * 16 + digit_of low)) (decode_pairs-digits (i + 2) rest (omega arith) second.1)
+    ∙ ap (cons_byte (hex_value_of high * 16 + hex_value_of low)) (decode_pairs-digits (i + 2) rest (omega arith) second.1)
 
 -- an even number of digits
 pub decode_of-digits : (s : List ℕ) → length s % 2 ≡ 0 → list_all is_hex_digit s ≡ true → decode_of s ≡ Ok (bytes_of_pairs s)
@@ -58,15 +58,15 @@ length-bytes_of_pairs [] = refl
 length-bytes_of_pairs (d ∷ []) = refl
 length-bytes_of_pairs (high ∷ low ∷ rest) = omega (arith, length-bytes_of_pairs rest)
 
-pub get_or-bytes_of_pairs : (s : List ℕ) (i : ℕ) → 2 * i + 1 < length s → get_or (bytes_of_pairs s) i 0 ≡ digit_of (get_or s (2 * i) 0) * 16 + digit_of (get_or s (2 * i + 1) 0)
+pub get_or-bytes_of_pairs : (s : List ℕ) (i : ℕ) → 2 * i + 1 < length s → get_or (bytes_of_pairs s) i 0 ≡ hex_value_of (get_or s (2 * i) 0) * 16 + hex_value_of (get_or s (2 * i + 1) 0)
 get_or-bytes_of_pairs [] i inside = absurd (omega arith)
 get_or-bytes_of_pairs (d ∷ []) i inside = absurd (omega arith)
 get_or-bytes_of_pairs (high ∷ low ∷ rest) zero inside = refl
 get_or-bytes_of_pairs (high ∷ low ∷ rest) (suc i) inside =
     let even : 2 * suc i ≡ suc (suc (2 * i)) = omega arith in
     let odd : 2 * suc i + 1 ≡ suc (suc (2 * i + 1)) = omega arith in
-    subst (λ j. get_or (bytes_of_pairs rest) i 0 ≡ digit_of (get_or (high ∷ low ∷ rest) j 0) * 16 + digit_of (get_or (high ∷ low ∷ rest) (2 * suc i + 1) 0)) (sym even)
-    (subst (λ j. get_or (bytes_of_pairs rest) i 0 ≡ digit_of (get_or rest (2 * i) 0) * 16 + digit_of (get_or (high ∷ low ∷ rest) j 0)) (sym odd) (get_or-bytes_of_pairs rest i (omega arith)))
+    subst (λ j. get_or (bytes_of_pairs rest) i 0 ≡ hex_value_of (get_or (high ∷ low ∷ rest) j 0) * 16 + hex_value_of (get_or (high ∷ low ∷ rest) (2 * suc i + 1) 0)) (sym even)
+    (subst (λ j. get_or (bytes_of_pairs rest) i 0 ≡ hex_value_of (get_or rest (2 * i) 0) * 16 + hex_value_of (get_or (high ∷ low ∷ rest) j 0)) (sym odd) (get_or-bytes_of_pairs rest i (omega arith)))
 
 -- the first pairs write the first bytes
 bytes_of_pairs-take : (n : ℕ) (s : List ℕ) → bytes_of_pairs (take (2 * n) s) ≡ take n (bytes_of_pairs s)
@@ -77,7 +77,7 @@ bytes_of_pairs-take (suc n) (d ∷ []) =
     rw two refl
 bytes_of_pairs-take (suc n) (high ∷ low ∷ rest) =
     let two : 2 * suc n ≡ suc (suc (2 * n)) = omega arith in
-    rw two (ap (λ bytes. (digit_of high * 16 + digit_of low) ∷ bytes) (bytes_of_pairs-take n rest))
+    rw two (ap (λ bytes. (hex_value_of high * 16 + hex_value_of low) ∷ bytes) (bytes_of_pairs-take n rest))
 
 list_all-take : (p : ℕ → Bool) (n : ℕ) (s : List ℕ) → list_all p s ≡ true → list_all p (take n s) ≡ true
 list_all-take p zero s all = refl
@@ -93,10 +93,10 @@ decode_of-take n s within digits =
     decode_of-digits (take (2 * n) s) (omega arith) (list_all-take is_hex_digit (2 * n) s digits)
 
 -- the bound that digits write, by as many of them as are kept
-pub bound_is : (n : ℕ) (s : List ℕ) → length s % 2 ≡ 0 → list_all is_hex_digit s ≡ true → n ≡ length (bytes_of_pairs s) - suffix_len (λ byte. eqb byte 0) (bytes_of_pairs s) → Some (bytes_of_pairs (take (2 * n) s)) ≡ option_map trimmed (bytes_of_hex s)
+pub bound_is : (n : ℕ) (s : List ℕ) → length s % 2 ≡ 0 → list_all is_hex_digit s ≡ true → n ≡ length (bytes_of_pairs s) - suffix_len (λ byte. eqb byte 0) (bytes_of_pairs s) → Some (bytes_of_pairs (take (2 * n) s)) ≡ option_map without_end_zeros (bytes_of_hex s)
 bound_is n s even digits is =
     ap (λ bytes. Some bytes) (bytes_of_pairs-take n s ∙ ap (λ k. take k (bytes_of_pairs s)) is)
-    ∙ sym (ap (λ r. option_map trimmed (result_ok r)) (decode_of-digits s even digits))
+    ∙ sym (ap (λ r. option_map without_end_zeros (result_ok r)) (decode_of-digits s even digits))
 
 -- ---- the order of two bounds
 

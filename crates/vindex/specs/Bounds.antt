@@ -11,8 +11,8 @@ pub record Bounds : Type 0 where
   pub end : Option (List ℕ)
 
 -- a byte string without the 00 bytes at its end
-abbrev pub trimmed : List ℕ → List ℕ
-trimmed bytes = take (length bytes - suffix_len (λ byte. byte == 0) bytes) bytes
+abbrev pub without_end_zeros : List ℕ → List ℕ
+without_end_zeros bytes = take (length bytes - suffix_len (λ byte. byte == 0) bytes) bytes
 
 -- an end that has no bytes is open
 abbrev pub end_of : List ℕ → Option (List ℕ)
@@ -21,7 +21,7 @@ end_of (byte ∷ bytes) = Some (byte ∷ bytes)
 
 -- the range from one byte string to another, each without the 00 bytes at its end
 abbrev pub bounds_of : List ℕ → List ℕ → Bounds
-bounds_of start end = record { start = trimmed start; end = end_of (trimmed end) }
+bounds_of start end = record { start = without_end_zeros start; end = end_of (without_end_zeros end) }
 
 -- the range of all ids
 abbrev pub whole : Bounds

@@ -6,8 +6,8 @@ ghost use Rattle.std.specs.List.{list_all, suffix_len};
 ghost use Rattle.std.specs.Option.{option_map};
 ghost use Rattle.std.specs.Ordering.{nat_cmp, is_lt};
 ghost use Rattle.hex.specs.Hex.{is_hex_digit};
-ghost use Rattle.vindex.specs.Bounds.{trimmed};
-ghost use Rattle.vindex.specs.BoundDigits.{bytes_of_pairs, digit_of};
+ghost use Rattle.vindex.specs.Bounds.{without_end_zeros};
+ghost use Rattle.vindex.specs.BoundDigits.{bytes_of_pairs, hex_value_of};
 ghost use Rattle.vindex.specs.RangeText.{bytes_of_hex};
 
 use std::alloc::{AllocError, Global};
@@ -35,7 +35,7 @@ impl<'t> BoundText<'t> {
     /// The bound that a text writes: an even number of hexadecimal digits of either case. `None` is for
     /// every other text. Takes no memory.
     pub fn read(text: &'t str) -> Option<BoundText<'t>>
-        ensures { result ≡ option_map trimmed (bytes_of_hex text.now) }
+        ensures { result ≡ option_map without_end_zeros (bytes_of_hex text.now) }
     {
         let digits = text.as_bytes();
         if digits.len() % 2 != 0 || !are_digits(digits) {
@@ -85,7 +85,7 @@ fn are_digits(bytes: &[u8]) -> bool
 
 /// The value of a hexadecimal digit, or 0.
 fn value_of(digit: u8) -> u8
-    ensures value { result ≡ digit_of digit }
+    ensures value { result ≡ hex_value_of digit }
     ensures small { result < 16 }
 {
     match digit {

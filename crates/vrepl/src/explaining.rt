@@ -2,7 +2,7 @@
 
 ghost use Rattle.std.specs.Prelude.{◌≡◌, ◌⊎◌, Ok, OnOk, IfErr};
 ghost use Rattle.refusal_words.specs.Texts.{explained};
-ghost use Rattle.vrepl_main.specs.Command.{IsGivenText, PrintsRefusal, PrintsWhole, Refuses};
+ghost use Rattle.vrepl_main.specs.Command.{IsGivenText, PrintsRefusal, PrintsWhole, RefusesCommand};
 
 use refusal_words::texts::explained;
 use vdiff_core::{Out, put_all};
@@ -25,7 +25,7 @@ pub(crate) fn explain<W: Out, E: Out>(number: Option<u64>, out: &mut W, err: &mu
 /// Prints a text.
 fn print_text<W: Out>(out: &mut W, text: &str) -> Result<(), Refusal<'static>>
     ensures printed { OnOk result (PrintsWhole (Ok text.now) (W.written out.old) (W.written out.new)) }
-    ensures refused { IfErr result (λ refusal. Refuses IsGivenText refusal (Ok text.now) (W.written out.old) (W.written out.new)) }
+    ensures refused { IfErr result (λ refusal. RefusesCommand IsGivenText refusal (Ok text.now) (W.written out.old) (W.written out.new)) }
 {
     put_all(out, text.as_bytes())?;
     Ok(())

@@ -8,16 +8,16 @@ use Rattle.source_feed.specs.FaultNumber as feed
 use Rattle.source_feed.specs.declared.fault.FeedFault.{FeedFault}
 use Rattle.source_feed.specs.declared.fault.FeedFault.TheVariants as fault
 use Rattle.feed_check.specs.Checked.{CheckedValue, checked_feeds}
-use Rattle.feed_check.specs.Report.{ReportValue, report_of}
+use Rattle.feed_check.specs.Report.{ReportValue, check_report_of}
 use Rattle.vrepl_main.specs.HexText.{feed_bytes}
 use Rattle.vrepl_main.specs.InputList.{workflow_of}
 use Rattle.vrepl_main.specs.Opening.{OpenedValue}
-use Rattle.vrepl_main.specs.Reasons.{Reason, meant_of, RefusesInputs}
+use Rattle.vrepl_main.specs.Reasons.{Reason, reason_of, RefusesInputs}
 use Rattle.vrepl_main.specs.RefusalOf.{refusal_of_feed}
 use Rattle.vrepl_main.specs.declared.refusal.Refusal.{Refusal}
 use Rattle.vrepl_main.specs.declared.refusal.Refusal.TheVariants.{Memory, Workflow, FeedCount, Feed, BadHex, BadScript, BadDump, CannotRead, CannotWrite}
 use Rattle.std.proofs.lemmas.Simd.{map-map}
-use Rattle.vrepl_check.specs.Checking.{IsWarned, bytes_in, said_checks, report_with, report_bytes, report_given, report_asked}
+use Rattle.vrepl_check.specs.Checking.{IsWarned, bytes_or_none, said_checks, report_with, report_bytes, report_given, report_asked}
 
 -- what refuses a step refuses what is made of it
 behind : {X Y : Type 0} (o : Option Reason) (reading : Result X Reason) (f : X → Result Y Reason) → MatchOption o ⊥ (λ reason. reading ≡ Err reason) → MatchOption o ⊥ (λ reason. (reading >>= f) ≡ Err reason)
@@ -26,16 +26,16 @@ behind (Some reason) reading f is = ap (λ r. r >>= f) is
 
 pub refuses_behind : {X Y : Type 0} (refusal : Refusal) (reading : Result X Reason) (f : X → Result Y Reason) → RefusesInputs refusal reading → RefusesInputs refusal (reading >>= f)
 refuses_behind Memory reading f is = tt
-refuses_behind other reading f is = behind (meant_of other) reading f is
+refuses_behind other reading f is = behind (reason_of other) reading f is
 
 abbrev gives : ReportValue → Result ReportValue Reason
 gives report = Ok report
 
 -- the refusal of a group that isn't sound
 pub refuses_checks : (files : List (List ℕ)) (given : FeedFault) (reading : Result (List CheckedValue) FeedFault) → outcome.Refuses feed.meant_of given reading
-    → RefusesInputs (refusal_of_feed given) (said_checks reading >>= λ checks. Ok (report_of files checks))
+    → RefusesInputs (refusal_of_feed given) (said_checks reading >>= λ checks. Ok (check_report_of files checks))
 refuses_checks files fault.Memory reading is = tt
-refuses_checks files other reading is = ap (λ (r : Result (List CheckedValue) FeedFault). said_checks r >>= λ checks. gives (report_of files checks)) is
+refuses_checks files other reading is = ap (λ (r : Result (List CheckedValue) FeedFault). said_checks r >>= λ checks. gives (check_report_of files checks)) is
 
 -- feeds as they are given
 pub given_as : {A : Type 0} (feeds : List A) (view : A → List ℕ) (hex : Bool) (files : List (List ℕ)) (workflow : List ℕ) (given : List (Option (List ℕ))) → given ≡ map (λ feed. feed_bytes hex (view feed)) feeds
@@ -45,16 +45,16 @@ given_as feeds view hex files workflow given is =
 
 -- the same of feeds that were opened
 pub refused_checks : (files : List (List ℕ)) (given : List (Option (List ℕ))) (reading : Result OpenedValue Reason) (opened : OpenedValue) (fault : FeedFault) → reading ≡ Ok opened
-    → outcome.Refuses feed.meant_of fault (checked_feeds (map bytes_in given) opened.feeds) → RefusesInputs (refusal_of_feed fault) (reading >>= report_with files given)
+    → outcome.Refuses feed.meant_of fault (checked_feeds (map bytes_or_none given) opened.feeds) → RefusesInputs (refusal_of_feed fault) (reading >>= report_with files given)
 refused_checks files given reading opened fault is bad =
-    subst (λ (r : Result OpenedValue Reason). RefusesInputs (refusal_of_feed fault) (r >>= report_with files given)) (sym is) (refuses_checks files fault (checked_feeds (map bytes_in given) opened.feeds) bad)
+    subst (λ (r : Result OpenedValue Reason). RefusesInputs (refusal_of_feed fault) (r >>= report_with files given)) (sym is) (refuses_checks files fault (checked_feeds (map bytes_or_none given) opened.feeds) bad)
 
 -- the report on them
 pub report_is : (files : List (List ℕ)) (given : List (Option (List ℕ))) (reading : Result OpenedValue Reason) (opened : OpenedValue) (checks : List CheckedValue) (report : ReportValue) → reading ≡ Ok opened
-    → checked_feeds (map bytes_in given) opened.feeds ≡ Ok checks → report ≡ report_of files checks → (reading >>= report_with files given) ≡ Ok report
+    → checked_feeds (map bytes_or_none given) opened.feeds ≡ Ok checks → report ≡ check_report_of files checks → (reading >>= report_with files given) ≡ Ok report
 report_is files given reading opened checks report is checked made =
     ap (λ (r : Result OpenedValue Reason). r >>= report_with files given) is
-    ∙ ap (λ (r : Result (List CheckedValue) FeedFault). said_checks r >>= λ checks. gives (report_of files checks)) checked
+    ∙ ap (λ (r : Result (List CheckedValue) FeedFault). said_checks r >>= λ checks. gives (check_report_of files checks)) checked
     ∙ ap gives (sym made)
 
 -- whether it warns

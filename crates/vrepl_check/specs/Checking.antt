@@ -3,16 +3,16 @@ use Rattle.std.specs.Prelude.{◌≡◌, ℕ, Bool, List, [], map, drop, Option,
 use Rattle.outcome.specs.Outcome.{◌>>=◌}
 use Rattle.source_feed.specs.declared.fault.FeedFault.{FeedFault}
 use Rattle.feed_check.specs.Checked.{CheckedValue, checked_feeds}
-use Rattle.feed_check.specs.Report.{ReportValue, report_of}
+use Rattle.feed_check.specs.Report.{ReportValue, check_report_of}
 use Rattle.vrepl_main.specs.HexText.{feed_bytes}
 use Rattle.vrepl_main.specs.InputList.{workflow_of}
 use Rattle.vrepl_main.specs.Opening.{OpenedValue, opened_bytes}
 use Rattle.vrepl_main.specs.Reasons.{Reason, bad_feed}
 
 -- the bytes of a feed; a workflow isn't opened over what has none
-abbrev pub bytes_in : Option (List ℕ) → List ℕ
-bytes_in None = []
-bytes_in (Some bytes) = bytes
+abbrev pub bytes_or_none : Option (List ℕ) → List ℕ
+bytes_or_none None = []
+bytes_or_none (Some bytes) = bytes
 
 -- a feed is refused by its own number
 abbrev pub said_checks : Result (List CheckedValue) FeedFault → Result (List CheckedValue) Reason
@@ -21,7 +21,7 @@ said_checks (Err fault) = Err (bad_feed fault)
 
 -- the report on feeds that were opened of these bytes: refused by the first group that isn't sound
 abbrev pub report_with : List (List ℕ) → List (Option (List ℕ)) → OpenedValue → Result ReportValue Reason
-report_with files given opened = said_checks (checked_feeds (map bytes_in given) opened.feeds) >>= λ checks. Ok (report_of files checks)
+report_with files given opened = said_checks (checked_feeds (map bytes_or_none given) opened.feeds) >>= λ checks. Ok (check_report_of files checks)
 
 -- the report on a workflow and its feeds, whose files have these names; the faults of opening them come first
 abbrev pub report_bytes : List (List ℕ) → List ℕ → List (Option (List ℕ)) → Result ReportValue Reason
@@ -36,8 +36,8 @@ abbrev pub report_asked : Bool → List (List ℕ) → List (List ℕ) → Resul
 report_asked hex files inputs = report_given hex files (workflow_of inputs) (drop 1 inputs)
 
 -- the text of a report
-abbrev pub text_of : Result ReportValue Reason → Result (List ℕ) Reason
-text_of report = report >>= λ r. Ok r.text
+abbrev pub text_of_report : Result ReportValue Reason → Result (List ℕ) Reason
+text_of_report report = report >>= λ r. Ok r.text
 
 -- there is a report, and whether it warns of anything is this
 abbrev pub IsWarned : Bool → Result ReportValue Reason → Type 0

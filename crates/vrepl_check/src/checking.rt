@@ -1,11 +1,11 @@
 //! The subcommand `check`: what stands in feeds, and warnings of what can't be so.
 
 ghost use Rattle.std.specs.Prelude.{◌≡◌, ◌≢◌, ◌≤◌, ◌⊎◌, false, true, IfOk, IfErr, length, map};
-ghost use Rattle.vrepl_main.specs.Command.{IsGivenText, PrintsWhole, PrintsRefusal, Refuses};
+ghost use Rattle.vrepl_main.specs.Command.{IsGivenText, PrintsWhole, PrintsRefusal, RefusesCommand};
 ghost use Rattle.vrepl_main.specs.Given.{given_value};
 ghost use Rattle.vrepl_main.specs.InputList.{bytes_of};
 ghost use Rattle.vrepl_main.specs.Reasons.{GivesOfInputs};
-ghost use Rattle.vrepl_check.specs.Checking.{bytes_in, report_bytes, report_given, report_asked, text_of, IsWarned};
+ghost use Rattle.vrepl_check.specs.Checking.{bytes_or_none, report_bytes, report_given, report_asked, text_of_report, IsWarned};
 
 use feed_check::{Report, check_feeds};
 use std::alloc::{AllocError, Global};
@@ -26,9 +26,9 @@ pub fn check_on<W: Out, E: Out>(
     ensures status { (result ≡ 0) ⊎ (result ≡ 1) ⊎ (result ≡ 3) }
     ensures sound { result ≡ 0 → IsWarned false (report_asked hex (map (λ file. file.now) files.now) (bytes_of inputs.now)) }
     ensures warned { result ≡ 3 → IsWarned true (report_asked hex (map (λ file. file.now) files.now) (bytes_of inputs.now)) }
-    ensures printed { result ≢ 1 → PrintsWhole (text_of (report_asked hex (map (λ file. file.now) files.now) (bytes_of inputs.now))) (W.written out.old) (W.written out.new) }
+    ensures printed { result ≢ 1 → PrintsWhole (text_of_report (report_asked hex (map (λ file. file.now) files.now) (bytes_of inputs.now))) (W.written out.old) (W.written out.new) }
     ensures quiet { result ≢ 1 → err.new ≡ err.old }
-    ensures refused { result ≡ 1 → PrintsRefusal IsGivenText (text_of (report_asked hex (map (λ file. file.now) files.now) (bytes_of inputs.now))) (W.written out.old) (W.written out.new) (E.written err.old) (E.written err.new) }
+    ensures refused { result ≡ 1 → PrintsRefusal IsGivenText (text_of_report (report_asked hex (map (λ file. file.now) files.now) (bytes_of inputs.now))) (W.written out.old) (W.written out.new) (E.written err.old) (E.written err.new) }
 {
     let feeds = &inputs[1..];
     check(alloc, hex, files, &inputs[0], feeds, out, err)
@@ -54,9 +54,9 @@ pub fn check<W: Out, E: Out>(
     ensures status { (result ≡ 0) ⊎ (result ≡ 1) ⊎ (result ≡ 3) }
     ensures sound { result ≡ 0 → IsWarned false (report_given hex (map (λ file. file.now) files.now) workflow.now (map (λ feed. feed.items) feeds.now)) }
     ensures warned { result ≡ 3 → IsWarned true (report_given hex (map (λ file. file.now) files.now) workflow.now (map (λ feed. feed.items) feeds.now)) }
-    ensures printed { result ≢ 1 → PrintsWhole (text_of (report_given hex (map (λ file. file.now) files.now) workflow.now (map (λ feed. feed.items) feeds.now))) (W.written out.old) (W.written out.new) }
+    ensures printed { result ≢ 1 → PrintsWhole (text_of_report (report_given hex (map (λ file. file.now) files.now) workflow.now (map (λ feed. feed.items) feeds.now))) (W.written out.old) (W.written out.new) }
     ensures quiet { result ≢ 1 → err.new ≡ err.old }
-    ensures refused { result ≡ 1 → PrintsRefusal IsGivenText (text_of (report_given hex (map (λ file. file.now) files.now) workflow.now (map (λ feed. feed.items) feeds.now))) (W.written out.old) (W.written out.new) (E.written err.old) (E.written err.new) }
+    ensures refused { result ≡ 1 → PrintsRefusal IsGivenText (text_of_report (report_given hex (map (λ file. file.now) files.now) workflow.now (map (λ feed. feed.items) feeds.now))) (W.written out.old) (W.written out.new) (E.written err.old) (E.written err.new) }
 {
     match print_check(alloc, hex, files, workflow, feeds, out) {
         Ok(false) => 0,
@@ -76,8 +76,8 @@ fn print_check<W: Out>(
     out: &mut W,
 ) -> Result<bool, Refusal<'static>>
     ensures warned { IfOk result (λ warned. IsWarned warned (report_given hex (map (λ file. file.now) files.now) workflow.now (map (λ feed. feed.items) feeds.now))) }
-    ensures printed { IfOk result (λ _. PrintsWhole (text_of (report_given hex (map (λ file. file.now) files.now) workflow.now (map (λ feed. feed.items) feeds.now))) (W.written out.old) (W.written out.new)) }
-    ensures refused { IfErr result (λ refusal. Refuses IsGivenText refusal (text_of (report_given hex (map (λ file. file.now) files.now) workflow.now (map (λ feed. feed.items) feeds.now))) (W.written out.old) (W.written out.new)) }
+    ensures printed { IfOk result (λ _. PrintsWhole (text_of_report (report_given hex (map (λ file. file.now) files.now) workflow.now (map (λ feed. feed.items) feeds.now))) (W.written out.old) (W.written out.new)) }
+    ensures refused { IfErr result (λ refusal. RefusesCommand IsGivenText refusal (text_of_report (report_given hex (map (λ file. file.now) files.now) workflow.now (map (λ feed. feed.items) feeds.now))) (W.written out.old) (W.written out.new)) }
 {
     let report = report_on(alloc, hex, files, workflow, feeds)?;
     put_all(out, report.text().as_bytes())?;
@@ -116,7 +116,7 @@ fn report_of(
 
 /// The bytes of each feed.
 fn bytes_given<'g>(alloc: Global, given: &'g [GivenFeed<'_>]) -> Result<Vec<&'g [u8]>, AllocError>
-    ensures { IfOk result (λ bytes. map (λ one. one.now) bytes.items ≡ map bytes_in (map given_value given.entry.now)) }
+    ensures { IfOk result (λ bytes. map (λ one. one.now) bytes.items ≡ map bytes_or_none (map given_value given.entry.now)) }
 {
     let mut bytes = Vec::with_capacity(alloc, given.len())?;
     for feed in given {

@@ -4,10 +4,10 @@ use Rattle.vdiff_core.specs.Printing.{Written, Prints}
 use Rattle.vdiff_core.specs.Printing as library
 use Rattle.vdiff_core.proofs.PrintLaws.{adds_none, added_more, added_breaks, adding_breaks, adds_then_prints}
 use Rattle.vrepl_main.specs.Printing.{PrintsOrBreaks}
-use Rattle.vrepl_main.specs.Adding.{Place, at, IsPut, IsBegun, Adds, IsPutUpTo}
+use Rattle.vrepl_main.specs.Adding.{WriterPlace, at, IsTextPut, IsBegun, AddsText, IsPutUpTo}
 
 -- what a call of the library adds
-pub added : {X E : Type 0} (result : Result X E) (old : Written) (waited : List ℕ) (new : Written) (waits text : List ℕ) → library.Adds result old waited new waits text → Adds result (at old waited) (at new waits) text
+pub added : {X E : Type 0} (result : Result X E) (old : Written) (waited : List ℕ) (new : Written) (waits text : List ℕ) → library.Adds result old waited new waits text → AddsText result (at old waited) (at new waits) text
 added (Ok x) old waited new waits text is = is
 added (Err fault) old waited new waits text is = record { begun = is }
 
@@ -18,39 +18,39 @@ tried (Err fault) old new text is = inr is
 
 -- ---- two parts one behind the other
 
-pub then_put : (old now new : Place) (text more : List ℕ) → IsPut old now text → IsPut now new more → IsPut old new (text ++ more)
+pub then_put : (old now new : WriterPlace) (text more : List ℕ) → IsTextPut old now text → IsTextPut now new more → IsTextPut old new (text ++ more)
 then_put old now new text more first second = added_more old.written old.waiting now.written now.waiting new.written new.waiting text more first second
 
-pub first_stops : (old new : Place) (text more : List ℕ) → IsBegun old new text → IsBegun old new (text ++ more)
+pub first_stops : (old new : WriterPlace) (text more : List ℕ) → IsBegun old new text → IsBegun old new (text ++ more)
 first_stops old new text more is = record { begun = adding_breaks old.written new.written old.waiting text more is.begun }
 
-pub then_stops : (old now new : Place) (text more : List ℕ) → IsPut old now text → IsBegun now new more → IsBegun old new (text ++ more)
+pub then_stops : (old now new : WriterPlace) (text more : List ℕ) → IsTextPut old now text → IsBegun now new more → IsBegun old new (text ++ more)
 then_stops old now new text more first second = record { begun = added_breaks old.written old.waiting now.written now.waiting new.written text more first second.begun }
 
-pub then_prints : {X E : Type 0} (result : Result X E) (old now new : Place) (text more : List ℕ) → IsPut old now text → Adds result now new more → Adds result old new (text ++ more)
+pub then_prints : {X E : Type 0} (result : Result X E) (old now new : WriterPlace) (text more : List ℕ) → IsTextPut old now text → AddsText result now new more → AddsText result old new (text ++ more)
 then_prints (Ok x) old now new text more first second = then_put old now new text more first second
 then_prints (Err fault) old now new text more first second = then_stops old now new text more first second
 
 -- what waited and what was added is written, or a beginning of it
-pub then_finishes : {X E : Type 0} (result : Result X E) (old now : Place) (new : Written) (text : List ℕ) → IsPut old now text → Prints result now.written new now.waiting → Prints result old.written new (old.waiting ++ text)
+pub then_finishes : {X E : Type 0} (result : Result X E) (old now : WriterPlace) (new : Written) (text : List ℕ) → IsTextPut old now text → Prints result now.written new now.waiting → Prints result old.written new (old.waiting ++ text)
 then_finishes result old now new text first second = adds_then_prints result old.written old.waiting now.written now.waiting new text first second
 
 -- ---- a text that is walked from its front
 
-pub starts : (now : Place) (text : List ℕ) → IsPutUpTo now now text text
+pub starts : (now : WriterPlace) (text : List ℕ) → IsPutUpTo now now text text
 starts now text = record { done = []; parts = refl; put = adds_none now.written now.waiting }
 
-pub moves : (old now new : Place) (text left piece rest : List ℕ) → left ≡ piece ++ rest → IsPutUpTo old now text left → IsPut now new piece → IsPutUpTo old new text rest
+pub moves : (old now new : WriterPlace) (text left piece rest : List ℕ) → left ≡ piece ++ rest → IsPutUpTo old now text left → IsTextPut now new piece → IsPutUpTo old new text rest
 moves old now new text left piece rest parts before more = record {
   done = before.done ++ piece;
   parts = before.parts ∙ ap (λ l. before.done ++ l) parts ∙ sym (append_assoc before.done piece rest);
   put = then_put old now new before.done piece before.put more;
 }
 
-pub stops : (old now new : Place) (text left piece rest : List ℕ) → left ≡ piece ++ rest → IsPutUpTo old now text left → IsBegun now new piece → IsBegun old new text
+pub stops : (old now new : WriterPlace) (text left piece rest : List ℕ) → left ≡ piece ++ rest → IsPutUpTo old now text left → IsBegun now new piece → IsBegun old new text
 stops old now new text left piece rest parts before begun =
     subst (IsBegun old new) (sym (before.parts ∙ ap (λ l. before.done ++ l) parts))
     (then_stops old now new before.done (piece ++ rest) before.put (first_stops now new piece rest begun))
 
-pub ends : (old now : Place) (text left : List ℕ) → left ≡ [] → IsPutUpTo old now text left → IsPut old now text
-ends old now text left nothing before = subst (IsPut old now) (sym (before.parts ∙ ap (λ l. before.done ++ l) nothing ∙ append-nil before.done)) before.put
+pub ends : (old now : WriterPlace) (text left : List ℕ) → left ≡ [] → IsPutUpTo old now text left → IsTextPut old now text
+ends old now text left nothing before = subst (IsTextPut old now) (sym (before.parts ∙ ap (λ l. before.done ++ l) nothing ∙ append-nil before.done)) before.put

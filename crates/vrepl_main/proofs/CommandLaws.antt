@@ -7,7 +7,7 @@ use Rattle.source_feed.specs.declared.fault.FeedFault.{FeedFault}
 use Rattle.source_feed.specs.declared.fault.FeedFault.TheVariants as fault
 use Rattle.vdiff_core.specs.Printing.{Written, IsWritten, BreaksOff}
 use Rattle.vrepl_main.specs.Reasons.{Reason, RefusesInputs}
-use Rattle.vrepl_main.specs.Command.{BreaksOffIn, PrintsWhole, Refuses, IsUnwritten}
+use Rattle.vrepl_main.specs.Command.{BreaksOffIn, PrintsWhole, RefusesCommand, IsUnwritten}
 use Rattle.vrepl_main.specs.RefusalOf.{refusal_of_feed}
 use Rattle.vrepl_main.specs.Show.{shown_groups}
 use Rattle.vrepl_main.specs.declared.refusal.Refusal.{Refusal}
@@ -18,10 +18,10 @@ PrintsWhole-text reading old new text is printed = subst (λ r. PrintsWhole r ol
 
 module _ {X : Type 0} (IsText : X → List ℕ → Type 0) (refusal : Refusal) (reading : Result X Reason) where
   -- a refusal of the inputs leaves nothing
-  pub refuses : (now : Written) → RefusesInputs refusal reading → Refuses IsText refusal reading now now
+  pub refuses : (now : Written) → RefusesInputs refusal reading → RefusesCommand IsText refusal reading now now
   refuses now is = by refusal is
     where
-      by : (r : Refusal) → RefusesInputs r reading → Refuses IsText r reading now now
+      by : (r : Refusal) → RefusesInputs r reading → RefusesCommand IsText r reading now now
       by Memory is = (tt, refl)
       by (Workflow fault) is = (is, refl)
       by FeedCount is = (is, refl)
@@ -33,10 +33,10 @@ module _ {X : Type 0} (IsText : X → List ℕ → Type 0) (refusal : Refusal) (
       by (CannotWrite file) is = absurd is
 
   -- the text can't be written
-  pub refuses_unwritten : (given : X) (text : List ℕ) (old new : Written) → reading ≡ Ok given → IsText given text → BreaksOff old new text → IsUnwritten refusal → Refuses IsText refusal reading old new
+  pub refuses_unwritten : (given : X) (text : List ℕ) (old new : Written) → reading ≡ Ok given → IsText given text → BreaksOff old new text → IsUnwritten refusal → RefusesCommand IsText refusal reading old new
   refuses_unwritten given text old new is is_text broken unwritten = by refusal unwritten
     where
-      by : (r : Refusal) → IsUnwritten r → Refuses IsText r reading old new
+      by : (r : Refusal) → IsUnwritten r → RefusesCommand IsText r reading old new
       by (CannotWrite file) unwritten = (unwritten, subst (λ (given : Result X Reason). BreaksOffIn IsText given old new) (sym is) (text, is_text, broken))
       by Memory unwritten = absurd unwritten
       by (Workflow fault) unwritten = absurd unwritten

@@ -3,7 +3,7 @@ use Rattle.std.proofs.Common.{◌≡◌, ◌∙◌, ap, sym, ℕ, ◌+◌, ◌*�
 use Rattle.std.proofs.lemmas.List.{append-nil, drop_more}
 use Rattle.std.specs.Prelude.{Option, Some, None}
 use Rattle.std.specs.Option.{option_map}
-use Rattle.vrepl_main.specs.HexText.{digit_of, digits_of, hex_bytes, is_skipped, joined, paired}
+use Rattle.vrepl_main.specs.HexText.{hex_text_digit, digits_of, hex_bytes, is_skipped_byte, with_hex_byte, paired}
 
 -- the digit that waits for its second half
 abbrev pub waiting : Option ℕ → List (Option ℕ)
@@ -15,7 +15,7 @@ abbrev pub after : List ℕ → Option (List ℕ) → Option (List ℕ)
 after bytes rest = option_map (λ xs. bytes ++ xs) rest
 
 -- the digits of text that begins with a character that counts
-digits-read : (c : ℕ) (rest : List ℕ) → is_skipped c ≡ false → digits_of (c ∷ rest) ≡ digit_of c ∷ digits_of rest
+digits-read : (c : ℕ) (rest : List ℕ) → is_skipped_byte c ≡ false → digits_of (c ∷ rest) ≡ hex_text_digit c ∷ digits_of rest
 digits-read c rest s = rw s refl
 
 -- a character that is no digit leaves no bytes
@@ -25,7 +25,7 @@ paired-no_digit None [] = refl
 paired-no_digit None (low ∷ rest) = refl
 paired-no_digit (Some high) rest = refl
 
-joined_after : (bytes : List ℕ) (high low : ℕ) (rest : Option (List ℕ)) → after bytes (joined (Some high) (Some low) rest) ≡ after (bytes ++ (high * 16 + low) ∷ []) rest
+joined_after : (bytes : List ℕ) (high low : ℕ) (rest : Option (List ℕ)) → after bytes (with_hex_byte (Some high) (Some low) rest) ≡ after (bytes ++ (high * 16 + low) ∷ []) rest
 joined_after bytes high low None = refl
 joined_after bytes high low (Some xs) = ap Some (sym (append_assoc bytes ((high * 16 + low) ∷ []) xs))
 
@@ -35,18 +35,18 @@ unfolding paired
 paired-pair bytes high low rest = joined_after bytes high low (paired rest)
 
 -- what is known of the bytes, over one more character
-pub step-no_digit : (text bytes : List ℕ) (high : Option ℕ) (i : ℕ) → i < length text → is_skipped (get_or text i 0) ≡ false → digit_of (get_or text i 0) ≡ None → hex_bytes text ≡ after bytes (paired (waiting high ++ digits_of (drop i text))) → hex_bytes text ≡ None
+pub step-no_digit : (text bytes : List ℕ) (high : Option ℕ) (i : ℕ) → i < length text → is_skipped_byte (get_or text i 0) ≡ false → hex_text_digit (get_or text i 0) ≡ None → hex_bytes text ≡ after bytes (paired (waiting high ++ digits_of (drop i text))) → hex_bytes text ≡ None
 step-no_digit text bytes high i h s d known =
     known
     ∙ ap (λ xs. after bytes (paired (waiting high ++ xs))) (ap digits_of (drop_more text i 0 h) ∙ digits-read (get_or text i 0) (drop (i + 1) text) s ∙ ap (λ x. x ∷ digits_of (drop (i + 1) text)) d)
     ∙ ap (after bytes) (paired-no_digit high (digits_of (drop (i + 1) text)))
 
-pub step-high : (text bytes : List ℕ) (digit i : ℕ) → i < length text → is_skipped (get_or text i 0) ≡ false → digit_of (get_or text i 0) ≡ Some digit → hex_bytes text ≡ after bytes (paired (digits_of (drop i text))) → hex_bytes text ≡ after bytes (paired (Some digit ∷ digits_of (drop (i + 1) text)))
+pub step-high : (text bytes : List ℕ) (digit i : ℕ) → i < length text → is_skipped_byte (get_or text i 0) ≡ false → hex_text_digit (get_or text i 0) ≡ Some digit → hex_bytes text ≡ after bytes (paired (digits_of (drop i text))) → hex_bytes text ≡ after bytes (paired (Some digit ∷ digits_of (drop (i + 1) text)))
 step-high text bytes digit i h s d known =
     known
     ∙ ap (λ xs. after bytes (paired xs)) (ap digits_of (drop_more text i 0 h) ∙ digits-read (get_or text i 0) (drop (i + 1) text) s ∙ ap (λ x. x ∷ digits_of (drop (i + 1) text)) d)
 
-pub step-low : (text bytes : List ℕ) (high digit i : ℕ) → i < length text → is_skipped (get_or text i 0) ≡ false → digit_of (get_or text i 0) ≡ Some digit → hex_bytes text ≡ after bytes (paired (Some high ∷ digits_of (drop i text))) → hex_bytes text ≡ after (bytes ++ (high * 16 + digit) ∷ []) (paired (digits_of (drop (i + 1) text)))
+pub step-low : (text bytes : List ℕ) (high digit i : ℕ) → i < length text → is_skipped_byte (get_or text i 0) ≡ false → hex_text_digit (get_or text i 0) ≡ Some digit → hex_bytes text ≡ after bytes (paired (Some high ∷ digits_of (drop i text))) → hex_bytes text ≡ after (bytes ++ (high * 16 + digit) ∷ []) (paired (digits_of (drop (i + 1) text)))
 step-low text bytes high digit i h s d known =
     known
     ∙ ap (λ xs. after bytes (paired (Some high ∷ xs))) (ap digits_of (drop_more text i 0 h) ∙ digits-read (get_or text i 0) (drop (i + 1) text) s ∙ ap (λ x. x ∷ digits_of (drop (i + 1) text)) d)

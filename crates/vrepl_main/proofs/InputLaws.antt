@@ -4,7 +4,7 @@ use Rattle.std.proofs.lemmas.List.{append-nil, get_or_default}
 use Rattle.std.specs.Prelude.{Option, Some, None, IfSome}
 use Rattle.std.specs.Io.KnownBytes.{Consumes, IsAtEnd}
 use Rattle.std.specs.Prelude.{get_or}
-use Rattle.vrepl_main.specs.Inputs.{name_of, IsUnread, IsUnreadAmong}
+use Rattle.vrepl_main.specs.Inputs.{input_name, IsUnread, IsUnreadAmong}
 use Rattle.vrepl_main.specs.declared.input.InputName.{InputName}
 use Rattle.vrepl_main.specs.declared.input.InputName.TheVariants.{Standard}
 use Rattle.vrepl_main.specs.declared.refusal.Refusal.{Refusal}
@@ -25,7 +25,7 @@ limit (Some xs) bytes i reads e h lt =
     λ many. let same : length bytes ≡ length xs = ap length e in absurd (omega arith)
 
 -- one of some inputs can't be read
-unread_among : (names : List InputName) (i : ℕ) (refusal : Refusal) → i < length names → IsUnread (name_of (get_or names i Standard)) refusal → IsUnreadAmong names refusal
+unread_among : (names : List InputName) (i : ℕ) (refusal : Refusal) → i < length names → IsUnread (input_name (get_or names i Standard)) refusal → IsUnreadAmong names refusal
 unread_among names i Memory within unread = tt
 unread_among names i (CannotRead file) within unread = (i, within, unread)
 unread_among names i (Workflow fault) within unread = absurd unread
@@ -36,6 +36,6 @@ unread_among names i (BadScript bad) within unread = absurd unread
 unread_among names i (BadDump bad) within unread = absurd unread
 unread_among names i (CannotWrite file) within unread = absurd unread
 
-pub IsUnreadAmong-one : (names : List InputName) (i : ℕ) (default : InputName) (refusal : Refusal) → i < length names → IsUnread (name_of (get_or names i default)) refusal → IsUnreadAmong names refusal
+pub IsUnreadAmong-one : (names : List InputName) (i : ℕ) (default : InputName) (refusal : Refusal) → i < length names → IsUnread (input_name (get_or names i default)) refusal → IsUnreadAmong names refusal
 IsUnreadAmong-one names i default refusal within unread =
-    unread_among names i refusal within (subst (λ name. IsUnread (name_of name) refusal) (get_or_default names i default Standard within) unread)
+    unread_among names i refusal within (subst (λ name. IsUnread (input_name name) refusal) (get_or_default names i default Standard within) unread)

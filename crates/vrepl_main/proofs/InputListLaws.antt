@@ -4,7 +4,7 @@ use Rattle.std.proofs.lemmas.List.{drop-map, get_or-map, length-drop, length-map
 use Rattle.vrepl_main.specs.Opening.{OpenedValue, opened}
 use Rattle.vrepl_main.specs.Reasons.{Reason}
 use Rattle.vrepl_main.specs.ScriptRun.{ScriptGiven, script_given}
-use Rattle.vrepl_main.specs.InputList.{checkpoint_of, feeds_of, join_asked, one_of, opened_by, other_of, resume_asked, script_asked, script_of, source_of, target_of, workflow_of}
+use Rattle.vrepl_main.specs.InputList.{checkpoint_input, feeds_of, join_asked, one_of, opened_by, other_of, resume_asked, script_asked, script_of, source_input, target_of, workflow_of}
 
 -- what stands at a place
 at_place : {X : Type 0} (f : X → List ℕ) (inputs : List X) (n : ℕ) (x : X) (bytes : List ℕ) → n < length inputs → x ≡ get_or inputs n x → bytes ≡ f x
@@ -50,7 +50,7 @@ resumed_is f hex (x ∷ rest) second last workflow script some at_front at_end f
 pub of_resume : {X : Type 0} (f : X → List ℕ) (P : Result ScriptGiven Reason → List ℕ → Type 0) (hex : Bool) (inputs : List X) (first second last : X) (checkpoint workflow script : List ℕ)
     → 3 ≤ length inputs → first ≡ get_or inputs 0 first → second ≡ get_or inputs 1 second → last ≡ get_or inputs (length inputs - 1) last
     → checkpoint ≡ f first → workflow ≡ f second → script ≡ f last
-    → P (script_given hex workflow (map f (take (length inputs - 1 - 2) (drop 2 inputs))) script) checkpoint → P (resume_asked hex (map f inputs)) (checkpoint_of (map f inputs))
+    → P (script_given hex workflow (map f (take (length inputs - 1 - 2) (drop 2 inputs))) script) checkpoint → P (resume_asked hex (map f inputs)) (checkpoint_input (map f inputs))
 of_resume f P hex inputs first second last checkpoint workflow script some at_first at_second at_end is_first is_second is_last holds =
     subst (λ bytes. P (resume_asked hex (map f inputs)) bytes) (at_place f inputs 0 first checkpoint (omega (arith, some)) at_first is_first)
     (subst (λ given. P given checkpoint) (resumed_is f hex inputs second last workflow script some at_second at_end is_second is_last) holds)
@@ -74,8 +74,8 @@ of_join {X} f P hex inputs first second third workflow one other some at_first a
 pub of_files : {X : Type 0} (f : X → List ℕ) (P : List ℕ → List ℕ → List ℕ → Type 0) (inputs : List X) (first second third : X) (workflow source target : List ℕ)
     → length inputs ≡ 3 → first ≡ get_or inputs 0 first → second ≡ get_or inputs 1 second → third ≡ get_or inputs 2 third
     → workflow ≡ f first → source ≡ f second → target ≡ f third
-    → P workflow source target → P (workflow_of (map f inputs)) (source_of (map f inputs)) (target_of (map f inputs))
+    → P workflow source target → P (workflow_of (map f inputs)) (source_input (map f inputs)) (target_of (map f inputs))
 of_files f P inputs first second third workflow source target three at_first at_second at_third is_first is_second is_third holds =
-    subst (λ x. P x (source_of (map f inputs)) (target_of (map f inputs))) (at_place f inputs 0 first workflow (omega (arith, three)) at_first is_first)
+    subst (λ x. P x (source_input (map f inputs)) (target_of (map f inputs))) (at_place f inputs 0 first workflow (omega (arith, three)) at_first is_first)
     (subst (λ x. P workflow x (target_of (map f inputs))) (at_place f inputs 1 second source (omega (arith, three)) at_second is_second)
     (subst (P workflow source) (at_place f inputs 2 third target (omega (arith, three)) at_third is_third) holds))

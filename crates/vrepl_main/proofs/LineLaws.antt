@@ -8,26 +8,26 @@ use Rattle.std.proofs.Common.{Bool, true, false, cond, ltb, length, take, drop, 
 use Rattle.std.specs.Option.{option_and_then}
 use Rattle.std.specs.List.{slice_split, position_or_len, onto_first}
 use Rattle.std.proofs.lemmas.List.Splits.{slice_split_first}
-use Rattle.vrepl_main.specs.ScriptLines.{number_from, small, steps_then}
-use Rattle.vrepl_main.specs.ScriptRefusal.{behind}
+use Rattle.vrepl_main.specs.ScriptLines.{number_continued, small, steps_then}
+use Rattle.vrepl_main.specs.ScriptRefusal.{steps_before}
 use Rattle.vrepl_main.specs.declared.script.Line.TheVariants as line
 use Rattle.vrepl_main.specs.declared.script.ScriptStep.{ScriptStep}
 
 -- ---- numbers
 
 -- a value past the limit stays there
-too_large : (value : ℕ) (digits : List ℕ) → 2 ^ 32 ≤ value → option_and_then small (number_from value digits) ≡ None
+too_large : (value : ℕ) (digits : List ℕ) → 2 ^ 32 ≤ value → option_and_then small (number_continued value digits) ≡ None
 too_large value [] h = grind (arith, nat_tests)
 too_large value (b ∷ digits) h = by_digit (nat_le 48 b && nat_le b 57) (too_large (value * 10 + (b - 48)) digits (omega arith))
   where
-    by_digit : (test : Bool) → option_and_then small (number_from (value * 10 + (b - 48)) digits) ≡ None → option_and_then small (cond test (number_from (value * 10 + (b - 48)) digits) None) ≡ None
+    by_digit : (test : Bool) → option_and_then small (number_continued (value * 10 + (b - 48)) digits) ≡ None → option_and_then small (cond test (number_continued (value * 10 + (b - 48)) digits) None) ≡ None
     by_digit true more = more
     by_digit false more = refl
 
-pub number_from-large : (value b : ℕ) (digits : List ℕ) → 2 ^ 32 ≤ value * 10 + (b - 48) → option_and_then small (number_from value (b ∷ digits)) ≡ None
+pub number_from-large : (value b : ℕ) (digits : List ℕ) → 2 ^ 32 ≤ value * 10 + (b - 48) → option_and_then small (number_continued value (b ∷ digits)) ≡ None
 number_from-large value b digits h = by_digit (nat_le 48 b && nat_le b 57) (too_large (value * 10 + (b - 48)) digits h)
   where
-    by_digit : (test : Bool) → option_and_then small (number_from (value * 10 + (b - 48)) digits) ≡ None → option_and_then small (cond test (number_from (value * 10 + (b - 48)) digits) None) ≡ None
+    by_digit : (test : Bool) → option_and_then small (number_continued (value * 10 + (b - 48)) digits) ≡ None → option_and_then small (cond test (number_continued (value * 10 + (b - 48)) digits) None) ≡ None
     by_digit true more = more
     by_digit false more = refl
 
@@ -66,10 +66,10 @@ split-last p xs r absent is = split-last-place p xs (position_or_len p xs) (ltb 
 
 -- ---- steps
 
-pub behind-skipped : (front : List ScriptStep) (number : ℕ) (others : Result (List ScriptStep) ℕ) → behind front (steps_then number line.Skipped others) ≡ behind front others
+pub behind-skipped : (front : List ScriptStep) (number : ℕ) (others : Result (List ScriptStep) ℕ) → steps_before front (steps_then number line.Skipped others) ≡ steps_before front others
 behind-skipped front number (Ok steps) = refl
 behind-skipped front number (Err bad) = refl
 
-pub behind-step : (front : List ScriptStep) (number : ℕ) (step : ScriptStep) (others : Result (List ScriptStep) ℕ) → behind front (steps_then number (line.Step step) others) ≡ behind (front ++ step ∷ []) others
+pub behind-step : (front : List ScriptStep) (number : ℕ) (step : ScriptStep) (others : Result (List ScriptStep) ℕ) → steps_before front (steps_then number (line.Step step) others) ≡ steps_before (front ++ step ∷ []) others
 behind-step front number step (Ok steps) = ap Ok (sym (append_assoc front (step ∷ []) steps))
 behind-step front number step (Err bad) = refl

@@ -6,7 +6,7 @@ use Rattle.filter_rule.specs.PlanValue.{PlanValue}
 use Rattle.source_feed.specs.Planned.{FeedValue}
 use Rattle.vrepl_main.specs.declared.refusal.Refusal.{Refusal}
 use Rattle.vrepl_main.specs.declared.refusal.Refusal.TheVariants.{Memory}
-use Rattle.vrepl_main.specs.Reasons.{Reason, meant_of, RefusesInputs}
+use Rattle.vrepl_main.specs.Reasons.{Reason, reason_of, RefusesInputs}
 use Rattle.vrepl_main.specs.Opening.{opened_feed, opened_feeds, opened_then}
 
 -- ---- refusals
@@ -20,7 +20,7 @@ by_reason (Some reason) one whole carries is = carries reason is
 pub RefusesInputs-whole : {X Y : Type 0} (refusal : Refusal) (one : Result X Reason) (whole : Result Y Reason) → ((reason : Reason) → one ≡ Err reason → whole ≡ Err reason)
     → RefusesInputs refusal one → RefusesInputs refusal whole
 RefusesInputs-whole Memory one whole carries is = tt
-RefusesInputs-whole refusal one whole carries is = by_reason (meant_of refusal) one whole carries is
+RefusesInputs-whole refusal one whole carries is = by_reason (reason_of refusal) one whole carries is
 
 -- ---- feeds
 

@@ -9,7 +9,7 @@ use Rattle.stream_worker.specs.Ended.{IsRowsUnion}
 use Rattle.stream_worker.specs.RunRefused.{IsRefusedRun}
 use Rattle.stream_worker.specs.declared.run_refusal.RunRefusal.{RunRefusal}
 use Rattle.vrepl_main.specs.declared.refusal.Refusal.{Refusal}
-use Rattle.vrepl_main.specs.Command.{Refuses, IsUnwritten}
+use Rattle.vrepl_main.specs.Command.{RefusesCommand, IsUnwritten}
 use Rattle.vrepl_main.specs.HexText.{feed_bytes}
 use Rattle.vrepl_main.specs.Opening.{OpenedValue, opened, opened_bytes}
 use Rattle.vrepl_main.specs.Reasons.{Reason}
@@ -40,6 +40,6 @@ refuses_run (Stream plan refusal) reading now is = (is, refl)
 
 -- the dump can't be written
 pub unwritten_run : (refusal : Refusal) (reading : Result OpenedValue Reason) (filled : Filled) (old new : Written) → IsFilled reading filled → BreaksOff old new (dump_of filled.plan filled.rows) → IsUnwritten refusal
-    → Refuses IsFilledDump refusal reading old new
+    → RefusesCommand IsFilledDump refusal reading old new
 unwritten_run refusal (Ok given) filled old new is broken unwritten = refuses_unwritten IsFilledDump refusal (Ok given) given (dump_of filled.plan filled.rows) old new refl (filled, is, refl) broken unwritten
 unwritten_run refusal (Err reason) filled old new is broken unwritten = absurd is

@@ -13,7 +13,7 @@ use Rattle.board_laws.specs.Meaning.{State, Meaning}
 use Rattle.board_laws.specs.Sources.{applied_position}
 use Rattle.vdiff_core.proofs.PrintLaws.{adds_none}
 use Rattle.vdiff_core.specs.Printing.{Written, Prints}
-use Rattle.vrepl_main.specs.Adding.{Place, at, IsPut, IsBegun}
+use Rattle.vrepl_main.specs.Adding.{WriterPlace, at, IsTextPut, IsBegun}
 use Rattle.vrepl_main.specs.declared.script.ScriptStep.{ScriptStep}
 use Rattle.vrepl_main.specs.ScriptRun.{ScriptReply, IsScriptStep, IsScriptRun, reply_text, replies_text, where_of}
 use Rattle.vrepl_main.specs.ScriptPrinting.{RepliesTo, HasReplied, PrintsRun}
@@ -49,19 +49,19 @@ text_more plan replies reply =
 
 -- ---- replies
 
-pub starts : (feeds : List FeedValue) (plan : PlanValue) (old : Meaning) (now : Place) → HasReplied feeds plan old [] old now now
+pub starts : (feeds : List FeedValue) (plan : PlanValue) (old : Meaning) (now : WriterPlace) → HasReplied feeds plan old [] old now now
 starts feeds plan old now = record { replies = []; run = refl; put = adds_none now.written now.waiting }
 
-pub moves : (feeds : List FeedValue) (plan : PlanValue) (old now new : Meaning) (steps : List ScriptStep) (i : ℕ) (d : ScriptStep) (before mid after : Place) → i < length steps
-    → HasReplied feeds plan old (take i steps) now before mid → (reply : ScriptReply) × IsScriptStep feeds now (get_or steps i d) reply new × IsPut mid after (reply_text plan reply)
+pub moves : (feeds : List FeedValue) (plan : PlanValue) (old now new : Meaning) (steps : List ScriptStep) (i : ℕ) (d : ScriptStep) (before mid after : WriterPlace) → i < length steps
+    → HasReplied feeds plan old (take i steps) now before mid → (reply : ScriptReply) × IsScriptStep feeds now (get_or steps i d) reply new × IsTextPut mid after (reply_text plan reply)
     → HasReplied feeds plan old (take (i + 1) steps) new before after
 moves feeds plan old now new steps i d before mid after lt had (reply, last, put) = record {
   replies = had.replies ++ reply ∷ [];
   run = run_on feeds old now new steps i d had.replies reply lt had.run last;
-  put = subst (IsPut before after) (sym (text_more plan had.replies reply)) (then_put before mid after (replies_text plan had.replies) (reply_text plan reply) had.put put);
+  put = subst (IsTextPut before after) (sym (text_more plan had.replies reply)) (then_put before mid after (replies_text plan had.replies) (reply_text plan reply) had.put put);
 }
 
-pub stops : {E : Type 0} (fault : E) (feeds : List FeedValue) (plan : PlanValue) (old now new : Meaning) (steps : List ScriptStep) (i : ℕ) (d : ScriptStep) (before mid after : Place) → i < length steps
+pub stops : {E : Type 0} (fault : E) (feeds : List FeedValue) (plan : PlanValue) (old now new : Meaning) (steps : List ScriptStep) (i : ℕ) (d : ScriptStep) (before mid after : WriterPlace) → i < length steps
     → HasReplied feeds plan old (take i steps) now before mid → (reply : ScriptReply) × IsScriptStep feeds now (get_or steps i d) reply new × IsBegun mid after (reply_text plan reply)
     → RepliesTo {X = Unit {0}} (Err fault) feeds plan old steps before after
 stops fault feeds plan old now new steps i d before mid after lt had (reply, last, begun) = (
@@ -74,7 +74,7 @@ stops fault feeds plan old now new steps i d before mid after lt had (reply, las
   },
 )
 
-pub ends : {E : Type 0} (feeds : List FeedValue) (plan : PlanValue) (old now : Meaning) (steps : List ScriptStep) (i : ℕ) (before after : Place) → length steps ≤ i
+pub ends : {E : Type 0} (feeds : List FeedValue) (plan : PlanValue) (old now : Meaning) (steps : List ScriptStep) (i : ℕ) (before after : WriterPlace) → length steps ≤ i
     → HasReplied feeds plan old (take i steps) now before after → RepliesTo {X = Unit {0}} {E = E} (Ok tt) feeds plan old steps before after
 ends feeds plan old now steps i before after le had = (
   now,
@@ -88,7 +88,7 @@ ends feeds plan old now steps i before after le had = (
 -- ---- what is printed of them
 
 -- the replies that wait are written, or a beginning of them
-pub run_finishes : {E : Type 0} (result : Result (Unit {0}) E) (feeds : List FeedValue) (plan : PlanValue) (old : Meaning) (steps : List ScriptStep) (before : Written) (now : Place) (new : Written)
+pub run_finishes : {E : Type 0} (result : Result (Unit {0}) E) (feeds : List FeedValue) (plan : PlanValue) (old : Meaning) (steps : List ScriptStep) (before : Written) (now : WriterPlace) (new : Written)
     → RepliesTo {X = Unit {0}} {E = E} (Ok tt) feeds plan old steps (at before []) now → Prints result now.written new now.waiting → PrintsRun result feeds plan old steps before new
 run_finishes {E} (Ok x) feeds plan old steps before now new (board, of) printed =
     (board, of.replies, of.run, then_finishes {X = Unit {0}} {E = E} (Ok x) (at before []) now new (replies_text plan of.replies) of.added printed)
@@ -101,6 +101,6 @@ run_finishes {E} (Err fault) feeds plan old steps before now new (board, of) pri
 )
 
 -- printing breaks off before that
-pub run_breaks : {E : Type 0} (fault : E) (feeds : List FeedValue) (plan : PlanValue) (old : Meaning) (steps : List ScriptStep) (before : Written) (now : Place)
+pub run_breaks : {E : Type 0} (fault : E) (feeds : List FeedValue) (plan : PlanValue) (old : Meaning) (steps : List ScriptStep) (before : Written) (now : WriterPlace)
     → RepliesTo {X = Unit {0}} (Err fault) feeds plan old steps (at before []) now → PrintsRun {X = Unit {0}} (Err fault) feeds plan old steps before now.written
 run_breaks fault feeds plan old steps before now (n, board, of) = (n, board, of.replies, of.run, of.added.begun)

@@ -11,7 +11,7 @@ use Rattle.vrepl_main.specs.declared.script.ScriptStep.{ScriptStep}
 use Rattle.vrepl_main.specs.declared.refusal.Refusal.{Refusal}
 use Rattle.vrepl_main.specs.HexText.{feed_bytes}
 use Rattle.vrepl_main.specs.Reasons.{Reason, RefusesInputs}
-use Rattle.vrepl_main.specs.Command.{Refuses, IsUnwritten}
+use Rattle.vrepl_main.specs.Command.{RefusesCommand, IsUnwritten}
 use Rattle.vdiff_core.specs.Printing.{Written, IsWritten, BreaksOff}
 use Rattle.vrepl_main.specs.Opening.{OpenedValue}
 use Rattle.vrepl_main.specs.ScriptLines.{script_steps}
@@ -67,8 +67,8 @@ first_of_all {A} f lent plans plan value e is seen = subst (λ (ps : List A). sl
 pub printed_as : {Y E : Type 0} (result : Result Y E) (one other : Result ScriptGiven Reason) (old new : Written) → one ≡ other → OnOk result (PrintsReplies other old new) → OnOk result (PrintsReplies one old new)
 printed_as result one other old new is printed = subst (λ (r : Result ScriptGiven Reason). OnOk result (PrintsReplies r old new)) (sym is) printed
 
-pub refused_as : {Y : Type 0} (result : Result Y Refusal) (one other : Result ScriptGiven Reason) (old new : Written) → one ≡ other → IfErr result (λ refusal. Refuses AreFirstReplies refusal other old new) → IfErr result (λ refusal. Refuses AreFirstReplies refusal one old new)
-refused_as result one other old new is refused = subst (λ (r : Result ScriptGiven Reason). IfErr result (λ refusal. Refuses AreFirstReplies refusal r old new)) (sym is) refused
+pub refused_as : {Y : Type 0} (result : Result Y Refusal) (one other : Result ScriptGiven Reason) (old new : Written) → one ≡ other → IfErr result (λ refusal. RefusesCommand AreFirstReplies refusal other old new) → IfErr result (λ refusal. RefusesCommand AreFirstReplies refusal one old new)
+refused_as result one other old new is refused = subst (λ (r : Result ScriptGiven Reason). IfErr result (λ refusal. RefusesCommand AreFirstReplies refusal r old new)) (sym is) refused
 
 -- ---- what is printed
 
@@ -93,6 +93,6 @@ module _ (plans : List PlanValue) (feeds : List FeedValue) (steps : List ScriptS
 
   -- a beginning of the replies to the first steps, which can't be written
   pub prints_first : (refusal : Refusal) → IsUnwritten refusal → (n : ℕ) × (board : Meaning) × (replies : List ScriptReply) × IsScriptRun feeds start (take n steps) replies board × BreaksOff old new (replies_text plan replies)
-      → Refuses AreFirstReplies refusal (all_given plans feeds steps) old new
+      → RefusesCommand AreFirstReplies refusal (all_given plans feeds steps) old new
   prints_first refusal unwritten (n, board, replies, run, broken) =
       refuses_unwritten AreFirstReplies refusal (all_given plans feeds steps) _ (replies_text plan replies) old new refl (n, replied (take n steps) replies board run) broken unwritten

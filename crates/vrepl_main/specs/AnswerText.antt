@@ -1,7 +1,7 @@
 -- The replies to steps on a board that are made, as text (this profile).
 use Rattle.std.specs.Prelude.{ℕ, Bool, true, false, List, [], ◌∷◌, ◌++◌, Option, None, Some, codes, decimal}
 use Rattle.gtid_set.specs.Printed.{printed_position}
-use Rattle.vrepl_main.specs.Printing.{named}
+use Rattle.vrepl_main.specs.Printing.{named_number}
 use Rattle.source_feed.specs.GroupValue.{Position}
 use Rattle.stream_core.specs.declared.phase.Phase.{Phase}
 use Rattle.stream_core.specs.declared.phase.Phase.TheVariants.{Running, Copy, FastForward, CatchUp}
@@ -53,12 +53,12 @@ place_text (interval ∷ others) = printed_position (interval ∷ others)
 
 -- how many groups are read and applied
 abbrev pub progress_text : ℕ → Standing → List ℕ
-progress_text stream now = codes "state " ++ decimal stream ++ codes " " ++ phase_text (phase_of now) ++ named (codes " read ") now.read ++ named (codes " applied ") now.applied
+progress_text stream now = codes "state " ++ decimal stream ++ codes " " ++ phase_text (phase_of now) ++ named_number (codes " read ") now.read ++ named_number (codes " applied ") now.applied
 
 -- how many tables are copied
-abbrev pub tables_text : Standing → List ℕ
-tables_text now = named (codes " done ") now.done ++ named (codes " of ") now.tables
+abbrev pub tables_done_text : Standing → List ℕ
+tables_done_text now = named_number (codes " done ") now.done ++ named_number (codes " of ") now.tables
 
 -- where a stream stands, and at which position of its source
 abbrev pub state_text : ℕ → Standing → Position → List ℕ
-state_text stream now position = progress_text stream now ++ codes " snapshot " ++ snapshot_text now.snapshot ++ tables_text now ++ codes " at " ++ place_text position ++ 10 ∷ []
+state_text stream now position = progress_text stream now ++ codes " snapshot " ++ snapshot_text now.snapshot ++ tables_done_text now ++ codes " at " ++ place_text position ++ 10 ∷ []

@@ -32,10 +32,10 @@ BreaksOffIn IsText (Err reason) old new = ⊥
 
 -- a refusal is that standard output can't be written, and then a write of it failed; any other leaves it as it was and
 -- says just why there is nothing to be had of the inputs, unless memory ran out
-abbrev pub Refuses : {X : Type 0} → (X → List ℕ → Type 0) → Refusal → Result X Reason → Written → Written → Type 0
-Refuses IsText (CannotWrite file) reading old new = (file.now ≡ codes "-") × BreaksOffIn IsText reading old new
-Refuses IsText refusal reading old new = RefusesInputs refusal reading × (new ≡ old)
+abbrev pub RefusesCommand : {X : Type 0} → (X → List ℕ → Type 0) → Refusal → Result X Reason → Written → Written → Type 0
+RefusesCommand IsText (CannotWrite file) reading old new = (file.now ≡ codes "-") × BreaksOffIn IsText reading old new
+RefusesCommand IsText refusal reading old new = RefusesInputs refusal reading × (new ≡ old)
 
 -- such a refusal's line was printed whole on standard error, unless a write of it failed
 abbrev pub PrintsRefusal : {X : Type 0} → (X → List ℕ → Type 0) → Result X Reason → Written → Written → Written → Written → Type 0
-PrintsRefusal IsText reading old new err_old err_new = (refusal : Refusal) × Refuses IsText refusal reading old new × PrintsOrBreaks err_old err_new (refusal_line refusal)
+PrintsRefusal IsText reading old new err_old err_new = (refusal : Refusal) × RefusesCommand IsText refusal reading old new × PrintsOrBreaks err_old err_new (refusal_line refusal)

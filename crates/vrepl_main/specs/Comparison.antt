@@ -5,12 +5,12 @@ use Rattle.filter_rule.specs.PlanTable.{TableValue}
 use Rattle.filter_rule.specs.PlanValue.{PlanValue}
 use Rattle.filter_rule.specs.Reading.{plans_of}
 use Rattle.pk_copy.specs.KeyValue.{KeyValue}
-use Rattle.vdiff_core.specs.DumpReading.{IsRead}
+use Rattle.vdiff_core.specs.DumpReading.{IsDumpReading}
 use Rattle.vdiff_core.specs.Printing.{Written, IsWritten, BreaksOff}
 use Rattle.vdiff_core.specs.Report.{report_of, IsFirstDifference}
 use Rattle.vdiff_core.specs.RowsValue.{RowsValue}
 use Rattle.vdiff_core.specs.declared.report.Report.{Report}
-use Rattle.vrepl_main.specs.Command.{Refuses}
+use Rattle.vrepl_main.specs.Command.{RefusesCommand}
 use Rattle.vrepl_main.specs.Printing.{PrintsOrBreaks}
 use Rattle.vrepl_main.specs.Reasons.{Reason, bad_workflow, bad_dump}
 use Rattle.vrepl_main.specs.RefusedText.{key_text, name_of_table}
@@ -58,15 +58,15 @@ pub record IsComparison (compared : Compared) (text : List ℕ) : Type 0 where
 pub record AreDumps (workflow source target : List ℕ) (compared : Compared) : Type 0 where
   pub others : List PlanValue
   pub plans : plans_of workflow ≡ Ok (compared.plan ∷ others)
-  pub source_read : IsRead compared.plan source (Ok compared.source)
-  pub target_read : IsRead compared.plan target (Ok compared.target)
+  pub source_read : IsDumpReading compared.plan source (Ok compared.source)
+  pub target_read : IsDumpReading compared.plan target (Ok compared.target)
 
 -- this is the first line that can't stand, in the source's text or, behind a dump of the source, in the target's
 pub record IsBadLine (workflow source target : List ℕ) (line : ℕ) : Type 0 where
   pub plan : PlanValue
   pub others : List PlanValue
   pub plans : plans_of workflow ≡ Ok (plan ∷ others)
-  pub bad : IsRead plan source (Err line) ⊎ ((rows : RowsValue) × IsRead plan source (Ok rows) × IsRead plan target (Err line))
+  pub bad : IsDumpReading plan source (Err line) ⊎ ((rows : RowsValue) × IsDumpReading plan source (Ok rows) × IsDumpReading plan target (Err line))
 
 -- what a workflow file and two texts are read as: rows to compare, or why there are none, the workflow's fault
 -- before the source's and that before the target's
@@ -77,8 +77,8 @@ AreRead workflow source target (Err (bad_dump line)) = IsBadLine workflow source
 AreRead workflow source target (Err reason) = ⊥
 
 -- they are read as one thing alone
-abbrev pub AreReadOnce : List ℕ → List ℕ → List ℕ → Type 0
-AreReadOnce workflow source target = (one other : Result Compared Reason) → AreRead workflow source target one → AreRead workflow source target other → one ≡ other
+abbrev pub AreTextsReadOnce : List ℕ → List ℕ → List ℕ → Type 0
+AreTextsReadOnce workflow source target = (one other : Result Compared Reason) → AreRead workflow source target one → AreRead workflow source target other → one ≡ other
 
 -- ---- what is left on the writers
 
@@ -101,7 +101,7 @@ IsComparedAs verdict workflow source target old new =
 -- this can't be written, and then a write of it failed
 abbrev pub RefusesDumps : List ℕ → List ℕ → List ℕ → Refusal → Written → Written → Type 0
 RefusesDumps workflow source target Memory old new = new ≡ old
-RefusesDumps workflow source target refusal old new = (reading : Result Compared Reason) × AreRead workflow source target reading × Refuses IsComparison refusal reading old new
+RefusesDumps workflow source target refusal old new = (reading : Result Compared Reason) × AreRead workflow source target reading × RefusesCommand IsComparison refusal reading old new
 
 -- such a refusal's line was printed whole on standard error, unless a write of it failed
 abbrev pub PrintsDumpRefusal : List ℕ → List ℕ → List ℕ → Written → Written → Written → Written → Type 0

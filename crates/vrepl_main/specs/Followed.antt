@@ -80,7 +80,7 @@ RefusesFollow (Checkpoint plan fault) reading checkpoint = IsOpenedAnd reading (
 RefusesFollow (Stream plan refusal) reading checkpoint = IsOpenedAnd reading (λ given. IsNotFollowed given checkpoint (arc_value plan) refusal)
 
 -- the line of a refusal
-abbrev pub line_of : Unfollowed → List ℕ
-line_of (Given refusal) = refusal_line refusal
-line_of (Checkpoint plan fault) = resume_line (arc_value plan).tables fault
-line_of (Stream plan refusal) = refused_text (arc_value plan).tables (as_step refusal)
+abbrev pub follow_refusal_line : Unfollowed → List ℕ
+follow_refusal_line (Given refusal) = refusal_line refusal
+follow_refusal_line (Checkpoint plan fault) = resume_line (arc_value plan).tables fault
+follow_refusal_line (Stream plan refusal) = refused_text (arc_value plan).tables (as_step refusal)

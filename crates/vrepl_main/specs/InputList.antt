@@ -36,8 +36,8 @@ opened_by hex inputs = opened hex (workflow_of inputs) (drop 1 inputs)
 -- ---- `resume`
 
 -- the checkpoint stands first
-abbrev pub checkpoint_of : List (List ℕ) → List ℕ
-checkpoint_of inputs = get_or inputs 0 []
+abbrev pub checkpoint_input : List (List ℕ) → List ℕ
+checkpoint_input inputs = get_or inputs 0 []
 
 -- and what `step` is given behind it
 abbrev pub resume_asked : Bool → List (List ℕ) → Result ScriptGiven Reason
@@ -60,8 +60,8 @@ join_asked hex inputs = opened hex (workflow_of inputs) (drop 3 inputs)
 -- ---- `vdiff`
 
 -- the source's dump stands behind the workflow
-abbrev pub source_of : List (List ℕ) → List ℕ
-source_of inputs = get_or inputs 1 []
+abbrev pub source_input : List (List ℕ) → List ℕ
+source_input inputs = get_or inputs 1 []
 
 -- and the target's behind that
 abbrev pub target_of : List (List ℕ) → List ℕ

@@ -6,9 +6,9 @@ use Rattle.vrepl_main.specs.declared.refusal.Refusal.{Refusal}
 use Rattle.vrepl_main.specs.declared.refusal.Refusal.TheVariants.{Memory, CannotRead}
 
 -- the name of an input in the line of a refusal
-abbrev pub name_of : InputName → List ℕ
-name_of (File name) = name.now
-name_of Standard = codes "-"
+abbrev pub input_name : InputName → List ℕ
+input_name (File name) = name.now
+input_name Standard = codes "-"
 
 -- it is standard input, and no file
 abbrev pub is_standard : InputName → Bool
@@ -24,5 +24,5 @@ IsUnread name refusal = ⊥
 -- the same of one of some inputs
 abbrev pub IsUnreadAmong : List InputName → Refusal → Type 0
 IsUnreadAmong names Memory = Unit {0}
-IsUnreadAmong names (CannotRead file) = (i : ℕ) × (i < length names) × (file.now ≡ name_of (get_or names i Standard))
+IsUnreadAmong names (CannotRead file) = (i : ℕ) × (i < length names) × (file.now ≡ input_name (get_or names i Standard))
 IsUnreadAmong names refusal = ⊥

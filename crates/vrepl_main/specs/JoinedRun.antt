@@ -15,7 +15,7 @@ use Rattle.apply_core.specs.Resuming.{IsResumed}
 use Rattle.vdiff_core.specs.Printing.{Written, IsWritten}
 use Rattle.vrepl_main.specs.declared.joining.Unjoined.{Unjoined}
 use Rattle.vrepl_main.specs.declared.joining.Unjoined.TheVariants.{Given, One, Other, Boards}
-use Rattle.vrepl_main.specs.Command.{Refuses}
+use Rattle.vrepl_main.specs.Command.{RefusesCommand}
 use Rattle.vrepl_main.specs.JoinedText.{join_line}
 use Rattle.vrepl_main.specs.Opening.{OpenedValue}
 use Rattle.vrepl_main.specs.Printing.{PrintsOrBreaks}
@@ -27,7 +27,7 @@ use Rattle.vrepl_main.specs.ResumedText.{resume_line}
 -- ---- the checkpoint
 
 -- these are the boards that two checkpoints make with the feeds
-pub record AreResumed (feeds : List FeedValue) (one other : List ℕ) (a b : Meaning) : Type 0 where
+pub record AreBothResumed (feeds : List FeedValue) (one other : List ℕ) (a b : Meaning) : Type 0 where
   pub here : IsResumed feeds one a
   pub there : IsResumed feeds other b
 
@@ -35,7 +35,7 @@ pub record AreResumed (feeds : List FeedValue) (one other : List ℕ) (a b : Mea
 pub record IsJoinOver (given : OpenedValue) (one other : List ℕ) (board : Meaning) : Type 0 where
   pub a : Meaning
   pub b : Meaning
-  pub resumed : AreResumed given.feeds one other a b
+  pub resumed : AreBothResumed given.feeds one other a b
   pub compatible : AreCompatible a b
   pub is_join : board ≡ joined a b
   pub sources : AllShowTheirSources given.feeds board
@@ -66,7 +66,7 @@ pub record AreNotJoined (given : OpenedValue) (one other : List ℕ) (plan : Pla
   pub first : slice_get given.plans 0 ≡ Some plan
   pub a : Meaning
   pub b : Meaning
-  pub resumed : AreResumed given.feeds one other a b
+  pub resumed : AreBothResumed given.feeds one other a b
   pub refused : IsRefusedJoin a b fault
 
 -- a fact of what is opened, where something is
@@ -84,17 +84,17 @@ IsUnjoined (Boards plan fault) reading one other = IsOpenedAnd reading (λ given
 
 -- the same with what it leaves on standard output: nothing, unless it is that this can't be written
 abbrev pub RefusesJoin : Unjoined → Result OpenedValue Reason → List ℕ → List ℕ → Written → Written → Type 0
-RefusesJoin (Given refusal) reading one other old new = Refuses (IsJoinOf one other) refusal reading old new
+RefusesJoin (Given refusal) reading one other old new = RefusesCommand (IsJoinOf one other) refusal reading old new
 RefusesJoin unjoined reading one other old new = IsUnjoined unjoined reading one other × (new ≡ old)
 
 -- the line of a refusal
-abbrev pub line_of : Unjoined → List ℕ
-line_of (Given refusal) = refusal_line refusal
-line_of (One plan fault) = resume_line (arc_value plan).tables fault
-line_of (Other plan fault) = resume_line (arc_value plan).tables fault
-line_of (Boards plan fault) = join_line (arc_value plan).tables fault
+abbrev pub join_refusal_line : Unjoined → List ℕ
+join_refusal_line (Given refusal) = refusal_line refusal
+join_refusal_line (One plan fault) = resume_line (arc_value plan).tables fault
+join_refusal_line (Other plan fault) = resume_line (arc_value plan).tables fault
+join_refusal_line (Boards plan fault) = join_line (arc_value plan).tables fault
 
 -- such a refusal's line was printed whole on standard error, unless a write of it failed
 abbrev pub PrintsJoinRefusal : Result OpenedValue Reason → List ℕ → List ℕ → Written → Written → Written → Written → Type 0
 PrintsJoinRefusal reading one other old new err_old err_new =
-    (refusal : Unjoined) × RefusesJoin refusal reading one other old new × PrintsOrBreaks err_old err_new (line_of refusal)
+    (refusal : Unjoined) × RefusesJoin refusal reading one other old new × PrintsOrBreaks err_old err_new (join_refusal_line refusal)

@@ -7,5 +7,5 @@ abbrev pub PrintsOrBreaks : Written → Written → List ℕ → Type 0
 PrintsOrBreaks old new text = IsWritten old new text ⊎ BreaksOff old new text
 
 -- a number behind a word
-abbrev pub named : List ℕ → ℕ → List ℕ
-named word number = word ++ decimal number
+abbrev pub named_number : List ℕ → ℕ → List ℕ
+named_number word number = word ++ decimal number

@@ -18,21 +18,21 @@ pub data Reason : Type 0 where
   bad_dump : ℕ → Reason
 
 -- what a refusal says of the inputs; nothing for want of memory, and where a file can't be read or written
-abbrev pub meant_of : Refusal → Option Reason
-meant_of Memory = None
-meant_of (Workflow fault) = option_map bad_workflow (plans.meant fault)
-meant_of FeedCount = Some feed_count
-meant_of (Feed fault) = option_map bad_feed (feed.meant_of fault)
-meant_of BadHex = Some bad_hex
-meant_of (BadScript bad) = Some (bad_script bad)
-meant_of (BadDump bad) = Some (bad_dump bad)
-meant_of (CannotRead file) = None
-meant_of (CannotWrite file) = None
+abbrev pub reason_of : Refusal → Option Reason
+reason_of Memory = None
+reason_of (Workflow fault) = option_map bad_workflow (plans.definition_fault_of fault)
+reason_of FeedCount = Some feed_count
+reason_of (Feed fault) = option_map bad_feed (feed.meant_of fault)
+reason_of BadHex = Some bad_hex
+reason_of (BadScript bad) = Some (bad_script bad)
+reason_of (BadDump bad) = Some (bad_dump bad)
+reason_of (CannotRead file) = None
+reason_of (CannotWrite file) = None
 
 -- a refusal says just why there is nothing to be had of the inputs, unless memory ran out
 abbrev pub RefusesInputs : {X : Type 0} → Refusal → Result X Reason → Type 0
 RefusesInputs Memory reading = Unit {0}
-RefusesInputs refusal reading = MatchOption (meant_of refusal) ⊥ (λ reason. reading ≡ Err reason)
+RefusesInputs refusal reading = MatchOption (reason_of refusal) ⊥ (λ reason. reading ≡ Err reason)
 
 -- what a call gives of the inputs, seen by `view`
 abbrev pub GivesOfInputs : {X Y : Type 0} → (X → Y) → Result X Refusal → Result Y Reason → Type 0

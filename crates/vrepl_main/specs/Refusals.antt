@@ -7,7 +7,7 @@ use Rattle.filter_rule.specs.declared.fault.PlanFault.TheVariants.{NoSuchColumn,
 use Rattle.source_feed.specs.FaultNumber as feed
 use Rattle.source_feed.specs.declared.fault.FeedFault.{FeedFault}
 use Rattle.source_feed.specs.declared.fault.FeedFault.TheVariants.{Event, Diverged}
-use Rattle.vrepl_main.specs.Printing.{named}
+use Rattle.vrepl_main.specs.Printing.{named_number}
 use Rattle.vrepl_main.specs.declared.refusal.Refusal.{Refusal}
 use Rattle.vrepl_main.specs.declared.refusal.Refusal.TheVariants.{Memory, Workflow, FeedCount, Feed, BadHex, BadScript, BadDump, CannotRead, CannotWrite}
 
@@ -44,7 +44,7 @@ column_text table column = codes " table " ++ table ++ codes " column " ++ colum
 
 -- the rule of a stream that it names
 abbrev pub rule_text : ℕ → ℕ → List ℕ
-rule_text stream rule = named (codes " stream ") stream ++ named (codes " rule ") rule
+rule_text stream rule = named_number (codes " stream ") stream ++ named_number (codes " rule ") rule
 
 -- what stands behind the number of a refused workflow: a column, or a rule of a stream, both counted from 0
 abbrev pub workflow_details : PlanFault → List ℕ

@@ -10,7 +10,7 @@ use Rattle.vdiff_core.specs.Printing.{Written, IsWritten}
 use Rattle.vrepl_main.specs.declared.resuming.ResumeRefusal.{ResumeRefusal}
 use Rattle.vrepl_main.specs.declared.resuming.ResumeRefusal.TheVariants.{Given, Checkpoint}
 use Rattle.vrepl_main.specs.declared.script.ScriptStep.{ScriptStep}
-use Rattle.vrepl_main.specs.Command.{Refuses}
+use Rattle.vrepl_main.specs.Command.{RefusesCommand}
 use Rattle.vrepl_main.specs.Opening.{OpenedValue}
 use Rattle.vrepl_main.specs.Printing.{PrintsOrBreaks}
 use Rattle.vrepl_main.specs.Reasons.{Reason}
@@ -55,15 +55,15 @@ RefusesCheckpoint plan fault (Err reason) checkpoint = ⊥
 -- a refusal says just why the other inputs are refused, or else why the checkpoint is, unless memory ran out, and leaves
 -- nothing on standard output; or it is that this can't be written, and then a write of it failed
 abbrev pub RefusesResume : ResumeRefusal → Result ScriptGiven Reason → List ℕ → Written → Written → Type 0
-RefusesResume (Given refusal) reading checkpoint old new = Refuses (AreFirstBehind checkpoint) refusal reading old new
+RefusesResume (Given refusal) reading checkpoint old new = RefusesCommand (AreFirstBehind checkpoint) refusal reading old new
 RefusesResume (Checkpoint plan fault) reading checkpoint old new = RefusesCheckpoint (arc_value plan) fault reading checkpoint × (new ≡ old)
 
 -- the line of a refusal
-abbrev pub line_of : ResumeRefusal → List ℕ
-line_of (Given refusal) = refusal_line refusal
-line_of (Checkpoint plan fault) = resume_line (arc_value plan).tables fault
+abbrev pub resume_refusal_line : ResumeRefusal → List ℕ
+resume_refusal_line (Given refusal) = refusal_line refusal
+resume_refusal_line (Checkpoint plan fault) = resume_line (arc_value plan).tables fault
 
 -- such a refusal's line was printed whole on standard error, unless a write of it failed
 abbrev pub PrintsResumeRefusal : Result ScriptGiven Reason → List ℕ → Written → Written → Written → Written → Type 0
 PrintsResumeRefusal reading checkpoint old new err_old err_new =
-    (refusal : ResumeRefusal) × RefusesResume refusal reading checkpoint old new × PrintsOrBreaks err_old err_new (line_of refusal)
+    (refusal : ResumeRefusal) × RefusesResume refusal reading checkpoint old new × PrintsOrBreaks err_old err_new (resume_refusal_line refusal)

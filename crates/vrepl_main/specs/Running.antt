@@ -12,7 +12,7 @@ use Rattle.stream_worker.specs.Ended.{IsRowsUnion}
 use Rattle.stream_worker.specs.RunRefused.{IsRefusedRun}
 use Rattle.stream_worker.specs.declared.run_refusal.RunRefusal.{RunRefusal}
 use Rattle.stream_worker.specs.declared.run_refusal.RunRefusal.TheVariants.{FeedCount, WrongPlan, Unsound, OwnedByOther, Memory}
-use Rattle.vrepl_main.specs.Command.{Refuses}
+use Rattle.vrepl_main.specs.Command.{RefusesCommand}
 use Rattle.vrepl_main.specs.Opening.{OpenedValue}
 use Rattle.vrepl_main.specs.Printing.{PrintsOrBreaks}
 use Rattle.vrepl_main.specs.Reasons.{Reason, RefusesInputs}
@@ -77,7 +77,7 @@ IsUnfilled (Stream plan refusal) reading = RefusesStream (arc_value plan) refusa
 
 -- the same with what it leaves on standard output: nothing, unless it is that this can't be written
 abbrev pub RefusesRun : RunFault → Result OpenedValue Reason → Written → Written → Type 0
-RefusesRun (Given refusal) reading old new = Refuses IsFilledDump refusal reading old new
+RefusesRun (Given refusal) reading old new = RefusesCommand IsFilledDump refusal reading old new
 RefusesRun (Stream plan refusal) reading old new = RefusesStream (arc_value plan) refusal reading × (new ≡ old)
 
 -- such a refusal's line was printed whole on standard error, unless a write of it failed

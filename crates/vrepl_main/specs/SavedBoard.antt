@@ -20,10 +20,10 @@ pub record IsSavedBehind (given : ScriptGiven) (bytes : List ℕ) : Type 0 where
   pub checkpoint : bytes ≡ checkpoint_of board
 
 -- there is such a board, and they are its checkpoint
-abbrev pub IsSaved : Result ScriptGiven Reason → List ℕ → Type 0
-IsSaved (Ok given) bytes = IsSavedBehind given bytes
-IsSaved (Err reason) bytes = ⊥
+abbrev pub IsSavedBoard : Result ScriptGiven Reason → List ℕ → Type 0
+IsSavedBoard (Ok given) bytes = IsSavedBehind given bytes
+IsSavedBoard (Err reason) bytes = ⊥
 
 -- its checkpoint was printed
 abbrev pub PrintsCheckpoint : Result ScriptGiven Reason → Written → Written → Type 0
-PrintsCheckpoint reading old new = (bytes : List ℕ) × IsSaved reading bytes × IsWritten old new bytes
+PrintsCheckpoint reading old new = (bytes : List ℕ) × IsSavedBoard reading bytes × IsWritten old new bytes

@@ -13,26 +13,26 @@ use Rattle.vrepl_main.specs.declared.script.Line.TheVariants as line
 -- ---- words
 
 -- words are parted by runs of blanks and tabs, also at both ends
-abbrev pub is_blank : ℕ → Bool
-is_blank b = b == 32 || b == 9
+abbrev pub is_word_gap : ℕ → Bool
+is_word_gap b = b == 32 || b == 9
 
-abbrev pub words_of : List ℕ → List (List ℕ)
-words_of text = filter (λ word. nat_lt 0 (length word)) (slice_split is_blank text)
+abbrev pub words_of_line : List ℕ → List (List ℕ)
+words_of_line text = filter (λ word. nat_lt 0 (length word)) (slice_split is_word_gap text)
 
 -- ---- numbers
 
 -- the value of further decimal digits behind a number
-abbrev pub number_from : ℕ → List ℕ → Option ℕ
-number_from value [] = Some value
-number_from value (b ∷ digits) = if nat_le 48 b && nat_le b 57 then number_from (value * 10 + (b - 48)) digits else None
+abbrev pub number_continued : ℕ → List ℕ → Option ℕ
+number_continued value [] = Some value
+number_continued value (b ∷ digits) = if nat_le 48 b && nat_le b 57 then number_continued (value * 10 + (b - 48)) digits else None
 
 abbrev pub small : ℕ → Option ℕ
 small value = if nat_lt value (2 ^ 32) then Some value else None
 
 -- a number is one or more digits, at most 2^32 - 1 in value
-abbrev pub number_of : List ℕ → Option ℕ
-number_of [] = None
-number_of (b ∷ digits) = option_and_then small (number_from 0 (b ∷ digits))
+abbrev pub script_number_of : List ℕ → Option ℕ
+script_number_of [] = None
+script_number_of (b ∷ digits) = option_and_then small (number_continued 0 (b ∷ digits))
 
 -- ---- steps
 
@@ -60,11 +60,11 @@ abbrev pub said_of : List ℕ → ℕ → Option ScriptStep
 said_of word stream = if bytes_eq word (codes "state") then Some (State stream) else taken_on stream (bare_step word)
 
 -- what these words say, if they say something: `dump`, `state S`, or a step on a stream
-abbrev pub step_of : List (List ℕ) → Option ScriptStep
-step_of (word ∷ []) = if bytes_eq word (codes "dump") then Some Dump else None
-step_of (word ∷ stream ∷ []) = option_and_then (said_of word) (number_of stream)
-step_of (word ∷ stream ∷ number ∷ []) = option_and_then (λ s. option_and_then (λ n. taken_on s (numbered_step word n)) (number_of number)) (number_of stream)
-step_of _ = None
+abbrev pub script_step_of : List (List ℕ) → Option ScriptStep
+script_step_of (word ∷ []) = if bytes_eq word (codes "dump") then Some Dump else None
+script_step_of (word ∷ stream ∷ []) = option_and_then (said_of word) (script_number_of stream)
+script_step_of (word ∷ stream ∷ number ∷ []) = option_and_then (λ s. option_and_then (λ n. taken_on s (numbered_step word n)) (script_number_of number)) (script_number_of stream)
+script_step_of _ = None
 
 -- ---- lines
 
@@ -79,7 +79,7 @@ line_by None = line.Bad
 -- an empty line, and one that begins with `#`, is skipped
 abbrev pub line_of : List ℕ → Line
 line_of [] = line.Skipped
-line_of (b ∷ text) = if b == 35 then line.Skipped else line_by (step_of (words_of (b ∷ text)))
+line_of (b ∷ text) = if b == 35 then line.Skipped else line_by (script_step_of (words_of_line (b ∷ text)))
 
 -- ---- the whole
 

@@ -5,31 +5,31 @@ use Rattle.source_feed.specs.Planned.{FeedValue}
 use Rattle.board_laws.specs.Meaning.{Meaning}
 use Rattle.vdiff_core.specs.Printing.{Written, IsWritten, BreaksOff}
 use Rattle.vrepl_main.specs.declared.script.ScriptStep.{ScriptStep}
-use Rattle.vrepl_main.specs.Adding.{Place, IsPut, Adds}
+use Rattle.vrepl_main.specs.Adding.{WriterPlace, IsTextPut, AddsText}
 use Rattle.vrepl_main.specs.ScriptRun.{ScriptReply, IsScriptStep, IsScriptRun, ShowsRows, reply_text, replies_text}
 
 -- a line's reply was added
-abbrev pub Replies : {X E : Type 0} → Result X E → List FeedValue → PlanValue → Meaning → ScriptStep → Meaning → Place → Place → Type 0
-Replies result feeds plan old step new before after = (reply : ScriptReply) × IsScriptStep feeds old step reply new × Adds result before after (reply_text plan reply)
+abbrev pub Replies : {X E : Type 0} → Result X E → List FeedValue → PlanValue → Meaning → ScriptStep → Meaning → WriterPlace → WriterPlace → Type 0
+Replies result feeds plan old step new before after = (reply : ScriptReply) × IsScriptStep feeds old step reply new × AddsText result before after (reply_text plan reply)
 
 -- all rows were added, or that memory ran out
-abbrev pub PrintsRows : {X E : Type 0} → Result X E → PlanValue → Meaning → Place → Place → Type 0
-PrintsRows result plan board before after = (reply : ScriptReply) × ShowsRows board reply × Adds result before after (reply_text plan reply)
+abbrev pub PrintsRows : {X E : Type 0} → Result X E → PlanValue → Meaning → WriterPlace → WriterPlace → Type 0
+PrintsRows result plan board before after = (reply : ScriptReply) × ShowsRows board reply × AddsText result before after (reply_text plan reply)
 
 -- the replies to steps were added
-pub record RepliesOf {X E : Type 0} (result : Result X E) (feeds : List FeedValue) (plan : PlanValue) (old : Meaning) (steps : List ScriptStep) (new : Meaning) (before after : Place) : Type 0 where
+pub record RepliesOf {X E : Type 0} (result : Result X E) (feeds : List FeedValue) (plan : PlanValue) (old : Meaning) (steps : List ScriptStep) (new : Meaning) (before after : WriterPlace) : Type 0 where
   pub replies : List ScriptReply
   pub run : IsScriptRun feeds old steps replies new
-  pub added : Adds result before after (replies_text plan replies)
+  pub added : AddsText result before after (replies_text plan replies)
 
 -- the replies to the steps so far were added
-pub record HasReplied (feeds : List FeedValue) (plan : PlanValue) (old : Meaning) (steps : List ScriptStep) (new : Meaning) (before after : Place) : Type 0 where
+pub record HasReplied (feeds : List FeedValue) (plan : PlanValue) (old : Meaning) (steps : List ScriptStep) (new : Meaning) (before after : WriterPlace) : Type 0 where
   pub replies : List ScriptReply
   pub run : IsScriptRun feeds old steps replies new
-  pub put : IsPut before after (replies_text plan replies)
+  pub put : IsTextPut before after (replies_text plan replies)
 
 -- the replies to all steps were added, or at a fault a beginning of those to the first steps
-abbrev pub RepliesTo : {X E : Type 0} → Result X E → List FeedValue → PlanValue → Meaning → List ScriptStep → Place → Place → Type 0
+abbrev pub RepliesTo : {X E : Type 0} → Result X E → List FeedValue → PlanValue → Meaning → List ScriptStep → WriterPlace → WriterPlace → Type 0
 RepliesTo {X} {E} (Ok x) feeds plan old steps before after = (new : Meaning) × RepliesOf {X = X} {E = E} (Ok x) feeds plan old steps new before after
 RepliesTo {X} {E} (Err fault) feeds plan old steps before after = (n : ℕ) × (new : Meaning) × RepliesOf {X = X} {E = E} (Err fault) feeds plan old (take n steps) new before after
 

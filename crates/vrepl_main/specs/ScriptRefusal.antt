@@ -5,11 +5,11 @@ use Rattle.vrepl_main.specs.declared.script.ScriptFault.{ScriptFault}
 use Rattle.vrepl_main.specs.declared.script.ScriptFault.TheVariants.{BadLine, Memory}
 
 -- the number is that of the first bad line, unless memory ran out
-abbrev pub Refuses : ScriptFault → Result (List ScriptStep) ℕ → Type 0
-Refuses (BadLine number) steps = steps ≡ Err number
-Refuses Memory steps = Unit {0}
+abbrev pub RefusesScript : ScriptFault → Result (List ScriptStep) ℕ → Type 0
+RefusesScript (BadLine number) steps = steps ≡ Err number
+RefusesScript Memory steps = Unit {0}
 
 -- steps in front of those of further lines
-abbrev pub behind : List ScriptStep → Result (List ScriptStep) ℕ → Result (List ScriptStep) ℕ
-behind front (Ok steps) = Ok (front ++ steps)
-behind front (Err bad) = Err bad
+abbrev pub steps_before : List ScriptStep → Result (List ScriptStep) ℕ → Result (List ScriptStep) ℕ
+steps_before front (Ok steps) = Ok (front ++ steps)
+steps_before front (Err bad) = Err bad

@@ -9,8 +9,8 @@ use Rattle.vrepl_main.specs.HexText.{feed_bytes}
 use Rattle.vrepl_main.specs.Shown.{shown}
 
 -- whose feed it is
-abbrev pub source_of : List ℕ → List ℕ → SourceValue
-source_of keyspace shard = record { keyspace = keyspace; shard = shard }
+abbrev pub shown_source : List ℕ → List ℕ → SourceValue
+shown_source keyspace shard = record { keyspace = keyspace; shard = shard }
 
 abbrev pub shown_groups : Result (List GroupValue) FeedFault → Result (List ℕ) Reason
 shown_groups (Ok groups) = Ok (shown groups)

@@ -6,17 +6,17 @@ use Rattle.source_feed.specs.GroupValue.{TableChangeValue, GroupValue}
 use Rattle.vdiff_core.specs.Cells.{cells}
 
 -- the line of a row of a table behind its mark
-abbrev pub row_line : List ℕ → List ℕ → List (Option (List ℕ)) → List ℕ
-row_line mark table row = mark ++ table ++ cells row ++ 10 ∷ []
+abbrev pub shown_row_line : List ℕ → List ℕ → List (Option (List ℕ)) → List ℕ
+shown_row_line mark table row = mark ++ table ++ cells row ++ 10 ∷ []
 
 -- the line of a row, if there is one
-abbrev pub row_lines : List ℕ → List ℕ → Option (List (Option (List ℕ))) → List ℕ
-row_lines mark table None = []
-row_lines mark table (Some row) = row_line mark table row
+abbrev pub shown_row_lines : List ℕ → List ℕ → Option (List (Option (List ℕ))) → List ℕ
+shown_row_lines mark table None = []
+shown_row_lines mark table (Some row) = shown_row_line mark table row
 
 -- a change: the row before behind a `-`, then the row after behind a `+`
 abbrev pub change_text : TableChangeValue → List ℕ
-change_text change = row_lines (codes "- ") change.table change.before ++ row_lines (codes "+ ") change.table change.after
+change_text change = shown_row_lines (codes "- ") change.table change.before ++ shown_row_lines (codes "+ ") change.table change.after
 
 -- the lines of changes in order
 abbrev pub changes_text : List TableChangeValue → List ℕ

@@ -2,7 +2,7 @@
 
 ghost use Rattle.std.specs.Prelude.{◌≡◌};
 ghost use Rattle.vrepl_main.specs.AnswerText.{answer_text, copied_text, done_text};
-ghost use Rattle.vrepl_main.specs.Adding.{Adds, at};
+ghost use Rattle.vrepl_main.specs.Adding.{AddsText, at};
 
 use crate::output::{put_all, put_between, put_named, put_str};
 use board_laws::{Answer, Copied, Offered};
@@ -15,7 +15,7 @@ pub fn print_answer<W: Out>(
     text: &mut Gathered,
     answer: Answer,
 ) -> Result<(), OutFailed>
-    ensures { Adds result (at (W.written out.old) text.old) (at (W.written out.new) text.new) (answer_text answer) }
+    ensures { AddsText result (at (W.written out.old) text.old) (at (W.written out.new) text.new) (answer_text answer) }
 {
     match answer {
         Answer::Offered(Offered::Read(number)) => {
@@ -34,7 +34,7 @@ pub fn print_answer<W: Out>(
 
 /// Adds the line of rows that were copied.
 fn print_copied<W: Out>(out: &mut W, text: &mut Gathered, copied: Copied) -> Result<(), OutFailed>
-    ensures { Adds result (at (W.written out.old) text.old) (at (W.written out.new) text.new) (copied_text copied) }
+    ensures { AddsText result (at (W.written out.old) text.old) (at (W.written out.new) text.new) (copied_text copied) }
 {
     put_named(out, text, "copied ", u64::from(copied.rows))?;
     put_str(out, text, done_words(copied.done))?;

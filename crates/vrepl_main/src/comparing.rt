@@ -2,8 +2,8 @@
 
 ghost use Rattle.std.specs.Prelude.{◌≡◌, ◌≢◌, ◌⊎◌, IfOk, IfErr};
 ghost use Rattle.std.specs.Option.{option_map};
-ghost use Rattle.vrepl_main.specs.Adding.{Adds, at};
-ghost use Rattle.vrepl_main.specs.Comparison.{count_line, report_text, first_line, first_text, AreReadOnce, IsComparedAs, PrintsComparison, PrintsDumpRefusal, RefusesDumps};
+ghost use Rattle.vrepl_main.specs.Adding.{AddsText, at};
+ghost use Rattle.vrepl_main.specs.Comparison.{count_line, report_text, first_line, first_text, AreTextsReadOnce, IsComparedAs, PrintsComparison, PrintsDumpRefusal, RefusesDumps};
 
 use crate::key_text::print_key;
 use crate::output::{put_all, put_between, put_str};
@@ -45,7 +45,7 @@ pub fn vdiff<W: Out, E: Out>(
     ensures quiet { result ≢ 1 → err.new ≡ err.old }
     ensures refused { result ≡ 1 → PrintsDumpRefusal workflow.now source.now target.now (W.written out.old) (W.written out.new) (E.written err.old) (E.written err.new) }
     // The files are read as one thing alone.
-    ensures determined { AreReadOnce workflow.now source.now target.now }
+    ensures determined { AreTextsReadOnce workflow.now source.now target.now }
 {
     texts_are_read_once();
     match print_vdiff(alloc, workflow, source, target, out) {
@@ -97,7 +97,7 @@ fn print_comparison<W: Out>(
 
 /// Adds the five counts.
 fn print_report<W: Out>(out: &mut W, text: &mut Gathered, report: &Report) -> Result<(), OutFailed>
-    ensures { Adds result (at (W.written out.old) text.old) (at (W.written out.new) text.new) (report_text report.now) }
+    ensures { AddsText result (at (W.written out.old) text.old) (at (W.written out.new) text.new) (report_text report.now) }
 {
     print_count(out, text, "processed ", report.processed)?;
     print_count(out, text, "matching ", report.matching)?;
@@ -113,7 +113,7 @@ fn print_count<W: Out>(
     name: &str,
     count: usize,
 ) -> Result<(), OutFailed>
-    ensures { Adds result (at (W.written out.old) text.old) (at (W.written out.new) text.new) (count_line name.now count) }
+    ensures { AddsText result (at (W.written out.old) text.old) (at (W.written out.new) text.new) (count_line name.now count) }
 {
     put_between(out, text, name, count as u64, "\n")
 }
@@ -125,7 +125,7 @@ fn print_first<W: Out>(
     tables: &[Table],
     first: Option<&Key>,
 ) -> Result<(), OutFailed>
-    ensures { Adds result (at (W.written out.old) text.old) (at (W.written out.new) text.new) (first_text tables.now (option_map (λ key. key.now) first.entry)) }
+    ensures { AddsText result (at (W.written out.old) text.old) (at (W.written out.new) text.new) (first_text tables.now (option_map (λ key. key.now) first.entry)) }
 {
     match first {
         None => Ok(()),
@@ -140,7 +140,7 @@ fn print_first_line<W: Out>(
     tables: &[Table],
     key: &Key,
 ) -> Result<(), OutFailed>
-    ensures { Adds result (at (W.written out.old) text.old) (at (W.written out.new) text.new) (first_line tables.now key.now) }
+    ensures { AddsText result (at (W.written out.old) text.old) (at (W.written out.new) text.new) (first_line tables.now key.now) }
 {
     put_all(out, text, b"first table ")?;
     put_str(out, text, name_of_table(tables, key.table()))?;

@@ -6,7 +6,7 @@ ghost use Rattle.std.specs.Option.{option_map};
 ghost use Rattle.apply_core.specs.Shown.{all_rows};
 ghost use Rattle.stream_worker.specs.Ended.{IsFedBoard};
 ghost use Rattle.stream_worker.specs.RunRefused.{EndsRun, IsRefusedRun};
-ghost use Rattle.vrepl_main.specs.Followed.{IsAtFeedsEnds, IsFollowed, IsTakenUp, RefusesFollow, line_of};
+ghost use Rattle.vrepl_main.specs.Followed.{IsAtFeedsEnds, IsFollowed, IsTakenUp, RefusesFollow, follow_refusal_line};
 ghost use Rattle.vrepl_main.specs.Given.{given_value};
 ghost use Rattle.vrepl_main.specs.Opening.{opened, opened_bytes};
 ghost use Rattle.vrepl_main.specs.Printing.{PrintsOrBreaks};
@@ -241,7 +241,7 @@ fn run_on_from<'h, R: Threads + Wait + Sync>(
 /// Prints the line of a refusal, whole unless `err` fails, and answers the status 1.
 pub fn refuse_unfollowed<E: Out>(err: &mut E, unfollowed: Unfollowed) -> u8
     ensures status { result ≡ 1 }
-    ensures line { PrintsOrBreaks (E.written err.old) (E.written err.new) (line_of unfollowed) }
+    ensures line { PrintsOrBreaks (E.written err.old) (E.written err.new) (follow_refusal_line unfollowed) }
 {
     match unfollowed {
         Unfollowed::Given(refusal) => refuse(err, &refusal),

@@ -1,7 +1,7 @@
 //! Hexadecimal text of feeds.
 
 ghost use Rattle.std.specs.Prelude.{◌≡◌, IfOk, IfSome, ◌<◌};
-ghost use Rattle.vrepl_main.specs.HexText.{digit_of, hex_bytes, is_skipped};
+ghost use Rattle.vrepl_main.specs.HexText.{hex_text_digit, hex_bytes, is_skipped_byte};
 ghost use Rattle.vrepl_main.specs.declared.hex_text.HexFault.TheVariants.{Memory};
 
 use std::alloc::{AllocFailed, Global};
@@ -54,14 +54,14 @@ pub fn bytes_of_hex(alloc: Global, text: &[u8]) -> Result<Vec<u8>, HexFault>
 
 /// Whether the character is a blank, a tab, LF or CR.
 fn stands_for_nothing(character: u8) -> bool
-    ensures { result ≡ is_skipped character }
+    ensures { result ≡ is_skipped_byte character }
 {
     matches!(character, b' ' | b'\t' | b'\n' | b'\r')
 }
 
 /// The value of a digit, below 16.
 fn digit_value(character: u8) -> Option<u8>
-    ensures value { result ≡ digit_of character }
+    ensures value { result ≡ hex_text_digit character }
     ensures range { IfSome result (λ digit. digit < 16) }
 {
     match character {

@@ -5,7 +5,7 @@ ghost use Rattle.std.specs.Str.{bytes_eq};
 ghost use Rattle.std.specs.Io.KnownBytes.{IsAtEnd};
 ghost use Rattle.std.specs.IoError.{error_kind};
 ghost use Rattle.std.specs.declared.io.ErrorKind.TheVariants.{OutOfMemory};
-ghost use Rattle.vrepl_main.specs.Inputs.{is_standard, name_of, IsUnread, IsUnreadAmong};
+ghost use Rattle.vrepl_main.specs.Inputs.{is_standard, input_name, IsUnread, IsUnreadAmong};
 
 use crate::refusal::Refusal;
 use std::alloc::Global;
@@ -41,7 +41,7 @@ pub enum InputName<'w> {
 impl<'w> InputName<'w> {
     /// What a word names: standard input for `-`, else the file.
     pub fn of_word(word: &'w str) -> InputName<'w>
-        ensures name { name_of result ≡ word.now }
+        ensures name { input_name result ≡ word.now }
         ensures standard { is_standard result ≡ bytes_eq word.now (codes "-") }
     {
         if word == "-" {
@@ -53,7 +53,7 @@ impl<'w> InputName<'w> {
 
     /// The name in the line of a refusal: `-` for standard input.
     pub fn text(&self) -> &'w str
-        ensures { result.now ≡ name_of self.now }
+        ensures { result.now ≡ input_name self.now }
     {
         match self {
             InputName::File(name) => name,
@@ -86,7 +86,7 @@ fn read_input<'w, R: Files + Input + AllocGlobal>(
     rt: &R,
     name: InputName<'w>,
 ) -> Result<Vec<u8>, Refusal<'w>>
-    ensures refused { IfErr result (IsUnread (name_of name.entry)) }
+    ensures refused { IfErr result (IsUnread (input_name name.entry)) }
 {
     let read = match name {
         InputName::Standard => read_whole(rt.alloc(), &mut rt.reader()),
@@ -100,7 +100,7 @@ fn read_input<'w, R: Files + Input + AllocGlobal>(
 
 /// The refusal of an input that isn't there whole.
 fn unread<'w>(fault: InputFault, name: InputName<'w>) -> Refusal<'w>
-    ensures { IsUnread (name_of name.entry) result }
+    ensures { IsUnread (input_name name.entry) result }
 {
     match fault {
         InputFault::CannotRead => Refusal::CannotRead { file: name.text() },

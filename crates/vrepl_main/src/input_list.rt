@@ -2,7 +2,7 @@
 //! of them, by their places.
 
 ghost use Rattle.std.specs.Prelude.{◌≡◌, ◌≢◌, ◌≤◌, ◌⊎◌, ◌∷◌, ◌++◌, [], length, map, IfOk};
-ghost use Rattle.vrepl_main.specs.InputList.{bytes_of, checkpoint_of, join_asked, one_of, opened_by, other_of, resume_asked, script_asked, source_of, target_of, workflow_of};
+ghost use Rattle.vrepl_main.specs.InputList.{bytes_of, checkpoint_input, join_asked, one_of, opened_by, other_of, resume_asked, script_asked, source_input, target_of, workflow_of};
 ghost use Rattle.vrepl_main.specs.Command.{PrintsRefusal};
 ghost use Rattle.vrepl_main.specs.Comparison.{IsComparedAs, PrintsDumpRefusal};
 ghost use Rattle.vrepl_main.specs.Replied.{AreFirstReplies, PrintsReplies};
@@ -122,9 +122,9 @@ pub fn resume_on<W: Out, E: Out>(
 ) -> u8
     requires { 3 ≤ length inputs.now }
     ensures status { (result ≡ 0) ⊎ (result ≡ 1) }
-    ensures printed { result ≡ 0 → PrintsResumed (resume_asked hex (bytes_of inputs.now)) (checkpoint_of (bytes_of inputs.now)) (W.written out.old) (W.written out.new) }
+    ensures printed { result ≡ 0 → PrintsResumed (resume_asked hex (bytes_of inputs.now)) (checkpoint_input (bytes_of inputs.now)) (W.written out.old) (W.written out.new) }
     ensures quiet { result ≡ 0 → err.new ≡ err.old }
-    ensures refused { result ≡ 1 → PrintsResumeRefusal (resume_asked hex (bytes_of inputs.now)) (checkpoint_of (bytes_of inputs.now)) (W.written out.old) (W.written out.new) (E.written err.old) (E.written err.new) }
+    ensures refused { result ≡ 1 → PrintsResumeRefusal (resume_asked hex (bytes_of inputs.now)) (checkpoint_input (bytes_of inputs.now)) (W.written out.old) (W.written out.new) (E.written err.old) (E.written err.new) }
 {
     let last = inputs.len() - 1;
     let feeds = &inputs[2..last];
@@ -229,10 +229,10 @@ pub fn vdiff_inputs<'w>(files: VdiffFiles<'w>) -> [InputName<'w>; 3]
 pub fn vdiff_on<W: Out, E: Out>(alloc: Global, inputs: &[Vec<u8>], out: &mut W, err: &mut E) -> u8
     requires { length inputs.now ≡ 3 }
     ensures status { (result ≡ 0) ⊎ (result ≡ 1) ⊎ (result ≡ 3) }
-    ensures same { result ≡ 0 → IsComparedAs Same (workflow_of (bytes_of inputs.now)) (source_of (bytes_of inputs.now)) (target_of (bytes_of inputs.now)) (W.written out.old) (W.written out.new) }
-    ensures differ { result ≡ 3 → IsComparedAs Differ (workflow_of (bytes_of inputs.now)) (source_of (bytes_of inputs.now)) (target_of (bytes_of inputs.now)) (W.written out.old) (W.written out.new) }
+    ensures same { result ≡ 0 → IsComparedAs Same (workflow_of (bytes_of inputs.now)) (source_input (bytes_of inputs.now)) (target_of (bytes_of inputs.now)) (W.written out.old) (W.written out.new) }
+    ensures differ { result ≡ 3 → IsComparedAs Differ (workflow_of (bytes_of inputs.now)) (source_input (bytes_of inputs.now)) (target_of (bytes_of inputs.now)) (W.written out.old) (W.written out.new) }
     ensures quiet { result ≢ 1 → err.new ≡ err.old }
-    ensures refused { result ≡ 1 → PrintsDumpRefusal (workflow_of (bytes_of inputs.now)) (source_of (bytes_of inputs.now)) (target_of (bytes_of inputs.now)) (W.written out.old) (W.written out.new) (E.written err.old) (E.written err.new) }
+    ensures refused { result ≡ 1 → PrintsDumpRefusal (workflow_of (bytes_of inputs.now)) (source_input (bytes_of inputs.now)) (target_of (bytes_of inputs.now)) (W.written out.old) (W.written out.new) (E.written err.old) (E.written err.new) }
 {
     vdiff(alloc, &inputs[0], &inputs[1], &inputs[2], out, err)
 }

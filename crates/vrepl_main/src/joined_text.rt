@@ -1,7 +1,7 @@
 //! The lines of boards that aren't joined.
 
 ghost use Rattle.std.specs.Prelude.{◌≡◌};
-ghost use Rattle.vrepl_main.specs.Adding.{Adds, at};
+ghost use Rattle.vrepl_main.specs.Adding.{AddsText, at};
 ghost use Rattle.vrepl_main.specs.JoinedText.{join_details, join_line};
 ghost use Rattle.vrepl_main.specs.Printing.{PrintsOrBreaks};
 
@@ -37,7 +37,7 @@ fn print_refused<E: Out>(
     tables: &[Table],
     fault: &JoinFault,
 ) -> Result<(), OutFailed>
-    ensures { Adds result (at (E.written err.old) text.old) (at (E.written err.new) text.new) (join_line tables.now fault.now) }
+    ensures { AddsText result (at (E.written err.old) text.old) (at (E.written err.new) text.new) (join_line tables.now fault.now) }
 {
     put_named(err, text, "refused ", u64::from(fault.number()))?;
     print_details(err, text, tables, fault)?;
@@ -51,7 +51,7 @@ fn print_details<E: Out>(
     tables: &[Table],
     fault: &JoinFault,
 ) -> Result<(), OutFailed>
-    ensures { Adds result (at (E.written err.old) text.old) (at (E.written err.new) text.new) (join_details tables.now fault.now) }
+    ensures { AddsText result (at (E.written err.old) text.old) (at (E.written err.new) text.new) (join_details tables.now fault.now) }
 {
     match fault {
         JoinFault::HistoriesDiffer(stream) => {

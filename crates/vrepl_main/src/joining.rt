@@ -3,7 +3,7 @@
 ghost use Rattle.std.specs.Prelude.{◌≡◌, ◌⊎◌, ◌≤◌, Ok, Some, OnOk, IfErr, IfOk, length, map, slice_get};
 ghost use Rattle.std.specs.Arc.{arc_value};
 ghost use Rattle.vrepl_main.specs.Given.{given_value};
-ghost use Rattle.vrepl_main.specs.JoinedRun.{IsJoinOver, IsSavedJoin, IsUnjoined, PrintsJoin, PrintsJoinRefusal, RefusesJoin, line_of};
+ghost use Rattle.vrepl_main.specs.JoinedRun.{IsJoinOver, IsSavedJoin, IsUnjoined, PrintsJoin, PrintsJoinRefusal, RefusesJoin, join_refusal_line};
 ghost use Rattle.vrepl_main.specs.Opening.{opened, opened_bytes};
 ghost use Rattle.vrepl_main.specs.Printing.{PrintsOrBreaks};
 
@@ -93,7 +93,7 @@ pub fn join<W: Out, E: Out>(
 /// Prints the line of a refusal, whole unless `err` fails, and answers the status 1.
 fn refuse_unjoined<E: Out>(err: &mut E, unjoined: &Unjoined) -> u8
     ensures status { result ≡ 1 }
-    ensures line { PrintsOrBreaks (E.written err.old) (E.written err.new) (line_of unjoined.now) }
+    ensures line { PrintsOrBreaks (E.written err.old) (E.written err.new) (join_refusal_line unjoined.now) }
 {
     match unjoined {
         Unjoined::Given(refusal) => refuse(err, refusal),

@@ -3,7 +3,7 @@
 ghost use Rattle.std.specs.Prelude.{◌≡◌, map};
 ghost use Rattle.pk_copy.specs.PartValue.{part_value};
 ghost use Rattle.vrepl_main.specs.RefusedText.{key_text, more_parts, part_cell};
-ghost use Rattle.vrepl_main.specs.Adding.{Adds, at};
+ghost use Rattle.vrepl_main.specs.Adding.{AddsText, at};
 
 use crate::output::{print_cell, put_all};
 use itoa::Buffer;
@@ -14,7 +14,7 @@ use vdiff_core::{Gathered, Out, OutFailed};
 /// Adds a key: its parts as cells, parted by commas, a number as its shortest decimal text. Takes no
 /// memory.
 pub fn print_key<W: Out>(out: &mut W, text: &mut Gathered, key: &Key) -> Result<(), OutFailed>
-    ensures { Adds result (at (W.written out.old) text.old) (at (W.written out.new) text.new) (key_text key.now) }
+    ensures { AddsText result (at (W.written out.old) text.old) (at (W.written out.new) text.new) (key_text key.now) }
 {
     let view = key.view();
     match view.parts() {
@@ -32,7 +32,7 @@ fn print_more_parts<W: Out>(
     text: &mut Gathered,
     parts: &[KeyPart<'_>],
 ) -> Result<(), OutFailed>
-    ensures { Adds result (at (W.written out.old) text.old) (at (W.written out.new) text.new) (more_parts (map part_value parts.now)) }
+    ensures { AddsText result (at (W.written out.old) text.old) (at (W.written out.new) text.new) (more_parts (map part_value parts.now)) }
 {
     for part in parts {
         put_all(out, text, b",")?;
@@ -43,7 +43,7 @@ fn print_more_parts<W: Out>(
 
 /// Adds a part of a key as a cell.
 fn print_part<W: Out>(out: &mut W, text: &mut Gathered, part: &KeyPart<'_>) -> Result<(), OutFailed>
-    ensures { Adds result (at (W.written out.old) text.old) (at (W.written out.new) text.new) (part_cell (part_value part.now)) }
+    ensures { AddsText result (at (W.written out.old) text.old) (at (W.written out.new) text.new) (part_cell (part_value part.now)) }
 {
     match part {
         KeyPart::Number(value) => {

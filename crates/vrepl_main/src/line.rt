@@ -3,7 +3,7 @@
 ghost use Rattle.std.specs.Prelude.{◌≡◌, [], option_map};
 ghost use Rattle.std.specs.Option.{option_map_or};
 ghost use Rattle.vdiff_core.specs.Dump.{dump_of};
-ghost use Rattle.vrepl_main.specs.Adding.{Adds, at};
+ghost use Rattle.vrepl_main.specs.Adding.{AddsText, at};
 ghost use Rattle.vrepl_main.specs.ScriptRun.{AnswersStep, answers, byte_of, reply_text, standing_in, standing_reply, where_of};
 ghost use Rattle.vrepl_main.specs.ScriptPrinting.{Replies, PrintsRows};
 
@@ -75,7 +75,7 @@ fn print_answer_or_refusal<W: Out>(
     plan: &Plan,
     answer: &Result<Answer, StepRefusal>,
 ) -> Result<(), OutFailed>
-    ensures { Adds result (at (W.written out.old) text.old) (at (W.written out.new) text.new) (reply_text plan.now (answers answer.now)) }
+    ensures { AddsText result (at (W.written out.old) text.old) (at (W.written out.new) text.new) (reply_text plan.now (answers answer.now)) }
 {
     match answer {
         Ok(answer) => print_answer(out, text, *answer),
@@ -105,7 +105,7 @@ fn print_standing<W: Out>(
     board: &Board<'_>,
     stream: u32,
 ) -> Result<(), OutFailed>
-    ensures { Adds result (at (W.written out.old) text.old) (at (W.written out.new) text.new) (reply_text plan.now (standing_reply stream (standing_in board.now stream))) }
+    ensures { AddsText result (at (W.written out.old) text.old) (at (W.written out.new) text.new) (reply_text plan.now (standing_reply stream (standing_in board.now stream))) }
 {
     match place_of(board, stream) {
         Some((now, position)) => print_state(out, text, stream, &now, position),
@@ -146,7 +146,7 @@ fn print_dump<W: Out>(
     plan: &Plan,
     rows: &Rows,
 ) -> Result<(), OutFailed>
-    ensures { Adds result (at (W.written out.old) text.old) (at (W.written out.new) text.new) (dump_of plan.now rows.now) }
+    ensures { AddsText result (at (W.written out.old) text.old) (at (W.written out.new) text.new) (dump_of plan.now rows.now) }
 {
     text.finish(out)?;
     write_dump(out, plan, rows)

@@ -4,28 +4,28 @@
 ghost use Rattle.std.specs.Prelude.{◌++◌, decimal};
 ghost use Rattle.row_view.specs.ColumnValue.{column_value};
 ghost use Rattle.vdiff_core.specs.Cells.{cell, cells};
-ghost use Rattle.vrepl_main.specs.Adding.{Adds, at};
+ghost use Rattle.vrepl_main.specs.Adding.{AddsText, at};
 
 use row_view::{Column, Columns};
 use vdiff_core::{Gathered, Out, OutFailed, add_cell, add_cells};
 
 /// Adds all the bytes.
 pub fn put_all<W: Out>(out: &mut W, text: &mut Gathered, bytes: &[u8]) -> Result<(), OutFailed>
-    ensures { Adds result (at (W.written out.old) text.old) (at (W.written out.new) text.new) bytes.now }
+    ensures { AddsText result (at (W.written out.old) text.old) (at (W.written out.new) text.new) bytes.now }
 {
     text.put(out, bytes)
 }
 
 /// Adds a text.
 pub fn put_str<W: Out>(out: &mut W, text: &mut Gathered, piece: &str) -> Result<(), OutFailed>
-    ensures { Adds result (at (W.written out.old) text.old) (at (W.written out.new) text.new) piece.now }
+    ensures { AddsText result (at (W.written out.old) text.old) (at (W.written out.new) text.new) piece.now }
 {
     put_all(out, text, piece.as_bytes())
 }
 
 /// Adds a number in decimal digits.
 pub fn put_number<W: Out>(out: &mut W, text: &mut Gathered, number: u64) -> Result<(), OutFailed>
-    ensures { Adds result (at (W.written out.old) text.old) (at (W.written out.new) text.new) (decimal number) }
+    ensures { AddsText result (at (W.written out.old) text.old) (at (W.written out.new) text.new) (decimal number) }
 {
     let mut digits = itoa::Buffer::new();
     put_str(out, text, digits.format(number))
@@ -37,7 +37,7 @@ pub fn print_cells<W: Out>(
     text: &mut Gathered,
     columns: Columns<'_>,
 ) -> Result<(), OutFailed>
-    ensures { Adds result (at (W.written out.old) text.old) (at (W.written out.new) text.new) (cells columns.entry) }
+    ensures { AddsText result (at (W.written out.old) text.old) (at (W.written out.new) text.new) (cells columns.entry) }
 {
     add_cells(out, text, columns)
 }
@@ -48,7 +48,7 @@ pub fn print_cell<W: Out>(
     text: &mut Gathered,
     column: &Column<'_>,
 ) -> Result<(), OutFailed>
-    ensures { Adds result (at (W.written out.old) text.old) (at (W.written out.new) text.new) (cell (column_value column.now)) }
+    ensures { AddsText result (at (W.written out.old) text.old) (at (W.written out.new) text.new) (cell (column_value column.now)) }
 {
     add_cell(out, text, column)
 }
@@ -60,7 +60,7 @@ pub fn put_named<W: Out>(
     word: &str,
     number: u64,
 ) -> Result<(), OutFailed>
-    ensures { Adds result (at (W.written out.old) text.old) (at (W.written out.new) text.new) (word.now ++ decimal number) }
+    ensures { AddsText result (at (W.written out.old) text.old) (at (W.written out.new) text.new) (word.now ++ decimal number) }
 {
     put_str(out, text, word)?;
     put_number(out, text, number)
@@ -74,7 +74,7 @@ pub fn put_between<W: Out>(
     number: u64,
     behind: &str,
 ) -> Result<(), OutFailed>
-    ensures { Adds result (at (W.written out.old) text.old) (at (W.written out.new) text.new) (before.now ++ decimal number ++ behind.now) }
+    ensures { AddsText result (at (W.written out.old) text.old) (at (W.written out.new) text.new) (before.now ++ decimal number ++ behind.now) }
 {
     put_named(out, text, before, number)?;
     put_str(out, text, behind)

@@ -2,7 +2,7 @@
 
 ghost use Rattle.std.specs.Prelude.{◌≡◌, ◌++◌, codes};
 ghost use Rattle.vrepl_main.specs.Refusals.{cause_text, column_text, details_of, feed_details, feed_place, number_of, refusal_line, rule_text, workflow_details};
-ghost use Rattle.vrepl_main.specs.Adding.{Adds, at};
+ghost use Rattle.vrepl_main.specs.Adding.{AddsText, at};
 ghost use Rattle.vrepl_main.specs.Printing.{PrintsOrBreaks};
 
 use crate::hex_text::HexFault;
@@ -140,7 +140,7 @@ pub(crate) fn print_cause<E: Out>(
     text: &mut Gathered,
     cause: Option<u8>,
 ) -> Result<(), OutFailed>
-    ensures { Adds result (at (E.written err.old) text.old) (at (E.written err.new) text.new) (cause_text cause) }
+    ensures { AddsText result (at (E.written err.old) text.old) (at (E.written err.new) text.new) (cause_text cause) }
 {
     match cause {
         None => Ok(()),
@@ -154,7 +154,7 @@ fn print_feed_place<E: Out>(
     text: &mut Gathered,
     fault: &FeedFault,
 ) -> Result<(), OutFailed>
-    ensures { Adds result (at (E.written err.old) text.old) (at (E.written err.new) text.new) (feed_place fault.now) }
+    ensures { AddsText result (at (E.written err.old) text.old) (at (E.written err.new) text.new) (feed_place fault.now) }
 {
     match fault {
         FeedFault::Event(EventFault::BadType(kind)) => put_named(err, text, " type ", *kind),
@@ -169,7 +169,7 @@ pub(crate) fn print_feed_details<E: Out>(
     text: &mut Gathered,
     fault: &FeedFault,
 ) -> Result<(), OutFailed>
-    ensures { Adds result (at (E.written err.old) text.old) (at (E.written err.new) text.new) (feed_details fault.now) }
+    ensures { AddsText result (at (E.written err.old) text.old) (at (E.written err.new) text.new) (feed_details fault.now) }
 {
     print_cause(err, text, fault.cause())?;
     print_feed_place(err, text, fault)
@@ -182,7 +182,7 @@ fn print_column<E: Out>(
     table: &str,
     column: &str,
 ) -> Result<(), OutFailed>
-    ensures { Adds result (at (E.written err.old) text.old) (at (E.written err.new) text.new) (column_text table.now column.now) }
+    ensures { AddsText result (at (E.written err.old) text.old) (at (E.written err.new) text.new) (column_text table.now column.now) }
 {
     put_all(err, text, b" table ")?;
     put_str(err, text, table)?;
@@ -197,7 +197,7 @@ fn print_rule<E: Out>(
     stream: usize,
     rule: usize,
 ) -> Result<(), OutFailed>
-    ensures { Adds result (at (E.written err.old) text.old) (at (E.written err.new) text.new) (rule_text stream rule) }
+    ensures { AddsText result (at (E.written err.old) text.old) (at (E.written err.new) text.new) (rule_text stream rule) }
 {
     put_named(err, text, " stream ", stream as u64)?;
     put_named(err, text, " rule ", rule as u64)
@@ -209,7 +209,7 @@ fn print_workflow_details<E: Out>(
     text: &mut Gathered,
     fault: &PlanFault,
 ) -> Result<(), OutFailed>
-    ensures { Adds result (at (E.written err.old) text.old) (at (E.written err.new) text.new) (workflow_details fault.now) }
+    ensures { AddsText result (at (E.written err.old) text.old) (at (E.written err.new) text.new) (workflow_details fault.now) }
 {
     match fault {
         PlanFault::NoSuchColumn { table, column } | PlanFault::KeyType { table, column } => {
@@ -222,7 +222,7 @@ fn print_workflow_details<E: Out>(
 
 /// Prints the name of a file.
 fn print_file<E: Out>(err: &mut E, text: &mut Gathered, file: &str) -> Result<(), OutFailed>
-    ensures { Adds result (at (E.written err.old) text.old) (at (E.written err.new) text.new) (codes " file " ++ file.now) }
+    ensures { AddsText result (at (E.written err.old) text.old) (at (E.written err.new) text.new) (codes " file " ++ file.now) }
 {
     put_all(err, text, b" file ")?;
     put_str(err, text, file)
@@ -234,7 +234,7 @@ fn print_details<E: Out>(
     text: &mut Gathered,
     refusal: &Refusal<'_>,
 ) -> Result<(), OutFailed>
-    ensures { Adds result (at (E.written err.old) text.old) (at (E.written err.new) text.new) (details_of refusal.now) }
+    ensures { AddsText result (at (E.written err.old) text.old) (at (E.written err.new) text.new) (details_of refusal.now) }
 {
     match refusal {
         Refusal::CannotRead { file } | Refusal::CannotWrite { file } => print_file(err, text, file),
@@ -253,7 +253,7 @@ fn print_refusal<E: Out>(
     text: &mut Gathered,
     refusal: &Refusal<'_>,
 ) -> Result<(), OutFailed>
-    ensures { Adds result (at (E.written err.old) text.old) (at (E.written err.new) text.new) (refusal_line refusal.now) }
+    ensures { AddsText result (at (E.written err.old) text.old) (at (E.written err.new) text.new) (refusal_line refusal.now) }
 {
     put_named(err, text, "refused ", u64::from(refusal.number()))?;
     print_details(err, text, refusal)?;

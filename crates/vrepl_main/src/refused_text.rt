@@ -2,7 +2,7 @@
 
 ghost use Rattle.std.specs.Prelude.{◌≡◌};
 ghost use Rattle.vrepl_main.specs.RefusedText.{bad_row_text, clash_text, name_of_table, owner_text, refused_text, step_details, unprepared_text};
-ghost use Rattle.vrepl_main.specs.Adding.{Adds, at};
+ghost use Rattle.vrepl_main.specs.Adding.{AddsText, at};
 
 use crate::key_text::print_key;
 use crate::output::{put_all, put_between, put_named, put_str};
@@ -22,7 +22,7 @@ pub fn print_refused<W: Out>(
     tables: &[Table],
     refusal: &StepRefusal,
 ) -> Result<(), OutFailed>
-    ensures { Adds result (at (W.written out.old) text.old) (at (W.written out.new) text.new) (refused_text tables.now refusal.now) }
+    ensures { AddsText result (at (W.written out.old) text.old) (at (W.written out.new) text.new) (refused_text tables.now refusal.now) }
 {
     put_named(out, text, "refused ", u64::from(refusal.number()))?;
     print_step_details(out, text, tables, refusal)?;
@@ -36,7 +36,7 @@ fn print_step_details<W: Out>(
     tables: &[Table],
     refusal: &StepRefusal,
 ) -> Result<(), OutFailed>
-    ensures { Adds result (at (W.written out.old) text.old) (at (W.written out.new) text.new) (step_details tables.now refusal.now) }
+    ensures { AddsText result (at (W.written out.old) text.old) (at (W.written out.new) text.new) (step_details tables.now refusal.now) }
 {
     match refusal {
         StepRefusal::Unprepared(fault) => print_unprepared(out, text, tables, fault),
@@ -57,7 +57,7 @@ pub(crate) fn print_unprepared<W: Out>(
     tables: &[Table],
     fault: &FeedFault,
 ) -> Result<(), OutFailed>
-    ensures { Adds result (at (W.written out.old) text.old) (at (W.written out.new) text.new) (unprepared_text tables.now fault.now) }
+    ensures { AddsText result (at (W.written out.old) text.old) (at (W.written out.new) text.new) (unprepared_text tables.now fault.now) }
 {
     match fault {
         FeedFault::BadRow {
@@ -79,7 +79,7 @@ fn print_bad_row<W: Out>(
     table: u8,
     cause: u8,
 ) -> Result<(), OutFailed>
-    ensures { Adds result (at (W.written out.old) text.old) (at (W.written out.new) text.new) (bad_row_text tables.now group table cause) }
+    ensures { AddsText result (at (W.written out.old) text.old) (at (W.written out.new) text.new) (bad_row_text tables.now group table cause) }
 {
     put_between(out, text, " group ", u64::from(group), " table ")?;
     put_str(out, text, name_of_table(tables, table))?;
@@ -94,7 +94,7 @@ pub(crate) fn print_clash<W: Out>(
     key: &Key,
     owner: u8,
 ) -> Result<(), OutFailed>
-    ensures { Adds result (at (W.written out.old) text.old) (at (W.written out.new) text.new) (clash_text tables.now key.now owner) }
+    ensures { AddsText result (at (W.written out.old) text.old) (at (W.written out.new) text.new) (clash_text tables.now key.now owner) }
 {
     put_all(out, text, b" table ")?;
     put_str(out, text, name_of_table(tables, key.table()))?;
@@ -105,7 +105,7 @@ pub(crate) fn print_clash<W: Out>(
 
 /// Adds whose row it is.
 fn print_owner<W: Out>(out: &mut W, text: &mut Gathered, owner: u8) -> Result<(), OutFailed>
-    ensures { Adds result (at (W.written out.old) text.old) (at (W.written out.new) text.new) (owner_text owner) }
+    ensures { AddsText result (at (W.written out.old) text.old) (at (W.written out.new) text.new) (owner_text owner) }
 {
     put_named(out, text, " owner ", u64::from(owner))
 }

@@ -1,7 +1,7 @@
 //! The lines of checkpoints that aren't resumed.
 
 ghost use Rattle.std.specs.Prelude.{◌≡◌};
-ghost use Rattle.vrepl_main.specs.Adding.{Adds, at};
+ghost use Rattle.vrepl_main.specs.Adding.{AddsText, at};
 ghost use Rattle.vrepl_main.specs.Printing.{PrintsOrBreaks};
 ghost use Rattle.vrepl_main.specs.ResumedText.{differs_text, resume_details, resume_line};
 
@@ -39,7 +39,7 @@ fn print_refused<E: Out>(
     tables: &[Table],
     fault: &ResumeFault,
 ) -> Result<(), OutFailed>
-    ensures { Adds result (at (E.written err.old) text.old) (at (E.written err.new) text.new) (resume_line tables.now fault.now) }
+    ensures { AddsText result (at (E.written err.old) text.old) (at (E.written err.new) text.new) (resume_line tables.now fault.now) }
 {
     put_named(err, text, "refused ", u64::from(fault.number()))?;
     print_details(err, text, tables, fault)?;
@@ -53,7 +53,7 @@ fn print_details<E: Out>(
     tables: &[Table],
     fault: &ResumeFault,
 ) -> Result<(), OutFailed>
-    ensures { Adds result (at (E.written err.old) text.old) (at (E.written err.new) text.new) (resume_details tables.now fault.now) }
+    ensures { AddsText result (at (E.written err.old) text.old) (at (E.written err.new) text.new) (resume_details tables.now fault.now) }
 {
     match fault {
         ResumeFault::PositionUnknown(stream) => {
@@ -79,7 +79,7 @@ fn print_differs<E: Out>(
     stream: u8,
     key: &Key,
 ) -> Result<(), OutFailed>
-    ensures { Adds result (at (E.written err.old) text.old) (at (E.written err.new) text.new) (differs_text tables.now stream key.now) }
+    ensures { AddsText result (at (E.written err.old) text.old) (at (E.written err.new) text.new) (differs_text tables.now stream key.now) }
 {
     put_between(err, text, " stream ", u64::from(stream), " table ")?;
     put_str(err, text, name_of_table(tables, key.table()))?;

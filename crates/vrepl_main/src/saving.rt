@@ -7,8 +7,8 @@ ghost use Rattle.apply_core.specs.Fresh.{fresh_board};
 ghost use Rattle.vrepl_main.specs.ScriptRun.{ScriptReply, answers, IsScriptStep, IsScriptRun, IsFed, IsTold, script_given, given_bytes};
 ghost use Rattle.vrepl_main.specs.Given.{given_value};
 ghost use Rattle.vdiff_core.specs.Printing.{Prints};
-ghost use Rattle.vrepl_main.specs.SavedBoard.{IsSaved, IsSavedBehind, PrintsCheckpoint};
-ghost use Rattle.vrepl_main.specs.Command.{PrintsRefusal, Refuses};
+ghost use Rattle.vrepl_main.specs.SavedBoard.{IsSavedBoard, IsSavedBehind, PrintsCheckpoint};
+ghost use Rattle.vrepl_main.specs.Command.{PrintsRefusal, RefusesCommand};
 ghost use Rattle.vrepl_main.specs.Reasons.{RefusesInputs};
 
 use crate::given::{GivenFeed, given_feeds};
@@ -63,7 +63,7 @@ fn print_checkpoint<W: Out>(
     out: &mut W,
 ) -> Result<(), Refusal<'static>>
     ensures printed { OnOk result (PrintsCheckpoint (script_given hex workflow.now (map (λ feed. feed.items) feeds.now) script.now) (W.written out.old) (W.written out.new)) }
-    ensures refused { IfErr result (λ refusal. Refuses IsSavedBehind refusal (script_given hex workflow.now (map (λ feed. feed.items) feeds.now) script.now) (W.written out.old) (W.written out.new)) }
+    ensures refused { IfErr result (λ refusal. RefusesCommand IsSavedBehind refusal (script_given hex workflow.now (map (λ feed. feed.items) feeds.now) script.now) (W.written out.old) (W.written out.new)) }
 {
     let given = given_feeds(alloc, hex, feeds)?;
     let bytes = saved_bytes(alloc, workflow, &given, script)?;
@@ -85,7 +85,7 @@ fn saved_bytes(
     given: &[GivenFeed<'_>],
     script: &[u8],
 ) -> Result<Vec<u8>, Refusal<'static>>
-    ensures saved { IfOk result (λ bytes. IsSaved (given_bytes workflow.now (map given_value given.now) script.now) bytes.items) }
+    ensures saved { IfOk result (λ bytes. IsSavedBoard (given_bytes workflow.now (map given_value given.now) script.now) bytes.items) }
     ensures refused { IfErr result (λ refusal. RefusesInputs refusal (given_bytes workflow.now (map given_value given.now) script.now)) }
 {
     let opened = open_workflow(alloc, workflow, given)?;

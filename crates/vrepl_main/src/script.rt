@@ -2,8 +2,8 @@
 
 ghost use Rattle.std.specs.Prelude.{◌≡◌, ◌==◌, ◌<◌, ℕ, List, [], ◌∷◌, Result, Ok, Err, length, map, OnOk, IfOk, IfErr, IfSome, IfNone};
 ghost use Rattle.std.specs.List.{slice_split};
-ghost use Rattle.vrepl_main.specs.ScriptLines.{words_of, number_of, bare_step, numbered_step, said_of, step_of, without_cr, line_by, line_of, steps_then, script_steps};
-ghost use Rattle.vrepl_main.specs.ScriptRefusal.{Refuses, behind};
+ghost use Rattle.vrepl_main.specs.ScriptLines.{words_of_line, script_number_of, bare_step, numbered_step, said_of, script_step_of, without_cr, line_by, line_of, steps_then, script_steps};
+ghost use Rattle.vrepl_main.specs.ScriptRefusal.{RefusesScript, steps_before};
 ghost use Rattle.vrepl_main.specs.declared.script.ScriptFault.TheVariants.{Memory};
 
 use std::alloc::{AllocError, AllocFailed, Global};
@@ -57,7 +57,7 @@ impl<T: Drop> From<AllocFailed<T>> for ScriptFault {
 
 /// The number that a word of digits spells, at most 2^32 - 1.
 pub fn number_of(word: &[u8]) -> Option<u32>
-    ensures { result ≡ number_of word.now }
+    ensures { result ≡ script_number_of word.now }
 {
     if word.is_empty() {
         return None;
@@ -120,7 +120,7 @@ fn said_of(word: &[u8], stream: u32) -> Option<ScriptStep>
 
 /// What the words of a line say, if they say something.
 fn step_of(words: &[&[u8]]) -> Option<ScriptStep>
-    ensures { result ≡ step_of (map (λ word. word.now) words.now) }
+    ensures { result ≡ script_step_of (map (λ word. word.now) words.now) }
 {
     match words {
         [word] => {
@@ -141,7 +141,7 @@ fn step_of(words: &[&[u8]]) -> Option<ScriptStep>
 
 /// The words of a line, parted by runs of blanks and tabs.
 fn words_of<'s>(alloc: Global, text: &'s [u8]) -> Result<Vec<&'s [u8]>, AllocError>
-    ensures { IfOk result (λ words. map (λ word. word.now) words.items ≡ words_of text.now) }
+    ensures { IfOk result (λ words. map (λ word. word.now) words.items ≡ words_of_line text.now) }
 {
     text.split(|b| *b == b' ' || *b == b'\t')
         .filter(|word| word.len() > 0)
@@ -184,8 +184,8 @@ fn first_line(text: &[u8]) -> (&[u8], Option<&[u8]>)
 /// Puts the step of a line behind others, if it has one; the line's number is for its refusal. That a line is bad
 /// is found without memory.
 fn put_found(steps: &mut Vec<ScriptStep>, found: Line, number: usize) -> Result<(), ScriptFault>
-    ensures put { OnOk result ((others : Result (List ScriptStep) ℕ) → behind steps.old.items (steps_then number found others) ≡ behind steps.new.items others) }
-    ensures refused { IfErr result (λ fault. (others : Result (List ScriptStep) ℕ) → Refuses fault (behind steps.old.items (steps_then number found others))) }
+    ensures put { OnOk result ((others : Result (List ScriptStep) ℕ) → steps_before steps.old.items (steps_then number found others) ≡ steps_before steps.new.items others) }
+    ensures refused { IfErr result (λ fault. (others : Result (List ScriptStep) ℕ) → RefusesScript fault (steps_before steps.old.items (steps_then number found others))) }
     ensures bad { found ≡ Line.Bad → result ≡ Err (ScriptFault.BadLine number) }
 {
     match found {
@@ -205,8 +205,8 @@ fn put_line(
     text: &[u8],
     number: usize,
 ) -> Result<(), ScriptFault>
-    ensures put { OnOk result ((others : Result (List ScriptStep) ℕ) → behind steps.old.items (steps_then number (line_of (without_cr text.now)) others) ≡ behind steps.new.items others) }
-    ensures refused { IfErr result (λ fault. (others : Result (List ScriptStep) ℕ) → Refuses fault (behind steps.old.items (steps_then number (line_of (without_cr text.now)) others))) }
+    ensures put { OnOk result ((others : Result (List ScriptStep) ℕ) → steps_before steps.old.items (steps_then number (line_of (without_cr text.now)) others) ≡ steps_before steps.new.items others) }
+    ensures refused { IfErr result (λ fault. (others : Result (List ScriptStep) ℕ) → RefusesScript fault (steps_before steps.old.items (steps_then number (line_of (without_cr text.now)) others))) }
 {
     let found = line_of(alloc, without_cr(text))?;
     put_found(steps, found, number)
@@ -220,7 +220,7 @@ fn put_line(
 /// The whole script is read first: of the lines that are none of these the first is refused.
 pub fn read_script(alloc: Global, script: &[u8]) -> Result<Vec<ScriptStep>, ScriptFault>
     ensures steps { IfOk result (λ steps. script_steps script.now ≡ Ok steps.items) }
-    ensures refused { IfErr result (λ fault. Refuses fault (script_steps script.now)) }
+    ensures refused { IfErr result (λ fault. RefusesScript fault (script_steps script.now)) }
 {
     let mut steps = Vec::new(alloc);
     let mut text = script;

@@ -2,8 +2,8 @@
 
 ghost use Rattle.std.specs.Prelude.{◌∷◌, ◌++◌};
 ghost use Rattle.gtid_set.specs.Printed.{interval_text, numbers_text, printed_position, uuid_text};
-ghost use Rattle.vrepl_main.specs.Adding.{Adds, at};
-ghost use Rattle.vrepl_main.specs.Shown.{row_line, row_lines, change_text, changes_text, group_line, group_text, shown};
+ghost use Rattle.vrepl_main.specs.Adding.{AddsText, at};
+ghost use Rattle.vrepl_main.specs.Shown.{shown_row_line, shown_row_lines, change_text, changes_text, group_line, group_text, shown};
 
 use crate::output::{print_cells, put_all, put_number, put_str};
 use gtid_set::{GtidSet, Interval, uuid_text};
@@ -19,7 +19,7 @@ pub fn print_groups<W: Out>(
     text: &mut Gathered,
     groups: &[Group<'_>],
 ) -> Result<(), OutFailed>
-    ensures { Adds result (at (W.written out.old) text.old) (at (W.written out.new) text.new) (shown groups.now) }
+    ensures { AddsText result (at (W.written out.old) text.old) (at (W.written out.new) text.new) (shown groups.now) }
 {
     for group in groups {
         print_group(out, text, group)?;
@@ -29,7 +29,7 @@ pub fn print_groups<W: Out>(
 
 /// Prints a group.
 fn print_group<W: Out>(out: &mut W, text: &mut Gathered, group: &Group<'_>) -> Result<(), OutFailed>
-    ensures { Adds result (at (W.written out.old) text.old) (at (W.written out.new) text.new) (group_text group.now) }
+    ensures { AddsText result (at (W.written out.old) text.old) (at (W.written out.new) text.new) (group_text group.now) }
 {
     print_group_line(out, text, group)?;
     print_changes(out, text, group.changes())
@@ -41,7 +41,7 @@ fn print_group_line<W: Out>(
     text: &mut Gathered,
     group: &Group<'_>,
 ) -> Result<(), OutFailed>
-    ensures { Adds result (at (W.written out.old) text.old) (at (W.written out.new) text.new) (group_line group.now) }
+    ensures { AddsText result (at (W.written out.old) text.old) (at (W.written out.new) text.new) (group_line group.now) }
 {
     put_all(out, text, b"group ")?;
     put_number(out, text, u64::from(group.number()))?;
@@ -56,7 +56,7 @@ pub fn print_position<W: Out>(
     text: &mut Gathered,
     position: &GtidSet,
 ) -> Result<(), OutFailed>
-    ensures { Adds result (at (W.written out.old) text.old) (at (W.written out.new) text.new) (printed_position position.now) }
+    ensures { AddsText result (at (W.written out.old) text.old) (at (W.written out.new) text.new) (printed_position position.now) }
 {
     let mut before = None;
     for interval in position.intervals() {
@@ -74,7 +74,7 @@ fn print_interval<W: Out>(
     before: Option<u128>,
     interval: &Interval,
 ) -> Result<(), OutFailed>
-    ensures { Adds result (at (W.written out.old) text.old) (at (W.written out.new) text.new) (interval_text before interval.now) }
+    ensures { AddsText result (at (W.written out.old) text.old) (at (W.written out.new) text.new) (interval_text before interval.now) }
 {
     match before {
         None => print_named(out, text, interval),
@@ -96,7 +96,7 @@ fn print_named<W: Out>(
     text: &mut Gathered,
     interval: &Interval,
 ) -> Result<(), OutFailed>
-    ensures { Adds result (at (W.written out.old) text.old) (at (W.written out.new) text.new) (uuid_text interval.now.uuid ++ 58 ∷ numbers_text interval.now) }
+    ensures { AddsText result (at (W.written out.old) text.old) (at (W.written out.new) text.new) (uuid_text interval.now.uuid ++ 58 ∷ numbers_text interval.now) }
 {
     put_all(out, text, &uuid_text(interval.uuid))?;
     put_all(out, text, b":")?;
@@ -109,7 +109,7 @@ fn print_numbers<W: Out>(
     text: &mut Gathered,
     interval: &Interval,
 ) -> Result<(), OutFailed>
-    ensures { Adds result (at (W.written out.old) text.old) (at (W.written out.new) text.new) (numbers_text interval.now) }
+    ensures { AddsText result (at (W.written out.old) text.old) (at (W.written out.new) text.new) (numbers_text interval.now) }
 {
     put_number(out, text, interval.first)?;
     if interval.first == interval.last {
@@ -125,7 +125,7 @@ fn print_changes<W: Out>(
     text: &mut Gathered,
     changes: &[Change<'_>],
 ) -> Result<(), OutFailed>
-    ensures { Adds result (at (W.written out.old) text.old) (at (W.written out.new) text.new) (changes_text changes.now) }
+    ensures { AddsText result (at (W.written out.old) text.old) (at (W.written out.new) text.new) (changes_text changes.now) }
 {
     for change in changes {
         print_change(out, text, change)?;
@@ -139,7 +139,7 @@ fn print_change<W: Out>(
     text: &mut Gathered,
     change: &Change<'_>,
 ) -> Result<(), OutFailed>
-    ensures { Adds result (at (W.written out.old) text.old) (at (W.written out.new) text.new) (change_text change.now) }
+    ensures { AddsText result (at (W.written out.old) text.old) (at (W.written out.new) text.new) (change_text change.now) }
 {
     print_row_if(out, text, "- ", change.table(), change.before_bytes())?;
     print_row_if(out, text, "+ ", change.table(), change.after_bytes())
@@ -154,7 +154,7 @@ fn print_row_if<W: Out>(
     table: &str,
     row: Option<RowBytes<'_>>,
 ) -> Result<(), OutFailed>
-    ensures { Adds result (at (W.written out.old) text.old) (at (W.written out.new) text.new) (row_lines mark.now table.now row.entry) }
+    ensures { AddsText result (at (W.written out.old) text.old) (at (W.written out.new) text.new) (shown_row_lines mark.now table.now row.entry) }
 {
     match row {
         None => Ok(()),
@@ -170,7 +170,7 @@ fn print_row<W: Out>(
     table: &str,
     columns: Columns<'_>,
 ) -> Result<(), OutFailed>
-    ensures { Adds result (at (W.written out.old) text.old) (at (W.written out.new) text.new) (row_line mark.now table.now columns.entry) }
+    ensures { AddsText result (at (W.written out.old) text.old) (at (W.written out.new) text.new) (shown_row_line mark.now table.now columns.entry) }
 {
     put_str(out, text, mark)?;
     put_str(out, text, table)?;

@@ -2,8 +2,8 @@
 
 ghost use Rattle.std.specs.Prelude.{◌≡◌, []};
 ghost use Rattle.std.specs.Option.{option_map_or};
-ghost use Rattle.vrepl_main.specs.AnswerText.{phase_text, progress_text, snapshot_text, tables_text, place_text, state_text};
-ghost use Rattle.vrepl_main.specs.Adding.{Adds, at};
+ghost use Rattle.vrepl_main.specs.AnswerText.{phase_text, progress_text, snapshot_text, tables_done_text, place_text, state_text};
+ghost use Rattle.vrepl_main.specs.Adding.{AddsText, at};
 
 use crate::output::{put_all, put_between, put_named, put_number, put_str};
 use crate::shown::print_position;
@@ -21,7 +21,7 @@ pub fn print_state<W: Out>(
     now: &Cursor,
     position: Option<&GtidSet>,
 ) -> Result<(), OutFailed>
-    ensures { Adds result (at (W.written out.old) text.old) (at (W.written out.new) text.new) (state_text stream now.now (option_map_or (λ set. set.now) position.entry [])) }
+    ensures { AddsText result (at (W.written out.old) text.old) (at (W.written out.new) text.new) (state_text stream now.now (option_map_or (λ set. set.now) position.entry [])) }
 {
     print_progress(out, text, stream, now)?;
     put_all(out, text, b" snapshot ")?;
@@ -51,7 +51,7 @@ fn print_progress<W: Out>(
     stream: u32,
     now: &Cursor,
 ) -> Result<(), OutFailed>
-    ensures { Adds result (at (W.written out.old) text.old) (at (W.written out.new) text.new) (progress_text stream now.now) }
+    ensures { AddsText result (at (W.written out.old) text.old) (at (W.written out.new) text.new) (progress_text stream now.now) }
 {
     put_between(out, text, "state ", u64::from(stream), " ")?;
     put_str(out, text, phase_word(now.phase()))?;
@@ -65,7 +65,7 @@ fn print_snapshot<W: Out>(
     text: &mut Gathered,
     snapshot: Option<u32>,
 ) -> Result<(), OutFailed>
-    ensures { Adds result (at (W.written out.old) text.old) (at (W.written out.new) text.new) (snapshot_text snapshot) }
+    ensures { AddsText result (at (W.written out.old) text.old) (at (W.written out.new) text.new) (snapshot_text snapshot) }
 {
     match snapshot {
         None => put_all(out, text, b"none"),
@@ -75,7 +75,7 @@ fn print_snapshot<W: Out>(
 
 /// Adds how many tables are copied.
 fn print_tables<W: Out>(out: &mut W, text: &mut Gathered, now: &Cursor) -> Result<(), OutFailed>
-    ensures { Adds result (at (W.written out.old) text.old) (at (W.written out.new) text.new) (tables_text now.now) }
+    ensures { AddsText result (at (W.written out.old) text.old) (at (W.written out.new) text.new) (tables_done_text now.now) }
 {
     put_named(out, text, " done ", u64::from(now.done()))?;
     put_named(out, text, " of ", u64::from(now.tables()))
@@ -87,7 +87,7 @@ fn print_place<W: Out>(
     text: &mut Gathered,
     position: Option<&GtidSet>,
 ) -> Result<(), OutFailed>
-    ensures { Adds result (at (W.written out.old) text.old) (at (W.written out.new) text.new) (place_text (option_map_or (λ set. set.now) position.entry [])) }
+    ensures { AddsText result (at (W.written out.old) text.old) (at (W.written out.new) text.new) (place_text (option_map_or (λ set. set.now) position.entry [])) }
 {
     match position {
         Some(position) if !position.intervals().is_empty() => print_position(out, text, position),

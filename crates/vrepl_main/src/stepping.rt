@@ -9,7 +9,7 @@ ghost use Rattle.vrepl_main.specs.Given.{given_value};
 ghost use Rattle.vrepl_main.specs.Reasons.{GivesOfInputs};
 ghost use Rattle.vrepl_main.specs.Replied.{AreFirstReplies, PrintsReplies, all_given};
 ghost use Rattle.vrepl_main.specs.ScriptPrinting.{PrintsRun};
-ghost use Rattle.vrepl_main.specs.Command.{PrintsRefusal, Refuses};
+ghost use Rattle.vrepl_main.specs.Command.{PrintsRefusal, RefusesCommand};
 
 use crate::given::{GivenFeed, given_feeds};
 use crate::lines::take_lines;
@@ -58,7 +58,7 @@ fn print_replies<W: Out>(
     out: &mut W,
 ) -> Result<(), Refusal<'static>>
     ensures printed { OnOk result (PrintsReplies (script_given hex workflow.now (map (λ feed. feed.items) feeds.now) script.now) (W.written out.old) (W.written out.new)) }
-    ensures refused { IfErr result (λ refusal. Refuses AreFirstReplies refusal (script_given hex workflow.now (map (λ feed. feed.items) feeds.now) script.now) (W.written out.old) (W.written out.new)) }
+    ensures refused { IfErr result (λ refusal. RefusesCommand AreFirstReplies refusal (script_given hex workflow.now (map (λ feed. feed.items) feeds.now) script.now) (W.written out.old) (W.written out.new)) }
 {
     let given = given_feeds(alloc, hex, feeds)?;
     print_script(alloc, workflow, &given, script, out)
@@ -73,7 +73,7 @@ fn print_script<W: Out>(
     out: &mut W,
 ) -> Result<(), Refusal<'static>>
     ensures printed { OnOk result (PrintsReplies (given_bytes workflow.now (map given_value given.now) script.now) (W.written out.old) (W.written out.new)) }
-    ensures refused { IfErr result (λ refusal. Refuses AreFirstReplies refusal (given_bytes workflow.now (map given_value given.now) script.now) (W.written out.old) (W.written out.new)) }
+    ensures refused { IfErr result (λ refusal. RefusesCommand AreFirstReplies refusal (given_bytes workflow.now (map given_value given.now) script.now) (W.written out.old) (W.written out.new)) }
 {
     let opened = open_workflow(alloc, workflow, given)?;
     let steps = steps_of(alloc, script)?;
@@ -138,7 +138,7 @@ fn print_run<'h, W: Out>(
     requires few { length plans.items ≤ 64 }
     requires first { slice_get (map arc_value plans.items) 0 ≡ Some plan.now }
     ensures printed { OnOk result (PrintsReplies (all_given (map arc_value plans.items) feeds.now steps.now) (W.written out.old) (W.written out.new)) }
-    ensures refused { IfErr result (λ refusal. Refuses AreFirstReplies refusal (all_given (map arc_value plans.items) feeds.now steps.now) (W.written out.old) (W.written out.new)) }
+    ensures refused { IfErr result (λ refusal. RefusesCommand AreFirstReplies refusal (all_given (map arc_value plans.items) feeds.now steps.now) (W.written out.old) (W.written out.new)) }
 {
     let mut board = fresh_board(alloc, plans, feeds)?;
     print_taken(alloc, &mut board, feeds, plan, steps, out)?;

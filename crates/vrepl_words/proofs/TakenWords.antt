@@ -5,7 +5,7 @@ use Rattle.clap.specs.Kinds.{HasKind, Kinds, or_else}
 use Rattle.clap.specs.declared.error.Error.{Error}
 use Rattle.clap.proofs.SimpleLemmas.{is_nil}
 use Rattle.clap.proofs.OnLiterals.{clap_on_literals}
-use Rattle.vrepl_words.specs.Words.{asked_by, asks_show, faults_of, program_app, spelled, words_of}
+use Rattle.vrepl_words.specs.Words.{asked_by, asks_show, faults_of, program_app, words_or_default, words_of}
 
 pub simple : is_simple program_app ≡ true
 unfolding program_app
@@ -35,7 +35,7 @@ first_has (kind ∷ kinds) next fault has = has
 
 -- ---- the words as `clap` is given them
 
-pub spelled_is : {X : Type 0} (text : X → Text) (words : List X) → (words ≡ [] → ⊥) → spelled (map text words) ≡ map text words
+pub spelled_is : {X : Type 0} (text : X → Text) (words : List X) → (words ≡ [] → ⊥) → words_or_default (map text words) ≡ map text words
 spelled_is text [] some = absurd (some refl)
 spelled_is text (word ∷ words) some = refl
 
@@ -46,8 +46,8 @@ some_word (word ∷ words) is none = cc
 pub no_word : {X : Type 0} (words : List X) → true ≡ (length words == 0) → words ≡ []
 no_word words is = is_nil words (sym is)
 
-pub faults_are : (app : App) (words : List Text) → app ≡ program_app → spelled words ≡ words → fault_of app words ≡ fault_of program_app (spelled words)
+pub faults_are : (app : App) (words : List Text) → app ≡ program_app → words_or_default words ≡ words → fault_of app words ≡ fault_of program_app (words_or_default words)
 faults_are app words is same = ap₂ fault_of is (sym same)
 
-pub words_are : (app : App) (words : List Text) → app ≡ program_app → spelled words ≡ words → asked_by (subcommand_of app words) ≡ words_of words
+pub words_are : (app : App) (words : List Text) → app ≡ program_app → words_or_default words ≡ words → asked_by (subcommand_of app words) ≡ words_of words
 words_are app words is same = ap asked_by (ap₂ subcommand_of is (sym same))

@@ -59,9 +59,9 @@ portion_given usual name rows = option_map_or portion_of (first_of name rows) (S
 abbrev pub within_texts : ℕ → Option ℕ
 within_texts number = if has_text number then Some number else None
 
-abbrev pub refusal_of : Text → Option ℕ
-refusal_of text = option_and_then within_texts (decimal_below (2 ^ 64) text)
+abbrev pub explained_number : Text → Option ℕ
+explained_number text = option_and_then within_texts (decimal_below (2 ^ 64) text)
 
 -- the number of a refusal that was given, if one was; none where what was given is none
 abbrev pub refusal_given : Text → List Row → Option (Option ℕ)
-refusal_given name rows = option_map_or (λ text. option_map Some (refusal_of text)) (first_of name rows) (Some None)
+refusal_given name rows = option_map_or (λ text. option_map Some (explained_number text)) (first_of name rows) (Some None)

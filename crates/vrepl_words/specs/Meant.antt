@@ -60,20 +60,20 @@ abbrev pub vdiff_value : Vdiff → VdiffValue
 vdiff_value files = record { workflow = files.workflow.now; source = files.source.now; target = files.target.now }
 
 -- what was read of the words, as a plain value
-abbrev pub value_of : Words → WordsValue
-value_of (words.Show show) = asks_show (show_value show)
-value_of (words.Step step) = asks_step (step_value step)
-value_of (words.Run run) = asks_run (run_value run)
-value_of (words.Save save) = asks_save (step_value save)
-value_of (words.Resume resume) = asks_resume (resume_value resume)
-value_of (words.Join join) = asks_join (join_value join)
-value_of (words.Follow follow) = asks_follow (follow_value follow)
-value_of (words.Vdiff files) = asks_vdiff (vdiff_value files)
-value_of (words.Check check) = asks_check (step_value check)
-value_of (words.Explain number) = asks_explain number
+abbrev pub value_of_words : Words → WordsValue
+value_of_words (words.Show show) = asks_show (show_value show)
+value_of_words (words.Step step) = asks_step (step_value step)
+value_of_words (words.Run run) = asks_run (run_value run)
+value_of_words (words.Save save) = asks_save (step_value save)
+value_of_words (words.Resume resume) = asks_resume (resume_value resume)
+value_of_words (words.Join join) = asks_join (join_value join)
+value_of_words (words.Follow follow) = asks_follow (follow_value follow)
+value_of_words (words.Vdiff files) = asks_vdiff (vdiff_value files)
+value_of_words (words.Check check) = asks_check (step_value check)
+value_of_words (words.Explain number) = asks_explain number
 
 -- what was met asks for this, if for anything, unless a fault kept it from being read
 abbrev pub Asks : {E : Type 0} → Option (Result Words E) → Option WordsValue → Type 0
 Asks None asked = asked ≡ None
-Asks (Some (Ok words)) asked = asked ≡ Some (value_of words)
+Asks (Some (Ok words)) asked = asked ≡ Some (value_of_words words)
 Asks (Some (Err fault)) asked = Unit {0}

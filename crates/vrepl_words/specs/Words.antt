@@ -253,13 +253,13 @@ unfoldable pub asked_by : Option (Text × List Row) → Option WordsValue
 asked_by met = option_and_then (λ m. option_and_then (λ sub. sub.meaning m.1) (find (λ sub. bytes_eq m.0 sub.name) subcommands)) met
 
 -- no words are `show --hex -`: hexadecimal text on standard input
-abbrev pub spelled : List Text → List Text
-spelled [] = codes "show" ∷ codes "--hex" ∷ codes "-" ∷ []
-spelled (word ∷ words) = word ∷ words
+abbrev pub words_or_default : List Text → List Text
+words_or_default [] = codes "show" ∷ codes "--hex" ∷ codes "-" ∷ []
+words_or_default (word ∷ words) = word ∷ words
 
 -- what the words ask for, where they are taken
 abbrev pub words_of : List Text → Option WordsValue
-words_of words = asked_by (subcommand_of program_app (spelled words))
+words_of words = asked_by (subcommand_of program_app (words_or_default words))
 
 -- words that `clap` takes and that ask for nothing have a number out of its range
 abbrev pub range_fault : Option WordsValue → Kinds
@@ -269,4 +269,4 @@ range_fault (Some asked) = []
 -- the faults that `clap` finds in the words, one of which the error has, or else that of a number; none where they
 -- are taken
 abbrev pub faults_of : List Text → Kinds
-faults_of words = or_else (fault_of program_app (spelled words)) (range_fault (words_of words))
+faults_of words = or_else (fault_of program_app (words_or_default words)) (range_fault (words_of words))

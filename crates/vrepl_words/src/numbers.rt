@@ -3,7 +3,7 @@
 ghost use Rattle.std.specs.Prelude.{◌≡◌, IfOk, Some, option_map};
 ghost use Rattle.clap.specs.Words.{found_of, kind_of, rows_of};
 ghost use Rattle.clap.specs.declared.error.kind.ErrorKind.TheVariants.{ValueValidation};
-ghost use Rattle.vrepl_words.specs.Arguments.{refusal_given, refusal_of};
+ghost use Rattle.vrepl_words.specs.Arguments.{refusal_given, explained_number};
 ghost use Rattle.vrepl_words.specs.Words.{bad_portion};
 
 use crate::commands::{explain_command, follow_command, run_command};
@@ -36,7 +36,7 @@ pub(crate) fn refusal_given(given: &ArgMatches<'_>, name: &str) -> Option<Option
 
 /// The number that digits spell, if a refusal has it.
 fn refusal_of(text: &str) -> Option<Option<u64>>
-    ensures { result ≡ option_map Some (refusal_of text.now) }
+    ensures { result ≡ option_map Some (explained_number text.now) }
 {
     let number = natural_of(text.as_bytes())?;
     if has_text(number) {

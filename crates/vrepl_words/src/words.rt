@@ -4,7 +4,7 @@ ghost use Rattle.std.specs.Prelude.{◌≡◌, ◌≢◌, ◌≤◌, [], IfOk, I
 ghost use Rattle.clap.specs.Words.{FailsBy, first_of, found_of, rows_of, subcommand_rows_of};
 ghost use Rattle.vrepl_words.specs.Arguments.{is_given, portion_given, portion_of, text_given, texts_given};
 ghost use Rattle.vrepl_words.specs.Built.{HasApp};
-ghost use Rattle.vrepl_words.specs.Meant.{Asks, follow_value, portions_value, run_value, show_value, step_value, value_of, vdiff_value};
+ghost use Rattle.vrepl_words.specs.Meant.{Asks, follow_value, portions_value, run_value, show_value, step_value, value_of_words, vdiff_value};
 ghost use Rattle.vrepl_words.specs.Words.{asked_by, asks_check, asks_join, asks_follow, asks_resume, asks_run, asks_save, asks_step, explain_subcommand, faults_of, follow_given, follow_subcommand, join_given, portions_given, program_app, resume_given, run_given, run_subcommand, show_given, step_given, vdiff_given, words_of};
 
 use crate::commands::program;
@@ -131,7 +131,7 @@ pub struct Show<'w> {
 /// An error is a fault of usage (its status is 2), a request for help (0), or `OutOfMemory`. Words
 /// without a fault are read, unless memory runs out.
 pub fn read<'w>(alloc: Global, words: &'w [String]) -> Result<Words<'w>, Error>
-    ensures read { IfOk result (λ read. words_of (map string_bytes words.now) ≡ Some (value_of read)) }
+    ensures read { IfOk result (λ read. words_of (map string_bytes words.now) ≡ Some (value_of_words read)) }
     ensures refused { FailsBy (faults_of (map string_bytes words.now)) result }
 {
     if words.is_empty() {
@@ -153,7 +153,7 @@ fn read_by<'w>(
 ) -> Result<Words<'w>, Error>
     requires command { HasApp program_app command }
     requires some { words.now ≢ [] }
-    ensures read { IfOk result (λ read. words_of (map string_bytes words.now) ≡ Some (value_of read)) }
+    ensures read { IfOk result (λ read. words_of (map string_bytes words.now) ≡ Some (value_of_words read)) }
     ensures refused { FailsBy (faults_of (map string_bytes words.now)) result }
 {
     let matches = command.try_get_matches_from_mut(words)?;
@@ -206,28 +206,28 @@ fn script_words<'w>(alloc: Global, given: &ArgMatches<'w>) -> Result<Step<'w>, A
 }
 
 fn step_words<'w>(alloc: Global, given: &ArgMatches<'w>) -> Result<Words<'w>, AllocError>
-    ensures { IfOk result (λ words. value_of words ≡ asks_step (step_given (rows_of (found_of given.now)))) }
+    ensures { IfOk result (λ words. value_of_words words ≡ asks_step (step_given (rows_of (found_of given.now)))) }
 {
     let words = script_words(alloc, given)?;
     Ok(Words::Step(words))
 }
 
 fn save_words<'w>(alloc: Global, given: &ArgMatches<'w>) -> Result<Words<'w>, AllocError>
-    ensures { IfOk result (λ words. value_of words ≡ asks_save (step_given (rows_of (found_of given.now)))) }
+    ensures { IfOk result (λ words. value_of_words words ≡ asks_save (step_given (rows_of (found_of given.now)))) }
 {
     let words = script_words(alloc, given)?;
     Ok(Words::Save(words))
 }
 
 fn check_words<'w>(alloc: Global, given: &ArgMatches<'w>) -> Result<Words<'w>, AllocError>
-    ensures { IfOk result (λ words. value_of words ≡ asks_check (step_given (rows_of (found_of given.now)))) }
+    ensures { IfOk result (λ words. value_of_words words ≡ asks_check (step_given (rows_of (found_of given.now)))) }
 {
     let words = script_words(alloc, given)?;
     Ok(Words::Check(words))
 }
 
 fn resume_words<'w>(alloc: Global, given: &ArgMatches<'w>) -> Result<Words<'w>, AllocError>
-    ensures { IfOk result (λ words. value_of words ≡ asks_resume (resume_given (rows_of (found_of given.now)))) }
+    ensures { IfOk result (λ words. value_of_words words ≡ asks_resume (resume_given (rows_of (found_of given.now)))) }
 {
     let step = script_words(alloc, given)?;
     Ok(Words::Resume(Resume {
@@ -237,7 +237,7 @@ fn resume_words<'w>(alloc: Global, given: &ArgMatches<'w>) -> Result<Words<'w>, 
 }
 
 fn join_words<'w>(alloc: Global, given: &ArgMatches<'w>) -> Result<Words<'w>, AllocError>
-    ensures { IfOk result (λ words. value_of words ≡ asks_join (join_given (rows_of (found_of given.now)))) }
+    ensures { IfOk result (λ words. value_of_words words ≡ asks_join (join_given (rows_of (found_of given.now)))) }
 {
     let feeds = texts(alloc, given, "feed")?;
     Ok(Words::Join(Join {
@@ -263,7 +263,7 @@ fn run_words_by<'w>(
     given: &ArgMatches<'w>,
     portions: Portions,
 ) -> Result<Words<'w>, AllocError>
-    ensures { IfOk result (λ words. value_of words ≡ asks_run (run_given (rows_of (found_of given.now)) (portions_value portions))) }
+    ensures { IfOk result (λ words. value_of_words words ≡ asks_run (run_given (rows_of (found_of given.now)) (portions_value portions))) }
 {
     let run = run_of(alloc, given, portions)?;
     Ok(Words::Run(run))
@@ -301,7 +301,7 @@ fn follow_words_by<'w>(
     given: &ArgMatches<'w>,
     portions: Portions,
 ) -> Result<Words<'w>, AllocError>
-    ensures { IfOk result (λ words. value_of words ≡ asks_follow (follow_given (rows_of (found_of given.now)) (portions_value portions))) }
+    ensures { IfOk result (λ words. value_of_words words ≡ asks_follow (follow_given (rows_of (found_of given.now)) (portions_value portions))) }
 {
     let follow = follow_of(alloc, given, portions)?;
     Ok(Words::Follow(follow))

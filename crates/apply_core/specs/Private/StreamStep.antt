@@ -11,7 +11,7 @@ use Rattle.board_laws.specs.Event.{Event}
 use Rattle.board_laws.specs.StateAfter.{answer_to, state_after}
 use Rattle.board_laws.specs.Touching.{touch_of}
 use Rattle.board_laws.specs.Allowed.{IsAllowed}
-use Rattle.board_laws.specs.Step.{IsRefusedFor, IsRefused}
+use Rattle.board_laws.specs.Step.{IsRefusedFor, IsRefusedOn}
 
 -- nothing in the stream's own state is against the step
 pub record MayMake (streams : List State) (s : ℕ) (event : Event) : Type 0 where
@@ -26,7 +26,7 @@ pub record ArePutsOf (streams : List State) (s : ℕ) (event : Event) (puts : Li
 
 -- the step is refused whatever rows there are
 abbrev pub IsRefusedAlone : List State → ℕ → Event → Refusal → Type 0
-IsRefusedAlone streams s event refusal = (rows : TargetRows) → IsRefused (record { streams = streams; rows = rows }) s event refusal
+IsRefusedAlone streams s event refusal = (rows : TargetRows) → IsRefusedOn (record { streams = streams; rows = rows }) s event refusal
 
 -- the stream's state is the one behind the step
 pub record MakesStep (old : List State) (s : ℕ) (event : Event) (answer : Answer) (new : List State) : Type 0 where

@@ -16,7 +16,7 @@ use Rattle.vevent.specs.CheckpointPart.{TablePartValue, StreamPartValue, mark_nu
 use Rattle.vevent.specs.declared.checkpoint_part.TableMark.{TableMark}
 use Rattle.checkpoint_laws.specs.declared.version.Version.{Version}
 use Rattle.checkpoint_laws.specs.Saved.{SavedStream}
-use Rattle.checkpoint_laws.specs.Said.{AreParts, SaysLast, SaysTable, IsKeyed, IsSaved, SaysStream}
+use Rattle.checkpoint_laws.specs.Said.{AreStreamParts, SaysLast, SaysTable, IsKeyed, IsSaved, SaysStream}
 use Rattle.checkpoint_laws.specs.Written.{fields_of_table, key_fields_of, number_of_mark}
 use Rattle.checkpoint_core.specs.declared.marks.MarkRead.{MarkRead}
 use Rattle.checkpoint_core.specs.declared.marks.MarkRead.TheVariants.{Waiting, Upto, Done}
@@ -40,7 +40,7 @@ pub record AreFramed (bytes : List ℕ) (count : ℕ) (parts : List StreamPartVa
 
 -- so many parts of streams stand in the bytes of a checkpoint of a version
 pub record AreSoManyParts (version : Version) (bytes : List ℕ) (count : ℕ) (parts : List StreamPartValue) : Type 0 where
-  pub are : AreParts version bytes parts
+  pub are : AreStreamParts version bytes parts
   pub long : length parts ≡ count
 
 -- ---- columns and position

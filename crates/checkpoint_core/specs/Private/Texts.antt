@@ -8,7 +8,7 @@ use Rattle.source_feed.specs.Image.{ImageRows}
 use Rattle.vevent.specs.CheckpointPart.{TablePartValue, mark_number}
 use Rattle.vevent.specs.ColumnView.{field_value}
 use Rattle.vevent.specs.EventValue.{FieldValue}
-use Rattle.checkpoint_laws.specs.Written.{field_of, fields_of_table, key_fields_of, name_of_table, number_of_mark, last_row_of, rows_of_table, numbers_below}
+use Rattle.checkpoint_laws.specs.Written.{field_of, fields_of_table, key_fields_of, table_name, number_of_mark, last_row_of, saved_rows_of_table, numbers_below}
 use Rattle.checkpoint_core.specs.declared.texts.TableText.{TableText}
 
 -- the columns at places, as an answer names them
@@ -23,10 +23,10 @@ part_of_table plan t mark rows position = record {
     fields = fields_of_table plan t;
     pkfields = key_fields_of plan t;
     gtid = position;
-    rows = map (λ row. row.1) (rows_of_table t rows);
+    rows = map (λ row. row.1) (saved_rows_of_table t rows);
     lastpk = last_row_of mark;
   };
-  name = name_of_table plan t;
+  name = table_name plan t;
 }
 
 -- the parts of the first n tables

@@ -9,20 +9,20 @@ use Rattle.gtid_set.specs.declared.fault.GtidFault.{GtidFault}
 use Rattle.gtid_set.specs.declared.fault.GtidFault.TheVariants.{Memory}
 
 -- the intervals in their order
-abbrev pub listed : Intervals → List Interval
-listed Empty = []
-listed (One only) = only ∷ []
-listed (Many many) = many.items
+abbrev pub intervals_listed : Intervals → List Interval
+intervals_listed Empty = []
+intervals_listed (One only) = only ∷ []
+intervals_listed (Many many) = many.items
 
 -- the intervals of a text so far are kept, or there are two or more and memory for them was wanting
 abbrev pub Keeps : Named → List Interval → Type 0
-Keeps (Kept intervals) front = listed intervals ≡ front
+Keeps (Kept intervals) front = intervals_listed intervals ≡ front
 Keeps Wanting front = 2 ≤ length front
 
 -- a step of reading leaves what the definition gives, or answers its fault
-abbrev pub Reads : {X : Type 0} → Result X GtidFault → Named → Result (List Interval) GtidFault → Type 0
-Reads (Ok x) named reading = (all : List Interval) × (reading ≡ Ok all) × Keeps named all
-Reads (Err fault) named reading = reading ≡ Err fault
+abbrev pub ReadsIntervals : {X : Type 0} → Result X GtidFault → Named → Result (List Interval) GtidFault → Type 0
+ReadsIntervals (Ok x) named reading = (all : List Interval) × (reading ≡ Ok all) × Keeps named all
+ReadsIntervals (Err fault) named reading = reading ≡ Err fault
 
 -- a text is refused for want of memory where it names two intervals or more, else by its own fault
 abbrev pub RefusedBy : GtidFault → Result (List Interval) GtidFault → Type 0

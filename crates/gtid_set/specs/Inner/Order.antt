@@ -13,9 +13,9 @@ abbrev pub AllStartOver : List Interval → List Interval → Type 0
 AllStartOver set list = AllByRecursion (λ next. AllStartBy next set) list
 
 -- each interval begins no later than every later one
-abbrev pub IsRising : List Interval → Type 0
-IsRising [] = Unit {0}
-IsRising (i ∷ more) = AllByRecursion (λ later. IsTrue (starts_by i later)) more × IsRising more
+abbrev pub IsRisingByStart : List Interval → Type 0
+IsRisingByStart [] = Unit {0}
+IsRisingByStart (i ∷ more) = AllByRecursion (λ later. IsTrue (starts_by i later)) more × IsRisingByStart more
 
 -- each interval of the set ends before this one
 abbrev pub AllEndBefore : Interval → List Interval → Type 0

@@ -10,12 +10,12 @@ use Rattle.board_laws.specs.declared.refusal.Refusal.TheVariants.{NoStream, Wron
 use Rattle.board_laws.specs.declared.step_refusal.StepRefusal.{StepRefusal}
 use Rattle.board_laws.specs.declared.step_refusal.StepRefusal.TheVariants.{Unprepared, Refused}
 use Rattle.board_laws.specs.Event.{Event}
-use Rattle.board_laws.specs.Runs.{event_of}
+use Rattle.board_laws.specs.Runs.{event_of_step}
 use Rattle.board_laws.specs.Schedule.{Reply, IsUnprepared}
 use Rattle.stream_worker.specs.declared.receipt.Receipt.{Receipt}
 use Rattle.stream_worker.specs.declared.seat.Seat.{Seat}
 use Rattle.stream_worker.specs.Knowing.{Knows}
-use Rattle.stream_worker.specs.RunRefused.{IsFirstUnsound}
+use Rattle.stream_worker.specs.RunRefused.{IsFirstUnsoundGroup}
 use Rattle.stream_worker.specs.SeatOf.{seat_state}
 use Rattle.stream_worker.specs.Seats.{IsSeatStep, IsReceiptOf}
 use Rattle.stream_worker.specs.Worked.{MeetsRow}
@@ -25,7 +25,7 @@ use Rattle.stream_worker.specs.Worked.{MeetsRow}
 -- a step of a seat's stream as an event, where an offer is of the feed's group of that number
 pub record IsSeatEvent (feed : FeedValue) (before : Knows) (s : ℕ) (step : Step) (result : Result Answer Refusal) (after : Knows) : Type 0 where
   pub event : Event
-  pub of_step : event_of feed step ≡ Some event
+  pub of_step : event_of_step feed step ≡ Some event
   pub stepped : IsSeatStep before s event result after
 
 -- what a step of a seat's stream replies, and what the seat then knows; a group that can't be prepared, also for want
@@ -62,5 +62,5 @@ EndsByItsBoard feed after s Memory = Unit {0}
 
 -- the same of any step, whose group may not be sound
 abbrev pub EndsSeatStep : FeedValue → Knows → ℕ → StepRefusal → Type 0
-EndsSeatStep feed after s (Unprepared fault) = IsFirstUnsound feed fault
+EndsSeatStep feed after s (Unprepared fault) = IsFirstUnsoundGroup feed fault
 EndsSeatStep feed after s (Refused refusal) = EndsByItsBoard feed after s refusal

@@ -4,7 +4,7 @@ use Rattle.std.specs.Option.{option_map, option_and_then}
 use Rattle.filter_rule.specs.PlanValue.{PlanValue}
 use Rattle.row_view.specs.WrittenRow.{IsWithinLimits}
 use Rattle.vdiff_core.specs.Dump.{row_line}
-use Rattle.vdiff_core.specs.DumpReading.{AddsRow, AreBytes, Behind, CanStand, Stand, at_front, joined}
+use Rattle.vdiff_core.specs.DumpReading.{AddsRow, AreByteValues, Behind, CanStand, Stand, at_front, joined_lines}
 use Rattle.vdiff_core.specs.RowsValue.{RowValue}
 
 -- the value of a digit in lower case
@@ -84,18 +84,18 @@ pub record TakesSoFar (count left : ℕ) (old new : RowValue) (text rest : List 
 
 -- the row's line, of so many columns, is in front
 abbrev pub IsRowLine : ℕ → List ℕ → RowValue × List ℕ → Type 0
-IsRowLine width text p = (text ≡ row_line p.0 ++ p.1) × (length p.0 ≡ width) × AreBytes p.0
+IsRowLine width text p = (text ≡ row_line p.0 ++ p.1) × (length p.0 ≡ width) × AreByteValues p.0
 
 -- a row's line was taken off the front
 pub record TakesRow (width : ℕ) (row : RowValue) (text rest : List ℕ) : Type 0 where
   pub parts : text ≡ row_line row ++ rest
   pub width_is : length row ≡ width
-  pub bytes : AreBytes row
+  pub bytes : AreByteValues row
   pub limits : IsWithinLimits row
 
 -- no line of a row is in front
 abbrev pub NoRowIn : ℕ → List ℕ → Type 0
-NoRowIn width text = (row : RowValue) (rest : List ℕ) → length row ≡ width → AreBytes row → IsWithinLimits row → text ≡ row_line row ++ rest → ⊥
+NoRowIn width text = (row : RowValue) (rest : List ℕ) → length row ≡ width → AreByteValues row → IsWithinLimits row → text ≡ row_line row ++ rest → ⊥
 
 -- a line was taken off the front
 pub record TakesLine (plan : PlanValue) (old new : Behind) (text rest : List ℕ) : Type 0 where
@@ -106,7 +106,7 @@ pub record TakesLine (plan : PlanValue) (old new : Behind) (text rest : List ℕ
 -- the lines up to the rest can stand one behind the other; line is the number of the next one
 pub record IsReadSoFar (plan : PlanValue) (text : List ℕ) (now : Behind) (rest : List ℕ) (line : ℕ) : Type 0 where
   pub lines : List (List ℕ)
-  pub parts : text ≡ joined lines ++ rest
+  pub parts : text ≡ joined_lines lines ++ rest
   pub stand : Stand plan at_front lines now
   pub number : line ≡ length lines + 1
   pub bound : line + length rest ≤ length text + 1

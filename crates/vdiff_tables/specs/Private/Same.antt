@@ -4,20 +4,20 @@ use Rattle.pk_copy.specs.KeyOrder.{key_cmp}
 use Rattle.pk_copy.specs.KeyValue.{KeyValue}
 use Rattle.target_tables.specs.Rising.{IsRising}
 use Rattle.vdiff_core.specs.Report.{IsFirstDifference}
-use Rattle.vdiff_core.specs.RowsValue.{RowsValue, row_at}
-use Rattle.vdiff_tables.specs.Differences.{behind}
+use Rattle.vdiff_core.specs.RowsValue.{RowsValue, row_with_key}
+use Rattle.vdiff_tables.specs.Differences.{rows_past}
 
 abbrev pub Differ : RowsValue → RowsValue → KeyValue → Type 0
-Differ left right key = row_at left key ≡ row_at right key → ⊥
+Differ left right key = row_with_key left key ≡ row_with_key right key → ⊥
 
 -- what is left of the two behind rows that both begin with: they differ where the two do
 pub record IsBehindSame (source target left right : RowsValue) : Type 0 where
   pub same : left ≡ right → source ≡ target
   pub first : (key : KeyValue) → IsFirstDifference left right key → IsFirstDifference source target key
-  pub source_row : (key : KeyValue) → Differ left right key → row_at source key ≡ row_at left key
-  pub target_row : (key : KeyValue) → Differ left right key → row_at target key ≡ row_at right key
-  pub source_behind : (key : KeyValue) → Differ left right key → behind key source ≡ behind key left
-  pub target_behind : (key : KeyValue) → Differ left right key → behind key target ≡ behind key right
+  pub source_row : (key : KeyValue) → Differ left right key → row_with_key source key ≡ row_with_key left key
+  pub target_row : (key : KeyValue) → Differ left right key → row_with_key target key ≡ row_with_key right key
+  pub source_behind : (key : KeyValue) → Differ left right key → rows_past key source ≡ rows_past key left
+  pub target_behind : (key : KeyValue) → Differ left right key → rows_past key target ≡ rows_past key right
   pub left_rises : IsRising key_cmp left
   pub right_rises : IsRising key_cmp right
 

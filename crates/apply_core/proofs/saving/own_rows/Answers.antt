@@ -1,7 +1,7 @@
 use Rattle.std.proofs.Common.{◌∙◌, ◌∷◌, [], ◌++◌, map, sym, ap}
 use Rattle.std.proofs.lemmas.List.{map-append}
 use Rattle.source_feed.specs.Image.{ImageRows, lent_row}
-use Rattle.apply_core.specs.Shown.{rows_of}
+use Rattle.apply_core.specs.Shown.{rows_of_stream}
 use Rattle.apply_core.proofs.ShowLaws.{Lent, walk_begins, walk_ends, walk_on, more-own, more-other}
 use Rattle.apply_core.proofs.saving.own_rows.Goals as goal
 
@@ -26,4 +26,4 @@ loop-key-preserved c =
     )
 
 pub returns : goal.returns
-returns c = c.loop-key.invariant.1 ∙ ap (rows_of c.args.s) (walk_ends _ _ c.loop-key.yielded c.loop-key.invariant.0 c.in-None.ensures.steps.0)
+returns c = c.loop-key.invariant.1 ∙ ap (rows_of_stream c.args.s) (walk_ends _ _ c.loop-key.yielded c.loop-key.invariant.0 c.in-None.ensures.steps.0)

@@ -4,7 +4,7 @@ use Rattle.pk_copy.specs.KeyValue.{KeyValue}
 use Rattle.target_tables.specs.Contents.{entry}
 use Rattle.target_tables.specs.Rising.{AreBelow}
 use Rattle.vdiff_core.specs.RowsValue.{RowsValue}
-use Rattle.apply_core.specs.Shown.{rows_of}
+use Rattle.apply_core.specs.Shown.{rows_of_stream}
 use Rattle.apply_core.proofs.ShowLaws.{Lent, walk_begins, walk_ends, walk_on, behind_seen, behind_own, more-own, more-other}
 use Rattle.apply_core.proofs.showing.copies_of_own.Goals as goal
 
@@ -16,7 +16,7 @@ push-requires c =
     let next : Lent = (c.in-Some.key, c.in-Some.owner, c.in-Some.row) in
     let behind = behind_seen _ _ c.next.new.self c.loop-key.yielded next c.loop-key.invariant.0 c.in-Some.ensures.steps in
     subst (λ (copies : RowsValue). AreBelow key_cmp c.in_ok-try_clone.field-0 copies) (sym c.loop-key.invariant.1)
-    (subst (λ (key : KeyValue). AreBelow key_cmp key (rows_of c.args.s (map entry c.loop-key.yielded))) (sym c.in_ok-try_clone.ensures)
+    (subst (λ (key : KeyValue). AreBelow key_cmp key (rows_of_stream c.args.s (map entry c.loop-key.yielded))) (sym c.in_ok-try_clone.ensures)
     (behind_own c.in-Some.key.now c.args.s (map entry c.loop-key.yielded) behind))
 
 pub loop-key-preserved-in_ok-push : goal.loop-key-preserved-in_ok-push
@@ -37,4 +37,4 @@ loop-key-preserved c =
     )
 
 pub returns : goal.returns
-returns c = c.loop-key.invariant.1 ∙ ap (rows_of c.args.s) (walk_ends _ _ c.loop-key.yielded c.loop-key.invariant.0 c.in-None.ensures.steps.0)
+returns c = c.loop-key.invariant.1 ∙ ap (rows_of_stream c.args.s) (walk_ends _ _ c.loop-key.yielded c.loop-key.invariant.0 c.in-None.ensures.steps.0)

@@ -4,7 +4,7 @@ use Rattle.std.proofs.lemmas.Result.{on_ok_weaker, on_err_weaker}
 use Rattle.gtid_set.specs.declared.interval.Interval.{Interval}
 use Rattle.gtid_set.specs.Position.{ends_before, IsInterval}
 use Rattle.gtid_set.specs.Inner.Order.{AllEndBefore}
-use Rattle.gtid_set.specs.Inner.Kept.{listed}
+use Rattle.gtid_set.specs.Inner.Kept.{intervals_listed}
 use Rattle.gtid_set.proofs.Added.{insert-joined, widened-joined, stands_apart}
 use Rattle.gtid_set.proofs.add.add_pair.Goals as goal
 use Rattle.gtid_set.proofs.add.add_pair.Goals.{then-place-intervals-via-then-place-intervals, then-place-intervals-via-else-place-intervals+then-ends_before}
@@ -14,7 +14,7 @@ nowhere = record { uuid = 0; first = 0; last = 0 }
 
 pub returns-then-place-intervals-clause-ok : goal.returns-then-place-intervals-clause-ok
 returns-then-place-intervals-clause-ok c =
-    let s = listed c.args.set.now in
+    let s = intervals_listed c.args.set.now in
     let place = c.place_of-place.result in
     let pair : Interval = record { uuid = c.args.uuid; first = c.args.number; last = c.args.number } in
     let one : IsInterval pair = record { uuid = c.requires.uuid; from_one = c.requires.from_one; holds_first = omega arith; to_last = c.requires.to_last } in
@@ -31,7 +31,7 @@ returns-then-place-intervals-clause-ok c =
 
 pub returns-then-place-intervals-clause-apart : goal.returns-then-place-intervals-clause-apart
 returns-then-place-intervals-clause-apart c =
-    let s = listed c.args.set.now in
+    let s = intervals_listed c.args.set.now in
     let place = c.place_of-place.result in
     let pair : Interval = record { uuid = c.args.uuid; first = c.args.number; last = c.args.number } in
     let bound : place ≤ length s = rw c.as_slice-intervals.ensures at c.place_of-place.ensures.bound in
@@ -47,7 +47,7 @@ returns-then-place-intervals-clause-apart c =
 
 pub returns-clause-ok : goal.returns-clause-ok
 returns-clause-ok c =
-    let s = listed c.args.set.now in
+    let s = intervals_listed c.args.set.now in
     let place = c.place_of-place.result in
     let pair : Interval = record { uuid = c.args.uuid; first = c.args.number; last = c.args.number } in
     let bound : place ≤ length s = rw c.as_slice-intervals.ensures at c.place_of-place.ensures.bound in

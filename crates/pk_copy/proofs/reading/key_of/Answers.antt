@@ -1,6 +1,6 @@
 use Rattle.std.proofs.Common.{◌≡◌, ◌≤◌, ◌∙◌, ℕ, List, sym, ap, subst, length, map}
 use Rattle.std.specs.Prelude.{◌↔◌, Ok, Err, Some, slice_get}
-use Rattle.filter_rule.specs.WellFormed.{ArePlaces}
+use Rattle.filter_rule.specs.WellFormed.{AreColumnPlaces}
 use Rattle.pk_copy.specs.KeyOf.{cell_at, key_cells, key_in, HoldsNull, LacksPart, IsKeyOf}
 use Rattle.pk_copy.specs.declared.fault.KeyFault.TheVariants.{NullKey, BadKey}
 use Rattle.pk_copy.proofs.RelationLaws.{key-stands, null_key-stands, bad_key-stands}
@@ -17,7 +17,7 @@ pub key_at-requires-clause-places : goal.key_at-requires-clause-places
 key_at-requires-clause-places c =
     let table = c.index-tables-from.result in
     let stands : slice_get c.args.plan.now.tables c.args.t ≡ Some table = table_at _ _ c.args.t _ table c.tables.ensures.tables c.from.ensures c.requires.table c.index-tables-from.is in
-    let places : ArePlaces table.columns table.key = key_places c.args.plan.now c.args.t table c.tables.ensures.well_formed stands in
+    let places : AreColumnPlaces table.columns table.key = key_places c.args.plan.now c.args.t table c.tables.ensures.well_formed stands in
     rw (c.columns.ensures, c.key.ensures) places
 
 pub key_at-requires-clause-width : goal.key_at-requires-clause-width

@@ -5,7 +5,7 @@ use Rattle.std.proofs.lemmas.Result.{err_from_is_err_and}
 use Rattle.proto_wire.specs.Reading.{Reading}
 use Rattle.proto_wire.specs.declared.fault.FrameFault.{FrameFault}
 use Rattle.vevent.specs.Response.{response_of}
-use Rattle.source_feed.specs.EventList.{end_of_message, events_in}
+use Rattle.source_feed.specs.EventList.{end_of_message, events_in_messages}
 use Rattle.source_feed.specs.Private.EventByEvent.{past_behind}
 use Rattle.source_feed.specs.Planned.{differs_from}
 use Rattle.source_feed.proofs.Messages.{refuses_along, took_message, refused_message, length-feed, events_behind, any_behind, seen_more}
@@ -13,10 +13,10 @@ use Rattle.source_feed.proofs.groups.put_feed.Goals as goal
 
 pub loop-reader-init : goal.loop-reader-init
 loop-reader-init c = record {
-  meaning = ([], ap (λ (r : Reading (List ℕ) FrameFault). past_behind c.args.source.now [] (events_in r.items r.fault).items (events_in r.items r.fault).fault) (sym c.new-frames.ensures.reading), c.new-reader.ensures.meaning c.args.source.now);
+  meaning = ([], ap (λ (r : Reading (List ℕ) FrameFault). past_behind c.args.source.now [] (events_in_messages r.items r.fault).items (events_in_messages r.items r.fault).fault) (sym c.new-frames.ensures.reading), c.new-reader.ensures.meaning c.args.source.now);
   room = omega (arith, length-feed c.args.feed.now c.new-frames.result c.new-frames.ensures.spelled, ap length c.new-reader.ensures.none);
   plan = refl;
-  seen = ap (λ (r : Reading (List ℕ) FrameFault). c.args.field_check.now.differs || list_any (differs_from (option_copied c.args.field_check.now.plan)) (events_in r.items r.fault).items) c.new-frames.ensures.reading;
+  seen = ap (λ (r : Reading (List ℕ) FrameFault). c.args.field_check.now.differs || list_any (differs_from (option_copied c.args.field_check.now.plan)) (events_in_messages r.items r.fault).items) c.new-frames.ensures.reading;
 }
 
 pub loop-reader-preserved : goal.loop-reader-preserved

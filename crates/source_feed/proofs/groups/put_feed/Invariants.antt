@@ -1,7 +1,7 @@
 use Rattle.std.proofs.Common.{◌≡◌, ◌+◌, ◌≤◌, ◌||◌, [], length}
 use Rattle.std.specs.Prelude.{option_copied}
 use Rattle.std.specs.List.{list_any}
-use Rattle.source_feed.specs.EventList.{events_of, events_in}
+use Rattle.source_feed.specs.EventList.{events_of_feed, events_in_messages}
 use Rattle.source_feed.specs.PastEvents.{PastEvents}
 use Rattle.source_feed.specs.Private.EventByEvent.{past_behind}
 use Rattle.source_feed.specs.Private.ReaderState.{IsBehind}
@@ -12,12 +12,12 @@ use Rattle.source_feed.proofs.groups.put_feed.Given as goal
 abbrev pub invariant-loop-reader : goal.invariant-loop-reader
 invariant-loop-reader l = record {
   meaning : (history : PastEvents)
-      × (past_behind l.source [] (events_of l.feed).items (events_of l.feed).fault ≡ past_behind l.source history (events_in l.frames.items l.frames.fault).items (events_in l.frames.items l.frames.fault).fault)
+      × (past_behind l.source [] (events_of_feed l.feed).items (events_of_feed l.feed).fault ≡ past_behind l.source history (events_in_messages l.frames.items l.frames.fault).items (events_in_messages l.frames.items l.frames.fault).fault)
       × IsBehind l.source history l.reader;
-  room : length l.reader.groups.items + length (events_in l.frames.items l.frames.fault).items ≤ length l.feed;
+  room : length l.reader.groups.items + length (events_in_messages l.frames.items l.frames.fault).items ≤ length l.feed;
   plan : option_copied l.field_check.plan ≡ option_copied l.fn.field_check.plan;
-  seen : (l.field_check.differs || list_any (differs_from (option_copied l.field_check.plan)) (events_in l.frames.items l.frames.fault).items)
-      ≡ (l.fn.field_check.differs || list_any (differs_from (option_copied l.fn.field_check.plan)) (events_of l.feed).items);
+  seen : (l.field_check.differs || list_any (differs_from (option_copied l.field_check.plan)) (events_in_messages l.frames.items l.frames.fault).items)
+      ≡ (l.fn.field_check.differs || list_any (differs_from (option_copied l.fn.field_check.plan)) (events_of_feed l.feed).items);
 }
 
 abbrev pub decreases-loop-reader : goal.decreases-loop-reader

@@ -1,7 +1,7 @@
 use Rattle.std.proofs.Common.{◌≡◌, ℕ, List, ◌<◌, ◌^◌, [], length, ◌∙◌, ap, arith, Result, Ok}
 use Rattle.std.proofs.lemmas.Result.{err_from_is_err_and}
 use Rattle.source_feed.specs.SourceValue.{SourceValue}
-use Rattle.source_feed.specs.EventList.{events_of}
+use Rattle.source_feed.specs.EventList.{events_of_feed}
 use Rattle.source_feed.specs.Groups.{groups}
 use Rattle.source_feed.specs.Private.EventByEvent.{past_behind, groups_at_end}
 use Rattle.source_feed.proofs.EventByEventLaws.{groups-run, gives_along}
@@ -20,12 +20,12 @@ returns-in_err-reader-clause-groups c =
     let short : length c.args.feed.now < 2 ^ 31 = omega arith in
     let p = err_from_is_err_and c.from_residual.result c.from_residual.ensures.1 in
     rw (p.1, p.2)
-    (refuses_along c.in_err-reader.field-0.0 (past_behind source [] (events_of c.args.feed.now).items (events_of c.args.feed.now).fault) (groups c.args.feed.now source)
+    (refuses_along c.in_err-reader.field-0.0 (past_behind source [] (events_of_feed c.args.feed.now).items (events_of_feed c.args.feed.now).fault) (groups c.args.feed.now source)
     (λ e. groups-run c.args.feed.now source short ∙ ap (groups_at_end source) e)
     c.in_err-reader.ensures.err)
 
 given : (feed : List ℕ) (source : SourceValue) (short : length feed < 2 ^ 31) {X : Type 0} (view : X → List GroupValue) (result : Result X FeedFault) (history : PastEvents)
-    → past_behind source [] (events_of feed).items (events_of feed).fault ≡ Ok history → GivesUnless meant_of view result (groups_at_end source (Ok history))
+    → past_behind source [] (events_of_feed feed).items (events_of_feed feed).fault ≡ Ok history → GivesUnless meant_of view result (groups_at_end source (Ok history))
     → GivesUnless meant_of view result (groups feed source)
 given feed source short view result history e g = gives_along view result (groups feed source) (groups_at_end source (Ok history)) (groups-run feed source short ∙ ap (groups_at_end source) e) g
 

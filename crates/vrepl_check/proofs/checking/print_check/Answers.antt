@@ -2,7 +2,7 @@ use Rattle.std.proofs.Common.{ap, refl, Ok}
 use Rattle.std.proofs.lemmas.Result.{err_from_is_err_and}
 use Rattle.vrepl_main.specs.Command.{IsGivenText}
 use Rattle.vrepl_main.proofs.CommandLaws.{PrintsWhole-text, refuses, refuses_unwritten}
-use Rattle.vrepl_check.specs.Checking.{text_of}
+use Rattle.vrepl_check.specs.Checking.{text_of_report}
 use Rattle.vrepl_check.proofs.CheckingLaws.{refuses_behind, warned_as}
 use Rattle.vrepl_check.proofs.checking.print_check.Goals as goal
 
@@ -14,10 +14,10 @@ returns-in_err-report-clause-refused g c =
 pub returns-in_err-put_all-clause-refused : goal.returns-in_err-put_all-clause-refused
 returns-in_err-put_all-clause-refused g c =
     let p = err_from_is_err_and c.from_residual-in_err-put_all.result c.from_residual-in_err-put_all.ensures.1 in
-    rw p.1 (refuses_unwritten IsGivenText p.0 _ _ _ _ _ (ap text_of c.in_ok-report.ensures) refl (rw (c.as_bytes.ensures.value, c.text.ensures) at c.in_err-put_all.ensures) p.2)
+    rw p.1 (refuses_unwritten IsGivenText p.0 _ _ _ _ _ (ap text_of_report c.in_ok-report.ensures) refl (rw (c.as_bytes.ensures.value, c.text.ensures) at c.in_err-put_all.ensures) p.2)
 
 pub returns-clause-warned : goal.returns-clause-warned
 returns-clause-warned g c = warned_as _ c.in_ok-report.report _ c.in_ok-report.ensures c.warned.ensures
 
 pub returns-clause-printed : goal.returns-clause-printed
-returns-clause-printed g c = PrintsWhole-text _ _ _ _ (ap text_of c.in_ok-report.ensures) (rw (c.as_bytes.ensures.value, c.text.ensures) at c.in_ok-put_all.ensures)
+returns-clause-printed g c = PrintsWhole-text _ _ _ _ (ap text_of_report c.in_ok-report.ensures) (rw (c.as_bytes.ensures.value, c.text.ensures) at c.in_ok-put_all.ensures)

@@ -1,7 +1,7 @@
 use Rattle.std.proofs.Common.{◌≡◌, ◌∙◌, ℕ, ap, sym, ◌<◌, [], ◌∷◌, ◌++◌, length, get_or, drop, false, rules}
 use Rattle.std.proofs.lemmas.List.{drop_all}
 use Rattle.std.specs.Prelude.{Option, Some, None}
-use Rattle.vrepl_main.specs.HexText.{digit_of, digits_of, is_skipped, paired}
+use Rattle.vrepl_main.specs.HexText.{hex_text_digit, digits_of, is_skipped_byte, paired}
 use Rattle.vrepl_main.proofs.HexLaws.{after, waiting, step-no_digit, step-high, step-low, end-whole, end-left_over}
 use Rattle.vrepl_main.proofs.hex_text.bytes_of_hex.Goals as goal
 use Rattle.vrepl_main.proofs.hex_text.bytes_of_hex.Goals.{in-None, in-Some-high+in_ok-push-in-Some-high}
@@ -18,8 +18,8 @@ loop-character-preserved c =
     let bytes = c.loop-character.bytes.items in
     let at = c.loop-character.character-index in
     let within : at < length text = c.loop-character-test.true in
-    let skipped : is_skipped (get_or text at 0) ≡ false = sym c.stands_for_nothing.ensures ∙ c.if-stands_for_nothing.false in
-    let digit : digit_of (get_or text at 0) ≡ Some c.in-Some.digit = sym c.digit_value.ensures.value ∙ c.in-Some.is in
+    let skipped : is_skipped_byte (get_or text at 0) ≡ false = sym c.stands_for_nothing.ensures ∙ c.if-stands_for_nothing.false in
+    let digit : hex_text_digit (get_or text at 0) ≡ Some c.in-Some.digit = sym c.digit_value.ensures.value ∙ c.in-Some.is in
     let known = λ (high : Option ℕ) (e : c.loop-character.high ≡ high). c.loop-character.invariant.1 ∙ ap (λ h. after bytes (paired (waiting h ++ digits_of (drop at text)))) e in
     elim c.match-high.branch [
       | in-None w ↦ rw (w.high-is, w.bytes-is) (

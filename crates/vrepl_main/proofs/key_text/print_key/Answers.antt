@@ -1,7 +1,7 @@
 use Rattle.std.proofs.Common.{◌∙◌, ap, sym, subst}
 use Rattle.std.proofs.lemmas.Result.{err_from_is_err_and}
 use Rattle.pk_copy.specs.KeyValue.{KeyValue}
-use Rattle.vrepl_main.specs.Adding.{IsBegun, Adds}
+use Rattle.vrepl_main.specs.Adding.{IsBegun, AddsText}
 use Rattle.vrepl_main.specs.RefusedText.{parts_text}
 use Rattle.vrepl_main.proofs.AddLaws.{first_stops, then_prints}
 use Rattle.vrepl_main.proofs.KeyTextLaws.{parts_split}
@@ -16,4 +16,4 @@ returns-in_err-print_part-in-len1-up g c =
 pub returns-in_ok-print_part-in-len1-up : goal.returns-in_ok-print_part-in-len1-up
 returns-in_ok-print_part-in-len1-up g c =
     let is = ap (λ (key : KeyValue). parts_text key.parts) (sym c.view-view.ensures) ∙ ap parts_text (sym c.parts.ensures.parts) ∙ parts_split c.parts.result.now _ c.in-len1-up.len_at_least in
-    subst (Adds c.print_more_parts.result _ _) (sym is) (then_prints c.print_more_parts.result _ _ _ _ _ c.in_ok-print_part-in-len1-up.ensures c.print_more_parts.ensures)
+    subst (AddsText c.print_more_parts.result _ _) (sym is) (then_prints c.print_more_parts.result _ _ _ _ _ c.in_ok-print_part-in-len1-up.ensures c.print_more_parts.ensures)

@@ -1,7 +1,7 @@
 use Rattle.std.proofs.Common.{subst, Result}
 use Rattle.std.proofs.lemmas.Result.{err_from_is_err_and}
 use Rattle.vrepl_main.specs.Reasons.{Reason, RefusesInputs}
-use Rattle.vrepl_main.specs.SavedBoard.{IsSaved, IsSavedBehind}
+use Rattle.vrepl_main.specs.SavedBoard.{IsSavedBoard, IsSavedBehind}
 use Rattle.vrepl_main.specs.ScriptRun.{ScriptGiven}
 use Rattle.vrepl_main.proofs.CommandLaws.{refuses}
 use Rattle.vrepl_main.proofs.SaveLaws.{unwritten}
@@ -18,11 +18,11 @@ pub returns-in_err-print_bytes-clause-refused : goal.returns-in_err-print_bytes-
 returns-in_err-print_bytes-clause-refused g c =
     let p = err_from_is_err_and c.from_residual-in_err-print_bytes.result c.from_residual-in_err-print_bytes.ensures.1 in
     let e = given_as c.args.feeds.now (λ feed. feed.items) c.args.hex c.args.workflow.now c.args.script.now _ c.in_ok-given.ensures in
-    let saved = subst (λ (r : Result ScriptGiven Reason). IsSaved r c.in_ok-bytes.bytes.items) e (rw c.deref.ensures.value at c.in_ok-bytes.ensures.saved) in
+    let saved = subst (λ (r : Result ScriptGiven Reason). IsSavedBoard r c.in_ok-bytes.bytes.items) e (rw c.deref.ensures.value at c.in_ok-bytes.ensures.saved) in
     rw p.1 (unwritten p.0 _ c.in_ok-bytes.bytes.items _ _ saved (rw c.deref-2.ensures.value at c.in_err-print_bytes.ensures) p.2)
 
 pub returns-clause-printed : goal.returns-clause-printed
 returns-clause-printed g c =
     let e = given_as c.args.feeds.now (λ feed. feed.items) c.args.hex c.args.workflow.now c.args.script.now _ c.in_ok-given.ensures in
-    let saved = subst (λ (r : Result ScriptGiven Reason). IsSaved r c.in_ok-bytes.bytes.items) e (rw c.deref.ensures.value at c.in_ok-bytes.ensures.saved) in
+    let saved = subst (λ (r : Result ScriptGiven Reason). IsSavedBoard r c.in_ok-bytes.bytes.items) e (rw c.deref.ensures.value at c.in_ok-bytes.ensures.saved) in
     (c.in_ok-bytes.bytes.items, saved, rw c.deref-2.ensures.value at c.in_ok-print_bytes.ensures)

@@ -1,7 +1,7 @@
 use Rattle.std.proofs.Common.{◌+◌, ℕ, List, get_or, drop, sym, ap, ◌∙◌, arith}
 use Rattle.std.specs.Option.{option_and_then}
 use Rattle.std.proofs.lemmas.List.{drop_more}
-use Rattle.vrepl_main.specs.ScriptLines.{number_from, small}
+use Rattle.vrepl_main.specs.ScriptLines.{number_continued, small}
 use Rattle.vrepl_main.proofs.LineLaws.{number_from-large}
 use Rattle.vrepl_main.proofs.script.number_of.Goals as goal
 
@@ -11,5 +11,5 @@ returns-then-value-from c =
     let i = c.loop-digit.digit-index in
     let value = c.loop-digit.value in
     sym (sym c.loop-digit.invariant.rest
-    ∙ ap (λ (digits : List ℕ). option_and_then small (number_from value digits)) (drop_more word i 0 (omega arith))
+    ∙ ap (λ (digits : List ℕ). option_and_then small (number_continued value digits)) (drop_more word i 0 (omega arith))
     ∙ number_from-large value (get_or word i 0) (drop (i + 1) word) (omega arith))

@@ -1,7 +1,7 @@
 use Rattle.std.proofs.Common.{arith, [], ◌∷◌, ◌++◌, sym, subst}
 use Rattle.std.specs.Prelude.{decimal}
 use Rattle.std.proofs.lemmas.Result.{err_from_is_err_and}
-use Rattle.vrepl_main.specs.Adding.{Adds, IsBegun}
+use Rattle.vrepl_main.specs.Adding.{AddsText, IsBegun}
 use Rattle.vrepl_main.proofs.AddLaws.{first_stops, then_stops, then_prints, then_put}
 use Rattle.vrepl_main.proofs.NumberLaws.{behind_first, span-apart, span-parts}
 use Rattle.vrepl_main.proofs.shown.print_numbers.Goals as goal
@@ -22,5 +22,5 @@ returns-in_err-put_all g c =
 pub returns : goal.returns
 returns g c =
     let i = c.args.interval.now in
-    subst (Adds c.put_number-2.result _ _) (sym (span-apart i.first i.last (λ e. omega (arith, e, c.if-interval.false))))
+    subst (AddsText c.put_number-2.result _ _) (sym (span-apart i.first i.last (λ e. omega (arith, e, c.if-interval.false))))
     (then_prints c.put_number-2.result _ _ _ (decimal i.first ++ 45 ∷ []) (decimal i.last) (then_put _ _ _ (decimal i.first) (45 ∷ []) c.in_ok-put_number.ensures c.in_ok-put_all.ensures) c.put_number-2.ensures)

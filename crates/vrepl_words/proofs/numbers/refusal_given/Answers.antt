@@ -2,15 +2,15 @@ use Rattle.std.proofs.Common.{◌∙◌, ap, sym, None, Some, option_map}
 use Rattle.std.specs.Option.{option_map_or}
 use Rattle.clap.specs.Words.{found_of}
 use Rattle.clap.proofs.WalkLemmas.{first_value-rows}
-use Rattle.vrepl_words.specs.Arguments.{refusal_of}
+use Rattle.vrepl_words.specs.Arguments.{explained_number}
 use Rattle.vrepl_words.proofs.numbers.refusal_given.Goals as goal
 
 pub returns-in-None : goal.returns-in-None
 returns-in-None c =
     let given = sym (ap (option_map (λ s. s.now)) c.in-None.is) ∙ c.get_str.ensures ∙ first_value-rows (found_of c.args.given.now) c.args.name.now in
-    ap (λ text. option_map_or (λ t. option_map Some (refusal_of t)) text (Some None)) given
+    ap (λ text. option_map_or (λ t. option_map Some (explained_number t)) text (Some None)) given
 
 pub returns-in-Some : goal.returns-in-Some
 returns-in-Some c =
     let given = sym (ap (option_map (λ s. s.now)) c.in-Some.is) ∙ c.get_str.ensures ∙ first_value-rows (found_of c.args.given.now) c.args.name.now in
-    c.refusal_of.ensures ∙ ap (λ text. option_map_or (λ t. option_map Some (refusal_of t)) text (Some None)) given
+    c.refusal_of.ensures ∙ ap (λ text. option_map_or (λ t. option_map Some (explained_number t)) text (Some None)) given

@@ -1,7 +1,7 @@
 use Rattle.std.proofs.Common.{◌≡◌, ◌∙◌, ap, refl, subst, sym, List, Option, Some, None, Result, Ok, Err, codes}
 use Rattle.std.specs.Prelude.{IfOk}
 use Rattle.clap.specs.Words.{Row, Text, found_of, rows_of, subcommand_rows_of}
-use Rattle.vrepl_words.specs.Meant.{Asks, value_of}
+use Rattle.vrepl_words.specs.Meant.{Asks, value_of_words}
 use Rattle.vrepl_words.specs.declared.words.Words.{Words}
 use Rattle.vrepl_words.specs.Words.{WordsValue, asked_by, explain_subcommand, asks_check, asks_join, asks_resume, asks_save, asks_show, asks_step, asks_vdiff, follow_subcommand, join_given, resume_given, run_subcommand, show_given, step_given, vdiff_given}
 use Rattle.vrepl_words.proofs.MetSubcommand.{met, none_met, other_text}
@@ -58,7 +58,7 @@ asked_other name given no_show no_step no_run no_vdiff no_save no_resume no_join
     rw (other_text name (codes "show") no_show, other_text name (codes "step") no_step, other_text name (codes "run") no_run, other_text name (codes "vdiff") no_vdiff, other_text name (codes "save") no_save, other_text name (codes "resume") no_resume, other_text name (codes "join") no_join, other_text name (codes "follow") no_follow, other_text name (codes "check") no_check, other_text name (codes "explain") no_explain) refl
 
 -- words that were read, or a fault
-asks_read : {E : Type 0} (result : Result Words E) (value : WordsValue) (asked : Option WordsValue) → asked ≡ Some value → IfOk result (λ words. value_of words ≡ value) → Asks (Some result) asked
+asks_read : {E : Type 0} (result : Result Words E) (value : WordsValue) (asked : Option WordsValue) → asked ≡ Some value → IfOk result (λ words. value_of_words words ≡ value) → Asks (Some result) asked
 asks_read (Ok words) value asked is read = is ∙ ap Some (sym read)
 asks_read (Err fault) value asked is read = tt
 

@@ -1,7 +1,7 @@
 use Rattle.std.proofs.Common.{sym, ◌∙◌}
 use Rattle.std.proofs.lemmas.Result.{err_from_is_err_and}
 use Rattle.gtid_set.specs.declared.fault.GtidFault.TheVariants.{Memory}
-use Rattle.gtid_set.specs.Inner.Kept.{listed}
+use Rattle.gtid_set.specs.Inner.Kept.{intervals_listed}
 use Rattle.gtid_set.proofs.Parsed.{IsParsed, is_parsed, refused, each-within, same_fault, fault_same, no_fault}
 use Rattle.gtid_set.proofs.set.GtidSet.parse.Goals as goal
 
@@ -25,10 +25,10 @@ returns-in_err-named-clause-memory c =
     rw (p.1, p.2) (λ q. r.memory (same_fault e Memory q))
 
 pub merged-requires : goal.merged-requires
-merged-requires c = each-within c.as_bytes.result.now (listed c.in_ok-named.named) c.in_ok-named.ensures.named
+merged-requires c = each-within c.as_bytes.result.now (intervals_listed c.in_ok-named.named) c.in_ok-named.ensures.named
 
-parsed : (c : goal.After-merged) → IsParsed c.args.text.now (listed c.merged.result)
-parsed c = is_parsed c.args.text.now c.as_bytes.result.now (listed c.in_ok-named.named) (listed c.merged.result) c.as_bytes.ensures.value c.in_ok-named.ensures.named c.merged.ensures
+parsed : (c : goal.After-merged) → IsParsed c.args.text.now (intervals_listed c.merged.result)
+parsed c = is_parsed c.args.text.now c.as_bytes.result.now (intervals_listed c.in_ok-named.named) (intervals_listed c.merged.result) c.as_bytes.ensures.value c.in_ok-named.ensures.named c.merged.ensures
 
 pub invariant_of-result : goal.invariant_of-result
 invariant_of-result c = (parsed c).canonical
@@ -37,7 +37,7 @@ pub returns-clause-exact : goal.returns-clause-exact
 returns-clause-exact c = (parsed c).exact
 
 pub returns-clause-every_fault : goal.returns-clause-every_fault
-returns-clause-every_fault c = λ f q. absurd (no_fault (listed c.merged.result) f (sym (parsed c).exact ∙ q))
+returns-clause-every_fault c = λ f q. absurd (no_fault (intervals_listed c.merged.result) f (sym (parsed c).exact ∙ q))
 
 pub returns-clause-pairs : goal.returns-clause-pairs
 returns-clause-pairs c = (parsed c).pairs

@@ -1,8 +1,8 @@
 use Rattle.std.proofs.Common.{◌≡◌, ℕ, List, [], length, None, Ok, sym, ap, subst, refl, arith}
 use Rattle.proto_wire.specs.Frame.{frames_of}
-use Rattle.source_feed.specs.Pieces.{IsFront, messages_in}
+use Rattle.source_feed.specs.Pieces.{IsWholeFront, messages_in}
 use Rattle.source_feed.proofs.PiecesLaws.{empty_front, empty_messages}
 use Rattle.source_feed.proofs.pieces.FeedBuilder.new.Goals as goal
 
 pub invariant_of-result : goal.invariant_of-result
-invariant_of-result c = subst (λ (bytes : List ℕ). IsFront bytes 0 × (messages_in bytes ≡ Ok 0)) (sym c.new.ensures.items) (empty_front, empty_messages)
+invariant_of-result c = subst (λ (bytes : List ℕ). IsWholeFront bytes 0 × (messages_in bytes ≡ Ok 0)) (sym c.new.ensures.items) (empty_front, empty_messages)

@@ -1,7 +1,7 @@
 use Rattle.std.proofs.Common.{rules, ◌≡◌, ℕ, ◌+◌, ◌-◌, ◌^◌, ◌<◌, ◌≤◌, List, ◌++◌, length, length-append, take, drop, Some, None, Ok, Err, refl, sym, ap, subst, ◌∙◌, arith}
 use Rattle.proto_wire.specs.Frame.{frames_of}
 use Rattle.source_feed.proofs.FrameLaws.{few_messages}
-use Rattle.source_feed.specs.Pieces.{IsFront, broken_by, messages_in}
+use Rattle.source_feed.specs.Pieces.{IsWholeFront, broken_by, messages_in}
 use Rattle.source_feed.specs.FaultNumber.{meant_of}
 use Rattle.outcome.specs.Outcome.{Refuses}
 use Rattle.source_feed.proofs.PiecesLaws.{more_front, more_broken, more_messages, messages_are, messages_broken, messages_said, refuses_broken}
@@ -38,7 +38,7 @@ invariant_of-self-in-Ok c =
     let sound : broken_by (frames_of (bytes ++ c.args.piece.now)).fault ≡ None = more_broken bytes c.args.piece.now rest c.self.inside.end c.self.invariant.0 are ∙ c.in-Ok.ensures.sound in
     let count_is : c.self.inside.messages + c.in-Ok.front.messages ≡ length (frames_of (bytes ++ c.args.piece.now)).items = omega (arith, sum, said.2, c.in-Ok.ensures.messages) in
     let now : bytes ++ c.args.piece.now ≡ c.extend_from_slice.new.self.items = sym is ∙ c.deref.ensures.value in
-    subst (λ (b : List ℕ). IsFront b (c.self.inside.end + c.in-Ok.front.end) × (messages_in b ≡ Ok (c.self.inside.messages + c.in-Ok.front.messages))) now (
+    subst (λ (b : List ℕ). IsWholeFront b (c.self.inside.end + c.in-Ok.front.end) × (messages_in b ≡ Ok (c.self.inside.messages + c.in-Ok.front.messages))) now (
       more_front bytes c.args.piece.now rest c.self.inside.end c.self.invariant.0 are c.in-Ok.front.end c.in-Ok.ensures.front,
       messages_are (bytes ++ c.args.piece.now) (c.self.inside.messages + c.in-Ok.front.messages) few sound count_is,
     )

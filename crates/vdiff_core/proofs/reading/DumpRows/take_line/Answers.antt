@@ -1,7 +1,7 @@
 use Rattle.std.proofs.Common.{◌≡◌, ◌+◌, ◌<◌, ◌++◌, ◌∙◌, List, ℕ, length, ap, sym, subst, Err}
 use Rattle.std.proofs.lemmas.Result.{err_from_is_err_and}
 use Rattle.vdiff_core.specs.Dump.{table_line}
-use Rattle.vdiff_core.specs.DumpReading.{Behind, name_of}
+use Rattle.vdiff_core.specs.DumpReading.{Behind, table_name}
 use Rattle.vdiff_core.specs.Private.Reading.{TakesLine}
 use Rattle.vdiff_core.proofs.ReadingLaws.{err_is}
 use Rattle.vdiff_core.proofs.StandLaws.{table_begins, none_stands}
@@ -16,4 +16,4 @@ returns-in-Some-clause-taken c =
 pub returns-in_err-rest-clause-bad : goal.returns-in_err-rest-clause-bad
 returns-in_err-rest-clause-bad c =
     let p = err_from_is_err_and c.from_residual.result c.from_residual.ensures.1 in
-    λ e. none_stands _ _ _ (subst (λ (s : Behind). s.begun < length c.args.plan.now.tables → (rest : List ℕ) → c.args.text.now ≡ table_line (name_of c.args.plan.now s.begun) ++ rest → ⊥) c.self.view_is c.in_default.ensures.line) (c.in_err-rest.ensures.bad (ap Err (sym p.2 ∙ err_is _ _ _ p.1 e)))
+    λ e. none_stands _ _ _ (subst (λ (s : Behind). s.begun < length c.args.plan.now.tables → (rest : List ℕ) → c.args.text.now ≡ table_line (table_name c.args.plan.now s.begun) ++ rest → ⊥) c.self.view_is c.in_default.ensures.line) (c.in_err-rest.ensures.bad (ap Err (sym p.2 ∙ err_is _ _ _ p.1 e)))

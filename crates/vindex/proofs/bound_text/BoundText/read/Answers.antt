@@ -2,7 +2,7 @@ use Rattle.std.proofs.Common.{sym, ap, ◌∙◌, arith}
 use Rattle.std.proofs.lemmas.Grind.{common_steps}
 use Rattle.std.proofs.lemmas.List.{length-take-le}
 use Rattle.std.specs.Option.{option_map}
-use Rattle.vindex.specs.Bounds.{trimmed}
+use Rattle.vindex.specs.Bounds.{without_end_zeros}
 use Rattle.vindex.specs.RangeText.{bytes_of_hex}
 use Rattle.vindex.proofs.BoundLemmas.{bytes_of_hex-odd, bytes_of_hex-stray, decode_of-take, bound_is}
 use Rattle.vindex.proofs.bound_text.BoundText.read.Goals as goal
@@ -27,4 +27,4 @@ invariant_of-result c = decode_of-take c.len_without_zeros.result c.as_bytes-dig
 pub returns : goal.returns
 returns c =
     bound_is c.len_without_zeros.result c.as_bytes-digits.result.now c.if-digits-ne0.false (sym c.are_digits.ensures ∙ c.if-not-are_digits.false) c.len_without_zeros.ensures.len
-    ∙ ap (λ text. option_map trimmed (bytes_of_hex text)) c.as_bytes-digits.ensures.value
+    ∙ ap (λ text. option_map without_end_zeros (bytes_of_hex text)) c.as_bytes-digits.ensures.value
