@@ -8,7 +8,8 @@ ghost use Rattle.source_feed.specs.Image.{lent_row};
 ghost use Rattle.vevent.specs.CheckpointPart.{mark_number};
 ghost use Rattle.vevent.specs.ColumnView.{field_value};
 ghost use Rattle.vevent.specs.ContentView.{table_content};
-ghost use Rattle.checkpoint_laws.specs.Written.{field_of, table_name, number_of_mark, last_row_of, saved_rows_of_table};
+ghost use Rattle.filter_rule.specs.PlanValue.{table_name};
+ghost use Rattle.checkpoint_laws.specs.Written.{field_of, number_of_mark, last_row_of, saved_rows_of_table};
 ghost use Rattle.checkpoint_core.specs.Private.Texts.{fields_at, part_of_table, parts_of_tables, text_value};
 
 use filter_rule::{ColumnDef, Plan};

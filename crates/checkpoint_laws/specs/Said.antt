@@ -2,7 +2,7 @@
 -- profile).
 use Rattle.std.specs.Prelude.{◌≡◌, ℕ, ◌<◌, ◌≤◌, List, ◌++◌, map, length, Option, None, Some, Ok, IfSome, slice_get}
 use Rattle.std.specs.List.{AllByRecursion}
-use Rattle.filter_rule.specs.PlanValue.{PlanValue, columns_of, key_columns_of}
+use Rattle.filter_rule.specs.PlanValue.{PlanValue, columns_of, key_columns_of, table_name}
 use Rattle.gtid_set.specs.Text.{position_of_text}
 use Rattle.pk_copy.specs.KeyOf.{key_of}
 use Rattle.pk_copy.specs.KeyOrder.{key_cmp}
@@ -17,7 +17,7 @@ use Rattle.vevent.specs.CheckpointPart.{TablePartValue, StreamPartValue, stream_
 use Rattle.checkpoint_laws.specs.declared.version.Version.{Version}
 use Rattle.checkpoint_laws.specs.declared.version.Version.TheVariants.{One, Two}
 use Rattle.checkpoint_laws.specs.Saved.{SavedStream}
-use Rattle.checkpoint_laws.specs.Written.{fields_of_table, key_fields_of, table_name, number_of_mark, saved_rows_of_table, opening}
+use Rattle.checkpoint_laws.specs.Written.{fields_of_table, key_fields_of, number_of_mark, saved_rows_of_table, opening}
 
 -- ---- the parts
 

@@ -2,9 +2,9 @@
 -- `save` writes is version 2; version 1 is the same without the tables' names.
 use Rattle.std.specs.Prelude.{ℕ, zero, suc, ◌==◌, List, [], ◌∷◌, ◌++◌, map, length, Option, Some, None, codes, slice_get}
 use Rattle.std.specs.List.{filter, filter_map, flat_map}
-use Rattle.std.specs.Option.{option_map, option_map_or}
+use Rattle.std.specs.Option.{option_map}
 use Rattle.filter_rule.specs.PlanTable.{ColumnValue}
-use Rattle.filter_rule.specs.PlanValue.{PlanValue, columns_of, key_columns_of}
+use Rattle.filter_rule.specs.PlanValue.{PlanValue, columns_of, key_columns_of, table_name}
 use Rattle.gtid_set.specs.Printed.{printed_position}
 use Rattle.pk_copy.specs.Lastpk.{lastpk_of}
 use Rattle.pk_copy.specs.Marks.{MarkValue, waiting, up_to, copied, mark_of}
@@ -34,10 +34,6 @@ fields_of_table plan t = map field_of (columns_of plan t)
 -- the columns of its key, in key order
 abbrev pub key_fields_of : PlanValue → ℕ → List FieldValue
 key_fields_of plan t = filter_map (λ place. option_map field_of (slice_get (columns_of plan t) place)) (key_columns_of plan t)
-
--- the name of a table
-abbrev pub table_name : PlanValue → ℕ → List ℕ
-table_name plan t = option_map_or (λ table. table.name) (slice_get plan.tables t) []
 
 -- the name as a part has it
 abbrev pub name_in : Version → PlanValue → ℕ → List ℕ

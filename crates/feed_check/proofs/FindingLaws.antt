@@ -3,10 +3,11 @@ use Rattle.std.proofs.Common.{◌≡◌, ◌↔◌, List, [], ◌∷◌, ◌++�
 use Rattle.std.specs.Prelude.{IfSome}
 use Rattle.std.specs.Option.{option_and_then, option_to_list}
 use Rattle.pk_copy.specs.KeyValue.{KeyValue}
+use Rattle.vdiff_core.specs.Report.{row_eq}
 use Rattle.source_feed.specs.History.{RowValue}
 use Rattle.feed_check.specs.KeyedChanges.{KeyedRowValue, KeyedChangeValue}
 use Rattle.feed_check.specs.Replay.{row_left}
-use Rattle.feed_check.specs.Findings.{FindingValue, row_eq, has_key, why_before, why_after, told, found_before, found_after, findings_in, IsTrueOf, AreTrue}
+use Rattle.feed_check.specs.Findings.{FindingValue, has_key, why_before, why_after, told, found_before, found_after, findings_in, IsTrueOf, AreTrue}
 use Rattle.feed_check.specs.declared.finding.Doubt.{Doubt}
 use Rattle.feed_check.specs.declared.finding.Doubt.TheVariants.{NoRow, OtherRow, RowThere}
 use Rattle.feed_check.proofs.RowLaws.{row_eq-Decides}

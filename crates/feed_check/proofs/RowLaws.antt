@@ -10,10 +10,10 @@ use Rattle.pk_copy.specs.KeyOrder.{key_cmp}
 use Rattle.pk_copy.specs.KeyValue.{KeyValue}
 use Rattle.target_tables.specs.Contents.{value_at}
 use Rattle.target_tables.specs.Touches.{last_at, touched, IsTouched}
+use Rattle.vdiff_core.specs.Report.{column_eq, row_eq}
 use Rattle.source_feed.specs.History.{RowValue}
 use Rattle.feed_check.specs.KeyedChanges.{KeyedRowValue}
 use Rattle.feed_check.specs.Replay.{left_at}
-use Rattle.feed_check.specs.Findings.{column_eq, row_eq}
 use Rattle.feed_check.specs.Private.Replayed.{Entries, rows_of, AreOwn, row_in}
 
 column_eq-Decides : (a b : Option (List ℕ)) → Decides (column_eq a b) (a ≡ b)

@@ -1,13 +1,12 @@
 -- Changes whose rows before them are not those that replaying the feed leaves (this profile, after the row
 -- images of a VStream: an insert has no row before, a delete no row after, an update both).
-use Rattle.std.specs.Prelude.{◌≡◌, ◌↔◌, ℕ, List, [], ◌∷◌, ◌++◌, Bool, true, false, Option, Some, None, IfSome, reverse, if◌then◌else◌}
+use Rattle.std.specs.Prelude.{◌≡◌, ℕ, List, [], ◌∷◌, ◌++◌, Bool, true, false, Option, Some, None, IfSome, reverse, if◌then◌else◌}
 use Rattle.std.specs.List.{flat_map}
 use Rattle.std.specs.Option.{option_map, option_and_then, option_to_list}
 use Rattle.std.specs.Ordering.{eq_by_cmp}
-use Rattle.std.specs.Str.{bytes_eq}
-use Rattle.std.specs.Cmp.Lexicographic.{pointwise}
 use Rattle.pk_copy.specs.KeyOrder.{key_cmp}
 use Rattle.pk_copy.specs.KeyValue.{KeyValue}
+use Rattle.vdiff_core.specs.Report.{row_eq}
 use Rattle.source_feed.specs.History.{RowValue}
 use Rattle.feed_check.specs.KeyedChanges.{KeyedRowValue, KeyedChangeValue}
 use Rattle.feed_check.specs.Replay.{row_left}
@@ -22,16 +21,6 @@ pub record FindingValue : Type 0 where
   pub key : KeyValue
 
 -- ---- rows
-
--- whether two columns are equal, NULL and the empty value told apart
-abbrev pub column_eq : Option (List ℕ) → Option (List ℕ) → Bool
-column_eq None None = true
-column_eq (Some value) (Some other) = bytes_eq value other
-column_eq _ _ = false
-
--- whether two rows have equal columns
-abbrev pub row_eq : RowValue → RowValue → Bool
-row_eq = pointwise column_eq
 
 -- whether a row that there may be has this key
 abbrev pub has_key : Option KeyedRowValue → KeyValue → Bool

@@ -1,12 +1,11 @@
 -- The text of a check, stream by stream: lines of what there is, and behind them all warnings (this profile).
 use Rattle.std.specs.Prelude.{ℕ, zero, suc, ◌+◌, ◌-◌, ◌==◌, ◌&&◌, nat_le, is_some, map, if◌then◌else◌, List, [], ◌∷◌, ◌++◌, Bool, true, false, Option, Some, None, length, take, codes, decimal, slice_get, unwrap_or}
 use Rattle.std.specs.List.{after_first, filter, flat_map}
-use Rattle.std.specs.Option.{option_map, option_map_or}
 use Rattle.hex.specs.Hex.{encode_lower}
 use Rattle.gtid_set.specs.Printed.{printed_position}
-use Rattle.filter_rule.specs.PlanTable.{TableValue}
+use Rattle.filter_rule.specs.PlanTable.{TableValue, name_of_table}
 use Rattle.filter_rule.specs.PlanValue.{PlanValue, table_of_name}
-use Rattle.pk_copy.specs.KeyValue.{Part, KeyValue}
+use Rattle.pk_copy.specs.KeyValue.{Part}
 use Rattle.pk_copy.specs.Lastpk.{part_text}
 use Rattle.source_feed.specs.GroupValue.{Position}
 use Rattle.source_feed.specs.Touches.{PreparedValue}
@@ -29,10 +28,6 @@ more_parts parts = flat_map (λ part. 44 ∷ part_cell part) parts
 abbrev pub parts_text : List Part → List ℕ
 parts_text [] = []
 parts_text (part ∷ others) = part_cell part ++ more_parts others
-
--- the name of a table by its number
-abbrev pub name_of_table : List TableValue → ℕ → List ℕ
-name_of_table tables t = option_map_or (λ table. table.name) (slice_get tables t) []
 
 -- ---- lines
 

@@ -2,9 +2,10 @@
 
 ghost use Rattle.std.specs.Prelude.{◌≡◌, ◌∷◌, ◌++◌, List, IfOk, OnOk};
 ghost use Rattle.std.specs.Option.{option_copied, option_to_list};
+ghost use Rattle.vdiff_core.specs.Report.{row_eq};
 ghost use Rattle.feed_check.specs.KeyedChanges.{KeyedChangeValue};
 ghost use Rattle.feed_check.specs.Replay.{put, removal, touches_of_keyed};
-ghost use Rattle.feed_check.specs.Findings.{row_eq, has_key, why_before, why_after, found_before, found_after};
+ghost use Rattle.feed_check.specs.Findings.{has_key, why_before, why_after, found_before, found_after};
 ghost use Rattle.feed_check.specs.Private.Replayed.{row_in, IsReplayed};
 
 use crate::finding::{Doubt, Finding};

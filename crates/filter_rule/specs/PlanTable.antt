@@ -1,6 +1,7 @@
 -- A table of a workflow: its columns in order with their type numbers (`query.proto`, Type), the places
 -- of its key columns in key order, and the place of its vindex column with the vindex.
-use Rattle.std.specs.Prelude.{ℕ, List, Option}
+use Rattle.std.specs.Prelude.{ℕ, List, [], Option, slice_get}
+use Rattle.std.specs.Option.{option_map_or}
 use Rattle.vindex.specs.declared.vindexes.Vindex.{Vindex}
 
 pub record ColumnValue : Type 0 where
@@ -12,3 +13,7 @@ pub record TableValue : Type 0 where
   pub columns : List ColumnValue
   pub key : List ℕ
   pub vindex : Option (ℕ × Vindex)
+
+-- the name of a table by its number
+abbrev pub name_of_table : List TableValue → ℕ → List ℕ
+name_of_table tables t = option_map_or (λ table. table.name) (slice_get tables t) []

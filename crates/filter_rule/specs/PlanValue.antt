@@ -21,6 +21,10 @@ pub record PlanValue : Type 0 where
 abbrev pub decision_at : PlanValue → ℕ → Decision
 decision_at plan t = slice_index_or plan.decisions t NoRule
 
+-- the name of a table, by its number
+abbrev pub table_name : PlanValue → ℕ → List ℕ
+table_name plan t = option_map_or (λ table. table.name) (slice_get plan.tables t) []
+
 -- the columns of a table, by its number
 abbrev pub columns_of : PlanValue → ℕ → List ColumnValue
 columns_of plan t = option_map_or (λ table. table.columns) (slice_get plan.tables t) []

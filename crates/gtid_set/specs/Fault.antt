@@ -1,6 +1,5 @@
 -- The numbers of the refusals (this profile).
-use Rattle.std.specs.Prelude.{ℕ, Option, Some, None, Result}
-use Rattle.outcome.specs.Outcome.{GivesUnless}
+use Rattle.std.specs.Prelude.{ℕ, Option, Some, None}
 use Rattle.gtid_set.specs.declared.fault.GtidFault.{GtidFault}
 use Rattle.gtid_set.specs.declared.fault.GtidFault.TheVariants.{TooLarge, Flavor, BadUuid, Syntax, BadNumber, Memory}
 
@@ -17,7 +16,3 @@ number_of_fault Memory = 72
 abbrev pub meant : GtidFault → Option GtidFault
 meant Memory = None
 meant fault = Some fault
-
--- what a call answered, seen by `view`, is what the definition gives, unless memory ran out
-abbrev pub Gives : {X Y : Type 0} → (X → Y) → Result X GtidFault → Result Y GtidFault → Type 0
-Gives view result definition = GivesUnless meant view result definition

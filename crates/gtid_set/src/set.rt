@@ -4,7 +4,8 @@ ghost use Rattle.std.specs.Prelude.{◌≡◌, ◌≤◌, ◌<◌, ◌↔◌, �
 ghost use Rattle.std.specs.Int.{w128, from_be_bytes};
 ghost use Rattle.gtid_set.specs.declared.fault.GtidFault.{GtidFault as FaultValue};
 ghost use Rattle.gtid_set.specs.declared.fault.GtidFault.TheVariants.{Memory};
-ghost use Rattle.gtid_set.specs.Fault.{Gives};
+ghost use Rattle.outcome.specs.Outcome.{GivesUnless};
+ghost use Rattle.gtid_set.specs.Fault.{meant};
 ghost use Rattle.gtid_set.specs.Position.{has, IsWithin, SamePairs, IsCanonical, HasBoth, HasPairMore, StandsApart, last_number, union_of, with_pair, within_of};
 ghost use Rattle.gtid_set.specs.Text.{position_of_text, IsOfText, NamesSeveral};
 
@@ -59,7 +60,7 @@ impl GtidSet {
     /// text without such a fault that names two intervals or more. Takes time linear in the text,
     /// and for `n` intervals that don't rise `n log n`.
     pub fn parse(alloc: Global, text: &str) -> Result<GtidSet, GtidFault>
-        ensures exact { Gives (λ set. set) result (position_of_text text.now) }
+        ensures exact { GivesUnless meant (λ set. set) result (position_of_text text.now) }
         ensures every_fault { (fault : FaultValue) → position_of_text text.now ≡ Err fault → result ≡ Err fault }
         ensures memory { result ≡ Err Memory → NamesSeveral text.now }
         ensures pairs { IfOk result (IsOfText text.now) }

@@ -13,14 +13,14 @@ use Rattle.std.proofs.lemmas.Option.{slice_get-get_or}
 use Rattle.std.specs.Str.{bytes_eq}
 use Rattle.std.proofs.lemmas.Slice.Eq.{bytes_eq-Decides}
 use Rattle.filter_rule.specs.PlanTable.{TableValue}
-use Rattle.filter_rule.specs.PlanValue.{PlanValue, columns_of}
+use Rattle.filter_rule.specs.PlanValue.{PlanValue, columns_of, table_name}
 use Rattle.pk_copy.specs.KeyOf.{key_of}
 use Rattle.pk_copy.specs.KeyOrder.{key_cmp}
 use Rattle.pk_copy.specs.KeyValue.{KeyValue}
 use Rattle.target_tables.specs.Rising.{AreAbove, AreBelow}
 use Rattle.target_tables.proofs.Order.{all_join, all_right, before_middle, behind_middle, each}
 use Rattle.vdiff_core.specs.Dump.{row_line, row_lines, rows_of_table, table_line, table_lines}
-use Rattle.vdiff_core.specs.DumpReading.{AreByteValues, FitsPlan, AreRowsOf, IsDump, Behind, BeginsTable, AddsRow, CanStand, Stand, NoLineStands, IsFirstBad, AreReadOnce, at_front, joined_lines, table_name}
+use Rattle.vdiff_core.specs.DumpReading.{AreByteValues, FitsPlan, AreRowsOf, IsDump, Behind, BeginsTable, AddsRow, CanStand, Stand, NoLineStands, IsFirstBad, AreReadOnce, at_front, joined_lines}
 use Rattle.vdiff_core.specs.Private.Reading.{row_front, IsReadSoFar, NoRowIn, NoRowStands, TakesLine, TakesRow, TakesRowLine}
 use Rattle.vdiff_core.specs.RowsValue.{RowValue, RowsValue}
 use Rattle.vdiff_core.proofs.ReadingLaws.{row_there, some_pair}

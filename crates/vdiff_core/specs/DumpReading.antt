@@ -1,9 +1,8 @@
 -- Which texts are dumps of a plan's tables, and which line is the first that can't stand in a text that is none
 -- (this profile).
-use Rattle.std.specs.Prelude.{◌≡◌, ℕ, ◌+◌, ◌<◌, ◌⊎◌, List, [], ◌∷◌, ◌++◌, length, slice_get, IfSome, Result, Ok, Err}
+use Rattle.std.specs.Prelude.{◌≡◌, ℕ, ◌+◌, ◌<◌, ◌⊎◌, List, [], ◌∷◌, ◌++◌, length, IfSome, Result, Ok, Err}
 use Rattle.std.specs.List.{AllByRecursion, flat_map}
-use Rattle.std.specs.Option.{option_map_or}
-use Rattle.filter_rule.specs.PlanValue.{PlanValue, columns_of}
+use Rattle.filter_rule.specs.PlanValue.{PlanValue, columns_of, table_name}
 use Rattle.pk_copy.specs.KeyOf.{key_of}
 use Rattle.pk_copy.specs.KeyOrder.{key_cmp}
 use Rattle.pk_copy.specs.KeyValue.{KeyValue}
@@ -41,9 +40,6 @@ pub record IsDump (plan : PlanValue) (rows : RowsValue) (text : List ℕ) : Type
 pub record Behind : Type 0 where
   pub begun : ℕ
   pub rows : RowsValue
-
-abbrev pub table_name : PlanValue → ℕ → List ℕ
-table_name plan t = option_map_or (λ table. table.name) (slice_get plan.tables t) []
 
 -- the line of the next table's name
 pub record BeginsTable (plan : PlanValue) (old new : Behind) (line : List ℕ) : Type 0 where

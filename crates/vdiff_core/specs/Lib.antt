@@ -1,6 +1,7 @@
 pub mod RowsValue
 pub mod Printing
 pub mod Cells
+pub mod KeyText
 pub mod Dump
 pub mod Private
 pub mod Report

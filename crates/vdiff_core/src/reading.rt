@@ -1,10 +1,10 @@
 //! Reading of dumps.
 
 ghost use Rattle.std.specs.Prelude.{◌≡◌, ◌⊎◌, ℕ, ◌+◌, ◌<◌, ◌++◌, IfOk, Ok, Err, length, MatchOption, IfSome, IsErr, List};
-ghost use Rattle.filter_rule.specs.PlanValue.{columns_of};
+ghost use Rattle.filter_rule.specs.PlanValue.{columns_of, table_name};
 ghost use Rattle.pk_copy.specs.KeyOf.{key_of};
 ghost use Rattle.vdiff_core.specs.Dump.{table_line};
-ghost use Rattle.vdiff_core.specs.DumpReading.{IsDump, IsFirstBad, NoLineStands, AreReadOnce, table_name};
+ghost use Rattle.vdiff_core.specs.DumpReading.{IsDump, IsFirstBad, NoLineStands, AreReadOnce};
 ghost use Rattle.vdiff_core.specs.DumpFaults.{number_of};
 ghost use Rattle.vdiff_core.specs.RowsValue.{RowsValue};
 ghost use Rattle.vdiff_core.specs.Private.Reading.{TakesLine, TakesRowLine, NoRowStands};

@@ -7,8 +7,9 @@ use Rattle.pk_copy.specs.KeyValue.{Part}
 use Rattle.pk_copy.specs.PartValue.{part_value}
 use Rattle.pk_copy.specs.declared.part.KeyPart.{KeyPart}
 use Rattle.vdiff_core.specs.Printing.{Written, Adds, BreaksOff}
+use Rattle.vdiff_core.specs.KeyText.{part_cell, more_parts, parts_text}
 use Rattle.vdiff_tables.specs.NamedReports.{named_report}
-use Rattle.vdiff_tables.specs.Texts.{part_cell, more_parts, parts_text, table_text, tables_text}
+use Rattle.vdiff_tables.specs.Texts.{table_text, tables_text}
 use Rattle.vdiff_tables.specs.declared.reports.TableReport.{TableReport}
 
 -- ---- the parts of a key

@@ -1,13 +1,13 @@
 -- The comparison of two sets of rows as text (this profile).
-use Rattle.std.specs.Prelude.{ℕ, List, [], ◌∷◌, ◌++◌, Option, Some, codes, decimal, slice_get}
+use Rattle.std.specs.Prelude.{ℕ, List, [], ◌∷◌, ◌++◌, Option, codes, decimal}
 use Rattle.std.specs.List.{flat_map}
 use Rattle.std.specs.Option.{option_map_or}
-use Rattle.filter_rule.specs.PlanTable.{TableValue}
-use Rattle.pk_copy.specs.KeyValue.{Part, KeyValue}
-use Rattle.pk_copy.specs.Lastpk.{part_text}
-use Rattle.vdiff_core.specs.Cells.{cell, cells}
+use Rattle.filter_rule.specs.PlanTable.{TableValue, name_of_table}
+use Rattle.pk_copy.specs.KeyValue.{KeyValue}
+use Rattle.vdiff_core.specs.Cells.{cells}
 use Rattle.vdiff_core.specs.RowsValue.{RowValue}
 use Rattle.vdiff_core.specs.declared.report.Report.{Report}
+use Rattle.vdiff_core.specs.KeyText.{key_text}
 use Rattle.vdiff_tables.specs.Differences.{Difference}
 use Rattle.vdiff_tables.specs.Reports.{NamedReport}
 
@@ -30,26 +30,6 @@ abbrev pub tables_text : List NamedReport → List ℕ
 tables_text tables = flat_map table_text tables
 
 -- ---- keys
-
--- a part of a key as a cell; a number as its shortest decimal text
-abbrev pub part_cell : Part → List ℕ
-part_cell part = cell (Some (part_text part))
-
--- further parts, each behind a comma
-abbrev pub more_parts : List Part → List ℕ
-more_parts parts = flat_map (λ part. 44 ∷ part_cell part) parts
-
--- the parts of a key as cells, parted by commas
-abbrev pub parts_text : List Part → List ℕ
-parts_text [] = []
-parts_text (part ∷ others) = part_cell part ++ more_parts others
-
-abbrev pub key_text : KeyValue → List ℕ
-key_text key = parts_text key.parts
-
--- the name of a table by its number
-abbrev pub name_of_table : List TableValue → ℕ → List ℕ
-name_of_table tables t = option_map_or (λ table. table.name) (slice_get tables t) []
 
 -- the line of a key: a word, its table, and itself
 abbrev pub key_line : List TableValue → List ℕ → KeyValue → List ℕ

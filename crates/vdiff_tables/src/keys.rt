@@ -1,9 +1,11 @@
 //! Keys as text.
 
 ghost use Rattle.std.specs.Prelude.{◌≡◌, map};
+ghost use Rattle.filter_rule.specs.PlanTable.{name_of_table};
 ghost use Rattle.pk_copy.specs.PartValue.{part_value};
 ghost use Rattle.vdiff_core.specs.Printing.{Adds};
-ghost use Rattle.vdiff_tables.specs.Texts.{key_line, key_text, more_parts, name_of_table, part_cell};
+ghost use Rattle.vdiff_core.specs.KeyText.{part_cell, more_parts, key_text};
+ghost use Rattle.vdiff_tables.specs.Texts.{key_line};
 
 use crate::put::put_str;
 use filter_rule::Table;

@@ -6,7 +6,7 @@ use Rattle.std.proofs.lemmas.List.Concat.{flat_map-cons}
 use Rattle.pk_copy.specs.KeyValue.{Part}
 use Rattle.pk_copy.specs.PartValue.{part_value}
 use Rattle.pk_copy.specs.declared.part.KeyPart.{KeyPart}
-use Rattle.vrepl_main.specs.RefusedText.{part_cell, more_parts, parts_text}
+use Rattle.vdiff_core.specs.KeyText.{part_cell, more_parts, parts_text}
 
 -- the first of the parts that are left
 pub first_part : (xs : List KeyPart) (k : ℕ) (default : KeyPart) → k < length xs

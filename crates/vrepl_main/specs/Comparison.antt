@@ -1,7 +1,7 @@
 -- What `vdiff` prints of two dumps, and why it refuses them (this profile, after Vitess's VDiff).
 use Rattle.std.specs.Prelude.{◌≡◌, ◌≢◌, ◌⊎◌, ℕ, List, [], ◌∷◌, ◌++◌, Option, MatchOption, Result, Ok, Err, codes, decimal}
 use Rattle.std.specs.Option.{option_map_or}
-use Rattle.filter_rule.specs.PlanTable.{TableValue}
+use Rattle.filter_rule.specs.PlanTable.{TableValue, name_of_table}
 use Rattle.filter_rule.specs.PlanValue.{PlanValue}
 use Rattle.filter_rule.specs.Reading.{plans_of}
 use Rattle.pk_copy.specs.KeyValue.{KeyValue}
@@ -13,9 +13,9 @@ use Rattle.vdiff_core.specs.declared.report.Report.{Report}
 use Rattle.vrepl_main.specs.Command.{RefusesCommand}
 use Rattle.vrepl_main.specs.Printing.{PrintsOrBreaks}
 use Rattle.vrepl_main.specs.Reasons.{Reason, bad_workflow, bad_dump}
-use Rattle.vrepl_main.specs.RefusedText.{key_text, name_of_table}
 use Rattle.vrepl_main.specs.Refusals.{refusal_line}
 use Rattle.vdiff_core.specs.declared.writer.OutFailed.{OutFailed}
+use Rattle.vdiff_core.specs.KeyText.{key_text}
 use Rattle.vrepl_main.specs.declared.comparing.Verdict.{Verdict}
 use Rattle.vrepl_main.specs.declared.comparing.Verdict.TheVariants.{Same, Differ}
 use Rattle.vrepl_main.specs.declared.refusal.Refusal.{Refusal}

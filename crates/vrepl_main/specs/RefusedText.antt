@@ -1,12 +1,9 @@
 -- The replies to steps on a board that are refused, as text (this profile).
-use Rattle.std.specs.Prelude.{ℕ, List, [], ◌∷◌, ◌++◌, Some, codes, decimal, slice_get}
-use Rattle.std.specs.List.{flat_map}
-use Rattle.std.specs.Option.{option_map_or}
-use Rattle.filter_rule.specs.PlanTable.{TableValue}
-use Rattle.pk_copy.specs.KeyValue.{Part, KeyValue}
-use Rattle.pk_copy.specs.Lastpk.{part_text}
-use Rattle.vdiff_core.specs.Cells.{cell}
+use Rattle.std.specs.Prelude.{ℕ, List, [], ◌∷◌, ◌++◌, Some, codes, decimal}
+use Rattle.filter_rule.specs.PlanTable.{TableValue, name_of_table}
+use Rattle.pk_copy.specs.KeyValue.{KeyValue}
 use Rattle.stream_core.specs.declared.refusal.CoreRefusal.TheVariants.{Gap}
+use Rattle.vdiff_core.specs.KeyText.{key_text}
 use Rattle.source_feed.specs.declared.fault.FeedFault.{FeedFault}
 use Rattle.source_feed.specs.declared.fault.FeedFault.TheVariants.{BadRow, NoGroup}
 use Rattle.board_laws.specs.Refusals.{number_of_step}
@@ -14,28 +11,6 @@ use Rattle.board_laws.specs.declared.refusal.Refusal.TheVariants.{Core, OwnedByO
 use Rattle.board_laws.specs.declared.step_refusal.StepRefusal.{StepRefusal}
 use Rattle.board_laws.specs.declared.step_refusal.StepRefusal.TheVariants.{Unprepared, Refused}
 use Rattle.vrepl_main.specs.Refusals.{cause_text, feed_details}
-
--- ---- keys
-
--- a part of a key as a cell; a number as its shortest decimal text
-abbrev pub part_cell : Part → List ℕ
-part_cell part = cell (Some (part_text part))
-
--- further parts, each behind a comma
-abbrev pub more_parts : List Part → List ℕ
-more_parts parts = flat_map (λ part. 44 ∷ part_cell part) parts
-
--- the parts of a key as cells, parted by commas
-abbrev pub parts_text : List Part → List ℕ
-parts_text [] = []
-parts_text (part ∷ others) = part_cell part ++ more_parts others
-
-abbrev pub key_text : KeyValue → List ℕ
-key_text key = parts_text key.parts
-
--- the name of a table by its number
-abbrev pub name_of_table : List TableValue → ℕ → List ℕ
-name_of_table tables t = option_map_or (λ table. table.name) (slice_get tables t) []
 
 -- ---- what stands behind the number
 

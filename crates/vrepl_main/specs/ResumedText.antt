@@ -1,11 +1,12 @@
 -- The lines of checkpoints that aren't resumed (this profile).
 use Rattle.std.specs.Prelude.{ℕ, List, [], ◌∷◌, ◌++◌, codes, decimal}
-use Rattle.filter_rule.specs.PlanTable.{TableValue}
+use Rattle.filter_rule.specs.PlanTable.{TableValue, name_of_table}
 use Rattle.pk_copy.specs.KeyValue.{KeyValue}
+use Rattle.vdiff_core.specs.KeyText.{key_text}
 use Rattle.checkpoint_laws.specs.Faults.{number_of}
 use Rattle.checkpoint_laws.specs.declared.fault.ResumeFault.{ResumeFault}
 use Rattle.checkpoint_laws.specs.declared.fault.ResumeFault.TheVariants.{PositionUnknown, Unsound, CheckpointDiffers, OwnedByOther}
-use Rattle.vrepl_main.specs.RefusedText.{name_of_table, key_text, clash_text, unprepared_text}
+use Rattle.vrepl_main.specs.RefusedText.{clash_text, unprepared_text}
 
 -- the rows of a stream differ from its feed's at a key
 abbrev pub differs_text : List TableValue → ℕ → KeyValue → List ℕ

@@ -2,7 +2,7 @@
 
 ghost use Rattle.std.specs.Prelude.{◌≡◌, map};
 ghost use Rattle.pk_copy.specs.PartValue.{part_value};
-ghost use Rattle.vrepl_main.specs.RefusedText.{key_text, more_parts, part_cell};
+ghost use Rattle.vdiff_core.specs.KeyText.{part_cell, more_parts, key_text};
 ghost use Rattle.vrepl_main.specs.Adding.{AddsText, at};
 
 use crate::output::{print_cell, put_all};

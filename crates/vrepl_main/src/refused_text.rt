@@ -1,7 +1,8 @@
 //! The replies to steps on a board that are refused, as text.
 
 ghost use Rattle.std.specs.Prelude.{◌≡◌};
-ghost use Rattle.vrepl_main.specs.RefusedText.{bad_row_text, clash_text, name_of_table, owner_text, refused_text, step_details, unprepared_text};
+ghost use Rattle.filter_rule.specs.PlanTable.{name_of_table};
+ghost use Rattle.vrepl_main.specs.RefusedText.{bad_row_text, clash_text, owner_text, refused_text, step_details, unprepared_text};
 ghost use Rattle.vrepl_main.specs.Adding.{AddsText, at};
 
 use crate::key_text::print_key;

@@ -2,13 +2,13 @@
 use Rattle.std.specs.Prelude.{ℕ, List, map, option_map, slice_get}
 use Rattle.std.specs.List.{filter_map}
 use Rattle.filter_rule.specs.PlanTable.{ColumnValue}
-use Rattle.filter_rule.specs.PlanValue.{PlanValue}
+use Rattle.filter_rule.specs.PlanValue.{PlanValue, table_name}
 use Rattle.pk_copy.specs.Marks.{MarkValue, Marks, mark_of}
 use Rattle.source_feed.specs.Image.{ImageRows}
 use Rattle.vevent.specs.CheckpointPart.{TablePartValue, mark_number}
 use Rattle.vevent.specs.ColumnView.{field_value}
 use Rattle.vevent.specs.EventValue.{FieldValue}
-use Rattle.checkpoint_laws.specs.Written.{field_of, fields_of_table, key_fields_of, table_name, number_of_mark, last_row_of, saved_rows_of_table, numbers_below}
+use Rattle.checkpoint_laws.specs.Written.{field_of, fields_of_table, key_fields_of, number_of_mark, last_row_of, saved_rows_of_table, numbers_below}
 use Rattle.checkpoint_core.specs.declared.texts.TableText.{TableText}
 
 -- the columns at places, as an answer names them

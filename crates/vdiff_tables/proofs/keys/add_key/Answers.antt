@@ -4,7 +4,7 @@ use Rattle.std.proofs.lemmas.Result.{err_from_is_err_and}
 use Rattle.pk_copy.specs.KeyValue.{KeyValue}
 use Rattle.pk_copy.specs.declared.part.KeyPart.TheVariants.{Number}
 use Rattle.vdiff_core.proofs.PrintLaws.{adding_breaks, then_adds}
-use Rattle.vdiff_tables.specs.Texts.{parts_text}
+use Rattle.vdiff_core.specs.KeyText.{parts_text}
 use Rattle.vdiff_tables.proofs.TextLaws.{adds_as, breaks_as, parts_split}
 use Rattle.vdiff_tables.proofs.keys.add_key.Goals as goal
 

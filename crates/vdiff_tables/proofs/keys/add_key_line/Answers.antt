@@ -1,8 +1,9 @@
 use Rattle.std.proofs.Common.{◌++◌, [], ◌∷◌}
 use Rattle.std.proofs.lemmas.Result.{err_from_is_err_and}
 use Rattle.std.specs.Prelude.{codes}
-use Rattle.vdiff_tables.specs.Texts.{key_text, name_of_table}
+use Rattle.filter_rule.specs.PlanTable.{name_of_table}
 use Rattle.vdiff_core.proofs.PrintLaws.{adding_breaks, added_breaks, added_more, then_adds}
+use Rattle.vdiff_core.specs.KeyText.{key_text}
 use Rattle.vdiff_tables.proofs.keys.add_key_line.Goals as goal
 
 pub returns-in_err-put_str : goal.returns-in_err-put_str

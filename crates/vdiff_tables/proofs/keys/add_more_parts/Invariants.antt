@@ -1,7 +1,7 @@
 use Rattle.std.proofs.Common.{drop, map}
 use Rattle.pk_copy.specs.PartValue.{part_value}
 use Rattle.vdiff_core.specs.Private.Progress.{IsAddedTo}
-use Rattle.vdiff_tables.specs.Texts.{more_parts}
+use Rattle.vdiff_core.specs.KeyText.{more_parts}
 use Rattle.vdiff_tables.proofs.keys.add_more_parts.Given as goal
 
 -- what is added and what is left are the whole

@@ -1,8 +1,8 @@
 use Rattle.std.proofs.Common.{◌++◌}
 use Rattle.std.proofs.lemmas.Result.{err_from_is_err_and}
 use Rattle.std.specs.Prelude.{codes, decimal, Some}
+use Rattle.filter_rule.specs.PlanTable.{name_of_table}
 use Rattle.vrepl_main.specs.Refusals.{cause_text}
-use Rattle.vrepl_main.specs.RefusedText.{name_of_table}
 use Rattle.vrepl_main.proofs.AddLaws.{first_stops, then_prints, then_put, then_stops}
 use Rattle.vrepl_main.proofs.refused_text.print_bad_row.Goals as goal
 

@@ -1,7 +1,8 @@
 use Rattle.std.proofs.Common.{◌≡◌, ◌+◌, ◌<◌, ◌++◌, ◌∙◌, List, ℕ, length, ap, sym, subst, Err}
 use Rattle.std.proofs.lemmas.Result.{err_from_is_err_and}
+use Rattle.filter_rule.specs.PlanValue.{table_name}
 use Rattle.vdiff_core.specs.Dump.{table_line}
-use Rattle.vdiff_core.specs.DumpReading.{Behind, table_name}
+use Rattle.vdiff_core.specs.DumpReading.{Behind}
 use Rattle.vdiff_core.specs.Private.Reading.{TakesLine}
 use Rattle.vdiff_core.proofs.ReadingLaws.{err_is}
 use Rattle.vdiff_core.proofs.StandLaws.{table_begins, none_stands}
