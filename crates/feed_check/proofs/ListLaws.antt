@@ -1,20 +1,13 @@
 -- Loops over changes and groups, one on.
-use Rattle.std.proofs.Common.{◌≡◌, ℕ, suc, ◌+◌, ◌<◌, List, [], ◌∷◌, ◌++◌, Bool, true, false, cond, length, take, drop, map, get_or, min, reverse, Option, Some, None, Result, Ok, Err, refl, ap, sym, ◌∙◌, subst, add-one, arith}
+use Rattle.std.proofs.Common.{◌≡◌, ℕ, suc, ◌+◌, List, [], ◌∷◌, ◌++◌, true, false, length, take, min, reverse, Option, Some, None, Result, Ok, Err, refl, ap, sym, ◌∙◌, subst, add-one, arith}
 use Rattle.std.specs.Prelude.{slice_get}
-use Rattle.std.specs.List.{count_by, flat_map, sum_by}
-use Rattle.std.proofs.lemmas.List.{append_assoc, append-nil, drop_more, drop_all, take_min, take_more, flat_map_more}
-use Rattle.std.proofs.lemmas.List.Sums.{sum_by-cons}
+use Rattle.std.specs.List.{flat_map, sum_by}
+use Rattle.std.proofs.lemmas.List.{append_assoc, append-nil, drop_all, take_min, take_more, flat_map_more}
 use Rattle.outcome.specs.Outcome.{◌>>=◌, each}
-use Rattle.filter_rule.specs.PlanValue.{PlanValue, table_of_name}
-use Rattle.source_feed.specs.GroupValue.{TableChangeValue, GroupValue}
-use Rattle.feed_check.specs.KeyedChanges.{KeyedChangeValue, keyed_at, keyed_from, keyed_in}
+use Rattle.source_feed.specs.GroupValue.{GroupValue}
+use Rattle.feed_check.specs.KeyedChanges.{KeyedChangeValue, keyed_in}
 
 -- ---- the changes of a group
-
--- the first of the changes that are left
-pub keyed-next : (plan : PlanValue) (group place : ℕ) (changes : List TableChangeValue) (i : ℕ) (d : TableChangeValue) → i < length changes
-    → keyed_from plan group place (drop i changes) ≡ keyed_at plan group place (get_or changes i d) (table_of_name plan (get_or changes i d).table) ++ keyed_from plan group (place + 1) (drop (i + 1) changes)
-keyed-next plan group place changes i d within = ap (keyed_from plan group place) (drop_more changes i d within)
 
 -- what is pushed is taken off the front of what is left
 pub moved : {A : Type 0} (done more here rest left whole : List A) → more ≡ done ++ here → left ≡ here ++ rest → done ++ left ≡ whole → more ++ rest ≡ whole
@@ -58,11 +51,3 @@ front_within n xs =
     ap (λ k. take k xs) same ∙ take_min n xs
 
 -- ---- counts
-
-pub count-cons : {A : Type 0} (p : A → Bool) (x : A) (xs : List A) → count_by p (x ∷ xs) ≡ cond (p x) 1 0 + count_by p xs
-count-cons p x xs = sum_by-cons (λ y. cond (p y) 1 0) x xs
-
-pub count-map : {A B : Type 0} (p : B → Bool) (f : A → B) (xs : List A) → count_by p (map f xs) ≡ count_by (λ x. p (f x)) xs
-count-map p f [] = refl
-count-map p f (x ∷ xs) =
-    count-cons p (f x) (map f xs) ∙ ap (λ n. cond (p (f x)) 1 0 + n) (count-map p f xs) ∙ sym (count-cons (λ y. p (f y)) x xs)

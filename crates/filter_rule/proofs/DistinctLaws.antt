@@ -57,9 +57,6 @@ put_in keys grown k names more had q =
     ∙ ap (λ b. b || (bytes_eq q.now k.now || false)) (had q)
     ∙ sym (list_any-append (λ t. bytes_eq q.now t) names (k.now ∷ []))
 
-pub none_seen : (names : List (List ℕ)) → IsSeen [] names (has_twice names)
-none_seen names = ([], (λ q. refl), refl)
-
 pub name_turn : {C : Type 0} (name : C → List ℕ) (xs : List C) (i : ℕ) (d : C) (keys grown : List (Bor (List ℕ))) (k : Bor (List ℕ)) (is_new whole : Bool)
     → i < length xs → d ≡ get_or xs i d → k.now ≡ name d → is_new ≡ not (list_any (has_name k.now) keys) → is_new ≡ true
     → ((q : Bor (List ℕ)) → list_any (has_name q.now) grown ≡ cond (bytes_eq k.now q.now) true (list_any (has_name q.now) keys))

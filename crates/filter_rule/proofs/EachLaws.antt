@@ -1,5 +1,5 @@
 -- Reading one item after another, as far as a loop has come.
-use Rattle.std.proofs.Common.{◌≡◌, ℕ, zero, suc, ◌+◌, ◌<◌, ◌≤◌, List, [], ◌∷◌, ◌++◌, length, drop, get_or, map, Result, Ok, Err, refl, sym, ap, ◌∙◌, arith, append_assoc}
+use Rattle.std.proofs.Common.{◌≡◌, ℕ, zero, suc, ◌+◌, ◌<◌, List, [], ◌∷◌, ◌++◌, length, drop, get_or, map, Result, Ok, Err, refl, sym, ap, ◌∙◌, arith, append_assoc}
 use Rattle.outcome.specs.Outcome.{◌>>=◌, each}
 use Rattle.filter_rule.specs.Faults.{Fault, Fails}
 use Rattle.filter_rule.specs.declared.fault.PlanFault.{PlanFault}
@@ -32,12 +32,6 @@ pub map_drop_at : {A B : Type 0} (v : A → B) (xs : List A) (i : ℕ) (d : A) �
 map_drop_at v [] i d h = absurd (omega arith)
 map_drop_at v (x ∷ xs) zero d h = refl
 map_drop_at v (x ∷ xs) (suc i) d h = let e : suc i + 1 ≡ suc (i + 1) = omega arith in rw e (map_drop_at v xs i d (omega arith))
-
-pub map_drop_all : {A B : Type 0} (v : A → B) (xs : List A) (i : ℕ) → length xs ≤ i → drop i (map v xs) ≡ []
-map_drop_all v [] zero h = refl
-map_drop_all v [] (suc i) h = refl
-map_drop_all v (x ∷ xs) zero h = absurd (omega arith)
-map_drop_all v (x ∷ xs) (suc i) h = map_drop_all v xs i (omega arith)
 
 -- a turn of the loop
 pub turn : {A B C : Type 0} (f : A → Result B Fault) (v : C → A) (xs : List C) (i : ℕ) (d : C) (front grown : List B) (y : B) (whole : Result (List B) Fault)

@@ -4,9 +4,8 @@ use Rattle.filter_rule.specs.Document.{RuleSaid}
 use Rattle.outcome.specs.Outcome.{◌>>=◌}
 use Rattle.filter_rule.specs.Faults.{Fault}
 use Rattle.filter_rule.specs.PlanTable.{TableValue}
-use Rattle.filter_rule.specs.Reading.{rule_over, decide_in_turn, undecided}
+use Rattle.filter_rule.specs.Reading.{rule_over, decide_in_turn}
 use Rattle.filter_rule.specs.declared.decision.Decision.{Decision}
-use Rattle.filter_rule.specs.declared.decision.Decision.TheVariants.{NoRule}
 use Rattle.filter_rule.proofs.EachLaws.{drop_at}
 use Rattle.filter_rule.proofs.DecideLaws.{drop_all}
 
@@ -44,15 +43,7 @@ rules_fault s n tables rs r ds whole within item so_far f is = sym so_far ∙ op
 pub rules_end : (s n : ℕ) (tables : List TableValue) (rs : List RuleSaid) (ds : List Decision) (whole : Result (List Decision) Fault) → length rs ≤ n → decide_in_turn s tables n (drop n rs) ds ≡ whole → whole ≡ Ok ds
 rules_end s n tables rs ds whole past so_far = sym so_far ∙ ap (λ x. decide_in_turn s tables n x ds) (drop_all rs n past) ∙ no_rules s n tables ds
 
-undecided_append : (xs ys : List TableValue) → undecided (xs ++ ys) ≡ undecided xs ++ undecided ys
-undecided_append [] ys = refl
-undecided_append (x ∷ xs) ys = ap (λ r. NoRule ∷ r) (undecided_append xs ys)
-
 take_more : {A : Type 0} (xs : List A) (i : ℕ) (d : A) → i < length xs → take (i + 1) xs ≡ take i xs ++ get_or xs i d ∷ []
 take_more [] i d h = absurd (omega arith)
 take_more (x ∷ xs) zero d h = refl
 take_more (x ∷ xs) (suc i) d h = let n : suc i + 1 ≡ suc (i + 1) = omega arith in rw n (ap (λ r. x ∷ r) (take_more xs i d (omega arith)))
-
-pub length_undecided : (xs : List TableValue) → length (undecided xs) ≡ length xs
-length_undecided [] = refl
-length_undecided (x ∷ xs) = ap suc (length_undecided xs)

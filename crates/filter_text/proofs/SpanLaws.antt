@@ -1,5 +1,5 @@
 -- How far a kind of bytes goes at the front of a list.
-use Rattle.std.proofs.Common.{◌≡◌, ℕ, suc, ◌+◌, ◌≤◌, List, [], ◌∷◌, ◌++◌, length, take, drop, Bool, true, false, cond, Some, None, refl, ap, ◌∙◌, arith}
+use Rattle.std.proofs.Common.{◌≡◌, ℕ, suc, ◌+◌, ◌≤◌, List, [], ◌∷◌, length, take, drop, Bool, true, false, cond, Some, None, refl, ap, ◌∙◌, arith}
 use Rattle.std.specs.Prelude.{not, unwrap_or, nat_lt, ◌&&◌}
 use Rattle.std.specs.List.{list_all, prefix_len}
 use Rattle.std.proofs.lemmas.Bool.Decides.{nat_tests}
@@ -69,11 +69,3 @@ and_true false b h = cc
 
 pub all_parts : (p : ℕ → Bool) (x : ℕ) (xs : List ℕ) → list_all p (x ∷ xs) ≡ true → (p x ≡ true) × (list_all p xs ≡ true)
 all_parts p x xs h = and_true (p x) (list_all p xs) h
-
--- a run that ends where a byte of another kind follows
-pub span_of_run : (p : ℕ → Bool) (xs rest : List ℕ) → list_all p xs ≡ true → begins p rest ≡ false → span_len p (xs ++ rest) ≡ length xs
-span_of_run p [] [] h e = refl
-span_of_run p [] (y ∷ ys) h e = rw e
-span_of_run p (x ∷ xs) rest h e =
-    let parts = all_parts p x xs h in
-    rw parts.0 (ap suc (span_of_run p xs rest parts.1 e))

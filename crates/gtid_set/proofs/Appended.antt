@@ -46,10 +46,6 @@ joined-merged (y ∷ front) x next c one h e =
 
 -- ---- behind all intervals
 
-pub joined-past : (front rest : List Interval) (next : Interval) → AllEndBefore next front → with_interval (front ++ rest) next ≡ front ++ with_interval rest next
-joined-past [] rest next all = refl
-joined-past (x ∷ front) rest next all = joined-front x (front ++ rest) next all.0 ∙ ap (λ s. x ∷ s) (joined-past front rest next all.1)
-
 -- what ends before an interval that ends before another ends before that
 ends-over : (y x next : Interval) → IsInterval x → ends_before y x ≡ true → ends_before x next ≡ true → ends_before y next ≡ true
 ends-over y x next one e h = let k = one.holds_first in grind (arith, nat_tests)

@@ -65,10 +65,6 @@ pub passed-rest : (front : List Interval) (x : Interval) (list : List Interval) 
 passed-rest front x [] one ends all = tt
 passed-rest front x (y ∷ list) one ends all = (AllPassed-trans front x y one ends.0 all, passed-rest front x list one ends.1 all)
 
-pub passed-none : (list : List Interval) → AllPassed [] list
-passed-none [] = tt
-passed-none (y ∷ list) = (tt, passed-none list)
-
 -- ---- the place that a partition point gives
 
 pub AllEndBefore-within : (set : List Interval) (k : ℕ) (x : Interval) → k ≤ length set → AllWithin (λ j. ends_before j x ≡ true) set 0 k → AllEndBefore x (take k set)

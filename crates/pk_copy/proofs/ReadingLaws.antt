@@ -1,10 +1,8 @@
 -- The key of a row, one cell after another.
-use Rattle.std.specs.Prelude.{◌≡◌, ℕ, ◌<◌, ◌≤◌, ◌||◌, Bool, true, false, List, [], ◌∷◌, ◌++◌, length, slice_get, Option, Some, None, Result, Ok, Err, if◌then◌else◌}
+use Rattle.std.specs.Prelude.{◌≡◌, ℕ, ◌<◌, ◌≤◌, ◌||◌, Bool, List, [], ◌++◌, length, slice_get, Some, Result, Ok, Err, if◌then◌else◌}
 use Rattle.std.specs.List.{list_any, filter_map}
-use Rattle.std.specs.Option.{is_some, option_map_or}
+use Rattle.std.specs.Option.{option_map_or}
 use Rattle.std.proofs.Common.{refl, ap, ◌∙◌, get_or}
-use Rattle.std.proofs.lemmas.Bool.{false≢true}
-use Rattle.std.proofs.lemmas.List.{append-nil, append_assoc}
 use Rattle.std.proofs.lemmas.Option.{slice_get_read}
 use Rattle.filter_rule.specs.PlanTable.{TableValue}
 use Rattle.filter_rule.specs.PlanValue.{PlanValue, columns_of, key_columns_of}
@@ -20,28 +18,6 @@ key_behind t parts is_bad cells =
     if list_any is_null cells then Err NullKey else
     if is_bad || list_any has_no_part cells then Err BadKey else
     Ok (record { table = t; parts = parts ++ filter_map key_part_of cells })
-
-pub key_behind-end : (t : ℕ) (parts : List Part) → key_behind t parts false [] ≡ Ok (record { table = t; parts = parts })
-key_behind-end t parts = ap (λ (all : List Part). Ok (record { table = t; parts = all })) (append-nil parts)
-
-pub key_behind-null : (t : ℕ) (parts : List Part) (is_bad : Bool) (cell : KeyCell) (cells : List KeyCell) → cell.value ≡ None → key_behind t parts is_bad (cell ∷ cells) ≡ Err NullKey
-key_behind-null t parts is_bad cell cells null = rw null
-
-part-by : (t : ℕ) (parts : List Part) (is_bad : Bool) (type_number : ℕ) (value : Option (List ℕ)) (cells : List KeyCell) (part : Part) → key_part_of (record { type_number = type_number; value = value }) ≡ Some part
-    → key_behind t parts is_bad (record { type_number = type_number; value = value } ∷ cells) ≡ key_behind t (parts ++ part ∷ []) is_bad cells
-part-by t parts is_bad type_number None cells part found = absurd (false≢true (ap is_some found))
-part-by t parts is_bad type_number (Some text) cells part found = rw (found, append_assoc parts (part ∷ []) (filter_map key_part_of cells))
-
--- a cell that gives a part
-pub key_behind-part : (t : ℕ) (parts : List Part) (is_bad : Bool) (cell : KeyCell) (cells : List KeyCell) (part : Part) → key_part_of cell ≡ Some part
-    → key_behind t parts is_bad (cell ∷ cells) ≡ key_behind t (parts ++ part ∷ []) is_bad cells
-key_behind-part t parts is_bad cell cells part found = part-by t parts is_bad cell.type_number cell.value cells part found
-
--- a cell that isn't NULL and gives none
-pub key_behind-bad : (t : ℕ) (parts : List Part) (is_bad : Bool) (cell : KeyCell) (cells : List KeyCell) → is_null cell ≡ false → key_part_of cell ≡ None
-    → key_behind t parts is_bad (cell ∷ cells) ≡ key_behind t parts true cells
-key_behind-bad t parts true cell cells stands none = rw stands
-key_behind-bad t parts false cell cells stands none = rw (stands, none)
 
 -- ---- a table of a plan
 

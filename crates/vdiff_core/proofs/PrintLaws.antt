@@ -1,11 +1,11 @@
 -- Text that is written piece by piece: what is written and what is left are the whole.
 use Rattle.std.proofs.Common.{◌≡◌, ℕ, ◌+◌, ◌-◌, ◌/◌, ◌%◌, ◌<◌, ◌≤◌, add-one, get_or, List, [], ◌∷◌, ◌++◌, length, take, drop, take-append-drop, sym, ap, ◌∙◌, subst, refl, append_assoc, append-nil, Result, Ok, Err}
-use Rattle.std.proofs.KnownBytes.{Appends-nil, Appends-trans, Appends-kept}
+use Rattle.std.proofs.KnownBytes.{Appends-nil, Appends-trans}
 use Rattle.std.proofs.lemmas.List.{take_rest, drop_all}
 use Rattle.std.proofs.lemmas.List.Concat.{flat_map-cons}
 use Rattle.std.proofs.Math.Seq.{drop-cons}
 use Rattle.std.specs.List.{flat_map}
-use Rattle.vdiff_core.specs.Printing.{Written, IsWritten, BreaksOff, Prints, IsFailed, IsAdded, Adds, one_more}
+use Rattle.vdiff_core.specs.Printing.{Written, IsWritten, BreaksOff, Prints, IsAdded, Adds, one_more}
 use Rattle.std.specs.Prelude.{slice_index}
 use Rattle.hex.specs.Hex.{encode_lower, encode_with, lower_digits}
 use Rattle.vdiff_core.specs.Private.Progress.{IsWrittenTo, IsAddedTo}
@@ -20,10 +20,6 @@ written_more old now new text more first second = record {
   appended = Appends-trans old.bytes now.bytes new.bytes text more first.appended second.appended;
   sound = second.sound ∙ first.sound;
 }
-
--- a write that failed
-pub breaks_at_once : (old new : Written) (text : List ℕ) → IsFailed old new → BreaksOff old new text
-breaks_at_once old new text failed = (text, record { printed = []; parts = refl; appended = Appends-kept old.bytes old.bytes new.bytes [] (Appends-nil old.bytes) failed.nothing; failed = failed.failed })
 
 -- the first part is written, and then a write of the second one failed
 pub then_breaks : (old now new : Written) (text more : List ℕ) → IsWritten old now text → BreaksOff now new more → BreaksOff old new (text ++ more)
@@ -55,9 +51,6 @@ moves old now new text left piece rest parts before more = record {
   parts = before.parts ∙ ap (λ l. before.printed ++ l) parts ∙ sym (append_assoc before.printed piece rest);
   written = written_more old now new before.printed piece before.written more;
 }
-
-pub breaks : (old now new : Written) (text left : List ℕ) → IsWrittenTo old now text left → BreaksOff now new left → BreaksOff old new text
-breaks old now new text left before broken = subst (BreaksOff old new) (sym before.parts) (then_breaks old now new before.printed left before.written broken)
 
 pub ends : (old now : Written) (text left : List ℕ) → left ≡ [] → IsWrittenTo old now text left → IsWritten old now text
 ends old now text left nothing before = subst (IsWritten old now) (sym (before.parts ∙ ap (λ l. before.printed ++ l) nothing ∙ append-nil before.printed)) before.written

@@ -119,10 +119,6 @@ both_have key a b lefts rights r same above beyond =
 
 -- ---- the walk
 
--- nothing is counted yet
-pub counts_nothing : (whole : Report) → IsStep whole whole 0 0 0 0
-counts_nothing whole = record { matching_is = omega arith; mismatched_is = omega arith; extra_source_is = omega arith; extra_target_is = omega arith }
-
 none_matched : (rows : RowsValue) → count_beside is_matched [] rows ≡ 0
 none_matched [] = refl
 none_matched (row ∷ rows) = omega (arith, counts_first is_matched [] row.0 row.1 rows None 0 refl refl, none_matched rows)
@@ -217,9 +213,6 @@ pub record IsWalked (source target left right : RowsValue) (matching mismatched 
   pub of_target : matching + mismatched + extra_target + length right ≡ length target
   pub left_rises : IsRising key_cmp left
   pub right_rises : IsRising key_cmp right
-
-pub walk_starts : (source target : RowsValue) → IsRising key_cmp source → IsRising key_cmp target → IsWalked source target source target 0 0 0 0
-walk_starts source target left right = record { counted = counts_nothing (report_of source target); of_source = omega arith; of_target = omega arith; left_rises = left; right_rises = right }
 
 -- what two parts count together
 pub counts_more : (whole now rest : Report) (a b c d e f g h : ℕ) → IsStep whole now a b c d → IsStep now rest e f g h → (ms bb cs dd : ℕ) → ms ≡ a + e → bb ≡ b + f → cs ≡ c + g → dd ≡ d + h → IsStep whole rest ms bb cs dd

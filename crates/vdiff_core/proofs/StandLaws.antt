@@ -21,7 +21,7 @@ use Rattle.target_tables.specs.Rising.{AreAbove, AreBelow}
 use Rattle.target_tables.proofs.Order.{all_join, all_right, before_middle, behind_middle, each}
 use Rattle.vdiff_core.specs.Dump.{row_line, row_lines, rows_of_table, table_line, table_lines}
 use Rattle.vdiff_core.specs.DumpReading.{AreByteValues, FitsPlan, AreRowsOf, IsDump, Behind, BeginsTable, AddsRow, CanStand, Stand, NoLineStands, IsFirstBad, AreReadOnce, at_front, joined_lines}
-use Rattle.vdiff_core.specs.Private.Reading.{row_front, IsReadSoFar, NoRowIn, NoRowStands, TakesLine, TakesRow, TakesRowLine}
+use Rattle.vdiff_core.specs.Private.Reading.{row_front, IsReadSoFar, NoRowStands, TakesLine, TakesRow, TakesRowLine}
 use Rattle.vdiff_core.specs.RowsValue.{RowValue, RowsValue}
 use Rattle.vdiff_core.proofs.ReadingLaws.{row_there, some_pair}
 use Rattle.vdiff_core.proofs.RowsLaws.{rising_pushed}
@@ -336,9 +336,6 @@ read_once plan text (Err n) (Err m) one other = ap Err (one_bad plan text n m on
 
 -- ---- the loop
 
-pub read_nothing : (plan : PlanValue) (text : List ℕ) → IsReadSoFar plan text at_front text 1
-read_nothing plan text = record { lines = []; parts = refl; stand = refl; number = refl; bound = omega arith }
-
 stand_more : (plan : PlanValue) (lines : List (List ℕ)) (s now new : Behind) (line : List ℕ) → Stand plan s lines now → CanStand plan now new line → Stand plan s (lines ++ line ∷ []) new
 stand_more plan [] s now new line is can = (new, subst (λ (z : Behind). CanStand plan z new line) (sym is) can, refl)
 stand_more plan (l ∷ lines) s now new line (then, may, others) can = (then, may, stand_more plan lines then now new line others can)
@@ -416,11 +413,6 @@ key_not_behind plan old t width row text behind key taken wide last is_key not_b
     let keys : x.row.0 ≡ key = ok_same x.row.0 key (sym x.fits.key ∙ ap (λ (k : ℕ). key_of plan k x.row.1) same.1 ∙ ap (key_of plan t) same.0 ∙ is_key) in
     not_below (subst (λ (k : KeyValue). AreBelow key_cmp k old.rows) keys x.above)
 
-pub no_row_stands : (plan : PlanValue) (old : Behind) (t width : ℕ) (text : List ℕ) → NoRowIn width text → width ≡ length (columns_of plan t) → old.begun ≡ t + 1 → NoRowStands plan old text
-no_row_stands plan old t width text none wide last line rest new is x =
-    let table : x.row.0.table ≡ t = omega (arith, x.begun_last, last) in
-    none x.row.1 rest (x.fits.width ∙ ap (λ (k : ℕ). length (columns_of plan k)) table ∙ sym wide) x.fits.bytes x.fits.limits (is ∙ ap (λ (l : List ℕ). l ++ rest) x.is_line)
-
 pub row_is_added : (plan : PlanValue) (old : Behind) (t width : ℕ) (row : RowValue) (text behind : List ℕ) (key : KeyValue) → TakesRow width row text behind → width ≡ length (columns_of plan t) → old.begun ≡ t + 1 → t < length plan.tables → key_of plan t row ≡ Ok key → key.table ≡ t
     → AreBelow key_cmp key old.rows → TakesRowLine plan old (record { begun = old.begun; rows = old.rows ++ (key, row) ∷ [] }) text behind
 row_is_added plan old t width row text behind key taken wide last lt is_key table below = record {
@@ -446,9 +438,6 @@ row_is_added plan old t width row text behind key taken wide last lt is_key tabl
 
 pub table_begins : (plan : PlanValue) (old : Behind) (text rest : List ℕ) → old.begun < length plan.tables → text ≡ table_line (table_name plan old.begun) ++ rest → TakesLine plan old (record { begun = old.begun + 1; rows = old.rows }) text rest
 table_begins plan old text rest lt is = record { line = table_line (table_name plan old.begun); parts = is; can = inl record { more = lt; is_line = refl; is_new = refl } }
-
-pub row_stands : (plan : PlanValue) (old new : Behind) (text rest : List ℕ) → TakesRowLine plan old new text rest → TakesLine plan old new text rest
-row_stands plan old new text rest taken = record { line = taken.line; parts = taken.parts; can = inr taken.adds }
 
 pub none_stands : (plan : PlanValue) (old : Behind) (text : List ℕ) → (old.begun < length plan.tables → (rest : List ℕ) → text ≡ table_line (table_name plan old.begun) ++ rest → ⊥) → NoRowStands plan old text → NoLineStands plan old text
 none_stands plan old text no_table no_row line others new is (inl x) = no_table x.more others (is ∙ ap (λ (l : List ℕ). l ++ others) x.is_line)

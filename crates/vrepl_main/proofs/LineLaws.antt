@@ -1,5 +1,5 @@
 -- laws of scripts
-use Rattle.std.proofs.Common.{◌≡◌, ℕ, ◌+◌, ◌*◌, ◌<◌, ◌≤◌, ◌^◌, List, [], ◌∷◌, ◌++◌, Option, None, Some, Result, Ok, Err, refl, sym, ap, ◌∙◌, append_assoc, arith}
+use Rattle.std.proofs.Common.{◌≡◌, ℕ, ◌+◌, ◌*◌, ◌<◌, ◌≤◌, ◌^◌, List, [], ◌∷◌, Option, None, Some, refl, sym, ap, ◌∙◌, arith}
 use Rattle.std.specs.Prelude.{◌-◌, ◌&&◌, nat_le, not}
 use Rattle.std.proofs.lemmas.Bool.Decides.{nat_tests}
 use Rattle.std.proofs.lemmas.Bool.{ltb-true, ltb-false}
@@ -8,10 +8,8 @@ use Rattle.std.proofs.Common.{Bool, true, false, cond, ltb, length, take, drop, 
 use Rattle.std.specs.Option.{option_and_then}
 use Rattle.std.specs.List.{slice_split, position_or_len, onto_first}
 use Rattle.std.proofs.lemmas.List.Splits.{slice_split_first}
-use Rattle.vrepl_main.specs.ScriptLines.{number_continued, small, steps_then}
-use Rattle.vrepl_main.specs.ScriptRefusal.{steps_before}
+use Rattle.vrepl_main.specs.ScriptLines.{number_continued, small}
 use Rattle.vrepl_main.specs.declared.script.Line.TheVariants as line
-use Rattle.vrepl_main.specs.declared.script.ScriptStep.{ScriptStep}
 
 -- ---- numbers
 
@@ -65,11 +63,3 @@ pub split-last : (p : ℕ → Bool) (xs : List ℕ) (r : Option ℕ) → r ≡ N
 split-last p xs r absent is = split-last-place p xs (position_or_len p xs) (ltb (position_or_len p xs) (length xs)) refl refl (sym absent ∙ is)
 
 -- ---- steps
-
-pub behind-skipped : (front : List ScriptStep) (number : ℕ) (others : Result (List ScriptStep) ℕ) → steps_before front (steps_then number line.Skipped others) ≡ steps_before front others
-behind-skipped front number (Ok steps) = refl
-behind-skipped front number (Err bad) = refl
-
-pub behind-step : (front : List ScriptStep) (number : ℕ) (step : ScriptStep) (others : Result (List ScriptStep) ℕ) → steps_before front (steps_then number (line.Step step) others) ≡ steps_before (front ++ step ∷ []) others
-behind-step front number step (Ok steps) = ap Ok (sym (append_assoc front (step ∷ []) steps))
-behind-step front number step (Err bad) = refl

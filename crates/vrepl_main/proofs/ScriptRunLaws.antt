@@ -1,30 +1,20 @@
 -- The lines of a script taken one after another, and what is printed of their replies.
-use Rattle.std.proofs.Common.{◌≡◌, ◌∙◌, ap, sym, subst, ℕ, ◌+◌, ◌<◌, ◌≤◌, List, [], ◌∷◌, ◌++◌, length, take, get_or, refl, append-nil, arith, Option, Some, None, Result, Ok, Err}
-use Rattle.std.specs.Prelude.{IsSomeAnd, option_map}
+use Rattle.std.proofs.Common.{◌≡◌, ◌∙◌, ap, sym, subst, ℕ, ◌+◌, ◌<◌, ◌≤◌, List, [], ◌∷◌, ◌++◌, length, take, get_or, refl, append-nil, arith, Result, Ok, Err}
 use Rattle.std.proofs.lemmas.List.{take_more, take_all}
 use Rattle.std.proofs.lemmas.Grind.{flat_map-append}
 use Rattle.std.proofs.lemmas.List.Concat.{flat_map-cons}
 use Rattle.filter_rule.specs.PlanValue.{PlanValue}
-use Rattle.source_feed.specs.GroupValue.{Position}
 use Rattle.source_feed.specs.Planned.{FeedValue}
-use Rattle.stream_core.specs.Standing.{Standing}
-use Rattle.board_laws.specs.Lawful.{standing_of}
-use Rattle.board_laws.specs.Meaning.{State, Meaning}
-use Rattle.board_laws.specs.Sources.{applied_position}
+use Rattle.board_laws.specs.Meaning.{Meaning}
 use Rattle.vdiff_core.proofs.PrintLaws.{adds_none}
 use Rattle.vdiff_core.specs.Printing.{Written, Prints}
 use Rattle.vrepl_main.specs.Adding.{WriterPlace, at, IsTextPut, IsBegun}
 use Rattle.vrepl_main.specs.declared.script.ScriptStep.{ScriptStep}
-use Rattle.vrepl_main.specs.ScriptRun.{ScriptReply, IsScriptStep, IsScriptRun, reply_text, replies_text, where_of}
+use Rattle.vrepl_main.specs.ScriptRun.{ScriptReply, IsScriptStep, IsScriptRun, reply_text, replies_text}
 use Rattle.vrepl_main.specs.ScriptPrinting.{RepliesTo, HasReplied, PrintsRun}
 use Rattle.vrepl_main.proofs.AddLaws.{then_put, then_stops, then_finishes}
 
 -- ---- where a stream stands
-
-pub where_shown : (state : Option State) (now : Standing) (position : Position) → IsSomeAnd state (λ s. now ≡ standing_of s) → IsSomeAnd state (λ s. position ≡ applied_position s)
-    → Some (now, position) ≡ option_map where_of state
-where_shown None now position is also = absurd is
-where_shown (Some s) now position is also = rw (is, also) refl
 
 -- ---- runs
 

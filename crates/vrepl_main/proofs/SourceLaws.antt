@@ -1,16 +1,11 @@
 -- The board stays lawful and reads its feeds behind each line of a script, so that each dump shows its sources.
-use Rattle.std.proofs.Common.{◌≡◌, ◌==◌, ◌++◌, ℕ, Bool, true, false, List, [], ◌∷◌, Option, Some, None, Result, Ok, Err, OnOk, refl, sym, subst}
-use Rattle.std.proofs.lemmas.Bool.{true≢false}
+use Rattle.std.proofs.Common.{◌++◌, ℕ, Bool, true, List, [], ◌∷◌, Option, Some, None, Result, Ok, Err, OnOk, refl, sym, subst}
 use Rattle.std.specs.List.{AllByRecursion}
 use Rattle.source_feed.specs.Planned.{FeedValue}
 use Rattle.stream_core.specs.declared.step.Step.{Step}
 use Rattle.board_laws.specs.Meaning.{State, Meaning}
 use Rattle.board_laws.specs.Schedule.{Reply, IsReply}
 use Rattle.board_laws.specs.Sources.{AllShowTheirSources}
-use Rattle.board_laws.specs.Refusals.{number_of_step}
-use Rattle.board_laws.specs.declared.refusal.Refusal.TheVariants.{NoStream, WrongPlan, Diverged, Core, OwnedByOther, FeedCount, Memory}
-use Rattle.board_laws.specs.declared.step_refusal.StepRefusal.{StepRefusal}
-use Rattle.board_laws.specs.declared.step_refusal.StepRefusal.TheVariants.{Unprepared, Refused}
 use Rattle.board_laws.proofs.Following.{run-lawful}
 use Rattle.board_laws.proofs.FeedLaws.{run-reads}
 use Rattle.board_laws.proofs.Sources.{all_show}
@@ -62,16 +57,6 @@ script_shows feeds old new (step ∷ steps) (reply ∷ replies) (between, first,
     (later.0, (one.1, later.1))
 
 -- ---- want of memory
-
-pub told_by : (refusal : StepRefusal) → (number_of_step refusal == 72) ≡ false → IsTold (answers (Err refusal))
-told_by (Unprepared fault) other = tt
-told_by (Refused NoStream) other = tt
-told_by (Refused WrongPlan) other = tt
-told_by (Refused Diverged) other = tt
-told_by (Refused (Core refusal)) other = tt
-told_by (Refused (OwnedByOther key owner)) other = tt
-told_by (Refused FeedCount) other = tt
-told_by (Refused Memory) other = absurd (true≢false other)
 
 pub stands_told : (stream : ℕ) (o : Option State) → IsTold (standing_reply stream o)
 stands_told stream None = tt
