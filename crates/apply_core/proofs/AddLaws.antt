@@ -17,23 +17,21 @@ use Rattle.source_feed.specs.Image.{ImageRows}
 use Rattle.source_feed.specs.Planned.{FeedValue, IsFeed}
 use Rattle.source_feed.specs.Prepared.{IsSameOn}
 use Rattle.source_feed.specs.Touches.{PreparedValue, prepared, prepared_at}
-use Rattle.board_laws.specs.Lawful.{IsSoundState, IsLawful}
+use Rattle.board_laws.specs.Lawful.{IsSoundState}
 use Rattle.board_laws.specs.Meaning.{State, TargetRows, Meaning}
 use Rattle.board_laws.specs.Runs.{sound_groups}
-use Rattle.board_laws.proofs.Lists.{slice_get-take, slice_get-push}
+use Rattle.board_laws.proofs.Lists.{slice_get-take}
 use Rattle.added_laws.specs.declared.fault.AddFault.{AddFault}
 use Rattle.added_laws.specs.declared.fault.AddFault.TheVariants.{FeedCount, PlanNotExtended, WrongPlan, HistoriesDiffer, Unsound, Memory}
-use Rattle.added_laws.specs.Extended.{marks_of_more, extended_state, extended_states, extended_board, AreExtended, MayExtend}
-use Rattle.added_laws.specs.GoingOn.{GoesOnTo, GoesOn, MeetsUnsound, IsOfOtherHistory, GoOnBefore, StopsAt}
+use Rattle.added_laws.specs.Extended.{marks_of_more, extended_state, extended_states, extended_board, MayExtend}
+use Rattle.added_laws.specs.GoingOn.{GoesOnTo, GoesOn, IsOfOtherHistory, GoOnBefore, StopsAt}
 use Rattle.added_laws.specs.Laws.{ExtendedStatesAreSound, FeedsThatGoOnArentStopped}
 use Rattle.added_laws.proofs.Boards.{becomes, as_many}
-use Rattle.join_laws.specs.Compatible.{plans_of_board}
-use Rattle.checkpoint_laws.proofs.ResumedLaws.{at_same_place}
 use Rattle.checkpoint_core.specs.Groups.{AreFirst, StopsBefore}
 use Rattle.checkpoint_core.proofs.GroupLaws.{there_at_number, front_ends, first_more, first_stops}
 use Rattle.apply_core.specs.Adding.{AreTaken, IsRefusedAdd}
-use Rattle.apply_core.specs.Feeds.{AreWholeFeeds, AreFed}
-use Rattle.apply_core.specs.Private.Adding.{fault_of_feed, IsGroupAgain, IsNotAgain, AreAgain, IsStoppedBy, IsExtendedBy, FeedsExtend, AreExtendedUpTo, AreStopped}
+use Rattle.apply_core.specs.Feeds.{AreWholeFeeds}
+use Rattle.apply_core.specs.Private.Adding.{fault_of_feed, IsNotAgain, AreAgain, IsStoppedBy, IsExtendedBy, FeedsExtend, AreExtendedUpTo, AreStopped}
 use Rattle.apply_core.specs.Private.StreamState.{IsStream}
 
 -- ---- lists
@@ -132,9 +130,6 @@ module _ (feed : FeedValue) (state : State) (i : ℕ) (groups : List PreparedVal
   stopped old s PlanNotExtended less enough here h = h
   stopped old s WrongPlan less enough here h = h
 
-pub all_again : (feed : FeedValue) (state : State) (i : ℕ) (groups : List PreparedValue) → i ≡ state.applied → AreAgain feed state i groups → AreAgain feed state state.applied groups
-all_again feed state i groups end again = subst (λ n. AreAgain feed state n groups) end again
-
 -- the mark of the first table that isn't done is its key, or none
 at_current : (m : Marks) → mark_of m m.done ≡ current_mark m.upto
 at_current m =
@@ -225,9 +220,6 @@ module _ (feeds : List FeedValue) (states : List State) (s : ℕ) (feed : FeedVa
   stops_here FeedCount stop = stop
   stops_here PlanNotExtended stop = stop
   stops_here WrongPlan stop = stop
-
-pub all_extended : (feeds : List FeedValue) (states new : List State) (s : ℕ) → s ≡ length states → AreExtendedUpTo feeds states s new → AreExtendedUpTo feeds states (length states) new
-all_extended feeds states new s end h = subst (λ n. AreExtendedUpTo feeds states n new) end h
 
 -- ---- the board
 

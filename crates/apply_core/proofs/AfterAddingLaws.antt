@@ -12,13 +12,13 @@ use Rattle.board_laws.specs.Runs.{sound_groups}
 use Rattle.board_laws.specs.StateAfter.{state_after}
 use Rattle.board_laws.proofs.Lookups.{Ties}
 use Rattle.added_laws.specs.Extended.{extended_state, extended_states, extended_board, MayExtend}
-use Rattle.added_laws.specs.GoingOn.{GoesOn, MeetsUnsound, GoOnBefore, StopsAt}
+use Rattle.added_laws.specs.GoingOn.{MeetsUnsound, GoOnBefore, StopsAt}
 use Rattle.checkpoint_laws.specs.declared.fault.ResumeFault.{ResumeFault}
 use Rattle.checkpoint_laws.specs.declared.fault.ResumeFault.TheVariants.{FeedCount, WrongPlan, CheckpointBad, PositionUnknown, Unsound, CheckpointDiffers, OwnedByOther, Memory}
-use Rattle.checkpoint_laws.specs.Added.{under_plans, SavedBoardsAreSaidOfMore, ExtendedBoardsAreResumed, IsOfSameHistory, AreOfSameHistories}
+use Rattle.checkpoint_laws.specs.Added.{under_plans, SavedBoardsAreSaidOfMore, ExtendedBoardsAreResumed, IsOfSameHistory}
 use Rattle.checkpoint_laws.specs.Laws.{AreFeeds, restarted, CheckpointsSayOneThing}
 use Rattle.checkpoint_laws.specs.Refused.{plans_of_feeds, AreUnsound, IsRefusedSaved, IsRefusedCheckpoint}
-use Rattle.checkpoint_laws.specs.Resumed.{AreResumed, IsResumedBoard}
+use Rattle.checkpoint_laws.specs.Resumed.{IsResumedBoard}
 use Rattle.checkpoint_laws.specs.Said.{IsCheckpoint}
 use Rattle.checkpoint_laws.specs.Saved.{SavedStream, saved_of}
 use Rattle.checkpoint_laws.proofs.MoreLaws.{StandsAt, stands_at, as_many_feeds, known_at_stream, resumed_go_on}

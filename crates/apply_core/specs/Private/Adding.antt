@@ -1,5 +1,5 @@
 -- Streams to which tables are added, one after another.
-use Rattle.std.specs.Prelude.{◌≡◌, ◌≢◌, ℕ, ◌<◌, List, length, map, take, Some, Ok, Err, slice_get}
+use Rattle.std.specs.Prelude.{◌≡◌, ℕ, List, take, Some, Ok, Err, slice_get}
 use Rattle.filter_rule.specs.Extending.{IsExtended}
 use Rattle.source_feed.specs.declared.fault.FeedFault.{FeedFault}
 use Rattle.source_feed.specs.declared.fault.FeedFault.TheVariants as feed
@@ -9,7 +9,7 @@ use Rattle.source_feed.specs.Touches.{PreparedValue, prepared_at}
 use Rattle.board_laws.specs.Meaning.{State}
 use Rattle.board_laws.specs.Runs.{sound_groups}
 use Rattle.added_laws.specs.declared.fault.AddFault.{AddFault}
-use Rattle.added_laws.specs.declared.fault.AddFault.TheVariants.{FeedCount, PlanNotExtended, WrongPlan, HistoriesDiffer, Unsound, Memory}
+use Rattle.added_laws.specs.declared.fault.AddFault.TheVariants.{HistoriesDiffer, Unsound, Memory}
 use Rattle.added_laws.specs.Extended.{extended_state, extended_states}
 use Rattle.added_laws.specs.GoingOn.{GoesOnTo, GoesOn, MeetsUnsound, IsOfOtherHistory, GoOnBefore, StopsAt}
 

@@ -1,4 +1,4 @@
-use Rattle.std.proofs.Common.{◌≤◌, ◌∙◌, map, ap, arith}
+use Rattle.std.proofs.Common.{◌∙◌, map, ap, arith}
 use Rattle.std.specs.Arc.{arc_value}
 use Rattle.added_laws.specs.Extended.{marks_of_more}
 use Rattle.apply_core.proofs.AddLaws.{made_extended, made_stream}

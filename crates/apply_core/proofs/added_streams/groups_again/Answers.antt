@@ -3,10 +3,9 @@ use Rattle.std.proofs.lemmas.Bool.{true≢false}
 use Rattle.std.proofs.lemmas.List.{length-map, map-append}
 use Rattle.std.proofs.lemmas.Result.{err_from_is_err_and}
 use Rattle.std.specs.Arc.{arc_value}
-use Rattle.source_feed.specs.Prepared.{IsSameOn}
 use Rattle.source_feed.specs.Touches.{PreparedValue}
 use Rattle.apply_core.specs.Private.Adding.{IsNotAgain, IsGroupAgain}
-use Rattle.apply_core.proofs.AddLaws.{fewer_by, again_none, again_more, stopped, all_again}
+use Rattle.apply_core.proofs.AddLaws.{fewer_by, again_none, again_more, stopped}
 use Rattle.apply_core.proofs.StreamLaws.{item_at}
 use Rattle.apply_core.proofs.added_streams.groups_again.Goals as goal
 

@@ -1,9 +1,8 @@
-use Rattle.std.proofs.Common.{◌≡◌, List, map, refl, sym, subst, ◌∙◌}
+use Rattle.std.proofs.Common.{◌≡◌, map, refl, sym, subst, ◌∙◌}
 use Rattle.std.specs.Arc.{arc_value}
 use Rattle.board_laws.specs.Lawful.{IsLawful}
-use Rattle.board_laws.specs.Meaning.{State, Meaning}
 use Rattle.board_laws.specs.Reading.{AllReadTheirFeeds}
-use Rattle.added_laws.specs.Extended.{extended_states, extended_board, MayExtend}
+use Rattle.added_laws.specs.Extended.{extended_board, MayExtend}
 use Rattle.apply_core.proofs.AddLaws.{as_many_as, may_extend, memory_alone, all_streams, extended_is}
 use Rattle.apply_core.proofs.adding.add_tables.Goals as goal
 
