@@ -1,6 +1,6 @@
 //! The pages of a map, and the empty ones that lie ready for new keys.
 
-ghost use Rattle.std.specs.Prelude.{◌≡◌, ℕ, ◌+◌, ◌^◌, ◌<◌, ◌≤◌, [], ◌∷◌, IfOk, OnOk, length, set};
+ghost use Rattle.std.specs.Prelude.{◌≡◌, ◌↔◌, ℕ, ◌+◌, ◌^◌, ◌<◌, ◌≤◌, [], ◌∷◌, IfOk, IsTrue, OnOk, length, set};
 ghost use Rattle.std.specs.List.{All, insert, remove};
 ghost use Rattle.std.specs.Prelude.{vec_len};
 ghost use Rattle.std.specs.Vec.{vec_capacity};
@@ -34,6 +34,13 @@ impl<K, R> Model for Pages<K, R> {
     ghost view = { λ b. record { pages = b.list.items; spares = vec_len b.spares } };
 
     ghost invariant = { λ b. AreKept b.list.items b.spares.items (vec_len b.list + vec_len b.spares) (vec_capacity b.list) (vec_capacity b.spares) };
+}
+
+/// Whether so many pages, and so many more, are more than a map has: no memory has room for their entries.
+fn are_too_many(pages: usize, more: usize) -> bool
+    ensures { IsTrue result ↔ (2 ^ 56 < pages + more) }
+{
+    more > MOST || pages > MOST - more
 }
 
 /// Empty pages are added until there are so many. Their places are there.
@@ -81,7 +88,7 @@ impl<K, R> Pages<K, R> {
 }
 
 impl<K: Drop, R: Drop> Pages<K, R> {
-    /// Sees that so many empty pages lie ready. An error is want of memory.
+    /// Sees that so many empty pages lie ready. An error is want of memory; 2^56 pages are more than any has.
     pub fn reserve(&mut self, count: usize) -> Result<(), AllocError>
         ensures pages { self.new.pages ≡ self.old.pages }
         ensures kept { self.old.spares ≤ self.new.spares }
@@ -90,7 +97,7 @@ impl<K: Drop, R: Drop> Pages<K, R> {
         if self.spares.len() >= count {
             return Ok(());
         }
-        if count > MOST || self.list.len() > MOST - count {
+        if are_too_many(self.list.len(), count) {
             return Err(AllocError);
         }
         let alloc = *self.list.allocator();
