@@ -68,7 +68,7 @@ fn columns_of<'t>(alloc: Global, texts: &'t [PartText<'_>]) -> Result<Vec<Column
 }
 
 /// The key as a row of just its parts, in key order: numbers in shortest decimal text, other parts as
-/// their bytes. An error is want of memory, or a key that is longer than a row may be.
+/// their bytes. An error is want of memory; a key of a row is no longer than a row may be.
 pub fn lastpk_of(alloc: Global, key: &KeyView<'_>) -> Result<RowBuf, AllocError>
     ensures { IfOk result (λ row. row ≡ lastpk_of key.now) }
 {

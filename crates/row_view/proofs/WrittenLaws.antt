@@ -1,23 +1,26 @@
 -- A row that is written is read again.
-use Rattle.std.proofs.Common.{◌≡◌, ℕ, ℤ, pos, negsuc, ◌+◌, ◌*◌, ◌/◌, ◌%◌, ◌^◌, ◌<◌, ◌≤◌, true, false, eqb, ltb, List, [], ◌∷◌, ◌++◌, map, length, take, drop, Option, Some, None, Result, Ok, refl, sym, ap, subst, ◌∙◌, append_assoc, arith}
+use Rattle.std.proofs.Common.{◌≡◌, ℕ, ℤ, pos, negsuc, ◌+◌, ◌*◌, ◌/◌, ◌%◌, ◌^◌, ◌<◌, ◌≤◌, Bool, true, false, ◌&&◌, ◌==◌, eqb, ltb, List, [], ◌∷◌, ◌++◌, map, length, take, drop, Option, Some, None, Result, Ok, Err, refl, sym, ap, subst, ◌∙◌, append_assoc, arith}
 use Rattle.std.specs.List.{filter_map, AllByRecursion}
-use Rattle.std.proofs.lemmas.Bool.{eq-eqb, ne_eqb, le-ltb}
+use Rattle.std.proofs.lemmas.Bool.{eq-eqb, eqb-true, ne_eqb, le-ltb, lt-ltb}
 use Rattle.std.proofs.lemmas.List.Concat.{flat_map-append}
 use Rattle.std.proofs.lemmas.List.{length-append, length-map, take_at, drop_at, append-nil}
 use Rattle.proto_wire.specs.declared.fault.WireFault.{WireFault}
 use Rattle.proto_wire.specs.Reading.{Reading}
+use Rattle.proto_wire.specs.Varint as varints
 use Rattle.proto_wire.specs.Varint.{varints_of, shortest}
-use Rattle.proto_wire.specs.Field.{WireField, fields_of}
+use Rattle.proto_wire.specs.Field.{WireField, Varint, fields_of}
 use Rattle.proto_wire.specs.Parts.{part_in, last_of}
 use Rattle.proto_wire.specs.Zigzag.{zigzag_of, unzigzag_of}
 use Rattle.proto_wire.specs.Writing.{written_field, written_fields, text_field, IsWritable, FieldsAreReadAgain, NumbersAreReadAgain}
 use Rattle.row_view.specs.RowFields.{lengths_of, fault_of, row_lengths, row_values, row_wire_fault}
-use Rattle.std.specs.Prelude.{IsOk}
+use Rattle.std.specs.Prelude.{IsOk, IfOk, OnOk}
 use Rattle.row_view.specs.declared.fault.RowFault.{RowFault}
 use Rattle.row_view.specs.Private.Kept.{IsGood}
 use Rattle.row_view.proofs.KeptLaws.{good-from_IsOk}
 use Rattle.row_view.specs.Row.{size_of_all, columns_in, columns_over, row_with, row_of_message}
-use Rattle.row_view.specs.WrittenRow.{length_of, length_number, written_lengths, written_values, written_row, RowsAreReadAgain}
+use Rattle.row_view.specs.WrittenRow.{length_of, length_number, written_lengths, written_values, packed_fields, is_plain, length_field, length_fields, written_row, IsWithinLimits, RowsAreReadAgain}
+use Rattle.row_view.specs.Private.Sizes.{AreSizes}
+use Rattle.row_view.specs.declared.written_row.RowSize.{RowSize}
 
 -- ---- lengths
 
@@ -130,32 +133,154 @@ not_broken bytes short fault e none =
     let whole : row_wire_fault bytes ≡ None = e ∙ none in
     rw (size, whole) refl
 
-pub rows_read_again : FieldsAreReadAgain → NumbersAreReadAgain → RowsAreReadAgain
-rows_read_again fields numbers columns limits =
+-- ---- with packed lengths
+
+packed_row_again : FieldsAreReadAgain → NumbersAreReadAgain → (columns : List (Option (List ℕ))) → length columns ≤ 256 → length (written_fields (packed_fields columns)) ≤ 2 ^ 24
+    → row_of_message (written_fields (packed_fields columns)) ≡ Ok columns
+packed_row_again fields numbers columns few short =
     let packed = written_lengths columns in
     let values = written_values columns in
-    let bytes = written_row columns in
-    let within = parts_within packed values limits.short in
+    let bytes = written_fields (packed_fields columns) in
+    let within = parts_within packed values short in
     let read : fields_of bytes ≡ record { items = both packed values; fault = None } = fields (both packed values) (fields_writable packed values within.0 within.1) in
     let nil : varints_of [] ≡ record { items = []; fault = None } = numbers [] tt in
     let held : varints_of packed ≡ record { items = map length_number columns; fault = None } = numbers (map length_number columns) (numbers_fit columns within.1) in
     let whole : row_wire_fault bytes ≡ None = ap fault_of read ∙ fault_none packed values (ap (λ (r : Reading ℕ WireFault). r.fault) held) in
     let lengths_are : row_lengths bytes ≡ map length_of columns = ap (λ (r : Reading WireField WireFault). lengths_of r.items) read ∙ lengths_held packed values (map length_number columns) nil held ∙ lengths_back columns in
     let values_are : row_values bytes ≡ values = ap (λ (r : Reading WireField WireFault). last_of [] (filter_map (part_in 2) r.items)) read ∙ values_held packed values in
-    not_broken bytes limits.short None whole refl ∙ ap (λ (v : List ℕ). row_with v (row_lengths bytes)) values_are ∙ ap (λ (ns : List ℤ). row_with values ns) lengths_are ∙ with_all columns limits.few
+    not_broken bytes short None whole refl ∙ ap (λ (v : List ℕ). row_with v (row_lengths bytes)) values_are ∙ ap (λ (ns : List ℤ). row_with values ns) lengths_are ∙ with_all columns few
+
+packed_lengths : (columns : List (Option (List ℕ))) → is_plain columns ≡ false → length_fields columns ≡ text_field 1 (written_lengths columns)
+unfolding length_fields
+packed_lengths columns e = rw e refl
+
+plain_lengths : (columns : List (Option (List ℕ))) → is_plain columns ≡ true → length_fields columns ≡ map length_field columns
+unfolding length_fields
+plain_lengths columns e = rw e refl
+
+packed_again : FieldsAreReadAgain → NumbersAreReadAgain → (columns : List (Option (List ℕ))) → IsWithinLimits columns → is_plain columns ≡ false → row_of_message (written_row columns) ≡ Ok columns
+packed_again fields numbers columns limits not_plain =
+    let as_packed : written_row columns ≡ written_fields (packed_fields columns) = ap (λ (fs : List WireField). written_fields (fs ++ text_field 2 (written_values columns))) (packed_lengths columns not_plain) in
+    let short : length (written_fields (packed_fields columns)) ≤ 2 ^ 24 = subst (λ (b : List ℕ). length b ≤ 2 ^ 24) as_packed limits.short in
+    ap row_of_message as_packed ∙ packed_row_again fields numbers columns limits.few short
+
+-- ---- with its one length in a field of its own
+
+abbrev plain : ℕ → List ℕ → List WireField
+plain n values = record { number = 1; value = Varint n } ∷ text_field 2 values
+
+plain_fault : (n : ℕ) (values : List ℕ) → fault_of (record { items = plain n values; fault = None }) ≡ None
+plain_fault n [] = refl
+plain_fault n (v ∷ vs) = refl
+
+plain_held : (n : ℕ) (values : List ℕ) → lengths_of (plain n values) ≡ unzigzag_of n ∷ []
+plain_held n [] = refl
+plain_held n (v ∷ vs) = refl
+
+plain_values : (n : ℕ) (values : List ℕ) → last_of [] (filter_map (part_in 2) (plain n values)) ≡ values
+plain_values n [] = refl
+plain_values n (v ∷ vs) = refl
+
+plain_within : (n : ℕ) (values : List ℕ) → length (written_fields (plain n values)) ≤ 2 ^ 24 → length values ≤ 2 ^ 24
+plain_within n values short =
+    let front = written_field (record { number = 1; value = Varint n }) in
+    let whole : length (written_fields (plain n values)) ≡ length front + length (written_fields (text_field 2 values)) = length-append front (written_fields (text_field 2 values)) in
+    omega (arith, whole, text_within 2 values, short)
+
+plain_row_again : FieldsAreReadAgain → (column : Option (List ℕ)) → length (written_fields (plain (length_number column) (written_values (column ∷ [])))) ≤ 2 ^ 24
+    → row_of_message (written_fields (plain (length_number column) (written_values (column ∷ [])))) ≡ Ok (column ∷ [])
+plain_row_again fields column short =
+    let columns = column ∷ [] in
+    let n = length_number column in
+    let values = written_values columns in
+    let bytes = written_fields (plain n values) in
+    let within = plain_within n values short in
+    let fits : AllByRecursion (λ n. n < 2 ^ 64) (map length_number columns) = numbers_fit columns within in
+    let writable : AllByRecursion IsWritable (plain n values) = (record { number = (omega arith, omega arith); payload = fits.0 }, text_writable 2 values (omega arith) (omega arith) (omega arith)) in
+    let read : fields_of bytes ≡ record { items = plain n values; fault = None } = fields (plain n values) writable in
+    let whole : row_wire_fault bytes ≡ None = ap fault_of read ∙ plain_fault n values in
+    let lengths_are : row_lengths bytes ≡ map length_of columns = ap (λ (r : Reading WireField WireFault). lengths_of r.items) read ∙ plain_held n values ∙ lengths_back columns in
+    let values_are : row_values bytes ≡ values = ap (λ (r : Reading WireField WireFault). last_of [] (filter_map (part_in 2) r.items)) read ∙ plain_values n values in
+    not_broken bytes short None whole refl ∙ ap (λ (v : List ℕ). row_with v (row_lengths bytes)) values_are ∙ ap (λ (ns : List ℤ). row_with values ns) lengths_are ∙ with_all columns (omega arith)
+
+both_true : (a b : Bool) → (a && b) ≡ true → a ≡ true
+both_true true b e = refl
+both_true false b e = cc
+
+plain_again : FieldsAreReadAgain → (columns : List (Option (List ℕ))) → IsWithinLimits columns → is_plain columns ≡ true → row_of_message (written_row columns) ≡ Ok columns
+plain_again fields [] limits is = cc
+plain_again fields (column ∷ []) limits is =
+    let columns = column ∷ [] in
+    let as_plain : written_row columns ≡ written_fields (plain (length_number column) (written_values columns)) = ap (λ (fs : List WireField). written_fields (fs ++ text_field 2 (written_values columns))) (plain_lengths columns is) in
+    let short = subst (λ (b : List ℕ). length b ≤ 2 ^ 24) as_plain limits.short in
+    ap row_of_message as_plain ∙ plain_row_again fields column short
+plain_again fields (one ∷ two ∷ others) limits is =
+    let many : (length (one ∷ two ∷ others) == 1) ≡ true = both_true (length (one ∷ two ∷ others) == 1) (ltb (2 ^ 24) (length (written_fields (packed_fields (one ∷ two ∷ others))))) is in
+    let count : length (one ∷ two ∷ others) ≡ 1 = eqb-true (length (one ∷ two ∷ others)) 1 many in
+    absurd (omega (arith, count))
+
+pub rows_read_again : FieldsAreReadAgain → NumbersAreReadAgain → RowsAreReadAgain
+rows_read_again fields numbers columns limits = by (is_plain columns) refl
+  where
+    by : (plain : Bool) → is_plain columns ≡ plain → row_of_message (written_row columns) ≡ Ok columns
+    by true is = plain_again fields columns limits is
+    by false is = packed_again fields numbers columns limits is
 
 -- ---- writing a row
 
 -- the two parts, each behind its head, are the row
 pub row_written : (old one two three four : List ℕ) (columns : List (Option (List ℕ)))
-    → one ++ written_lengths columns ≡ old ++ written_fields (text_field 1 (written_lengths columns)) → two ≡ one ++ written_lengths columns
+    → one ++ written_lengths columns ≡ old ++ written_fields (length_fields columns) → two ≡ one ++ written_lengths columns
     → three ++ written_values columns ≡ two ++ written_fields (text_field 2 (written_values columns)) → four ≡ three ++ written_values columns
     → four ≡ old ++ written_row columns
 row_written old one two three four columns a b c d =
-    let lengths = written_fields (text_field 1 (written_lengths columns)) in
+    let lengths = written_fields (length_fields columns) in
     let values = written_fields (text_field 2 (written_values columns)) in
-    let parts : written_row columns ≡ lengths ++ values = flat_map-append written_field (text_field 1 (written_lengths columns)) (text_field 2 (written_values columns)) in
+    let parts : written_row columns ≡ lengths ++ values = flat_map-append written_field (length_fields columns) (text_field 2 (written_values columns)) in
     d ∙ c ∙ ap (λ (w : List ℕ). w ++ values) (b ∙ a) ∙ append_assoc old lengths values ∙ ap (λ (w : List ℕ). old ++ w) (sym parts)
+
+-- ---- sizes
+
+pub on_ok : {A E P Q : Type 0} (r : Result A E) → (P → Q) → OnOk r P → OnOk r Q
+on_ok (Ok x) f h = f h
+on_ok (Err e) f h = tt
+
+pub if_ok : {A E : Type 0} {P Q : A → Type 0} (r : Result A E) → ((x : A) → P x → Q x) → IfOk r P → IfOk r Q
+if_ok (Ok x) f h = f x h
+if_ok (Err e) f h = tt
+
+-- a row of another number of columns has its lengths packed
+pub not_one : (columns : List (Option (List ℕ))) → (length columns ≡ 1 → ⊥) → is_plain columns ≡ false
+not_one columns many = let e : eqb (length columns) 1 ≡ false = ne_eqb (length columns) 1 many in rw e refl
+
+-- how long it would be with its lengths packed
+pub packed_size : (columns : List (Option (List ℕ))) → length (written_fields (packed_fields columns)) ≡ length (written_fields (text_field 1 (written_lengths columns))) + length (written_fields (text_field 2 (written_values columns)))
+packed_size columns = ap length (flat_map-append written_field (text_field 1 (written_lengths columns)) (text_field 2 (written_values columns))) ∙ length-append (written_fields (text_field 1 (written_lengths columns))) (written_fields (text_field 2 (written_values columns)))
+
+-- a row of one column has them packed unless that is longer than a row may be
+pub is_one : (columns : List (Option (List ℕ))) → length columns ≡ 1 → is_plain columns ≡ ltb (2 ^ 24) (length (written_fields (packed_fields columns)))
+is_one columns one = let e : eqb (length columns) 1 ≡ true = eq-eqb (length columns) 1 one in rw e refl
+
+-- the lengths of a row, with what stands before them
+pub head_plain : (columns : List (Option (List ℕ))) → is_plain columns ≡ true → written_fields (length_fields columns) ≡ shortest 8 ++ written_lengths columns
+head_plain [] is = cc
+head_plain (column ∷ []) is = ap written_fields (plain_lengths (column ∷ []) is) ∙ append_assoc (shortest 8) (shortest (length_number column)) []
+head_plain (one ∷ two ∷ others) is =
+    let many : (length (one ∷ two ∷ others) == 1) ≡ true = both_true (length (one ∷ two ∷ others) == 1) (ltb (2 ^ 24) (length (written_fields (packed_fields (one ∷ two ∷ others))))) is in
+    let count : length (one ∷ two ∷ others) ≡ 1 = eqb-true (length (one ∷ two ∷ others)) 1 many in
+    absurd (omega (arith, count))
+
+-- the tag of a length in a field of its own
+pub one_byte : length (shortest 8) ≡ 1
+unfolding shortest varints.shortest_within
+one_byte = refl
+
+pub head_packed : (columns : List (Option (List ℕ))) → is_plain columns ≡ false → written_fields (length_fields columns) ≡ written_fields (text_field 1 (written_lengths columns))
+head_packed columns is = ap written_fields (packed_lengths columns is)
+
+-- a row is as long as its lengths and its values
+pub row_length : (columns : List (Option (List ℕ))) → length (written_row columns) ≡ length (written_fields (length_fields columns)) + length (written_fields (text_field 2 (written_values columns)))
+row_length columns = ap length (flat_map-append written_field (length_fields columns) (text_field 2 (written_values columns))) ∙ length-append (written_fields (length_fields columns)) (written_fields (text_field 2 (written_values columns)))
 
 -- ---- a row in memory of its own
 

@@ -2,3 +2,4 @@
 pub mod Marks
 pub mod Counted
 pub mod Kept
+pub mod Sizes

@@ -1,8 +1,9 @@
 -- How a row is written (`query.proto`, Row): its lengths packed, a NULL's as -1, and its values one
--- after another.
-use Rattle.std.specs.Prelude.{◌≡◌, ℕ, ℤ, pos, negsuc, ◌^◌, ◌≤◌, List, [], ◌++◌, map, length, Option, Some, None, Ok}
+-- after another. A single length stands in a field of its own, a byte less, where the row is within the
+-- limits only so.
+use Rattle.std.specs.Prelude.{◌≡◌, ℕ, ℤ, pos, negsuc, ◌^◌, ◌≤◌, ◌==◌, ◌&&◌, nat_lt, if◌then◌else◌, Bool, List, [], ◌++◌, map, length, Option, Some, None, Ok}
 use Rattle.std.specs.List.{flat_map}
-use Rattle.proto_wire.specs.Field.{WireField}
+use Rattle.proto_wire.specs.Field.{WireField, Varint}
 use Rattle.proto_wire.specs.Writing.{written_numbers, written_fields, text_field}
 use Rattle.proto_wire.specs.Zigzag.{zigzag_of}
 use Rattle.row_view.specs.declared.found.TheConstants.{LENGTHS, VALUES}
@@ -30,9 +31,25 @@ written_lengths columns = written_numbers (map length_number columns)
 abbrev pub written_values : List (Option (List ℕ)) → List ℕ
 written_values columns = flat_map value_bytes columns
 
+-- the fields of a row message whose lengths are packed
+abbrev pub packed_fields : List (Option (List ℕ)) → List WireField
+packed_fields columns = text_field LENGTHS (written_lengths columns) ++ text_field VALUES (written_values columns)
+
+-- whether a row is of one column and its length isn't packed, since the row would have more than 2^24 bytes
+abbrev pub is_plain : List (Option (List ℕ)) → Bool
+is_plain columns = length columns == 1 && nat_lt (2 ^ 24) (length (written_fields (packed_fields columns)))
+
+-- the length of a column in a field of its own
+abbrev pub length_field : Option (List ℕ) → WireField
+length_field column = record { number = LENGTHS; value = Varint (length_number column) }
+
+-- the fields that have the lengths
+unfoldable pub length_fields : List (Option (List ℕ)) → List WireField
+length_fields columns = if is_plain columns then map length_field columns else text_field LENGTHS (written_lengths columns)
+
 -- the fields of a row message
 abbrev pub row_fields : List (Option (List ℕ)) → List WireField
-row_fields columns = text_field LENGTHS (written_lengths columns) ++ text_field VALUES (written_values columns)
+row_fields columns = length_fields columns ++ text_field VALUES (written_values columns)
 
 -- a row message as it is written
 abbrev pub written_row : List (Option (List ℕ)) → List ℕ

@@ -6,10 +6,10 @@ ghost use Rattle.row_view.specs.ColumnValue.{column_value};
 ghost use Rattle.row_view.specs.WrittenRow.{written_lengths, written_values, written_row, RowsAreReadAgain};
 
 use crate::column::Column;
-use crate::found::{LENGTHS, VALUES};
+use crate::found::VALUES;
 use crate::written_laws::rows_are_read_again;
 use crate::written_row::{RowSize, length_number, value_of};
-use proto_wire::{cut_after_error, put_text_head, put_varint, size_of_both, text_field_size};
+use proto_wire::{cut_after_error, put_text_head, put_varint};
 use std::alloc::AllocError;
 
 /// The sizes of the parts of a row of these columns.
@@ -55,7 +55,7 @@ fn append_columns(out: &mut Vec<u8>, columns: &[Column<'_>]) -> Result<(), Alloc
     ensures kept { Begins out.old.items out.new.items }
 {
     let size = size_of_columns(columns)?;
-    put_text_head(out, LENGTHS, size.lengths)?;
+    size.put_head(out, columns.len())?;
     put_lengths_of(out, columns)?;
     put_text_head(out, VALUES, size.values)?;
     put_values_of(out, columns)?;
@@ -71,8 +71,7 @@ pub fn write_columns(out: &mut Vec<u8>, columns: &[Column<'_>]) -> Result<(), Al
 {
     rows_are_read_again();
     let size = size_of_columns(columns)?;
-    let lengths = text_field_size(LENGTHS, size.lengths)?;
-    out.reserve(size_of_both(lengths, text_field_size(VALUES, size.values)?)?)?;
+    out.reserve(size.row(columns.len())?)?;
     let before = out.len();
     let outcome = append_columns(out, columns);
     cut_after_error(out, before, outcome)

@@ -8,10 +8,10 @@ ghost use Rattle.row_view.specs.Row.{RowValue};
 ghost use Rattle.row_view.specs.WrittenRow.{written_lengths, written_values, written_row};
 
 use crate::column::Column;
-use crate::found::{LENGTHS, VALUES};
+use crate::found::VALUES;
 use crate::row::RowView;
 use crate::written_row::{RowSize, length_number, value_of};
-use proto_wire::{put_text_head, put_varint, size_of_both, text_field_size};
+use proto_wire::{put_text_head, put_varint};
 use std::alloc::AllocError;
 
 /// The column at a place.
@@ -68,7 +68,7 @@ fn append_picked(out: &mut Vec<u8>, row: &RowView<'_>, places: &[u8]) -> Result<
     ensures { OnOk result (out.new.items ≡ out.old.items ++ written_row (picked places.now row.now)) }
 {
     let size = size_of_picked(row, places)?;
-    put_text_head(out, LENGTHS, size.lengths)?;
+    size.put_head(out, places.len())?;
     put_picked_lengths(out, row, places)?;
     put_text_head(out, VALUES, size.values)?;
     put_picked_values(out, row, places)?;
@@ -80,9 +80,7 @@ fn picked_size(row: &RowView<'_>, places: &[u8]) -> Result<usize, AllocError>
     requires { ArePlaces places.now row.now }
     ensures { IfOk result (λ size. size ≡ length (written_row (picked places.now row.now))) }
 {
-    let size = size_of_picked(row, places)?;
-    let lengths = text_field_size(LENGTHS, size.lengths)?;
-    size_of_both(lengths, text_field_size(VALUES, size.values)?)
+    size_of_picked(row, places)?.row(places.len())
 }
 
 /// Appends a row of the columns at these places as a message, as `write_row` does; room for it is

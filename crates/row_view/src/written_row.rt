@@ -4,16 +4,22 @@ ghost use Rattle.std.specs.Prelude.{◌≡◌, ◌+◌, ◌++◌, length, OnOk, 
 ghost use Rattle.proto_wire.specs.Varint.{shortest};
 ghost use Rattle.proto_wire.specs.Writing.{Begins};
 ghost use Rattle.row_view.specs.ColumnValue.{column_value};
-ghost use Rattle.row_view.specs.WrittenRow.{length_of, length_number, value_bytes, written_lengths, written_values, written_row, RowsAreReadAgain};
+ghost use Rattle.proto_wire.specs.Writing.{written_fields};
+ghost use Rattle.row_view.specs.Row.{RowValue};
+ghost use Rattle.row_view.specs.Private.Sizes.{AreSizes};
+ghost use Rattle.row_view.specs.WrittenRow.{length_of, length_number, value_bytes, written_lengths, written_values, is_plain, length_fields, written_row, RowsAreReadAgain};
 
 use crate::column::Column;
 use crate::found::{LENGTHS, VALUES};
-use crate::row::RowView;
+use crate::row::{ROW_BYTES, RowView};
 use crate::written_laws::rows_are_read_again;
 use proto_wire::{
     cut_after_error, put_text_head, put_varint, size_of_both, text_field_size, varint_size, zigzag,
 };
 use std::alloc::AllocError;
+
+/// The tag of a length in a field of its own.
+const PLAIN_TAG: u64 = 8;
 
 /// How many bytes the parts of a row have that are counted so far.
 #[derive(Clone, Copy)]
@@ -70,6 +76,52 @@ impl RowSize {
     }
 }
 
+impl RowSize {
+    /// Whether a row of so many columns with these sizes has one whose length isn't packed.
+    fn is_plain(self, count: usize) -> Result<bool, AllocError>
+        ensures { IfOk result (λ plain. (columns : RowValue) → AreSizes columns count self → plain ≡ is_plain columns) }
+    {
+        if count != 1 {
+            return Ok(false);
+        }
+        let lengths = text_field_size(LENGTHS, self.lengths)?;
+        let packed = size_of_both(lengths, text_field_size(VALUES, self.values)?)?;
+        Ok(packed > ROW_BYTES)
+    }
+
+    /// How many bytes the fields have that hold the lengths of a row of so many columns with these sizes.
+    fn lengths_size(self, count: usize) -> Result<usize, AllocError>
+        ensures { IfOk result (λ size. (columns : RowValue) → AreSizes columns count self → size ≡ length (written_fields (length_fields columns))) }
+    {
+        if self.is_plain(count)? {
+            size_of_both(1, self.lengths)
+        } else {
+            text_field_size(LENGTHS, self.lengths)
+        }
+    }
+
+    /// How many bytes a row of so many columns with these sizes has.
+    pub(crate) fn row(self, count: usize) -> Result<usize, AllocError>
+        ensures { IfOk result (λ size. (columns : RowValue) → AreSizes columns count self → size ≡ length (written_row columns)) }
+    {
+        let lengths = self.lengths_size(count)?;
+        let values = text_field_size(VALUES, self.values)?;
+        size_of_both(lengths, values)
+    }
+
+    /// Appends what stands before the lengths of a row of so many columns with these sizes.
+    pub(crate) fn put_head(self, out: &mut Vec<u8>, count: usize) -> Result<(), AllocError>
+        ensures written { OnOk result ((columns : RowValue) → AreSizes columns count self → out.new.items ++ written_lengths columns ≡ out.old.items ++ written_fields (length_fields columns)) }
+        ensures kept { Begins out.old.items out.new.items }
+    {
+        if self.is_plain(count)? {
+            put_varint(out, PLAIN_TAG)
+        } else {
+            put_text_head(out, LENGTHS, self.lengths)
+        }
+    }
+}
+
 /// The sizes of the parts of a row.
 fn size_of_parts(row: &RowView<'_>) -> Result<RowSize, AllocError>
     ensures lengths { IfOk result (λ size. size.lengths ≡ length (written_lengths row.now)) }
@@ -113,7 +165,7 @@ fn append_row(out: &mut Vec<u8>, row: &RowView<'_>) -> Result<(), AllocError>
     ensures kept { Begins out.old.items out.new.items }
 {
     let size = size_of_parts(row)?;
-    put_text_head(out, LENGTHS, size.lengths)?;
+    size.put_head(out, row.len())?;
     put_lengths(out, row)?;
     put_text_head(out, VALUES, size.values)?;
     put_values(out, row)?;
@@ -124,9 +176,7 @@ fn append_row(out: &mut Vec<u8>, row: &RowView<'_>) -> Result<(), AllocError>
 pub fn row_size(row: &RowView<'_>) -> Result<usize, AllocError>
     ensures { IfOk result (λ size. size ≡ length (written_row row.now)) }
 {
-    let size = size_of_parts(row)?;
-    let lengths = text_field_size(LENGTHS, size.lengths)?;
-    size_of_both(lengths, text_field_size(VALUES, size.values)?)
+    size_of_parts(row)?.row(row.len())
 }
 
 /// Appends a row as a message (`query.proto`, Row): its lengths packed, a NULL's as -1, and its values

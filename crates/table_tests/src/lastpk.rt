@@ -72,3 +72,18 @@ fn lastpk_that_is_no_key(rt: HostRuntime) -> Result<(), Fail> {
     );
     Ok(())
 }
+
+/// A workflow of a table whose key is its one column.
+const ONE: &[u8] =
+    br#"{"keyspace":"ks","tables":[{"name":"t","columns":[["b","VARBINARY"]],"key":["b"]}],"streams":[{"shard":"-80","filter":{"rules":[{"match":"/.*","filter":""}]}}]}"#;
+
+/// The longest key that a row can have, of 16,777,206 bytes: its row has 2^24 as it is read, and the key as a row
+/// has as many.
+#[test]
+fn lastpk_of_the_longest_key(rt: HostRuntime) -> Result<(), Fail> {
+    let plans = Plan::read_all(rt.alloc(), ONE)?;
+    let mut row = Vec::from_slice(rt.alloc(), b"\x08\xec\xff\xff\x0f\x12\xf6\xff\xff\x07")?;
+    row.resize(1 << 24, b'x')?;
+    assert!(rt; is_written(rt.alloc(), &plans, &row, &row)?);
+    Ok(())
+}
