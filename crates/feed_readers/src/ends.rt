@@ -9,13 +9,22 @@ ghost use Rattle.feed_readers.specs.ReaderRule.{Reads, Works};
 
 use crate::ahead::Ahead;
 use crate::channel::{OfFeed, ReaderRule, Received, Sent, Side, Sides};
-use crossbeam_channel::{Pass, RuledReceiver, RuledSender, bounded_with};
+use crossbeam_channel::{Pass, RuledReceiver, RuledSender, TryRecvError, bounded_with};
 use source_feed::Prepared;
 use std::alloc::{AllocError, Global};
+use std::hint::spin_loop;
 use std::sync::{Arc, Wait};
+use std::thread::Parker;
+use std::time::Duration;
 
 /// How many groups a channel holds at most.
 const CAPACITY: usize = 64;
+
+/// How often a receive is tried before the thread sleeps: some 0.2 ms.
+const SPINS: u32 = 4_000;
+
+/// How many microseconds a thread sleeps whose channel is full: what it holds takes longer.
+const NAP: u64 = 100;
 
 /// The end of the thread that prepares a feed's groups.
 #[derive(Drop)]
@@ -57,22 +66,47 @@ pub fn reader_ends<'h, F: OfFeed>(
 }
 
 impl<'h, F: OfFeed> ReaderEnd<'h, F> {
-    /// Sends a group, once there is room for it: whether the other end is still there.
-    pub(crate) fn send<R: Wait>(&mut self, rt: &R, group: Arc<Prepared<'h>>) -> bool
+    /// Sends a group, once there is room for it: whether the other end is still there. Where there is none the thread
+    /// sleeps for a while, so that nobody has to wake it for each group that is received.
+    pub(crate) fn send<R: Wait>(&mut self, rt: &R, mut group: Arc<Prepared<'h>>) -> bool
         requires { prepared_at F.feed (arc_value group).number ≡ Ok (arc_value group) }
     {
-        match self.sender.send_as::<Sent<F>, R>(rt, &mut self.pass, group) {
-            Ok(()) => true,
-            Err(_) => false,
+        let parker = Parker::new();
+        for _ in rt.forever() {
+            match self
+                .sender
+                .try_send_as::<Sent<F>, R>(rt, &mut self.pass, group)
+            {
+                Ok(()) => return true,
+                Err(refused) => {
+                    if !refused.is_full() {
+                        return false;
+                    }
+                    group = refused.into_inner();
+                }
+            }
+            parker.park_timeout(rt, Duration::from_micros(NAP));
         }
+        unreachable!()
     }
 }
 
 impl<'h, F: OfFeed> Ahead<'h> for WorkerEnd<'h, F> {
     ghost feed = { λ _. F.feed };
 
-    /// The group that was sent first of those that wait, or `None` where the other end is gone.
+    /// The group that was sent first of those that wait, or `None` where the other end is gone. A receive is tried for
+    /// a while before the thread sleeps.
     fn next<R: Wait>(&mut self, rt: &R) -> Option<Arc<Prepared<'h>>> {
+        for _ in 0..SPINS {
+            match self
+                .receiver
+                .try_recv_as::<Received<F>, R>(rt, &mut self.pass)
+            {
+                Ok(group) => return Some(group),
+                Err(TryRecvError::Disconnected) => return None,
+                Err(TryRecvError::Empty) => spin_loop(),
+            }
+        }
         match self.receiver.recv_as::<Received<F>, R>(rt, &mut self.pass) {
             Ok(group) => Some(group),
             Err(_) => None,
