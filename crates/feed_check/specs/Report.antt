@@ -54,7 +54,7 @@ stream_line i file check = stream_head i file check ++ places_text check.history
 
 -- a table of a stream: how many groups touch it, and how many put a row that passes the stream's filter
 abbrev pub checked_table_line : CheckedValue → ℕ → List ℕ → List ℕ
-checked_table_line check t name = codes "table " ++ name ++ codes " groups " ++ decimal (touching t check.history) ++ codes " passing_groups " ++ decimal (passing_groups t check.history) ++ 10 ∷ []
+checked_table_line check t name = codes "table " ++ name ++ codes " groups " ++ decimal (touching t check.history) ++ codes " passing " ++ decimal (passing_groups t check.history) ++ 10 ∷ []
 
 -- the tables from one on
 abbrev pub checked_table_lines : CheckedValue → ℕ → List TableValue → List ℕ
