@@ -1,8 +1,9 @@
 -- What the parts of a checkpoint say of streams, put together of what was read of them.
-use Rattle.std.proofs.Common.{◌≡◌, ◌≢◌, ℕ, suc, ◌+◌, ◌<◌, ◌≤◌, inl, inr, List, [], ◌∷◌, ◌++◌, length, map, Some, None, Result, Ok, slice_get, append_assoc, append-nil, sym, ap, subst, ◌∙◌, arith}
+use Rattle.std.proofs.Common.{◌≡◌, ◌≢◌, ℕ, suc, ◌+◌, ◌<◌, ◌≤◌, inl, inr, List, [], ◌∷◌, ◌++◌, length, map, Some, None, true, false, Result, Ok, Err, slice_get, append_assoc, append-nil, refl, sym, ap, subst, ◌∙◌, arith}
 use Rattle.std.proofs.lemmas.List.{append_cancel_left, map-append, length-map, length-append}
 use Rattle.std.proofs.lemmas.Option.{same_Some, none-some, slice_get_within}
-use Rattle.std.specs.Result.{result_ok}
+use Rattle.std.specs.Prelude.{IfOk, IfErr}
+use Rattle.std.specs.Result.{result_ok, is_err}
 use Rattle.filter_rule.specs.PlanValue.{PlanValue}
 use Rattle.proto_wire.specs.declared.fault.FrameFault.{FrameFault}
 use Rattle.proto_wire.specs.Frame.{frames_of}
@@ -18,6 +19,9 @@ use Rattle.checkpoint_laws.specs.Said.{AreStreamParts, IsNamed, SaysTable, AreSo
 use Rattle.checkpoint_laws.specs.Written.{opening}
 use Rattle.checkpoint_laws.proofs.OneThing.{one_version, same_parts}
 use Rattle.checkpoint_laws.proofs.ResumedLaws.{at_inside}
+use Rattle.checkpoint_core.specs.Fault.{IsNothing, HasParts}
+use Rattle.checkpoint_core.specs.declared.fault.ReadFault.{ReadFault}
+use Rattle.checkpoint_core.specs.declared.fault.ReadFault.TheVariants.{Broken}
 use Rattle.checkpoint_core.specs.Private.Reading.{OfEachTable, IsPartOf, AreFramed, AreSoManyParts, IsAtPosition, HasHead, SaysMark, AreMarksOf, AreRows, rows_from, SayTables, SayStreams}
 use Rattle.checkpoint_core.proofs.RowLaws.{rows_said, rows_bare, rows_only}
 
@@ -40,6 +44,12 @@ no_part_yet bytes frames parts is none = record {
   items = ap (λ (r : Reading (List ℕ) FrameFault). map stream_part_at r.items) (sym is) ∙ ap (λ (ps : List StreamPartValue). oks ps ++ map stream_part_at frames.items) (sym none);
 }
 
+-- so many parts have been read
+pub record ReadsParts (bytes : List ℕ) (frames : Reading (List ℕ) FrameFault) (count : ℕ) : Type 0 where
+  pub parts : List StreamPartValue
+  pub are : AreParted bytes frames parts
+  pub many : length parts ≡ count
+
 pub one_part_more : (bytes message : List ℕ) (old new : Reading (List ℕ) FrameFault) (parts more : List StreamPartValue) (part : StreamPartValue) → AreParted bytes old parts
     → old.items ≡ message ∷ new.items → old.fault ≡ new.fault → stream_part_at message ≡ Ok part → more ≡ parts ++ part ∷ [] → AreParted bytes new more
 one_part_more bytes message old new parts more part are items fault is pushed = record {
@@ -50,6 +60,17 @@ one_part_more bytes message old new parts more part are items fault is pushed = 
       ∙ ap (λ (r : Read). oks parts ++ r ∷ map stream_part_at new.items) is
       ∙ sym (append_assoc (oks parts) (Ok part ∷ []) (map stream_part_at new.items))
       ∙ ap (λ (rs : List Read). rs ++ map stream_part_at new.items) (sym (map-append Ok parts (part ∷ [])) ∙ ap oks (sym pushed));
+}
+
+pub reads_none : (bytes : List ℕ) (frames : Reading (List ℕ) FrameFault) → frames ≡ frames_of bytes → ReadsParts bytes frames 0
+reads_none bytes frames is = record { parts = []; are = no_part_yet bytes frames [] is refl; many = refl }
+
+pub reads_more : (bytes message : List ℕ) (old new : Reading (List ℕ) FrameFault) (count : ℕ) (part : StreamPartValue) → ReadsParts bytes old count
+    → old.items ≡ message ∷ new.items → old.fault ≡ new.fault → stream_part_at message ≡ Ok part → ReadsParts bytes new (count + 1)
+reads_more bytes message old new count part reads items fault is = record {
+  parts = reads.parts ++ part ∷ [];
+  are = one_part_more bytes message old new reads.parts (reads.parts ++ part ∷ []) part reads.are items fault is refl;
+  many = let one : length (reads.parts ++ part ∷ []) ≡ length reads.parts + 1 = length-append reads.parts (part ∷ []) in omega (arith, one, reads.many);
 }
 
 pub all_parts : (bytes : List ℕ) (count : ℕ) (frames : Reading (List ℕ) FrameFault) (parts : List StreamPartValue) → AreParted bytes frames parts → frames.items ≡ [] → frames.fault ≡ None → length parts ≡ count
@@ -109,11 +130,42 @@ module _ (bytes : List ℕ) (count : ℕ) (frames : Reading (List ℕ) FrameFaul
           tail_of [] = []
           tail_of (r ∷ rs) = rs
 
+-- what is found of a frame where so many parts were read before it
+pub none_behind_broken : (bytes : List ℕ) (count : ℕ) (frames : Reading (List ℕ) FrameFault) (many : ℕ) (fault : FrameFault) → ReadsParts bytes frames many → frames.fault ≡ Some fault → (others : List StreamPartValue) → ¬ AreFramed bytes count others
+none_behind_broken bytes count frames many fault reads is others h = no_broken_frame bytes count frames reads.parts reads.are others h fault is
+
+pub none_of_fewer : (bytes : List ℕ) (count : ℕ) (frames : Reading (List ℕ) FrameFault) (many : ℕ) → ReadsParts bytes frames many → frames.items ≡ [] → many ≢ count → (others : List StreamPartValue) → ¬ AreFramed bytes count others
+none_of_fewer bytes count frames many reads none other others h = no_fewer bytes count frames reads.parts reads.are others h none (λ e. other (sym reads.many ∙ e))
+
+pub none_of_more : (bytes : List ℕ) (count : ℕ) (frames : Reading (List ℕ) FrameFault) (many : ℕ) (message : List ℕ) (rest : List (List ℕ)) → ReadsParts bytes frames many → frames.items ≡ message ∷ rest → many ≡ count → (others : List StreamPartValue) → ¬ AreFramed bytes count others
+none_of_more bytes count frames many message rest reads is long others h = no_more bytes count frames reads.parts reads.are others h message rest is (reads.many ∙ long)
+
+pub none_with_broken : (bytes : List ℕ) (count : ℕ) (frames : Reading (List ℕ) FrameFault) (many : ℕ) (message : List ℕ) (rest : List (List ℕ)) → ReadsParts bytes frames many → frames.items ≡ message ∷ rest → ((part : StreamPartValue) → ¬ IsPartOf message part)
+    → (others : List StreamPartValue) → ¬ AreFramed bytes count others
+none_with_broken bytes count frames many message rest reads is none others h = no_broken_part bytes count frames reads.parts reads.are others h message rest is none
+
+-- what is known of a message by whether it is a part
+pub nothing_read : {X A : Type 0} (P : A → Type 0) (r : Result X ReadFault) → is_err r ≡ true → IfErr r (IsNothing P) → IfErr r (λ fault. fault ≡ Broken) → (x : A) → ¬ P x
+nothing_read P (Ok y) e none broken = λ x h. cc
+nothing_read P (Err fault) e none broken = subst (λ f. IsNothing P f) broken none
+
+pub something_read : {A : Type 0} {P : A → Type 0} (r : Result A ReadFault) → is_err r ≡ false → IfOk r P → (x : A) × P x
+something_read (Ok x) e is = (x, is)
+something_read (Err fault) e is = absurd cc
+
+-- where so many parts were read and no frame is left, they are there
+pub reads_all : (bytes : List ℕ) (frames : Reading (List ℕ) FrameFault) (count : ℕ) → ReadsParts bytes frames count → frames.items ≡ [] → frames.fault ≡ None → (parts : List StreamPartValue) × AreFramed bytes count parts
+reads_all bytes frames count reads none ended = (reads.parts, all_parts bytes count frames reads.parts reads.are none ended reads.many)
+
 pub parts_there : (version : Version) (bytes rest : List ℕ) (count : ℕ) (parts : List StreamPartValue) → bytes ≡ opening version ++ rest → AreFramed rest count parts → AreSoManyParts version bytes count parts
 parts_there version bytes rest count parts opened framed = record {
   are = record { rest = rest; opened = opened; messages = framed.messages; framed = framed.framed; read = framed.read };
   long = framed.long;
 }
+
+-- bytes of which so many parts are read have them
+pub has_parts : (version : Version) (bytes : List ℕ) (count : ℕ) (parts : List StreamPartValue) → AreSoManyParts version bytes count parts → HasParts bytes count
+has_parts version bytes count parts h = record { version = version; parts = parts; are = h.are; long = h.long }
 
 pub parts_framed : (version other : Version) (bytes rest : List ℕ) (count : ℕ) (parts : List StreamPartValue) → bytes ≡ opening version ++ rest → AreSoManyParts other bytes count parts → AreFramed rest count parts
 parts_framed version other bytes rest count parts opened h =

@@ -1,12 +1,12 @@
 //! What the parts of a checkpoint say of streams.
 
-ghost use Rattle.std.specs.Prelude.{◌≡◌, ◌≤◌, ◌↔◌, ◌++◌, ◌∷◌, [], Some, map, length, slice_get, IsTrue, IfOk, IfErr, OnOk};
+ghost use Rattle.std.specs.Prelude.{◌≡◌, ◌≤◌, ◌↔◌, ◌++◌, ◌∷◌, [], Some, Err, map, length, slice_get, IsTrue, IfOk, IfErr, OnOk};
 ghost use Rattle.std.specs.Arc.{arc_value};
 ghost use Rattle.source_feed.specs.GroupValue.{Position};
 ghost use Rattle.vevent.specs.CheckpointPart.{TablePartValue};
 ghost use Rattle.checkpoint_laws.specs.Saved.{SavedStream};
 ghost use Rattle.checkpoint_laws.specs.Said.{SaysStream, IsCheckpoint};
-ghost use Rattle.checkpoint_core.specs.Fault.{IsNothing};
+ghost use Rattle.checkpoint_core.specs.Fault.{IsNothing, HasParts};
 ghost use Rattle.checkpoint_core.specs.declared.fault.ReadFault.TheVariants.{Memory};
 ghost use Rattle.checkpoint_core.specs.Private.Reading.{OfEachTable, IsAtPosition, SayTables, SayStreams};
 
@@ -143,7 +143,8 @@ fn read_streams<'b>(
 /// bytes after the end, another number of parts; of a stream another shard, in version 1 another number of tables,
 /// in version 2 none, more than there are, another number than in the first stream or another name; other columns, a position that can't be read or that differs between its tables, another mark or marks out of
 /// order, a last key that isn't one of its table or stands without its mark, rows of another width, without a
-/// key or whose keys don't rise. Any other error is want of memory. Takes memory for the keys and some words a
+/// key or whose keys don't rise. Any other error is want of memory; bytes that aren't as many messages as there are
+/// plans are `Broken` whatever memory there is. Takes memory for the keys and some words a
 /// row.
 pub fn read_checkpoint<'b>(
     alloc: Global,
@@ -152,6 +153,8 @@ pub fn read_checkpoint<'b>(
 ) -> Result<Vec<ReadStream<'b>>, ReadFault>
     ensures said { IfOk result (λ saved. IsCheckpoint (map arc_value plans.now) bytes.now saved.items) }
     ensures refused { IfErr result (IsNothing (IsCheckpoint (map arc_value plans.now) bytes.now)) }
+    // Memory is wanted for bytes alone that are as many parts as there are plans.
+    ensures memory { result ≡ Err ReadFault.Memory → HasParts bytes.now (length plans.now) }
 {
     let parts = read_parts(alloc, bytes, plans.len())?;
     if !have_as_many(parts.version, &parts.streams) {
