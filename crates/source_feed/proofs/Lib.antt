@@ -12,6 +12,7 @@ pub mod KeptLaws
 pub mod PlanLaws
 pub mod PreparedLaws
 pub mod SoundLaws
+pub mod JudgedLaws
 pub mod ImageLaws
 pub mod ChunkLaws
 pub mod FrameLaws

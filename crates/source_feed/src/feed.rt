@@ -1,6 +1,7 @@
 //! A feed under a plan.
 
-ghost use Rattle.std.specs.Prelude.{◌≡◌, ◌↔◌, [], length, IsTrue, IfOk, slice_get};
+ghost use Rattle.std.specs.Prelude.{◌≡◌, ◌↔◌, [], length, IsTrue, IsOk, IfOk, Err, slice_get};
+ghost use Rattle.std.specs.Result.{result_err};
 ghost use Rattle.std.specs.Option.{option_copied, option_map};
 ghost use Rattle.std.specs.Arc.{arc_value};
 ghost use Rattle.outcome.specs.Outcome.{GivesUnless};
@@ -12,6 +13,7 @@ ghost use Rattle.source_feed.specs.Touches.{group_at, prepared_at};
 use crate::fault::FeedFault;
 use crate::field_check::FieldCheck;
 use crate::groups::read;
+use crate::judging::judge;
 use crate::planned::{PlannedGroup, planned_groups};
 use crate::prepared::Prepared;
 use crate::preparing::touches_of;
@@ -127,12 +129,45 @@ impl<'h> Feed<'h> {
     /// row before gives its key alone. Reads each row once for its key and its filter.
     ///
     /// Refused as `NoGroup` where the feed has no group of this number, and as `BadRow` where the group
-    /// isn't sound, by the first row that has no key or no answer of the filter. Any other error is want of
-    /// memory.
+    /// isn't sound, by the first row that has no key or no answer of the filter, whatever memory there is.
+    /// Any other error is want of memory.
     pub fn prepare(&self, alloc: Global, number: u32) -> Result<Arc<Prepared<'h>>, FeedFault>
         ensures exact { GivesUnless meant_of (λ prepared. arc_value prepared) result (prepared_at self.now number) }
         ensures number { IfOk result (λ prepared. (arc_value prepared).number ≡ number) }
         // Each key is of a table of the plan, and each row that is put has that table's width.
+        ensures whole { IfOk result (λ prepared. IsPrepared (arc_value prepared)) }
+        // Memory is wanted for a sound group alone: where a growth is refused, the group is judged without.
+        ensures memory { result ≡ Err FeedFault.Memory → IsOk (prepared_at self.now number) }
+    {
+        match self.prepared(alloc, number) {
+            Err(FeedFault::Memory) => Err(self.wanted(number)),
+            answer => answer,
+        }
+    }
+
+    /// Why the group of a number isn't prepared where a growth was refused: what it is refused by, and want
+    /// of memory where it is sound. Takes no memory.
+    fn wanted(&self, number: u32) -> FeedFault
+        ensures { meant_of result ≡ result_err (prepared_at self.now number) }
+    {
+        let group = match self.group(number) {
+            None => {
+                return FeedFault::NoGroup {
+                    groups: self.count(),
+                };
+            }
+            Some(group) => group,
+        };
+        match judge(&self.plan, group) {
+            Ok(()) => FeedFault::Memory,
+            Err(fault) => fault,
+        }
+    }
+
+    /// The group of a number, from 1, with its touches, each as its memory is taken.
+    fn prepared(&self, alloc: Global, number: u32) -> Result<Arc<Prepared<'h>>, FeedFault>
+        ensures exact { GivesUnless meant_of (λ prepared. arc_value prepared) result (prepared_at self.now number) }
+        ensures number { IfOk result (λ prepared. (arc_value prepared).number ≡ number) }
         ensures whole { IfOk result (λ prepared. IsPrepared (arc_value prepared)) }
     {
         let group = match self.group(number) {

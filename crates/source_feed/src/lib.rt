@@ -10,6 +10,7 @@ mod group;
 mod group_reader;
 mod groups;
 mod image;
+mod judging;
 mod laws;
 mod pieces;
 mod planned;

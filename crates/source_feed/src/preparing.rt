@@ -13,16 +13,16 @@ use crate::fault::FeedFault;
 use crate::planned::{PlannedChange, PlannedGroup};
 use crate::touch::Touch;
 use filter_rule::Plan;
-use pk_copy::{LentKey, key_of};
+use pk_copy::{KeyView, LentKey, key_of};
 use row_view::{RowBytes, RowView};
 use std::alloc::Global;
 
 /// Where the rows of a change stand: what a refusal of one of them names.
 #[derive(Clone, Copy)]
-struct Place<'p> {
-    plan: &'p Plan,
-    group: u32,
-    table: u8,
+pub(crate) struct Place<'p> {
+    pub(crate) plan: &'p Plan,
+    pub(crate) group: u32,
+    pub(crate) table: u8,
 }
 
 impl Place<'_> {
@@ -49,8 +49,20 @@ impl Place<'_> {
         }
     }
 
-    /// What the filter answers of a row.
-    fn passes(&self, row: &RowView<'_>) -> Result<bool, FeedFault>
+    /// The key of a row, lent. Takes no memory.
+    pub(crate) fn key_view<'h>(&self, row: &RowView<'h>) -> Result<KeyView<'h>, FeedFault>
+        requires table { self.now.table < length self.now.plan.now.tables }
+        requires columns { length row.now ≡ length (columns_of self.now.plan.now self.now.table) }
+        ensures { Gives (λ key. key) result (key_in_group self.now.plan.now self.now.group self.now.table row.now) }
+    {
+        match key_of(self.plan, self.table, row) {
+            Ok(key) => Ok(key),
+            Err(fault) => Err(self.refused(fault.number())),
+        }
+    }
+
+    /// What the filter answers of a row. Takes no memory.
+    pub(crate) fn passes(&self, row: &RowView<'_>) -> Result<bool, FeedFault>
         requires table { self.now.table < length self.now.plan.now.tables }
         requires columns { length row.now ≡ length (columns_of self.now.plan.now self.now.table) }
         ensures { Gives (λ passes. passes) result (passes_in self.now.plan.now self.now.group self.now.table row.now) }

@@ -3,7 +3,7 @@ use Rattle.std.specs.Arc.{arc_value}
 use Rattle.source_feed.specs.Planned.{FeedValue, IsFeed, IsChangeUnder}
 use Rattle.source_feed.specs.Prepared.{IsPrepared}
 use Rattle.source_feed.proofs.PreparedLaws.{changes_under, made_whole, group_number}
-use Rattle.source_feed.proofs.feed.Feed.prepare.Goals as goal
+use Rattle.source_feed.proofs.feed.Feed.prepared.Goals as goal
 
 pub touches_of-requires : goal.touches_of-requires
 touches_of-requires c j change at =
