@@ -74,7 +74,8 @@ fn an_added_table_keeps_the_rows(rt: HostRuntime) {
     let alloc = rt.alloc();
     let kept = match added(alloc, ADDED, ADDED, TWO_TABLES) {
         Some(Ok(board)) => catches_up(&board) && shows(alloc, &board, b"1ab;"),
-        _ => false,
+        Some(Err(_refusal)) => false,
+        None => false,
     };
     assert!(rt; kept);
 }
