@@ -17,8 +17,8 @@ import sys
 
 ROOT = os.path.dirname(os.path.dirname(os.path.abspath(__file__)))
 CRATES = os.path.join(ROOT, "crates")
-PAGES = ["README.md", "tests/README.md", "examples/README.md", *sorted(f"docs/{it}" for it in os.listdir(os.path.join(ROOT, "docs")))]
-PATH = re.compile(r"(?<![\w/.])((?:docs|tests|examples|bench|scripts|share|record|dist|crates)/[\w./-]*\w)")
+PAGES = ["README.md", "tests/README.md", "examples/README.md", "fleet/README.md", *sorted(f"docs/{it}" for it in os.listdir(os.path.join(ROOT, "docs")))]
+PATH = re.compile(r"(?<![\w/.])((?:docs|tests|examples|bench|scripts|share|record|fleet|dist|crates)/[\w./-]*\w)")
 
 
 def text_of(*path):

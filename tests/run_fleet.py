@@ -1,0 +1,249 @@
+#!/usr/bin/env python3
+"""Reshards a keyspace by fleet/reshard, and holds each target to what `follow` makes of it in one process.
+
+usage: tests/run_fleet.py PROGRAM
+
+Four source shards with rows that are put, changed, moved to other keys and other targets, and removed, made from a
+seed; three targets by `in_keyrange`. Checkpoints and dumps have to be the same, bit for bit: plainly, where a worker
+process is killed in mid-task twice, where each task runs twice at once, where results are found, and in twenty orders
+and nestings of the joins. A feed that is refused and a disk that fills end their target alone. The cluster is this
+script's: processes on the loopback that end with each run. Where python3-distributed of the system isn't installed
+nothing is tried, and the script says so and counts nothing. The last line is 'N passed, M failed': one a check.
+"""
+import json
+import os
+import random
+import re
+import signal
+import subprocess
+import sys
+import tempfile
+import time
+from concurrent.futures import ThreadPoolExecutor
+
+from model import making
+
+ROOT = os.path.dirname(os.path.dirname(os.path.abspath(__file__)))
+OWN = "/usr/bin/python3"
+PATIENCE = 600
+"""The seconds that a command is given: it ends in five, on a machine with nothing else to do."""
+SHARDS = ["-40", "40-80", "80-c0", "c0-"]
+TARGETS = ["-55", "55-aa", "aa-"]
+ROWS = re.compile(r"^(\S+) +(\d+) +(\S+) +[\d.]+ +(\d+)$", re.M)
+sys.dont_write_bytecode = True
+sys.path.append(os.path.join(ROOT, "fleet"))
+
+HELD = """#!/bin/sh
+# Two tasks name the worker that runs them, and wait until it is killed.
+for it in 1 2; do
+    if [ "$1" = follow ] && mkdir {folder}/held.$it 2>/dev/null; then
+        echo $PPID > {folder}/held.$it/worker
+        exec sleep 600
+    fi
+done
+exec {program} "$@"
+"""
+FULL = """#!/bin/sh
+# No byte fits on the disk of one target.
+case "$*" in *{target}.json*) trap '' XFSZ; ulimit -f 0 ;; esac
+exec {program} "$@"
+"""
+
+
+def is_installed():
+    return not subprocess.run([OWN, "-c", "import cloudpickle, distributed"], capture_output=True).returncode
+
+
+def groups_of(r, first, count):
+    """Changes of one shard's rows: put, changed, moved to another key and removed."""
+    there, said = {}, []
+    for _ in range(count):
+        changes = []
+        for _ in range(r.randrange(1, 5)):
+            key = first + r.randrange(80)
+            before, after = there.get(key), (key, b"%x" % r.randrange(1 << 40))
+            if before and r.random() < 0.4:
+                moved = (first + 80 + r.randrange(80), before[1])
+                after = None if r.random() < 0.5 or moved[0] in there else moved
+            there.pop(key, None)
+            if after:
+                there[after[0]] = after
+            changes.append((before, after))
+        said.append(changes)
+    return said
+
+
+class Trial:
+    """A folder with a job, what each target has to be, and the count of what was seen."""
+
+    def __init__(self, program, folder):
+        self.program, self.folder, self.passed, self.failed = os.path.abspath(program), folder, 0, 0
+        self.random = random.Random(54)
+        for s, shard in enumerate(SHARDS):
+            uuid = making.U[:-1] + b"%d" % s
+            self.put(f"{shard}.feed", making.feed(groups_of(self.random, 1000 * s, 150), uuid))
+        self.wanted = {}
+        for target in TARGETS:
+            self.put(f"{target}.json", self.workflow(target, SHARDS))
+            ran = self.run(self.program, "follow", "--dump", "--save-to", self.path("one"), self.path(f"{target}.json"), *self.feeds())
+            assert ran.returncode == 0, ran
+            self.wanted[target] = self.get("one"), ran.stdout
+
+    @staticmethod
+    def workflow(target, shards):
+        return making.workflow(*shards, match="t", text=f"select * from t where in_keyrange(v, 'binary_md5', '{target}')")
+
+    def path(self, *name):
+        return os.path.join(self.folder, *name)
+
+    def put(self, name, data):
+        with open(self.path(name), "wb") as file:
+            file.write(data)
+
+    def get(self, *name):
+        with open(self.path(*name), "rb") as file:
+            return file.read()
+
+    def feeds(self):
+        return [self.path(f"{shard}.feed") for shard in SHARDS]
+
+    def run(self, *words, **how):
+        told = {**os.environ, "PYTHONDONTWRITEBYTECODE": "1"}
+        return subprocess.run(words, cwd=ROOT, capture_output=True, timeout=PATIENCE, env=told, **how)
+
+    def script(self, name, text, **said):
+        """A program in front of the one that is tried."""
+        self.put(name, text.format(program=self.program, **said).encode())
+        os.chmod(self.path(name), 0o755)
+        return self.path(name)
+
+    def job(self, results, **more):
+        """Writes a job over all targets; answers its file."""
+        said = {
+            "feeds": {shard: f"{shard}.feed" for shard in SHARDS},
+            "workflows": {target: f"{target}.json" for target in TARGETS},
+            "results": results,
+            "program": self.program,
+            "workers": 3,
+        }
+        self.put(f"{results}.job", json.dumps(said | more).encode())
+        return self.path(f"{results}.job")
+
+    def reshard(self, results, **more):
+        return self.run("fleet/reshard", self.job(results, **more), text=True)
+
+    def check(self, title, holds, why=""):
+        self.passed, self.failed = self.passed + bool(holds), self.failed + (not holds)
+        print(f"  {title}" if holds else f"FAILED {title}: {str(why)[:600]}", flush=True)
+
+    def is_filled(self, results, target):
+        """Whether a target is as `follow` makes it, and nothing else is left in its folder."""
+        streams = [f"stream-{s}.checkpoint{end}" for s in range(len(SHARDS)) for end in ("", ".json")]
+        left = sorted(os.listdir(self.path(results, target))) == sorted([*streams, "target.checkpoint", "target.dump"])
+        return left and self.wanted[target] == (self.get(results, target, "target.checkpoint"), self.get(results, target, "target.dump"))
+
+    def are_filled(self, results, *targets):
+        return all(self.is_filled(results, target) for target in targets or TARGETS)
+
+
+def plainly(trial):
+    for target in TARGETS:
+        trial.put(f"{target}.dump", trial.wanted[target][1])
+    ran = trial.reshard("plain", wanted={target: f"{target}.dump" for target in TARGETS})
+    trial.check("three targets are those of follow in one process", ran.returncode == 0 and trial.are_filled("plain"), ran)
+    rows = {target: str(trial.wanted[target][1].count(b"\n") - 1) for target in TARGETS}
+    trial.check("the table has a line for each", ROWS.findall(ran.stdout) == [(it, "4", rows[it], "5") for it in TARGETS], ran.stdout)
+    trial.check("and a line stands for each task", len(re.findall(r"^\S+ (?:stream \d|join): [\d.]+ s$", ran.stdout, re.M)) == 15, ran.stdout)
+    trial.put(f"{TARGETS[0]}.dump", trial.wanted[TARGETS[1]][1])
+    cut = trial.get("plain", TARGETS[1], "stream-2.checkpoint")[:-1]
+    trial.put(f"plain/{TARGETS[1]}/stream-2.checkpoint", cut)
+    ran = trial.reshard("plain", wanted={TARGETS[0]: f"{TARGETS[0]}.dump"})
+    trial.check("results are found, and one that isn't whole is made again", ran.stdout.count(": found") == 11 and trial.are_filled("plain"), ran)
+    trial.check("a dump that isn't the wanted one", ran.returncode == 1 and f"target {TARGETS[0]} vdiff: processed" in ran.stderr, ran)
+
+
+def killed(trial):
+    held = trial.script("held", HELD, folder=trial.folder)
+    words = ["fleet/reshard", trial.job("killed", program=held)]
+    ran = subprocess.Popen(words, cwd=ROOT, stdout=subprocess.PIPE, stderr=subprocess.PIPE, text=True)
+    end = time.monotonic() + PATIENCE
+    for it in ("held.1", "held.2"):
+        while ran.poll() is None and time.monotonic() < end:
+            time.sleep(0.05)
+            worker = trial.get(it, "worker") if os.path.exists(trial.path(it, "worker")) else b""
+            if worker.endswith(b"\n"):
+                os.kill(int(worker), signal.SIGKILL)
+                break
+    out, err = ran.communicate(timeout=PATIENCE)
+    trial.check("a worker is killed in mid-task, twice", ran.returncode == 0 and trial.are_filled("killed"), (out, err))
+    trial.check("and their tasks were begun once more", sum(int(it[3]) for it in ROWS.findall(out)) >= 17, out)
+
+
+def refused(trial):
+    """One target with a feed that is cut, one whose disk is full, and one that has all."""
+    broken, full, whole = TARGETS
+    trial.put("cut.feed", trial.get("c0-.feed")[:-1])
+    trial.put("broken.json", trial.workflow(broken, [*SHARDS[:3], "cut"]))
+    feeds = {shard: f"{shard}.feed" for shard in [*SHARDS, "cut"]}
+    workflows = {broken: "broken.json", full: f"{full}.json", whole: f"{whole}.json"}
+    ran = trial.reshard("refused", feeds=feeds, workflows=workflows, program=trial.script("full", FULL, target=full))
+    lines = ran.stderr.splitlines()
+    one = [it for it in lines if it.startswith(f"target {broken} ")]
+    trial.check("a feed that is cut ends its target alone", len(one) == 1 and one[0].startswith(f"target {broken} stream 3: refused 8"), ran)
+    other = [it for it in lines if it.startswith(f"target {full} ")]
+    trial.check("a disk that is full ends its target alone", len(other) == 4 and all(": refused 132 file " in it for it in other), ran)
+    trial.check("nothing stays on it", os.listdir(trial.path("refused", full)) == [], os.listdir(trial.path("refused", full)))
+    trial.check("the third is filled", ran.returncode == 1 and len(lines) == 5 and trial.is_filled("refused", whole), ran)
+    said = trial.reshard("refused", workflows={whole: f"{whole}.json"}, feeds={"-40": "-40.feed"})
+    trial.check("a shard without a feed", said.returncode == 1 and said.stderr == f"reshard: target {whole} reads shard 40-80, which has no feed\n", said)
+    bare = trial.run(OWN, "-S", "fleet/reshard", trial.job("bare"), text=True)
+    trial.check("what isn't installed", bare.returncode == 1 and bare.stderr == "reshard: reshard needs python3-distributed, which isn't installed: apt-get install python3-distributed\n", bare)
+
+
+def twice(trial):
+    from resharder import tasks
+    from resharder.job import read_job
+
+    job = read_job(trial.job("twice"))
+    with ThreadPoolExecutor(6) as pool:
+        list(pool.map(lambda it: tasks.fill(job, *it), [(target, s) for target in job.targets for s in range(4)] * 2))
+        list(pool.map(lambda target: tasks.join(job, target), job.targets * 2))
+    trial.check("each task twice at once", trial.are_filled("twice"))
+
+
+def in_any_order(trial, orders=20):
+    """Joins of a target's streams, some of them twice, in pairs as they come."""
+    r, alike = trial.random, 0
+    for turn in range(orders):
+        target = r.choice(TARGETS)
+        parts = [trial.path("plain", target, f"stream-{s}.checkpoint") for s in range(4)]
+        parts += r.sample(parts, r.randrange(3))
+        r.shuffle(parts)
+        while len(parts) > 1:
+            pair = [parts.pop(r.randrange(len(parts))) for _ in range(2)]
+            ran = trial.run(trial.program, "join", trial.path(f"{target}.json"), *pair, *trial.feeds())
+            assert ran.returncode == 0, ran
+            name = f"joined-{turn}-{len(parts)}"
+            trial.put(name, ran.stdout)
+            parts.insert(r.randrange(len(parts) + 1), trial.path(name))
+        with open(parts[0], "rb") as joined:
+            alike += joined.read() == trial.wanted[target][0]
+    trial.check(f"{orders} orders and nestings of joins", alike == orders, f"{alike} alike")
+
+
+def main(program):
+    if not is_installed():
+        print("python3-distributed isn't installed for /usr/bin/python3: nothing was tried\n0 passed, 0 failed")
+        return 0
+    with tempfile.TemporaryDirectory(prefix="vrepl-fleet-") as folder:
+        trial = Trial(program, folder)
+        for part in (plainly, killed, refused, twice, in_any_order):
+            part(trial)
+    print(f"{trial.passed} passed, {trial.failed} failed")
+    return 1 if trial.failed else 0
+
+
+if __name__ == "__main__":
+    if len(sys.argv) != 2:
+        sys.exit(__doc__)
+    sys.exit(main(sys.argv[1]))
