@@ -1,6 +1,8 @@
 -- A step of a stream that stands so, by its numbers, on its course.
-use Rattle.std.proofs.Common.{◌≡◌, ◌≢◌, ℕ, ◌+◌, ◌^◌, ◌<◌, ◌≤◌, ◌⊎◌, inl, inr, List, length, Option, Some, None, Ok, Err, slice_get, refl, sym, ap, subst, ◌∙◌, arith}
+use Rattle.std.proofs.Common.{true, false, ◌≡◌, ◌≢◌, ℕ, ◌+◌, ◌^◌, ◌<◌, ◌≤◌, ◌⊎◌, inl, inr, List, length, Option, Some, None, Ok, Err, slice_get, refl, sym, ap, subst, ◌∙◌, arith}
+use Rattle.std.proofs.Math.Dec.{eqb}
 use Rattle.std.proofs.Math.Nat.{eq-or-lt_of_le}
+use Rattle.std.proofs.lemmas.Bool.Decides.{eqb_tells}
 use Rattle.std.proofs.lemmas.Option.{same_Some, none-some, slice_get_within}
 use Rattle.std.specs.Prelude.{IsSomeAnd}
 use Rattle.stream_core.specs.declared.step.Step.{Step}
@@ -13,7 +15,7 @@ use Rattle.board_laws.specs.Lawful.{standing_of}
 use Rattle.board_laws.specs.Reading.{HasFeed}
 use Rattle.board_laws.specs.Schedule.{IsReply}
 use Rattle.board_laws.proofs.Lookups.{Ties}
-use Rattle.stream_worker.specs.Ended.{HasEnded, IsFedBoard}
+use Rattle.stream_worker.specs.Ended.{HasEnded, IsFedBoard, AreAsBefore}
 use Rattle.stream_worker.specs.Private.Courses.{LeadsOn, IsAtEnd, left_on}
 use Rattle.stream_worker.specs.Private.AllowedSteps.{EndsStream}
 use Rattle.stream_worker.proofs.Progress.{read-most}
@@ -92,3 +94,25 @@ ended-more feeds before after s so_far others here t feed state less at_f at_s =
     by : (t ≡ s) ⊎ (t < s) → HasEnded feed state
     by (inl same) = here feed state (ap (slice_get feeds) (sym same) ∙ at_f) (ap (slice_get after.streams) (sym same) ∙ at_s)
     by (inr smaller) = so_far t feed state smaller at_f (sym (others t (λ e. omega (arith, e, smaller))) ∙ at_s)
+
+-- the same where streams are named: one more of them has ended
+pub named-more : (feeds : List FeedValue) (streams : List ℕ) (before after : Meaning) (i s : ℕ) → slice_get streams i ≡ Some s
+    → ((k t : ℕ) (feed : FeedValue) (state : State) → k < i → slice_get streams k ≡ Some t → slice_get feeds t ≡ Some feed → slice_get before.streams t ≡ Some state → HasEnded feed state)
+    → ((t : ℕ) → t ≢ s → slice_get after.streams t ≡ slice_get before.streams t)
+    → ((feed : FeedValue) (state : State) → slice_get feeds s ≡ Some feed → slice_get after.streams s ≡ Some state → HasEnded feed state)
+    → (k t : ℕ) (feed : FeedValue) (state : State) → k < i + 1 → slice_get streams k ≡ Some t → slice_get feeds t ≡ Some feed → slice_get after.streams t ≡ Some state
+    → HasEnded feed state
+named-more feeds streams before after i s named so_far others here k t feed state less at_n at_f at_s = by (eqb_tells t s)
+  where
+    first : (t ≢ s) → (k ≡ i) ⊎ (k < i) → k < i
+    first other (inl same) = absurd (other (same_Some (sym at_n ∙ ap (slice_get streams) same ∙ named)))
+    first other (inr smaller) = smaller
+
+    by : ((eqb t s ≡ true) × (t ≡ s)) ⊎ ((eqb t s ≡ false) × (t ≢ s)) → HasEnded feed state
+    by (inl (_, same)) = here feed state (ap (slice_get feeds) (sym same) ∙ at_f) (ap (slice_get after.streams) (sym same) ∙ at_s)
+    by (inr (_, other)) = so_far k t feed state (first other (eq-or-lt_of_le (omega (arith, less)))) at_n at_f (sym (others t other) ∙ at_s)
+
+-- and those that aren't named are as they were
+pub unnamed-more : (streams : List ℕ) (old before after : Meaning) (i s : ℕ) → slice_get streams i ≡ Some s → AreAsBefore streams old before
+    → ((t : ℕ) → t ≢ s → slice_get after.streams t ≡ slice_get before.streams t) → AreAsBefore streams old after
+unnamed-more streams old before after i s named so_far others t unnamed = others t (λ same. unnamed (i, named ∙ ap Some (sym same))) ∙ so_far t unnamed

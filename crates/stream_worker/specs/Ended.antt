@@ -33,6 +33,21 @@ pub record IsFedBoard (feeds : List FeedValue) (board : Meaning) : Type 0 where
 abbrev pub AllHaveEnded : List FeedValue → Meaning → Type 0
 AllHaveEnded feeds board = (s : ℕ) (feed : FeedValue) (state : State) → slice_get feeds s ≡ Some feed → slice_get board.streams s ≡ Some state → HasEnded feed state
 
+-- ---- some streams alone
+
+-- the stream is one of these
+abbrev pub IsNamedStream : List ℕ → ℕ → Type 0
+IsNamedStream streams s = (i : ℕ) × (slice_get streams i ≡ Some s)
+
+-- each of these streams of a board has ended
+abbrev pub HaveEnded : List ℕ → List FeedValue → Meaning → Type 0
+HaveEnded streams feeds board =
+    (s : ℕ) (feed : FeedValue) (state : State) → IsNamedStream streams s → slice_get feeds s ≡ Some feed → slice_get board.streams s ≡ Some state → HasEnded feed state
+
+-- each stream but these is as it was
+abbrev pub AreAsBefore : List ℕ → Meaning → Meaning → Type 0
+AreAsBefore streams old new = (s : ℕ) → ¬ (IsNamedStream streams s) → slice_get new.streams s ≡ slice_get old.streams s
+
 -- ---- the rows of whole feeds
 
 -- the row that all groups of a feed left at a key, if it passes the filter

@@ -7,7 +7,7 @@ ghost use Rattle.board_laws.specs.Meaning.{State};
 ghost use Rattle.apply_core.specs.Feeds.{AreFed};
 ghost use Rattle.apply_core.specs.Shown.{all_rows};
 ghost use Rattle.source_feed.specs.Planned.{FeedValue};
-ghost use Rattle.stream_worker.specs.Ended.{HasEnded, IsFedBoard, AllHaveEnded, IsRowsUnion};
+ghost use Rattle.stream_worker.specs.Ended.{HasEnded, IsNamedStream, HaveEnded, IsFedBoard, AllHaveEnded, AreAsBefore, IsRowsUnion};
 ghost use Rattle.stream_worker.specs.RunRefused.{EndsRun, IsRefusedRun, refused_stream};
 ghost use Rattle.stream_worker.specs.Private.Courses.{left_on};
 ghost use Rattle.stream_worker.specs.Private.AllowedSteps.{EndsStream};
@@ -164,6 +164,36 @@ pub fn run_board_alone<'h>(
     ended_boards_have_the_union();
     for s in 0..feeds.len() {
         match run_stream(alloc, &mut board, feeds, s as u8, policy) {
+            Ok(()) => {}
+            Err(refusal) => return Err(refusal),
+        }
+    }
+    Ok(board)
+}
+
+/// Runs these streams alone, one after another, from a board whose streams read these feeds, each to its feed's end, in
+/// the portions of the policy. The feeds stand in the order of the board's streams; those of other streams aren't looked
+/// at. A stream that is named twice has ended the second time.
+///
+/// Refused as `run_board_alone` is, by one of these streams.
+pub fn run_streams_alone<'h>(
+    alloc: Global,
+    mut board: Board<'h>,
+    feeds: &[Feed<'h>],
+    streams: &[u8],
+    policy: &Policy,
+) -> Result<Board<'h>, RunRefusal>
+    requires fed { IsFedBoard feeds.now board }
+    requires there { (s : ℕ) → IsNamedStream streams.now s → s < length feeds.now }
+    ensures board { IfOk result (IsFedBoard feeds.now) }
+    // Each of these streams is Running, and all groups of its feed are read and applied.
+    ensures ended { IfOk result (HaveEnded streams.now feeds.now) }
+    // Each other stream is as it was.
+    ensures others { IfOk result (AreAsBefore streams.now board.entry) }
+    ensures refused { IfErr result (EndsRun feeds.now) }
+{
+    for i in 0..streams.len() {
+        match run_stream(alloc, &mut board, feeds, streams[i], policy) {
             Ok(()) => {}
             Err(refusal) => return Err(refusal),
         }

@@ -22,7 +22,7 @@ mod seat_run;
 mod shared;
 mod working;
 
-pub use alone::{run_alone, run_board_alone};
+pub use alone::{run_alone, run_board_alone, run_streams_alone};
 pub use board_laws::{Answer, Copied, Offered, Refusal};
 pub use gate::Gate;
 pub use laws::calls_keep_applied_groups;
