@@ -1,6 +1,6 @@
 //! Files and standard input, read whole.
 
-ghost use Rattle.std.specs.Prelude.{◌≡◌, ◌≢◌, ◌*◌, ◌^◌, ◌≤◌, length, IfOk, IfErr, IfSome, OnOk, IsErr, codes};
+ghost use Rattle.std.specs.Prelude.{◌≡◌, ◌≢◌, [], ◌*◌, ◌^◌, ◌≤◌, length, IfOk, IfErr, IfSome, OnOk, IsErr, codes};
 ghost use Rattle.std.specs.Str.{bytes_eq};
 ghost use Rattle.std.specs.Io.KnownBytes.{IsAtEnd};
 ghost use Rattle.std.specs.IoError.{error_kind};
@@ -9,7 +9,7 @@ ghost use Rattle.vrepl_main.specs.Inputs.{is_standard, input_name, IsUnread, IsU
 
 use crate::refusal::Refusal;
 use std::alloc::Global;
-use std::fs::File;
+use std::fs::{File, OpenFile};
 use std::io;
 use std::io::Read;
 use std::rt::Files;
@@ -28,6 +28,9 @@ pub const READS: u64 = 1 << 32;
 
 /// The most bytes that one read gives.
 pub const CHUNK: usize = 65536;
+
+/// The most bytes for which room is made before a file is read.
+const MOST_ROOM: u64 = 1 << 31;
 
 /// Where an input comes from.
 #[derive(Clone, Copy)]
@@ -110,16 +113,43 @@ fn unread<'w>(fault: InputFault, name: InputName<'w>) -> Refusal<'w>
 
 /// The bytes of the file of this name, which may be `-`.
 fn read_file<R: Files + AllocGlobal>(rt: &R, file: &str) -> Result<Vec<u8>, InputFault> {
-    read_opened(rt.alloc(), File::open(rt, file))
+    let opened = File::open(rt, file);
+    let room = length_of(&opened);
+    read_opened(rt.alloc(), opened, room)
 }
 
-/// The bytes of a file that was opened, or why it wasn't.
-fn read_opened<F: Read + Drop>(alloc: Global, opened: io::Result<F>) -> Result<Vec<u8>, InputFault>
+/// How many bytes a file is said to have, of which some may lack or more come; 0 where it isn't said.
+fn length_of<F: OpenFile>(opened: &io::Result<F>) -> usize {
+    match opened {
+        Ok(file) => match file.metadata() {
+            Ok(told) => told.len().min(MOST_ROOM) as usize,
+            Err(_) => 0,
+        },
+        Err(_) => 0,
+    }
+}
+
+/// No bytes, with room for so many where memory for them is there.
+fn none_with_room(alloc: Global, room: usize) -> Vec<u8>
+    ensures { result.items ≡ [] }
+{
+    match Vec::with_capacity(alloc, room) {
+        Ok(bytes) => bytes,
+        Err(_) => Vec::new(alloc),
+    }
+}
+
+/// The bytes of a file that was opened, or why it wasn't. Where there is memory, room for so many is made first.
+fn read_opened<F: Read + Drop>(
+    alloc: Global,
+    opened: io::Result<F>,
+    room: usize,
+) -> Result<Vec<u8>, InputFault>
     ensures whole { IfOk opened (λ file. IfOk result (λ bytes. IfSome (F.remaining file) (λ left. bytes.items ≡ left))) }
     ensures unopened { IfErr opened (λ _. IsErr result) }
 {
     match opened {
-        Ok(mut file) => read_whole(alloc, &mut file),
+        Ok(mut file) => read_behind(none_with_room(alloc, room), &mut file, READS),
         Err(fault) => Err(fault_of(&fault)),
     }
 }
@@ -140,7 +170,20 @@ pub fn read_within<R: Read>(alloc: Global, input: &mut R, reads: u64) -> Result<
     ensures end { OnOk result (IsAtEnd (R.remaining input.new)) }
     ensures limit { IfSome (R.remaining input.old) (λ left. reads * CHUNK ≤ length left → IsErr result) }
 {
-    let mut bytes = Vec::new(alloc);
+    read_behind(Vec::new(alloc), input, reads)
+}
+
+/// The same in a vector in which nothing is yet.
+fn read_behind<R: Read>(
+    mut bytes: Vec<u8>,
+    input: &mut R,
+    reads: u64,
+) -> Result<Vec<u8>, InputFault>
+    requires { bytes.items ≡ [] }
+    ensures whole { IfOk result (λ read. IfSome (R.remaining input.old) (λ left. read.items ≡ left)) }
+    ensures end { OnOk result (IsAtEnd (R.remaining input.new)) }
+    ensures limit { IfSome (R.remaining input.old) (λ left. reads * CHUNK ≤ length left → IsErr result) }
+{
     let mut chunk = [0u8; CHUNK];
     for _read in 0..reads {
         match input.read(&mut chunk) {

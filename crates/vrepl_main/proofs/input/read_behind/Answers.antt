@@ -2,11 +2,11 @@ use Rattle.std.proofs.Common.{◌≡◌, ◌++◌, take, true, arith, refl, ap, 
 use Rattle.std.specs.Prelude.{is_ok, not}
 use Rattle.std.proofs.KnownBytes.{Consumes-nil, Consumes-trans, Consumes-kept}
 use Rattle.vrepl_main.proofs.InputLaws.{whole, limit}
-use Rattle.vrepl_main.proofs.input.read_within.Goals as goal
-use Rattle.vrepl_main.proofs.input.read_within.Goals.{in-Ok+else-is_err, in-Err+else-ne}
+use Rattle.vrepl_main.proofs.input.read_behind.Goals as goal
+use Rattle.vrepl_main.proofs.input.read_behind.Goals.{in-Ok+else-is_err, in-Err+else-ne}
 
 pub loop-read-init : goal.loop-read-init
-loop-read-init g c = rw c.new-bytes.ensures.items (Consumes-nil (g.R.Read.remaining c.args.input.now), omega arith)
+loop-read-init g c = rw c.requires (Consumes-nil (g.R.Read.remaining c.args.input.now), omega arith)
 
 pub returns-in-Ok-eq0-clause-whole : goal.returns-in-Ok-eq0-clause-whole
 returns-in-Ok-eq0-clause-whole g c = whole _ _ _ _ c.read.new.buf c.in-Ok-eq0.field-0 c.in-Ok-eq0.field-0-test c.loop-read.invariant.0 c.in-Ok-eq0.ensures.bytes.0 (c.in-Ok-eq0.ensures.bytes.1 c.in-Ok-eq0.field-0-test (omega (arith, c.read.auto.buf)))

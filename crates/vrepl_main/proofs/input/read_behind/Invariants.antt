@@ -1,6 +1,6 @@
 use Rattle.std.proofs.Common.{◌*◌, ◌≤◌, length}
 use Rattle.std.specs.Io.KnownBytes.{Consumes}
-use Rattle.vrepl_main.proofs.input.read_within.Given as goal
+use Rattle.vrepl_main.proofs.input.read_behind.Given as goal
 
 abbrev pub invariant-loop-read : goal.invariant-loop-read
 invariant-loop-read g l =
