@@ -43,6 +43,15 @@ for it in 1 2; do
 done
 exec {program} "$@"
 """
+CLUSTER = b"""import os, sys
+from distributed import LocalCluster
+if __name__ == "__main__":
+    with LocalCluster(n_workers=2, threads_per_worker=1, host="127.0.0.1", dashboard_address=None, local_directory=".") as cluster:
+        with open(sys.argv[1] + ".part", "w") as file:
+            file.write(cluster.scheduler_address)
+        os.rename(sys.argv[1] + ".part", sys.argv[1])
+        sys.stdin.read()
+"""
 FULL = """#!/bin/sh
 # No byte fits on the disk of one target.
 case "$*" in *{target}.json*) trap '' XFSZ; ulimit -f 0 ;; esac
@@ -51,7 +60,7 @@ exec {program} "$@"
 
 
 def is_installed():
-    return not subprocess.run([OWN, "-c", "import cloudpickle, distributed"], capture_output=True).returncode
+    return not subprocess.run([OWN, "-c", "import distributed"], capture_output=True).returncode
 
 
 def groups_of(r, first, count):
@@ -179,6 +188,20 @@ def killed(trial):
     trial.check("and their tasks were begun once more", sum(int(it[3]) for it in ROWS.findall(out)) >= 17, out)
 
 
+def by_address(trial):
+    """A cluster that runs elsewhere, whose workers don't have the package; and one that isn't there."""
+    trial.put("cluster.py", CLUSTER)
+    ran = subprocess.Popen([OWN, trial.path("cluster.py"), trial.path("address")], cwd=trial.folder, stdin=subprocess.PIPE, stderr=subprocess.DEVNULL)
+    end = time.monotonic() + PATIENCE
+    while not os.path.exists(trial.path("address")) and ran.poll() is None and time.monotonic() < end:
+        time.sleep(0.05)
+    said = trial.reshard("elsewhere", cluster=trial.get("address").decode())
+    trial.check("a cluster that runs already", said.returncode == 0 and trial.are_filled("elsewhere"), said)
+    ran.communicate(b"end", timeout=PATIENCE)
+    said = trial.reshard("nowhere", cluster="tcp://127.0.0.1:9")
+    trial.check("a cluster that isn't there", said.returncode == 1 and said.stderr.startswith("reshard: no cluster answers at tcp://127.0.0.1:9: "), said)
+
+
 def refused(trial):
     """One target with a feed that is cut, one whose disk is full, and one that has all."""
     broken, full, whole = TARGETS
@@ -197,7 +220,7 @@ def refused(trial):
     said = trial.reshard("refused", workflows={whole: f"{whole}.json"}, feeds={"-40": "-40.feed"})
     trial.check("a shard without a feed", said.returncode == 1 and said.stderr == f"reshard: target {whole} reads shard 40-80, which has no feed\n", said)
     bare = trial.run(OWN, "-S", "fleet/reshard", trial.job("bare"), text=True)
-    trial.check("what isn't installed", bare.returncode == 1 and bare.stderr == "reshard: reshard needs python3-distributed, which isn't installed: apt-get install python3-distributed\n", bare)
+    trial.check("what isn't installed", bare.returncode == 1 and bare.stderr == "reshard: python3-distributed isn't installed: apt-get install python3-distributed\n", bare)
 
 
 def twice(trial):
@@ -237,7 +260,7 @@ def main(program):
         return 0
     with tempfile.TemporaryDirectory(prefix="vrepl-fleet-") as folder:
         trial = Trial(program, folder)
-        for part in (plainly, killed, refused, twice, in_any_order):
+        for part in (plainly, killed, by_address, refused, twice, in_any_order):
             part(trial)
     print(f"{trial.passed} passed, {trial.failed} failed")
     return 1 if trial.failed else 0

@@ -1,30 +1,32 @@
 """The engine: processes of this machine, or a cluster that runs."""
 import logging
 import os
+import shutil
 from collections.abc import Iterator
 from contextlib import contextmanager
 from tempfile import TemporaryDirectory
 
-import cloudpickle
 import dask
 from distributed import Client, LocalCluster
+from distributed.diagnostics.plugin import UploadFile
 
 from .job import Job
 from .stop import Stop
 
+HERE = os.path.dirname(os.path.abspath(__file__))
 ALONE = {"threads_per_worker": 1, "processes": True, "host": "127.0.0.1", "dashboard_address": None, "silence_logs": logging.CRITICAL}
 
 
 @contextmanager
 def client_of(job: Job) -> Iterator[Client]:
     """A client of the job's engine. One task a process at a time; the loopback alone where the processes are this
-    machine's, and these end with it. Workers need this package's Python and the program, not the package: its functions
-    go with their tasks."""
-    cloudpickle.register_pickle_by_value(__import__(__package__))
+    machine's, and these end with it. The workers of a cluster that runs are sent this package, those too that come later."""
     logging.getLogger("distributed").setLevel(logging.CRITICAL)
     with dask.config.set({"distributed.worker.daemon": True, "distributed.comm.timeouts.connect": "30s"}):
         if job.cluster:
-            with _reached(job.cluster) as client:
+            with _reached(job.cluster) as client, TemporaryDirectory(prefix="reshard-") as own:
+                sent = shutil.make_archive(os.path.join(own, __package__), "zip", os.path.dirname(HERE), os.path.basename(HERE))
+                client.register_worker_plugin(UploadFile(sent))
                 yield client
             return
         count = job.workers or len(os.sched_getaffinity(0))

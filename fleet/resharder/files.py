@@ -57,7 +57,7 @@ def note_result(job: Job, target: Target, stream: int) -> None:
 
 def clear(target: Target) -> None:
     """Takes away what tasks that were killed left beside their files."""
-    for name in os.listdir(target.folder):
+    for name in os.listdir(target.folder) if os.path.isdir(target.folder) else ():
         beside = name.split(".checkpoint.")[-1].split(".dump.")[-1].removeprefix("json.").removesuffix(".part")
         if len(beside) == 32 and set(beside) <= set("0123456789abcdef"):
             with suppress(FileNotFoundError):
