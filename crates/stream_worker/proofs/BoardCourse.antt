@@ -1,5 +1,5 @@
 -- A step of a stream's course on a board whose streams read their feeds: what it leaves, and why it is refused.
-use Rattle.std.proofs.Common.{◌≡◌, ◌≢◌, ℕ, ◌-◌, ◌<◌, List, [], ◌∷◌, length, cond, Option, Some, None, Ok, Err, slice_get, set, refl, sym, ap, subst, ◌∙◌}
+use Rattle.std.proofs.Common.{◌≡◌, ◌≢◌, ℕ, ◌<◌, List, [], ◌∷◌, length, cond, Option, Some, None, Ok, Err, slice_get, set, refl, sym, ap, subst, ◌∙◌}
 use Rattle.std.proofs.lemmas.List.{length-set}
 use Rattle.std.proofs.lemmas.Option.{same_Some, none-some, MatchOption-at_some}
 use borrow.Author.Tests.{eq-eqb}

@@ -105,7 +105,7 @@ pub named-more : (feeds : List FeedValue) (streams : List ℕ) (before after : M
 named-more feeds streams before after i s named so_far others here k t feed state less at_n at_f at_s = by (eqb_tells t s)
   where
     first : (t ≢ s) → (k ≡ i) ⊎ (k < i) → k < i
-    first other (inl same) = absurd (other (same_Some (sym at_n ∙ ap (slice_get streams) same ∙ named)))
+    first other (inl same) = absurd (other (same_Some t s (sym at_n ∙ ap (slice_get streams) same ∙ named)))
     first other (inr smaller) = smaller
 
     by : ((eqb t s ≡ true) × (t ≡ s)) ⊎ ((eqb t s ≡ false) × (t ≢ s)) → HasEnded feed state

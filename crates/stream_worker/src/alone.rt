@@ -171,6 +171,14 @@ pub fn run_board_alone<'h>(
     Ok(board)
 }
 
+/// The stream at a place of a list.
+fn stream_at(streams: &[u8], i: usize) -> u8
+    requires { i < length streams.now }
+    ensures { slice_get streams.now i ≡ Some result }
+{
+    streams[i]
+}
+
 /// Runs these streams alone, one after another, from a board whose streams read these feeds, each to its feed's end, in
 /// the portions of the policy. The feeds stand in the order of the board's streams; those of other streams aren't looked
 /// at. A stream that is named twice has ended the second time.
@@ -193,7 +201,7 @@ pub fn run_streams_alone<'h>(
     ensures refused { IfErr result (EndsRun feeds.now) }
 {
     for i in 0..streams.len() {
-        match run_stream(alloc, &mut board, feeds, streams[i], policy) {
+        match run_stream(alloc, &mut board, feeds, stream_at(streams, i), policy) {
             Ok(()) => {}
             Err(refusal) => return Err(refusal),
         }

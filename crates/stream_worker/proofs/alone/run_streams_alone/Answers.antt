@@ -1,5 +1,5 @@
-use Rattle.std.proofs.Common.{◌≡◌, ◌<◌, Some, length, slice_get, refl, arith}
-use Rattle.std.proofs.lemmas.Option.{slice_get_read, slice_get_within}
+use Rattle.std.proofs.Common.{◌<◌, length, refl, arith}
+use Rattle.std.proofs.lemmas.Option.{slice_get_within}
 use Rattle.stream_worker.proofs.OneStep.{named-more, unnamed-more}
 use Rattle.stream_worker.proofs.alone.run_streams_alone.Goals as goal
 
@@ -7,17 +7,14 @@ pub loop-i-init : goal.loop-i-init
 loop-i-init c = (c.requires.fed, (λ k s feed state less at_n at_f at_s. absurd (omega (arith, less))), λ s other. refl)
 
 pub run_stream-requires-clause-there : goal.run_stream-requires-clause-there
-run_stream-requires-clause-there c =
-    c.requires.there c.index-streams-i.result (c.loop-i.i, slice_get_read c.args.streams.now (length c.args.streams.now) c.loop-i.i c.index-streams-i.result refl c.loop-i-test.true c.index-streams-i.is)
+run_stream-requires-clause-there c = c.requires.there c.stream_at.result (c.loop-i.i, c.stream_at.ensures)
 
 pub loop-i-preserved : goal.loop-i-preserved
-loop-i-preserved c =
-    let named : slice_get c.args.streams.now c.loop-i.i ≡ Some c.index-streams-i.result =
-    slice_get_read c.args.streams.now (length c.args.streams.now) c.loop-i.i c.index-streams-i.result refl c.loop-i-test.true c.index-streams-i.is in (
-      c.in-Ok.ensures.fed,
-      named-more c.args.feeds.now c.args.streams.now c.loop-i.board c.run_stream.new.board c.loop-i.i c.index-streams-i.result named c.loop-i.invariant.1 c.in-Ok.ensures.others c.in-Ok.ensures.ended,
-      unnamed-more c.args.streams.now c.args.board c.loop-i.board c.run_stream.new.board c.loop-i.i c.index-streams-i.result named c.loop-i.invariant.2 c.in-Ok.ensures.others,
-    )
+loop-i-preserved c = (
+  c.in-Ok.ensures.fed,
+  named-more c.args.feeds.now c.args.streams.now c.loop-i.board c.run_stream.new.board c.loop-i.i c.stream_at.result c.stream_at.ensures c.loop-i.invariant.1 c.in-Ok.ensures.others c.in-Ok.ensures.ended,
+  unnamed-more c.args.streams.now c.args.board c.loop-i.board c.run_stream.new.board c.loop-i.i c.stream_at.result c.stream_at.ensures c.loop-i.invariant.2 c.in-Ok.ensures.others,
+)
 
 pub returns-clause-ended : goal.returns-clause-ended
 returns-clause-ended c s feed state named at_f at_s =
