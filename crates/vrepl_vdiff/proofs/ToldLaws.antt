@@ -1,0 +1,144 @@
+-- Why `vdiff` is refused, and what is told of it.
+use Rattle.std.proofs.Common.{◌≡◌, ◌∙◌, ap, sym, subst, ℕ, ◌≤◌, List, [], ◌∷◌, ◌⊎◌, ◌++◌, length, drop, get_or, map, refl, inl, inr, arith, Bool, true, false, Result, Ok, Err}
+use Rattle.filter_rule.specs.Faults as plans
+use Rattle.filter_rule.specs.PlanValue.{PlanValue}
+use Rattle.filter_rule.specs.Reading.{plans_of}
+use Rattle.filter_rule.specs.declared.fault.PlanFault.{PlanFault}
+use Rattle.filter_rule.specs.declared.fault.PlanFault.TheVariants as errors
+use Rattle.vdiff_core.specs.DumpReading.{IsFirstBad, IsDumpReading}
+use Rattle.vdiff_core.specs.Printing.{Written, BreaksOff}
+use Rattle.vdiff_core.specs.RowsValue.{RowsValue}
+use Rattle.vdiff_core.specs.declared.reading.DumpFault.{DumpFault}
+use Rattle.vdiff_core.specs.declared.reading.DumpFault.TheVariants as faults
+use Rattle.vrepl_main.specs.declared.refusal.Refusal.{Refusal}
+use Rattle.vrepl_main.specs.declared.refusal.Refusal.TheVariants.{Memory, Workflow, FeedCount, Feed, BadHex, BadScript, BadDump, CannotRead, CannotWrite}
+use Rattle.vrepl_main.specs.Reasons.{bad_workflow, bad_dump}
+use Rattle.vrepl_main.specs.RefusalOf.{refusal_of_dump, refusal_of_workflow}
+use Rattle.vrepl_main.specs.Command.{IsUnwritten}
+use Rattle.vrepl_main.specs.Comparison.{AreDumps, Compared}
+use Rattle.vrepl_vdiff.specs.NamedDump.{NamedDump}
+use Rattle.vrepl_vdiff.specs.Reading.{IsNamedBad, IsOfDump}
+use Rattle.vrepl_vdiff.specs.Shown.{IsShown, PrintsShown}
+use Rattle.vrepl_vdiff.specs.Told.{IsTold, NamesBad, RefusesShown, error_of}
+use Rattle.vrepl_vdiff.specs.ToldValue.{IsToldOf}
+use Rattle.vrepl_vdiff.specs.declared.options.Options.{Options}
+use Rattle.vrepl_vdiff.specs.declared.told.Told.{Told}
+
+-- the first of a workflow's plans, and the others
+pub first_plan : {A : Type 0} (f : A → PlanValue) (reading : Result (List PlanValue) plans.Fault) (all : List A) (plan : A) → reading ≡ Ok (map f all) → 1 ≤ length all → plan ≡ get_or all 0 plan
+    → reading ≡ Ok (f plan ∷ map f (drop 1 all))
+first_plan f reading [] plan is some first = absurd (omega (arith, some))
+first_plan {A} f reading (x ∷ all) plan is some first = is ∙ ap (λ (y : A). Ok (f y ∷ map f all)) (sym first)
+
+-- the workflow's fault
+refuses_workflow : (options : Options) (fault : PlanFault) (workflow : List ℕ) (source target : NamedDump) (now : Written) → plans.Fails {Y = List PlanValue} fault (plans_of workflow) → RefusesShown options workflow source target (refusal_of_workflow fault) now now
+refuses_workflow options errors.Memory workflow source target now is = refl
+refuses_workflow options errors.Json workflow source target now is = (Err (bad_workflow plans.json), is, (refl, refl))
+refuses_workflow options errors.Shape workflow source target now is = (Err (bad_workflow plans.shape), is, (refl, refl))
+refuses_workflow options errors.Limit workflow source target now is = (Err (bad_workflow plans.limit), is, (refl, refl))
+refuses_workflow options (errors.NoSuchColumn table column) workflow source target now is = (Err (bad_workflow _), is, (refl, refl))
+refuses_workflow options (errors.KeyType table column) workflow source target now is = (Err (bad_workflow _), is, (refl, refl))
+refuses_workflow options (errors.BadRule stream rule) workflow source target now is = (Err (bad_workflow _), is, (refl, refl))
+
+workflow_names : (fault : PlanFault) (workflow : List ℕ) (source target : NamedDump) → NamesBad workflow source target (refusal_of_workflow fault) []
+workflow_names errors.Memory workflow source target = tt
+workflow_names errors.Json workflow source target = tt
+workflow_names errors.Shape workflow source target = tt
+workflow_names errors.Limit workflow source target = tt
+workflow_names (errors.NoSuchColumn table column) workflow source target = tt
+workflow_names (errors.KeyType table column) workflow source target = tt
+workflow_names (errors.BadRule stream rule) workflow source target = tt
+
+workflow_error : (json : Bool) (fault : PlanFault) → error_of json (refusal_of_workflow fault) [] ≡ []
+workflow_error true errors.Memory = refl
+workflow_error true errors.Json = refl
+workflow_error true errors.Shape = refl
+workflow_error true errors.Limit = refl
+workflow_error true (errors.NoSuchColumn table column) = refl
+workflow_error true (errors.KeyType table column) = refl
+workflow_error true (errors.BadRule stream rule) = refl
+workflow_error false fault = refl
+
+pub told_workflow : (options : Options) (fault : PlanFault) (workflow : List ℕ) (source target : NamedDump) (now : Written) (error : List ℕ) → error ≡ [] → plans.Fails {Y = List PlanValue} fault (plans_of workflow) → IsTold options workflow source target (refusal_of_workflow fault) error now now
+told_workflow options fault workflow source target now error none is = record {
+  refuses = refuses_workflow options fault workflow source target now is;
+  name = [];
+  names = workflow_names fault workflow source target;
+  is_error = none ∙ sym (workflow_error options.json fault);
+}
+
+module _ (options : Options) (workflow : List ℕ) (source target : NamedDump) (plan : PlanValue) (others : List PlanValue) (is : plans_of workflow ≡ Ok (plan ∷ others)) (now : Written) where
+  -- the source's bad line
+  pub told_source : (refusal : Refusal) (error : List ℕ) → IsOfDump plan source.text refusal → error ≡ error_of options.json refusal source.name → IsTold options workflow source target refusal error now now
+  told_source Memory error bad same = record { refuses = refl; name = source.name; names = tt; is_error = same }
+  told_source (BadDump line) error bad same = record {
+    refuses = (Err (bad_dump line), record { plan = plan; others = others; plans = is; bad = inl bad }, (refl, refl));
+    name = source.name;
+    names = record { plan = plan; others = others; plans = is; bad = inl (refl, bad) };
+    is_error = same;
+  }
+  told_source (Workflow fault) error bad same = absurd bad
+  told_source FeedCount error bad same = absurd bad
+  told_source (Feed fault) error bad same = absurd bad
+  told_source BadHex error bad same = absurd bad
+  told_source (BadScript line) error bad same = absurd bad
+  told_source (CannotRead file) error bad same = absurd bad
+  told_source (CannotWrite file) error bad same = absurd bad
+
+  -- the target's, behind a dump of the source
+  pub told_target : (rows : RowsValue) (refusal : Refusal) (error : List ℕ) → IsDumpReading plan source.text (Ok rows) → IsOfDump plan target.text refusal → error ≡ error_of options.json refusal target.name → IsTold options workflow source target refusal error now now
+  told_target rows Memory error read bad same = record { refuses = refl; name = target.name; names = tt; is_error = same }
+  told_target rows (BadDump line) error read bad same = record {
+    refuses = (Err (bad_dump line), record { plan = plan; others = others; plans = is; bad = inr (rows, read, bad) }, (refl, refl));
+    name = target.name;
+    names = record { plan = plan; others = others; plans = is; bad = inr (refl, (rows, read, bad)) };
+    is_error = same;
+  }
+  told_target rows (Workflow fault) error read bad same = absurd bad
+  told_target rows FeedCount error read bad same = absurd bad
+  told_target rows (Feed fault) error read bad same = absurd bad
+  told_target rows BadHex error read bad same = absurd bad
+  told_target rows (BadScript line) error read bad same = absurd bad
+  told_target rows (CannotRead file) error read bad same = absurd bad
+  told_target rows (CannotWrite file) error read bad same = absurd bad
+
+-- memory ran out, or it can't be written
+pub told_shown : (options : Options) (workflow : List ℕ) (source target : NamedDump) (compared : Compared) (refusal : Refusal) (error : List ℕ) (old new : Written) → AreDumps workflow source.text target.text compared
+    → PrintsShown {X = ℕ} options (Err refusal) compared old new → error ≡ [] → IsTold options workflow source target refusal error old new
+told_shown options workflow source target compared Memory error old new dumps printed none = record { refuses = printed; name = []; names = tt; is_error = none ∙ sym (by options.json) }
+  where
+    by : (json : Bool) → error_of json Memory [] ≡ []
+    by true = refl
+    by false = refl
+told_shown options workflow source target compared (CannotWrite file) error old new dumps (is, text, shown, broken) none = record {
+  refuses = (Ok compared, dumps, (is, (text, shown, broken)));
+  name = [];
+  names = tt;
+  is_error = none ∙ sym (by options.json);
+}
+  where
+    by : (json : Bool) → error_of json (CannotWrite file) [] ≡ []
+    by true = refl
+    by false = refl
+told_shown options workflow source target compared (Workflow fault) error old new dumps printed none = absurd printed.0
+told_shown options workflow source target compared FeedCount error old new dumps printed none = absurd printed.0
+told_shown options workflow source target compared (Feed fault) error old new dumps printed none = absurd printed.0
+told_shown options workflow source target compared BadHex error old new dumps printed none = absurd printed.0
+told_shown options workflow source target compared (BadScript line) error old new dumps printed none = absurd printed.0
+told_shown options workflow source target compared (BadDump line) error old new dumps printed none = absurd printed.0
+told_shown options workflow source target compared (CannotRead file) error old new dumps printed none = absurd printed.0
+
+-- ---- a dump's fault
+
+no_error : (json : Bool) (name : List ℕ) → error_of json Memory name ≡ []
+no_error true name = refl
+no_error false name = refl
+
+of_dump : {X : Type 0} (plan : PlanValue) (text : List ℕ) (fault : DumpFault) → ((n : ℕ) → ◌≡◌ {A = Result X DumpFault} (Err fault) (Err (faults.BadDump n)) → IsFirstBad plan text n) → IsOfDump plan text (refusal_of_dump fault)
+of_dump plan text faults.Memory bad = tt
+of_dump plan text (faults.BadDump n) bad = bad n refl
+
+pub named_bad : {X : Type 0} (json : Bool) (plan : PlanValue) (dump : NamedDump) (fault : DumpFault) (told : Told) → IsToldOf json dump.name fault told
+    → ((n : ℕ) → ◌≡◌ {A = Result X DumpFault} (Err fault) (Err (faults.BadDump n)) → IsFirstBad plan dump.text n) → IsNamedBad json plan dump told
+named_bad {X} json plan dump fault told (inl (is, error)) bad = (subst (IsOfDump plan dump.text) (sym is) (of_dump {X = X} plan dump.text fault bad), error)
+named_bad json plan dump fault told (inr (is, none)) bad = (subst (IsOfDump plan dump.text) (sym is) tt, none ∙ sym (ap (λ (r : Refusal). error_of json r dump.name) is ∙ no_error json dump.name))

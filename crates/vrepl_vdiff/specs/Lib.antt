@@ -1,0 +1,5 @@
+pub mod NamedDump
+pub mod Shown
+pub mod Told
+pub mod ToldValue
+pub mod Reading

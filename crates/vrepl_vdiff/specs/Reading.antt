@@ -1,0 +1,20 @@
+-- What is told of a dump that isn't read.
+use Rattle.std.specs.Prelude.{◌≡◌, ℕ, Bool, List, []}
+use Rattle.filter_rule.specs.PlanValue.{PlanValue}
+use Rattle.vdiff_core.specs.DumpReading.{IsFirstBad}
+use Rattle.vrepl_main.specs.declared.refusal.Refusal.{Refusal}
+use Rattle.vrepl_main.specs.declared.refusal.Refusal.TheVariants.{Memory, BadDump}
+use Rattle.vrepl_vdiff.specs.NamedDump.{NamedDump}
+use Rattle.vrepl_vdiff.specs.Told.{error_of}
+use Rattle.vrepl_vdiff.specs.ToldValue.{error_text}
+use Rattle.vrepl_vdiff.specs.declared.told.Told.{Told}
+
+-- the refusal is of memory, or of the dump's first bad line
+abbrev pub IsOfDump : PlanValue → List ℕ → Refusal → Type 0
+IsOfDump plan text Memory = Unit {0}
+IsOfDump plan text (BadDump line) = IsFirstBad plan text line
+IsOfDump plan text refusal = ⊥
+
+-- and the line behind it names the dump
+abbrev pub IsNamedBad : Bool → PlanValue → NamedDump → Told → Type 0
+IsNamedBad json plan dump told = IsOfDump plan dump.text told.refusal × (error_text told.error ≡ error_of json told.refusal dump.name)

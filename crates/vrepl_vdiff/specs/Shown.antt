@@ -1,0 +1,73 @@
+-- What `vdiff` shows of two dumps by its options (this profile, after Vitess's VDiff).
+use Rattle.std.specs.Prelude.{◌≡◌, ◌≢◌, ℕ, Bool, true, false, List, [], ◌++◌, unwrap_or, Result, Ok, Err}
+use Rattle.vdiff_core.specs.Printing.{Written, IsWritten, BreaksOff}
+use Rattle.vdiff_core.specs.Report.{report_of}
+use Rattle.vdiff_core.specs.RowsValue.{RowsValue}
+use Rattle.vdiff_json.specs.Json.{comparison_data, json_line}
+use Rattle.vdiff_tables.specs.Differences.{AreFirstDifferences, Difference}
+use Rattle.vdiff_tables.specs.Reports.{NamedReport, reports_from}
+use Rattle.vdiff_tables.specs.Texts.{differences_text, tables_text}
+use Rattle.vrepl_main.specs.Command.{IsUnwritten}
+use Rattle.vrepl_main.specs.Comparison.{AreDumps, Compared, IsComparison}
+use Rattle.vrepl_main.specs.declared.refusal.Refusal.{Refusal}
+use Rattle.vrepl_main.specs.declared.refusal.Refusal.TheVariants.{Memory}
+use Rattle.vrepl_vdiff.specs.NamedDump.{NamedDump}
+use Rattle.vrepl_vdiff.specs.declared.options.Options.{Options}
+use Rattle.vrepl_vdiff.specs.declared.showing.Verdict.{Verdict}
+use Rattle.vrepl_vdiff.specs.declared.showing.Verdict.TheVariants.{Same, Differ}
+
+-- ---- text
+
+-- the counts of each table, in the workflow's order
+abbrev pub reports_by_table : Compared → List NamedReport
+reports_by_table compared = reports_from 0 compared.plan.tables compared.source compared.target
+
+-- the same where they are asked for
+abbrev pub reports_asked : Bool → Compared → List NamedReport
+reports_asked true compared = reports_by_table compared
+reports_asked false compared = []
+
+-- the lines of some tables, the comparison as it is without options, and behind it the first n differences
+pub record IsTextOf (compared : Compared) (reports : List NamedReport) (n : ℕ) (text : List ℕ) : Type 0 where
+  pub comparison : List ℕ
+  pub is_comparison : IsComparison compared comparison
+  pub found : List Difference
+  pub are_first : AreFirstDifferences n compared.source compared.target found
+  pub is_text : text ≡ tables_text reports ++ comparison ++ differences_text compared.plan.tables found
+
+-- one line of JSON, with the counts of each table and the first n differences
+pub record IsJsonOf (compared : Compared) (n : ℕ) (text : List ℕ) : Type 0 where
+  pub found : List Difference
+  pub are_first : AreFirstDifferences n compared.source compared.target found
+  pub is_text : text ≡ json_line (comparison_data compared.plan.tables (report_of compared.source compared.target) (reports_by_table compared) found)
+
+-- JSON has the first difference where no number is given, text has none
+abbrev pub by_json : Bool → Options → Compared → List ℕ → Type 0
+by_json true options compared text = IsJsonOf compared (unwrap_or options.first 1) text
+by_json false options compared text = IsTextOf compared (reports_asked options.tables compared) (unwrap_or options.first 0) text
+
+-- what the options show of rows
+abbrev pub IsShown : Options → Compared → List ℕ → Type 0
+IsShown options compared text = by_json options.json options compared text
+
+-- ---- what is left on the writers
+
+-- whether the rows are the same
+abbrev pub IsVerdict : Verdict → RowsValue → RowsValue → Type 0
+IsVerdict Same source target = source ≡ target
+IsVerdict Differ source target = source ≢ target
+
+-- what the options show was printed; or want of memory, and then nothing was; or a write of it failed
+abbrev pub PrintsShown : {X : Type 0} → Options → Result X Refusal → Compared → Written → Written → Type 0
+PrintsShown options (Ok x) compared old new = (text : List ℕ) × IsShown options compared text × IsWritten old new text
+PrintsShown options (Err Memory) compared old new = new ≡ old
+PrintsShown options (Err refusal) compared old new = IsUnwritten refusal × (text : List ℕ) × IsShown options compared text × BreaksOff old new text
+
+-- two dumps were read, this is the verdict on them, and what the options show of them was printed
+pub record IsShownAs (options : Options) (verdict : Verdict) (workflow : List ℕ) (source target : NamedDump) (old new : Written) : Type 0 where
+  pub compared : Compared
+  pub dumps : AreDumps workflow source.text target.text compared
+  pub is_verdict : IsVerdict verdict compared.source compared.target
+  pub text : List ℕ
+  pub shown : IsShown options compared text
+  pub printed : IsWritten old new text

@@ -1,0 +1,74 @@
+//! The comparison of two sets of rows, printed by options.
+
+ghost use Rattle.std.specs.Prelude.{◌≡◌, IfErr, IfOk, List, ℕ, OnOk, map};
+ghost use Rattle.vdiff_tables.specs.NamedReports.{named_report};
+ghost use Rattle.vrepl_vdiff.specs.Shown.{IsVerdict, PrintsShown, reports_asked};
+
+use crate::options::Options;
+use crate::text::print_text;
+use filter_rule::Plan;
+use std::alloc::{AllocError, Global};
+use vdiff_core::{Out, Rows, first_difference, put_all};
+use vdiff_json::comparison_line;
+use vdiff_tables::{TableReport, table_reports};
+use vrepl_main::Refusal;
+
+/// How two dumps compare.
+#[derive(Clone, Copy)]
+pub(crate) enum Verdict {
+    /// They are of the same rows.
+    Same,
+    /// They differ at a key.
+    Differ,
+}
+
+/// Prints what the options show of two sets of rows. A refusal is want of memory, and then nothing was printed, or that
+/// `out` can't be written.
+pub(crate) fn print_shown<W: Out>(
+    alloc: Global,
+    options: &Options,
+    plan: &Plan,
+    source: &Rows,
+    target: &Rows,
+    out: &mut W,
+) -> Result<(), Refusal<'static>>
+    ensures { PrintsShown options.now result (record { plan = plan.now; source = source.now; target = target.now }) (W.written out.old) (W.written out.new) }
+{
+    if options.json {
+        let count = options.first.unwrap_or(1);
+        let line = comparison_line(alloc, plan, source, target, count)?;
+        put_all(out, line.as_bytes())?;
+        return Ok(());
+    }
+    let reports = asked_reports(alloc, options.tables, plan, source, target)?;
+    let count = options.first.unwrap_or(0);
+    print_text(out, plan, source, target, &reports, count)?;
+    Ok(())
+}
+
+/// The counts of the tables, where they are asked for. An error is want of memory.
+fn asked_reports<'p>(
+    alloc: Global,
+    asked: bool,
+    plan: &'p Plan,
+    source: &Rows,
+    target: &Rows,
+) -> Result<Vec<TableReport<'p>>, AllocError>
+    ensures { IfOk result (λ reports. map named_report reports.items ≡ reports_asked asked (record { plan = plan.entry.now; source = source.now; target = target.now })) }
+{
+    if asked {
+        table_reports(alloc, plan, source, target)
+    } else {
+        Ok(Vec::new(alloc))
+    }
+}
+
+/// How two sets of rows compare. Takes no memory.
+pub(crate) fn verdict_of(source: &Rows, target: &Rows) -> Verdict
+    ensures { IsVerdict result source.now target.now }
+{
+    match first_difference(source, target) {
+        None => Verdict::Same,
+        Some(_) => Verdict::Differ,
+    }
+}

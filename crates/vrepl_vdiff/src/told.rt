@@ -1,0 +1,81 @@
+//! A refusal, and what is told behind its line.
+
+ghost use Rattle.std.specs.Prelude.{◌≡◌, None};
+ghost use Rattle.vdiff_core.specs.Printing.{Written};
+ghost use Rattle.vrepl_main.specs.Printing.{PrintsOrBreaks};
+ghost use Rattle.vrepl_main.specs.RefusalOf.{refusal_of_workflow};
+ghost use Rattle.vrepl_main.specs.Refusals.{refusal_line};
+ghost use Rattle.vrepl_vdiff.specs.ToldValue.{IsToldOf, error_text};
+
+use filter_rule::PlanFault;
+use std::alloc::Global;
+use vdiff_core::{DumpFault, Out, OutFailed, put_all};
+use vdiff_json::error_line;
+use vrepl_main::{Refusal, refuse};
+
+/// A refusal, and the line behind its own, if there is one.
+#[derive(Drop)]
+pub(crate) struct Told {
+    pub(crate) refusal: Refusal<'static>,
+    pub(crate) error: Option<String>,
+}
+
+impl From<Refusal<'static>> for Told {
+    ghost use Rattle.std.specs.Prelude.{◌≡◌, None};
+
+    ghost from_gives = { λ refusal told. (told.refusal ≡ refusal) × (told.error ≡ None) };
+
+    fn from(refusal: Refusal<'static>) -> Told {
+        Told {
+            refusal,
+            error: None,
+        }
+    }
+}
+
+/// What is told of a workflow's fault.
+pub(crate) fn told_of_workflow(fault: PlanFault) -> Told
+    ensures { (result.refusal ≡ refusal_of_workflow fault) × (result.error ≡ None) }
+{
+    Told {
+        refusal: Refusal::from(fault),
+        error: None,
+    }
+}
+
+/// What is told of a dump's fault: with JSON a bad dump is named by an object behind the refusal's line.
+pub(crate) fn told_of(alloc: Global, json: bool, name: &str, fault: DumpFault) -> Told
+    ensures { IsToldOf json name.now fault result }
+{
+    match fault {
+        DumpFault::Memory => Told::from(Refusal::Memory),
+        DumpFault::BadDump { line } if json => match error_line(alloc, 121, name) {
+            Ok(error) => Told {
+                refusal: Refusal::BadDump { line },
+                error: Some(error),
+            },
+            Err(_) => Told::from(Refusal::Memory),
+        },
+        DumpFault::BadDump { line } => Told::from(Refusal::BadDump { line }),
+    }
+}
+
+/// Prints the line of a refusal, and the line behind it, and answers the status 1.
+pub(crate) fn refuse_told<E: Out>(err: &mut E, told: &Told) -> u8
+    ensures status { result ≡ 1 }
+    ensures lines { (between : Written) × PrintsOrBreaks (E.written err.old) between (refusal_line told.now.refusal) × PrintsOrBreaks between (E.written err.new) (error_text told.now.error) }
+{
+    let status = refuse(err, &told.refusal);
+    let _printed = print_error(err, &told.error);
+    status
+}
+
+/// Prints the line behind a refusal's, if there is one.
+fn print_error<E: Out>(err: &mut E, error: &Option<String>) -> Result<(), OutFailed>
+    ensures { PrintsOrBreaks (E.written err.old) (E.written err.new) (error_text error.now) }
+{
+    match error {
+        None => Ok(()),
+        Some(error) => put_all(err, error.as_bytes()),
+    }
+}
