@@ -1,0 +1,10 @@
+pub mod Json
+pub mod Notes
+pub mod Ignored
+pub mod Rules
+pub mod Passing
+pub mod Ranges
+pub mod Told
+pub mod Shape
+pub mod Counts
+pub mod File
