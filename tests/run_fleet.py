@@ -235,7 +235,7 @@ def twice(trial):
 
 
 def in_any_order(trial, orders=20):
-    """Joins of a target's streams, some of them twice, in pairs as they come."""
+    """Joins of a target's streams, some of them twice, two or more at a time as they come."""
     r, alike = trial.random, 0
     for turn in range(orders):
         target = r.choice(TARGETS)
@@ -243,8 +243,9 @@ def in_any_order(trial, orders=20):
         parts += r.sample(parts, r.randrange(3))
         r.shuffle(parts)
         while len(parts) > 1:
-            pair = [parts.pop(r.randrange(len(parts))) for _ in range(2)]
-            ran = trial.run(trial.program, "join", trial.path(f"{target}.json"), *pair, *trial.feeds())
+            one, other, *more = [parts.pop(r.randrange(len(parts))) for _ in range(r.randrange(2, len(parts) + 1))]
+            also = [word for it in more for word in ("--also", it)]
+            ran = trial.run(trial.program, "join", *also, trial.path(f"{target}.json"), one, other, *trial.feeds())
             assert ran.returncode == 0, ran
             name = f"joined-{turn}-{len(parts)}"
             trial.put(name, ran.stdout)

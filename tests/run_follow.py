@@ -6,16 +6,19 @@ usage: tests/run_follow.py PROGRAM
 A checkpoint that was moved on has to be, byte for byte, the one that is made from nothing over the same feeds: wherever
 it stood, one stream after another or in threads, in any portions. Its board's dump is the one that `run` prints. A file is
 replaced as a whole or not at all: after a refusal, where it can't be written, where its size is limited and where the
-program is killed it is what it was before, or the whole new checkpoint. The last line is 'N passed, M failed': one a
+program is killed it is what it was before, or the whole new checkpoint. With `--progress` a run that is held for a second
+tells how far its streams are. The last line is 'N passed, M failed': one a
 check.
 """
 import os
 import random
+import re
 import resource
 import signal
 import subprocess
 import sys
 import tempfile
+import time
 
 from model import making
 
@@ -138,6 +141,34 @@ def again_and_again(room, r):
     yield "leave what one night leaves", room.follow() == (0, b"", b"") and room.get("kept") == moved
 
 
+def only_some(room, r, rounds=20):
+    """Streams that are named one after another, in any order, from anywhere."""
+    feeds = two_feeds(r, 12)
+    room.put(workflow=making.workflow("-80", "80-"), **feeds(12))
+    assert room.follow()[0] == 0
+    wanted, done = room.get("kept"), (0, b"", b"")
+    yield "one stream, and then the other", room.follow("--only=0") == done and room.follow("--checkpoint=kept", "--only=1") == done and room.get("kept") == wanted
+    yield "both by name", room.follow("--only=1,0,1") == done and room.get("kept") == wanted
+    assert room.follow("--only=0") == done
+    alone = room.get("kept")
+    begun = room.run("step", "workflow", "lower", "upper", stdin=b"state 1\n")
+    yield "the other stream is at its beginning", room.run("resume", "--checkpoint=kept", "workflow", "lower", "upper", stdin=b"state 1\n") == begun
+    room.put(upper=b"")
+    yield "and needs no feed", room.follow("--only=0") == done and room.get("kept") == alone
+    alike = 0
+    for _ in range(rounds):
+        room.put(**feeds(r.randrange(13)))
+        saved = room.run("save", "workflow", "lower", "upper", stdin=script(r, r.randrange(60), 12))
+        room.put(kept=saved[1], **feeds(12))
+        turns = r.sample("01", 2)
+        for s in turns:
+            told = room.run("resume", "--checkpoint=kept", "workflow", "lower", "upper", stdin=b"state %d\n" % (1 - int(s)))
+            assert room.follow("--checkpoint=kept", f"--only={s}", *r.choice(ENDS)) == done
+            alike += told == room.run("resume", "--checkpoint=kept", "workflow", "lower", "upper", stdin=b"state %d\n" % (1 - int(s)))
+        alike += room.get("kept") == wanted
+    yield f"{rounds} checkpoints moved on a stream at a time, the other as it stood", alike == 3 * rounds
+
+
 # ---- refusals
 
 
@@ -219,13 +250,45 @@ def killed(room, r, rounds=60):
     yield "what was left beside it is written over", room.follow() == (0, b"", b"") and room.left_beside() == ["kept"]
 
 
+# ---- progress
+
+
+def held(room, words, seconds):
+    """Runs the program, holds it for a while and lets it go on; answers what it printed."""
+    ran = subprocess.Popen([room.built, *words], cwd=room.place, stdout=subprocess.PIPE, stderr=subprocess.PIPE)
+    time.sleep(seconds)
+    ran.send_signal(signal.SIGSTOP)
+    time.sleep(1.1)
+    ran.send_signal(signal.SIGCONT)
+    out, err = ran.communicate(timeout=SECONDS)
+    return ran.returncode, out, err
+
+
+def progress(room, r, rounds=30):
+    feeds, lines = two_feeds(r, 4000), re.compile(rb"(stream [01]: [1-9][0-9]{0,3} of 4000 groups\n)+")
+    room.put(workflow=making.workflow("-80", "80-"), **feeds(4000))
+    wanted = room.run("run", "workflow", "lower", "upper")
+    assert room.follow()[0] == 0
+    kept = room.get("kept")
+    for words, dump in ((["run"], wanted[1]), (["follow", "--save-to", "kept"], b"")):
+        room.put(kept=OLD)
+        for _ in range(rounds):
+            said = held(room, [*words, "--progress", "workflow", "lower", "upper"], r.random() * 0.3)
+            if said[:2] != (0, dump) or said[2]:
+                break
+        yield f"a long {words[0]} tells how far its streams are", said[:2] == (0, dump) and lines.fullmatch(said[2])
+    yield "and leaves the same bytes", room.get("kept") == kept
+    said = held(room, ["run", "workflow", "lower", "upper"], 0.05)
+    yield "without the word nothing is told", said == wanted
+
+
 def main(built):
     passed = failed = 0
     r = random.Random(1)
-    for part in (from_nothing, from_anywhere, again_and_again, refused, cut_short, killed):
+    for part in (from_nothing, from_anywhere, again_and_again, only_some, refused, cut_short, killed, progress):
         with tempfile.TemporaryDirectory(prefix="vrepl-follow-") as place:
             for title, holds in part(Room(built, place), r):
-                passed, failed = passed + holds, failed + (not holds)
+                passed, failed = passed + bool(holds), failed + (not holds)
                 print(f"  {title}" if holds else f"FAILED {title}")
     print(f"{passed} passed, {failed} failed")
     return 1 if failed else 0

@@ -6,7 +6,8 @@ usage: tests/run_sweep.py PROGRAM
 The built program runs over every case of tests/cases, as many cases at once as there are cores, and once for
 each growth that it asks for: with that growth refused, and with that one and all later ones refused
 (tests/refuse_growth.c). It has to
-do what the case wants, or to print nothing, say `refused 72` and end with status 1. In a script the
+do what the case wants, or to print nothing, say `refused 72` and end with status 1; the line of a
+refusal's place, of `check`, may be missing or stand behind `refused 72`. In a script the
 line of a refused step is its reply: there `refused 72` may stand in place of a reply, behind which the
 script goes on from another state.
 
@@ -53,6 +54,7 @@ FEWEST_THREADS = 3
 TESTS = os.path.dirname(os.path.abspath(__file__))
 ROOT = os.path.dirname(TESTS)
 REFUSED = (1, b"", b"refused 72\n")
+PLACE = re.compile(rb"^place .*\n", re.M)
 PASSED_TEST = re.compile(r"^test (\S+) \.\.\. ok$", re.M)
 FAILED_TEST = re.compile(r"^test (\S+) \.\.\. FAILED\n((?:    .*\n)*)", re.M)
 IS_MEMORY = re.compile(r"^ +(?:error|left): .*\b(?:Memory|OutOfMemory|AllocError|AllocFailed)\b", re.M)
@@ -67,6 +69,12 @@ def is_reply_of_a_step(case, status, stdout, stderr):
     return is_script and (status, stderr, first) == (case.status, case.stderr, [b"refused 72"])
 
 
+def is_told_without_its_place(case, status, stdout, stderr):
+    """Answers whether a refusal is the one that is wanted, or for want of memory, without the place of its fault or with it."""
+    said = status, stdout, PLACE.sub(b"", stderr)
+    return said == REFUSED or said == (case.status, case.stdout, PLACE.sub(b"", case.stderr or b""))
+
+
 def sweep_case(program, library, name):
     """Answers why the case fails under some refused growth, or nothing; and how many growths it asks for."""
     case = run_cases.Case(name)
@@ -79,7 +87,7 @@ def sweep_case(program, library, name):
         for at in range(1, growths + 1):
             for refused in (f"{at}", f"{at}+"):
                 ran = case.run(program, place, {**preloaded, "REFUSE_GROWTH": refused})
-                if case.faults(*ran) and ran != REFUSED and not is_reply_of_a_step(case, *ran):
+                if case.faults(*ran) and not is_told_without_its_place(case, *ran) and not is_reply_of_a_step(case, *ran):
                     return f"growth {refused} of {growths} refused: status {ran[0]}, output {ran[1]!r}, error {ran[2]!r}", growths
     return None, growths
 

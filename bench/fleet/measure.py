@@ -6,7 +6,8 @@ usage: bench/fleet/measure.py PROGRAM [MB..] [--turns N]     10 and 100 MB of fe
 Feeds are made by bench/feed/make_feed.py, ten rows a group, and kept in /tmp/vrepl_fleet. Each line: the feeds' bytes, what
 is filled, the workers, the least and the most seconds of the turns, the peak memory of the largest process, how often the
 program was run, and the bytes of the streams' checkpoints, which are written and read again to be joined. In front of them
-stands `vrepl run`, in threads: of the one target, and of the four, one behind the other.
+stands `vrepl run`, in threads: of the one target, and of the four, one behind the other. Behind the four stands the slowest of
+them where each is filled alone, by four workers.
 """
 import argparse
 import json
@@ -99,8 +100,12 @@ def main():
             line(size, what, "`run`", *told([in_threads(said.program, workflows, feeds) for _ in range(said.turns)]), str(len(workflows)), "")
             for workers in 1, 2, 4:
                 runs = [by_fleet(said.program, workflows, feeds, workers) for _ in range(said.turns)]
-                # each target has a run for each stream, one less to join them, and one for the dump
-                line(size, what, str(workers), *told(runs), str(len(workflows) * 2 * len(SHARDS)), f"{moved():,} bytes")
+                # each target has a run for each stream, one to join them, and one for the dump
+                line(size, what, str(workers), *told(runs), str(len(workflows) * (len(SHARDS) + 2)), f"{moved():,} bytes")
+            if len(workflows) > 1:
+                alone = [max(by_fleet(said.program, {name: it}, feeds, 4) for name, it in workflows.items()) for _ in range(said.turns)]
+                line(size, "the slowest of these alone", "4", *told(alone), str(len(SHARDS) + 2), "")
 
 
-main()
+if __name__ == "__main__":
+    main()

@@ -45,10 +45,10 @@ def join(job: Job, target: Target, *_filled: Done) -> Done:
     files = [target.stream_file(stream) for stream in range(len(target.feeds))]
     try:
         with replaced(target.checkpoint) as part:
-            shutil.copyfile(files[0], part)
-            for file in files[1:]:
-                with replaced(part) as joined:
-                    _run(words.join(job, target, part, file), joined)
+            if len(files) == 1:
+                shutil.copyfile(files[0], part)
+            else:
+                _run(words.join(job, target, *files), part)
         with replaced(target.dump) as part:
             _run(words.dump(job, target, target.checkpoint), part, b"dump\n")
         with open(target.dump, "rb") as dump:

@@ -6,15 +6,15 @@ NOTHING = "/dev/null"
 
 
 def follow(job: Job, target: Target, stream: int, file: str) -> list[str]:
-    """One stream of a target from the beginning to its feed's end. The others have no feed, so that they are nowhere
-    further on than in the checkpoint that a task of their own makes."""
+    """One stream of a target from the beginning to its feed's end; the others stay at theirs, and need no feed."""
     feeds = [feed if s == stream else NOTHING for s, feed in enumerate(target.feeds)]
-    return [job.program, "follow", *_hex(job), "--save-to", file, target.workflow, *feeds]
+    return [job.program, "follow", *_hex(job), "--only", str(stream), "--save-to", file, target.workflow, *feeds]
 
 
-def join(job: Job, target: Target, one: str, other: str) -> list[str]:
-    """Two checkpoints of a target, in any order. The new one comes on standard output."""
-    return [job.program, "join", *_hex(job), target.workflow, one, other, *target.feeds]
+def join(job: Job, target: Target, one: str, other: str, *more: str) -> list[str]:
+    """Two checkpoints of a target or more, in any order. The new one comes on standard output."""
+    also = [word for file in more for word in ("--also", file)]
+    return [job.program, "join", *_hex(job), *also, target.workflow, one, other, *target.feeds]
 
 
 def dump(job: Job, target: Target, checkpoint: str) -> list[str]:

@@ -1,5 +1,5 @@
 """What `check` prints of a workflow and its feeds."""
-from . import Refused, wire
+from . import Refused, told as file, wire
 from .board import Board, key_text
 from .feed import Feed, print_position
 
@@ -88,8 +88,8 @@ def stream(workflow, board, s, name, data):
     return lines, [b"warning stream %d %s" % (s, it) for it in warned]
 
 
-def check(workflow, feeds, names, datas):
-    """The status and the text."""
+def check(workflow, feeds, names, datas, text):
+    """The status and the text, where the workflow's file has this text."""
     board = Board(workflow, feeds)
     for s, feed in enumerate(feeds):
         for n in range(1, len(feed.groups) + 1):
@@ -98,5 +98,6 @@ def check(workflow, feeds, names, datas):
             except Refused as bad:
                 raise Refused(90, b"".join(bad.line.partition(b" cause ")[1:])[:-1].split(b" table")[0]) from None
     said = [stream(workflow, board, s, *it) for s, it in enumerate(zip(names, datas))]
-    lines = [line for one, _ in said for line in one] + [line for _, one in said for line in one]
-    return (3 if any(one for _, one in said) else 0), b"".join(line + b"\n" for line in lines)
+    warned = [line for _, one in said for line in one] + file.notes(text)
+    lines = file.rule_lines(text) + [line for one, _ in said for line in one] + warned
+    return (3 if warned else 0), b"".join(line + b"\n" for line in lines)

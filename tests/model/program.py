@@ -1,8 +1,10 @@
 """What the program answers to its words, files and standard input: status, output and error."""
-from . import Refused, cell, checkpoint
+from . import Refused, checkpoint
 from .board import Board, dump, key_text, read_script
 from .check import check
 from .feed import Feed, bytes_of_hex, show
+from .told import place
+from .vdiff import vdiff
 from .workflow import Workflow
 
 
@@ -37,10 +39,12 @@ def resume(is_hex, data, workflow, feeds, script):
     return replies(checkpoint.resume(workflow, feeds, data), steps)
 
 
-def join(is_hex, workflow, one, other, feeds):
+def join(is_hex, workflow, one, others, feeds):
     workflow, feeds = opened(is_hex, workflow, feeds)
-    boards = [checkpoint.resume(workflow, feeds, it) for it in (one, other)]
-    return checkpoint.save(checkpoint.join(*boards))
+    board = checkpoint.resume(workflow, feeds, one)
+    for it in others:
+        board = checkpoint.join(board, checkpoint.resume(workflow, feeds, it))
+    return checkpoint.save(board)
 
 
 def run_alone(is_hex, policy, workflow, feeds):
@@ -80,51 +84,22 @@ def run_in_threads(is_hex, policy, workflow, feeds):
     return dump(workflow, whole) if may_end else None, lines
 
 
-def vdiff(workflow, source, target):
-    workflow = Workflow(workflow)
-    one, other = read_dump(workflow, source), read_dump(workflow, target)
-    both = {*one, *other}
-    differ = sorted(key for key in both if one.get(key) != other.get(key))
-    alone = sum(key not in other for key in one), sum(key not in one for key in other)
-    matching = len(both) - len(differ)
-    counts = len(both), matching, len(differ) - sum(alone), *alone
-    out = b"processed %d\nmatching %d\nmismatched %d\nextra source %d\nextra target %d\n" % counts
-    if differ:
-        table, key = differ[0]
-        out += b"first table %s key %s\n" % (workflow.tables[table].name, key_text(key))
-    return (3 if differ else 0), out
+def inputs(command, names, files, stdin):
+    """The bytes of the files that are named; standard input is the first dump of `vdiff` that is named `-`."""
+    hyphen = names.index("-", 1) if command == "vdiff" and "-" in names[1:] else None
+    return [stdin if at == hyphen else files[name] for at, name in enumerate(names)]
 
 
-def read_dump(workflow, data):
-    lines = data.split(b"\n")
-    at, rows, table, last = 0, {}, -1, None
-    for at, line in enumerate(lines[:-1], 1):
-        if table + 1 < len(workflow.tables) and line == b"table " + workflow.tables[table + 1].name:
-            table, last = table + 1, None
-            continue
-        key = read_line(workflow.tables[table], line) if table >= 0 else None
-        if key is None or last is not None and key[0] <= last:
-            raise Refused(121, b" line %d" % at)
-        last = key[0]
-        rows[table, last] = key[1]
-    if lines[-1] or table + 1 < len(workflow.tables):
-        raise Refused(121, b" line %d" % len(lines))
-    return rows
-
-
-def read_line(table, line):
-    """The key and the columns of a dump's line, or nothing."""
-    row = []
-    for text in line.split(b"\t"):
-        try:
-            value = None if text == b"N" else bytes.fromhex(text[1:].decode())
-        except ValueError:
-            return None
-        if cell(value) != text:
-            return None
-        row.append(value)
-    key = table.key_of(row) if len(row) == len(table.columns) else 0
-    return None if isinstance(key, int) else (key, row)
+def checked(is_hex, text, names, feeds):
+    """What `check` says; a refusal's line has the place behind it, if it has one."""
+    try:
+        said = opened(is_hex, text, feeds)
+        return check(*said, names, [bytes_of_hex(it) if is_hex else it for it in feeds], text)
+    except Refused as refused:
+        number = int(refused.line.split()[1])
+        workflow = Workflow(text) if number in (81, 82, 85) else None
+        refused.line += place(text, workflow, names, [bytes_of_hex(it) if is_hex else it for it in feeds] if workflow else [], refused)
+        raise
 
 
 def said_by(words, files, stdin):
@@ -133,22 +108,24 @@ def said_by(words, files, stdin):
     options = [it for it in rest if it.startswith("--")]
     values = dict(it[2:].split("=", 1) for it in options if "=" in it)
     is_hex = "--hex" in options
-    given = [files[it] for it in rest if not it.startswith("--")]
+    names = [it for it in rest if not it.startswith("--")]
+    given = inputs(command, names, files, stdin)
     policy = [int(values.get(name, usual)) for name, usual in (("rows", 1000), ("ahead", 100), ("chunks", 4))]
     if command == "show":
         data = bytes_of_hex(given[0]) if is_hex else given[0]
         return show(data, values.get("keyspace", "").encode(), values.get("shard", "").encode())
     if command == "vdiff":
-        return vdiff(*given)
+        first = int(values["first"]) if "first" in values else None
+        return vdiff(*given, names[1:], "--tables" in options, first, "--json" in options)
     if command == "run":
         return (run_alone if "--alone" in options else run_in_threads)(is_hex, policy, given[0], given[1:])
     if command == "check":
-        names = [it.encode() for it in rest if not it.startswith("--")][1:]
-        return check(*opened(is_hex, given[0], given[1:]), names, [bytes_of_hex(it) if is_hex else it for it in given[1:]])
+        return checked(is_hex, given[0], [it.encode() for it in names[1:]], given[1:])
     if command == "resume":
         return resume(is_hex, files[values["checkpoint"]], given[0], given[1:], stdin)
     if command == "join":
-        return join(is_hex, *given[:3], given[3:])
+        also = [files[it.removeprefix("--also=")] for it in options if it.startswith("--also=")]
+        return join(is_hex, *given[:2], [given[2], *also], given[3:])
     return {"step": step, "save": save}[command](is_hex, given[0], given[1:], stdin)
 
 

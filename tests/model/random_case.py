@@ -6,7 +6,7 @@ from .random_feed import UUIDS, Feeds
 from .wire import varint
 from .workflow import Workflow
 
-CHECKPOINTS = ("checkpoint", "one", "other")
+CHECKPOINTS = ("checkpoint", "one", "other", "third")
 
 
 class Bent(Board):
@@ -110,7 +110,8 @@ class Case(Feeds):
         self.stdin = self.script(board and self.again(board))
 
     def join(self):
-        """Two targets of one workflow that were filled apart, or of which the second one went on where the first stands."""
+        """Two targets of one workflow that were filled apart, or of which the second one went on where the first stands; at
+        times one of them again, or a third one."""
         boards = self.board(), self.board()
         if boards[0]:
             boards = self.r.choice([self.scripted_apart, self.scripted_on, self.filled_apart, self.copied_apart])(*boards)
@@ -118,7 +119,13 @@ class Case(Feeds):
             self.files[name] = self.checkpoint_of(board)
         workflow, *feeds = self.named_feeds()
         names = ["one", "other"] if self.chance(0.95) else ["one", "one"]
-        self.words = ["join", *self.options(), workflow, *names, *feeds]
+        also = []
+        if self.r.random() < 0.3:
+            third = self.board()
+            self.script(third)
+            self.files["third"] = self.checkpoint_of(third)
+            also = [f"--also={it}" for it in self.r.choices(["one", "other", "third"], k=self.r.randrange(1, 4))]
+        self.words = ["join", *self.options(), *also, workflow, *names, *feeds]
 
     def scripted_apart(self, *boards):
         for board in boards:
@@ -192,7 +199,17 @@ class Case(Feeds):
         for name, rows in (("source", one), ("target", other)):
             self.files[name] = dump(self.read, rows) if self.read else b"table t\n"
         self.files["workflow"] = self.said
-        self.words = ["vdiff", "workflow", "source", "target"]
+        names = ["source", "target"]
+        if self.chance(0.2):
+            at = self.r.randrange(2)
+            self.stdin, names[at] = self.files.pop(names[at]), "-"
+            if at == 0 and self.chance(0.2):
+                self.files["-"], names[1] = self.files.pop("target"), "-"
+        self.words = ["vdiff", *self.shown(), "workflow", *names]
+
+    def shown(self):
+        words = [it for it in ("--tables", "--json") if self.chance(0.3)]
+        return words + [f"--first={self.r.choice([1, 2, 3, 1000000])}"] * self.chance(0.4)
 
     def board(self):
         """A board of the model to make steps on, if the files have no fault."""

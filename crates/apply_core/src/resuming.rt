@@ -1,6 +1,6 @@
 //! A board from the bytes of a checkpoint.
 
-ghost use Rattle.std.specs.Prelude.{◌≡◌, ◌^◌, ◌<◌, ◌≤◌, ℕ, List, length, map, IfOk, IfErr, OnOk};
+ghost use Rattle.std.specs.Prelude.{◌≡◌, ◌^◌, ◌<◌, ◌≤◌, ℕ, List, length, map, IfOk, IfErr, OnOk, Err};
 ghost use Rattle.std.specs.Arc.{arc_value};
 ghost use Rattle.std.specs.List.{AllByRecursion};
 ghost use Rattle.filter_rule.specs.WellFormed.{IsPlan};
@@ -11,6 +11,7 @@ ghost use Rattle.checkpoint_laws.specs.Laws.{AreFeeds, restarted};
 ghost use Rattle.checkpoint_laws.specs.Resumed.{IsResumedBoard};
 ghost use Rattle.checkpoint_laws.specs.Refused.{plans_of_feeds, IsRefusedSaved, IsRefusedCheckpoint};
 ghost use Rattle.checkpoint_laws.specs.Said.{IsCheckpoint};
+ghost use Rattle.checkpoint_core.specs.Fault.{HasParts};
 ghost use Rattle.source_feed.specs.Planned.{FeedValue};
 ghost use Rattle.apply_core.specs.Feeds.{AreWholeFeeds, AreFed};
 ghost use Rattle.apply_core.specs.Resuming.{IsResumed, IsRefusedResume, IsSavedOf, GivesBoard, IsSavedBefore, GivesMore};
@@ -77,6 +78,7 @@ fn read_streams<'b>(
 ) -> Result<Vec<ReadStream<'b>>, ResumeFault>
     ensures said { IfOk result (λ saved. IsCheckpoint (map arc_value plans.now) bytes.now saved.items) }
     ensures refused { IfErr result (λ fault. (feeds : List FeedValue) → plans_of_feeds feeds ≡ map arc_value plans.now → IsRefusedCheckpoint feeds bytes.now fault) }
+    ensures memory { result ≡ Err ResumeFault.Memory → HasParts bytes.now (length plans.now) }
 {
     match read_checkpoint(alloc, plans, bytes) {
         Ok(saved) => Ok(saved),
@@ -118,6 +120,7 @@ fn resumed_over<'h>(
     ensures lawful { IfOk result IsLawful }
     ensures reads { IfOk result (AllReadTheirFeeds feeds.now) }
     ensures refused { IfErr result (IsRefusedCheckpoint feeds.now bytes.now) }
+    ensures memory { result ≡ Err ResumeFault.Memory → HasParts bytes.now (length plans.now) }
 {
     resumed_boards_are_lawful();
     let saved = read_streams(alloc, plans, bytes)?;
@@ -138,7 +141,7 @@ fn resumed_over<'h>(
 /// unsound group up to the position of the least stream that has one; 117 where the rows aren't those of the
 /// feeds, for the least stream and its least key; 71 where two streams have a row at one key, for the first
 /// stream that meets a lower one, with its least such key and the lower stream. Any other error is want of
-/// memory.
+/// memory; bytes that aren't as many parts as there are plans are refused 116 whatever memory there is.
 pub fn resume<'h>(
     alloc: Global,
     plans: &[Arc<Plan>],
@@ -153,6 +156,8 @@ pub fn resume<'h>(
     // Each read list is a beginning of its feed's groups.
     ensures reads { IfOk result (AllReadTheirFeeds feeds.now) }
     ensures refused { IfErr result (IsRefusedResume (map arc_value plans.now) feeds.now bytes.now) }
+    // Memory is wanted for bytes alone that are as many parts as there are plans.
+    ensures memory { result ≡ Err ResumeFault.Memory → HasParts bytes.now (length plans.now) }
     // A board whose rows, keys and positions are within the limits and that was saved, in either version, comes
     // back as it was after a restart of each stream.
     ensures after_save { (board : Meaning) → IsSavedOf (map arc_value plans.now) feeds.now bytes.now board → GivesBoard (restarted board) result }

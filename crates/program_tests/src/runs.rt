@@ -9,7 +9,7 @@ use std::test::*;
 use std::thread::Threads;
 use stream_worker::Policy;
 use vdiff_core::Writer;
-use vrepl_main::run;
+use vrepl_main::{Untold, run};
 
 /// The run was refused with this beginning of a line, and has printed nothing; an error where memory was wanting.
 fn is_refused(status: u8, out: &[u8], err: &[u8], line: &[u8]) -> Result<bool, AllocError> {
@@ -35,7 +35,7 @@ fn meets_a_foreign_row<R: Threads + Wait + Sync>(
     let mut said = Writer::new(Cursor::new(&mut err[..]));
     let workflow = TWO.as_bytes();
     let status = run(
-        rt, alloc, true, alone, &policy, workflow, &feeds, &mut dump, &mut said,
+        rt, alloc, true, alone, &policy, &Untold, workflow, &feeds, &mut dump, &mut said,
     );
     is_refused(status, &out, &err, line)
 }

@@ -1,6 +1,6 @@
 -- Which texts are dumps of a plan's tables, and which line is the first that can't stand in a text that is none
 -- (this profile).
-use Rattle.std.specs.Prelude.{◌≡◌, ℕ, ◌+◌, ◌<◌, ◌⊎◌, List, [], ◌∷◌, ◌++◌, length, IfSome, Result, Ok, Err}
+use Rattle.std.specs.Prelude.{◌≡◌, ◌≢◌, ℕ, ◌+◌, ◌<◌, ◌≤◌, ◌⊎◌, List, [], ◌∷◌, ◌++◌, length, IfSome, Result, Ok, Err}
 use Rattle.std.specs.List.{AllByRecursion, flat_map}
 use Rattle.filter_rule.specs.PlanValue.{PlanValue, columns_of, table_name}
 use Rattle.pk_copy.specs.KeyOf.{key_of}
@@ -87,6 +87,16 @@ pub record IsFirstBad (plan : PlanValue) (text : List ℕ) (n : ℕ) : Type 0 wh
   pub stops : NoLineStands plan now rest
   pub unfinished : (rest ≡ []) × (now.begun ≡ length plan.tables) → ⊥
   pub number : n ≡ length lines + 1
+
+-- lines that can stand are in front, a table has begun, and something stands behind them: it may be a row's line
+pub record MayHaveRow (plan : PlanValue) (text : List ℕ) : Type 0 where
+  pub lines : List (List ℕ)
+  pub now : Behind
+  pub rest : List ℕ
+  pub parts : text ≡ joined_lines lines ++ rest
+  pub stand : Stand plan at_front lines now
+  pub begun : 1 ≤ now.begun
+  pub more : rest ≢ []
 
 -- ---- what a text is read as
 

@@ -1,5 +1,5 @@
 -- Rows by key as a plain value (this profile).
-use Rattle.std.specs.Prelude.{ℕ, List, Option}
+use Rattle.std.specs.Prelude.{List, Option}
 use Rattle.std.specs.Map.{lookup}
 use Rattle.std.specs.Ordering.{eq_by_cmp}
 pub use Rattle.row_view.specs.Row.{RowValue}

@@ -1,10 +1,10 @@
 //! Reading of dumps.
 
-ghost use Rattle.std.specs.Prelude.{◌≡◌, ◌⊎◌, ℕ, ◌+◌, ◌<◌, ◌++◌, IfOk, Ok, Err, length, MatchOption, IfSome, IsErr, List};
+ghost use Rattle.std.specs.Prelude.{◌≡◌, ◌⊎◌, ℕ, ◌+◌, ◌<◌, ◌≤◌, ◌++◌, IfOk, Ok, Err, length, MatchOption, IfSome, IsErr, IsOk, List};
 ghost use Rattle.filter_rule.specs.PlanValue.{columns_of, table_name};
 ghost use Rattle.pk_copy.specs.KeyOf.{key_of};
 ghost use Rattle.vdiff_core.specs.Dump.{table_line};
-ghost use Rattle.vdiff_core.specs.DumpReading.{IsDump, IsFirstBad, NoLineStands, AreReadOnce};
+ghost use Rattle.vdiff_core.specs.DumpReading.{IsDump, IsFirstBad, NoLineStands, MayHaveRow, AreReadOnce};
 ghost use Rattle.vdiff_core.specs.DumpFaults.{number_of};
 ghost use Rattle.vdiff_core.specs.RowsValue.{RowsValue};
 ghost use Rattle.vdiff_core.specs.Private.Reading.{TakesLine, TakesRowLine, NoRowStands};
@@ -64,6 +64,7 @@ impl DumpRows {
     ) -> Result<&'t [u8], LineFault>
         ensures taken { IfOk result (λ rest. TakesLine plan.now self.old self.new text.now rest.now) }
         ensures bad { result ≡ Err LineFault.Bad → NoLineStands plan.now self.old text.now }
+        ensures memory { result ≡ Err LineFault.Memory → 1 ≤ self.old.begun }
     {
         if let Some(rest) = behind_table_line(plan, self.begun, text) {
             self.begun += 1;
@@ -82,6 +83,7 @@ impl DumpRows {
     ) -> Result<&'t [u8], LineFault>
         ensures taken { IfOk result (λ rest. TakesRowLine plan.now self.old self.new text.now rest.now) }
         ensures bad { result ≡ Err LineFault.Bad → NoRowStands plan.now self.old text.now }
+        ensures memory { result ≡ Err LineFault.Memory → 1 ≤ self.old.begun }
     {
         let tables = plan.tables().len();
         if self.begun == 0 || self.begun > tables {
@@ -104,6 +106,7 @@ fn key_of_row(alloc: Global, plan: &Plan, t: u8, row: &RowBuf) -> Result<Key, Li
     requires columns { length row.now ≡ length (columns_of plan.now t) }
     ensures ok { IfOk result (λ key. (key_of plan.now t row.now ≡ Ok key) × (key.table ≡ t)) }
     ensures bad { result ≡ Err LineFault.Bad → IsErr (key_of plan.now t row.now) }
+    ensures memory { result ≡ Err LineFault.Memory → IsOk (key_of plan.now t row.now) }
 {
     match key_of(plan, t, &row.view()) {
         Ok(key) => Ok(Key::from_view(alloc, &key)?),
@@ -115,12 +118,15 @@ fn key_of_row(alloc: Global, plan: &Plan, t: u8, row: &RowBuf) -> Result<Key, Li
 /// read, and then as these rows. `BadDump` names the first line, from 1, that can't stand behind those
 /// before it: any other than the next table's or a row's of the table that began last, as wide as it, with a
 /// key that can be read and is greater than those so far; where lines are missing, the one behind the last.
-/// A line without its end can't stand there. Linear in the text.
+/// A line without its end can't stand there. Any other error is want of memory, which comes of a line alone that
+/// stands behind the name of a table. Linear in the text.
 pub fn read_dump(alloc: Global, plan: &Plan, bytes: &[u8]) -> Result<Rows, DumpFault>
     ensures ok { IfOk result (λ rows. IsDump plan.now rows bytes.now) }
     ensures only { (rows : RowsValue) → IsDump plan.now rows bytes.now → (result ≡ Ok rows) ⊎ (result ≡ Err DumpFault.Memory) }
     ensures bad { (n : ℕ) → (result ≡ Err (DumpFault.BadDump n)) → IsFirstBad plan.now bytes.now n }
     ensures first { (n : ℕ) → IsFirstBad plan.now bytes.now n → (result ≡ Err (DumpFault.BadDump n)) ⊎ (result ≡ Err DumpFault.Memory) }
+    // Memory is wanted for rows alone, which stand behind the name of a table.
+    ensures memory { result ≡ Err DumpFault.Memory → MayHaveRow plan.now bytes.now }
 {
     let mut read = DumpRows {
         begun: 0,

@@ -17,7 +17,7 @@ use Rattle.vrepl_main.specs.RefusalOf.{refusal_of_feed}
 use Rattle.vrepl_main.specs.declared.refusal.Refusal.{Refusal}
 use Rattle.vrepl_main.specs.declared.refusal.Refusal.TheVariants.{Memory, Workflow, FeedCount, Feed, BadHex, BadScript, BadDump, CannotRead, CannotWrite}
 use Rattle.std.proofs.lemmas.Simd.{map-map}
-use Rattle.vrepl_check.specs.Checking.{IsWarned, bytes_or_none, said_checks, report_with, report_bytes, report_given, report_asked}
+use Rattle.vrepl_check.specs.Checking.{IsWarned, bytes_or_none, said_checks, report_with, report_given, report_asked, said_bytes, said_with, with_file}
 
 -- what refuses a step refuses what is made of it
 behind : {X Y : Type 0} (o : Option Reason) (reading : Result X Reason) (f : X → Result Y Reason) → MatchOption o ⊥ (λ reason. reading ≡ Err reason) → MatchOption o ⊥ (λ reason. (reading >>= f) ≡ Err reason)
@@ -39,9 +39,9 @@ refuses_checks files other reading is = ap (λ (r : Result (List CheckedValue) F
 
 -- feeds as they are given
 pub given_as : {A : Type 0} (feeds : List A) (view : A → List ℕ) (hex : Bool) (files : List (List ℕ)) (workflow : List ℕ) (given : List (Option (List ℕ))) → given ≡ map (λ feed. feed_bytes hex (view feed)) feeds
-    → report_bytes files workflow given ≡ report_given hex files workflow (map view feeds)
+    → said_bytes files workflow given ≡ report_given hex files workflow (map view feeds)
 given_as feeds view hex files workflow given is =
-    ap (λ (bytes : List (Option (List ℕ))). report_bytes files workflow bytes) (is ∙ sym (map-map (feed_bytes hex) view feeds))
+    ap (λ (bytes : List (Option (List ℕ))). said_bytes files workflow bytes) (is ∙ sym (map-map (feed_bytes hex) view feeds))
 
 -- the same of feeds that were opened
 pub refused_checks : (files : List (List ℕ)) (given : List (Option (List ℕ))) (reading : Result OpenedValue Reason) (opened : OpenedValue) (fault : FeedFault) → reading ≡ Ok opened
@@ -56,6 +56,10 @@ report_is files given reading opened checks report is checked made =
     ap (λ (r : Result OpenedValue Reason). r >>= report_with files given) is
     ∙ ap (λ (r : Result (List CheckedValue) FeedFault). said_checks r >>= λ checks. gives (check_report_of files checks)) checked
     ∙ ap gives (sym made)
+
+-- the report with what is told of the file
+pub said_is : (workflow : List ℕ) (reading : Result ReportValue Reason) (report said : ReportValue) → reading ≡ Ok report → said ≡ with_file workflow report → (reading >>= said_with workflow) ≡ Ok said
+said_is workflow reading report said is made = ap (λ (r : Result ReportValue Reason). r >>= said_with workflow) is ∙ ap gives (sym made)
 
 -- whether it warns
 pub warned_as : (reading : Result ReportValue Reason) (report : ReportValue) (warned : Bool) → reading ≡ Ok report → warned ≡ report.warned → IsWarned warned reading

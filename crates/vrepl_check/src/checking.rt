@@ -5,8 +5,9 @@ ghost use Rattle.vrepl_main.specs.Command.{IsGivenText, PrintsWhole, PrintsRefus
 ghost use Rattle.vrepl_main.specs.Given.{given_value};
 ghost use Rattle.vrepl_main.specs.InputList.{bytes_of};
 ghost use Rattle.vrepl_main.specs.Reasons.{GivesOfInputs};
-ghost use Rattle.vrepl_check.specs.Checking.{bytes_or_none, report_bytes, report_given, report_asked, text_of_report, IsWarned};
+ghost use Rattle.vrepl_check.specs.Checking.{bytes_or_none, report_bytes, report_given, report_asked, said_bytes, text_of_report, IsWarned};
 
+use crate::said::Said;
 use feed_check::{Report, check_feeds};
 use std::alloc::{AllocError, Global};
 use vdiff_core::{Out, put_all};
@@ -35,9 +36,10 @@ pub fn check_on<W: Out, E: Out>(
 }
 
 /// Checks a workflow with its feeds, one in the order of the streams each, and prints on `out` a line for each
-/// stream, a line for each of its tables, and behind them all warnings: of a stream without a group, of a
-/// table that no group touches or of which no row passes the stream's filter, and of changes that aren't true
-/// of the rows that the changes before them leave, with the first ten of each kind. Or prints the line of a
+/// table of each stream with the rows that the stream passes, then a line for each stream and a line for each of
+/// its tables, and behind them all warnings: of a stream without a group, of a table that no group touches or of
+/// which no row passes the stream's filter, of changes that aren't true of the rows that the changes before
+/// them leave, with the first ten of each kind, and of what the workflow's file says in vain. Or prints the line of a
 /// refusal on `err` and then nothing on `out`, unless it is `out` that can't be written. The faults are found
 /// in this order: those of opening the workflow with its feeds, as `run` finds them; then of each feed the
 /// first group that isn't sound. Where `hex` is set feeds are hexadecimal text. Answers the status: 0 where
@@ -84,18 +86,33 @@ fn print_check<W: Out>(
     Ok(report.warned())
 }
 
-/// The report on a workflow and its feeds, which may be given as hexadecimal text.
+/// The report on a workflow and its feeds, which may be given as hexadecimal text, and what is told of the
+/// workflow's file.
 fn report_on(
     alloc: Global,
     hex: bool,
     files: &[&str],
     workflow: &[u8],
     feeds: &[Vec<u8>],
-) -> Result<Report, Refusal<'static>>
+) -> Result<Said, Refusal<'static>>
     ensures { GivesOfInputs (λ report. report) result (report_given hex (map (λ file. file.now) files.now) workflow.now (map (λ feed. feed.items) feeds.now)) }
 {
     let given = given_feeds(alloc, hex, feeds)?;
-    report_of(alloc, files, workflow, &given)
+    said_of(alloc, files, workflow, &given)
+}
+
+/// The report on a workflow and its feeds, and what is told of the workflow's file.
+fn said_of(
+    alloc: Global,
+    files: &[&str],
+    workflow: &[u8],
+    given: &[GivenFeed<'_>],
+) -> Result<Said, Refusal<'static>>
+    ensures { GivesOfInputs (λ said. said) result (said_bytes (map (λ file. file.now) files.now) workflow.now (map given_value given.now)) }
+{
+    let report = report_of(alloc, files, workflow, given)?;
+    let said = Said::of(alloc, workflow, &report)?;
+    Ok(said)
 }
 
 /// The report on a workflow and its feeds.

@@ -2,5 +2,8 @@
 #![tactic(auto)]
 
 mod checking;
+mod placing;
+mod said;
 
 pub use checking::{check, check_on};
+pub use placing::place_on;

@@ -11,7 +11,7 @@ use Rattle.vrepl_main.specs.Command.{BreaksOffIn, PrintsWhole, RefusesCommand, I
 use Rattle.vrepl_main.specs.RefusalOf.{refusal_of_feed}
 use Rattle.vrepl_main.specs.Show.{shown_groups}
 use Rattle.vrepl_main.specs.declared.refusal.Refusal.{Refusal}
-use Rattle.vrepl_main.specs.declared.refusal.Refusal.TheVariants.{Memory, Workflow, FeedCount, Feed, BadHex, BadScript, BadDump, CannotRead, CannotWrite}
+use Rattle.vrepl_main.specs.declared.refusal.Refusal.TheVariants.{Memory, Workflow, NoStream, FeedCount, Feed, BadHex, BadScript, BadDump, CannotRead, CannotWrite}
 
 pub PrintsWhole-text : (reading : Result (List ℕ) Reason) (old new : Written) (text : List ℕ) → reading ≡ Ok text → IsWritten old new text → PrintsWhole reading old new
 PrintsWhole-text reading old new text is printed = subst (λ r. PrintsWhole r old new) (sym is) printed
@@ -24,6 +24,7 @@ module _ {X : Type 0} (IsText : X → List ℕ → Type 0) (refusal : Refusal) (
       by : (r : Refusal) → RefusesInputs r reading → RefusesCommand IsText r reading now now
       by Memory is = (tt, refl)
       by (Workflow fault) is = (is, refl)
+      by NoStream is = (is, refl)
       by FeedCount is = (is, refl)
       by (Feed fault) is = (is, refl)
       by BadHex is = (is, refl)
@@ -40,6 +41,7 @@ module _ {X : Type 0} (IsText : X → List ℕ → Type 0) (refusal : Refusal) (
       by (CannotWrite file) unwritten = (unwritten, subst (λ (given : Result X Reason). BreaksOffIn IsText given old new) (sym is) (text, is_text, broken))
       by Memory unwritten = absurd unwritten
       by (Workflow fault) unwritten = absurd unwritten
+      by NoStream unwritten = absurd unwritten
       by FeedCount unwritten = absurd unwritten
       by (Feed fault) unwritten = absurd unwritten
       by BadHex unwritten = absurd unwritten

@@ -1,10 +1,24 @@
 -- What the command `follow` makes, by what its inputs say.
-use Rattle.std.proofs.Common.{◌≡◌, sym, subst, ℕ, Bool, List, Option, Some, Result, Ok}
-use Rattle.std.specs.Prelude.{slice_get, true, IfSome, IsSome}
+use Rattle.std.proofs.Common.{◌≡◌, ◌∙◌, ap, sym, subst, arith, ℕ, ◌<◌, Bool, List, length, Option, Some, Result, Ok}
+use Rattle.std.specs.Prelude.{slice_get, nat_lt, true, IfSome, IsSome}
+use Rattle.std.proofs.lemmas.Bool.{ltb-true}
+use Rattle.std.proofs.lemmas.List.{length-map}
+use Rattle.filter_rule.proofs.StepLaws.{list_all_get}
+use Rattle.filter_rule.specs.PlanValue.{PlanValue}
+use Rattle.source_feed.specs.Planned.{FeedValue}
+use Rattle.board_laws.specs.Lawful.{IsLawful, start_of}
+use Rattle.board_laws.specs.Reading.{AllReadTheirFeeds}
+use Rattle.apply_core.specs.Feeds.{AreFed}
+use Rattle.apply_core.specs.Fresh.{fresh_board}
+use Rattle.stream_worker.specs.Ended.{IsNamedStream, IsFedBoard}
+use Rattle.stream_worker.specs.RunRefused.{EndsRun, IsRefusedRun}
+use Rattle.stream_worker.specs.declared.run_refusal.RunRefusal.{RunRefusal}
+use Rattle.stream_worker.specs.declared.run_refusal.RunRefusal.TheVariants.{FeedCount, WrongPlan, Unsound, OwnedByOther, Memory}
 use Rattle.board_laws.specs.Meaning.{Meaning}
 use Rattle.apply_core.specs.Shown.{all_rows}
 use Rattle.checkpoint_laws.specs.Written.{checkpoint_of}
-use Rattle.vrepl_main.specs.Followed.{FollowedValue, IsAtFeedsEnds, IsFollowed, IsTakenUp}
+use Rattle.vrepl_main.specs.Followed.{FollowedValue, IsAtFeedsEnds, IsFollowed, IsNotFollowed, IsTakenUp}
+use Rattle.vrepl_main.specs.OnlyFollowed.{IsMovedOn, IsOnlyFollowed, IsStart, have_streams}
 use Rattle.vrepl_main.specs.Opening.{OpenedValue}
 use Rattle.vrepl_main.specs.Reasons.{Reason}
 use Rattle.vrepl_main.proofs.SourceLaws.{fed_shows}
@@ -21,6 +35,56 @@ followed_by reading given checkpoint asked followed board is first up ends saved
       board = board;
       ends = ends;
       sources = fed_shows given.feeds board (record { lawful = ends.fed.lawful; reads = ends.fed.reads });
+      is_checkpoint = saved;
+      are_rows = rows;
+      given_rows = given_rows;
+    })
+
+-- ---- some streams alone
+
+-- streams that have a plan have a feed
+pub streams_there : (only : List ℕ) (plans : List PlanValue) (feeds : List FeedValue) → have_streams only plans ≡ true → AreFed plans feeds → (s : ℕ) → IsNamedStream only s → s < length feeds
+streams_there only plans feeds there fed s (i, at) =
+    let within : s < length plans = ltb-true s (length plans) (list_all_get (λ t. nat_lt t (length plans)) only i s there at) in
+    let many : length feeds ≡ length plans = sym (length-map feeds (λ (feed : FeedValue). feed.plan)) ∙ ap length fed.opened in
+    omega (arith, within, many)
+
+-- a board of which nothing is read has a stream for each feed
+pub fresh_fed : (plans : List PlanValue) (feeds : List FeedValue) (board : Meaning) → board ≡ fresh_board plans → AreFed plans feeds → IsLawful board → AllReadTheirFeeds feeds board → IsFedBoard feeds board
+fresh_fed plans feeds board is fed lawful reads = record {
+  lawful = lawful;
+  count = ap (λ (m : Meaning). length m.streams) is ∙ length-map plans start_of ∙ sym (ap length fed.opened) ∙ length-map feeds (λ (feed : FeedValue). feed.plan);
+  reads = reads;
+}
+
+refused_run : (plans : List PlanValue) (feeds : List FeedValue) (refusal : RunRefusal) → AreFed plans feeds → EndsRun feeds refusal → IsRefusedRun plans feeds refusal
+refused_run plans feeds FeedCount fed ends = absurd ends
+refused_run plans feeds WrongPlan fed ends = absurd ends
+refused_run plans feeds (Unsound stream fault) fed ends = (fed, ends)
+refused_run plans feeds (OwnedByOther stream key owner) fed ends = (fed, ends)
+refused_run plans feeds Memory fed ends = (fed, ends)
+
+-- a run that is refused from where it was taken up
+pub not_followed : (given : OpenedValue) (checkpoint : Option (List ℕ)) (plan : PlanValue) (refusal : RunRefusal) → slice_get given.plans 0 ≡ Some plan → IsTakenUp given checkpoint → AreFed given.plans given.feeds
+    → EndsRun given.feeds refusal → IsNotFollowed given checkpoint plan refusal
+not_followed given checkpoint plan refusal first up fed ends = record {
+  taken_up = up;
+  refused = record { first = first; refused = refused_run given.plans given.feeds refusal fed ends };
+}
+
+-- the checkpoint of a board on which these streams have moved on
+pub only_followed_by : (reading : Result OpenedValue Reason) (given : OpenedValue) (only : List ℕ) (checkpoint : Option (List ℕ)) (asked : Bool) (followed : FollowedValue) (board : Meaning)
+    → reading ≡ Ok given → slice_get given.plans 0 ≡ Some followed.plan → (start : Meaning) × IsStart given checkpoint start × IsMovedOn given.feeds only start board → followed.checkpoint ≡ checkpoint_of board
+    → IfSome followed.rows (λ rows. rows ≡ all_rows board.rows) → (asked ≡ true → IsSome followed.rows) → IsOnlyFollowed reading only checkpoint asked followed
+only_followed_by reading given only checkpoint asked followed board is first (start, starts, moved) saved rows given_rows =
+    subst (λ (r : Result OpenedValue Reason). IsOnlyFollowed r only checkpoint asked followed) (sym is)
+    (record {
+      first = first;
+      start = start;
+      starts = starts;
+      board = board;
+      moved = moved;
+      sources = fed_shows given.feeds board (record { lawful = moved.fed.lawful; reads = moved.fed.reads });
       is_checkpoint = saved;
       are_rows = rows;
       given_rows = given_rows;

@@ -8,7 +8,7 @@ use Rattle.vrepl_main.specs.Inputs.{input_name, IsUnread, IsUnreadAmong}
 use Rattle.vrepl_main.specs.declared.input.InputName.{InputName}
 use Rattle.vrepl_main.specs.declared.input.InputName.TheVariants.{Standard}
 use Rattle.vrepl_main.specs.declared.refusal.Refusal.{Refusal}
-use Rattle.vrepl_main.specs.declared.refusal.Refusal.TheVariants.{Memory, Workflow, FeedCount, Feed, BadHex, BadScript, BadDump, CannotRead, CannotWrite}
+use Rattle.vrepl_main.specs.declared.refusal.Refusal.TheVariants.{Memory, Workflow, NoStream, FeedCount, Feed, BadHex, BadScript, BadDump, CannotRead, CannotWrite}
 
 -- a read that finds the end shows that the bytes are all that was left
 pub whole : (old mid new : Option (List ℕ)) (bytes piece : List ℕ) (n : ℕ) → n ≡ 0 → Consumes old mid bytes → Consumes mid new (take n piece) → IsAtEnd new → IfSome old (λ left. bytes ≡ left)
@@ -29,6 +29,7 @@ unread_among : (names : List InputName) (i : ℕ) (refusal : Refusal) → i < le
 unread_among names i Memory within unread = tt
 unread_among names i (CannotRead file) within unread = (i, within, unread)
 unread_among names i (Workflow fault) within unread = absurd unread
+unread_among names i NoStream within unread = absurd unread
 unread_among names i FeedCount within unread = absurd unread
 unread_among names i (Feed fault) within unread = absurd unread
 unread_among names i BadHex within unread = absurd unread

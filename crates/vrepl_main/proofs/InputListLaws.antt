@@ -1,10 +1,10 @@
 -- The inputs of a command by their places, as the command is given them.
-use Rattle.std.proofs.Common.{arith, ◌≡◌, ◌∙◌, ap, sym, subst, ℕ, suc, ◌-◌, ◌≤◌, ◌<◌, Bool, List, [], ◌∷◌, Result, length, take, drop, get_or, map}
+use Rattle.std.proofs.Common.{arith, ◌≡◌, ◌∙◌, ap, sym, subst, ℕ, suc, ◌+◌, ◌-◌, ◌≤◌, ◌<◌, Bool, List, [], ◌∷◌, Result, length, take, drop, get_or, map}
 use Rattle.std.proofs.lemmas.List.{drop-map, get_or-map, length-drop, length-map, take_all, take-map}
 use Rattle.vrepl_main.specs.Opening.{OpenedValue, opened}
 use Rattle.vrepl_main.specs.Reasons.{Reason}
 use Rattle.vrepl_main.specs.ScriptRun.{ScriptGiven, script_given}
-use Rattle.vrepl_main.specs.InputList.{checkpoint_input, feeds_of, join_asked, one_of, opened_by, other_of, resume_asked, script_asked, script_of, source_input, target_of, workflow_of}
+use Rattle.vrepl_main.specs.InputList.{checkpoint_input, feeds_of, join_asked, one_of, opened_by, others_of, resume_asked, script_asked, script_of, source_input, target_of, workflow_of}
 
 -- what stands at a place
 at_place : {X : Type 0} (f : X → List ℕ) (inputs : List X) (n : ℕ) (x : X) (bytes : List ℕ) → n < length inputs → x ≡ get_or inputs n x → bytes ≡ f x
@@ -56,19 +56,24 @@ of_resume f P hex inputs first second last checkpoint workflow script some at_fi
     (subst (λ given. P given checkpoint) (resumed_is f hex inputs second last workflow script some at_second at_end is_second is_last) holds)
 
 -- what holds of the files of `join` holds of its inputs
-pub of_join : {X : Type 0} (f : X → List ℕ) (P : Result OpenedValue Reason → List ℕ → List ℕ → Type 0) (hex : Bool) (inputs : List X) (first second third : X) (workflow one other : List ℕ)
-    → 3 ≤ length inputs → first ≡ get_or inputs 0 first → second ≡ get_or inputs 1 second → third ≡ get_or inputs 2 third
-    → workflow ≡ f first → one ≡ f second → other ≡ f third
-    → P (opened hex workflow (map f (take (length inputs - 3) (drop 3 inputs)))) one other → P (join_asked hex (map f inputs)) (one_of (map f inputs)) (other_of (map f inputs))
-of_join {X} f P hex inputs first second third workflow one other some at_first at_second at_third is_first is_second is_third holds =
-    let all : take (length inputs - 3) (drop 3 inputs) ≡ drop 3 inputs = take_all (length inputs - 3) (drop 3 inputs) (omega (arith, length-drop 3 inputs)) in
-    let asked : opened hex workflow (map f (take (length inputs - 3) (drop 3 inputs))) ≡ join_asked hex (map f inputs) =
+pub of_join : {X : Type 0} (f : X → List ℕ) (P : Result OpenedValue Reason → List ℕ → List (List ℕ) → Type 0) (hex : Bool) (n behind : ℕ) (inputs : List X) (first second : X) (workflow one : List ℕ)
+    → 2 + n ≤ length inputs → behind ≡ 2 + n → first ≡ get_or inputs 0 first → second ≡ get_or inputs 1 second
+    → workflow ≡ f first → one ≡ f second
+    → P (opened hex workflow (map f (take (length inputs - behind) (drop behind inputs)))) one (map f (take (behind - 2) (drop 2 inputs)))
+    → P (join_asked hex n (map f inputs)) (one_of (map f inputs)) (others_of n (map f inputs))
+of_join {X} f P hex n behind inputs first second workflow one some is_behind at_first at_second is_first is_second holds =
+    let all : take (length inputs - behind) (drop behind inputs) ≡ drop (2 + n) inputs =
+    ap (λ b. take (length inputs - b) (drop b inputs)) is_behind ∙ take_all (length inputs - (2 + n)) (drop (2 + n) inputs) (omega (arith, length-drop (2 + n) inputs)) in
+    let asked : opened hex workflow (map f (take (length inputs - behind) (drop behind inputs))) ≡ join_asked hex n (map f inputs) =
     ap (λ (l : List X). opened hex workflow (map f l)) all
-    ∙ ap (λ x. opened hex x (map f (drop 3 inputs))) (at_place f inputs 0 first workflow (omega (arith, some)) at_first is_first)
-    ∙ ap (opened hex (workflow_of (map f inputs))) (sym (drop-map f 3 inputs)) in
-    subst (λ x. P (join_asked hex (map f inputs)) x (other_of (map f inputs))) (at_place f inputs 1 second one (omega (arith, some)) at_second is_second)
-    (subst (λ x. P (join_asked hex (map f inputs)) one x) (at_place f inputs 2 third other (omega (arith, some)) at_third is_third)
-    (subst (λ given. P given one other) asked holds))
+    ∙ ap (λ x. opened hex x (map f (drop (2 + n) inputs))) (at_place f inputs 0 first workflow (omega (arith, some)) at_first is_first)
+    ∙ ap (opened hex (workflow_of (map f inputs))) (sym (drop-map f (2 + n) inputs)) in
+    let count : behind - 2 ≡ n = omega (arith, is_behind) in
+    let between : map f (take (behind - 2) (drop 2 inputs)) ≡ others_of n (map f inputs) =
+    ap (λ m. map f (take m (drop 2 inputs))) count ∙ sym (take-map f n (drop 2 inputs)) ∙ ap (take n) (sym (drop-map f 2 inputs)) in
+    subst (λ (x : List ℕ). P (join_asked hex n (map f inputs)) x (others_of n (map f inputs))) (at_place f inputs 1 second one (omega (arith, some)) at_second is_second)
+    (subst (λ (x : List (List ℕ)). P (join_asked hex n (map f inputs)) one x) between
+    (subst (λ given. P given one (map f (take (behind - 2) (drop 2 inputs)))) asked holds))
 
 -- what holds of the files of `vdiff` holds of its inputs
 pub of_files : {X : Type 0} (f : X → List ℕ) (P : List ℕ → List ℕ → List ℕ → Type 0) (inputs : List X) (first second third : X) (workflow source target : List ℕ)

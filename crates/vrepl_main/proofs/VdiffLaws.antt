@@ -16,8 +16,8 @@ use Rattle.vdiff_core.specs.declared.reading.DumpFault.{DumpFault}
 use Rattle.vdiff_core.specs.declared.reading.DumpFault.TheVariants as faults
 use Rattle.vdiff_core.specs.declared.report.Report.{Report}
 use Rattle.vrepl_main.specs.declared.refusal.Refusal.{Refusal}
-use Rattle.vrepl_main.specs.declared.refusal.Refusal.TheVariants.{Memory, Workflow, FeedCount, Feed, BadHex, BadScript, BadDump, CannotRead, CannotWrite}
-use Rattle.vrepl_main.specs.Reasons.{bad_workflow, feed_count, bad_hex, bad_feed, bad_script, bad_dump}
+use Rattle.vrepl_main.specs.declared.refusal.Refusal.TheVariants.{Memory, Workflow, NoStream, FeedCount, Feed, BadHex, BadScript, BadDump, CannotRead, CannotWrite}
+use Rattle.vrepl_main.specs.Reasons.{bad_workflow, no_stream, feed_count, bad_hex, bad_feed, bad_script, bad_dump}
 use Rattle.vrepl_main.specs.RefusalOf.{refusal_of_workflow, refusal_of_dump}
 use Rattle.vrepl_main.specs.Command.{IsUnwritten}
 use Rattle.vrepl_main.specs.Comparison.{Compared, IsComparison, AreDumps, IsBadLine, AreTextsReadOnce, RefusesDumps, report_text, first_text}
@@ -72,6 +72,7 @@ pub unwritten_comparison : (workflow source target : List ℕ) (compared : Compa
 unwritten_comparison workflow source target compared (CannotWrite file) old new dumps (text, comparison, broken) is = (Ok compared, dumps, (is, (text, comparison, broken)))
 unwritten_comparison workflow source target compared Memory old new dumps printed is = absurd is
 unwritten_comparison workflow source target compared (Workflow fault) old new dumps printed is = absurd is
+unwritten_comparison workflow source target compared NoStream old new dumps printed is = absurd is
 unwritten_comparison workflow source target compared FeedCount old new dumps printed is = absurd is
 unwritten_comparison workflow source target compared (Feed fault) old new dumps printed is = absurd is
 unwritten_comparison workflow source target compared BadHex old new dumps printed is = absurd is
@@ -147,6 +148,7 @@ module _ (once : dump.AreReadOnce) (workflow source target : List ℕ) where
   read_once (Ok one) (Ok other) x y = ap Ok (same_dumps one other x y)
   read_once (Ok one) (Err (bad_workflow fault)) x y = absurd (no_plan one.plan x.others fault x.plans y)
   read_once (Ok one) (Err (bad_dump n)) x y = absurd (no_bad_line one n x y)
+  read_once (Ok one) (Err no_stream) x y = absurd y
   read_once (Ok one) (Err feed_count) x y = absurd y
   read_once (Ok one) (Err bad_hex) x y = absurd y
   read_once (Ok one) (Err (bad_feed fault)) x y = absurd y
@@ -154,6 +156,7 @@ module _ (once : dump.AreReadOnce) (workflow source target : List ℕ) where
   read_once (Err (bad_workflow fault)) (Ok other) x y = absurd (no_plan other.plan y.others fault y.plans x)
   read_once (Err (bad_workflow fault)) (Err (bad_workflow other)) x y = ap (λ (f : plans.Fault). Err (bad_workflow f)) (same_fault fault other x y)
   read_once (Err (bad_workflow fault)) (Err (bad_dump n)) x y = absurd (no_plan y.plan y.others fault y.plans x)
+  read_once (Err (bad_workflow fault)) (Err no_stream) x y = absurd y
   read_once (Err (bad_workflow fault)) (Err feed_count) x y = absurd y
   read_once (Err (bad_workflow fault)) (Err bad_hex) x y = absurd y
   read_once (Err (bad_workflow fault)) (Err (bad_feed other)) x y = absurd y
@@ -161,10 +164,12 @@ module _ (once : dump.AreReadOnce) (workflow source target : List ℕ) where
   read_once (Err (bad_dump n)) (Ok other) x y = absurd (no_bad_line other n y x)
   read_once (Err (bad_dump n)) (Err (bad_workflow fault)) x y = absurd (no_plan x.plan x.others fault x.plans y)
   read_once (Err (bad_dump n)) (Err (bad_dump m)) x y = ap (λ (k : ℕ). Err (bad_dump k)) (same_line n m x y)
+  read_once (Err (bad_dump n)) (Err no_stream) x y = absurd y
   read_once (Err (bad_dump n)) (Err feed_count) x y = absurd y
   read_once (Err (bad_dump n)) (Err bad_hex) x y = absurd y
   read_once (Err (bad_dump n)) (Err (bad_feed fault)) x y = absurd y
   read_once (Err (bad_dump n)) (Err (bad_script m)) x y = absurd y
+  read_once (Err no_stream) other x y = absurd x
   read_once (Err feed_count) other x y = absurd x
   read_once (Err bad_hex) other x y = absurd x
   read_once (Err (bad_feed fault)) other x y = absurd x

@@ -1,5 +1,5 @@
 -- The inputs of a command that has several, one behind the other (this profile).
-use Rattle.std.specs.Prelude.{ℕ, ◌-◌, Bool, List, [], length, map, take, drop, get_or, Result}
+use Rattle.std.specs.Prelude.{ℕ, ◌+◌, ◌-◌, Bool, List, [], length, map, take, drop, get_or, Result}
 use Rattle.std.specs.Global.{Vec}
 use Rattle.vrepl_main.specs.Opening.{OpenedValue, opened}
 use Rattle.vrepl_main.specs.Reasons.{Reason}
@@ -45,17 +45,17 @@ resume_asked hex inputs = script_asked hex (drop 1 inputs)
 
 -- ---- `join`
 
--- the one checkpoint stands behind the workflow
+-- the first checkpoint stands behind the workflow
 abbrev pub one_of : List (List ℕ) → List ℕ
 one_of inputs = get_or inputs 1 []
 
--- and the other behind that
-abbrev pub other_of : List (List ℕ) → List ℕ
-other_of inputs = get_or inputs 2 []
+-- and the others, so many, behind that
+abbrev pub others_of : ℕ → List (List ℕ) → List (List ℕ)
+others_of others inputs = take others (drop 2 inputs)
 
--- the workflow with the feeds behind both, or why they are refused
-abbrev pub join_asked : Bool → List (List ℕ) → Result OpenedValue Reason
-join_asked hex inputs = opened hex (workflow_of inputs) (drop 3 inputs)
+-- the workflow with the feeds behind all of them, or why they are refused
+abbrev pub join_asked : Bool → ℕ → List (List ℕ) → Result OpenedValue Reason
+join_asked hex others inputs = opened hex (workflow_of inputs) (drop (2 + others) inputs)
 
 -- ---- `vdiff`
 

@@ -1,5 +1,5 @@
 -- What the command `join` leaves on its writers (this profile).
-use Rattle.std.specs.Prelude.{◌≡◌, ℕ, List, Some, Result, Ok, Err, slice_get}
+use Rattle.std.specs.Prelude.{◌≡◌, ℕ, List, [], ◌∷◌, take, Some, Result, Ok, Err, slice_get}
 use Rattle.std.specs.Arc.{arc_value}
 use Rattle.filter_rule.specs.PlanValue.{PlanValue}
 use Rattle.source_feed.specs.Planned.{FeedValue}
@@ -26,47 +26,56 @@ use Rattle.vrepl_main.specs.ResumedText.{resume_line}
 
 -- ---- the checkpoint
 
--- these are the boards that two checkpoints make with the feeds
-pub record AreBothResumed (feeds : List FeedValue) (one other : List ℕ) (a b : Meaning) : Type 0 where
-  pub here : IsResumed feeds one a
-  pub there : IsResumed feeds other b
+-- a board and those that checkpoints make with the feeds, joined one after another
+abbrev pub AreJoinedTo : List FeedValue → Meaning → List (List ℕ) → Meaning → Type 0
+AreJoinedTo feeds a [] board = board ≡ a
+AreJoinedTo feeds a (checkpoint ∷ others) board = (b : Meaning) × IsResumed feeds checkpoint b × AreCompatible a b × AreJoinedTo feeds (joined a b) others board
 
--- this is the join of the boards that two checkpoints make with the feeds; its streams show their sources
-pub record IsJoinOver (given : OpenedValue) (one other : List ℕ) (board : Meaning) : Type 0 where
-  pub a : Meaning
-  pub b : Meaning
-  pub resumed : AreBothResumed given.feeds one other a b
-  pub compatible : AreCompatible a b
-  pub is_join : board ≡ joined a b
+-- the same of the board that a first checkpoint makes
+abbrev pub AreJoined : List FeedValue → List ℕ → List (List ℕ) → Meaning → Type 0
+AreJoined feeds one others board = (a : Meaning) × IsResumed feeds one a × AreJoinedTo feeds a others board
+
+-- this is the join of the boards that checkpoints make with the feeds; its streams show their sources
+pub record IsJoinOver (given : OpenedValue) (one : List ℕ) (others : List (List ℕ)) (board : Meaning) : Type 0 where
+  pub is_join : AreJoined given.feeds one others board
   pub sources : AllShowTheirSources given.feeds board
 
 -- the bytes are the checkpoint of the join
-abbrev pub IsJoinOf : List ℕ → List ℕ → OpenedValue → List ℕ → Type 0
-IsJoinOf one other given bytes = (board : Meaning) × IsJoinOver given one other board × (bytes ≡ checkpoint_of board)
+abbrev pub IsJoinOf : List ℕ → List (List ℕ) → OpenedValue → List ℕ → Type 0
+IsJoinOf one others given bytes = (board : Meaning) × IsJoinOver given one others board × (bytes ≡ checkpoint_of board)
 
 -- there is something to join, and they are
-abbrev pub IsSavedJoin : Result OpenedValue Reason → List ℕ → List ℕ → List ℕ → Type 0
-IsSavedJoin (Ok given) one other bytes = IsJoinOf one other given bytes
-IsSavedJoin (Err reason) one other bytes = ⊥
+abbrev pub IsSavedJoin : Result OpenedValue Reason → List ℕ → List (List ℕ) → List ℕ → Type 0
+IsSavedJoin (Ok given) one others bytes = IsJoinOf one others given bytes
+IsSavedJoin (Err reason) one others bytes = ⊥
 
 -- its checkpoint was printed
-abbrev pub PrintsJoin : Result OpenedValue Reason → List ℕ → List ℕ → Written → Written → Type 0
-PrintsJoin reading one other old new = (bytes : List ℕ) × IsSavedJoin reading one other bytes × IsWritten old new bytes
+abbrev pub PrintsJoin : Result OpenedValue Reason → List ℕ → List (List ℕ) → Written → Written → Type 0
+PrintsJoin reading one others old new = (bytes : List ℕ) × IsSavedJoin reading one others bytes × IsWritten old new bytes
 
 -- ---- refusals
 
--- the one checkpoint is resumed, and the other isn't
-pub record IsOtherRefused (given : OpenedValue) (one other : List ℕ) (plan : PlanValue) (fault : ResumeFault) : Type 0 where
-  pub a : Meaning
-  pub here : IsResumed given.feeds one a
-  pub refused : IsRefusedOver given other plan fault
+-- the boards of the checkpoints before one of the others are joined to this one
+pub record AreJoinedBefore (given : OpenedValue) (one : List ℕ) (others : List (List ℕ)) (checkpoint : List ℕ) (board : Meaning) : Type 0 where
+  pub n : ℕ
+  pub place : slice_get others n ≡ Some checkpoint
+  pub so_far : AreJoined given.feeds one (take n others) board
 
--- both are resumed, and their boards aren't joined; the line names the tables of the first plan
-pub record AreNotJoined (given : OpenedValue) (one other : List ℕ) (plan : PlanValue) (fault : JoinFault) : Type 0 where
+-- they are, and it isn't resumed
+pub record IsOtherRefused (given : OpenedValue) (one : List ℕ) (others : List (List ℕ)) (plan : PlanValue) (fault : ResumeFault) : Type 0 where
+  pub checkpoint : List ℕ
+  pub a : Meaning
+  pub before : AreJoinedBefore given one others checkpoint a
+  pub refused : IsRefusedOver given checkpoint plan fault
+
+-- it is resumed as well, and isn't joined to them; the line names the tables of the first plan
+pub record AreNotJoined (given : OpenedValue) (one : List ℕ) (others : List (List ℕ)) (plan : PlanValue) (fault : JoinFault) : Type 0 where
   pub first : slice_get given.plans 0 ≡ Some plan
+  pub checkpoint : List ℕ
   pub a : Meaning
   pub b : Meaning
-  pub resumed : AreBothResumed given.feeds one other a b
+  pub before : AreJoinedBefore given one others checkpoint a
+  pub resumed : IsResumed given.feeds checkpoint b
   pub refused : IsRefusedJoin a b fault
 
 -- a fact of what is opened, where something is
@@ -74,18 +83,18 @@ abbrev pub IsOpenedAnd : Result OpenedValue Reason → (OpenedValue → Type 0) 
 IsOpenedAnd (Ok given) P = P given
 IsOpenedAnd (Err reason) P = ⊥
 
--- it says just why the workflow or the feeds are refused, or else why the one checkpoint is, or else the other, or else why
--- their boards aren't joined, unless memory ran out
-abbrev pub IsUnjoined : Unjoined → Result OpenedValue Reason → List ℕ → List ℕ → Type 0
-IsUnjoined (Given refusal) reading one other = RefusesInputs refusal reading
-IsUnjoined (One plan fault) reading one other = IsOpenedAnd reading (λ given. IsRefusedOver given one (arc_value plan) fault)
-IsUnjoined (Other plan fault) reading one other = IsOpenedAnd reading (λ given. IsOtherRefused given one other (arc_value plan) fault)
-IsUnjoined (Boards plan fault) reading one other = IsOpenedAnd reading (λ given. AreNotJoined given one other (arc_value plan) fault)
+-- it says just why the workflow or the feeds are refused, or else why the first checkpoint is, or else one of the others,
+-- or why its board isn't joined to those before it, unless memory ran out
+abbrev pub IsUnjoined : Unjoined → Result OpenedValue Reason → List ℕ → List (List ℕ) → Type 0
+IsUnjoined (Given refusal) reading one others = RefusesInputs refusal reading
+IsUnjoined (One plan fault) reading one others = IsOpenedAnd reading (λ given. IsRefusedOver given one (arc_value plan) fault)
+IsUnjoined (Other plan fault) reading one others = IsOpenedAnd reading (λ given. IsOtherRefused given one others (arc_value plan) fault)
+IsUnjoined (Boards plan fault) reading one others = IsOpenedAnd reading (λ given. AreNotJoined given one others (arc_value plan) fault)
 
 -- the same with what it leaves on standard output: nothing, unless it is that this can't be written
-abbrev pub RefusesJoin : Unjoined → Result OpenedValue Reason → List ℕ → List ℕ → Written → Written → Type 0
-RefusesJoin (Given refusal) reading one other old new = RefusesCommand (IsJoinOf one other) refusal reading old new
-RefusesJoin unjoined reading one other old new = IsUnjoined unjoined reading one other × (new ≡ old)
+abbrev pub RefusesJoin : Unjoined → Result OpenedValue Reason → List ℕ → List (List ℕ) → Written → Written → Type 0
+RefusesJoin (Given refusal) reading one others old new = RefusesCommand (IsJoinOf one others) refusal reading old new
+RefusesJoin unjoined reading one others old new = IsUnjoined unjoined reading one others × (new ≡ old)
 
 -- the line of a refusal
 abbrev pub join_refusal_line : Unjoined → List ℕ
@@ -95,6 +104,6 @@ join_refusal_line (Other plan fault) = resume_line (arc_value plan).tables fault
 join_refusal_line (Boards plan fault) = join_line (arc_value plan).tables fault
 
 -- such a refusal's line was printed whole on standard error, unless a write of it failed
-abbrev pub PrintsJoinRefusal : Result OpenedValue Reason → List ℕ → List ℕ → Written → Written → Written → Written → Type 0
-PrintsJoinRefusal reading one other old new err_old err_new =
-    (refusal : Unjoined) × RefusesJoin refusal reading one other old new × PrintsOrBreaks err_old err_new (join_refusal_line refusal)
+abbrev pub PrintsJoinRefusal : Result OpenedValue Reason → List ℕ → List (List ℕ) → Written → Written → Written → Written → Type 0
+PrintsJoinRefusal reading one others old new err_old err_new =
+    (refusal : Unjoined) × RefusesJoin refusal reading one others old new × PrintsOrBreaks err_old err_new (join_refusal_line refusal)

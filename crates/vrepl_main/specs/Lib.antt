@@ -27,4 +27,5 @@ pub mod JoinedRun
 pub mod InputList
 pub mod Running
 pub mod Followed
+pub mod OnlyFollowed
 pub mod Keeping

@@ -4,13 +4,14 @@ use Rattle.filter_rule.specs.Faults as plans
 use Rattle.source_feed.specs.FaultNumber as feed
 use Rattle.source_feed.specs.declared.fault.FeedFault.{FeedFault}
 use Rattle.vrepl_main.specs.declared.refusal.Refusal.{Refusal}
-use Rattle.vrepl_main.specs.declared.refusal.Refusal.TheVariants.{Memory, Workflow, FeedCount, Feed, BadHex, BadScript, BadDump, CannotRead, CannotWrite}
+use Rattle.vrepl_main.specs.declared.refusal.Refusal.TheVariants.{Memory, Workflow, NoStream, FeedCount, Feed, BadHex, BadScript, BadDump, CannotRead, CannotWrite}
 
--- the workflow file has a fault; there aren't as many feeds as streams; a feed that is to be hexadecimal text is
--- none; a feed is refused; a line of the script is no step; a line of a dump can't stand
+-- the workflow file has a fault; it has no stream of a number that is named; there aren't as many feeds as streams; a feed
+-- that is to be hexadecimal text is none; a feed is refused; a line of the script is no step; a line of a dump can't stand
 -- there
 pub data Reason : Type 0 where
   bad_workflow : plans.Fault → Reason
+  no_stream : Reason
   feed_count : Reason
   bad_hex : Reason
   bad_feed : FeedFault → Reason
@@ -21,6 +22,7 @@ pub data Reason : Type 0 where
 abbrev pub reason_of : Refusal → Option Reason
 reason_of Memory = None
 reason_of (Workflow fault) = option_map bad_workflow (plans.definition_fault_of fault)
+reason_of NoStream = Some no_stream
 reason_of FeedCount = Some feed_count
 reason_of (Feed fault) = option_map bad_feed (feed.meant_of fault)
 reason_of BadHex = Some bad_hex

@@ -9,12 +9,13 @@ use Rattle.source_feed.specs.declared.fault.FeedFault.{FeedFault}
 use Rattle.source_feed.specs.declared.fault.FeedFault.TheVariants.{Event, Diverged}
 use Rattle.vrepl_main.specs.Printing.{named_number}
 use Rattle.vrepl_main.specs.declared.refusal.Refusal.{Refusal}
-use Rattle.vrepl_main.specs.declared.refusal.Refusal.TheVariants.{Memory, Workflow, FeedCount, Feed, BadHex, BadScript, BadDump, CannotRead, CannotWrite}
+use Rattle.vrepl_main.specs.declared.refusal.Refusal.TheVariants.{Memory, Workflow, NoStream, FeedCount, Feed, BadHex, BadScript, BadDump, CannotRead, CannotWrite}
 
 -- the number of each refusal
 abbrev pub number_of : Refusal → ℕ
 number_of Memory = 72
 number_of (Workflow fault) = plans.number_of fault
+number_of NoStream = 115
 number_of FeedCount = 119
 number_of (Feed fault) = feed.number_of fault
 number_of BadHex = 93

@@ -38,7 +38,7 @@ pub fn open_at_once<'h, R: Threads + Sync>(
 }
 
 /// Opens each feed under its plan; the first fault in order is the answer.
-fn open_feeds_at_once<'h, R: Threads + Sync>(
+pub(crate) fn open_feeds_at_once<'h, R: Threads + Sync>(
     rt: &R,
     alloc: Global,
     plans: &[Arc<Plan>],

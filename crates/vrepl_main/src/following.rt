@@ -13,9 +13,10 @@ ghost use Rattle.vrepl_main.specs.Printing.{PrintsOrBreaks};
 
 use crate::given::{GivenFeed, given_feeds};
 use crate::opened::Opened;
+use crate::progress::{Progress, tell_feeds};
 use crate::refusal::{Refusal, refuse};
 use crate::resumed_text::refuse_resume;
-use crate::running::{Untold, open_streams, refuse_run};
+use crate::running::{open_streams, refuse_run};
 use crate::stepping::first_plan;
 use apply_core::{Board, ResumeFault, resume as resumed_board, save as checkpoint_of};
 use filter_rule::Plan;
@@ -105,15 +106,16 @@ impl From<AllocError> for Unfollowed {
 /// Moves a checkpoint on, over a workflow and its feeds, one in the order of the streams each: from the board that it
 /// makes with them, or from the beginning where there is none, all streams run to their feeds' ends. The answer is the
 /// checkpoint of the board there, and the target's rows where `rows` is set. Where `hex` is set feeds are hexadecimal
-/// text, the checkpoint never.
+/// text, the checkpoint never. In threads the gate is told of each group on its way.
 ///
 /// Refused as `resume` refuses the workflow, the feeds and the checkpoint, in this order, and then as `run` refuses the
 /// streams. Any other error is want of memory.
-pub fn follow<R: Threads + Wait + Sync>(
+pub fn follow<R: Threads + Wait + Sync, G: Progress + Sync>(
     rt: &R,
     alloc: Global,
     hex: bool,
     course: Course<'_>,
+    gate: &G,
     rows: bool,
     checkpoint: Option<&[u8]>,
     workflow: &[u8],
@@ -123,14 +125,15 @@ pub fn follow<R: Threads + Wait + Sync>(
     ensures refused { IfErr result (λ refusal. RefusesFollow refusal (opened hex workflow.now (map (λ feed. feed.items) feeds.now)) (option_map (λ bytes. bytes.now) checkpoint.entry)) }
 {
     let given = given_feeds(alloc, hex, feeds)?;
-    follow_given(rt, alloc, course, rows, checkpoint, workflow, &given)
+    follow_given(rt, alloc, course, gate, rows, checkpoint, workflow, &given)
 }
 
 /// The same over the bytes of the feeds.
-fn follow_given<R: Threads + Wait + Sync>(
+fn follow_given<R: Threads + Wait + Sync, G: Progress + Sync>(
     rt: &R,
     alloc: Global,
     course: Course<'_>,
+    gate: &G,
     rows: bool,
     checkpoint: Option<&[u8]>,
     workflow: &[u8],
@@ -143,7 +146,7 @@ fn follow_given<R: Threads + Wait + Sync>(
     let Opened { plans, feeds } = opened;
     let plan = first_plan(&plans)?;
     let named = Arc::clone(&plan)?;
-    let board = board_at_ends(rt, alloc, course, checkpoint, plans, &feeds, named)?;
+    let board = board_at_ends(rt, alloc, course, gate, checkpoint, plans, &feeds, named)?;
     let checkpoint = checkpoint_of(alloc, &board)?;
     let rows = rows_where(alloc, rows, &board)?;
     Ok(Followed {
@@ -154,7 +157,11 @@ fn follow_given<R: Threads + Wait + Sync>(
 }
 
 /// The rows of a board, where they are asked for. An error is want of memory.
-fn rows_where(alloc: Global, asked: bool, board: &Board<'_>) -> Result<Option<Rows>, AllocError>
+pub(crate) fn rows_where(
+    alloc: Global,
+    asked: bool,
+    board: &Board<'_>,
+) -> Result<Option<Rows>, AllocError>
     ensures rows { IfOk result (λ found. IfSome found (λ rows. rows ≡ all_rows board.now.rows)) }
     ensures asked { IfOk result (λ found. asked ≡ true → IsSome found) }
 {
@@ -167,10 +174,11 @@ fn rows_where(alloc: Global, asked: bool, board: &Board<'_>) -> Result<Option<Ro
 }
 
 /// The board at the feeds' ends, from that of the checkpoint or from the beginning.
-fn board_at_ends<'h, R: Threads + Wait + Sync>(
+fn board_at_ends<'h, R: Threads + Wait + Sync, G: Progress + Sync>(
     rt: &R,
     alloc: Global,
     course: Course<'_>,
+    gate: &G,
     checkpoint: Option<&[u8]>,
     plans: Vec<Arc<Plan>>,
     feeds: &[Feed<'h>],
@@ -184,7 +192,7 @@ fn board_at_ends<'h, R: Threads + Wait + Sync>(
     ensures refused { IfErr result (λ refusal. RefusesFollow refusal (Ok (record { plans = map arc_value plans.items; feeds = feeds.now })) (option_map (λ bytes. bytes.now) checkpoint.entry)) }
 {
     let Some(bytes) = checkpoint else {
-        return match run_anew(rt, alloc, course, plans, feeds) {
+        return match run_anew(rt, alloc, course, gate, plans, feeds) {
             Ok(board) => Ok(board),
             Err(refusal) => Err(Unfollowed::Stream { plan, refusal }),
         };
@@ -193,17 +201,18 @@ fn board_at_ends<'h, R: Threads + Wait + Sync>(
         Ok(board) => board,
         Err(fault) => return Err(Unfollowed::Checkpoint { plan, fault }),
     };
-    match run_on_from(rt, alloc, course, board, feeds) {
+    match run_on_from(rt, alloc, course, gate, board, feeds) {
         Ok(board) => Ok(board),
         Err(refusal) => Err(Unfollowed::Stream { plan, refusal }),
     }
 }
 
 /// All streams run to their feeds' ends, from a board of which nothing is read.
-fn run_anew<'h, R: Threads + Wait + Sync>(
+fn run_anew<'h, R: Threads + Wait + Sync, G: Progress + Sync>(
     rt: &R,
     alloc: Global,
     course: Course<'_>,
+    gate: &G,
     plans: Vec<Arc<Plan>>,
     feeds: &[Feed<'h>],
 ) -> Result<Board<'h>, RunRefusal>
@@ -215,15 +224,17 @@ fn run_anew<'h, R: Threads + Wait + Sync>(
     if course.alone {
         run_alone(alloc, plans, feeds, course.policy)
     } else {
-        run_parallel(rt, alloc, plans, feeds, course.policy, &Untold)
+        tell_feeds(gate, feeds);
+        run_parallel(rt, alloc, plans, feeds, course.policy, gate)
     }
 }
 
 /// The same from a board that stands anywhere.
-fn run_on_from<'h, R: Threads + Wait + Sync>(
+fn run_on_from<'h, R: Threads + Wait + Sync, G: Progress + Sync>(
     rt: &R,
     alloc: Global,
     course: Course<'_>,
+    gate: &G,
     board: Board<'h>,
     feeds: &[Feed<'h>],
 ) -> Result<Board<'h>, RunRefusal>
@@ -234,7 +245,8 @@ fn run_on_from<'h, R: Threads + Wait + Sync>(
     if course.alone {
         run_board_alone(alloc, board, feeds, course.policy)
     } else {
-        run_board_parallel(rt, alloc, board, feeds, course.policy, &Untold)
+        tell_feeds(gate, feeds);
+        run_board_parallel(rt, alloc, board, feeds, course.policy, gate)
     }
 }
 

@@ -1,8 +1,8 @@
 //! The inputs of the commands that have several: their names in order, and each command over what was read
 //! of them, by their places.
 
-ghost use Rattle.std.specs.Prelude.{◌≡◌, ◌≢◌, ◌≤◌, ◌⊎◌, ◌∷◌, ◌++◌, [], length, map, IfOk};
-ghost use Rattle.vrepl_main.specs.InputList.{bytes_of, checkpoint_input, join_asked, one_of, opened_by, other_of, resume_asked, script_asked, source_input, target_of, workflow_of};
+ghost use Rattle.std.specs.Prelude.{◌≡◌, ◌≢◌, ◌≤◌, ◌⊎◌, ◌∷◌, ◌++◌, ◌+◌, [], length, map, IfOk};
+ghost use Rattle.vrepl_main.specs.InputList.{bytes_of, checkpoint_input, join_asked, one_of, opened_by, others_of, resume_asked, script_asked, source_input, target_of, workflow_of};
 ghost use Rattle.vrepl_main.specs.Command.{PrintsRefusal};
 ghost use Rattle.vrepl_main.specs.Comparison.{IsComparedAs, PrintsDumpRefusal};
 ghost use Rattle.vrepl_main.specs.Replied.{AreFirstReplies, PrintsReplies};
@@ -14,23 +14,13 @@ ghost use Rattle.vrepl_main.specs.declared.input.InputName.TheVariants.{File, St
 ghost use Rattle.vrepl_main.specs.declared.comparing.Verdict.TheVariants.{Same, Differ};
 
 use crate::input::InputName;
+use crate::progress::Progress;
 use crate::{join, resume, run, save, step, vdiff};
 use std::alloc::{AllocError, Global};
 use std::sync::Wait;
 use std::thread::Threads;
 use stream_worker::Policy;
 use vdiff_core::Out;
-
-/// The files of `vdiff`.
-#[derive(Clone, Copy, Debug, PartialEq, Eq)]
-pub struct VdiffFiles<'w> {
-    /// The workflow's file.
-    pub workflow: &'w str,
-    /// The file of the source's dump.
-    pub source: &'w str,
-    /// The file of the target's dump.
-    pub target: &'w str,
-}
 
 /// The inputs of `step` and of `save`: the workflow, the feeds in their order, and the script.
 pub fn step_inputs<'w>(
@@ -140,41 +130,54 @@ pub fn resume_on<W: Out, E: Out>(
     )
 }
 
-/// The inputs of `join`: the workflow, the two checkpoints, and the feeds in their order.
+/// The inputs of `join`: the workflow, the checkpoints, and the feeds in their order.
 pub fn join_inputs<'w>(
     alloc: Global,
     workflow: &'w str,
     one: &'w str,
     other: &'w str,
+    more: &[&'w str],
     feeds: &[&'w str],
 ) -> Result<Vec<InputName<'w>>, AllocError>
-    ensures { IfOk result (λ names. names.items ≡ File workflow.entry ∷ File one.entry ∷ File other.entry ∷ map File feeds.now) }
+    ensures { IfOk result (λ names. names.items ≡ File workflow.entry ∷ File one.entry ∷ File other.entry ∷ (map File more.now ++ map File feeds.now)) }
 {
-    let mut names = file_names(alloc, feeds)?;
+    let mut names = file_names(alloc, more)?;
     names.insert(0, InputName::File(other))?;
     names.insert(0, InputName::File(one))?;
     names.insert(0, InputName::File(workflow))?;
+    let feeds = file_names(alloc, feeds)?;
+    names.extend_from_slice(&feeds)?;
     Ok(names)
 }
 
-/// Writes the checkpoint of the join of the boards that the second and the third input, two checkpoints, make
-/// over the workflow, the first one, and its feeds, those behind them.
+/// Writes the checkpoint of the join of the boards that the second input and so many others behind it, all of them
+/// checkpoints, make over the workflow, the first one, and its feeds, those behind them.
 pub fn join_on<W: Out, E: Out>(
     alloc: Global,
     hex: bool,
+    others: usize,
     inputs: &[Vec<u8>],
     out: &mut W,
     err: &mut E,
 ) -> u8
-    requires { 3 ≤ length inputs.now }
+    requires { 2 + others ≤ length inputs.now }
     ensures status { (result ≡ 0) ⊎ (result ≡ 1) }
-    ensures printed { result ≡ 0 → PrintsJoin (join_asked hex (bytes_of inputs.now)) (one_of (bytes_of inputs.now)) (other_of (bytes_of inputs.now)) (W.written out.old) (W.written out.new) }
+    ensures printed { result ≡ 0 → PrintsJoin (join_asked hex others (bytes_of inputs.now)) (one_of (bytes_of inputs.now)) (others_of others (bytes_of inputs.now)) (W.written out.old) (W.written out.new) }
     ensures quiet { result ≡ 0 → err.new ≡ err.old }
-    ensures refused { result ≡ 1 → PrintsJoinRefusal (join_asked hex (bytes_of inputs.now)) (one_of (bytes_of inputs.now)) (other_of (bytes_of inputs.now)) (W.written out.old) (W.written out.new) (E.written err.old) (E.written err.new) }
+    ensures refused { result ≡ 1 → PrintsJoinRefusal (join_asked hex others (bytes_of inputs.now)) (one_of (bytes_of inputs.now)) (others_of others (bytes_of inputs.now)) (W.written out.old) (W.written out.new) (E.written err.old) (E.written err.new) }
 {
-    let feeds = &inputs[3..];
+    let behind = 2 + others;
+    let checkpoints = &inputs[2..behind];
+    let feeds = &inputs[behind..];
     join(
-        alloc, hex, &inputs[0], &inputs[1], &inputs[2], feeds, out, err,
+        alloc,
+        hex,
+        &inputs[0],
+        &inputs[1],
+        checkpoints,
+        feeds,
+        out,
+        err,
     )
 }
 
@@ -192,13 +195,15 @@ pub fn run_inputs<'w>(
 }
 
 /// Runs the streams of the workflow, which is the first input, over their feeds, those behind it, to their ends:
-/// one after another where `alone` is set, and else in threads. Where `hex` is set feeds are hexadecimal text.
-pub fn run_on<R: Threads + Wait + Sync, W: Out, E: Out>(
+/// one after another where `alone` is set, and else in threads, and then the gate is told of each group on its way. Where
+/// `hex` is set feeds are hexadecimal text.
+pub fn run_on<R: Threads + Wait + Sync, G: Progress + Sync, W: Out, E: Out>(
     rt: &R,
     alloc: Global,
     hex: bool,
     alone: bool,
     policy: &Policy,
+    gate: &G,
     inputs: &[Vec<u8>],
     out: &mut W,
     err: &mut E,
@@ -210,18 +215,9 @@ pub fn run_on<R: Threads + Wait + Sync, W: Out, E: Out>(
     ensures refused { result ≡ 1 → PrintsRunRefusal (opened_by hex (bytes_of inputs.now)) (W.written out.old) (W.written out.new) (E.written err.old) (E.written err.new) }
 {
     let feeds = &inputs[1..];
-    run(rt, alloc, hex, alone, policy, &inputs[0], feeds, out, err)
-}
-
-/// The inputs of `vdiff`: the workflow, the source's dump, and the target's.
-pub fn vdiff_inputs<'w>(files: VdiffFiles<'w>) -> [InputName<'w>; 3]
-    ensures { result ≡ File files.entry.workflow ∷ File files.entry.source ∷ File files.entry.target ∷ [] }
-{
-    [
-        InputName::File(files.workflow),
-        InputName::File(files.source),
-        InputName::File(files.target),
-    ]
+    run(
+        rt, alloc, hex, alone, policy, gate, &inputs[0], feeds, out, err,
+    )
 }
 
 /// Compares the dumps of the source, which is the second input, and of the target, the third, by the tables

@@ -36,14 +36,14 @@ pub enum Unjoined {
         /// why it isn't resumed
         fault: ResumeFault,
     },
-    /// The other checkpoint; its line names tables of the plan.
+    /// One of the other checkpoints; its line names tables of the plan.
     Other {
         /// the first plan
         plan: Arc<Plan>,
         /// why it isn't resumed
         fault: ResumeFault,
     },
-    /// The boards of both; their line names tables of the plan.
+    /// The boards; their line names tables of the plan.
     Boards {
         /// the first plan
         plan: Arc<Plan>,
@@ -63,28 +63,29 @@ impl From<Refusal<'static>> for Unjoined {
     }
 }
 
-/// Resumes two checkpoints over a workflow and its feeds, one in the order of the streams each, and prints on
-/// `out` the checkpoint of the join of their boards: each stream stands as on the board that is further on in it,
-/// and the rows are those of these streams. Or prints the line of a refusal on `err` and then nothing on `out`,
-/// unless it is `out` that can't be written. The checkpoints are judged behind the workflow and the feeds, `one`
-/// before `other`, and their boards behind both. Where `hex` is set feeds are hexadecimal text, the checkpoints
-/// never. Answers the status: 0, or 1 after a refusal, also of memory.
+/// Resumes checkpoints over a workflow and its feeds, one in the order of the streams each, and prints on `out` the
+/// checkpoint of the join of their boards: each stream stands as on the board that is furthest on in it, and the rows are
+/// those of these streams, in whatever order the checkpoints come. Or prints the line of a refusal on `err` and then
+/// nothing on `out`, unless it is `out` that can't be written. The checkpoints are judged behind the workflow and the
+/// feeds, `one` first, and each of the others before its board is joined to those before it: two boards are held at a
+/// time. Where `hex` is set feeds are hexadecimal text, the checkpoints never. Answers the status: 0, or 1 after a
+/// refusal, also of memory.
 pub fn join<W: Out, E: Out>(
     alloc: Global,
     hex: bool,
     workflow: &[u8],
     one: &[u8],
-    other: &[u8],
+    others: &[Vec<u8>],
     feeds: &[Vec<u8>],
     out: &mut W,
     err: &mut E,
 ) -> u8
     ensures status { (result ≡ 0) ⊎ (result ≡ 1) }
-    ensures printed { result ≡ 0 → PrintsJoin (opened hex workflow.now (map (λ feed. feed.items) feeds.now)) one.now other.now (W.written out.old) (W.written out.new) }
+    ensures printed { result ≡ 0 → PrintsJoin (opened hex workflow.now (map (λ feed. feed.items) feeds.now)) one.now (map (λ other. other.items) others.now) (W.written out.old) (W.written out.new) }
     ensures quiet { result ≡ 0 → err.new ≡ err.old }
-    ensures refused { result ≡ 1 → PrintsJoinRefusal (opened hex workflow.now (map (λ feed. feed.items) feeds.now)) one.now other.now (W.written out.old) (W.written out.new) (E.written err.old) (E.written err.new) }
+    ensures refused { result ≡ 1 → PrintsJoinRefusal (opened hex workflow.now (map (λ feed. feed.items) feeds.now)) one.now (map (λ other. other.items) others.now) (W.written out.old) (W.written out.new) (E.written err.old) (E.written err.new) }
 {
-    match print_joined(alloc, hex, workflow, one, other, feeds, out) {
+    match print_joined(alloc, hex, workflow, one, others, feeds, out) {
         Ok(()) => 0,
         Err(unjoined) => refuse_unjoined(err, &unjoined),
     }
@@ -109,17 +110,17 @@ fn print_joined<W: Out>(
     hex: bool,
     workflow: &[u8],
     one: &[u8],
-    other: &[u8],
+    others: &[Vec<u8>],
     feeds: &[Vec<u8>],
     out: &mut W,
 ) -> Result<(), Unjoined>
-    ensures printed { OnOk result (PrintsJoin (opened hex workflow.now (map (λ feed. feed.items) feeds.now)) one.now other.now (W.written out.old) (W.written out.new)) }
-    ensures refused { IfErr result (λ refusal. RefusesJoin refusal (opened hex workflow.now (map (λ feed. feed.items) feeds.now)) one.now other.now (W.written out.old) (W.written out.new)) }
+    ensures printed { OnOk result (PrintsJoin (opened hex workflow.now (map (λ feed. feed.items) feeds.now)) one.now (map (λ other. other.items) others.now) (W.written out.old) (W.written out.new)) }
+    ensures refused { IfErr result (λ refusal. RefusesJoin refusal (opened hex workflow.now (map (λ feed. feed.items) feeds.now)) one.now (map (λ other. other.items) others.now) (W.written out.old) (W.written out.new)) }
 {
     let Ok(given) = given_feeds(alloc, hex, feeds) else {
         return Err(Unjoined::Given(Refusal::Memory));
     };
-    let bytes = joined_bytes(alloc, workflow, one, other, &given)?;
+    let bytes = joined_bytes(alloc, workflow, one, others, &given)?;
     match print_bytes(out, &bytes) {
         Ok(()) => Ok(()),
         Err(_) => Err(Unjoined::Given(Refusal::CannotWrite { file: "-" })),
@@ -131,55 +132,58 @@ fn joined_bytes(
     alloc: Global,
     workflow: &[u8],
     one: &[u8],
-    other: &[u8],
+    others: &[Vec<u8>],
     given: &[GivenFeed<'_>],
 ) -> Result<Vec<u8>, Unjoined>
-    ensures saved { IfOk result (λ bytes. IsSavedJoin (opened_bytes workflow.now (map given_value given.now)) one.now other.now bytes.items) }
-    ensures refused { IfErr result (λ refusal. IsUnjoined refusal (opened_bytes workflow.now (map given_value given.now)) one.now other.now) }
+    ensures saved { IfOk result (λ bytes. IsSavedJoin (opened_bytes workflow.now (map given_value given.now)) one.now (map (λ other. other.items) others.now) bytes.items) }
+    ensures refused { IfErr result (λ refusal. IsUnjoined refusal (opened_bytes workflow.now (map given_value given.now)) one.now (map (λ other. other.items) others.now)) }
 {
     let opened = open_workflow(alloc, workflow, given)?;
     let Opened { plans, feeds } = opened;
     let Ok(plan) = first_plan(&plans) else {
         return Err(Unjoined::Given(Refusal::Memory));
     };
-    let board = join_over(alloc, &plans, &feeds, plan, one, other)?;
+    let board = join_over(alloc, &plans, &feeds, plan, one, others)?;
     match checkpoint(alloc, &board) {
         Ok(bytes) => Ok(bytes),
         Err(_) => Err(Unjoined::Given(Refusal::Memory)),
     }
 }
 
-/// The join of the boards that two checkpoints make over the plans, the first of which is `plan`, and their feeds.
+/// The join of the boards that checkpoints make over the plans, the first of which is `plan`, and their feeds.
 fn join_over<'h>(
     alloc: Global,
     plans: &[Arc<Plan>],
     feeds: &[Feed<'h>],
     plan: Arc<Plan>,
     one: &[u8],
-    other: &[u8],
+    others: &[Vec<u8>],
 ) -> Result<Board<'h>, Unjoined>
     requires some { 1 ≤ length plans.now }
     requires few { length plans.now ≤ 64 }
     requires first { slice_get (map arc_value plans.now) 0 ≡ Some (arc_value plan) }
-    ensures joined { IfOk result (IsJoinOver (record { plans = map arc_value plans.now; feeds = feeds.now }) one.now other.now) }
-    ensures refused { IfErr result (λ refusal. IsUnjoined refusal (Ok (record { plans = map arc_value plans.now; feeds = feeds.now })) one.now other.now) }
+    ensures joined { IfOk result (IsJoinOver (record { plans = map arc_value plans.now; feeds = feeds.now }) one.now (map (λ other. other.items) others.now)) }
+    ensures refused { IfErr result (λ refusal. IsUnjoined refusal (Ok (record { plans = map arc_value plans.now; feeds = feeds.now })) one.now (map (λ other. other.items) others.now)) }
 {
-    let a = match resumed_board(alloc, plans, feeds, one) {
+    let mut board = match resumed_board(alloc, plans, feeds, one) {
         Ok(board) => board,
         Err(fault) => return Err(Unjoined::One { plan, fault }),
     };
-    let b = match resumed_board(alloc, plans, feeds, other) {
-        Ok(board) => board,
-        Err(fault) => return Err(Unjoined::Other { plan, fault }),
-    };
-    match joined_board(alloc, a, b) {
-        Ok(board) => {
-            board.is_lawful();
-            Ok(board)
-        }
-        Err(refusal) => Err(Unjoined::Boards {
-            plan,
-            fault: refusal.why,
-        }),
+    for i in 0..others.len() {
+        let next = match resumed_board(alloc, plans, feeds, &others[i]) {
+            Ok(next) => next,
+            Err(fault) => return Err(Unjoined::Other { plan, fault }),
+        };
+        board = match joined_board(alloc, board, next) {
+            Ok(board) => board,
+            Err(refusal) => {
+                return Err(Unjoined::Boards {
+                    plan,
+                    fault: refusal.why,
+                });
+            }
+        };
     }
+    board.is_lawful();
+    Ok(board)
 }

@@ -5,6 +5,7 @@ mod answer_text;
 mod at_once;
 mod comparing;
 mod following;
+mod following_only;
 mod given;
 mod hex_text;
 mod input;
@@ -17,6 +18,7 @@ mod line;
 mod lines;
 mod opened;
 mod output;
+mod progress;
 mod refusal;
 mod refused_text;
 mod resumed_text;
@@ -31,16 +33,18 @@ mod stepping;
 
 pub use comparing::vdiff;
 pub use following::{Course, Followed, Unfollowed, follow, refuse_unfollowed};
+pub use following_only::follow_only;
 pub use given::{GivenFeed, given_feeds};
 pub use hex_text::{HexFault, bytes_of_hex};
 pub use input::{InputFault, InputName, read_inputs, read_whole, read_within};
 pub use input_list::{
-    VdiffFiles, join_inputs, join_on, resume_inputs, resume_on, run_inputs, run_on, save_on,
-    step_inputs, step_on, vdiff_inputs, vdiff_on,
+    join_inputs, join_on, resume_inputs, resume_on, run_inputs, run_on, save_on, step_inputs,
+    step_on, vdiff_on,
 };
 pub use joining::join;
 pub use keeping::keep_file;
 pub use opened::open_workflow;
+pub use progress::{Progress, Untold};
 pub use refusal::{Refusal, refuse};
 pub use resuming::resume;
 pub use running::run;

@@ -43,7 +43,7 @@ pub fn open_workflow<'h>(
 }
 
 /// Opens each feed under its plan, up to the first fault.
-fn open_feeds<'h>(
+pub(crate) fn open_feeds<'h>(
     alloc: Global,
     plans: &[Arc<Plan>],
     given: &'h [GivenFeed<'_>],

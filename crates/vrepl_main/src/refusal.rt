@@ -21,6 +21,8 @@ pub enum Refusal<'w> {
     Memory,
     /// 51 to 56: the workflow file is refused.
     Workflow(PlanFault),
+    /// 115: a stream that is named isn't one of the workflow's.
+    NoStream,
     /// 119: there aren't as many feeds as streams.
     FeedCount,
     /// The feed is refused, by its own number.
@@ -45,6 +47,7 @@ impl Refusal<'_> {
         match self {
             Refusal::Memory => 72,
             Refusal::Workflow(fault) => fault.number(),
+            Refusal::NoStream => 115,
             Refusal::FeedCount => 119,
             Refusal::Feed(fault) => fault.number(),
             Refusal::BadHex => 93,
@@ -243,7 +246,7 @@ fn print_details<E: Out>(
         Refusal::BadScript { line } | Refusal::BadDump { line } => {
             put_named(err, text, " line ", *line as u64)
         }
-        Refusal::Memory | Refusal::FeedCount | Refusal::BadHex => Ok(()),
+        Refusal::Memory | Refusal::NoStream | Refusal::FeedCount | Refusal::BadHex => Ok(()),
     }
 }
 

@@ -20,6 +20,7 @@ ghost use Rattle.vrepl_main.specs.Running.{IsFilled, IsUnfilled, PrintsDump, Ref
 use crate::at_once::open_at_once;
 use crate::given::{GivenFeed, given_feeds};
 use crate::opened::{Opened, open_workflow};
+use crate::progress::{Progress, tell_feeds};
 use crate::refusal::{Refusal, refuse};
 use crate::refused_text::print_refused;
 use crate::stepping::first_plan;
@@ -30,15 +31,8 @@ use source_feed::Feed;
 use std::alloc::Global;
 use std::sync::{Arc, Wait};
 use std::thread::Threads;
-use stream_worker::{Gate, Policy, RunRefusal, run_alone, run_parallel};
+use stream_worker::{Policy, RunRefusal, run_alone, run_parallel};
 use vdiff_core::{Gathered, Out, OutFailed, Rows, write_dump};
-
-/// Nothing is told of groups on their way.
-pub(crate) struct Untold;
-
-impl Gate for Untold {
-    fn passed<R: Wait>(&self, _rt: &R, _stream: u8, _number: u32) {}
-}
 
 /// Why a run prints no dump.
 #[derive(Drop)]
@@ -57,13 +51,15 @@ pub enum RunFault {
 /// Runs all streams of a workflow over its feeds, one in the order of the streams each, to their ends, and prints
 /// the dump of the target's rows on `out`; or prints the line of a refusal on `err` and then nothing on `out`, unless it
 /// is `out` that can't be written. The streams run one after another where `alone` is set, and else each in a thread of
-/// its own. Where `hex` is set feeds are hexadecimal text. Answers the status: 0, or 1 after a refusal, also of memory.
-pub fn run<R: Threads + Wait + Sync, W: Out, E: Out>(
+/// its own, and then the gate is told of each group on its way. Where `hex` is set feeds are hexadecimal text. Answers the
+/// status: 0, or 1 after a refusal, also of memory.
+pub fn run<R: Threads + Wait + Sync, G: Progress + Sync, W: Out, E: Out>(
     rt: &R,
     alloc: Global,
     hex: bool,
     alone: bool,
     policy: &Policy,
+    gate: &G,
     workflow: &[u8],
     feeds: &[Vec<u8>],
     out: &mut W,
@@ -74,7 +70,7 @@ pub fn run<R: Threads + Wait + Sync, W: Out, E: Out>(
     ensures quiet { result ≡ 0 → err.new ≡ err.old }
     ensures refused { result ≡ 1 → PrintsRunRefusal (opened hex workflow.now (map (λ feed. feed.items) feeds.now)) (W.written out.old) (W.written out.new) (E.written err.old) (E.written err.new) }
 {
-    match print_run(rt, alloc, hex, alone, policy, workflow, feeds, out) {
+    match print_run(rt, alloc, hex, alone, policy, gate, workflow, feeds, out) {
         Ok(()) => 0,
         Err(RunFault::Given(refusal)) => refuse(err, &refusal),
         Err(RunFault::Stream { plan, refusal }) => refuse_run(err, &plan, refusal),
@@ -118,12 +114,13 @@ fn print_line<E: Out>(err: &mut E, plan: &Plan, refusal: &StepRefusal) -> Result
 }
 
 /// Prints the dump of a run, or nothing where it is refused.
-fn print_run<R: Threads + Wait + Sync, W: Out>(
+fn print_run<R: Threads + Wait + Sync, G: Progress + Sync, W: Out>(
     rt: &R,
     alloc: Global,
     hex: bool,
     alone: bool,
     policy: &Policy,
+    gate: &G,
     workflow: &[u8],
     feeds: &[Vec<u8>],
     out: &mut W,
@@ -134,7 +131,7 @@ fn print_run<R: Threads + Wait + Sync, W: Out>(
     let Ok(given) = given_feeds(alloc, hex, feeds) else {
         return Err(RunFault::Given(Refusal::Memory));
     };
-    let (plan, rows) = filled_rows(rt, alloc, alone, policy, workflow, &given)?;
+    let (plan, rows) = filled_rows(rt, alloc, alone, policy, gate, workflow, &given)?;
     match print_rows(out, &plan, &rows) {
         Ok(()) => Ok(()),
         Err(refusal) => Err(RunFault::Given(refusal)),
@@ -151,11 +148,12 @@ fn print_rows<W: Out>(out: &mut W, plan: &Plan, rows: &Rows) -> Result<(), Refus
 }
 
 /// The rows behind a run over the bytes of the feeds, and the plan whose tables they are of.
-fn filled_rows<R: Threads + Wait + Sync>(
+fn filled_rows<R: Threads + Wait + Sync, G: Progress + Sync>(
     rt: &R,
     alloc: Global,
     alone: bool,
     policy: &Policy,
+    gate: &G,
     workflow: &[u8],
     given: &[GivenFeed<'_>],
 ) -> Result<(Arc<Plan>, Rows), RunFault>
@@ -170,7 +168,7 @@ fn filled_rows<R: Threads + Wait + Sync>(
     let Ok(plan) = first_plan(&plans) else {
         return Err(RunFault::Given(Refusal::Memory));
     };
-    match run_streams(rt, alloc, alone, plans, &feeds, policy) {
+    match run_streams(rt, alloc, alone, plans, &feeds, policy, gate) {
         Err(refusal) => Err(RunFault::Stream { plan, refusal }),
         Ok(board) => match board.rows(alloc) {
             Err(_) => Err(RunFault::Given(Refusal::Memory)),
@@ -198,13 +196,14 @@ pub(crate) fn open_streams<'h, R: Threads + Sync>(
 }
 
 /// The board behind a run of all streams.
-fn run_streams<'h, R: Threads + Wait + Sync>(
+fn run_streams<'h, R: Threads + Wait + Sync, G: Progress + Sync>(
     rt: &R,
     alloc: Global,
     alone: bool,
     plans: Vec<Arc<Plan>>,
     feeds: &[Feed<'h>],
     policy: &Policy,
+    gate: &G,
 ) -> Result<Board<'h>, RunRefusal>
     requires some { 1 ≤ length plans.items }
     requires few { length plans.items ≤ 64 }
@@ -214,6 +213,7 @@ fn run_streams<'h, R: Threads + Wait + Sync>(
     if alone {
         run_alone(alloc, plans, feeds, policy)
     } else {
-        run_parallel(rt, alloc, plans, feeds, policy, &Untold)
+        tell_feeds(gate, feeds);
+        run_parallel(rt, alloc, plans, feeds, policy, gate)
     }
 }

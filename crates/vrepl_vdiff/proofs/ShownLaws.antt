@@ -9,7 +9,7 @@ use Rattle.vdiff_core.specs.Printing.{Written, BreaksOff}
 use Rattle.vdiff_tables.specs.Reports.{NamedReport}
 use Rattle.vrepl_main.specs.Command.{IsUnwritten}
 use Rattle.vrepl_main.specs.declared.refusal.Refusal.{Refusal}
-use Rattle.vrepl_main.specs.declared.refusal.Refusal.TheVariants.{Memory, Workflow, FeedCount, Feed, BadHex, BadScript, BadDump, CannotRead, CannotWrite}
+use Rattle.vrepl_main.specs.declared.refusal.Refusal.TheVariants.{Memory, Workflow, NoStream, FeedCount, Feed, BadHex, BadScript, BadDump, CannotRead, CannotWrite}
 use Rattle.vrepl_main.specs.Comparison.{Compared, IsComparison, report_text, first_text}
 use Rattle.vrepl_vdiff.specs.Shown.{IsJsonOf, IsShown, IsTextOf, PrintsShown, by_json, reports_asked}
 use Rattle.vrepl_vdiff.specs.declared.options.Options.{Options}
@@ -47,6 +47,7 @@ pub unwritten_shown : (options : Options) (refusal : Refusal) (compared : Compar
 unwritten_shown options (CannotWrite file) compared old new text shown broken is = (is, text, shown, broken)
 unwritten_shown options Memory compared old new text shown broken is = absurd is
 unwritten_shown options (Workflow fault) compared old new text shown broken is = absurd is
+unwritten_shown options NoStream compared old new text shown broken is = absurd is
 unwritten_shown options FeedCount compared old new text shown broken is = absurd is
 unwritten_shown options (Feed fault) compared old new text shown broken is = absurd is
 unwritten_shown options BadHex compared old new text shown broken is = absurd is

@@ -11,7 +11,7 @@ use Rattle.vdiff_core.specs.RowsValue.{RowsValue}
 use Rattle.vdiff_core.specs.declared.reading.DumpFault.{DumpFault}
 use Rattle.vdiff_core.specs.declared.reading.DumpFault.TheVariants as faults
 use Rattle.vrepl_main.specs.declared.refusal.Refusal.{Refusal}
-use Rattle.vrepl_main.specs.declared.refusal.Refusal.TheVariants.{Memory, Workflow, FeedCount, Feed, BadHex, BadScript, BadDump, CannotRead, CannotWrite}
+use Rattle.vrepl_main.specs.declared.refusal.Refusal.TheVariants.{Memory, Workflow, NoStream, FeedCount, Feed, BadHex, BadScript, BadDump, CannotRead, CannotWrite}
 use Rattle.vrepl_main.specs.Reasons.{bad_workflow, bad_dump}
 use Rattle.vrepl_main.specs.RefusalOf.{refusal_of_dump, refusal_of_workflow}
 use Rattle.vrepl_main.specs.Command.{IsUnwritten}
@@ -78,6 +78,7 @@ module _ (options : Options) (workflow : List ℕ) (source target : NamedDump) (
     is_error = same;
   }
   told_source (Workflow fault) error bad same = absurd bad
+  told_source NoStream error bad same = absurd bad
   told_source FeedCount error bad same = absurd bad
   told_source (Feed fault) error bad same = absurd bad
   told_source BadHex error bad same = absurd bad
@@ -95,6 +96,7 @@ module _ (options : Options) (workflow : List ℕ) (source target : NamedDump) (
     is_error = same;
   }
   told_target rows (Workflow fault) error read bad same = absurd bad
+  told_target rows NoStream error read bad same = absurd bad
   told_target rows FeedCount error read bad same = absurd bad
   told_target rows (Feed fault) error read bad same = absurd bad
   told_target rows BadHex error read bad same = absurd bad
@@ -121,6 +123,7 @@ told_shown options workflow source target compared (CannotWrite file) error old 
     by true = refl
     by false = refl
 told_shown options workflow source target compared (Workflow fault) error old new dumps printed none = absurd printed.0
+told_shown options workflow source target compared NoStream error old new dumps printed none = absurd printed.0
 told_shown options workflow source target compared FeedCount error old new dumps printed none = absurd printed.0
 told_shown options workflow source target compared (Feed fault) error old new dumps printed none = absurd printed.0
 told_shown options workflow source target compared BadHex error old new dumps printed none = absurd printed.0

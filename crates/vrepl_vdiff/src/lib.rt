@@ -8,4 +8,5 @@ mod told;
 mod vdiff;
 
 pub use options::{Dump, Options};
+pub use showing::Verdict;
 pub use vdiff::vdiff_with;

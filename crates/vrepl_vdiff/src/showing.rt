@@ -15,7 +15,7 @@ use vrepl_main::Refusal;
 
 /// How two dumps compare.
 #[derive(Clone, Copy)]
-pub(crate) enum Verdict {
+pub enum Verdict {
     /// They are of the same rows.
     Same,
     /// They differ at a key.

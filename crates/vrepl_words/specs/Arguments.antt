@@ -1,12 +1,13 @@
 -- The arguments of a subcommand, as `clap` reads them, and what was given to one.
-use Rattle.std.specs.Prelude.{ℕ, ◌^◌, ◌&&◌, nat_le, if◌then◌else◌, Bool, true, false, List, [], Option, None, Some, codes, unwrap_or, option_and_then, option_map}
+use Rattle.std.specs.Prelude.{ℕ, ◌^◌, ◌&&◌, nat_le, nat_lt, ◌==◌, is_some, if◌then◌else◌, Bool, true, false, List, [], Option, None, Some, codes, unwrap_or, option_and_then, option_map}
 use Rattle.std.specs.Option.{option_map_or}
+use Rattle.std.specs.List.{filter_map, list_all, slice_split}
 use Rattle.std.specs.Str.{bytes_eq}
 use Rattle.clap.specs.Lexer.{usize_max}
 use Rattle.clap.specs.Words.{Row, Rule, Text, all_of, first_of, one_of, new_rule}
 use Rattle.vindex.specs.NumberText.{decimal_below}
 use Rattle.refusal_words.specs.Texts.{has_text}
-use Rattle.clap.specs.declared.builder.action.ArgAction.TheVariants.{SetTrue}
+use Rattle.clap.specs.declared.builder.action.ArgAction.TheVariants.{Append, SetTrue}
 
 -- `--name`
 abbrev pub flag_rule : Text → Rule
@@ -15,6 +16,10 @@ flag_rule name = record (new_rule name) { long = Some name; action = Some SetTru
 -- `--name TEXT`, which may be left out
 abbrev pub option_rule : Text → Rule
 option_rule name = record (new_rule name) { long = Some name; value_names = 1 }
+
+-- `--name TEXT`, which may be there several times
+abbrev pub further_rule : Text → Rule
+further_rule name = record (option_rule name) { action = Some Append }
 
 -- `--name TEXT`, which has to be there
 abbrev pub needed_rule : Text → Rule
@@ -54,6 +59,35 @@ portion_of text = option_and_then within_range (decimal_below (2 ^ 64) text)
 -- the portion that was given, or the usual one; none where what was given is no portion
 abbrev pub portion_given : ℕ → Text → List Row → Option ℕ
 portion_given usual name rows = option_map_or portion_of (first_of name rows) (Some usual)
+
+-- a stream is a number of 0 to 63, in digits
+abbrev pub within_streams : ℕ → Option ℕ
+within_streams number = if nat_lt number 64 then Some number else None
+
+abbrev pub stream_number_of : Text → Option ℕ
+stream_number_of text = option_and_then within_streams (decimal_below (2 ^ 64) text)
+
+-- commas part streams
+abbrev pub is_comma : ℕ → Bool
+is_comma b = b == 44
+
+abbrev pub are_streams : Text → Bool
+are_streams text = list_all (λ part. is_some (stream_number_of part)) (slice_split is_comma text)
+
+abbrev pub streams_of : Text → List ℕ
+streams_of text = filter_map stream_number_of (slice_split is_comma text)
+
+-- whether what was given are streams, if something was
+abbrev pub gives_streams : Text → List Row → Bool
+gives_streams name rows = option_map_or are_streams (first_of name rows) true
+
+-- the streams that were given, if some were
+abbrev pub streams_given : Text → List Row → Option (List ℕ)
+streams_given name rows = option_map streams_of (first_of name rows)
+
+-- a number of 1 to 1,000,000 that was given, if one was; none where what was given is none
+abbrev pub count_given : Text → List Row → Option (Option ℕ)
+count_given name rows = option_map_or (λ text. option_map Some (portion_of text)) (first_of name rows) (Some None)
 
 -- a number of a refusal is one of which something is said, in digits
 abbrev pub within_texts : ℕ → Option ℕ

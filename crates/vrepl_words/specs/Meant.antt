@@ -33,6 +33,7 @@ join_value join = record {
   workflow = join.workflow.now;
   one = join.one.now;
   other = join.other.now;
+  more = map (λ name. name.now) join.more.items;
   feeds = map (λ feed. feed.now) join.feeds.items;
 }
 
@@ -43,6 +44,7 @@ abbrev pub run_value : Run → RunValue
 run_value run = record {
   hex = run.hex;
   alone = run.alone;
+  progress = run.progress;
   portions = portions_value run.portions;
   workflow = run.workflow.now;
   feeds = map (λ feed. feed.now) run.feeds.items;
@@ -52,12 +54,20 @@ abbrev pub follow_value : Follow → FollowValue
 follow_value follow = record {
   run = run_value follow.run;
   dump = follow.dump;
+  only = option_map (λ streams. streams.items) follow.only;
   checkpoint = option_map (λ name. name.now) follow.checkpoint;
   save_to = follow.save_to.now;
 }
 
 abbrev pub vdiff_value : Vdiff → VdiffValue
-vdiff_value files = record { workflow = files.workflow.now; source = files.source.now; target = files.target.now }
+vdiff_value files = record {
+  tables = files.tables;
+  first = files.first;
+  json = files.json;
+  workflow = files.workflow.now;
+  source = files.source.now;
+  target = files.target.now;
+}
 
 -- what was read of the words, as a plain value
 abbrev pub value_of_words : Words → WordsValue

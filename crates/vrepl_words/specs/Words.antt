@@ -6,8 +6,8 @@ use Rattle.clap.specs.Words.{first_of, App, Row, Rule, Shape, Text, fault_of, su
 use Rattle.clap.specs.Simple.{new_shape}
 use Rattle.clap.specs.Kinds.{Kinds, or_else}
 use Rattle.clap.specs.declared.error.kind.ErrorKind.TheVariants.{ValueValidation}
-use Rattle.vrepl_words.specs.declared.numbers.TheConstants.{ROWS, AHEAD, CHUNKS}
-use Rattle.vrepl_words.specs.Arguments.{flag_rule, is_given, needed_rule, operand_rule, operands_rule, optional_rule, option_rule, portion_given, refusal_given, text_given, texts_given}
+use Rattle.vrepl_words.specs.declared.numbers.TheConstants.{ROWS, AHEAD, CHUNKS, ONLY}
+use Rattle.vrepl_words.specs.Arguments.{count_given, flag_rule, further_rule, gives_streams, is_given, needed_rule, operand_rule, operands_rule, optional_rule, option_rule, portion_given, refusal_given, streams_given, text_given, texts_given}
 
 -- `show`: a feed, whose it is, and whether it is hexadecimal text
 pub record ShowValue : Type 0 where
@@ -29,19 +29,21 @@ pub record PortionsValue : Type 0 where
   pub chunks : ℕ
 
 -- `run`: a workflow, a feed for each of its streams, whether feeds are hexadecimal text, whether the streams run
--- one after another, and in what portions
+-- one after another, whether it is told how far they are, and in what portions
 pub record RunValue : Type 0 where
   pub hex : Bool
   pub alone : Bool
+  pub progress : Bool
   pub portions : PortionsValue
   pub workflow : Text
   pub feeds : List Text
 
--- `follow`: what `run` is given, whether the rows are printed too, the checkpoint to go on from, if there is one, and the
--- file of the new one
+-- `follow`: what `run` is given, whether the rows are printed too, the streams that are run alone, if some are named, the
+-- checkpoint to go on from, if there is one, and the file of the new one
 pub record FollowValue : Type 0 where
   pub run : RunValue
   pub dump : Bool
+  pub only : Option (List ℕ)
   pub checkpoint : Option Text
   pub save_to : Text
 
@@ -50,16 +52,21 @@ pub record ResumeValue : Type 0 where
   pub checkpoint : Text
   pub step : StepValue
 
--- `join`: a workflow, two checkpoints, a feed for each of its streams, and whether feeds are hexadecimal text
+-- `join`: a workflow, two checkpoints, further ones, a feed for each of its streams, and whether feeds are hexadecimal text
 pub record JoinValue : Type 0 where
   pub hex : Bool
   pub workflow : Text
   pub one : Text
   pub other : Text
+  pub more : List Text
   pub feeds : List Text
 
--- `vdiff`: a workflow, and the dumps of a source and of a target
+-- `vdiff`: a workflow, the dumps of a source and of a target, whether the counts of each table are printed too, how many
+-- differences are, where a number is given, and whether all is JSON
 pub record VdiffValue : Type 0 where
+  pub tables : Bool
+  pub first : Option ℕ
+  pub json : Bool
   pub workflow : Text
   pub source : Text
   pub target : Text
@@ -125,21 +132,26 @@ abbrev pub bad_portion : List Row → Text
 bad_portion given =
     if is_some (portion_given 1000 (codes "rows") given) then (if is_some (portion_given 100 (codes "ahead") given) then CHUNKS.now else AHEAD.now) else ROWS.now
 
+-- what is told of the first number of `follow` that is none
+abbrev pub bad_follow : List Row → Text
+bad_follow given = if is_some (portions_given given) then ONLY.now else bad_portion given
+
 -- what is given to the arguments of `run`
 abbrev pub run_given : List Row → PortionsValue → RunValue
 run_given given portions = record {
   hex = is_given (codes "hex") given;
   alone = is_given (codes "alone") given;
+  progress = is_given (codes "progress") given;
   portions = portions;
   workflow = text_given (codes "workflow") given;
   feeds = texts_given (codes "feed") given;
 }
 
--- `run [--hex] [--alone] [--rows N] [--ahead N] [--chunks N] WORKFLOW FEED..`
+-- `run [--hex] [--alone] [--progress] [--rows N] [--ahead N] [--chunks N] WORKFLOW FEED..`
 abbrev pub run_subcommand : Subcommand
 run_subcommand = record {
   name = codes "run";
-  rules = flag_rule (codes "hex") ∷ flag_rule (codes "alone") ∷ option_rule (codes "rows") ∷ option_rule (codes "ahead") ∷ option_rule (codes "chunks") ∷ operand_rule (codes "workflow") ∷ operands_rule (codes "feed") ∷ [];
+  rules = flag_rule (codes "hex") ∷ flag_rule (codes "alone") ∷ flag_rule (codes "progress") ∷ option_rule (codes "rows") ∷ option_rule (codes "ahead") ∷ option_rule (codes "chunks") ∷ operand_rule (codes "workflow") ∷ operands_rule (codes "feed") ∷ [];
   meaning = λ given. option_map (λ portions. asks_run (run_given given portions)) (portions_given given);
 }
 
@@ -170,14 +182,15 @@ join_given given = record {
   workflow = text_given (codes "workflow") given;
   one = text_given (codes "one") given;
   other = text_given (codes "other") given;
+  more = texts_given (codes "also") given;
   feeds = texts_given (codes "feed") given;
 }
 
--- `join [--hex] WORKFLOW A B FEED..`
+-- `join [--hex] [--also TEXT].. WORKFLOW A B FEED..`
 abbrev pub join_subcommand : Subcommand
 join_subcommand = record {
   name = codes "join";
-  rules = flag_rule (codes "hex") ∷ operand_rule (codes "workflow") ∷ operand_rule (codes "one") ∷ operand_rule (codes "other") ∷ operands_rule (codes "feed") ∷ [];
+  rules = flag_rule (codes "hex") ∷ further_rule (codes "also") ∷ operand_rule (codes "workflow") ∷ operand_rule (codes "one") ∷ operand_rule (codes "other") ∷ operands_rule (codes "feed") ∷ [];
   meaning = λ given. Some (asks_join (join_given given));
 }
 
@@ -186,29 +199,37 @@ abbrev pub follow_given : List Row → PortionsValue → FollowValue
 follow_given given portions = record {
   run = run_given given portions;
   dump = is_given (codes "dump") given;
+  only = streams_given (codes "only") given;
   checkpoint = first_of (codes "checkpoint") given;
   save_to = text_given (codes "save-to") given;
 }
 
--- `follow [--hex] [--alone] [--dump] [--rows N] [--ahead N] [--chunks N] [--checkpoint TEXT] --save-to TEXT WORKFLOW FEED..`
+-- `follow [--hex] [--alone] [--progress] [--dump] [--rows N] [--ahead N] [--chunks N] [--only S,..] [--checkpoint TEXT] --save-to TEXT WORKFLOW FEED..`
 abbrev pub follow_subcommand : Subcommand
 follow_subcommand = record {
   name = codes "follow";
-  rules = flag_rule (codes "hex") ∷ flag_rule (codes "alone") ∷ flag_rule (codes "dump") ∷ option_rule (codes "rows") ∷ option_rule (codes "ahead") ∷ option_rule (codes "chunks") ∷ option_rule (codes "checkpoint") ∷ needed_rule (codes "save-to")
+  rules = flag_rule (codes "hex") ∷ flag_rule (codes "alone") ∷ flag_rule (codes "progress") ∷ flag_rule (codes "dump") ∷ option_rule (codes "rows") ∷ option_rule (codes "ahead") ∷ option_rule (codes "chunks") ∷ option_rule (codes "only") ∷ option_rule (codes "checkpoint") ∷ needed_rule (codes "save-to")
       ∷ operand_rule (codes "workflow") ∷ operands_rule (codes "feed") ∷ [];
-  meaning = λ given. option_map (λ portions. asks_follow (follow_given given portions)) (portions_given given);
+  meaning = λ given. if gives_streams (codes "only") given then option_map (λ portions. asks_follow (follow_given given portions)) (portions_given given) else None;
 }
 
 -- what is given to the arguments of `vdiff`
-abbrev pub vdiff_given : List Row → VdiffValue
-vdiff_given given = record { workflow = text_given (codes "workflow") given; source = text_given (codes "source") given; target = text_given (codes "target") given }
+abbrev pub vdiff_given : List Row → Option ℕ → VdiffValue
+vdiff_given given first = record {
+  tables = is_given (codes "tables") given;
+  first = first;
+  json = is_given (codes "json") given;
+  workflow = text_given (codes "workflow") given;
+  source = text_given (codes "source") given;
+  target = text_given (codes "target") given;
+}
 
--- `vdiff WORKFLOW SOURCE TARGET`
+-- `vdiff [--tables] [--first N] [--json] WORKFLOW SOURCE TARGET`
 abbrev pub vdiff_subcommand : Subcommand
 vdiff_subcommand = record {
   name = codes "vdiff";
-  rules = operand_rule (codes "workflow") ∷ operand_rule (codes "source") ∷ operand_rule (codes "target") ∷ [];
-  meaning = λ given. Some (asks_vdiff (vdiff_given given));
+  rules = flag_rule (codes "tables") ∷ option_rule (codes "first") ∷ flag_rule (codes "json") ∷ operand_rule (codes "workflow") ∷ operand_rule (codes "source") ∷ operand_rule (codes "target") ∷ [];
+  meaning = λ given. option_map (λ first. asks_vdiff (vdiff_given given first)) (count_given (codes "first") given);
 }
 
 -- `check [--hex] WORKFLOW FEED..`

@@ -2,7 +2,7 @@
 
 ghost use Rattle.std.specs.Prelude.{IfOk, codes};
 ghost use Rattle.clap.specs.Words.{App, Rule, new_app, with_rule, with_subcommand};
-ghost use Rattle.vrepl_words.specs.Arguments.{flag_rule, needed_rule, operand_rule, operands_rule, option_rule, optional_rule};
+ghost use Rattle.vrepl_words.specs.Arguments.{flag_rule, further_rule, needed_rule, operand_rule, operands_rule, option_rule, optional_rule};
 ghost use Rattle.vrepl_words.specs.Built.{HasApp, HasRule, IsSubcommand, bare_app};
 ghost use Rattle.vrepl_words.specs.Words.{check_subcommand, explain_subcommand, follow_subcommand, join_subcommand, program_app, resume_subcommand, run_subcommand, save_subcommand, show_subcommand, step_subcommand, vdiff_subcommand};
 
@@ -82,13 +82,15 @@ pub(crate) fn run_command<'w>(alloc: Global) -> Result<Command<'w>, AllocError>
     ensures { IfOk result (IsSubcommand run_subcommand) }
 {
     let alone_help = "Runs the streams one after another, without threads";
+    let progress_help = "Tells each second how far streams in threads are";
     let rows_help = "Rows that are copied at a time, 1000 unless given";
-    let ahead_help = "Groups read before a snapshot is opened, 100 unless given";
+    let ahead_help = "Groups read before a snapshot, 100 unless given";
     let chunks_help = "Chunks that are copied of a snapshot, 4 unless given";
     let about = "Runs a workflow's streams to their feeds' ends, and prints the rows";
     let command = Ok(bare(alloc, "run", about, help::RUN));
     let command = with_arg(command, hex(alloc));
     let command = with_arg(command, flag(alloc, "alone", alone_help));
+    let command = with_arg(command, flag(alloc, "progress", progress_help));
     let command = with_arg(command, option(alloc, "rows", "N", rows_help));
     let command = with_arg(command, option(alloc, "ahead", "N", ahead_help));
     with_streams(
@@ -118,10 +120,12 @@ fn resume_command<'w>(alloc: Global) -> Result<Command<'w>, AllocError>
 fn join_command<'w>(alloc: Global) -> Result<Command<'w>, AllocError>
     ensures { IfOk result (IsSubcommand join_subcommand) }
 {
-    let about = "Writes the checkpoint of the join of two checkpoints' boards";
+    let about = "Writes the checkpoint of the join of checkpoints' boards";
     let feed_help = "A feed's file for each stream, in their order";
     let command = Ok(bare(alloc, "join", about, help::JOIN));
+    let also_help = "A further checkpoint's file; may be given again";
     let command = with_arg(command, hex(alloc));
+    let command = with_arg(command, further(alloc, "also", "FILE", also_help));
     let command = with_arg(command, workflow(alloc));
     let one = operand(alloc, "one", "A", "The one checkpoint's file");
     let command = with_arg(command, one);
@@ -138,38 +142,47 @@ fn check_command<'w>(alloc: Global) -> Result<Command<'w>, AllocError>
     with_streams(alloc, with_arg(command, hex(alloc)))
 }
 
-fn vdiff_command<'w>(alloc: Global) -> Result<Command<'w>, AllocError>
+pub(crate) fn vdiff_command<'w>(alloc: Global) -> Result<Command<'w>, AllocError>
     ensures { IfOk result (IsSubcommand vdiff_subcommand) }
 {
     let about = "Compares two dumps of a workflow's tables";
+    let tables_help = "Prints the counts of each table too, a line a table";
+    let first_help = "Prints the first N differing keys too, with both rows";
+    let source_help = "The source's dump, or - for standard input";
+    let target_help = "The target's dump, or - for standard input";
+    let json_help = "Prints all of it as one JSON object";
     let command = Ok(bare(alloc, "vdiff", about, help::VDIFF));
+    let command = with_arg(command, flag(alloc, "tables", tables_help));
+    let command = with_arg(command, option(alloc, "first", "N", first_help));
+    let command = with_arg(command, flag(alloc, "json", json_help));
     let command = with_arg(command, workflow(alloc));
-    let source = operand(alloc, "source", "SOURCE", "The source's dump");
+    let source = operand(alloc, "source", "SOURCE", source_help);
     let command = with_arg(command, source);
-    with_arg(
-        command,
-        operand(alloc, "target", "TARGET", "The target's dump"),
-    )
+    with_arg(command, operand(alloc, "target", "TARGET", target_help))
 }
 
 pub(crate) fn follow_command<'w>(alloc: Global) -> Result<Command<'w>, AllocError>
     ensures { IfOk result (IsSubcommand follow_subcommand) }
 {
     let alone_help = "Runs the streams one after another, without threads";
+    let progress_help = "Tells each second how far streams in threads are";
     let dump_help = "Prints the target's rows too, as `run` does";
     let rows_help = "Rows that are copied at a time, 1000 unless given";
-    let ahead_help = "Groups read before a snapshot is opened, 100 unless given";
+    let ahead_help = "Groups read before a snapshot, 100 unless given";
     let chunks_help = "Chunks that are copied of a snapshot, 4 unless given";
+    let only_help = "Runs these streams alone, as 0,2; all unless given";
     let checkpoint_help = "The checkpoint to go on from; nothing unless given";
     let save_help = "The file that the new checkpoint takes the place of";
     let about = "Moves a checkpoint on to the feeds' ends";
     let command = Ok(bare(alloc, "follow", about, help::FOLLOW));
     let command = with_arg(command, hex(alloc));
     let command = with_arg(command, flag(alloc, "alone", alone_help));
+    let command = with_arg(command, flag(alloc, "progress", progress_help));
     let command = with_arg(command, flag(alloc, "dump", dump_help));
     let command = with_arg(command, option(alloc, "rows", "N", rows_help));
     let command = with_arg(command, option(alloc, "ahead", "N", ahead_help));
     let command = with_arg(command, option(alloc, "chunks", "N", chunks_help));
+    let command = with_arg(command, option(alloc, "only", "S,..", only_help));
     let command = with_arg(
         command,
         option(alloc, "checkpoint", "FILE", checkpoint_help),
@@ -251,6 +264,13 @@ fn option<'w>(alloc: Global, name: &'w str, value: &'w str, help: &'w str) -> Ar
         .long(name)
         .value_name(value)
         .help(help)
+}
+
+/// `--name TEXT`, which may be there several times.
+fn further<'w>(alloc: Global, name: &'w str, value: &'w str, help: &'w str) -> Arg<'w>
+    ensures { HasRule (further_rule name.entry.now) result }
+{
+    option(alloc, name, value, help).action(ArgAction::Append)
 }
 
 /// `--name TEXT`, which has to be there.

@@ -104,6 +104,7 @@ Example:
       > both.checkpoint
 
 Each stream, with its rows, is that of the checkpoint in which it is further on.
+The order of the checkpoints doesn't matter, and the feeds are read once.
 
 Status:
   0  the whole checkpoint was written
@@ -117,7 +118,8 @@ Example:
       --save-to shards.checkpoint examples/workflows/two_shards.json \\
       examples/two_shards/lower.hex examples/two_shards/upper.hex
 
-The file is replaced once the new checkpoint is whole, and never in part.
+The file is replaced once the new checkpoint is whole, and never in part. The
+streams that --only leaves out stay as the checkpoint has them.
 
 Status:
   0  the new checkpoint stands in the file
@@ -135,6 +137,10 @@ Example:
   extra source 1
   extra target 1
   first table t key x32
+
+With --tables a line a table stands above that, with --first N the differing
+keys below it, and with --json all of it is one object; one of the dumps may be
+`-`, standard input.
 
 Status:
   0  the dumps are of the same rows

@@ -5,6 +5,7 @@ mod commands;
 mod help;
 mod numbers;
 pub mod portions;
+mod streams;
 pub mod usage;
 pub mod words;
 

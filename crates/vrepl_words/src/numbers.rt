@@ -3,11 +3,11 @@
 ghost use Rattle.std.specs.Prelude.{◌≡◌, IfOk, Some, option_map};
 ghost use Rattle.clap.specs.Words.{found_of, kind_of, rows_of};
 ghost use Rattle.clap.specs.declared.error.kind.ErrorKind.TheVariants.{ValueValidation};
-ghost use Rattle.vrepl_words.specs.Arguments.{refusal_given, explained_number};
-ghost use Rattle.vrepl_words.specs.Words.{bad_portion};
+ghost use Rattle.vrepl_words.specs.Arguments.{count_given, portion_of, refusal_given, explained_number};
+ghost use Rattle.vrepl_words.specs.Words.{bad_follow, bad_portion};
 
-use crate::commands::{explain_command, follow_command, run_command};
-use crate::words::portion;
+use crate::commands::{explain_command, follow_command, run_command, vdiff_command};
+use crate::words::{given_portions, portion, portion_of};
 use clap::error::ErrorKind;
 use clap::{ArgMatches, Command, Error};
 use refusal_words::texts::has_text;
@@ -21,6 +21,12 @@ const AHEAD: &str = "--ahead is a number of 1 to 1000000";
 
 const CHUNKS: &str = "--chunks is a number of 1 to 1000000";
 
+/// What is told of streams that are none.
+const ONLY: &str = "--only is numbers of 0 to 63 with commas between them";
+
+/// What is told of a number of differences that is none.
+const FIRST: &str = "--first is a number of 1 to 1000000";
+
 /// What is told of a number that no refusal has.
 const NO_REFUSAL: &str = "no refusal has this number; `vrepl explain` lists those that there are";
 
@@ -32,6 +38,24 @@ pub(crate) fn refusal_given(given: &ArgMatches<'_>, name: &str) -> Option<Option
         None => Some(None),
         Some(text) => refusal_of(text),
     }
+}
+
+/// The number of 1 to 1,000,000 that was given, if one was. None where what was given is none.
+pub(crate) fn count_given(given: &ArgMatches<'_>, name: &str) -> Option<Option<u32>>
+    ensures { result ≡ count_given name.now (rows_of (found_of given.now)) }
+{
+    match given.get_str(name) {
+        None => Some(None),
+        Some(text) => count_of(text),
+    }
+}
+
+/// The number of 1 to 1,000,000 that digits spell.
+fn count_of(text: &str) -> Option<Option<u32>>
+    ensures { result ≡ option_map Some (portion_of text.now) }
+{
+    let count = portion_of(text)?;
+    Some(Some(count))
 }
 
 /// The number that digits spell, if a refusal has it.
@@ -53,8 +77,9 @@ pub(crate) fn bad_number(alloc: Global, matches: &ArgMatches<'_>) -> Result<Erro
     match matches.subcommand() {
         Some(("run", given)) => usage_fault(run_command(alloc), "vrepl run", bad_portion(given)),
         Some(("follow", given)) => {
-            usage_fault(follow_command(alloc), "vrepl follow", bad_portion(given))
+            usage_fault(follow_command(alloc), "vrepl follow", bad_follow(given))
         }
+        Some(("vdiff", _)) => usage_fault(vdiff_command(alloc), "vrepl vdiff", FIRST),
         _ => usage_fault(explain_command(alloc), "vrepl explain", NO_REFUSAL),
     }
 }
@@ -69,6 +94,17 @@ fn usage_fault(
 {
     let mut command = command?.bin_name(name)?;
     command.error(ErrorKind::ValueValidation, message)
+}
+
+/// What is told of the first number of `follow` that is none.
+fn bad_follow(given: &ArgMatches<'_>) -> &'static str
+    ensures { result.now ≡ bad_follow (rows_of (found_of given.now)) }
+{
+    if given_portions(given).is_some() {
+        ONLY
+    } else {
+        bad_portion(given)
+    }
 }
 
 /// What is told of the first portion that is none.

@@ -5,11 +5,12 @@ ghost use Rattle.clap.specs.Words.{FailsBy, first_of, found_of, rows_of, subcomm
 ghost use Rattle.vrepl_words.specs.Arguments.{is_given, portion_given, portion_of, text_given, texts_given};
 ghost use Rattle.vrepl_words.specs.Built.{HasApp};
 ghost use Rattle.vrepl_words.specs.Meant.{Asks, follow_value, portions_value, run_value, show_value, step_value, value_of_words, vdiff_value};
-ghost use Rattle.vrepl_words.specs.Words.{asked_by, asks_check, asks_join, asks_follow, asks_resume, asks_run, asks_save, asks_step, explain_subcommand, faults_of, follow_given, follow_subcommand, join_given, portions_given, program_app, resume_given, run_given, run_subcommand, show_given, step_given, vdiff_given, words_of};
+ghost use Rattle.vrepl_words.specs.Words.{asked_by, asks_check, asks_join, asks_follow, asks_resume, asks_run, asks_save, asks_step, explain_subcommand, faults_of, follow_given, follow_subcommand, join_given, portions_given, program_app, resume_given, run_given, run_subcommand, show_given, step_given, vdiff_given, vdiff_subcommand, words_of};
 
 use crate::commands::program;
-use crate::numbers::{bad_number, refusal_given};
+use crate::numbers::{bad_number, count_given, refusal_given};
 use crate::portions::Portions;
+use crate::streams::{gives_streams, streams_given};
 use clap::{ArgMatches, Command, Error};
 use std::alloc::{AllocError, Global};
 use vindex::natural_of;
@@ -46,6 +47,8 @@ pub struct Run<'w> {
     pub hex: bool,
     /// Whether the streams run one after another.
     pub alone: bool,
+    /// Whether it is told on the way how far streams in threads are.
+    pub progress: bool,
     /// In what portions a stream is run.
     pub portions: Portions,
     /// The workflow's file.
@@ -61,6 +64,8 @@ pub struct Follow<'w> {
     pub run: Run<'w>,
     /// Whether the target's rows are printed too.
     pub dump: bool,
+    /// The streams that are run alone, where some are named.
+    pub only: Option<Vec<u8>>,
     /// The file of the checkpoint to go on from, where there is one.
     pub checkpoint: Option<&'w str>,
     /// The file that the new checkpoint takes the place of.
@@ -87,6 +92,8 @@ pub struct Join<'w> {
     pub one: &'w str,
     /// The file of the other checkpoint.
     pub other: &'w str,
+    /// The files of further checkpoints.
+    pub more: Vec<&'w str>,
     /// The feeds' files, in the order of the streams.
     pub feeds: Vec<&'w str>,
 }
@@ -107,9 +114,15 @@ pub struct Step<'w> {
 pub struct Vdiff<'w> {
     /// The workflow's file.
     pub workflow: &'w str,
-    /// The file of the source's dump.
+    /// Whether the counts of each table are printed too.
+    pub tables: bool,
+    /// How many keys at which the dumps differ are printed with their rows, where a number is given.
+    pub first: Option<u32>,
+    /// Whether all is printed as one object of JSON.
+    pub json: bool,
+    /// The file of the source's dump, or `-` for standard input.
     pub source: &'w str,
-    /// The file of the target's dump.
+    /// The file of the target's dump, or `-` for standard input, unless that is the source's.
     pub target: &'w str,
 }
 
@@ -176,7 +189,7 @@ fn asked<'w>(alloc: Global, matches: &ArgMatches<'w>) -> Option<Result<Words<'w>
         "resume" => Some(resume_words(alloc, given)),
         "join" => Some(join_words(alloc, given)),
         "follow" => follow_words(alloc, given),
-        "vdiff" => Some(Ok(Words::Vdiff(vdiff_words(given)))),
+        "vdiff" => vdiff_words(given),
         "check" => Some(check_words(alloc, given)),
         "explain" => explain_words(given),
         _ => None,
@@ -239,12 +252,14 @@ fn resume_words<'w>(alloc: Global, given: &ArgMatches<'w>) -> Result<Words<'w>, 
 fn join_words<'w>(alloc: Global, given: &ArgMatches<'w>) -> Result<Words<'w>, AllocError>
     ensures { IfOk result (λ words. value_of_words words ≡ asks_join (join_given (rows_of (found_of given.now)))) }
 {
+    let more = texts(alloc, given, "also")?;
     let feeds = texts(alloc, given, "feed")?;
     Ok(Words::Join(Join {
         hex: has_flag(given, "hex"),
         workflow: text(given, "workflow"),
         one: text(given, "one"),
         other: text(given, "other"),
+        more,
         feeds,
     }))
 }
@@ -281,18 +296,23 @@ fn run_of<'w>(
     Ok(Run {
         hex: has_flag(given, "hex"),
         alone: has_flag(given, "alone"),
+        progress: has_flag(given, "progress"),
         portions,
         workflow: text(given, "workflow"),
         feeds,
     })
 }
 
-/// None where a portion that was given is none.
+/// None where a portion that was given is none, or a stream.
 fn follow_words<'w>(alloc: Global, given: &ArgMatches<'w>) -> Option<Result<Words<'w>, AllocError>>
     ensures { Asks result (follow_subcommand.meaning (rows_of (found_of given.now))) }
 {
     let portions = given_portions(given)?;
-    Some(follow_words_by(alloc, given, portions))
+    if gives_streams(given, "only") {
+        Some(follow_words_by(alloc, given, portions))
+    } else {
+        None
+    }
 }
 
 /// The same with these portions. An error is want of memory.
@@ -316,9 +336,11 @@ fn follow_of<'w>(
     ensures { IfOk result (λ follow. follow_value follow ≡ follow_given (rows_of (found_of given.now)) (portions_value portions)) }
 {
     let run = run_of(alloc, given, portions)?;
+    let only = streams_given(alloc, given, "only")?;
     Ok(Follow {
         run,
         dump: has_flag(given, "dump"),
+        only,
         checkpoint: text_if(given, "checkpoint"),
         save_to: text(given, "save-to"),
     })
@@ -333,7 +355,7 @@ fn explain_words<'w>(given: &ArgMatches<'w>) -> Option<Result<Words<'w>, AllocEr
 }
 
 /// The portions that were given, or the usual ones.
-fn given_portions(given: &ArgMatches<'_>) -> Option<Portions>
+pub(crate) fn given_portions(given: &ArgMatches<'_>) -> Option<Portions>
     ensures { option_map portions_value result ≡ portions_given (rows_of (found_of given.now)) }
 {
     let rows = portion(given, "rows", 1000)?;
@@ -359,7 +381,7 @@ pub(crate) fn portion(given: &ArgMatches<'_>, name: &str, usual: u32) -> Option<
 }
 
 /// The number of 1 to 1,000,000 that digits spell.
-fn portion_of(text: &str) -> Option<u32>
+pub(crate) fn portion_of(text: &str) -> Option<u32>
     ensures portion { result ≡ portion_of text.now }
     ensures some { IfSome result (λ portion. 1 ≤ portion) }
 {
@@ -371,10 +393,22 @@ fn portion_of(text: &str) -> Option<u32>
     }
 }
 
-fn vdiff_words<'w>(given: &ArgMatches<'w>) -> Vdiff<'w>
-    ensures { vdiff_value result ≡ vdiff_given (rows_of (found_of given.now)) }
+/// None where the number of differences that was given is none.
+fn vdiff_words<'w>(given: &ArgMatches<'w>) -> Option<Result<Words<'w>, AllocError>>
+    ensures { Asks result (vdiff_subcommand.meaning (rows_of (found_of given.now))) }
+{
+    let first = count_given(given, "first")?;
+    Some(Ok(Words::Vdiff(vdiff_of(given, first))))
+}
+
+/// What is given to `vdiff`, with this number of differences.
+fn vdiff_of<'w>(given: &ArgMatches<'w>, first: Option<u32>) -> Vdiff<'w>
+    ensures { vdiff_value result ≡ vdiff_given (rows_of (found_of given.now)) first }
 {
     Vdiff {
+        tables: has_flag(given, "tables"),
+        first,
+        json: has_flag(given, "json"),
         workflow: text(given, "workflow"),
         source: text(given, "source"),
         target: text(given, "target"),
@@ -389,7 +423,7 @@ fn has_flag(given: &ArgMatches<'_>, name: &str) -> bool
 }
 
 /// The text that was given, if one was.
-fn text_if<'w>(given: &ArgMatches<'w>, name: &str) -> Option<&'w str>
+pub(crate) fn text_if<'w>(given: &ArgMatches<'w>, name: &str) -> Option<&'w str>
     ensures { option_map (λ text. text.now) result ≡ first_of name.now (rows_of (found_of given.now)) }
 {
     given.get_str(name)

@@ -45,6 +45,22 @@ pub(crate) const FOUR: &[u8] = b"\
     \n4\x08\x01\x1a0MySQL56/3e11fa47-71ca-11e1-9e33-c80aa9429562:1-4\
     \n\x02\x08\x03";
 
+/// A group that may stand behind those of `FOUR`, whose row's number is none: x.
+pub(crate) const UNSOUND: &[u8] = b"\
+    m\n\x02\x08\x02\
+    \n\x18\x08\r2\x14\n\x01t\x12\x07\n\x02id\x10\x89\x02\x12\x06\n\x01v\x10\x950\
+    \n\x13\x08\x0c*\x0f\n\x01t\x12\n\x12\x08\n\x02\x02\x02\x12\x02xe\
+    \n4\x08\x01\x1a0MySQL56/3e11fa47-71ca-11e1-9e33-c80aa9429562:1-5\
+    \n\x02\x08\x03";
+
+/// Row 4 `z`, at another server's position.
+pub(crate) const FOURTH_KEY: &[u8] = b"\
+    k\n\x02\x08\x02\
+    \n\x18\x08\r2\x14\n\x01t\x12\x07\n\x02id\x10\x89\x02\x12\x06\n\x01v\x10\x950\
+    \n\x13\x08\x0c*\x0f\n\x01t\x12\n\x12\x08\n\x02\x02\x02\x12\x024z\
+    \n2\x08\x01\x1a.MySQL56/3e11fa47-71ca-11e1-9e33-c80aa9429563:1\
+    \n\x02\x08\x03";
+
 /// Rows 11 `k` and 12 `l`, one message a group, at another server's positions.
 pub(crate) const UPPER: &[u8] = b"\
     l\n\x02\x08\x02\

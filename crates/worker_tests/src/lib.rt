@@ -8,6 +8,8 @@ mod gates;
 #[cfg(test)]
 mod memory;
 #[cfg(test)]
+mod portions;
+#[cfg(test)]
 mod ready;
 #[cfg(test)]
 mod run_memory;

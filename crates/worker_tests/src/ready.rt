@@ -5,7 +5,7 @@ ghost use Rattle.stream_worker.specs.SeatOf.{IsSeatOf};
 
 use crate::feeds::{FOUR, UPPER, WORKFLOW, open_feeds};
 use crate::gates::Open;
-use crate::seats::{ended, two_of};
+use crate::seats::{ended, is_found, two_of};
 use apply_core::Board;
 use feed_readers::Ahead;
 use filter_rule::Plan;
@@ -18,11 +18,25 @@ use vdiff_core::first_difference;
 
 /// Groups of a feed that stand ready, by their numbers; before them group 1 of another feed, if any.
 #[derive(Drop)]
-struct Ready<'a, 'h> {
+pub(crate) struct Ready<'a, 'h> {
     alloc: Global,
     feed: &'a Feed<'h>,
     other: Option<&'a Feed<'h>>,
     numbers: &'a [u32],
+}
+
+impl<'a, 'h> Ready<'a, 'h> {
+    /// Nothing stands ready of a feed.
+    pub(crate) fn none(alloc: Global, feed: &'a Feed<'h>) -> Ready<'a, 'h>
+        ensures { result.feed.now ≡ feed.now }
+    {
+        Ready {
+            alloc,
+            feed,
+            other: None,
+            numbers: &[],
+        }
+    }
 }
 
 impl<'a, 'h> Ahead<'h> for Ready<'a, 'h> {
@@ -65,8 +79,28 @@ fn are_first(receipts: &[Receipt<'_>], stream: u8, groups: usize) -> bool {
     }
 }
 
-/// Whether a seat's stream comes to its feed's end, with groups of these numbers ready, and has a receipt for each
-/// group.
+/// Whether the rows of the first and the last group that a stream applied are found. Each group puts a row at a key of
+/// its own.
+fn are_found<'h, R: Wait>(
+    alloc: Global,
+    rt: &R,
+    shared: &Shared<'h>,
+    seat: &mut Seat<'h>,
+    receipts: &[Receipt<'h>],
+) -> bool
+    requires { IsSeatOf shared.now seat.old }
+    ensures { IsSeatOf shared.now seat.new × (seat.new.stream ≡ seat.old.stream) }
+{
+    match (receipts.first(), receipts.last()) {
+        (Some(first), Some(last)) => {
+            is_found(alloc, rt, shared, seat, first) && is_found(alloc, rt, shared, seat, last)
+        }
+        _ => false,
+    }
+}
+
+/// Whether a seat's stream comes to its feed's end, with groups of these numbers ready, has a receipt for each group,
+/// and finds its rows.
 fn comes_to_the_end<'a, 'h, R: Wait>(
     alloc: Global,
     rt: &R,
@@ -89,7 +123,9 @@ fn comes_to_the_end<'a, 'h, R: Wait>(
         numbers,
     };
     let (receipts, refusal) = work(rt, alloc, shared, seat, feed, &policy, &Open, &mut ready);
-    refusal.is_none() && are_first(&receipts, seat.stream(), feed.len())
+    refusal.is_none()
+        && are_first(&receipts, seat.stream(), feed.len())
+        && are_found(alloc, rt, shared, seat, &receipts)
 }
 
 /// The board behind two streams' workers, of which the first has groups of these numbers ready.

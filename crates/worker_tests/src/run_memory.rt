@@ -1,9 +1,10 @@
 //! Runs of all streams, and boards that are shared, without memory: the call says so, and made again it is answered
-//! as it would have been. Each test stands for one run for each growth that it asks for, in which that growth is
-//! refused.
+//! as it would have been. Where one stream's thread found no memory, that of a channel between it and its reader among
+//! it, the other stream came to its feed's end. Each test stands for one run for each growth that it asks for, in which
+//! that growth is refused.
 
 use crate::feeds::{LOWER, UPPER, WORKFLOW, open_feeds};
-use crate::gates::Open;
+use crate::gates::{Counting, Open};
 use apply_core::{Board, fed_board};
 use filter_rule::Plan;
 use source_feed::Feed;
@@ -12,7 +13,7 @@ use std::sync::{Arc, Wait};
 use std::test::*;
 use std::thread::Threads;
 use stream_core::Step;
-use stream_worker::{Policy, RunRefusal, Shared, run_alone, run_parallel};
+use stream_worker::{Gate, Policy, RunRefusal, Shared, run_alone, run_parallel};
 
 /// How streams are run.
 #[derive(Clone, Copy)]
@@ -24,12 +25,13 @@ enum Way {
 }
 
 /// The board behind a run of 1 to 64 plans.
-fn ran<'h, R: Threads + Wait + Sync>(
+fn ran<'h, R: Threads + Wait + Sync, G: Gate + Sync>(
     rt: &R,
     alloc: Global,
     way: Way,
     plans: Vec<Arc<Plan>>,
     feeds: &[Feed<'h>],
+    gate: &G,
 ) -> Result<Board<'h>, RunRefusal> {
     if plans.is_empty() || plans.len() > 64 {
         return Err(RunRefusal::FeedCount);
@@ -39,7 +41,7 @@ fn ran<'h, R: Threads + Wait + Sync>(
     };
     match way {
         Way::Alone => run_alone(alloc, plans, feeds, &policy),
-        Way::Parallel => run_parallel(rt, alloc, plans, feeds, &policy, &Open),
+        Way::Parallel => run_parallel(rt, alloc, plans, feeds, &policy, gate),
     }
 }
 
@@ -52,17 +54,24 @@ fn plans_of(alloc: Global) -> Result<Vec<Arc<Plan>>, AllocError> {
 }
 
 /// Whether a run ends with the rows of both feeds.
-fn fills<'h, R: Threads + Wait + Sync>(
+fn fills<'h, R: Threads + Wait + Sync, G: Gate + Sync>(
     rt: &R,
     alloc: Global,
     way: Way,
     feeds: &[Feed<'h>],
+    gate: &G,
 ) -> Result<bool, AllocError> {
-    match ran(rt, alloc, way, plans_of(alloc)?, feeds) {
+    match ran(rt, alloc, way, plans_of(alloc)?, feeds, gate) {
         Ok(board) => Ok(board.rows(alloc)?.len() == 4),
         Err(refusal) if refusal.number() == 72 => Err(AllocError),
         Err(_) => Ok(false),
     }
+}
+
+/// Whether a gate was told of no group, or of both groups of one stream.
+fn spares_a_stream(gate: &Counting) -> bool {
+    let total = gate.total();
+    total == 0 || total / 1_000 % 1_000 == 2 || total / 1_000_000 == 2
 }
 
 /// Whether it does, also where the first one found no memory.
@@ -75,9 +84,10 @@ fn fills_again<R: Threads + Wait + Sync>(
     let Some(feeds) = open_feeds(alloc, &plans, &[LOWER, UPPER]) else {
         return Err(AllocError);
     };
-    match fills(rt, alloc, way, &feeds) {
+    let gate = Counting::new();
+    match fills(rt, alloc, way, &feeds, &gate) {
         Ok(filled) => Ok(filled),
-        Err(_) => fills(rt, alloc, way, &feeds),
+        Err(_) => Ok(fills(rt, alloc, way, &feeds, &Open)? && spares_a_stream(&gate)),
     }
 }
 

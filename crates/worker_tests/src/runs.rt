@@ -1,8 +1,8 @@
 //! Runs of all streams to their feeds' ends, each in a thread of its own.
 
 use crate::feeds::{
-    LOWER, MANY_BYTES, SAME_KEY, TENS, UPPER, WORKFLOW, XS, YS, many_feeds, many_streams,
-    open_feeds,
+    FOUR, LOWER, MANY_BYTES, SAME_KEY, TENS, UNSOUND, UPPER, WORKFLOW, XS, YS, many_feeds,
+    many_streams, open_feeds,
 };
 use crate::gates::{Counting, Meeting, Open, Turns};
 use apply_core::Board;
@@ -173,6 +173,18 @@ fn gate_is_told_of_prepared_groups(rt: HostRuntime) {
     let gate = Turns::new();
     let refused = refused_at(&rt, rt.alloc(), [TENS, XS], USUAL, &gate);
     assert!(rt; refused == [90, 1, 0] && gate.told() == Some([3, 0]));
+}
+
+/// Behind four groups one that can't be prepared: its worker meets it behind the others, wherever its reader met it,
+/// and the other stream comes to its feed's end.
+#[test]
+fn worker_meets_an_unsound_group(rt: HostRuntime) -> Result<(), Fail> {
+    let mut bytes = Vec::from_slice(rt.alloc(), FOUR)?;
+    bytes.extend_from_slice(UNSOUND)?;
+    let gate = Turns::new();
+    let refused = refused_at(&rt, rt.alloc(), [&bytes, UPPER], USUAL, &gate);
+    assert!(rt; refused == [90, 0, 0] && gate.told() == Some([4, 2]));
+    Ok(())
 }
 
 /// The feeds of all 64 streams, each by itself.

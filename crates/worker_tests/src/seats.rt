@@ -98,8 +98,8 @@ fn is_put_by(group: &Prepared<'_>, row: &RowBuf) -> bool {
     }
 }
 
-/// Whether the seat finds the row of the group that it has just applied, at its number.
-fn is_found<'h, R: Wait>(
+/// Whether the seat finds the row of a group that it has applied, at the number of the last one.
+pub(crate) fn is_found<'h, R: Wait>(
     alloc: Global,
     rt: &R,
     shared: &Shared<'h>,
@@ -113,7 +113,7 @@ fn is_found<'h, R: Wait>(
         return false;
     };
     match shared.look(rt, alloc, seat, &key) {
-        Ok((number, Some(row))) => number == receipt.number && is_put_by(&receipt.group, &row),
+        Ok((number, Some(row))) => number == seat.applied() && is_put_by(&receipt.group, &row),
         _ => false,
     }
 }

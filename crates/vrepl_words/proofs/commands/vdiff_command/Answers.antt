@@ -4,6 +4,9 @@ use Rattle.vrepl_words.proofs.commands.vdiff_command.Goals as goal
 
 pub returns : goal.returns
 returns c =
-    let workflow = c.with_arg-command.ensures (new_app (codes "vdiff")) _ c.bare.ensures c.workflow.ensures in
-    let source = c.with_arg-command-2.ensures _ _ workflow c.operand-source.ensures in
+    let tables = c.with_arg-command.ensures (new_app (codes "vdiff")) _ c.bare.ensures c.flag.ensures in
+    let first = c.with_arg-command-2.ensures _ _ tables c.option.ensures in
+    let json = c.with_arg-command-3.ensures _ _ first c.flag-2.ensures in
+    let workflow = c.with_arg-command-4.ensures _ _ json c.workflow.ensures in
+    let source = c.with_arg-command-5.ensures _ _ workflow c.operand-source.ensures in
     c.with_arg.ensures _ _ source c.operand.ensures

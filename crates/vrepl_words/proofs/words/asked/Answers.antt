@@ -3,7 +3,7 @@ use Rattle.std.specs.Prelude.{IfOk}
 use Rattle.clap.specs.Words.{Row, Text, found_of, rows_of, subcommand_rows_of}
 use Rattle.vrepl_words.specs.Meant.{Asks, value_of_words}
 use Rattle.vrepl_words.specs.declared.words.Words.{Words}
-use Rattle.vrepl_words.specs.Words.{WordsValue, asked_by, explain_subcommand, asks_check, asks_join, asks_resume, asks_save, asks_show, asks_step, asks_vdiff, follow_subcommand, join_given, resume_given, run_subcommand, show_given, step_given, vdiff_given}
+use Rattle.vrepl_words.specs.Words.{WordsValue, asked_by, explain_subcommand, asks_check, asks_join, asks_resume, asks_save, asks_show, asks_step, follow_subcommand, join_given, resume_given, run_subcommand, show_given, step_given, vdiff_subcommand}
 use Rattle.vrepl_words.proofs.MetSubcommand.{met, none_met, other_text}
 use Rattle.vrepl_words.proofs.words.asked.Goals as goal
 
@@ -27,7 +27,7 @@ asked_join : (given : List Row) → asked_by (Some (codes "join", given)) ≡ So
 unfolding asked_by
 asked_join given = refl
 
-asked_vdiff : (given : List Row) → asked_by (Some (codes "vdiff", given)) ≡ Some (asks_vdiff (vdiff_given given))
+asked_vdiff : (given : List Row) → asked_by (Some (codes "vdiff", given)) ≡ vdiff_subcommand.meaning given
 unfolding asked_by
 asked_vdiff given = refl
 
@@ -140,8 +140,9 @@ pub returns-in-vdiff : goal.returns-in-vdiff
 returns-in-vdiff c =
     let is : subcommand_rows_of c.args.matches.now ≡ Some (c.in_ok-name.name.now, rows_of (found_of c.in_ok-name.given.now)) =
     met c.args.matches.now _ _ c.in_ok-name.ensures.name c.in_ok-name.ensures.rows in
-    ap asked_by (is ∙ ap (λ n. Some (n, rows_of (found_of c.in_ok-name.given.now))) c.in-vdiff.is) ∙ asked_vdiff (rows_of (found_of c.in_ok-name.given.now))
-    ∙ ap (λ v. Some (asks_vdiff v)) (sym c.vdiff_words.ensures)
+    subst (Asks c.vdiff_words.result)
+    (sym (ap asked_by (is ∙ ap (λ n. Some (n, rows_of (found_of c.in_ok-name.given.now))) c.in-vdiff.is) ∙ asked_vdiff (rows_of (found_of c.in_ok-name.given.now))))
+    c.vdiff_words.ensures
 
 pub returns-in_default : goal.returns-in_default
 returns-in_default c =

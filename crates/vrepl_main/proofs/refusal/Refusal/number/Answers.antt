@@ -22,5 +22,8 @@ returns-in-Memory c = search rules
 pub returns-in-Workflow : goal.returns-in-Workflow
 returns-in-Workflow c = search rules
 
+pub returns-in-NoStream : goal.returns-in-NoStream
+returns-in-NoStream c = search rules
+
 pub returns-in-FeedCount : goal.returns-in-FeedCount
 returns-in-FeedCount c = search rules

@@ -1,0 +1,102 @@
+//! Where the fault stands for which `check` refuses a workflow with its feeds.
+
+use feed_places::place_of;
+use filter_rule::{Plan, PlanFault};
+use source_feed::{Feed, FeedFault};
+use std::alloc::{AllocError, Global};
+use std::sync::Arc;
+use vdiff_core::{Out, put_all};
+use vrepl_main::{GivenFeed, given_feeds};
+use workflow_check::fault_text;
+
+/// The name of a stream's file.
+fn file_name<'f>(files: &[&'f str], i: usize) -> &'f str {
+    match files.get(i) {
+        None => "",
+        Some(file) => *file,
+    }
+}
+
+/// The place of a stream's fault.
+fn stream_place(
+    alloc: Global,
+    i: usize,
+    file: &str,
+    place: &str,
+) -> Result<Option<String>, AllocError> {
+    let text = format!(in alloc; "stream {i} file {file} {place}")?;
+    Ok(Some(text))
+}
+
+/// The place of the fault for which a stream's feed is refused.
+fn feed_place(
+    alloc: Global,
+    i: usize,
+    file: &str,
+    plan: &Plan,
+    feed: &[u8],
+    fault: FeedFault,
+) -> Result<Option<String>, AllocError> {
+    match place_of(alloc, plan, feed, fault) {
+        Ok(Some(place)) => stream_place(alloc, i, file, &place),
+        _ => Ok(None),
+    }
+}
+
+/// The place of the first fault for which a feed is refused.
+fn feeds_place(
+    alloc: Global,
+    files: &[&str],
+    plans: &[Arc<Plan>],
+    given: &[GivenFeed<'_>],
+) -> Result<Option<String>, AllocError> {
+    for i in 0..plans.len() {
+        let Some(feed) = given.get(i) else {
+            return Ok(None);
+        };
+        let Some(bytes) = feed.bytes() else {
+            return Ok(None);
+        };
+        if let Err(fault) = Feed::open(alloc, bytes, &plans[i]) {
+            return feed_place(alloc, i, file_name(files, i), &plans[i], bytes, fault);
+        }
+    }
+    Ok(None)
+}
+
+/// The place of the fault for which a workflow with its feeds is refused, if it has one.
+fn place_text(
+    alloc: Global,
+    hex: bool,
+    files: &[&str],
+    workflow: &[u8],
+    feeds: &[Vec<u8>],
+) -> Result<Option<String>, AllocError> {
+    let plans = match Plan::read_all(alloc, workflow) {
+        Ok(plans) => plans,
+        Err(PlanFault::Shape | PlanFault::Limit) => return fault_text(alloc, workflow),
+        Err(_) => return Ok(None),
+    };
+    if plans.len() != feeds.len() {
+        return Ok(None);
+    }
+    let given = given_feeds(alloc, hex, feeds)?;
+    feeds_place(alloc, files, &plans, &given)
+}
+
+/// Tells on `err`, behind the line of a refusal, where the fault stands, in a line that begins with `place `: of
+/// a workflow file that hasn't its shape or is past a limit the path and what was expected; of a feed with a
+/// broken message, an event that isn't read or a FIELD that differs the stream, its file, the message, its first
+/// byte, and how many whole groups stand before it. Tells nothing else, and nothing where memory is wanting. The
+/// workflow is the first input, and the feeds stand behind it.
+pub fn place_on<E: Out>(alloc: Global, hex: bool, files: &[&str], inputs: &[Vec<u8>], err: &mut E) {
+    let [workflow, feeds @ ..] = inputs else {
+        return;
+    };
+    let Ok(Some(place)) = place_text(alloc, hex, files, workflow, feeds) else {
+        return;
+    };
+    if let Ok(line) = format!(in alloc; "place {place}\n") {
+        let _ = put_all(err, line.as_bytes());
+    }
+}

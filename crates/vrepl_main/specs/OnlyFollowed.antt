@@ -1,0 +1,64 @@
+-- What `follow` makes where streams are named that are to run alone (this profile).
+use Rattle.std.specs.Prelude.{◌≡◌, ℕ, nat_lt, Bool, not, true, List, length, Option, Some, None, IfSome, IsSome, Result, Ok, slice_get}
+use Rattle.std.specs.List.{list_all}
+use Rattle.outcome.specs.Outcome.{◌>>=◌, refused_if}
+use Rattle.filter_rule.specs.PlanValue.{PlanValue}
+use Rattle.filter_rule.specs.Reading.{plans_of}
+use Rattle.source_feed.specs.Planned.{FeedValue}
+use Rattle.board_laws.specs.Meaning.{Meaning}
+use Rattle.board_laws.specs.Sources.{AllShowTheirSources}
+use Rattle.checkpoint_laws.specs.Written.{checkpoint_of}
+use Rattle.apply_core.specs.Fresh.{fresh_board}
+use Rattle.apply_core.specs.Resuming.{IsResumed}
+use Rattle.apply_core.specs.Shown.{all_rows}
+use Rattle.stream_worker.specs.Ended.{IsFedBoard, HaveEnded, AreAsBefore}
+use Rattle.vrepl_main.specs.Followed.{FollowedValue}
+use Rattle.vrepl_main.specs.HexText.{feed_bytes}
+use Rattle.vrepl_main.specs.JoinedRun.{IsOpenedAnd}
+use Rattle.vrepl_main.specs.Opening.{OpenedValue, opened_with, said_plans}
+use Rattle.vrepl_main.specs.Reasons.{Reason, no_stream}
+
+-- ---- what is opened
+
+-- each of these streams has a plan
+abbrev pub have_streams : List ℕ → List PlanValue → Bool
+have_streams only plans = list_all (λ s. nat_lt s (length plans)) only
+
+-- the plans of a workflow, which has these streams
+abbrev pub named_plans : List ℕ → List ℕ → Result (List PlanValue) Reason
+named_plans only workflow = said_plans (plans_of workflow) >>= λ plans. refused_if (not (have_streams only plans)) no_stream >>= λ _. Ok plans
+
+-- the faults of the workflow file, then the streams that are named, then the number of feeds, then the feeds in order
+abbrev pub opened_for : List ℕ → List ℕ → List (Option (List ℕ)) → Result OpenedValue Reason
+opened_for only workflow feeds = named_plans only workflow >>= opened_with feeds
+
+-- ---- the board
+
+-- the board of the checkpoint, where there is one, or else the one of which nothing is read
+abbrev pub IsStart : OpenedValue → Option (List ℕ) → Meaning → Type 0
+IsStart given None start = start ≡ fresh_board given.plans
+IsStart given (Some checkpoint) start = IsResumed given.feeds checkpoint start
+
+-- these streams stand at their feeds' ends, and the others as they did
+pub record IsMovedOn (feeds : List FeedValue) (only : List ℕ) (start board : Meaning) : Type 0 where
+  pub fed : IsFedBoard feeds board
+  pub ended : HaveEnded only feeds board
+  pub others : AreAsBefore only start board
+
+-- ---- the checkpoint
+
+-- the checkpoint of the board on which these streams have moved on, and that board's rows
+pub record IsOnlyFollowedBy (given : OpenedValue) (only : List ℕ) (checkpoint : Option (List ℕ)) (asked : Bool) (followed : FollowedValue) : Type 0 where
+  pub first : slice_get given.plans 0 ≡ Some followed.plan
+  pub start : Meaning
+  pub starts : IsStart given checkpoint start
+  pub board : Meaning
+  pub moved : IsMovedOn given.feeds only start board
+  pub sources : AllShowTheirSources given.feeds board
+  pub is_checkpoint : followed.checkpoint ≡ checkpoint_of board
+  pub are_rows : IfSome followed.rows (λ rows. rows ≡ all_rows board.rows)
+  pub given_rows : asked ≡ true → IsSome followed.rows
+
+-- there is something to follow, and this is the checkpoint
+abbrev pub IsOnlyFollowed : Result OpenedValue Reason → List ℕ → Option (List ℕ) → Bool → FollowedValue → Type 0
+IsOnlyFollowed reading only checkpoint asked followed = IsOpenedAnd reading (λ given. IsOnlyFollowedBy given only checkpoint asked followed)

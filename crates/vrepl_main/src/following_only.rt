@@ -1,0 +1,220 @@
+//! The subcommand `follow` where streams are named that are to run alone.
+
+ghost use Rattle.std.specs.Prelude.{◌≡◌, ◌<◌, ◌≤◌, ℕ, nat_lt, true, Ok, Some, IfOk, IfErr, length, map, slice_get};
+ghost use Rattle.std.specs.Arc.{arc_value};
+ghost use Rattle.std.specs.List.{list_all};
+ghost use Rattle.std.specs.Option.{option_map};
+ghost use Rattle.board_laws.specs.Meaning.{Meaning};
+ghost use Rattle.filter_rule.specs.WellFormed.{ArePlans};
+ghost use Rattle.apply_core.specs.Feeds.{AreFed};
+ghost use Rattle.apply_core.specs.Fresh.{fresh_board};
+ghost use Rattle.stream_worker.specs.Ended.{IsNamedStream, IsFedBoard};
+ghost use Rattle.stream_worker.specs.RunRefused.{EndsRun};
+ghost use Rattle.stream_worker.specs.declared.run_refusal.RunRefusal.{RunRefusal};
+ghost use Rattle.vrepl_main.specs.Followed.{RefusesFollow};
+ghost use Rattle.vrepl_main.specs.Given.{given_value};
+ghost use Rattle.vrepl_main.specs.HexText.{feed_bytes};
+ghost use Rattle.vrepl_main.specs.OnlyFollowed.{IsMovedOn, IsOnlyFollowed, IsStart, have_streams, named_plans, opened_for};
+ghost use Rattle.vrepl_main.specs.OpenedFeeds.{opened_value};
+ghost use Rattle.vrepl_main.specs.Reasons.{GivesOfInputs};
+ghost use Rattle.vrepl_main.specs.declared.following.Unfollowed.TheVariants.{Stream};
+
+use crate::at_once::open_feeds_at_once;
+use crate::following::{Course, Followed, Unfollowed, rows_where};
+use crate::given::{GivenFeed, given_feeds};
+use crate::opened::{Opened, open_feeds};
+use crate::refusal::Refusal;
+use crate::stepping::first_plan;
+use apply_core::{Board, fed_board, resume as resumed_board, save as checkpoint_of};
+use filter_rule::Plan;
+use source_feed::Feed;
+use std::alloc::{AllocError, Global};
+use std::sync::Arc;
+use std::thread::Threads;
+use stream_worker::{Policy, run_streams_alone};
+
+/// Moves these streams of a checkpoint on, over a workflow and its feeds, one in the order of the streams each: from the
+/// board that it makes with them, or from the beginning where there is none, these streams run to their feeds' ends, one
+/// after another, and the others stay as they stand. The answer is as `follow`'s. A stream of which nothing is read may
+/// have any feed, so that an empty one serves for each that isn't named.
+///
+/// Refused 115 behind the workflow and before the feeds where a stream isn't there, and else as `follow` refuses.
+pub fn follow_only<R: Threads + Sync>(
+    rt: &R,
+    alloc: Global,
+    hex: bool,
+    course: Course<'_>,
+    rows: bool,
+    only: &[u8],
+    checkpoint: Option<&[u8]>,
+    workflow: &[u8],
+    feeds: &[Vec<u8>],
+) -> Result<Followed, Unfollowed>
+    ensures followed { IfOk result (IsOnlyFollowed (opened_for only.now workflow.now (map (feed_bytes hex) (map (λ feed. feed.items) feeds.now))) only.now (option_map (λ bytes. bytes.now) checkpoint.entry) rows) }
+    ensures refused { IfErr result (λ refusal. RefusesFollow refusal (opened_for only.now workflow.now (map (feed_bytes hex) (map (λ feed. feed.items) feeds.now))) (option_map (λ bytes. bytes.now) checkpoint.entry)) }
+{
+    let given = given_feeds(alloc, hex, feeds)?;
+    follow_given(rt, alloc, course, rows, only, checkpoint, workflow, &given)
+}
+
+/// The same over the bytes of the feeds.
+fn follow_given<R: Threads + Sync>(
+    rt: &R,
+    alloc: Global,
+    course: Course<'_>,
+    rows: bool,
+    only: &[u8],
+    checkpoint: Option<&[u8]>,
+    workflow: &[u8],
+    given: &[GivenFeed<'_>],
+) -> Result<Followed, Unfollowed>
+    ensures followed { IfOk result (IsOnlyFollowed (opened_for only.now workflow.now (map given_value given.now)) only.now (option_map (λ bytes. bytes.now) checkpoint.entry) rows) }
+    ensures refused { IfErr result (λ refusal. RefusesFollow refusal (opened_for only.now workflow.now (map given_value given.now)) (option_map (λ bytes. bytes.now) checkpoint.entry)) }
+{
+    let opened = open_for(rt, alloc, course.alone, only, workflow, given)?;
+    let Opened { plans, feeds } = opened;
+    let plan = first_plan(&plans)?;
+    let named = Arc::clone(&plan)?;
+    let policy = course.policy;
+    let board = board_moved_on(alloc, policy, only, checkpoint, plans, &feeds, named)?;
+    let checkpoint = checkpoint_of(alloc, &board)?;
+    let rows = rows_where(alloc, rows, &board)?;
+    Ok(Followed {
+        plan,
+        checkpoint,
+        rows,
+    })
+}
+
+/// The workflow, which has these streams, with its feeds.
+fn open_for<'h, R: Threads + Sync>(
+    rt: &R,
+    alloc: Global,
+    alone: bool,
+    only: &[u8],
+    workflow: &[u8],
+    given: &'h [GivenFeed<'_>],
+) -> Result<Opened<'h>, Refusal<'static>>
+    ensures opened { GivesOfInputs opened_value result (opened_for only.now workflow.now (map given_value given.entry.now)) }
+    ensures plans { IfOk result (λ opened. ArePlans (map arc_value opened.plans.items)) }
+    ensures there { IfOk result (λ opened. have_streams only.now (map arc_value opened.plans.items) ≡ true) }
+{
+    let plans = named_plans(alloc, only, workflow)?;
+    if plans.len() != given.len() {
+        return Err(Refusal::FeedCount);
+    }
+    let feeds = if alone {
+        open_feeds(alloc, &plans, given)?
+    } else {
+        open_feeds_at_once(rt, alloc, &plans, given)?
+    };
+    Ok(Opened { plans, feeds })
+}
+
+/// The plans of a workflow, which has these streams.
+fn named_plans(
+    alloc: Global,
+    only: &[u8],
+    workflow: &[u8],
+) -> Result<Vec<Arc<Plan>>, Refusal<'static>>
+    ensures named { GivesOfInputs (λ plans. map arc_value plans.items) result (named_plans only.now workflow.now) }
+    ensures plans { IfOk result (λ plans. ArePlans (map arc_value plans.items)) }
+    ensures there { IfOk result (λ plans. have_streams only.now (map arc_value plans.items) ≡ true) }
+{
+    let plans = Plan::read_all(alloc, workflow)?;
+    if have_streams(only, &plans) {
+        Ok(plans)
+    } else {
+        Err(Refusal::NoStream)
+    }
+}
+
+/// Whether each of these streams has a plan.
+fn have_streams(only: &[u8], plans: &[Arc<Plan>]) -> bool
+    ensures { result ≡ have_streams only.now (map arc_value plans.now) }
+{
+    are_below(plans.len(), only)
+}
+
+/// Whether each of these numbers is below a count.
+fn are_below(count: usize, numbers: &[u8]) -> bool
+    ensures { result ≡ list_all (λ s. nat_lt s count) numbers.now }
+{
+    numbers.iter().all(|s| is_below(count, *s))
+}
+
+fn is_below(count: usize, number: u8) -> bool
+    ensures { result ≡ nat_lt number count }
+{
+    usize::from(number) < count
+}
+
+/// The board on which these streams have moved on, from that of the checkpoint or from the beginning.
+fn board_moved_on<'h>(
+    alloc: Global,
+    policy: &Policy,
+    only: &[u8],
+    checkpoint: Option<&[u8]>,
+    plans: Vec<Arc<Plan>>,
+    feeds: &[Feed<'h>],
+    plan: Arc<Plan>,
+) -> Result<Board<'h>, Unfollowed>
+    requires some { 1 ≤ length plans.items }
+    requires few { length plans.items ≤ 64 }
+    requires first { slice_get (map arc_value plans.items) 0 ≡ Some (arc_value plan) }
+    requires there { have_streams only.now (map arc_value plans.items) ≡ true }
+    ensures moved { IfOk result (λ board. (start : Meaning) × IsStart (record { plans = map arc_value plans.items; feeds = feeds.now }) (option_map (λ bytes. bytes.now) checkpoint.entry) start × IsMovedOn feeds.now only.now start board) }
+    ensures refused { IfErr result (λ refusal. RefusesFollow refusal (Ok (record { plans = map arc_value plans.items; feeds = feeds.now })) (option_map (λ bytes. bytes.now) checkpoint.entry)) }
+{
+    let Some(bytes) = checkpoint else {
+        let board = fresh_board(alloc, plans, feeds)?;
+        return move_on(alloc, policy, only, board, feeds, plan);
+    };
+    let board = match resumed_board(alloc, &plans, feeds, bytes) {
+        Ok(board) => board,
+        Err(fault) => return Err(Unfollowed::Checkpoint { plan, fault }),
+    };
+    move_on(alloc, policy, only, board, feeds, plan)
+}
+
+/// A board of which nothing is read, whose streams read these feeds. An error is want of memory, since the plans of a
+/// workflow have the same tables, and its feeds are opened under them.
+fn fresh_board<'h>(
+    alloc: Global,
+    plans: Vec<Arc<Plan>>,
+    feeds: &[Feed<'h>],
+) -> Result<Board<'h>, AllocError>
+    requires some { 1 ≤ length plans.items }
+    requires few { length plans.items ≤ 64 }
+    ensures fresh { IfOk result (λ board. board ≡ fresh_board (map arc_value plans.items)) }
+    ensures planned { IfOk result (λ _. AreFed (map arc_value plans.items) feeds.now) }
+    ensures fed { IfOk result (IsFedBoard feeds.now) }
+{
+    match fed_board(alloc, plans, feeds) {
+        Ok(board) => {
+            board.is_lawful();
+            Ok(board)
+        }
+        Err(_) => Err(AllocError),
+    }
+}
+
+/// The board on which these streams have moved on from where it stood.
+fn move_on<'h>(
+    alloc: Global,
+    policy: &Policy,
+    only: &[u8],
+    start: Board<'h>,
+    feeds: &[Feed<'h>],
+    plan: Arc<Plan>,
+) -> Result<Board<'h>, Unfollowed>
+    requires fed { IsFedBoard feeds.now start }
+    requires there { (s : ℕ) → IsNamedStream only.now s → s < length feeds.now }
+    ensures moved { IfOk result (IsMovedOn feeds.now only.now start.entry) }
+    ensures refused { IfErr result (λ refusal. (ended : RunRefusal) × (refusal ≡ Stream plan ended) × EndsRun feeds.now ended) }
+{
+    match run_streams_alone(alloc, start, feeds, only, policy) {
+        Ok(board) => Ok(board),
+        Err(refusal) => Err(Unfollowed::Stream { plan, refusal }),
+    }
+}
