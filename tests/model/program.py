@@ -98,7 +98,8 @@ def checked(is_hex, text, names, feeds):
     except Refused as refused:
         number = int(refused.line.split()[1])
         workflow = Workflow(text) if number in (81, 82, 85) else None
-        refused.line += place(text, workflow, names, [bytes_of_hex(it) if is_hex else it for it in feeds] if workflow else [], refused)
+        datas = (bytes_of_hex(it) if is_hex else it for it in feeds)  # one by one: none is read behind the one refused
+        refused.line += place(text, workflow, names, datas, refused)
         raise
 
 
