@@ -1,11 +1,11 @@
 -- Cutting blanks and words off the front of a text.
-use Rattle.std.proofs.Common.{◌≡◌, append_assoc, true≢false, option_and_then, ℕ, suc, zero, ◌<◌, ◌≤◌, ◌+◌, List, [], ◌∷◌, ◌++◌, length, take, drop, map, get_or, Bool, true, false, cond, Option, Some, None, option_map, refl, sym, ap, subst, ◌∙◌, arith}
+use Rattle.std.proofs.Common.{◌≡◌, true≢false, option_and_then, ℕ, suc, zero, ◌<◌, ◌≤◌, ◌+◌, List, [], ◌∷◌, ◌++◌, length, take, drop, map, get_or, Bool, true, false, cond, Option, Some, None, option_map, refl, sym, ap, subst, ◌∙◌, arith}
 use Rattle.std.specs.Prelude.{IsUtf8, ◌==◌}
 use Rattle.std.specs.Borrow.{Bor}
 use Rattle.std.specs.Str.{IsCharBoundary}
 use Rattle.std.specs.List.{list_all}
 use Rattle.std.proofs.lemmas.Bool.Decides.{nat_tests}
-use Rattle.std.proofs.lemmas.List.{map-append, append-nil}
+use Rattle.std.proofs.lemmas.List.{append-nil}
 use Rattle.std.proofs.lemmas.Str.{IsCharBoundary-start, IsCharBoundary-after_ascii}
 use Rattle.filter_text.specs.Lexemes.{Lexeme, word, mark, is_blank, is_word_byte, is_mark}
 use Rattle.filter_text.specs.Tokens.{tokens_of, until, with_token, as_name, as_quoted, begins_in_word, after_blanks, word_in_front}
@@ -164,7 +164,7 @@ all_read text front o e h =
 some_length : (b : ℕ) (s : List ℕ) → (length (b ∷ s) == 0) ≡ false
 some_length b s = grind (arith, nat_tests)
 
-no_bytes : (s : List ℕ) → (length s == 0) ≡ true → tokens_of s ≡ Some []
+pub no_bytes : (s : List ℕ) → (length s == 0) ≡ true → tokens_of s ≡ Some []
 unfolding tokens_of
 no_bytes [] h = refl
 no_bytes (b ∷ s) h = absurd (true≢false (sym h ∙ some_length b s))

@@ -2,6 +2,7 @@
 use Rattle.std.proofs.Common.{◌≡◌, ℕ, List, [], ◌∷◌, length, Bool, true, false, cond, Option, Some, None, Result, Ok, Err, option_map, option_and_then, refl, sym, ap, subst, ◌∙◌, codes, true≢false}
 use Rattle.std.specs.Prelude.{◌==◌, ◌&&◌, IfOk}
 use Rattle.std.specs.Str.{bytes_eq, str_eq_ignore_ascii_case}
+use Rattle.std.proofs.lemmas.Bool.{and_parts}
 use Rattle.std.proofs.lemmas.Slice.Eq.{bytes_eq-Decides}
 use Rattle.vindex.specs.Bounds.{Bounds}
 use Rattle.vindex.specs.RangeText.{key_range_of_text}
@@ -10,7 +11,8 @@ use Rattle.vindex.specs.declared.vindexes.Vindex.{Vindex}
 use Rattle.vindex.specs.declared.vindexes.Vindex.TheVariants.{Numeric, ReverseBits, Binary, BinaryMd5}
 use Rattle.filter_text.specs.Lexemes.{Lexeme, word, name, quoted, mark, is_key, is_this_mark, named, text_in_quotes}
 use Rattle.filter_text.specs.Tokens.{SpellsTokens, tokens_of}
-use Rattle.filter_text.specs.FilterText.{RowsSaid, every_row, in_own_range, in_range_of, FilterMeaning, without_table, selected, begins_with_select, Place, key, a_name, in_quotes, a_mark, Fill, condition_places, selection_places, WritesRange, Says, says_nothing, gives_range, selects, range_in, vindex_in, rows_of_own_range, named_rows, are_between, arguments_of, opens_condition, rows_of, opens_selection, table_rows, selection_of, filter_of}
+use Rattle.filter_text.specs.FilterText.{RowsSaid, every_row, in_own_range, in_range_of, FilterMeaning, without_table, selected, begins_with_select, Place, key, a_name, in_quotes, a_mark, Fill, condition_places, list_places, column_places, selection_places, AreColumns, WritesRange, Says, says_nothing, gives_range, selects, range_in, vindex_in, rows_of_own_range, named_rows, are_between, arguments_of, opens_condition, rows_of, from_table, table_rows, opens_all, all_of, listed_rows, behind_select, selection_of, filter_of}
+use Rattle.filter_text.specs.ColumnList.{column_of, last_column, with_column, columns_of, has_twice}
 use Rattle.filter_text.specs.Views.{Reads, meaning}
 use Rattle.filter_text.specs.declared.filter.Filter.{Filter}
 use Rattle.filter_text.specs.declared.fault.FilterFault.{FilterFault}
@@ -73,21 +75,91 @@ rows_back (a ∷ b ∷ []) range (in_range_of column vindex bounds) f w = absurd
 rows_back (a ∷ b ∷ c ∷ ts) range (in_range_of column vindex bounds) f w =
     ap (λ x. cond x (arguments_of ts) None) (opens a b c f.0 f.1.0 f.1.1.0) ∙ named_back ts column range vindex bounds f.1.1.1 w
 
-selection_opens : (a b c : Lexeme) → is_key (codes "select") a ≡ true → is_this_mark 42 b ≡ true → is_key (codes "from") c ≡ true → opens_selection a b c ≡ true
-selection_opens a b c f g h = rw (f, g, h) refl
+all_opens : (a b : Lexeme) → is_this_mark 42 a ≡ true → is_key (codes "from") b ≡ true → opens_all a b ≡ true
+all_opens a b f g = rw (f, g) refl
 
-table_read : (t : Lexeme) (ts : List Lexeme) (table : List ℕ) (rows : RowsSaid) → named t ≡ Some table → rows_of ts ≡ Some rows → table_rows t ts ≡ Some (selected table rows)
-table_read t ts table rows n r = rw (n, r) refl
+table_read : (t : Lexeme) (ts : List Lexeme) (table : List ℕ) (columns : Option (List (List ℕ))) (rows : RowsSaid) → named t ≡ Some table → rows_of ts ≡ Some rows → from_table columns t ts ≡ Some (selected table columns rows)
+table_read t ts table columns rows n r = rw (n, r) refl
 
-selection_back : (ts : List Lexeme) (table range : List ℕ) (rows : RowsSaid) → Fill ts (selection_places table range rows) → WritesRange range rows → selection_of ts ≡ Some (selected table rows)
+table_back : (ts : List Lexeme) (table : List ℕ) (columns : Option (List (List ℕ))) (range : List ℕ) (rows : RowsSaid) → Fill ts (a_name table ∷ condition_places range rows) → WritesRange range rows
+    → table_rows columns ts ≡ Some (selected table columns rows)
+unfolding table_rows
+table_back [] table columns range rows f w = absurd f
+table_back (t ∷ ts) table columns range rows f w = table_read t ts table columns rows f.0 (rows_back ts range rows f.1 w)
+
+-- ---- listed columns
+
+-- the tokens behind a list
+record Behind (ts : List Lexeme) (columns : List (List ℕ)) (places : List Place) : Type 0 where
+  rest : List Lexeme
+  is : columns_of ts ≡ Some (columns, rest)
+  fill : Fill rest places
+
+no_comma_key : (m : Lexeme) (k : List ℕ) → is_this_mark 44 m ≡ true → is_key k m ≡ false
+no_comma_key (word w) k h = let e : false ≡ true = h in cc
+no_comma_key (name n) k h = let e : false ≡ true = h in cc
+no_comma_key (quoted q) k h = let e : false ≡ true = h in cc
+no_comma_key (mark m) k h = refl
+
+last_is : (a b : Lexeme) (ts : List Lexeme) (c : List ℕ) → column_of a ≡ Some c → is_key (codes "from") b ≡ true → columns_of (a ∷ b ∷ ts) ≡ Some (c ∷ [], ts)
+unfolding columns_of
+last_is a b ts c f g = rw (g, f) refl
+
+more_is : (a b : Lexeme) (ts : List Lexeme) (c : List ℕ) (columns : List (List ℕ)) (rest : List Lexeme) → column_of a ≡ Some c → is_this_mark 44 b ≡ true → columns_of ts ≡ Some (columns, rest) → columns_of (a ∷ b ∷ ts) ≡ Some (c ∷ columns, rest)
+unfolding columns_of
+more_is a b ts c columns rest f g h = rw (no_comma_key b (codes "from") g, g, f, h) refl
+
+list_back : (ts : List Lexeme) (c : List ℕ) (cs : List (List ℕ)) (places : List Place) → Fill ts (list_places (c ∷ cs) places) → Behind ts (c ∷ cs) places
+list_back [] c [] places f = absurd f
+list_back [] c (d ∷ cs) places f = absurd f
+list_back (a ∷ []) c [] places f = absurd f.1
+list_back (a ∷ []) c (d ∷ cs) places f = absurd f.1
+list_back (a ∷ b ∷ ts) c [] places f = record { rest = ts; is = last_is a b ts c f.0 f.1.0; fill = f.1.1 }
+list_back (a ∷ b ∷ ts) c (d ∷ cs) places f =
+    let more = list_back ts d cs places f.1.1 in
+    record { rest = more.rest; is = more_is a b ts c (d ∷ cs) more.rest f.0 f.1.0 more.is; fill = more.fill }
+
+-- a list doesn't begin with `*`
+no_star : (a : Lexeme) (ts : List Lexeme) (c : List ℕ) → column_of a ≡ Some c → all_of (a ∷ ts) ≡ None
+unfolding all_of
+no_star (word w) [] c h = refl
+no_star (word w) (b ∷ ts) c h = refl
+no_star (name n) [] c h = refl
+no_star (name n) (b ∷ ts) c h = refl
+no_star (quoted q) ts c h = cc
+no_star (mark m) ts c h = cc
+
+list_opens : (ts : List Lexeme) (c : List ℕ) (cs : List (List ℕ)) (places : List Place) → Fill ts (list_places (c ∷ cs) places) → all_of ts ≡ None
+list_opens [] c [] places f = absurd f
+list_opens [] c (d ∷ cs) places f = absurd f
+list_opens (a ∷ ts) c [] places f = no_star a ts c f.0
+list_opens (a ∷ ts) c (d ∷ cs) places f = no_star a ts c f.0
+
+listed_back : (ts : List Lexeme) (table : List ℕ) (c : List ℕ) (cs : List (List ℕ)) (range : List ℕ) (rows : RowsSaid) → has_twice (c ∷ cs) ≡ false → Fill ts (list_places (c ∷ cs) (a_name table ∷ condition_places range rows)) → WritesRange range rows
+    → option_and_then listed_rows (columns_of ts) ≡ Some (selected table (Some (c ∷ cs)) rows)
+listed_back ts table c cs range rows once f w =
+    let list = list_back ts c cs (a_name table ∷ condition_places range rows) f in
+    ap (option_and_then listed_rows) list.is
+    ∙ ap (λ b. cond b None (table_rows (Some (c ∷ cs)) list.rest)) once
+    ∙ table_back list.rest table (Some (c ∷ cs)) range rows list.fill w
+
+behind_back : (ts : List Lexeme) (table : List ℕ) (columns : Option (List (List ℕ))) (range : List ℕ) (rows : RowsSaid) → AreColumns columns → Fill ts (column_places columns (a_name table ∷ condition_places range rows)) → WritesRange range rows
+    → behind_select ts (all_of ts) ≡ Some (selected table columns rows)
+unfolding all_of
+behind_back [] table None range rows are f w = absurd f
+behind_back (a ∷ []) table None range rows are f w = absurd f.1
+behind_back (a ∷ b ∷ ts) table None range rows are f w =
+    ap (λ x. behind_select (a ∷ b ∷ ts) (cond x (Some ts) None)) (all_opens a b f.0 f.1.0) ∙ table_back ts table None range rows f.1.1 w
+behind_back ts table (Some []) range rows are f w = absurd (are.0 refl)
+behind_back ts table (Some (c ∷ cs)) range rows are f w =
+    ap (behind_select ts) (list_opens ts c cs (a_name table ∷ condition_places range rows) f) ∙ listed_back ts table c cs range rows are.1 f w
+
+selection_back : (ts : List Lexeme) (table : List ℕ) (columns : Option (List (List ℕ))) (range : List ℕ) (rows : RowsSaid) → AreColumns columns → Fill ts (selection_places table columns range rows) → WritesRange range rows
+    → selection_of ts ≡ Some (selected table columns rows)
 unfolding selection_of
-selection_back [] table range rows f w = absurd f
-selection_back (a ∷ []) table range rows f w = absurd f.1
-selection_back (a ∷ b ∷ []) table range rows f w = absurd f.1.1
-selection_back (a ∷ b ∷ c ∷ []) table range rows f w = absurd f.1.1.1
-selection_back (a ∷ b ∷ c ∷ t ∷ ts) table range rows f w =
-    ap (λ x. cond x (table_rows t ts) None) (selection_opens a b c f.0 f.1.0 f.1.1.0)
-    ∙ table_read t ts table rows f.1.1.1.0 (rows_back ts range rows f.1.1.1.1 w)
+selection_back [] table columns range rows are f w = absurd f
+selection_back (a ∷ ts) table columns range rows are f w =
+    ap (λ x. cond x (behind_select ts (all_of ts)) None) f.0 ∙ behind_back ts table columns range rows are f.1 w
 
 selects_first : (ts : List Lexeme) (text : List ℕ) (places : List Place) → SpellsTokens ts text → Fill ts (key (codes "select") ∷ places) → begins_with_select text ≡ true
 selects_first [] text places spells f = absurd f
@@ -107,9 +179,9 @@ pub filter_of_says : (text : List ℕ) (said : FilterMeaning) → Says text said
 unfolding filter_of
 filter_of_says text said (says_nothing empty is) = rw (empty, is) refl
 filter_of_says text said (gives_range bounds some other read is) = rw (some_length text some, other, read, is) refl
-filter_of_says text said (selects ts table range rows spells fill writes is) =
-    let first = selects_first ts text (a_mark 42 ∷ key (codes "from") ∷ a_name table ∷ condition_places range rows) spells fill in
-    rw (begins_not_empty text first, first, read_of_spelled ts text spells) (selection_back ts table range rows fill writes ∙ ap Some (sym is))
+filter_of_says text said (selects ts table columns range rows spells fill are writes is) =
+    let first = selects_first ts text (column_places columns (a_name table ∷ condition_places range rows)) spells fill in
+    rw (begins_not_empty text first, first, read_of_spelled ts text spells) (selection_back ts table columns range rows are fill writes ∙ ap Some (sym is))
 
 -- ---- what is read is written
 
@@ -227,33 +299,111 @@ rows_parts (a ∷ []) rows h = cc
 rows_parts (a ∷ b ∷ []) rows h = cc
 rows_parts (a ∷ b ∷ c ∷ ts) rows h = condition_at a b c ts rows h
 
-pub record TableFound (t : Option (List ℕ)) (r : Option RowsSaid) (said : FilterMeaning) : Type 0 where
+pub record TableFound (t : Option (List ℕ)) (r : Option RowsSaid) (columns : Option (List (List ℕ))) (said : FilterMeaning) : Type 0 where
   pub table : List ℕ
   pub rows : RowsSaid
   pub table_is : t ≡ Some table
   pub rows_is : r ≡ Some rows
-  pub is : selected table rows ≡ said
+  pub is : selected table columns rows ≡ said
 
-table_found : (t : Option (List ℕ)) (r : Option RowsSaid) (said : FilterMeaning) → option_and_then (λ table. option_and_then (λ rows. Some (selected table rows)) r) t ≡ Some said → TableFound t r said
-table_found None r said h = cc
-table_found (Some table) None said h = cc
-table_found (Some table) (Some rows) said h = record { table = table; rows = rows; table_is = refl; rows_is = refl; is = same_some (selected table rows) said h }
+table_found : (t : Option (List ℕ)) (r : Option RowsSaid) (columns : Option (List (List ℕ))) (said : FilterMeaning) → option_and_then (λ table. option_and_then (λ rows. Some (selected table columns rows)) r) t ≡ Some said → TableFound t r columns said
+table_found None r columns said h = cc
+table_found (Some table) None columns said h = cc
+table_found (Some table) (Some rows) columns said h = record { table = table; rows = rows; table_is = refl; rows_is = refl; is = same_some (selected table columns rows) said h }
 
-selection_at : (a b c t : Lexeme) (ts : List Lexeme) (text : List ℕ) (said : FilterMeaning) → SpellsTokens (a ∷ b ∷ c ∷ t ∷ ts) text → cond (opens_selection a b c) (table_rows t ts) None ≡ Some said → Says text said
-selection_at a b c t ts text said spells h =
-    let opened = chosen (opens_selection a b c) (table_rows t ts) said h in
-    let three = all_three (is_key (codes "select") a) (is_this_mark 42 b) (is_key (codes "from") c) opened.0 in
-    let found = table_found (named t) (rows_of ts) said opened.1 in
+-- what stands behind `from` is a table and a condition for these rows
+record TableRows (ts : List Lexeme) (columns : Option (List (List ℕ))) (said : FilterMeaning) : Type 0 where
+  table : List ℕ
+  range : List ℕ
+  rows : RowsSaid
+  writes : WritesRange range rows
+  fill : Fill ts (a_name table ∷ condition_places range rows)
+  is : said ≡ selected table columns rows
+
+table_parts : (ts : List Lexeme) (columns : Option (List (List ℕ))) (said : FilterMeaning) → table_rows columns ts ≡ Some said → TableRows ts columns said
+unfolding table_rows
+table_parts [] columns said h = cc
+table_parts (t ∷ ts) columns said h =
+    let found = table_found (named t) (rows_of ts) columns said h in
     let parts = rows_parts ts found.rows found.rows_is in
-    selects (a ∷ b ∷ c ∷ t ∷ ts) found.table parts.range found.rows spells (three.0, (three.1, (three.2, (found.table_is, parts.fill)))) parts.writes (sym found.is)
+    record { table = found.table; range = parts.range; rows = found.rows; writes = parts.writes; fill = (found.table_is, parts.fill); is = sym found.is }
+
+-- listed columns, and what fills the places of a list that goes on so
+record ListParts (ts rest : List Lexeme) (columns : List (List ℕ)) : Type 0 where
+  first : List ℕ
+  others : List (List ℕ)
+  is : columns ≡ first ∷ others
+  fill : (places : List Place) → Fill rest places → Fill ts (list_places (first ∷ others) places)
+
+columns_found : {A B : Type 0} (f : A → B) (o : Option A) (y : B) → option_map f o ≡ Some y → (x : A) × (o ≡ Some x) × (f x ≡ y)
+columns_found f None y h = cc
+columns_found f (Some x) y h = (x, refl, same_some (f x) y h)
+
+list_parts_at : (a b : Lexeme) (ts rest : List Lexeme) (columns : List (List ℕ)) (from comma : Bool) (column : Option (List ℕ)) → is_key (codes "from") b ≡ from → is_this_mark 44 b ≡ comma → column_of a ≡ column
+    → cond from (option_map (last_column ts) column) (cond comma (option_and_then (λ name. option_map (with_column name) (columns_of ts)) column) None) ≡ Some (columns, rest)
+    → ((more : List (List ℕ)) (left : List Lexeme) → columns_of ts ≡ Some (more, left) → ListParts ts left more) → ListParts (a ∷ b ∷ ts) rest columns
+list_parts_at a b ts rest columns true comma None e f g h more = cc
+list_parts_at a b ts rest columns true comma (Some c) e f g h more =
+    let same : last_column ts c ≡ (columns, rest) = same_some (last_column ts c) (columns, rest) h in
+    let left : ts ≡ rest = ap (λ (p : List (List ℕ) × List Lexeme). p.1) same in
+    record { first = c; others = []; is = sym (ap (λ (p : List (List ℕ) × List Lexeme). p.0) same); fill = λ places fill. (g, (e, subst (λ (xs : List Lexeme). Fill xs places) (sym left) fill)) }
+list_parts_at a b ts rest columns false false column e f g h more = cc
+list_parts_at a b ts rest columns false true None e f g h more = cc
+list_parts_at a b ts rest columns false true (Some c) e f g h more =
+    let found = columns_found (with_column c) (columns_of ts) (columns, rest) h in
+    let parts = more found.0.0 found.0.1 found.1 in
+    let left : found.0.1 ≡ rest = ap (λ (p : List (List ℕ) × List Lexeme). p.1) found.2 in
+    record {
+      first = c;
+      others = parts.first ∷ parts.others;
+      is = sym (ap (λ (p : List (List ℕ) × List Lexeme). p.0) found.2) ∙ ap (λ more. c ∷ more) parts.is;
+      fill = λ places fill. (g, (f, parts.fill places (subst (λ (xs : List Lexeme). Fill xs places) (sym left) fill)));
+    }
+
+list_parts : (ts rest : List Lexeme) (columns : List (List ℕ)) → columns_of ts ≡ Some (columns, rest) → ListParts ts rest columns
+unfolding columns_of
+list_parts [] rest columns h = cc
+list_parts (a ∷ []) rest columns h = cc
+list_parts (a ∷ b ∷ ts) rest columns h =
+    list_parts_at a b ts rest columns (is_key (codes "from") b) (is_this_mark 44 b) (column_of a) refl refl refl h (λ more left is. list_parts ts left more is)
+
+once_chosen : {A : Type 0} (x : Bool) (o : Option A) (y : A) → cond x None o ≡ Some y → (x ≡ false) × (o ≡ Some y)
+once_chosen true o y h = cc
+once_chosen false o y h = (refl, h)
+
+no_nil : {A : Type 0} (x : A) (xs : List A) → (x ∷ xs) ≡ [] → ⊥
+no_nil x xs e = cc
+
+listed_says : (o : Option (List (List ℕ) × List Lexeme)) (s : Lexeme) (ts : List Lexeme) (text : List ℕ) (said : FilterMeaning) → columns_of ts ≡ o → SpellsTokens (s ∷ ts) text → is_key (codes "select") s ≡ true → option_and_then listed_rows o ≡ Some said → Says text said
+listed_says None s ts text said is spells opens h = cc
+listed_says (Some (columns, rest)) s ts text said is spells opens h =
+    let chosen = once_chosen (has_twice columns) (table_rows (Some columns) rest) said h in
+    let rows = table_parts rest (Some columns) said chosen.1 in
+    let list = list_parts ts rest columns is in
+    selects (s ∷ ts) rows.table (Some (list.first ∷ list.others)) rows.range rows.rows spells (opens, list.fill (a_name rows.table ∷ condition_places rows.range rows.rows) rows.fill)
+    (no_nil list.first list.others, ap has_twice (sym list.is) ∙ chosen.0) rows.writes (rows.is ∙ ap (λ more. selected rows.table (Some more) rows.rows) list.is)
+
+all_found : (ts rest : List Lexeme) → all_of ts ≡ Some rest → (places : List Place) → Fill rest places → Fill ts (column_places None places)
+unfolding all_of
+all_found [] rest h places fill = cc
+all_found (a ∷ []) rest h places fill = cc
+all_found (a ∷ b ∷ ts) rest h places fill =
+    let opened = chosen (opens_all a b) (Some ts) rest h in
+    let two = and_parts (is_this_mark 42 a) (is_key (codes "from") b) opened.0 in
+    (two.0, (two.1, subst (λ (xs : List Lexeme). Fill xs places) (sym (same_some ts rest opened.1)) fill))
+
+behind_says : (all : Option (List Lexeme)) (s : Lexeme) (ts : List Lexeme) (text : List ℕ) (said : FilterMeaning) → all_of ts ≡ all → SpellsTokens (s ∷ ts) text → is_key (codes "select") s ≡ true → behind_select ts all ≡ Some said → Says text said
+behind_says None s ts text said is spells opens h = listed_says (columns_of ts) s ts text said refl spells opens h
+behind_says (Some rest) s ts text said is spells opens h =
+    let rows = table_parts rest None said h in
+    selects (s ∷ ts) rows.table None rows.range rows.rows spells (opens, all_found ts rest is (a_name rows.table ∷ condition_places rows.range rows.rows) rows.fill) tt rows.writes rows.is
 
 selection_says : (ts : List Lexeme) (text : List ℕ) (said : FilterMeaning) → SpellsTokens ts text → selection_of ts ≡ Some said → Says text said
 unfolding selection_of
 selection_says [] text said spells h = cc
-selection_says (a ∷ []) text said spells h = cc
-selection_says (a ∷ b ∷ []) text said spells h = cc
-selection_says (a ∷ b ∷ c ∷ []) text said spells h = cc
-selection_says (a ∷ b ∷ c ∷ t ∷ ts) text said spells h = selection_at a b c t ts text said spells h
+selection_says (s ∷ ts) text said spells h =
+    let opened = chosen (is_key (codes "select") s) (behind_select ts (all_of ts)) said h in
+    behind_says (all_of ts) s ts text said refl spells opened.0 opened.1
 
 tokens_say : (o : Option (List Lexeme)) (text : List ℕ) (said : FilterMeaning) → tokens_of text ≡ o → option_and_then selection_of o ≡ Some said → Says text said
 tokens_say None text said is h = cc

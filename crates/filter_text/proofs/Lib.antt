@@ -2,7 +2,9 @@ pub mod ByteLaws
 pub mod SpanLaws
 pub mod TokenLaws
 pub mod CutLaws
+pub mod ListLaws
 pub mod SpellLaws
 pub mod FormLaws
 pub mod SliceLaws
+pub mod SelectionLaws
 pub mod SpellingLaws

@@ -1,5 +1,6 @@
 pub mod Lexemes
 pub mod Tokens
+pub mod ColumnList
 pub mod FilterText
 pub mod Spelling
 pub mod RuleScope

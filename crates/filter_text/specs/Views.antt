@@ -26,7 +26,7 @@ rows_said (Named column vindex range) = in_range_of column.now vindex range
 
 -- what a filter that was read says
 abbrev pub meaning : Filter → FilterMeaning
-meaning filter = record { table = option_map (λ t. t.now) filter.table; rows = rows_said filter.rows }
+meaning filter = record { table = option_map (λ t. t.now) filter.table; columns = filter.columns; rows = rows_said filter.rows }
 
 abbrev pub scope_said : Scope → TablesSaid
 scope_said EveryTable = every_table

@@ -1,13 +1,14 @@
 //! What a filter's text says.
 
-ghost use Rattle.std.specs.Prelude.{◌≡◌, ℕ, List, IfOk, Some};
+ghost use Rattle.std.specs.Prelude.{◌≡◌, ℕ, List, Option, IfOk, Some};
 ghost use Rattle.filter_text.specs.FilterText.{RowsSaid, FilterMeaning, selected, Says, begins_with_select, filter_of};
 ghost use Rattle.filter_text.specs.Spelling.{IsSpelling};
 ghost use Rattle.filter_text.specs.Views.{Reads, meaning};
 
 use crate::fault::FilterFault;
 use crate::form::{key_range, selection};
-use crate::tokens::{first_word, tokens_of};
+use crate::list::ColumnList;
+use crate::tokens::first_word;
 use std::alloc::Global;
 use vindex::{KeyRange, Vindex};
 
@@ -37,6 +38,8 @@ pub enum Rows<'t> {
 pub struct Filter<'t> {
     /// The table that the filter selects from, if it is a `select`.
     pub table: Option<&'t str>,
+    /// The columns that it lists, one or more and none of them twice; `None`, where it keeps all.
+    pub columns: Option<ColumnList<'t>>,
     /// The rows.
     pub rows: Rows<'t>,
 }
@@ -49,12 +52,13 @@ fn begins_with_select(text: &str) -> bool
 
 impl<'t> Filter<'t> {
     /// Reads a filter's text: nothing, for every row; a key range under the table's own vindex; or,
-    /// where its first word is `select`, `select * from` a table, for every row of it or `where
-    /// in_keyrange` says. Key words are in any case, blanks, tabs, CR and LF may part tokens, and a name
-    /// between backquotes is never a key word. `BadForm` is for every other text, also for one whose
-    /// vindex or key range is none, whatever memory there is; which tables and columns there are isn't
-    /// asked. Memory is taken for the bounds of a key range alone, behind all judgement: `Memory` where
-    /// the allocator gave none for a text that is a filter.
+    /// where its first word is `select`, `select * from` a table, or the names of columns parted by
+    /// commas in place of the `*`, for every row of it or `where in_keyrange` says. Key words are in any
+    /// case, blanks, tabs, CR and LF may part tokens, and a name between backquotes is never a key word;
+    /// without backquotes `from` is no column's name in a list. `BadForm` is for every other text, also
+    /// for one that lists a column twice or whose vindex or key range is none, whatever memory there is;
+    /// which tables and columns there are isn't asked. Memory is taken for the bounds of a key range
+    /// alone, behind all judgement: `Memory` where the allocator gave none for a text that is a filter.
     pub fn parse(alloc: Global, text: &'t str) -> Result<Filter<'t>, FilterFault>
         ensures exact { Reads meaning result (filter_of text.now) }
         // What is read is what the text says.
@@ -62,8 +66,8 @@ impl<'t> Filter<'t> {
         // What a text says is read, unless memory ran out; what says nothing is refused as such.
         ensures only { (said : FilterMeaning) → Says text.now said → Reads meaning result (Some said) }
         // Each selection has a text, and that text is read as it.
-        ensures spelled { (table range : List ℕ) (rows : RowsSaid)
-            → IsSpelling text.now table range rows → Reads meaning result (Some (selected table rows)) }
+        ensures spelled { (table : List ℕ) (columns : Option (List (List ℕ))) (range : List ℕ) (rows : RowsSaid)
+            → IsSpelling text.now table columns range rows → Reads meaning result (Some (selected table columns rows)) }
     {
         filter_of(alloc, text)
     }
@@ -77,18 +81,17 @@ fn filter_of(alloc: Global, text: &str) -> Result<Filter<'_>, FilterFault>
     if text.is_empty() {
         return Ok(Filter {
             table: None,
+            columns: None,
             rows: Rows::EveryRow,
         });
     }
     if begins_with_select(text) {
-        let Some(tokens) = tokens_of(text) else {
-            return Err(FilterFault::BadForm);
-        };
-        return selection(alloc, tokens.as_slice());
+        return selection(alloc, text);
     }
     let range = key_range(alloc, text)?;
     Ok(Filter {
         table: None,
+        columns: None,
         rows: Rows::OwnVindex { range },
     })
 }

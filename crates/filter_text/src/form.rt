@@ -1,14 +1,20 @@
 //! The forms of a filter by its tokens.
 
-ghost use Rattle.std.specs.Prelude.{◌≡◌, map, option_map};
+ghost use Rattle.std.specs.Prelude.{◌≡◌, None, map, option_map, option_and_then, IfSome, IfNone};
 ghost use Rattle.vindex.specs.RangeText.{key_range_of_text};
-ghost use Rattle.filter_text.specs.FilterText.{range_in, vindex_in, rows_of_own_range, named_rows, are_between, arguments_of, table_rows, opens_condition, rows_of, opens_selection, selection_of};
+ghost use Rattle.filter_text.specs.FilterText.{range_in, vindex_in, rows_of_own_range, named_rows, are_between, arguments_of, opens_condition, rows_of, from_table, table_rows, all_of, listed_rows, behind_select, selection_of};
+ghost use Rattle.filter_text.specs.ColumnList.{list_of};
 ghost use Rattle.filter_text.specs.Lexemes.{named, text_in_quotes};
+ghost use Rattle.filter_text.specs.Private.Listing.{IsListBefore, IsAllBefore};
+ghost use Rattle.filter_text.specs.Tokens.{tokens_of};
 ghost use Rattle.filter_text.specs.Views.{Reads, lexeme, rows_said, meaning};
 
+use crate::column::behind_list;
 use crate::fault::FilterFault;
 use crate::filter::{Filter, Rows};
+use crate::list::ColumnList;
 use crate::token::Token;
+use crate::tokens::{next_token, tokens_of};
 use std::alloc::Global;
 use vindex::{KeyRange, Vindex, VindexFault};
 
@@ -123,20 +129,14 @@ fn condition<'t>(alloc: Global, tokens: &[Token<'t>]) -> Result<Rows<'t>, Filter
     }
 }
 
-/// Whether these are `select * from`.
-fn opens_selection(first: &Token<'_>, star: &Token<'_>, from: &Token<'_>) -> bool
-    ensures { result ≡ opens_selection (lexeme first.now) (lexeme star.now) (lexeme from.now) }
-{
-    first.is_key("select") && star.is_mark(b'*') && from.is_key("from")
-}
-
-/// `select * from` a table, and a condition.
-fn table_rows<'t>(
+/// A table, and a condition, for these columns.
+fn from_table<'t>(
     alloc: Global,
+    columns: Option<ColumnList<'t>>,
     table: &Token<'t>,
     tokens: &[Token<'t>],
 ) -> Result<Filter<'t>, FilterFault>
-    ensures { Reads meaning result (table_rows (lexeme table.now) (map lexeme tokens.now)) }
+    ensures { Reads meaning result (from_table columns.entry (lexeme table.now) (map lexeme tokens.now)) }
 {
     let Some(table) = table.name() else {
         return Err(FilterFault::BadForm);
@@ -144,22 +144,77 @@ fn table_rows<'t>(
     let rows = condition(alloc, tokens)?;
     Ok(Filter {
         table: Some(table),
+        columns,
         rows,
     })
 }
 
-/// The selection that these tokens write.
-pub fn selection<'t>(alloc: Global, tokens: &[Token<'t>]) -> Result<Filter<'t>, FilterFault>
-    ensures { Reads meaning result (selection_of (map lexeme tokens.now)) }
+/// What stands behind `from`, for these columns.
+fn table_rows<'t>(
+    alloc: Global,
+    columns: Option<ColumnList<'t>>,
+    tokens: &[Token<'t>],
+) -> Result<Filter<'t>, FilterFault>
+    ensures { Reads meaning result (table_rows columns.entry (map lexeme tokens.now)) }
 {
     match tokens {
-        [first, star, from, table, rest @ ..] => {
-            if opens_selection(first, star, from) {
-                table_rows(alloc, table, rest)
-            } else {
-                Err(FilterFault::BadForm)
-            }
-        }
+        [table, rest @ ..] => from_table(alloc, columns, table, rest),
+        [] => Err(FilterFault::BadForm),
+    }
+}
+
+/// The text behind `* from`.
+fn behind_all(text: &str) -> Option<&str>
+    ensures some { IfSome result (λ rest. IsAllBefore text.now rest.now) }
+    ensures none { IfNone result (option_and_then all_of (tokens_of text.now) ≡ None) }
+{
+    let (star, behind) = next_token(text)?;
+    let (from, behind) = next_token(behind)?;
+    if star.is_mark(b'*') && from.is_key("from") {
+        Some(behind)
+    } else {
+        None
+    }
+}
+
+/// The table and the condition of `rest`, for the columns of the list that `list` begins with and that
+/// ends before `rest`.
+fn listed_rows<'t>(alloc: Global, list: &'t str, rest: &'t str) -> Result<Filter<'t>, FilterFault>
+    requires { IsListBefore list.now rest.now }
+    ensures { Reads meaning result (option_and_then listed_rows (list_of list.now)) }
+{
+    let Some(tokens) = tokens_of(rest) else {
+        return Err(FilterFault::BadForm);
+    };
+    let columns = ColumnList::new(list);
+    if columns.has_twice() {
+        return Err(FilterFault::BadForm);
+    }
+    table_rows(alloc, Some(columns), tokens.as_slice())
+}
+
+/// What a text says behind its `select`.
+fn behind_select(alloc: Global, text: &str) -> Result<Filter<'_>, FilterFault>
+    ensures { Reads meaning result (option_and_then (λ tokens. behind_select tokens (all_of tokens)) (tokens_of text.now)) }
+{
+    if let Some(rest) = behind_all(text) {
+        let Some(tokens) = tokens_of(rest) else {
+            return Err(FilterFault::BadForm);
+        };
+        return table_rows(alloc, None, tokens.as_slice());
+    }
+    match behind_list(text) {
+        Some(rest) => listed_rows(alloc, text, rest),
+        None => Err(FilterFault::BadForm),
+    }
+}
+
+/// The selection that a text writes.
+pub fn selection(alloc: Global, text: &str) -> Result<Filter<'_>, FilterFault>
+    ensures { Reads meaning result (option_and_then selection_of (tokens_of text.now)) }
+{
+    match next_token(text) {
+        Some((first, behind)) if first.is_key("select") => behind_select(alloc, behind),
         _ => Err(FilterFault::BadForm),
     }
 }

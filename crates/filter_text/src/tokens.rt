@@ -6,12 +6,13 @@ ghost use Rattle.filter_text.specs.Lexemes.{is_blank, is_word_byte, is_mark};
 ghost use Rattle.filter_text.specs.Tokens.{tokens_of, until, as_name, as_quoted, begins_in_word, after_blanks, word_in_front, first_word};
 ghost use Rattle.filter_text.specs.Views.{lexeme};
 ghost use Rattle.filter_text.specs.Private.Cutting.{IsCut, IsUntil, begins_in_blank, front_len};
+ghost use Rattle.filter_text.specs.Private.Listing.{IsNext};
 
 use crate::token::Token;
 use arrayvec::ArrayVec;
 
-/// The longest selection: `select * from t where in_keyrange(c, 'v', 'r')`.
-const MOST_TOKENS: usize = 13;
+/// The most that stand behind the `from` of a selection: `t where in_keyrange(c, 'v', 'r')`.
+const MOST_TOKENS: usize = 10;
 
 fn is_blank(b: u8) -> bool
     ensures { result ≡ is_blank b }
@@ -156,11 +157,23 @@ fn first_token(text: &str) -> Option<(Token<'_>, &str)>
     }
 }
 
-/// The tokens of a text. `None` is for a text that has none, or more than any selection has. Takes no
-/// memory.
+/// The token that a text begins with, behind blanks, and what follows it; `None`, where none stands there.
+pub fn next_token(text: &str) -> Option<(Token<'_>, &str)>
+    ensures next { IsNext (tokens_of text.now) result }
+    ensures shorter { IfSome result (λ p. length p.1.now < length text.now) }
+{
+    let text = skip_blanks(text);
+    if text.is_empty() {
+        return None;
+    }
+    first_token(text)
+}
+
+/// The tokens of a text. `None` is for a text that has none, or more than any selection has behind
+/// its `from`. Takes no memory.
 pub fn tokens_of<'t>(text: &'t str) -> Option<ArrayVec<Token<'t>, MOST_TOKENS>>
     ensures some { IfSome result (λ tokens. tokens_of text.now ≡ Some (map lexeme tokens.items)) }
-    ensures none { IfNone result (IfSome (tokens_of text.now) (λ tokens. 13 < length tokens)) }
+    ensures none { IfNone result (IfSome (tokens_of text.now) (λ tokens. 10 < length tokens)) }
 {
     let mut tokens = ArrayVec::new();
     let mut rest = skip_blanks(text);

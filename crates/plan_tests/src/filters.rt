@@ -86,6 +86,57 @@ fn forms_of_filters(rt: HostRuntime) {
     assert!(rt; are_filters(rt.alloc(), FORMS));
 }
 
+/// Texts, and the columns that the filters list.
+const LISTS: &[(&str, &[&str])] = &[
+    ("select a from t", &["a"]),
+    ("select v, id from t", &["v", "id"]),
+    ("SELECT`a b`,c\tFROM t", &["a b", "c"]),
+    ("select `from`, a from t", &["from", "a"]),
+    ("select a, `FROM` from from", &["a", "FROM"]),
+    (
+        "select select, where from t where in_keyrange('-80')",
+        &["select", "where"],
+    ),
+    (
+        "select a,b,c,d,e,f,g,h,i,j,k,l,m,n from t where in_keyrange(z, 'binary', '-80')",
+        &[
+            "a", "b", "c", "d", "e", "f", "g", "h", "i", "j", "k", "l", "m", "n",
+        ],
+    ),
+];
+
+/// The list has these columns, in this order.
+fn has_columns(list: &ColumnList<'_>, wanted: &[&str]) -> bool {
+    let mut left = list.again();
+    for name in wanted {
+        if left.next_column() != Some(*name) {
+            return false;
+        }
+    }
+    left.next_column().is_none()
+}
+
+/// Whether each text is read as a filter that lists the columns beside it.
+fn are_lists(alloc: Global, rows: &[(&str, &[&str])]) -> bool {
+    for (text, wanted) in rows {
+        match Filter::parse(alloc, text) {
+            Ok(
+                Filter {
+                    columns: Some(list),
+                    ..
+                },
+            ) if has_columns(&list, wanted) => {}
+            _ => return false,
+        }
+    }
+    true
+}
+
+#[test]
+fn columns_of_filters(rt: HostRuntime) {
+    assert!(rt; are_lists(rt.alloc(), LISTS));
+}
+
 const NO_FILTERS: &[&str] = &[
     " ",
     "8-",
@@ -98,9 +149,24 @@ const NO_FILTERS: &[&str] = &[
     "`select` * from t",
     "select * `from` t",
     "select * from t-u",
-    "select a from t",
     "select * from t u",
     "select * from t where",
+    // no list of columns
+    "select from t",
+    "select from, a from t",
+    "select a from, b from t",
+    "select a, from t",
+    "select a b from t",
+    "select , a from t",
+    "select *, a from t",
+    "select a, * from t",
+    "select 'a' from t",
+    "select a, a from t",
+    "select a, b, `a` from t",
+    "select a `from` t",
+    "select a, b",
+    "select a from t where in_keyrange('8-')",
+    "select a, b from t where in_keyrange(v, 'numeric', '-80') x",
     "select * from t where in_keyrange('-80'",
     "select * from t where in_keyrange('-80') limit",
     "select * from t where in_keyrange('8-')",

@@ -9,4 +9,4 @@ pub returns-clause-only : goal.returns-clause-only
 returns-clause-only c = λ said says. read_of_says c.args.text.now c.filter_of.result said c.filter_of.ensures says
 
 pub returns-clause-spelled : goal.returns-clause-spelled
-returns-clause-spelled c = λ table range rows spelling. read_of_spelling c.args.text.now c.filter_of.result table range rows c.filter_of.ensures spelling
+returns-clause-spelled c = λ table columns range rows spelling. read_of_spelling c.args.text.now c.filter_of.result table columns range rows c.filter_of.ensures spelling
