@@ -8,12 +8,12 @@ use Rattle.filter_rule.specs.Rules.{RuleForm, decide_once, decide_each}
 use Rattle.filter_rule.specs.declared.decision.Decision.{Decision}
 use Rattle.filter_rule.proofs.EachLaws.{with_front, front_more, append_none, drop_at}
 
-take_set : {A : Type 0} (xs : List A) (i : ℕ) (e : A) → i < length xs → take (i + 1) (slice_set xs i e) ≡ take i xs ++ e ∷ []
+pub take_set : {A : Type 0} (xs : List A) (i : ℕ) (e : A) → i < length xs → take (i + 1) (slice_set xs i e) ≡ take i xs ++ e ∷ []
 take_set [] i e h = absurd (omega arith)
 take_set (x ∷ xs) zero e h = refl
 take_set (x ∷ xs) (suc i) e h = let n : suc i + 1 ≡ suc (i + 1) = omega arith in rw n (ap (λ r. x ∷ r) (take_set xs i e (omega arith)))
 
-drop_set : {A : Type 0} (xs : List A) (i : ℕ) (e : A) → drop (i + 1) (slice_set xs i e) ≡ drop (i + 1) xs
+pub drop_set : {A : Type 0} (xs : List A) (i : ℕ) (e : A) → drop (i + 1) (slice_set xs i e) ≡ drop (i + 1) xs
 drop_set [] i e = refl
 drop_set (x ∷ xs) zero e = refl
 drop_set (x ∷ xs) (suc i) e = let n : suc i + 1 ≡ suc (i + 1) = omega arith in rw n (drop_set xs i e)

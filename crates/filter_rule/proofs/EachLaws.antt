@@ -62,3 +62,4 @@ fails_along errors.Limit r s h k = h _ k
 fails_along (errors.NoSuchColumn table column) r s h k = h _ k
 fails_along (errors.KeyType table column) r s h k = h _ k
 fails_along (errors.BadRule stream rule) r s h k = h _ k
+fails_along (errors.ColumnsDiffer table) r s h k = h _ k

@@ -1,21 +1,17 @@
 -- Taking the rules one after another gives each table the decision of the first rule that matches it.
-use Rattle.std.proofs.Common.{◌≡◌, ℕ, zero, suc, ◌+◌, List, [], ◌∷◌, Bool, true, false, cond, Option, Some, None, Ok, Err, refl, sym, ap, subst, ◌∙◌, codes, arith, zero-add}
-use Rattle.std.specs.Prelude.{slice_get, ◌||◌}
+use Rattle.std.proofs.Common.{◌≡◌, ℕ, zero, suc, ◌+◌, List, [], ◌∷◌, Bool, true, false, cond, Option, Some, None, Ok, refl, sym, ap, subst, ◌∙◌, codes}
+use Rattle.std.specs.Prelude.{◌||◌}
 use Rattle.std.specs.Str.{bytes_eq}
 use Rattle.vindex.specs.Bounds.{Bounds}
 use Rattle.vindex.specs.declared.vindexes.Vindex.{Vindex}
-use Rattle.filter_rule.specs.Document.{RuleSaid, StreamSaid, DocumentSaid, document_of}
-use Rattle.outcome.specs.Outcome.{◌>>=◌, each}
-use Rattle.filter_rule.specs.Faults.{limit}
+use Rattle.filter_rule.specs.Document.{RuleSaid}
 use Rattle.filter_text.specs.FilterText.{RowsSaid, every_row, in_own_range, in_range_of, filter_of}
 use Rattle.filter_text.specs.RuleScope.{TablesSaid, every_table, one_table, begins_with_slash, scope_of, is_for}
-use Rattle.filter_rule.specs.FirstRule.{is_match, Decides, IsByFirst, AreByFirst, FollowFirstRules}
-use Rattle.filter_rule.specs.Limits.{is_within, within_limits}
-use Rattle.filter_rule.specs.PlanValue.{PlanValue}
+use Rattle.filter_rule.specs.FirstRule.{is_match, Decides, IsByFirst, AreByFirst}
 use Rattle.filter_rule.specs.PlanTable.{TableValue}
-use Rattle.filter_rule.specs.Reading.{rule_over, decide_in_turn, undecided, decisions_of, plan_of, plans_from, json_of, plans_of_document, plans_of}
-use Rattle.filter_rule.specs.Resolving.{place_in, vindex_type, resolved}
-use Rattle.filter_rule.specs.Rules.{RuleForm, form_of, or_bad, agreeing, own_decision, decide, decide_once, decide_each}
+use Rattle.filter_rule.specs.Reading.{rule_over, decide_in_turn, undecided, decisions_of}
+use Rattle.filter_rule.specs.Resolving.{place_in, vindex_type}
+use Rattle.filter_rule.specs.Rules.{RuleForm, form_of, or_bad, agreeing, kept_by, own_decision, decide, decide_once, decide_each}
 use Rattle.filter_rule.specs.declared.decision.Decision.{Decision}
 use Rattle.filter_rule.specs.declared.decision.Decision.TheVariants.{NoRule, EveryRow, InRange}
 use Rattle.filter_rule.proofs.StepLaws.{then_ok, same_ok, read_as}
@@ -28,7 +24,7 @@ scope_match true c matches table scope e f is = let same : every_table ≡ scope
 scope_match false true matches table scope e f is = cc
 scope_match false false matches table scope e f is = let same : one_table matches ≡ scope = cc in ap (λ s. is_for s table) (sym same)
 
-found_ok : {A : Type 0} (s n : ℕ) (o : Option A) (x : A) → or_bad s n o ≡ Ok x → o ≡ Some x
+pub found_ok : {A : Type 0} (s n : ℕ) (o : Option A) (x : A) → or_bad s n o ≡ Ok x → o ≡ Some x
 found_ok s n None x e = cc
 found_ok s n (Some y) x e = cc
 
@@ -38,49 +34,50 @@ form_match s n r form table is =
     then_ok _ (or_bad s n (scope_of r.matches)) form is (λ scope scope_is h2.
     then_ok _ (or_bad s n (filter_of r.filter)) form h2 (λ filter filter_is h3.
     then_ok _ (agreeing s n scope filter) form h3 (λ a a_is h4.
-    ap (λ (f : RuleForm). is_for f.scope table) (sym (same_ok (record { scope = scope; rows = filter.rows }) form h4))
+    ap (λ (f : RuleForm). is_for f.scope table) (sym (same_ok (record { scope = scope; columns = filter.columns; rows = filter.rows }) form h4))
     ∙ scope_match (bytes_eq r.matches (codes "/.*")) (begins_with_slash r.matches) r.matches table scope refl refl (found_ok s n (scope_of r.matches) scope scope_is))))
 
-no_every : EveryRow ≡ NoRule → ⊥
-no_every e = cc
+no_every : (kept : List ℕ) → EveryRow kept ≡ NoRule → ⊥
+no_every kept e = cc
 
-no_range : (place : ℕ) (vindex : Vindex) (range : Bounds) → InRange place vindex range ≡ NoRule → ⊥
-no_range place vindex range e = cc
+no_range : (place : ℕ) (vindex : Vindex) (range : Bounds) (kept : List ℕ) → InRange place vindex range kept ≡ NoRule → ⊥
+no_range place vindex range kept e = cc
 
 -- ---- a rule that is for a table decides it
 
-own_decides : (s n : ℕ) (range : Bounds) (v : Option (ℕ × Vindex)) → own_decision s n range v ≡ Ok NoRule → ⊥
-own_decides s n range None h = cc
-own_decides s n range (Some v) h = no_range v.0 v.1 range (same_ok (InRange v.0 v.1 range) NoRule h)
+own_decides : (s n : ℕ) (columns : Option (List (List ℕ))) (t : TableValue) (range : Bounds) (v : Option (ℕ × Vindex)) → own_decision s n columns t range v ≡ Ok NoRule → ⊥
+own_decides s n columns t range None h = cc
+own_decides s n columns t range (Some v) h =
+    then_ok _ (kept_by s n columns t) NoRule h (λ kept kept_is h2. no_range v.0 v.1 range kept (same_ok (InRange v.0 v.1 range kept) NoRule h2))
 
-pub decide_decides : (s n : ℕ) (rows : RowsSaid) (t : TableValue) → decide s n rows t ≡ Ok NoRule → ⊥
-decide_decides s n every_row t h = no_every (same_ok EveryRow NoRule h)
-decide_decides s n (in_own_range range) t h = own_decides s n range t.vindex h
-decide_decides s n (in_range_of column vindex range) t h =
-    then_ok _ (place_in t.name t.columns column) NoRule h (λ place place_is h2. then_ok _ (vindex_type t.name t.columns column vindex) NoRule h2 (λ a a_is h3.
-    no_range place vindex range (same_ok (InRange place vindex range) NoRule h3)))
+pub decide_decides : (s n : ℕ) (columns : Option (List (List ℕ))) (rows : RowsSaid) (t : TableValue) → decide s n columns rows t ≡ Ok NoRule → ⊥
+decide_decides s n columns every_row t h = then_ok _ (kept_by s n columns t) NoRule h (λ kept kept_is h2. no_every kept (same_ok (EveryRow kept) NoRule h2))
+decide_decides s n columns (in_own_range range) t h = own_decides s n columns t range t.vindex h
+decide_decides s n columns (in_range_of column vindex range) t h =
+    then_ok _ (kept_by s n columns t) NoRule h (λ kept kept_is h2. then_ok _ (place_in t.name t.columns column) NoRule h2 (λ place place_is h3.
+    then_ok _ (vindex_type t.name t.columns column vindex) NoRule h3 (λ a a_is h4. no_range place vindex range kept (same_ok (InRange place vindex range kept) NoRule h4))))
 
 -- ---- one table
 
 -- what the rules from n on leave of a table's decision
 abbrev After : ℕ → ℕ → List RuleSaid → TableValue → Decision → Decision → Type 0
 After s n rs t NoRule e = IsByFirst s n rs t e
-After s n rs t EveryRow e = e ≡ EveryRow
-After s n rs t (InRange place vindex range) e = e ≡ InRange place vindex range
+After s n rs t (EveryRow kept) e = e ≡ EveryRow kept
+After s n rs t (InRange place vindex range kept) e = e ≡ InRange place vindex range kept
 
 at_end : (s n : ℕ) (t : TableValue) (d : Decision) → After s n [] t d d
 at_end s n t NoRule = refl
-at_end s n t EveryRow = refl
-at_end s n t (InRange place vindex range) = refl
+at_end s n t (EveryRow kept) = refl
+at_end s n t (InRange place vindex range kept) = refl
 
 -- a decision that a rule made stays
-made : (s n m : ℕ) (rs : List RuleSaid) (r : RuleSaid) (form : RuleForm) (t : TableValue) (d e : Decision) → form_of s n r ≡ Ok form → decide s n form.rows t ≡ Ok d → After s m rs t d e → Decides s n r t e
-made s n m rs r form t NoRule e formed is after = absurd (decide_decides s n form.rows t is)
-made s n m rs r form t EveryRow e formed is after = record { form = form; formed = formed; decided = is ∙ ap read_as (sym after) }
-made s n m rs r form t (InRange place vindex range) e formed is after = record { form = form; formed = formed; decided = is ∙ ap read_as (sym after) }
+made : (s n m : ℕ) (rs : List RuleSaid) (r : RuleSaid) (form : RuleForm) (t : TableValue) (d e : Decision) → form_of s n r ≡ Ok form → decide s n form.columns form.rows t ≡ Ok d → After s m rs t d e → Decides s n r t e
+made s n m rs r form t NoRule e formed is after = absurd (decide_decides s n form.columns form.rows t is)
+made s n m rs r form t (EveryRow kept) e formed is after = record { form = form; formed = formed; decided = is ∙ ap read_as (sym after) }
+made s n m rs r form t (InRange place vindex range kept) e formed is after = record { form = form; formed = formed; decided = is ∙ ap read_as (sym after) }
 
 by_rule : (b : Bool) (s n : ℕ) (rs : List RuleSaid) (r : RuleSaid) (form : RuleForm) (t : TableValue) (m e : Decision) → is_match r t.name ≡ b → form_of s n r ≡ Ok form
-    → cond b (decide s n form.rows t) (Ok NoRule) ≡ Ok m → After s (n + 1) rs t m e → IsByFirst s n (r ∷ rs) t e
+    → cond b (decide s n form.columns form.rows t) (Ok NoRule) ≡ Ok m → After s (n + 1) rs t m e → IsByFirst s n (r ∷ rs) t e
 by_rule true s n rs r form t m e match formed is after = rw match (made s n (n + 1) rs r form t m e formed is after)
 by_rule false s n rs r form t m e match formed is after =
     let none : m ≡ NoRule = sym (same_ok NoRule m is) in
@@ -88,9 +85,9 @@ by_rule false s n rs r form t m e match formed is after =
 
 one_step : (s n : ℕ) (rs : List RuleSaid) (r : RuleSaid) (form : RuleForm) (t : TableValue) (d m e : Decision) → form_of s n r ≡ Ok form → decide_once s n form t d ≡ Ok m → After s (n + 1) rs t m e → After s n (r ∷ rs) t d e
 one_step s n rs r form t NoRule m e formed is after =
-    by_rule (is_match r t.name) s n rs r form t m e refl formed (ap (λ b. cond b (decide s n form.rows t) (Ok NoRule)) (sym (form_match s n r form t.name formed)) ∙ is) after
-one_step s n rs r form t EveryRow m e formed is after = subst (λ x. After s (n + 1) rs t x e) (sym (same_ok EveryRow m is)) after
-one_step s n rs r form t (InRange place vindex range) m e formed is after = subst (λ x. After s (n + 1) rs t x e) (sym (same_ok (InRange place vindex range) m is)) after
+    by_rule (is_match r t.name) s n rs r form t m e refl formed (ap (λ b. cond b (decide s n form.columns form.rows t) (Ok NoRule)) (sym (form_match s n r form t.name formed)) ∙ is) after
+one_step s n rs r form t (EveryRow kept) m e formed is after = subst (λ x. After s (n + 1) rs t x e) (sym (same_ok (EveryRow kept) m is)) after
+one_step s n rs r form t (InRange place vindex range kept) m e formed is after = subst (λ x. After s (n + 1) rs t x e) (sym (same_ok (InRange place vindex range kept) m is)) after
 
 same_some : {A : Type 0} (x y : A) → Some x ≡ Some y → x ≡ y
 same_some x y e = cc
@@ -140,43 +137,3 @@ each_first s rs (u ∷ ts) (e ∷ ds) h (suc i) t d t_is d_is = each_first s rs 
 -- the decisions of a stream's rules
 pub decisions_by_first : (s : ℕ) (ts : List TableValue) (rs : List RuleSaid) (ds : List Decision) → decisions_of s ts rs ≡ Ok ds → AreByFirst s ts rs ds
 decisions_by_first s ts rs ds is = each_first s rs ts ds (all_after s ts 0 rs (undecided ts) ds is)
-
--- ---- all streams
-
-plan_first : (keyspace : List ℕ) (tables : List TableValue) (n : ℕ) (s : StreamSaid) (p : PlanValue) → plan_of keyspace tables n s ≡ Ok p → AreByFirst n p.tables s.rules p.decisions
-unfolding plan_of
-plan_first keyspace tables n s p is =
-    then_ok _ (decisions_of n tables s.rules) p is (λ ds ds_is h2.
-    subst (λ (q : PlanValue). AreByFirst n q.tables s.rules q.decisions) (same_ok (record { keyspace = keyspace; shard = s.shard; tables = tables; decisions = ds }) p h2) (decisions_by_first n tables s.rules ds ds_is))
-
-plan_at : (keyspace : List ℕ) (tables : List TableValue) (n : ℕ) (u : StreamSaid) (q : PlanValue) (ss : List StreamSaid) (rest : List PlanValue) (i : ℕ) (s : StreamSaid) (p : PlanValue) → plan_of keyspace tables n u ≡ Ok q
-    → ((j : ℕ) (s : StreamSaid) (p : PlanValue) → slice_get ss j ≡ Some s → slice_get rest j ≡ Some p → AreByFirst ((n + 1) + j) p.tables s.rules p.decisions)
-    → slice_get (u ∷ ss) i ≡ Some s → slice_get (q ∷ rest) i ≡ Some p → AreByFirst (n + i) p.tables s.rules p.decisions
-plan_at keyspace tables n u q ss rest zero s p q_is more s_is p_is =
-    let at_n : n ≡ n + 0 = omega arith in
-    subst (λ k. AreByFirst k p.tables s.rules p.decisions) at_n (plan_first keyspace tables n s p (ap (plan_of keyspace tables n) (sym (same_some u s s_is)) ∙ q_is ∙ ap read_as (same_some q p p_is)))
-plan_at keyspace tables n u q ss rest (suc i) s p q_is more s_is p_is =
-    let at_next : (n + 1) + i ≡ n + suc i = omega arith in
-    subst (λ k. AreByFirst k p.tables s.rules p.decisions) at_next (more i s p s_is p_is)
-
-plans_first : (keyspace : List ℕ) (tables : List TableValue) (n : ℕ) (ss : List StreamSaid) (ps : List PlanValue) → plans_from keyspace tables n ss ≡ Ok ps
-    → (i : ℕ) (s : StreamSaid) (p : PlanValue) → slice_get ss i ≡ Some s → slice_get ps i ≡ Some p → AreByFirst (n + i) p.tables s.rules p.decisions
-unfolding plans_from
-plans_first keyspace tables n [] ps is i s p s_is p_is = cc
-plans_first keyspace tables n (u ∷ ss) ps is i s p s_is p_is =
-    then_ok _ (plan_of keyspace tables n u) ps is (λ q q_is h2. then_ok _ (plans_from keyspace tables (n + 1) ss) ps h2 (λ rest rest_is h3.
-    plan_at keyspace tables n u q ss rest i s p q_is (plans_first keyspace tables (n + 1) ss rest rest_is) s_is (ap (λ xs. slice_get xs i) (same_ok (q ∷ rest) ps h3) ∙ p_is)))
-
-limits_keep : (b : Bool) (d e : DocumentSaid) → cond b (read_as d) (Err limit) ≡ Ok e → d ≡ e
-limits_keep true d e h = same_ok d e h
-limits_keep false d e h = cc
-
-pub follows_first : (text : List ℕ) (plans : List PlanValue) → plans_of text ≡ Ok plans → FollowFirstRules text plans
-unfolding plans_of plans_of_document
-follows_first text plans is d d_is i s p s_is p_is =
-    then_ok _ (json_of text) plans is (λ value value_is h2. then_ok _ (document_of value) plans h2 (λ e e_is h3. then_ok _ (within_limits e) plans h3 (λ within within_is h4.
-    then_ok _ (each resolved within.tables) plans h4 (λ tables tables_is h5.
-    let same : e ≡ d = same_ok e d (sym e_is ∙ ap (λ r. r >>= document_of) (sym value_is) ∙ d_is) in
-    let kept : e ≡ within = limits_keep (is_within e) e within within_is in
-    let here : slice_get within.streams i ≡ Some s = ap (λ (x : DocumentSaid). slice_get x.streams i) (sym kept ∙ same) ∙ s_is in
-    subst (λ n. AreByFirst n p.tables s.rules p.decisions) (zero-add i) (plans_first within.keyspace tables 0 within.streams plans h5 i s p here p_is)))))

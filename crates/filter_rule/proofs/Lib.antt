@@ -10,7 +10,12 @@ pub mod DistinctLaws
 pub mod Utf8Laws
 pub mod DecideLaws
 pub mod StreamLaws
+pub mod KeptLaws
 pub mod ShapeLaws
+pub mod DecidedLaws
+pub mod KeepingLaws
+pub mod CloseLaws
+pub mod FollowLaws
 pub mod JsonText
 pub mod PlanLaws
 pub mod FirstRuleLaws

@@ -1,83 +1,51 @@
--- What is read is a plan, and the plans of streams as far as a loop has come.
-use Rattle.std.proofs.Common.{◌≡◌, ℕ, ◌+◌, ◌<◌, ◌≤◌, List, [], ◌∷◌, ◌++◌, length, drop, get_or, map, true, String, Vec, Global, Result, Ok, Err, refl, sym, ap, subst, ◌∙◌}
+-- Plans over shared tables, and the tables of a document.
+use Rattle.std.proofs.Common.{◌≡◌, ℕ, ◌+◌, List, [], ◌∷◌, ◌++◌, length, map, Some, true, String, Vec, Global, Ok, refl, sym, ap, subst, ◌∙◌, string_bytes}
 use Rattle.std.specs.Prelude.{slice_get}
 use Rattle.std.specs.Str.{is_utf8}
-use Rattle.std.proofs.lemmas.Str.{IsUtf8-string_bytes}
 use Rattle.std.specs.Arc.{arc_value}
 use Rattle.std.specs.declared.sync.Arc.{Arc}
-use Rattle.filter_rule.specs.Private.Accepted.{AreNarrow, IsAccepted}
-use Rattle.filter_rule.specs.Document.{RuleSaid, StreamSaid, TableSaid, DocumentSaid}
-use Rattle.outcome.specs.Outcome.{◌>>=◌, each}
-use Rattle.filter_rule.specs.Faults.{Fault}
+use Rattle.filter_rule.specs.Private.Accepted.{AreNarrow, ArePlansOver, IsAccepted}
+use Rattle.filter_rule.specs.Document.{StreamSaid, TableSaid, DocumentSaid}
+use Rattle.outcome.specs.Outcome.{each}
 use Rattle.filter_rule.specs.Private.PlanParts.{plan_value}
-use Rattle.filter_rule.specs.WellFormed.{AreTables, IsPlan}
+use Rattle.filter_rule.specs.Resolving.{resolved}
 use Rattle.filter_rule.specs.PlanTable.{TableValue}
+use Rattle.filter_rule.specs.Limits.{is_within}
 use Rattle.filter_rule.specs.PlanValue.{PlanValue}
-use Rattle.filter_rule.specs.Reading.{decisions_of, plan_of, plans_from}
+use Rattle.filter_rule.specs.Reading.{Decided, decided_from, closed_from, plan_over}
+use Rattle.filter_rule.specs.WellFormed.{AreTables, IsPlan}
 use Rattle.filter_rule.specs.declared.decision.Decision.{Decision}
 use Rattle.filter_rule.specs.declared.plan.Schema.{Schema}
-use Rattle.filter_rule.proofs.EachLaws.{with_front, front_more, append_none, drop_at}
-use Rattle.filter_rule.proofs.DecideLaws.{drop_all}
-use Rattle.filter_rule.proofs.Utf8Laws.{utf8_test}
-use Rattle.filter_rule.specs.Resolving.{resolved}
-use Rattle.filter_rule.proofs.ShapeLaws.{decisions_decided, decided_length, decided_fit}
-use Rattle.filter_rule.proofs.TableLaws.{accepted_names, accepted_within, table_counts, tables_fit}
+use Rattle.filter_rule.proofs.TableLaws.{HasNames, accepted_names, accepted_within, table_counts, tables_fit}
+use Rattle.filter_rule.proofs.DecidedLaws.{decided_at}
+use Rattle.filter_rule.proofs.KeepingLaws.{AllFit, closed_plan}
 
-pub parts_shape : (keyspace shard : List ℕ) (tables : List TableValue) (decisions : List Decision) (n : ℕ) (rs : List RuleSaid) → is_utf8 keyspace ≡ true → is_utf8 shard ≡ true → AreTables tables → decisions_of n tables rs ≡ Ok decisions
-    → IsPlan (record { keyspace = keyspace; shard = shard; tables = tables; decisions = decisions })
-parts_shape keyspace shard tables decisions n rs key_text shard_text fit is =
-    let decided = decisions_decided n tables rs decisions fit is in
-    record { keyspace_text = key_text; shard_text = shard_text; tables = fit; decided = decided_length tables decisions decided; filters = decided_fit tables decisions decided }
+-- ---- one plan
 
-pub plan_shape : (schema copy : Arc Schema Global) (shard : String Global) (decisions : Vec Decision Global) (n : ℕ) (rs : List RuleSaid) → arc_value copy ≡ arc_value schema
-    → AreTables (arc_value schema).tables.items → decisions_of n (arc_value schema).tables.items rs ≡ Ok decisions.items → IsPlan (plan_value copy shard decisions)
-plan_shape schema copy shard decisions n rs same fit is =
-    let P : Schema → Type 0 = λ s. AreTables s.tables.items in
-    let Q : Schema → Type 0 = λ s. decisions_of n s.tables.items rs ≡ Ok decisions.items in
-    parts_shape _ _ (arc_value copy).tables.items decisions.items n rs (utf8_test _ (IsUtf8-string_bytes (arc_value copy).keyspace)) (utf8_test _ (IsUtf8-string_bytes shard)) (subst P (sym same) fit) (subst Q (sym same) is)
+abbrev over_shared : (schema : Schema) (shard : List ℕ) (decisions : List Decision) → PlanValue
+over_shared schema shard decisions = record { keyspace = string_bytes schema.keyspace; shard = shard; tables = schema.tables.items; decisions = decisions }
 
--- ---- a plan a stream
+pub plan_shape : (schema copy : Arc Schema Global) (shard : String Global) (decisions : Vec Decision Global) → arc_value copy ≡ arc_value schema → IsPlan (plan_value schema shard decisions) → IsPlan (plan_value copy shard decisions)
+plan_shape schema copy shard decisions same is = subst (λ (s : Schema). IsPlan (over_shared s (string_bytes shard) decisions.items)) (sym same) is
 
-abbrev pub plans_so_far : List ℕ → List TableValue → ℕ → List PlanValue → List StreamSaid → Result (List PlanValue) Fault
-plans_so_far keyspace tables n front ss = with_front front (plans_from keyspace tables n ss)
-
-next_plan : (keyspace : List ℕ) (tables : List TableValue) (n : ℕ) (front : List PlanValue) (s : StreamSaid) (ss : List StreamSaid) (p : PlanValue) → plan_of keyspace tables n s ≡ Ok p
-    → plans_so_far keyspace tables n front (s ∷ ss) ≡ plans_so_far keyspace tables (n + 1) (front ++ p ∷ []) ss
-unfolding plans_from
-next_plan keyspace tables n front s ss p is = ap (λ r. with_front front (r >>= λ plan. plans_from keyspace tables (n + 1) ss >>= λ plans. Ok (plan ∷ plans))) is ∙ front_more front p (plans_from keyspace tables (n + 1) ss)
-
-bad_plan : (keyspace : List ℕ) (tables : List TableValue) (n : ℕ) (front : List PlanValue) (s : StreamSaid) (ss : List StreamSaid) (f : Fault) → plan_of keyspace tables n s ≡ Err f
-    → plans_so_far keyspace tables n front (s ∷ ss) ≡ Err f
-unfolding plans_from
-bad_plan keyspace tables n front s ss f is = ap (λ r. with_front front (r >>= λ plan. plans_from keyspace tables (n + 1) ss >>= λ plans. Ok (plan ∷ plans))) is
-
-no_plans : (keyspace : List ℕ) (tables : List TableValue) (n : ℕ) → plans_from keyspace tables n [] ≡ Ok []
-unfolding plans_from
-no_plans keyspace tables n = refl
-
-opened : (keyspace : List ℕ) (tables : List TableValue) (n : ℕ) (front : List PlanValue) (ss : List StreamSaid) (s : StreamSaid) → n < length ss → s ≡ get_or ss n s
-    → plans_so_far keyspace tables n front (drop n ss) ≡ plans_so_far keyspace tables n front (s ∷ drop (n + 1) ss)
-opened keyspace tables n front ss s within is = ap (plans_so_far keyspace tables n front) (drop_at ss n s within ∙ ap (λ x. x ∷ drop (n + 1) ss) (sym is))
+pub plan_made : (schema copy : Arc Schema Global) (shard : String Global) (decisions : Vec Decision Global) → arc_value copy ≡ arc_value schema → plan_value copy shard decisions ≡ plan_value schema shard decisions
+plan_made schema copy shard decisions same = ap (λ (s : Schema). over_shared s (string_bytes shard) decisions.items) same
 
 values_more : (ps : List (Arc PlanValue Global)) (p : Arc PlanValue Global) → map arc_value (ps ++ p ∷ []) ≡ map arc_value ps ++ arc_value p ∷ []
 values_more [] p = refl
 values_more (q ∷ ps) p = ap (λ r. arc_value q ∷ r) (values_more ps p)
 
-pub plans_turn : (keyspace : List ℕ) (tables : List TableValue) (n : ℕ) (ps grown : List (Arc PlanValue Global)) (p : Arc PlanValue Global) (ss : List StreamSaid) (s : StreamSaid) (whole : Result (List PlanValue) Fault)
-    → n < length ss → s ≡ get_or ss n s → plan_of keyspace tables n s ≡ Ok (arc_value p) → grown ≡ ps ++ p ∷ []
-    → plans_so_far keyspace tables n (map arc_value ps) (drop n ss) ≡ whole → plans_so_far keyspace tables (n + 1) (map arc_value grown) (drop (n + 1) ss) ≡ whole
-plans_turn keyspace tables n ps grown p ss s whole within item is more so_far =
-    ap (λ x. plans_so_far keyspace tables (n + 1) x (drop (n + 1) ss)) (ap (map arc_value) more ∙ values_more ps p)
-    ∙ sym (next_plan keyspace tables n (map arc_value ps) s (drop (n + 1) ss) (arc_value p) is) ∙ sym (opened keyspace tables n (map arc_value ps) ss s within item) ∙ so_far
+pub plans_grown : (ps grown : List (Arc PlanValue Global)) (p : Arc PlanValue Global) (front : List PlanValue) (plan : PlanValue) → map arc_value ps ≡ front → grown ≡ ps ++ p ∷ [] → arc_value p ≡ plan → map arc_value grown ≡ front ++ plan ∷ []
+plans_grown ps grown p front plan so_far more is = ap (map arc_value) more ∙ values_more ps p ∙ ap (λ x. x ++ arc_value p ∷ []) so_far ∙ ap (λ x. front ++ x ∷ []) is
 
-pub plans_fault : (keyspace : List ℕ) (tables : List TableValue) (n : ℕ) (front : List PlanValue) (ss : List StreamSaid) (s : StreamSaid) (whole : Result (List PlanValue) Fault)
-    → n < length ss → s ≡ get_or ss n s → plans_so_far keyspace tables n front (drop n ss) ≡ whole → (f : Fault) → plan_of keyspace tables n s ≡ Err f → whole ≡ Err f
-plans_fault keyspace tables n front ss s whole within item so_far f is = sym so_far ∙ opened keyspace tables n front ss s within item ∙ bad_plan keyspace tables n front s (drop (n + 1) ss) f is
+-- the stream that a loop has come to is one of them
+middle : {A : Type 0} (front : List A) (x : A) (xs : List A) → slice_get (front ++ x ∷ xs) (length front) ≡ Some x
+middle [] x xs = refl
+middle (y ∷ front) x xs = middle front x xs
 
-pub plans_end : (keyspace : List ℕ) (tables : List TableValue) (n : ℕ) (front : List PlanValue) (ss : List StreamSaid) (whole : Result (List PlanValue) Fault)
-    → length ss ≤ n → plans_so_far keyspace tables n front (drop n ss) ≡ whole → whole ≡ Ok front
-plans_end keyspace tables n front ss whole past so_far =
-    sym so_far ∙ ap (plans_so_far keyspace tables n front) (drop_all ss n past) ∙ ap (with_front front) (no_plans keyspace tables n) ∙ ap Ok (append_none front)
+pub stream_here : (keyspace : List ℕ) (tables : List TableValue) (front rest later streams : List Decided) (stream : Decided) → front ++ rest ≡ streams → rest ≡ stream ∷ later → ArePlansOver keyspace tables streams → IsPlan (plan_over keyspace tables stream)
+stream_here keyspace tables front rest later streams stream all next are =
+    are (length front) stream (ap (λ ss. slice_get ss (length front)) (sym all ∙ ap (λ ss. front ++ ss) next) ∙ middle front stream later)
 
 -- ---- the tables
 
@@ -88,3 +56,21 @@ are_tables said d tables same accepted is =
 pub are_narrow : (said : List TableSaid) (d : DocumentSaid) → said ≡ d.tables → IsAccepted d → AreNarrow said
 are_narrow said d same accepted i t is =
     (table_counts d i t (accepted_within d accepted) (ap (λ (ts : List TableSaid). slice_get ts i) (sym same) ∙ is)).0.1
+
+-- ---- each stream's plan
+
+pub all_fit : (tables : List TableValue) (ss : List StreamSaid) (streams : List Decided) → decided_from tables 0 ss ≡ Ok streams → AreTables tables → AllFit tables streams
+all_fit tables ss streams h fit i stream is = (decided_at tables 0 ss streams h i stream is).is.fit fit
+
+pub over_plans : (document : DocumentSaid) (tables closed : List TableValue) (streams : List Decided) → HasNames document → is_within document ≡ true → each resolved document.tables ≡ Ok tables → decided_from tables 0 document.streams ≡ Ok streams
+    → closed_from streams 0 tables ≡ Ok closed → ArePlansOver document.keyspace closed streams
+over_plans document tables closed streams names within tables_are streams_are closed_are i stream is =
+    let fit = tables_fit document tables names within tables_are in
+    let at = decided_at tables 0 document.streams streams streams_are i stream is in
+    closed_plan document.keyspace streams tables closed closed_are (all_fit tables document.streams streams streams_are fit) fit names.keyspace_text i stream is
+    (ap is_utf8 at.is.shard ∙ names.shard_texts i at.stream at.stands)
+
+pub plans_shape : (d : DocumentSaid) (tables closed : List TableValue) (streams : List Decided) → IsAccepted d → each resolved d.tables ≡ Ok tables → decided_from tables 0 d.streams ≡ Ok streams → closed_from streams 0 tables ≡ Ok closed
+    → ArePlansOver d.keyspace closed streams
+plans_shape d tables closed streams accepted tables_are streams_are closed_are =
+    over_plans d tables closed streams (accepted_names d accepted) (accepted_within d accepted) tables_are streams_are closed_are

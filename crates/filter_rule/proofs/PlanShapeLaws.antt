@@ -5,8 +5,8 @@ use Rattle.std.specs.Option.{option_map_or}
 use Rattle.std.proofs.lemmas.Option.{slice_get_cases, slice_get_read}
 use Rattle.filter_rule.specs.Private.Accepted.{IsWithin}
 use Rattle.filter_rule.specs.PlanTable.{TableValue}
-use Rattle.filter_rule.specs.PlanValue.{PlanValue, columns_of, key_columns_of}
-use Rattle.filter_rule.specs.WellFormed.{AreColumnPlaces, FitsTable, IsPlan}
+use Rattle.filter_rule.specs.PlanValue.{PlanValue, columns_of, key_columns_of, kept_columns_of}
+use Rattle.filter_rule.specs.WellFormed.{AreColumnPlaces, AreKept, FitsTable, IsPlan}
 use Rattle.filter_rule.specs.declared.decision.Decision.{Decision}
 use Rattle.filter_rule.specs.declared.decision.Decision.TheVariants.{NoRule, EveryRow, InRange}
 
@@ -18,10 +18,22 @@ places_at plan t (Some table) fit is i place there = ((fit.tables.each_table t t
 pub key_places : (plan : PlanValue) (t : ℕ) → IsPlan plan → AreColumnPlaces (columns_of plan t) (key_columns_of plan t)
 key_places plan t fit = places_at plan t (slice_get plan.tables t) fit refl
 
+kept_at : (plan : PlanValue) (t : ℕ) (o : Option TableValue) → IsPlan plan → slice_get plan.tables t ≡ o → t < length plan.tables
+    → AreKept (option_map_or (λ (table : TableValue). table.columns) o []) (option_map_or (λ (table : TableValue). table.key) o []) (option_map_or (λ (table : TableValue). table.kept) o [])
+kept_at plan t None fit is there =
+    elim (slice_get_cases plan.tables t).1 [
+      | inl found ↦ let some : slice_get plan.tables t ≡ Some found.0 = found.2 in absurd (cc)
+      | inr past ↦ absurd (omega arith)
+    ]
+kept_at plan t (Some table) fit is there = (fit.tables.each_table t table is).kept_columns
+
+pub plan_kept : (plan : PlanValue) (t : ℕ) → IsPlan plan → t < length plan.tables → AreKept (columns_of plan t) (key_columns_of plan t) (kept_columns_of plan t)
+plan_kept plan t fit there = kept_at plan t (slice_get plan.tables t) fit refl there
+
 fits_width : (table : TableValue) (d : Decision) → FitsTable table d → IsWithin (length table.columns) d
 fits_width table NoRule fit = tt
-fits_width table EveryRow fit = tt
-fits_width table (InRange place vindex range) fit = fit.within
+fits_width table (EveryRow kept) fit = tt
+fits_width table (InRange place vindex range kept) fit = fit.0.within
 
 within_at : (plan : PlanValue) (t : ℕ) (d : Decision) (o : Option TableValue) → IsPlan plan → t < length plan.tables → slice_get plan.tables t ≡ o → slice_get plan.decisions t ≡ Some d
     → IsWithin (length (option_map_or (λ (table : TableValue). table.columns) o [])) d

@@ -3,14 +3,14 @@ use Rattle.std.proofs.Common.{◌≡◌, ◌⊎◌, inl, inr, ℕ, List, subst, 
 use Rattle.std.specs.Prelude.{IfOk, IfErr, IfSome, IsErrAnd, string_bytes}
 use Rattle.std.specs.Arc.{arc_value}
 use Rattle.std.specs.declared.sync.Arc.{Arc}
-use Rattle.filter_rule.specs.Faults.{Fault, json, shape, limit, no_such_column, key_type, bad_rule, definition_fault_of, GivesOrFails}
+use Rattle.filter_rule.specs.Faults.{Fault, json, shape, limit, no_such_column, key_type, bad_rule, columns_differ, definition_fault_of, GivesOrFails}
 use Rattle.filter_rule.specs.FirstRule.{FollowFirstRules}
 use Rattle.filter_rule.specs.PlanValue.{PlanValue}
 use Rattle.filter_rule.specs.Reading.{IsNoJson, plans_of}
 use Rattle.filter_rule.specs.Standing.{Stands}
 use Rattle.filter_rule.specs.declared.fault.PlanFault.{PlanFault}
 use Rattle.filter_rule.specs.declared.fault.PlanFault.TheVariants as errors
-use Rattle.filter_rule.proofs.FirstRuleLaws.{follows_first}
+use Rattle.filter_rule.proofs.FollowLaws.{follows_first}
 use Rattle.filter_rule.proofs.JsonText.{json_refused}
 use Rattle.filter_rule.proofs.StandingLaws.{stands}
 
@@ -36,6 +36,7 @@ json_of_refused errors.Limit r is h = cc (sym is ∙ h)
 json_of_refused (errors.NoSuchColumn table column) r is h = cc (sym is ∙ h)
 json_of_refused (errors.KeyType table column) r is h = cc (sym is ∙ h)
 json_of_refused (errors.BadRule stream rule) r is h = cc (sym is ∙ h)
+json_of_refused (errors.ColumnsDiffer table) r is h = cc (sym is ∙ h)
 
 pub json_only : (text : List ℕ) (r : Result Plans PlanFault) → GivesOrFails values r (plans_of text) → IsNoJson text → IsErrAnd r (λ fault. (fault ≡ errors.Json) ⊎ (fault ≡ errors.Memory))
 json_only text (Ok v) h none = cc (sym (refuses_all text none) ∙ h)
@@ -53,3 +54,4 @@ stands_in text (Err errors.Limit) h = stands text limit h
 stands_in text (Err (errors.NoSuchColumn table column)) h = stands text (no_such_column (string_bytes table) (string_bytes column)) h
 stands_in text (Err (errors.KeyType table column)) h = stands text (key_type (string_bytes table) (string_bytes column)) h
 stands_in text (Err (errors.BadRule stream rule)) h = stands text (bad_rule stream rule) h
+stands_in text (Err (errors.ColumnsDiffer table)) h = stands text (columns_differ (string_bytes table)) h

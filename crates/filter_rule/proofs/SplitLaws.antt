@@ -19,32 +19,32 @@ range_at : (x : Option Bounds) (f : Bounds → Decision) (y : Decision) → opti
 range_at None f y e = cc
 range_at (Some range) f y e = (range, refl, cc)
 
-same_places : (plans : List PlanValue) (t column : ℕ) (vindex : Vindex) (ranges : List Bounds) (i : ℕ) → KeepRanges plans t column vindex ranges
-    → option_map (λ plan. decision_at plan t) (slice_get plans i) ≡ option_map (InRange column vindex) (slice_get ranges i)
-same_places plans t column vindex ranges i e =
-    sym (slice_get-map (λ plan. decision_at plan t) plans i) ∙ ap (λ ds. slice_get ds i) e ∙ slice_get-map (InRange column vindex) ranges i
+same_places : (plans : List PlanValue) (t column : ℕ) (vindex : Vindex) (kept : List ℕ) (ranges : List Bounds) (i : ℕ) → KeepRanges plans t column vindex kept ranges
+    → option_map (λ plan. decision_at plan t) (slice_get plans i) ≡ option_map (λ range. InRange column vindex range kept) (slice_get ranges i)
+same_places plans t column vindex kept ranges i e =
+    sym (slice_get-map (λ plan. decision_at plan t) plans i) ∙ ap (λ ds. slice_get ds i) e ∙ slice_get-map (λ range. InRange column vindex range kept) ranges i
 
-keeps_range : (plan : PlanValue) (t column : ℕ) (vindex : Vindex) (range : Bounds) (id : List ℕ) (row : List (Option (List ℕ))) → decision_at plan t ≡ InRange column vindex range → id_of vindex (column_at row column) ≡ Ok id
+keeps_range : (plan : PlanValue) (t column : ℕ) (vindex : Vindex) (range : Bounds) (kept : List ℕ) (id : List ℕ) (row : List (Option (List ℕ))) → decision_at plan t ≡ InRange column vindex range kept → id_of vindex (column_at row column) ≡ Ok id
     → passes_of plan t row ≡ Ok (in_range range id)
-keeps_range plan t column vindex range id row d e = ap (λ x. kept_under x row) d ∙ rw e
+keeps_range plan t column vindex range kept id row d e = ap (λ x. kept_under x row) d ∙ rw e
 
 is_false : (b : Bool) → (IsTrue b → ⊥) → b ≡ false
 is_false true h = absurd (h (search rules))
 is_false false h = refl
 
 pub split_row : (t : ℕ) (row : List (Option (List ℕ))) → SplitRow t row
-split_row t row plans column vindex ranges id splits keep defined =
+split_row t row plans column vindex kept ranges id splits keep defined =
     let one = splits id in
-    let here = plan_at (slice_get plans one.place) (λ plan. decision_at plan t) (InRange column vindex one.range)
-    (same_places plans t column vindex ranges one.place keep ∙ ap (option_map (InRange column vindex)) one.stands) in
+    let here = plan_at (slice_get plans one.place) (λ plan. decision_at plan t) (InRange column vindex one.range kept)
+    (same_places plans t column vindex kept ranges one.place keep ∙ ap (option_map (λ range. InRange column vindex range kept)) one.stands) in
     record {
       place = one.place;
       plan = here.0;
       stands = here.1;
-      passes = keeps_range here.0 t column vindex one.range id row here.2 defined ∙ ap Ok one.has_id;
+      passes = keeps_range here.0 t column vindex one.range kept id row here.2 defined ∙ ap Ok one.has_id;
       alone = λ other another stands apart.
-          let there = range_at (slice_get ranges other) (InRange column vindex) (decision_at another t)
-          (sym (same_places plans t column vindex ranges other keep) ∙ ap (option_map (λ plan. decision_at plan t)) stands) in
-          keeps_range another t column vindex there.0 id row (sym there.2) defined
+          let there = range_at (slice_get ranges other) (λ range. InRange column vindex range kept) (decision_at another t)
+          (sym (same_places plans t column vindex kept ranges other keep) ∙ ap (option_map (λ plan. decision_at plan t)) stands) in
+          keeps_range another t column vindex there.0 kept id row (sym there.2) defined
           ∙ ap Ok (is_false (in_range there.0 id) (λ h. apart (one.alone other there.0 there.1 h)));
     }

@@ -6,16 +6,16 @@ use Rattle.serde_json.specs.Data.{Data}
 use Rattle.serde_json.specs.Read.{read}
 use Rattle.filter_rule.specs.Document.{DocumentSaid, document_of}
 use Rattle.outcome.specs.Outcome.{◌>>=◌, each}
-use Rattle.filter_rule.specs.Faults.{Fault, json, shape, limit, no_such_column, key_type, bad_rule}
+use Rattle.filter_rule.specs.Faults.{Fault, json, shape, limit, no_such_column, key_type, bad_rule, columns_differ}
 use Rattle.filter_rule.specs.FirstRule.{document_in}
 use Rattle.filter_rule.specs.Limits.{is_within, within_limits}
-use Rattle.filter_rule.specs.Reading.{json_of, plans_of_document, plans_of}
+use Rattle.filter_rule.specs.Reading.{decided_from, closed_from, json_of, plans_of_document, plans_of}
 use Rattle.filter_rule.specs.Resolving.{resolved}
 use Rattle.filter_rule.specs.Standing.{Stands}
 use Rattle.filter_rule.proofs.JsonText.{no_json}
 use Rattle.filter_rule.proofs.RefusedSteps.{failed, same_fault, then_err, none_from_err}
 use Rattle.filter_rule.proofs.ShapeFault.{document_of_only}
-use Rattle.filter_rule.proofs.StandingRules.{streams_stand}
+use Rattle.filter_rule.proofs.StandingRules.{streams_stand, differ_stand}
 use Rattle.filter_rule.proofs.StandingTables.{StandsIn, limits_stand, tables_stand}
 use Rattle.filter_rule.proofs.TableLaws.{limits_kept}
 
@@ -44,6 +44,7 @@ in_document text document limit says there = (document, says, there)
 in_document text document (no_such_column table column) says there = (document, says, there)
 in_document text document (key_type table column) says there = (document, says, there)
 in_document text document (bad_rule stream rule) says there = (document, says, there)
+in_document text document (columns_differ table) says there = (document, says, there)
 
 pub stands : (text : List ℕ) (e : Fault) → plans_of text ≡ Err e → Stands text e
 unfolding plans_of plans_of_document
@@ -57,4 +58,6 @@ stands text e h =
     let kept = limits_kept (is_within said) said document document_is in
     let says_it : document_in text ≡ Ok document = says ∙ ap Ok kept.1 in
     then_err _ (each resolved document.tables) e h4 (λ bad. in_document text document e says_it (tables_stand document e bad))
-    (λ tables tables_are h5. in_document text document e says_it (streams_stand document tables e tables_are h5)))))
+    (λ tables tables_are h5. then_err _ (decided_from tables 0 document.streams) e h5 (λ bad. in_document text document e says_it (streams_stand document tables e tables_are bad))
+    (λ streams streams_are h6. then_err _ (closed_from streams 0 tables) e h6 (λ bad. in_document text document e says_it (differ_stand document tables streams e tables_are streams_are bad))
+    (λ closed closed_are h7. cc))))))

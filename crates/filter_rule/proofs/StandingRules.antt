@@ -1,6 +1,8 @@
 -- What stands in a file whose rules are refused.
 use Rattle.std.proofs.Common.{◌≡◌, ℕ, zero, suc, ◌+◌, List, [], ◌∷◌, ◌++◌, length, Bool, true, false, cond, Option, Some, None, Ok, Err, refl, sym, ap, subst, ◌∙◌, append_assoc, length-append, arith}
-use Rattle.std.specs.Prelude.{slice_get}
+use Rattle.std.specs.Prelude.{◌&&◌, slice_get, MatchOption}
+use Rattle.std.specs.Option.{option_map_or}
+use Rattle.filter_text.specs.ColumnList.{has_column}
 use Rattle.vindex.specs.Bounds.{Bounds}
 use Rattle.vindex.specs.declared.vindexes.Vindex.{Vindex}
 use Rattle.filter_rule.specs.Document.{RuleSaid, StreamSaid, TableSaid, DocumentSaid}
@@ -8,19 +10,22 @@ use Rattle.outcome.specs.Outcome.{each}
 use Rattle.filter_rule.specs.Faults.{Fault, bad_rule, key_type}
 use Rattle.filter_text.specs.FilterText.{RowsSaid, every_row, in_own_range, in_range_of, FilterMeaning, filter_of}
 use Rattle.filter_text.specs.RuleScope.{scope_of, is_for, agrees}
-use Rattle.filter_rule.specs.FirstRule.{is_match, first_match}
-use Rattle.filter_rule.specs.PlanTable.{TableValue}
-use Rattle.filter_rule.specs.Reading.{rule_over, decide_in_turn, undecided, decisions_of, plan_of, plans_from}
-use Rattle.filter_rule.specs.Resolving.{is_vindex_type, place_in, type_in, vindex_place, vindex_type, unfit_key, refuse_type, own_vindex_type, resolved}
-use Rattle.filter_rule.specs.Rules.{RuleForm, form_of, or_bad, agreeing, own_decision, decide, decide_once, decide_each}
-use Rattle.filter_rule.specs.Standing.{HasTable, IsFirstFor, by_rule, under_rule, no_form, no_vindex}
+use Rattle.filter_rule.specs.FirstRule.{is_match, first_match, Decides, IsByFirst}
+use Rattle.filter_rule.specs.PlanTable.{ColumnValue, TableValue}
+use Rattle.filter_rule.specs.PlanValue.{kept_under_rule}
+use Rattle.filter_rule.specs.Reading.{rule_over, decide_in_turn, undecided, decisions_of, Decided, decided_by, decided_from, closed_from}
+use Rattle.filter_rule.specs.Resolving.{all_places, name_at, lists_key, is_vindex_type, place_in, type_in, vindex_place, vindex_type, unfit_key, refuse_type, own_vindex_type, resolved}
+use Rattle.filter_rule.specs.Rules.{RuleForm, form_of, or_bad, agreeing, kept_by, own_decision, decide, decide_once, decide_each}
+use Rattle.filter_rule.specs.Standing.{HasTable, IsFirstFor, by_rule, by_list, under_rule, no_form, no_vindex, key_left_out, KeepsOf}
 use Rattle.filter_rule.specs.declared.decision.Decision.{Decision}
 use Rattle.filter_rule.specs.declared.decision.Decision.TheVariants.{NoRule, EveryRow, InRange}
 use Rattle.filter_rule.proofs.FirstRuleLaws.{form_match, decide_decides}
-use Rattle.filter_rule.proofs.RefusedSteps.{failed, same_fault, then_err, none_from_err, absent, unfit_column}
+use Rattle.filter_rule.proofs.RefusedSteps.{failed, same_fault, then_err, each_refused, none_from_err, absent, unfit_column}
+use Rattle.filter_rule.proofs.DecidedLaws.{decided_at}
+use Rattle.filter_rule.proofs.KeepingLaws.{KeptBy, decision_at_kept, closed_refused}
 use Rattle.filter_rule.proofs.StandingTables.{StandsIn, refused_type}
 use Rattle.filter_rule.proofs.StepLaws.{then_ok, read_as, same_ok, same_some, each_at}
-use Rattle.filter_rule.proofs.TableLaws.{resolved_parts}
+use Rattle.filter_rule.proofs.TableLaws.{place_found, column_found}
 
 -- ---- a rule without a form is refused as such
 
@@ -50,17 +55,17 @@ record Undecides (s n : ℕ) (form : RuleForm) (ts : List TableValue) (ds : List
   stands : slice_get ts place ≡ Some table
   open_still : slice_get ds place ≡ Some NoRule
   matches : is_for form.scope table.name ≡ true
-  gives : decide s n form.rows table ≡ Err e
+  gives : decide s n form.columns form.rows table ≡ Err e
 
-one_refused : (s n : ℕ) (form : RuleForm) (t : TableValue) (ts : List TableValue) (ds : List Decision) (b : Bool) (e : Fault) → is_for form.scope t.name ≡ b → cond b (decide s n form.rows t) (Ok NoRule) ≡ Err e
+one_refused : (s n : ℕ) (form : RuleForm) (t : TableValue) (ts : List TableValue) (ds : List Decision) (b : Bool) (e : Fault) → is_for form.scope t.name ≡ b → cond b (decide s n form.columns form.rows t) (Ok NoRule) ≡ Err e
     → Undecides s n form (t ∷ ts) (NoRule ∷ ds) e
 one_refused s n form t ts ds true e is h = record { place = 0; table = t; stands = refl; open_still = refl; matches = is; gives = h }
 one_refused s n form t ts ds false e is h = cc
 
 first_refused : (s n : ℕ) (form : RuleForm) (t : TableValue) (ts : List TableValue) (d : Decision) (ds : List Decision) (e : Fault) → decide_once s n form t d ≡ Err e → Undecides s n form (t ∷ ts) (d ∷ ds) e
 first_refused s n form t ts NoRule ds e h = one_refused s n form t ts ds (is_for form.scope t.name) e refl h
-first_refused s n form t ts EveryRow ds e h = cc
-first_refused s n form t ts (InRange place vindex range) ds e h = cc
+first_refused s n form t ts (EveryRow kept) ds e h = cc
+first_refused s n form t ts (InRange place vindex range kept) ds e h = cc
 
 later_refused : (s n : ℕ) (form : RuleForm) (t : TableValue) (ts : List TableValue) (d : Decision) (ds : List Decision) (e : Fault) → Undecides s n form ts ds e → Undecides s n form (t ∷ ts) (d ∷ ds) e
 later_refused s n form t ts d ds e u = record { place = suc u.place; table = u.table; stands = u.stands; open_still = u.open_still; matches = u.matches; gives = u.gives }
@@ -78,20 +83,20 @@ tables_refused s n form (t ∷ ts) (d ∷ ds) e h =
 abbrev WasOpen : RuleForm → TableValue → Decision → Type 0
 WasOpen form t d = (d ≡ NoRule) × (is_for form.scope t.name ≡ false)
 
-open_at : (s n : ℕ) (form : RuleForm) (t : TableValue) (b : Bool) → is_for form.scope t.name ≡ b → cond b (decide s n form.rows t) (Ok NoRule) ≡ Ok NoRule → WasOpen form t NoRule
-open_at s n form t true is h = absurd (decide_decides s n form.rows t h)
+open_at : (s n : ℕ) (form : RuleForm) (t : TableValue) (b : Bool) → is_for form.scope t.name ≡ b → cond b (decide s n form.columns form.rows t) (Ok NoRule) ≡ Ok NoRule → WasOpen form t NoRule
+open_at s n form t true is h = absurd (decide_decides s n form.columns form.rows t h)
 open_at s n form t false is h = (refl, is)
 
-no_every : EveryRow ≡ NoRule → ⊥
-no_every e = cc
+no_every : (kept : List ℕ) → EveryRow kept ≡ NoRule → ⊥
+no_every kept e = cc
 
-no_range : (place : ℕ) (vindex : Vindex) (range : Bounds) → InRange place vindex range ≡ NoRule → ⊥
-no_range place vindex range e = cc
+no_range : (place : ℕ) (vindex : Vindex) (range : Bounds) (kept : List ℕ) → InRange place vindex range kept ≡ NoRule → ⊥
+no_range place vindex range kept e = cc
 
 one_open : (s n : ℕ) (form : RuleForm) (t : TableValue) (d : Decision) → decide_once s n form t d ≡ Ok NoRule → WasOpen form t d
 one_open s n form t NoRule h = open_at s n form t (is_for form.scope t.name) refl h
-one_open s n form t EveryRow h = absurd (no_every (same_ok EveryRow NoRule h))
-one_open s n form t (InRange place vindex range) h = absurd (no_range place vindex range (same_ok (InRange place vindex range) NoRule h))
+one_open s n form t (EveryRow kept) h = absurd (no_every kept (same_ok (EveryRow kept) NoRule h))
+one_open s n form t (InRange place vindex range kept) h = absurd (no_range place vindex range kept (same_ok (InRange place vindex range kept) NoRule h))
 
 abbrev AllOpen : RuleForm → List TableValue → List Decision → List Decision → Type 0
 AllOpen form ts ds es = (i : ℕ) (t : TableValue) → slice_get ts i ≡ Some t → slice_get es i ≡ Some NoRule → (slice_get ds i ≡ Some NoRule) × (is_for form.scope t.name ≡ false)
@@ -140,7 +145,7 @@ unmatched before r name none match =
 pub data IsRefusedRule (s : ℕ) (ts : List TableValue) (rules : List RuleSaid) (e : Fault) : Type 0 where
   formless : (n : ℕ) (r : RuleSaid) → slice_get rules n ≡ Some r → form_of s n r ≡ Err e → IsRefusedRule s ts rules e
   undecided_by : (n : ℕ) (r : RuleSaid) (form : RuleForm) (i : ℕ) (t : TableValue) → slice_get ts i ≡ Some t → first_match 0 rules t.name ≡ Some (n, r) → form_of s n r ≡ Ok form
-      → decide s n form.rows t ≡ Err e → IsRefusedRule s ts rules e
+      → decide s n form.columns form.rows t ≡ Err e → IsRefusedRule s ts rules e
 
 get_behind : (before rs : List RuleSaid) (r : RuleSaid) (n : ℕ) → n ≡ length before → slice_get (before ++ r ∷ rs) n ≡ Some r
 get_behind [] rs r n count = ap (slice_get (r ∷ rs)) count
@@ -174,33 +179,79 @@ decisions_refused s ts rules e h = rules_refused s ts [] rules 0 (undecided ts) 
 
 -- ---- in the document
 
-own_refused : (document : DocumentSaid) (s n : ℕ) (said : TableSaid) (form : RuleForm) (range : Bounds) (v : Option (ℕ × Vindex)) (e : Fault) → HasTable document said → IsFirstFor document s n said.name form → form.rows ≡ in_own_range range
-    → (v ≡ None → said.vindex ≡ None) → own_decision s n range v ≡ Err e → StandsIn document e
-own_refused document s n said form range None e there first rows none h =
+-- a table of a document, and the one that it was resolved as
+record IsResolved (said : TableSaid) (t : TableValue) : Type 0 where
+  is : resolved said ≡ Ok t
+  name : t.name ≡ said.name
+  columns : t.columns ≡ said.columns
+  key : each (place_in said.name said.columns) said.key ≡ Ok t.key
+  vindex : t.vindex ≡ None → said.vindex ≡ None
+
+one_not : {P : Type 0} (b c : Bool) → (b && c) ≡ false → (b ≡ false → P) → (c ≡ false → P) → P
+one_not true c h k l = l h
+one_not false c h k l = k refl
+
+-- a key column that isn't listed
+not_listed : (names : List (List ℕ)) (columns : List ColumnValue) (key : List ℕ) → lists_key names columns key ≡ false → (i : ℕ) × (place : ℕ) × (slice_get key i ≡ Some place) × (has_column (name_at columns place) names ≡ false)
+not_listed names columns [] h = cc
+not_listed names columns (place ∷ key) h = one_not (has_column (name_at columns place) names) (lists_key names columns key) h
+    (λ here. (0, place, refl, here)) (λ later. let there = not_listed names columns key later in (suc there.0, there.1, there.2, there.3))
+
+key_refused : (document : DocumentSaid) (s n : ℕ) (said : TableSaid) (form : RuleForm) (names : List (List ℕ)) (t : TableValue) → HasTable document said → IsFirstFor document s n said.name form → form.columns ≡ Some names → IsResolved said t
+    → lists_key names t.columns t.key ≡ false → StandsIn document (bad_rule s n)
+key_refused document s n said form names t there first columns is out =
+    let found = not_listed names t.columns t.key out in
+    let place = found.1 in
+    let from = each_at (place_in said.name said.columns) said.key t.key is.key found.0 place found.2 in
+    let column = column_found said.columns from.item place (place_found said.name said.columns from.item place from.gives) in
+    let name : name_at t.columns place ≡ from.item = ap (λ columns. name_at columns place) is.columns ∙ ap (λ o. option_map_or (λ (c : ColumnValue). c.name) o []) column.stands ∙ column.named in
+    key_left_out said form there first (names, columns, found.0, from.item, from.stands, ap (λ name. has_column name names) (sym name) ∙ found.3)
+
+list_refused : (b : Bool) (document : DocumentSaid) (s n : ℕ) (said : TableSaid) (form : RuleForm) (names : List (List ℕ)) (t : TableValue) (e : Fault) → HasTable document said → IsFirstFor document s n said.name form → form.columns ≡ Some names → IsResolved said t
+    → lists_key names t.columns t.key ≡ b → cond b (each (place_in t.name t.columns) names) (Err (bad_rule s n)) ≡ Err e → StandsIn document e
+list_refused false document s n said form names t e there first columns is listed h =
+    subst (StandsIn document) (same_fault {B = List ℕ} (bad_rule s n) e h) (key_refused document s n said form names t there first columns is listed)
+list_refused true document s n said form names t e there first columns is listed h =
+    let r = each_refused (place_in t.name t.columns) names e h in
+    let same : place_in t.name t.columns r.item ≡ place_in said.name said.columns r.item = ap (λ name. place_in name t.columns r.item) is.name ∙ ap (λ columns. place_in said.name columns r.item) is.columns in
+    let a = absent said.name said.columns r.item e (sym same ∙ r.gives) in
+    subst (StandsIn document) a.0 (by_list said s n form there refl first (names, columns, r.place, r.stands) a.1)
+
+kept_refused : (document : DocumentSaid) (s n : ℕ) (said : TableSaid) (form : RuleForm) (columns : Option (List (List ℕ))) (t : TableValue) (e : Fault) → HasTable document said → IsFirstFor document s n said.name form → form.columns ≡ columns → IsResolved said t
+    → kept_by s n columns t ≡ Err e → StandsIn document e
+kept_refused document s n said form None t e there first columns is h = cc
+kept_refused document s n said form (Some names) t e there first columns is h =
+    list_refused (lists_key names t.columns t.key) document s n said form names t e there first columns is refl h
+
+own_refused : (document : DocumentSaid) (s n : ℕ) (said : TableSaid) (form : RuleForm) (range : Bounds) (t : TableValue) (v : Option (ℕ × Vindex)) (e : Fault) → HasTable document said → IsFirstFor document s n said.name form → form.rows ≡ in_own_range range
+    → IsResolved said t → (v ≡ None → said.vindex ≡ None) → own_decision s n form.columns t range v ≡ Err e → StandsIn document e
+own_refused document s n said form range t None e there first rows is none h =
     subst (StandsIn document) (same_fault {B = Decision} (bad_rule s n) e h) (no_vindex said form range there first rows (none refl))
-own_refused document s n said form range (Some v) e there first rows none h = cc
+own_refused document s n said form range t (Some v) e there first rows is none h =
+    then_err _ (kept_by s n form.columns t) e h (λ bad. kept_refused document s n said form form.columns t e there first refl is bad) (λ kept kept_is h2. cc)
 
 named_refused : (document : DocumentSaid) (s n : ℕ) (said : TableSaid) (form : RuleForm) (column : List ℕ) (vindex : Vindex) (range : Bounds) (t : TableValue) (e : Fault) → HasTable document said → IsFirstFor document s n said.name form
-    → form.rows ≡ in_range_of column vindex range → t.name ≡ said.name → t.columns ≡ said.columns → decide s n (in_range_of column vindex range) t ≡ Err e → StandsIn document e
-named_refused document s n said form column vindex range t e there first rows name_is columns_are h =
-    let place_same : place_in t.name t.columns column ≡ place_in said.name said.columns column = ap (λ name. place_in name t.columns column) name_is ∙ ap (λ columns. place_in said.name columns column) columns_are in
-    then_err _ (place_in t.name t.columns column) e h
+    → form.rows ≡ in_range_of column vindex range → IsResolved said t → decide s n form.columns (in_range_of column vindex range) t ≡ Err e → StandsIn document e
+named_refused document s n said form column vindex range t e there first rows is h =
+    let place_same : place_in t.name t.columns column ≡ place_in said.name said.columns column = ap (λ name. place_in name t.columns column) is.name ∙ ap (λ columns. place_in said.name columns column) is.columns in
+    then_err _ (kept_by s n form.columns t) e h (λ bad. kept_refused document s n said form form.columns t e there first refl is bad)
+    (λ kept kept_is h1. then_err _ (place_in t.name t.columns column) e h1
     (λ none. let a = absent said.name said.columns column e (sym place_same ∙ none) in
     subst (StandsIn document) a.0 (by_rule said s n form vindex range there refl first rows a.1))
     (λ place place_is h2. then_err _ (vindex_type t.name t.columns column vindex) e h2
     (λ unfit.
     let r = refused_type (is_vindex_type vindex (type_in t.columns column)) column (key_type t.name column) e unfit in
-    let kind : is_vindex_type vindex (type_in said.columns column) ≡ false = ap (λ columns. is_vindex_type vindex (type_in columns column)) (sym columns_are) ∙ r.0 in
-    subst (StandsIn document) (ap (λ name. key_type name column) (sym name_is) ∙ r.1)
+    let kind : is_vindex_type vindex (type_in said.columns column) ≡ false = ap (λ columns. is_vindex_type vindex (type_in columns column)) (sym is.columns) ∙ r.0 in
+    subst (StandsIn document) (ap (λ name. key_type name column) (sym is.name) ∙ r.1)
     (under_rule said s n form vindex range there refl first rows (unfit_column (is_vindex_type vindex) said.name said.columns column place (sym place_same ∙ place_is) kind)))
-    (λ x x_is h3. cc))
+    (λ x x_is h3. cc)))
 
-decide_refused : (document : DocumentSaid) (s n : ℕ) (said : TableSaid) (form : RuleForm) (rows : RowsSaid) (t : TableValue) (e : Fault) → HasTable document said → IsFirstFor document s n said.name form → form.rows ≡ rows
-    → t.name ≡ said.name → t.columns ≡ said.columns → (t.vindex ≡ None → said.vindex ≡ None) → decide s n rows t ≡ Err e → StandsIn document e
-decide_refused document s n said form every_row t e there first rows name_is columns_are none h = cc
-decide_refused document s n said form (in_own_range range) t e there first rows name_is columns_are none h = own_refused document s n said form range t.vindex e there first rows none h
-decide_refused document s n said form (in_range_of column vindex range) t e there first rows name_is columns_are none h =
-    named_refused document s n said form column vindex range t e there first rows name_is columns_are h
+decide_refused : (document : DocumentSaid) (s n : ℕ) (said : TableSaid) (form : RuleForm) (rows : RowsSaid) (t : TableValue) (e : Fault) → HasTable document said → IsFirstFor document s n said.name form → form.rows ≡ rows → IsResolved said t
+    → decide s n form.columns rows t ≡ Err e → StandsIn document e
+decide_refused document s n said form every_row t e there first rows is h =
+    then_err _ (kept_by s n form.columns t) e h (λ bad. kept_refused document s n said form form.columns t e there first refl is bad) (λ kept kept_is h2. cc)
+decide_refused document s n said form (in_own_range range) t e there first rows is h = own_refused document s n said form range t t.vindex e there first rows is is.vindex h
+decide_refused document s n said form (in_range_of column vindex range) t e there first rows is h = named_refused document s n said form column vindex range t e there first rows is h
 
 -- a table has a vindex where it is said to have one
 vindex_kept : (table : List ℕ) (said : TableSaid) (v : Option (List ℕ × Vindex)) (vindex : Option (ℕ × Vindex)) → vindex_place table said.columns v ≡ Ok vindex → vindex ≡ None → v ≡ None
@@ -208,45 +259,104 @@ vindex_kept table said None vindex h none = refl
 vindex_kept table said (Some v) vindex h none =
     then_ok _ (place_in table said.columns v.0) vindex h (λ place place_is h2. let some : Some (place, v.1) ≡ vindex = same_ok (Some (place, v.1)) vindex h2 in cc)
 
-no_vindex_said : (said : TableSaid) (t : TableValue) → resolved said ≡ Ok t → t.vindex ≡ None → said.vindex ≡ None
+resolved_as : (said : TableSaid) (t : TableValue) → resolved said ≡ Ok t → IsResolved said t
 unfolding resolved
-no_vindex_said said t h none =
+resolved_as said t h =
     then_ok _ (each (place_in said.name said.columns) said.key) t h (λ key key_is h2.
     then_ok _ (vindex_place said.name said.columns said.vindex) t h2 (λ vindex vindex_is h3.
     then_ok _ (refuse_type said.name (unfit_key said.columns said.key)) t h3 (λ a a_is h4.
     then_ok _ (own_vindex_type said.name said.columns said.vindex) t h4 (λ b b_is h5.
-    let same : vindex ≡ t.vindex = ap (λ (x : TableValue). x.vindex) (same_ok (record { name = said.name; columns = said.columns; key = key; vindex = vindex }) t h5) in
-    vindex_kept said.name said said.vindex vindex vindex_is (same ∙ none)))))
+    let same = same_ok (record { name = said.name; columns = said.columns; key = key; vindex = vindex; kept = all_places said.columns }) t h5 in
+    record {
+      is = h;
+      name = ap (λ (x : TableValue). x.name) (sym same);
+      columns = ap (λ (x : TableValue). x.columns) (sym same);
+      key = key_is ∙ ap (λ (x : TableValue). Ok x.key) same;
+      vindex = λ none. vindex_kept said.name said said.vindex vindex vindex_is (ap (λ (x : TableValue). x.vindex) same ∙ none);
+    }))))
 
 rule_stands : (document : DocumentSaid) (ts : List TableValue) (s : ℕ) (stream : StreamSaid) (e : Fault) → each resolved document.tables ≡ Ok ts → slice_get document.streams s ≡ Some stream → IsRefusedRule s ts stream.rules e → StandsIn document e
 rule_stands document ts s stream e tables_are stands (formless n r r_is bad) =
     subst (StandsIn document) (no_form_is s n r e bad) (no_form stream r stands r_is (λ form is. let both : failed {B = RuleForm} e ≡ Ok form = sym bad ∙ is in cc))
 rule_stands document ts s stream e tables_are stands (undecided_by n r form i t t_is first form_is bad) =
     let from = each_at resolved document.tables ts tables_are i t t_is in
-    let parts = resolved_parts from.item t from.gives in
+    let parts = resolved_as from.item t from.gives in
     let at_name : first_match 0 stream.rules from.item.name ≡ Some (n, r) = ap (first_match 0 stream.rules) (sym parts.name) ∙ first in
     decide_refused document s n from.item form form.rows t e (i, from.stands) (record { said = stream; stands = stands; text = r; first = at_name; formed = form_is }) refl
-    parts.name parts.columns (no_vindex_said from.item t from.gives) bad
+    parts bad
 
-plan_refused : (keyspace : List ℕ) (ts : List TableValue) (n : ℕ) (stream : StreamSaid) (e : Fault) → plan_of keyspace ts n stream ≡ Err e → IsRefusedRule n ts stream.rules e
-unfolding plan_of
-plan_refused keyspace ts n stream e h =
+decided_refused : (ts : List TableValue) (n : ℕ) (stream : StreamSaid) (e : Fault) → decided_by ts n stream ≡ Err e → IsRefusedRule n ts stream.rules e
+unfolding decided_by
+decided_refused ts n stream e h =
     then_err _ (decisions_of n ts stream.rules) e h (λ bad. decisions_refused n ts stream.rules e bad) (λ ds ds_is h2. cc)
 
 abbrev AreStreamsFrom : DocumentSaid → ℕ → List StreamSaid → Type 0
 AreStreamsFrom document n ss = (i : ℕ) (stream : StreamSaid) → slice_get ss i ≡ Some stream → slice_get document.streams (n + i) ≡ Some stream
 
-plans_refused : (document : DocumentSaid) (ts : List TableValue) (n : ℕ) (ss : List StreamSaid) (e : Fault) → each resolved document.tables ≡ Ok ts → AreStreamsFrom document n ss → plans_from document.keyspace ts n ss ≡ Err e → StandsIn document e
-unfolding plans_from
-plans_refused document ts n [] e tables_are there h = cc
-plans_refused document ts n (s ∷ ss) e tables_are there h =
+all_refused : (document : DocumentSaid) (ts : List TableValue) (n : ℕ) (ss : List StreamSaid) (e : Fault) → each resolved document.tables ≡ Ok ts → AreStreamsFrom document n ss → decided_from ts n ss ≡ Err e → StandsIn document e
+unfolding decided_from
+all_refused document ts n [] e tables_are there h = cc
+all_refused document ts n (s ∷ ss) e tables_are there h =
     let at_n : n + 0 ≡ n = omega arith in
-    then_err _ (plan_of document.keyspace ts n s) e h
-    (λ bad. rule_stands document ts n s e tables_are (ap (slice_get document.streams) (sym at_n) ∙ there 0 s refl) (plan_refused document.keyspace ts n s e bad))
-    (λ p p_is h2. then_err _ (plans_from document.keyspace ts (n + 1) ss) e h2
-    (λ bad. plans_refused document ts (n + 1) ss e tables_are (λ i stream is. let at : (n + 1) + i ≡ n + suc i = omega arith in ap (slice_get document.streams) at ∙ there (suc i) stream is) bad)
+    then_err _ (decided_by ts n s) e h
+    (λ bad. rule_stands document ts n s e tables_are (ap (slice_get document.streams) (sym at_n) ∙ there 0 s refl) (decided_refused ts n s e bad))
+    (λ p p_is h2. then_err _ (decided_from ts (n + 1) ss) e h2
+    (λ bad. all_refused document ts (n + 1) ss e tables_are (λ i stream is. let at : (n + 1) + i ≡ n + suc i = omega arith in ap (slice_get document.streams) at ∙ there (suc i) stream is) bad)
     (λ ps ps_is h3. cc))
 
-pub streams_stand : (document : DocumentSaid) (ts : List TableValue) (e : Fault) → each resolved document.tables ≡ Ok ts → plans_from document.keyspace ts 0 document.streams ≡ Err e → StandsIn document e
+pub streams_stand : (document : DocumentSaid) (ts : List TableValue) (e : Fault) → each resolved document.tables ≡ Ok ts → decided_from ts 0 document.streams ≡ Err e → StandsIn document e
 streams_stand document ts e tables_are h =
-    plans_refused document ts 0 document.streams e tables_are (λ i stream is. let at : 0 + i ≡ i = omega arith in ap (slice_get document.streams) at ∙ is) h
+    all_refused document ts 0 document.streams e tables_are (λ i stream is. let at : 0 + i ≡ i = omega arith in ap (slice_get document.streams) at ∙ is) h
+
+-- ---- streams that keep different columns
+
+own_keeps : (s n : ℕ) (form : RuleForm) (range : Bounds) (t : TableValue) (v : Option (ℕ × Vindex)) (d : Decision) (kept : List ℕ) → own_decision s n form.columns t range v ≡ Ok d → kept_under_rule d ≡ Some kept → kept_by s n form.columns t ≡ Ok kept
+own_keeps s n form range t None d kept h keeps = cc
+own_keeps s n form range t (Some v) d kept h keeps =
+    then_ok _ (kept_by s n form.columns t) d h (λ k k_is h2. k_is ∙ ap Ok (same_some k kept (ap kept_under_rule (same_ok (InRange v.0 v.1 range k) d h2) ∙ keeps)))
+
+decided_keeps : (s n : ℕ) (form : RuleForm) (rows : RowsSaid) (t : TableValue) (d : Decision) (kept : List ℕ) → decide s n form.columns rows t ≡ Ok d → kept_under_rule d ≡ Some kept → kept_by s n form.columns t ≡ Ok kept
+decided_keeps s n form every_row t d kept h keeps =
+    then_ok _ (kept_by s n form.columns t) d h (λ k k_is h2. k_is ∙ ap Ok (same_some k kept (ap kept_under_rule (same_ok (EveryRow k) d h2) ∙ keeps)))
+decided_keeps s n form (in_own_range range) t d kept h keeps = own_keeps s n form range t t.vindex d kept h keeps
+decided_keeps s n form (in_range_of column vindex range) t d kept h keeps =
+    then_ok _ (kept_by s n form.columns t) d h (λ k k_is h2. then_ok _ (place_in t.name t.columns column) d h2 (λ place place_is h3. then_ok _ (vindex_type t.name t.columns column vindex) d h3 (λ a a_is h4.
+    k_is ∙ ap Ok (same_some k kept (ap kept_under_rule (same_ok (InRange place vindex range k) d h4) ∙ keeps)))))
+
+first_keeps : (document : DocumentSaid) (s : ℕ) (stream : StreamSaid) (said : TableSaid) (t : TableValue) (o : Option (ℕ × RuleSaid)) (d : Decision) (kept : List ℕ) → slice_get document.streams s ≡ Some stream → HasTable document said → IsResolved said t
+    → first_match 0 stream.rules t.name ≡ o → MatchOption o (d ≡ NoRule) (λ p. Decides s p.0 p.1 t d) → kept_under_rule d ≡ Some kept → KeepsOf document t.name kept
+first_keeps document s stream said t None d kept stands there is first by keeps = let none : kept_under_rule d ≡ None = ap kept_under_rule by in cc
+first_keeps document s stream said t (Some p) d kept stands there is first by keeps = record {
+  said = said;
+  there = there;
+  named = sym is.name;
+  resolved_as = t;
+  is = is.is;
+  stream = s;
+  rule = p.0;
+  form = by.form;
+  first = record { said = stream; stands = stands; text = p.1; first = first; formed = by.formed };
+  keeps = decided_keeps s p.0 by.form by.form.rows t d kept by.decided keeps;
+}
+
+keeps_of : (document : DocumentSaid) (tables : List TableValue) (streams : List Decided) (i : ℕ) (t : TableValue) (kept : List ℕ) → each resolved document.tables ≡ Ok tables → decided_from tables 0 document.streams ≡ Ok streams → slice_get tables i ≡ Some t
+    → KeptBy i streams kept → KeepsOf document t.name kept
+keeps_of document tables streams i t kept tables_are streams_are t_is by =
+    let at = decided_at tables 0 document.streams streams streams_are by.place by.stream by.stands in
+    let from = each_at resolved document.tables tables tables_are i t t_is in
+    let d = decision_at_kept i by.stream (slice_get by.stream.decisions i) kept refl by.keeps in
+    let zero_at : 0 + by.place ≡ by.place = omega arith in
+    first_keeps document by.place at.stream from.item t (first_match 0 at.stream.rules t.name) d.decision kept at.stands (i, from.stands) (resolved_as from.item t from.gives) refl
+    (subst (λ n. IsByFirst n 0 at.stream.rules t d.decision) zero_at (at.is.first i t d.decision t_is d.stands)) d.keeps
+
+pub differ_stand : (document : DocumentSaid) (tables : List TableValue) (streams : List Decided) (e : Fault) → each resolved document.tables ≡ Ok tables → decided_from tables 0 document.streams ≡ Ok streams → closed_from streams 0 tables ≡ Err e → StandsIn document e
+differ_stand document tables streams e tables_are streams_are h =
+    let d = closed_refused streams 0 tables e h in
+    let zero_at : 0 + d.place ≡ d.place = omega arith in
+    subst (StandsIn document) d.is (
+      d.one,
+      d.other,
+      keeps_of document tables streams d.place d.table d.one tables_are streams_are d.stands (subst (λ n. KeptBy n streams d.one) zero_at d.first),
+      keeps_of document tables streams d.place d.table d.other tables_are streams_are d.stands (subst (λ n. KeptBy n streams d.other) zero_at d.second),
+      d.apart,
+    )

@@ -6,10 +6,10 @@ use Rattle.std.proofs.lemmas.Bool.Decides.{nat_tests}
 use Rattle.vindex.specs.declared.vindexes.Vindex.{Vindex}
 use Rattle.filter_rule.specs.Document.{TableSaid, DocumentSaid}
 use Rattle.outcome.specs.Outcome.{each}
-use Rattle.filter_rule.specs.Faults.{Fault, json, shape, limit, no_such_column, key_type, bad_rule}
+use Rattle.filter_rule.specs.Faults.{Fault, json, shape, limit, no_such_column, key_type, bad_rule, columns_differ}
 use Rattle.filter_rule.specs.Limits.{is_up_to, is_table_within, is_within, within_limits}
 use Rattle.filter_rule.specs.Resolving.{is_key_type, is_vindex_type, place_in, type_in, unfit_key, refuse_type, vindex_place, vindex_type, own_vindex_type, resolved}
-use Rattle.filter_rule.specs.Standing.{HasTable, LacksColumn, by_key, by_vindex, HasUnfitColumn, in_key, under_vindex, HasBadRule, IsOutside, IsPastLimit, streams_past, tables_past, columns_past, key_past}
+use Rattle.filter_rule.specs.Standing.{HasTable, LacksColumn, by_key, by_vindex, HasUnfitColumn, in_key, under_vindex, HasBadRule, KeepDifferent, IsOutside, IsPastLimit, streams_past, tables_past, columns_past, key_past}
 use Rattle.filter_rule.proofs.RefusedSteps.{same_fault, then_err, each_refused, each_gives, absent, unfit_column, found, not_true}
 use Rattle.filter_rule.proofs.StepLaws.{then_ok, read_as}
 
@@ -21,6 +21,7 @@ StandsIn document limit = IsPastLimit document
 StandsIn document (no_such_column table column) = LacksColumn document table column
 StandsIn document (key_type table column) = HasUnfitColumn document table column
 StandsIn document (bad_rule stream rule) = HasBadRule document stream rule
+StandsIn document (columns_differ table) = KeepDifferent document table
 
 -- ---- counts
 

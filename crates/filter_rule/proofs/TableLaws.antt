@@ -1,7 +1,7 @@
 -- The tables of an accepted document are well formed.
-use Rattle.std.proofs.Common.{◌≡◌, ℕ, ◌≤◌, List, [], ◌∷◌, length, get_or, map, codes, Bool, true, false, cond, ◌&&◌, ltb, Option, Some, None, Result, Ok, Err, refl, sym, ap, subst, ◌∙◌, arith}
+use Rattle.std.proofs.Common.{◌≡◌, ℕ, zero, suc, ◌+◌, ◌<◌, ◌≤◌, List, [], ◌∷◌, ◌++◌, length, get_or, map, codes, Bool, true, false, cond, ◌&&◌, ltb, Option, Some, None, Result, Ok, Err, refl, sym, ap, subst, ◌∙◌, arith}
 use Rattle.std.specs.Prelude.{slice_get, position, find, not, IfSome}
-use Rattle.std.specs.List.{list_all, position_or_len}
+use Rattle.std.specs.List.{list_all, position_or_len, range_with_len}
 use Rattle.std.specs.Option.{option_map_or}
 use Rattle.std.specs.Str.{bytes_eq, is_utf8}
 use Rattle.std.proofs.lemmas.Bool.{and_parts}
@@ -17,9 +17,9 @@ use Rattle.filter_rule.specs.Document.{StreamSaid, TableSaid, DocumentSaid, memb
 use Rattle.outcome.specs.Outcome.{each}
 use Rattle.filter_rule.specs.Faults.{Fault, key_type, limit, no_such_column}
 use Rattle.filter_rule.specs.Limits.{is_up_to, is_table_within, is_within}
-use Rattle.filter_rule.specs.PlanTable.{ColumnValue, TableValue}
-use Rattle.filter_rule.specs.Resolving.{is_key_type, is_vindex_type, place_in, type_in, unfit_key, refuse_type, vindex_place, vindex_type, own_vindex_type, resolved}
-use Rattle.filter_rule.specs.WellFormed.{AreDistinct, AreUpTo, type_at, HasColumn, IsColumnDef, IsTable, AreTables}
+use Rattle.filter_rule.specs.PlanTable.{ColumnValue, TableValue, keeping}
+use Rattle.filter_rule.specs.Resolving.{all_places, is_key_type, is_vindex_type, place_in, type_in, unfit_key, refuse_type, vindex_place, vindex_type, own_vindex_type, resolved}
+use Rattle.filter_rule.specs.WellFormed.{AreDistinct, AreUpTo, AreColumnPlaces, AreKept, type_at, HasColumn, IsColumnDef, IsTable, AreTables}
 use Rattle.filter_rule.proofs.DistinctNames.{distinct_apart}
 use Rattle.filter_rule.proofs.TextLaws.{text_in_is, name_text, column_def}
 use Rattle.filter_rule.proofs.StepLaws.{then_ok, read_as, same_ok, same_some, some_from_ok, not_false, each_length, each_at, list_all_get, find_none}
@@ -200,9 +200,46 @@ has_column fits table columns name place place_is fit =
       fit = subst (λ n. fits n ≡ true) (type_in-is columns name place is) fit;
     }
 
+-- ---- all columns
+
+pub range_get : (a n i x : ℕ) → slice_get (range_with_len a n) i ≡ Some x → (x ≡ a + i) × (i < n)
+range_get a zero i x h = cc
+range_get a (suc n) zero x h = let at : a ≡ a + 0 = omega arith in (sym (same_some a x h) ∙ at, omega arith)
+range_get a (suc n) (suc i) x h =
+    let there = range_get (a + 1) n i x h in
+    let at : (a + 1) + i ≡ a + suc i = omega arith in
+    let below : i < n = there.1 in
+    (there.0 ∙ at, omega arith)
+
+pub range_there : (a n i : ℕ) → i < n → slice_get (range_with_len a n) i ≡ Some (a + i)
+range_there a zero i h = absurd (omega arith)
+range_there a (suc n) zero h = let at : a ≡ a + 0 = omega arith in ap Some at
+range_there a (suc n) (suc i) h = let at : (a + 1) + i ≡ a + suc i = omega arith in range_there (a + 1) n i (omega arith) ∙ ap Some at
+
+pub range_more : (a n : ℕ) → range_with_len a (suc n) ≡ range_with_len a n ++ (a + n) ∷ []
+range_more a zero = let at : a ≡ a + 0 = omega arith in ap (λ x. x ∷ []) at
+range_more a (suc n) = let at : (a + 1) + n ≡ a + suc n = omega arith in ap (λ r. a ∷ r) (range_more (a + 1) n ∙ ap (λ x. range_with_len (a + 1) n ++ x ∷ []) at)
+
+pub range_grown : (n : ℕ) → range_with_len 0 (n + 1) ≡ range_with_len 0 n ++ n ∷ []
+range_grown n = let next : n + 1 ≡ suc n = omega arith in let at : 0 + n ≡ n = omega arith in ap (range_with_len 0) next ∙ range_more 0 n ∙ ap (λ x. range_with_len 0 n ++ x ∷ []) at
+
+pub kept_places : (columns : List ColumnValue) (key : List ℕ) → AreColumnPlaces columns key → AreKept columns key (all_places columns)
+kept_places columns key within = record {
+  places = λ i place is.
+      let at = range_get 0 (length columns) i place is in
+      let same : place ≡ 0 + i = at.0 in
+      let below : i < length columns = at.1 in
+      omega arith;
+  apart = λ i j x a b.
+      let first : x ≡ 0 + i = (range_get 0 (length columns) i x a).0 in
+      let second : x ≡ 0 + j = (range_get 0 (length columns) j x b).0 in
+      omega arith;
+  key_kept = λ i place is. let at : 0 + place ≡ place = omega arith in (place, range_there 0 (length columns) place (within i place is) ∙ ap Some at);
+}
+
 -- ---- the key
 
-distinct_places : (table : List ℕ) (columns : List ColumnValue) (names : List (List ℕ)) (places : List ℕ) → AreDistinct names → each (place_in table columns) names ≡ Ok places → AreDistinct places
+pub distinct_places : (table : List ℕ) (columns : List ColumnValue) (names : List (List ℕ)) (places : List ℕ) → AreDistinct names → each (place_in table columns) names ≡ Ok places → AreDistinct places
 distinct_places table columns names places apart is i j place a b =
     let first = each_at (place_in table columns) names places is i place a in
     let second = each_at (place_in table columns) names places is j place b in
@@ -247,7 +284,7 @@ vindex_fits table columns (Some v) vindex b h k =
 table_made : (said : TableSaid) (key : List ℕ) (vindex : Option (ℕ × Vindex)) (a b : Option (List ℕ)) → HasDistinctNames said → HasTexts said → AreUpTo 256 said.columns → AreUpTo 8 said.key
     → each (place_in said.name said.columns) said.key ≡ Ok key → vindex_place said.name said.columns said.vindex ≡ Ok vindex
     → refuse_type said.name (unfit_key said.columns said.key) ≡ Ok a → own_vindex_type said.name said.columns said.vindex ≡ Ok b
-    → IsTable (record { name = said.name; columns = said.columns; key = key; vindex = vindex })
+    → IsTable (record { name = said.name; columns = said.columns; key = key; vindex = vindex; kept = all_places said.columns })
 table_made said key vindex a b names texts columns_few key_few key_is vindex_is key_fit vindex_fit =
     let count : length key ≡ length said.key = each_length (place_in said.name said.columns) said.key key key_is in
     record {
@@ -259,11 +296,13 @@ table_made said key vindex a b names texts columns_few key_few key_is vindex_is 
       key_places = distinct_places said.name said.columns said.key key names.1 key_is;
       key_columns = key_fits said.name said.columns said.key key a key_is key_fit;
       vindex_column = vindex_fits said.name said.columns said.vindex vindex b vindex_is vindex_fit;
+      kept_columns = kept_places said.columns key (λ i place is. (key_fits said.name said.columns said.key key a key_is key_fit i place is).within);
     }
 
 pub record Resolved (said : TableSaid) (t : TableValue) : Type 0 where
   pub name : t.name ≡ said.name
   pub columns : t.columns ≡ said.columns
+  pub whole : keeping t (all_places t.columns) ≡ t
   pub table : HasDistinctNames said → HasTexts said → AreUpTo 256 said.columns → AreUpTo 8 said.key → IsTable t
 
 pub resolved_parts : (said : TableSaid) (t : TableValue) → resolved said ≡ Ok t → Resolved said t
@@ -273,10 +312,11 @@ resolved_parts said t h =
     then_ok _ (vindex_place said.name said.columns said.vindex) t h2 (λ vindex vindex_is h3.
     then_ok _ (refuse_type said.name (unfit_key said.columns said.key)) t h3 (λ a a_is h4.
     then_ok _ (own_vindex_type said.name said.columns said.vindex) t h4 (λ b b_is h5.
-    subst (Resolved said) (same_ok (record { name = said.name; columns = said.columns; key = key; vindex = vindex }) t h5)
+    subst (Resolved said) (same_ok (record { name = said.name; columns = said.columns; key = key; vindex = vindex; kept = all_places said.columns }) t h5)
     (record {
       name = refl;
       columns = refl;
+      whole = refl;
       table = λ names texts columns_few key_few. table_made said key vindex a b names texts columns_few key_few key_is vindex_is a_is b_is;
     })))))
 

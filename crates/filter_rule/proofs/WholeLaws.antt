@@ -1,72 +1,28 @@
 -- What is true of all plans of a text.
-use Rattle.std.proofs.Common.{◌≡◌, ℕ, zero, suc, ◌+◌, List, [], ◌∷◌, length, map, true, Some, Result, Ok, Err, refl, sym, ap, subst, ◌∙◌, arith}
-use Rattle.std.specs.Prelude.{slice_get, IfOk}
-use Rattle.std.specs.Str.{is_utf8}
+use Rattle.std.proofs.Common.{◌≡◌, ℕ, ◌+◌, List, [], ◌∷◌, length, map, true, Some, option_map, Result, Ok, Err, refl, sym, ap, subst, ◌∙◌, arith}
+use Rattle.std.specs.Prelude.{slice_get, slice_index_or, IfOk}
 use Rattle.std.proofs.lemmas.List.{length-map}
-use Rattle.filter_rule.specs.Document.{StreamSaid, DocumentSaid, document_of}
+use Rattle.std.proofs.lemmas.Option.{slice_get-map}
+use Rattle.filter_rule.specs.Document.{StreamSaid, TableSaid, DocumentSaid, document_of}
 use Rattle.outcome.specs.Outcome.{◌>>=◌, each}
 use Rattle.filter_rule.specs.Faults.{GivesOrFails}
 use Rattle.filter_rule.specs.FirstRule.{document_in}
 use Rattle.filter_rule.specs.Limits.{is_within, within_limits}
 use Rattle.filter_rule.specs.PlanTable.{TableValue}
 use Rattle.filter_rule.specs.PlanValue.{PlanValue}
-use Rattle.filter_rule.specs.Reading.{decisions_of, plan_of, plans_from, json_of, plans_of_document, plans_of}
-use Rattle.filter_rule.specs.Resolving.{resolved}
-use Rattle.filter_rule.specs.Streams.{AreOfStreams, FollowStreams}
-use Rattle.filter_rule.specs.WellFormed.{AreDistinct, AreTables, IsPlan, ArePlans}
+use Rattle.filter_rule.specs.Reading.{Decided, decided_from, closed_from, plan_over, json_of, plans_of_document, plans_of}
+use Rattle.filter_rule.specs.Resolving.{all_places, resolved}
+use Rattle.filter_rule.specs.Streams.{with_all, AreOfStreams, FollowStreams}
+use Rattle.filter_rule.specs.WellFormed.{AreDistinct, IsPlan, KeepUnmatched, ArePlans}
 use Rattle.filter_rule.specs.declared.fault.PlanFault.{PlanFault}
-use Rattle.filter_rule.proofs.PlanLaws.{parts_shape}
+use Rattle.filter_rule.specs.declared.decision.Decision.TheVariants.{NoRule}
+use Rattle.filter_rule.proofs.DecidedLaws.{decided_shards}
+use Rattle.filter_rule.proofs.FollowLaws.{mapped_at}
+use Rattle.filter_rule.proofs.KeepingLaws.{Agreement, closed_at, closed_map, unmatched_kept}
+use Rattle.filter_rule.proofs.PlanLaws.{over_plans}
 use Rattle.filter_rule.proofs.ReadLaws.{Plans, values}
-use Rattle.filter_rule.proofs.StepLaws.{then_ok, same_ok, same_some}
-use Rattle.filter_rule.proofs.TableLaws.{HaveTexts, HasNames, limits_kept, document_names, few_streams, tables_fit}
-
--- a plan of one stream
-record IsOfStream (keyspace : List ℕ) (tables : List TableValue) (stream : StreamSaid) (plan : PlanValue) : Type 0 where
-  keyspace_is : plan.keyspace ≡ keyspace
-  tables_is : plan.tables ≡ tables
-  shard_is : plan.shard ≡ stream.shard
-  is_plan : is_utf8 keyspace ≡ true → is_utf8 stream.shard ≡ true → AreTables tables → IsPlan plan
-
-plan_parts : (keyspace : List ℕ) (tables : List TableValue) (n : ℕ) (stream : StreamSaid) (plan : PlanValue) → plan_of keyspace tables n stream ≡ Ok plan → IsOfStream keyspace tables stream plan
-unfolding plan_of
-plan_parts keyspace tables n stream plan is =
-    then_ok _ (decisions_of n tables stream.rules) plan is (λ decisions decisions_is h.
-    subst (IsOfStream keyspace tables stream) (same_ok (record { keyspace = keyspace; shard = stream.shard; tables = tables; decisions = decisions }) plan h)
-    (record { keyspace_is = refl; tables_is = refl; shard_is = refl; is_plan = λ key_text shard_text fit. parts_shape keyspace stream.shard tables decisions n stream.rules key_text shard_text fit decisions_is }))
-
--- a plan of one of these streams, where names are texts
-abbrev IsPlanUnder : List ℕ → List TableValue → List StreamSaid → PlanValue → Type 0
-IsPlanUnder keyspace tables streams plan = is_utf8 keyspace ≡ true → HaveTexts streams → AreTables tables → IsPlan plan
-
--- the plans of some streams
-record AreOf (keyspace : List ℕ) (tables : List TableValue) (streams : List StreamSaid) (plans : List PlanValue) : Type 0 where
-  shards : map (λ (p : PlanValue). p.shard) plans ≡ map (λ (s : StreamSaid). s.shard) streams
-  each_plan : (i : ℕ) (plan : PlanValue) → slice_get plans i ≡ Some plan → (plan.keyspace ≡ keyspace) × (plan.tables ≡ tables) × IsPlanUnder keyspace tables streams plan
-
-no_plans : (keyspace : List ℕ) (tables : List TableValue) → AreOf keyspace tables [] []
-no_plans keyspace tables = record { shards = refl; each_plan = λ i plan is. cc }
-
-plan_first : (keyspace : List ℕ) (tables : List TableValue) (s : StreamSaid) (ss : List StreamSaid) (p : PlanValue) (ps : List PlanValue) → IsOfStream keyspace tables s p → AreOf keyspace tables ss ps
-    → (i : ℕ) (plan : PlanValue) → slice_get (p ∷ ps) i ≡ Some plan → (plan.keyspace ≡ keyspace) × (plan.tables ≡ tables) × IsPlanUnder keyspace tables (s ∷ ss) plan
-plan_first keyspace tables s ss p ps one rest zero plan is =
-    subst (λ (q : PlanValue). (q.keyspace ≡ keyspace) × (q.tables ≡ tables) × IsPlanUnder keyspace tables (s ∷ ss) q) (same_some p plan is)
-    (one.keyspace_is, one.tables_is, λ key_text texts fit. one.is_plan key_text (texts 0 s refl) fit)
-plan_first keyspace tables s ss p ps one rest (suc i) plan is =
-    let there = rest.each_plan i plan is in
-    (there.0, there.1, λ key_text texts fit. there.2 key_text (λ j t t_is. texts (suc j) t t_is) fit)
-
-plans_parts : (keyspace : List ℕ) (tables : List TableValue) (n : ℕ) (ss : List StreamSaid) (ps : List PlanValue) → plans_from keyspace tables n ss ≡ Ok ps → AreOf keyspace tables ss ps
-unfolding plans_from
-plans_parts keyspace tables n [] ps is = subst (AreOf keyspace tables []) (same_ok [] ps is) (no_plans keyspace tables)
-plans_parts keyspace tables n (s ∷ ss) ps is =
-    then_ok _ (plan_of keyspace tables n s) ps is (λ p p_is h2. then_ok _ (plans_from keyspace tables (n + 1) ss) ps h2 (λ rest rest_is h3.
-    let one = plan_parts keyspace tables n s p p_is in
-    let others = plans_parts keyspace tables (n + 1) ss rest rest_is in
-    subst (AreOf keyspace tables (s ∷ ss)) (same_ok (p ∷ rest) ps h3)
-    (record {
-      shards = ap (λ shard. shard ∷ map (λ (q : PlanValue). q.shard) rest) one.shard_is ∙ ap (λ shards. s.shard ∷ shards) others.shards;
-      each_plan = plan_first keyspace tables s ss p rest one others;
-    })))
+use Rattle.filter_rule.proofs.StepLaws.{then_ok, same_ok, each_at}
+use Rattle.filter_rule.proofs.TableLaws.{HasNames, limits_kept, document_names, few_streams, resolved_parts}
 
 -- what a text says that has plans
 record Whole (text : List ℕ) (plans : List PlanValue) : Type 0 where
@@ -76,13 +32,18 @@ record Whole (text : List ℕ) (plans : List PlanValue) : Type 0 where
   within : is_within document ≡ true
   tables : List TableValue
   tables_are : each resolved document.tables ≡ Ok tables
-  plans_are : AreOf document.keyspace tables document.streams plans
+  streams : List Decided
+  streams_are : decided_from tables 0 document.streams ≡ Ok streams
+  closed : List TableValue
+  closed_are : closed_from streams 0 tables ≡ Ok closed
+  plans_are : map (plan_over document.keyspace closed) streams ≡ plans
 
 whole_at : (text : List ℕ) (plans : List PlanValue) → plans_of text ≡ Ok plans → Whole text plans
 unfolding plans_of plans_of_document
 whole_at text plans is =
     then_ok _ (json_of text) plans is (λ value value_is h2. then_ok _ (document_of value) plans h2 (λ said said_is h3. then_ok _ (within_limits said) plans h3 (λ document document_is h4.
-    then_ok _ (each resolved document.tables) plans h4 (λ tables tables_are h5.
+    then_ok _ (each resolved document.tables) plans h4 (λ tables tables_are h5. then_ok _ (decided_from tables 0 document.streams) plans h5 (λ streams streams_are h6.
+    then_ok _ (closed_from streams 0 tables) plans h6 (λ closed closed_are h7.
     let kept = limits_kept (is_within said) said document document_is in
     record {
       document = document;
@@ -91,35 +52,77 @@ whole_at text plans is =
       within = subst (λ d. is_within d ≡ true) kept.1 kept.0;
       tables = tables;
       tables_are = tables_are;
-      plans_are = plans_parts document.keyspace tables 0 document.streams plans h5;
-    }))))
+      streams = streams;
+      streams_are = streams_are;
+      closed = closed;
+      closed_are = closed_are;
+      plans_are = same_ok (map (plan_over document.keyspace closed) streams) plans h7;
+    }))))))
+
+-- a plan of the text, and the stream that it is of
+plan_there : (text : List ℕ) (plans : List PlanValue) (whole : Whole text plans) (i : ℕ) (plan : PlanValue) → slice_get plans i ≡ Some plan
+    → (stream : Decided) × (slice_get whole.streams i ≡ Some stream) × (plan_over whole.document.keyspace whole.closed stream ≡ plan)
+plan_there text plans whole i plan is = mapped_at (plan_over whole.document.keyspace whole.closed) whole.streams i plan (ap (λ xs. slice_get xs i) whole.plans_are ∙ is)
+
+over_shards : (keyspace : List ℕ) (closed : List TableValue) (streams : List Decided) → map (λ (p : PlanValue). p.shard) (map (plan_over keyspace closed) streams) ≡ map (λ (s : Decided). s.shard) streams
+over_shards keyspace closed [] = refl
+over_shards keyspace closed (s ∷ ss) = ap (λ shards. s.shard ∷ shards) (over_shards keyspace closed ss)
+
+shards_are : (text : List ℕ) (plans : List PlanValue) (whole : Whole text plans) → map (λ (p : PlanValue). p.shard) plans ≡ map (λ (s : StreamSaid). s.shard) whole.document.streams
+shards_are text plans whole =
+    ap (map (λ (p : PlanValue). p.shard)) (sym whole.plans_are) ∙ over_shards whole.document.keyspace whole.closed whole.streams
+    ∙ decided_shards whole.tables 0 whole.document.streams whole.streams whole.streams_are
+
+keeps_all : (said : TableSaid) (t : TableValue) → resolved said ≡ Ok t → t.kept ≡ all_places t.columns
+keeps_all said t is = ap (λ (x : TableValue). x.kept) (sym (resolved_parts said t is).whole)
+
+unmatched : (text : List ℕ) (plans : List PlanValue) → Whole text plans → KeepUnmatched plans
+unmatched text plans whole t i plan table plan_is table_is no_rule =
+    let one = plan_there text plans whole i plan plan_is in
+    let there : slice_get whole.closed t ≡ Some table = ap (λ (p : PlanValue). slice_get p.tables t) one.2 ∙ table_is in
+    let at = closed_at whole.streams 0 whole.tables whole.closed whole.closed_are t table there in
+    let from = each_at resolved whole.document.tables whole.tables whole.tables_are t at.table at.stands in
+    let zero_at : 0 + t ≡ t = omega arith in
+    let none : (j : ℕ) (stream : Decided) → slice_get whole.streams j ≡ Some stream → slice_index_or stream.decisions t NoRule ≡ NoRule =
+    λ j stream is. no_rule j (plan_over whole.document.keyspace whole.closed stream)
+    (ap (λ xs. slice_get xs j) (sym whole.plans_are) ∙ slice_get-map (plan_over whole.document.keyspace whole.closed) whole.streams j ∙ ap (option_map (plan_over whole.document.keyspace whole.closed)) is) in
+    let kept : at.kept ≡ at.table.kept = unmatched_kept whole.streams t at.table at.kept (subst (λ n. Agreement whole.streams n at.table at.kept) zero_at at.agrees) none in
+    subst (λ (x : TableValue). x.kept ≡ all_places x.columns) at.is (kept ∙ keeps_all from.item at.table from.gives)
 
 made_plans : (text : List ℕ) (plans : List PlanValue) → Whole text plans → ArePlans plans
 made_plans text plans whole =
-    let all = whole.plans_are in
     let streams = whole.document.streams in
     let few = few_streams whole.document whole.within in
-    let fit = tables_fit whole.document whole.tables whole.names whole.within whole.tables_are in
-    let count : length plans ≡ length streams = sym (length-map plans (λ (p : PlanValue). p.shard)) ∙ ap length all.shards ∙ length-map streams (λ (s : StreamSaid). s.shard) in
+    let shards = shards_are text plans whole in
+    let over = over_plans whole.document whole.tables whole.closed whole.streams whole.names whole.within whole.tables_are whole.streams_are whole.closed_are in
+    let count : length plans ≡ length streams = sym (length-map plans (λ (p : PlanValue). p.shard)) ∙ ap length shards ∙ length-map streams (λ (s : StreamSaid). s.shard) in
     record {
       count = (omega arith, omega arith);
-      shards = subst AreDistinct (sym all.shards) whole.names.shards;
-      each_plan = λ i plan is. (all.each_plan i plan is).2 whole.names.keyspace_text whole.names.shard_texts fit;
+      shards = subst AreDistinct (sym shards) whole.names.shards;
+      each_plan = λ i plan is. let one = plan_there text plans whole i plan is in subst IsPlan one.2 (over i one.0 one.1);
       same = λ i j plan other plan_is other_is.
-          let first = all.each_plan i plan plan_is in
-          let second = all.each_plan j other other_is in
-          (first.0 ∙ sym second.0, first.1 ∙ sym second.1);
+          let one = plan_there text plans whole i plan plan_is in
+          let another = plan_there text plans whole j other other_is in
+          (sym (ap (λ (p : PlanValue). p.keyspace) one.2) ∙ ap (λ (p : PlanValue). p.keyspace) another.2, sym (ap (λ (p : PlanValue). p.tables) one.2) ∙ ap (λ (p : PlanValue). p.tables) another.2);
+      unmatched = unmatched text plans whole;
     }
+
+all_whole : (said : List TableSaid) (tables : List TableValue) → each resolved said ≡ Ok tables → map with_all tables ≡ tables
+all_whole [] tables h = ap (map with_all) (sym (same_ok [] tables h)) ∙ same_ok [] tables h
+all_whole (s ∷ said) tables h =
+    then_ok _ (resolved s) tables h (λ t t_is h2. then_ok _ (each resolved said) tables h2 (λ ts ts_is h3.
+    ap (map with_all) (sym (same_ok (t ∷ ts) tables h3)) ∙ ap (λ x. x ∷ map with_all ts) (resolved_parts s t t_is).whole ∙ ap (λ xs. t ∷ xs) (all_whole said ts ts_is) ∙ same_ok (t ∷ ts) tables h3))
 
 made_streams : (text : List ℕ) (plans : List PlanValue) → Whole text plans → FollowStreams text plans
 made_streams text plans whole document says =
-    let all = whole.plans_are in
     let same : whole.document ≡ document = same_ok whole.document document (sym whole.says ∙ says) in
+    let back : map with_all whole.closed ≡ whole.tables =
+    closed_map with_all (λ table kept. refl) whole.streams 0 whole.tables whole.closed whole.closed_are ∙ all_whole whole.document.tables whole.tables whole.tables_are in
     subst (λ d. AreOfStreams d plans) same (record {
-      shards = all.shards;
+      shards = shards_are text plans whole;
       shared = λ i plan is.
-          let here = all.each_plan i plan is in
-          (here.0, whole.tables_are ∙ ap Ok (sym here.1));
+          let one = plan_there text plans whole i plan is in
+          (sym (ap (λ (p : PlanValue). p.keyspace) one.2), whole.tables_are ∙ ap Ok (sym back ∙ ap (λ (p : PlanValue). map with_all p.tables) one.2));
     })
 
 pub are_plans : (text : List ℕ) (r : Result Plans PlanFault) → GivesOrFails values r (plans_of text) → IfOk r (λ v. ArePlans (values v))

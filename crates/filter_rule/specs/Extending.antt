@@ -7,7 +7,7 @@ abbrev pub BeginsWith : {A : Type 0} → List A → List A → Type 0
 BeginsWith front whole = take (length front) whole ≡ front
 
 -- the new plan is the old one with one or more tables behind its last, all else the same for the old
--- tables: their columns, types, keys, vindexes, and the rows that pass
+-- tables: their columns, types, keys, vindexes, kept columns, and the rows that pass
 pub record IsExtended (old new : PlanValue) : Type 0 where
   pub keyspace : new.keyspace ≡ old.keyspace
   pub shard : new.shard ≡ old.shard

@@ -11,6 +11,7 @@ pub data Fault : Type 0 where
   no_such_column : List ℕ → List ℕ → Fault
   key_type : List ℕ → List ℕ → Fault
   bad_rule : ℕ → ℕ → Fault
+  columns_differ : List ℕ → Fault
 
 -- the fault that is meant, none for want of memory
 abbrev pub definition_fault_of : PlanFault → Option Fault
@@ -21,6 +22,7 @@ definition_fault_of errors.Limit = Some limit
 definition_fault_of (errors.NoSuchColumn table column) = Some (no_such_column (string_bytes table) (string_bytes column))
 definition_fault_of (errors.KeyType table column) = Some (key_type (string_bytes table) (string_bytes column))
 definition_fault_of (errors.BadRule stream rule) = Some (bad_rule stream rule)
+definition_fault_of (errors.ColumnsDiffer table) = Some (columns_differ (string_bytes table))
 
 -- what is wrong, unless memory ran out
 abbrev pub Fails : {Y : Type 0} → PlanFault → Result Y Fault → Type 0
@@ -31,6 +33,7 @@ Fails errors.Limit read = read ≡ Err limit
 Fails (errors.NoSuchColumn table column) read = read ≡ Err (no_such_column (string_bytes table) (string_bytes column))
 Fails (errors.KeyType table column) read = read ≡ Err (key_type (string_bytes table) (string_bytes column))
 Fails (errors.BadRule stream rule) read = read ≡ Err (bad_rule stream rule)
+Fails (errors.ColumnsDiffer table) read = read ≡ Err (columns_differ (string_bytes table))
 
 -- What a function returned, seen by view, is what reading gives, unless memory ran out.
 abbrev pub GivesOrFails : {X Y : Type 0} → (X → Y) → Result X PlanFault → Result Y Fault → Type 0
@@ -45,4 +48,5 @@ number_of (errors.NoSuchColumn table column) = 53
 number_of (errors.KeyType table column) = 54
 number_of (errors.BadRule stream rule) = 55
 number_of errors.Limit = 56
+number_of (errors.ColumnsDiffer table) = 57
 number_of errors.Memory = 72

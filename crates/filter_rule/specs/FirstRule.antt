@@ -24,7 +24,7 @@ first_match n (r ∷ rs) table = if is_match r table then Some (n, r) else first
 pub record Decides (stream n : ℕ) (r : RuleSaid) (t : TableValue) (d : Decision) : Type 0 where
   pub form : RuleForm
   pub formed : form_of stream n r ≡ Ok form
-  pub decided : decide stream n form.rows t ≡ Ok d
+  pub decided : decide stream n form.columns form.rows t ≡ Ok d
 
 -- a decision is that of the first rule that matches the table, and there is none where no rule does
 abbrev pub IsByFirst : ℕ → ℕ → List RuleSaid → TableValue → Decision → Type 0

@@ -1,5 +1,6 @@
 -- A table of a workflow: its columns in order with their type numbers (`query.proto`, Type), the places
--- of its key columns in key order, and the place of its vindex column with the vindex.
+-- of its key columns in key order, the place of its vindex column with the vindex, and the places of the
+-- columns that the target keeps of it, in the order in which it keeps them.
 use Rattle.std.specs.Prelude.{ℕ, List, [], Option, slice_get}
 use Rattle.std.specs.Option.{option_map_or}
 use Rattle.vindex.specs.declared.vindexes.Vindex.{Vindex}
@@ -13,6 +14,11 @@ pub record TableValue : Type 0 where
   pub columns : List ColumnValue
   pub key : List ℕ
   pub vindex : Option (ℕ × Vindex)
+  pub kept : List ℕ
+
+-- a table of which these columns are kept
+abbrev pub keeping : TableValue → List ℕ → TableValue
+keeping table kept = record table { kept = kept }
 
 -- the name of a table by its number
 abbrev pub name_of_table : List TableValue → ℕ → List ℕ

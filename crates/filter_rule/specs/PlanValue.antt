@@ -1,6 +1,6 @@
--- What a plan means: its tables, and for each of them which rows of one stream are kept. Two plans are
+-- What a plan means: its tables, and for each of them which rows of one stream pass. Two plans are
 -- the same exactly where these values are equal (this profile, after the Vitess filter rules).
-use Rattle.std.specs.Prelude.{ℕ, List, Bool, true, false, Option, None, Result, Ok, Err, position, slice_get, slice_index_or, []}
+use Rattle.std.specs.Prelude.{ℕ, List, Bool, true, false, Option, Some, None, Result, Ok, Err, position, slice_get, slice_index_or, []}
 use Rattle.std.specs.Option.{option_map_or}
 use Rattle.std.specs.Str.{bytes_eq}
 use Rattle.vindex.specs.Bounds.{Bounds, in_range}
@@ -33,6 +33,10 @@ columns_of plan t = option_map_or (λ table. table.columns) (slice_get plan.tabl
 abbrev pub key_columns_of : PlanValue → ℕ → List ℕ
 key_columns_of plan t = option_map_or (λ table. table.key) (slice_get plan.tables t) []
 
+-- the places of the columns that are kept of a table, in kept order, by its number
+abbrev pub kept_columns_of : PlanValue → ℕ → List ℕ
+kept_columns_of plan t = option_map_or (λ table. table.kept) (slice_get plan.tables t) []
+
 -- the number of the table of a name
 abbrev pub table_of_name : PlanValue → List ℕ → Option ℕ
 table_of_name plan name = position (λ table. bytes_eq table.name name) plan.tables
@@ -46,11 +50,17 @@ abbrev pub id_in : Bounds → Result (List ℕ) VindexFault → Result Bool Vind
 id_in range (Ok id) = Ok (in_range range id)
 id_in range (Err fault) = Err fault
 
--- whether a row is kept under a decision; a range asks for the id also where it is the whole range
+-- whether a row passes under a decision; a range asks for the id also where it is the whole range
 abbrev pub kept_under : Decision → List (Option (List ℕ)) → Result Bool VindexFault
 kept_under NoRule row = Ok false
-kept_under EveryRow row = Ok true
-kept_under (InRange place vindex range) row = id_in range (id_of vindex (column_at row place))
+kept_under (EveryRow kept) row = Ok true
+kept_under (InRange place vindex range kept) row = id_in range (id_of vindex (column_at row place))
+
+-- the columns that a decision keeps, none where no rule made it
+abbrev pub kept_under_rule : Decision → Option (List ℕ)
+kept_under_rule NoRule = None
+kept_under_rule (EveryRow kept) = Some kept
+kept_under_rule (InRange place vindex range kept) = Some kept
 
 -- whether a row of a table passes the plan's filter
 abbrev pub passes_of : PlanValue → ℕ → List (Option (List ℕ)) → Result Bool VindexFault

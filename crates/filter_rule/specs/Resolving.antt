@@ -1,9 +1,11 @@
 -- Names of columns to their places: a table of the workflow file as a table of a plan.
-use Rattle.std.specs.Prelude.{ℕ, ◌||◌, not, List, Bool, Option, Some, None, Result, Ok, Err, find, position, if◌then◌else◌}
+use Rattle.std.specs.Prelude.{ℕ, ◌||◌, not, List, [], length, slice_get, Bool, Option, Some, None, Result, Ok, Err, find, position, if◌then◌else◌}
+use Rattle.std.specs.List.{list_all, range_with_len}
 use Rattle.std.specs.Option.{option_map_or, ok_or}
 use Rattle.std.specs.Str.{bytes_eq}
 use Rattle.vindex.specs.declared.vindexes.Vindex.{Vindex}
 use Rattle.vindex.specs.declared.vindexes.Vindex.TheVariants.{Numeric, ReverseBits, Binary, BinaryMd5}
+use Rattle.filter_text.specs.ColumnList.{has_column}
 use Rattle.filter_rule.specs.Document.{TableSaid}
 use Rattle.outcome.specs.Outcome.{◌>>=◌, each}
 use Rattle.filter_rule.specs.Faults.{Fault, no_such_column, key_type}
@@ -20,6 +22,18 @@ is_vindex_type Numeric n = is_whole_number n
 is_vindex_type ReverseBits n = is_whole_number n
 is_vindex_type Binary n = is_key_type n || is_long_text n
 is_vindex_type BinaryMd5 n = is_key_type n || is_long_text n
+
+-- the places of all columns, in their order
+abbrev pub all_places : List ColumnValue → List ℕ
+all_places columns = range_with_len 0 (length columns)
+
+-- the name of the column at a place
+abbrev pub name_at : List ColumnValue → ℕ → List ℕ
+name_at columns place = option_map_or (λ column. column.name) (slice_get columns place) []
+
+-- each column of a key is among those of these names
+abbrev pub lists_key : List (List ℕ) → List ColumnValue → List ℕ → Bool
+lists_key names columns key = list_all (λ place. has_column (name_at columns place) names) key
 
 -- the place of a table's column of a name
 abbrev pub place_in : List ℕ → List ColumnValue → List ℕ → Result ℕ Fault
@@ -50,11 +64,12 @@ own_vindex_type table columns None = Ok None
 own_vindex_type table columns (Some v) = vindex_type table columns v.0 v.1 >>= λ name. Ok (Some name)
 
 -- A table of a plan. First all columns are looked up, those of the key in key order and then the
--- vindex's; then their types are looked at in the same order.
+-- vindex's; then their types are looked at in the same order. It keeps all its columns, as long as no rule
+-- says otherwise.
 unfoldable pub resolved : TableSaid → Result TableValue Fault
 resolved t = do
   key ← each (place_in t.name t.columns) t.key
   vindex ← vindex_place t.name t.columns t.vindex
   key_fit ← refuse_type t.name (unfit_key t.columns t.key)
   vindex_fit ← own_vindex_type t.name t.columns t.vindex
-  Ok (record { name = t.name; columns = t.columns; key = key; vindex = vindex })
+  Ok (record { name = t.name; columns = t.columns; key = key; vindex = vindex; kept = all_places t.columns })

@@ -1,4 +1,5 @@
--- Filter rules: which tables a rule matches, what its filter says, and what it decides of a table.
+-- Filter rules: which tables a rule matches, what its filter says, and what it decides of a table: which
+-- of its rows pass, and which of its columns are kept.
 use Rattle.std.specs.Prelude.{ℕ, List, [], ◌∷◌, Option, Some, None, Result, Ok, Err, if◌then◌else◌}
 use Rattle.std.specs.Option.{ok_or}
 use Rattle.vindex.specs.Bounds.{Bounds}
@@ -6,16 +7,18 @@ use Rattle.vindex.specs.declared.vindexes.Vindex.{Vindex}
 use Rattle.filter_text.specs.FilterText.{RowsSaid, every_row, in_own_range, in_range_of, FilterMeaning, filter_of}
 use Rattle.filter_text.specs.RuleScope.{TablesSaid, scope_of, is_for, agrees}
 use Rattle.filter_rule.specs.Document.{RuleSaid}
-use Rattle.outcome.specs.Outcome.{◌>>=◌}
+use Rattle.outcome.specs.Outcome.{◌>>=◌, each}
 use Rattle.filter_rule.specs.Faults.{Fault, bad_rule}
 use Rattle.filter_rule.specs.PlanTable.{TableValue}
-use Rattle.filter_rule.specs.Resolving.{place_in, vindex_type}
+use Rattle.filter_rule.specs.Resolving.{place_in, all_places, lists_key, vindex_type}
 use Rattle.filter_rule.specs.declared.decision.Decision.{Decision}
 use Rattle.filter_rule.specs.declared.decision.Decision.TheVariants.{NoRule, EveryRow, InRange}
 
--- a rule that has a lawful form: the tables that it is for, and the rows that its filter names
+-- a rule that has a lawful form: the tables that it is for, the names of the columns that its filter
+-- lists, none where it keeps all, and the rows that it names
 pub record RuleForm : Type 0 where
   pub scope : TablesSaid
+  pub columns : Option (List (List ℕ))
   pub rows : RowsSaid
 
 module _ (stream rule : ℕ) where
@@ -33,25 +36,30 @@ module _ (stream rule : ℕ) where
     scope ← or_bad (scope_of r.matches)
     filter ← or_bad (filter_of r.filter)
     same ← agreeing scope filter
-    Ok (record { scope = scope; rows = filter.rows })
+    Ok (record { scope = scope; columns = filter.columns; rows = filter.rows })
+
+  -- the places of the columns that a rule keeps of a table; a list has each key column
+  abbrev pub kept_by : Option (List (List ℕ)) → TableValue → Result (List ℕ) Fault
+  kept_by None t = Ok (all_places t.columns)
+  kept_by (Some names) t = if lists_key names t.columns t.key then each (place_in t.name t.columns) names else Err (bad_rule stream rule)
 
   -- a key range alone is under the table's own vindex
-  abbrev pub own_decision : Bounds → Option (ℕ × Vindex) → Result Decision Fault
-  own_decision range None = Err (bad_rule stream rule)
-  own_decision range (Some v) = Ok (InRange v.0 v.1 range)
+  abbrev pub own_decision : Option (List (List ℕ)) → TableValue → Bounds → Option (ℕ × Vindex) → Result Decision Fault
+  own_decision columns t range None = Err (bad_rule stream rule)
+  own_decision columns t range (Some v) = kept_by columns t >>= λ kept. Ok (InRange v.0 v.1 range kept)
 
   -- what a rule decides of a table that it is first to match
-  abbrev pub decide : RowsSaid → TableValue → Result Decision Fault
-  decide every_row t = Ok EveryRow
-  decide (in_own_range range) t = own_decision range t.vindex
-  decide (in_range_of column vindex range) t =
-      place_in t.name t.columns column >>= λ place. vindex_type t.name t.columns column vindex >>= λ _. Ok (InRange place vindex range)
+  abbrev pub decide : Option (List (List ℕ)) → RowsSaid → TableValue → Result Decision Fault
+  decide columns every_row t = kept_by columns t >>= λ kept. Ok (EveryRow kept)
+  decide columns (in_own_range range) t = own_decision columns t range t.vindex
+  decide columns (in_range_of column vindex range) t =
+      kept_by columns t >>= λ kept. place_in t.name t.columns column >>= λ place. vindex_type t.name t.columns column vindex >>= λ _. Ok (InRange place vindex range kept)
 
   -- a table that an earlier rule matches stays decided
   abbrev pub decide_once : RuleForm → TableValue → Decision → Result Decision Fault
-  decide_once form t NoRule = if is_for form.scope t.name then decide form.rows t else Ok NoRule
-  decide_once form t EveryRow = Ok EveryRow
-  decide_once form t (InRange column vindex range) = Ok (InRange column vindex range)
+  decide_once form t NoRule = if is_for form.scope t.name then decide form.columns form.rows t else Ok NoRule
+  decide_once form t (EveryRow kept) = Ok (EveryRow kept)
+  decide_once form t (InRange column vindex range kept) = Ok (InRange column vindex range kept)
 
   -- one rule over all tables, in order
   unfoldable pub decide_each : RuleForm → List TableValue → List Decision → Result (List Decision) Fault

@@ -8,8 +8,8 @@ use Rattle.filter_rule.specs.PlanValue.{PlanValue, decision_at, column_at, passe
 use Rattle.filter_rule.specs.declared.decision.Decision.TheVariants.{InRange}
 
 -- the plans differ at a table in their key ranges alone
-abbrev pub KeepRanges : List PlanValue → ℕ → ℕ → Vindex → List Bounds → Type 0
-KeepRanges plans t column vindex ranges = map (λ plan. decision_at plan t) plans ≡ map (InRange column vindex) ranges
+abbrev pub KeepRanges : List PlanValue → ℕ → ℕ → Vindex → List ℕ → List Bounds → Type 0
+KeepRanges plans t column vindex kept ranges = map (λ plan. decision_at plan t) plans ≡ map (λ range. InRange column vindex range kept) ranges
 
 -- one of the plans keeps the row, and no other
 pub record PassesInOne (plans : List PlanValue) (t : ℕ) (row : List (Option (List ℕ))) : Type 0 where
@@ -23,6 +23,6 @@ pub record PassesInOne (plans : List PlanValue) (t : ℕ) (row : List (Option (L
 -- in exactly one of them.
 abbrev pub SplitRow : ℕ → List (Option (List ℕ)) → Type 0
 SplitRow t row =
-    (plans : List PlanValue) (column : ℕ) (vindex : Vindex) (ranges : List Bounds) (id : List ℕ)
-    → SplitsAllIds ranges → KeepRanges plans t column vindex ranges → id_of vindex (column_at row column) ≡ Ok id
+    (plans : List PlanValue) (column : ℕ) (vindex : Vindex) (kept : List ℕ) (ranges : List Bounds) (id : List ℕ)
+    → SplitsAllIds ranges → KeepRanges plans t column vindex kept ranges → id_of vindex (column_at row column) ≡ Ok id
     → PassesInOne plans t row

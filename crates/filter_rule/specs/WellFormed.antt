@@ -3,8 +3,8 @@ use Rattle.std.specs.Prelude.{◌≡◌, ℕ, ◌<◌, ◌≤◌, ◌^◌, List,
 use Rattle.std.specs.Option.{option_map_or}
 use Rattle.std.specs.Str.{is_utf8}
 use Rattle.filter_rule.specs.PlanTable.{ColumnValue, TableValue}
-use Rattle.filter_rule.specs.PlanValue.{PlanValue}
-use Rattle.filter_rule.specs.Resolving.{is_key_type, is_vindex_type}
+use Rattle.filter_rule.specs.PlanValue.{PlanValue, decision_at}
+use Rattle.filter_rule.specs.Resolving.{is_key_type, is_vindex_type, all_places}
 use Rattle.filter_rule.specs.declared.decision.Decision.{Decision}
 use Rattle.filter_rule.specs.declared.decision.Decision.TheVariants.{NoRule, EveryRow, InRange}
 
@@ -34,8 +34,18 @@ pub record IsColumnDef (column : ColumnValue) : Type 0 where
   pub name_text : IsTrue (is_utf8 column.name)
   pub type_bits : column.type_number < 2 ^ 32
 
+-- the list has it
+abbrev pub Holds : {A : Type 0} → List A → A → Type 0
+Holds xs x = (i : ℕ) × (slice_get xs i ≡ Some x)
+
+-- columns that may be kept of a table: they are its own, none of them twice, and each key column is one
+pub record AreKept (columns : List ColumnValue) (key kept : List ℕ) : Type 0 where
+  pub places : AreColumnPlaces columns kept
+  pub apart : AreDistinct kept
+  pub key_kept : (i place : ℕ) → slice_get key i ≡ Some place → Holds kept place
+
 -- a table of a plan: its key's columns and its vindex's are there, and have types that a key and this
--- vindex can take
+-- vindex can take; its key's columns are kept
 pub record IsTable (table : TableValue) : Type 0 where
   pub name_text : IsTrue (is_utf8 table.name)
   pub column_count : AreUpTo 256 table.columns
@@ -45,6 +55,7 @@ pub record IsTable (table : TableValue) : Type 0 where
   pub key_places : AreDistinct table.key
   pub key_columns : (i place : ℕ) → slice_get table.key i ≡ Some place → HasColumn is_key_type table.columns place
   pub vindex_column : IfSome table.vindex (λ v. HasColumn (is_vindex_type v.1) table.columns v.0)
+  pub kept_columns : AreKept table.columns table.key table.kept
 
 -- the tables of a plan
 pub record AreTables (tables : List TableValue) : Type 0 where
@@ -52,11 +63,12 @@ pub record AreTables (tables : List TableValue) : Type 0 where
   pub names : AreDistinct (map (λ table. table.name) tables)
   pub each_table : (t : ℕ) (table : TableValue) → slice_get tables t ≡ Some table → IsTable table
 
--- the column that a decision names is there, and has a type that its vindex can take
+-- the column that a decision names is there, and has a type that its vindex can take; it keeps the table's
+-- kept columns
 abbrev pub FitsTable : TableValue → Decision → Type 0
 FitsTable table NoRule = Unit {0}
-FitsTable table EveryRow = Unit {0}
-FitsTable table (InRange place vindex range) = HasColumn (is_vindex_type vindex) table.columns place
+FitsTable table (EveryRow kept) = kept ≡ table.kept
+FitsTable table (InRange place vindex range kept) = HasColumn (is_vindex_type vindex) table.columns place × (kept ≡ table.kept)
 
 -- a plan: its names are texts, its tables, and a decision for each of them
 pub record IsPlan (plan : PlanValue) : Type 0 where
@@ -66,9 +78,16 @@ pub record IsPlan (plan : PlanValue) : Type 0 where
   pub decided : length plan.decisions ≡ length plan.tables
   pub filters : (t : ℕ) (decision : Decision) (table : TableValue) → slice_get plan.decisions t ≡ Some decision → slice_get plan.tables t ≡ Some table → FitsTable table decision
 
+-- a table that no rule of any plan matches keeps all its columns
+abbrev pub KeepUnmatched : List PlanValue → Type 0
+KeepUnmatched plans =
+    (t i : ℕ) (plan : PlanValue) (table : TableValue) → slice_get plans i ≡ Some plan → slice_get plan.tables t ≡ Some table
+    → ((j : ℕ) (other : PlanValue) → slice_get plans j ≡ Some other → decision_at other t ≡ NoRule) → table.kept ≡ all_places table.columns
+
 -- all plans of a file: 1 to 64, each for another shard, all over the same keyspace and tables
 pub record ArePlans (plans : List PlanValue) : Type 0 where
   pub count : AreUpTo 64 plans
   pub shards : AreDistinct (map (λ plan. plan.shard) plans)
   pub each_plan : (i : ℕ) (plan : PlanValue) → slice_get plans i ≡ Some plan → IsPlan plan
   pub same : (i j : ℕ) (plan other : PlanValue) → slice_get plans i ≡ Some plan → slice_get plans j ≡ Some other → (plan.keyspace ≡ other.keyspace) × (plan.tables ≡ other.tables)
+  pub unmatched : KeepUnmatched plans

@@ -44,6 +44,12 @@ pub enum PlanFault {
         /// The rule's number in the stream, from 0.
         rule: usize,
     },
+    /// Two streams' rules keep different columns of a table, or the same in another order.
+    #[error("the streams keep different columns of table {table}")]
+    ColumnsDiffer {
+        /// The table's name.
+        table: String,
+    },
     /// The allocator gave no memory.
     #[error("out of memory")]
     Memory,
@@ -68,7 +74,7 @@ impl<T: Drop> From<AllocFailed<T>> for PlanFault {
 impl PlanFault {
     ghost use Rattle.filter_rule.specs.Faults.{number_of};
 
-    /// The refusal's number: 51 to 56, or 72 for want of memory.
+    /// The refusal's number: 51 to 57, or 72 for want of memory.
     pub fn number(&self) -> u8
         ensures { result ≡ number_of self.now }
     {
@@ -79,6 +85,7 @@ impl PlanFault {
             PlanFault::KeyType { .. } => 54,
             PlanFault::BadRule { .. } => 55,
             PlanFault::Limit => 56,
+            PlanFault::ColumnsDiffer { .. } => 57,
             PlanFault::Memory => 72,
         }
     }

@@ -7,8 +7,10 @@ mod distinct;
 mod document;
 mod fault;
 mod json;
+mod keeping;
 mod limits;
 mod name;
+mod places;
 mod plan;
 mod read;
 mod resolve;
@@ -20,6 +22,7 @@ mod types;
 
 pub use decision::Decision;
 pub use fault::PlanFault;
+pub use places::Places;
 pub use plan::Plan;
 pub use table::{ColumnDef, Table};
 pub use types::is_whole_number;

@@ -3,10 +3,10 @@
 ghost use Rattle.std.specs.Prelude.{◌≡◌, ◌↔◌, IsTrue, ℕ, ◌<◌, length, position, IfSome};
 ghost use Rattle.std.specs.Str.{bytes_eq};
 ghost use Rattle.filter_rule.specs.Private.PlanParts.{plan_value};
-ghost use Rattle.filter_rule.specs.WellFormed.{IsPlan, AreColumnPlaces};
+ghost use Rattle.filter_rule.specs.WellFormed.{IsPlan, AreColumnPlaces, AreKept};
 ghost use Rattle.filter_rule.specs.Extending.{IsExtended};
 ghost use Rattle.filter_rule.specs.Splitting.{SplitRow};
-ghost use Rattle.filter_rule.specs.PlanValue.{PlanValue, columns_of, key_columns_of, table_of_name, passes_of};
+ghost use Rattle.filter_rule.specs.PlanValue.{PlanValue, columns_of, key_columns_of, kept_columns_of, table_of_name, passes_of};
 
 use crate::decision::Decision;
 use crate::same::{all_same, begins_with};
@@ -112,6 +112,17 @@ impl Plan {
         self.schema.tables[usize::from(t)].key()
     }
 
+    /// The places of the columns that the target keeps of table `t`, from 0, in kept order: the same in
+    /// each plan of a file. Each is that of a column, none stands twice, and each key column is one of
+    /// them. That `t` is a table of the plan is the caller's.
+    pub fn kept_columns(&self, t: u8) -> &[u8]
+        requires { t < length self.now.tables }
+        ensures places { result.now ≡ kept_columns_of self.now t }
+        ensures kept { AreKept (columns_of self.now t) (key_columns_of self.now t) (kept_columns_of self.now t) }
+    {
+        self.schema.tables[usize::from(t)].kept()
+    }
+
     /// Whether a row of table `t` passes the stream's filter: the answer of the first rule that matches
     /// the table, and no where none does. A rule by a key range asks for the id of its column's value,
     /// also where the range is whole: `NullValue` for NULL and `NotANumber` where a number from 0 to
@@ -130,7 +141,7 @@ impl Plan {
 
 impl Plan {
     /// Whether both plans mean the same: keyspace, shard, tables, and for each table no rule, every
-    /// row, or the same column, vindex and bounds. Texts that mean the same are the same. Takes no
+    /// row, or the same column, vindex and bounds, and the same columns kept in the same order. Texts that mean the same are the same. Takes no
     /// memory.
     pub fn same(&self, other: &Plan) -> bool
         ensures { IsTrue result ↔ (self.now ≡ other.now) }
@@ -141,8 +152,8 @@ impl Plan {
             && all_same(&self.decisions, &other.decisions)
     }
 
-    /// Whether both plans have the same tables in the same order, with the same columns, types, key and
-    /// vindex. Takes no memory.
+    /// Whether both plans have the same tables in the same order, with the same columns, types, key,
+    /// vindex and kept columns. Takes no memory.
     pub fn same_tables(&self, other: &Plan) -> bool
         ensures { IsTrue result ↔ (self.now.tables ≡ other.now.tables) }
     {
@@ -150,8 +161,8 @@ impl Plan {
     }
 
     /// Whether this plan is the other with one or more tables appended last, and all else the same for
-    /// the other's tables: keyspace, shard, and each table's columns, types, key, vindex and rule by
-    /// its meaning. Takes no memory.
+    /// the other's tables: keyspace, shard, and each table's columns, types, key, vindex, kept
+    /// columns and rule by its meaning. Takes no memory.
     pub fn extends(&self, other: &Plan) -> bool
         ensures { IsTrue result ↔ IsExtended other.now self.now }
     {

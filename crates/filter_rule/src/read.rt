@@ -5,17 +5,18 @@ ghost use Rattle.std.specs.Arc.{arc_value};
 ghost use Rattle.outcome.specs.Outcome.{each};
 ghost use Rattle.filter_rule.specs.Faults.{GivesOrFails, definition_fault_of};
 ghost use Rattle.filter_rule.specs.FirstRule.{FollowFirstRules};
-ghost use Rattle.filter_rule.specs.Private.Accepted.{AreNarrow, IsAccepted};
+ghost use Rattle.filter_rule.specs.Private.Accepted.{AreNarrow, ArePlansOver, IsAccepted};
 ghost use Rattle.filter_rule.specs.Standing.{Stands};
 ghost use Rattle.filter_rule.specs.Streams.{FollowStreams};
-ghost use Rattle.filter_rule.specs.WellFormed.{AreTables, ArePlans};
+ghost use Rattle.filter_rule.specs.WellFormed.{IsPlan, ArePlans};
 ghost use Rattle.filter_rule.specs.PlanValue.{PlanValue};
 ghost use Rattle.filter_rule.specs.Resolving.{resolved};
-ghost use Rattle.filter_rule.specs.Reading.{json_of, plan_of, plans_from, plans_of_document, plans_of_value, plans_of, IsNoJson};
+ghost use Rattle.filter_rule.specs.Reading.{json_of, decided_by, decided_from, plan_over, plans_of_document, plans_of_value, plans_of, IsNoJson};
 ghost use Rattle.serde_json.specs.View.{view};
 
 use crate::document::{Document, StreamText, TableText, document_of};
 use crate::fault::PlanFault;
+use crate::keeping::{Decided, closed};
 use crate::limits::within_limits;
 use crate::plan::{Plan, Schema};
 use crate::resolve::resolved;
@@ -49,37 +50,60 @@ fn tables_of(alloc: Global, tables: &[TableText<'_>]) -> Result<Vec<Table>, Plan
     Ok(found)
 }
 
-/// The plan of one stream.
-#[tactic(auto, unfolding(crate::specs::Reading::plan_of))]
-fn plan_of(
+/// What one stream decides.
+#[tactic(auto, unfolding(crate::specs::Reading::decided_by))]
+fn decided_by(
     alloc: Global,
-    schema: &Arc<Schema>,
+    tables: &[Table],
     n: usize,
     stream: &StreamText<'_>,
-) -> Result<Arc<Plan>, PlanFault>
-    requires { AreTables (arc_value schema.now).tables.items }
-    ensures { GivesOrFails arc_value result
-        (plan_of (string_bytes (arc_value schema.now).keyspace) (arc_value schema.now).tables.items n stream.now) }
+) -> Result<Decided, PlanFault>
+    ensures { GivesOrFails (λ d. d) result (decided_by tables.now n stream.now) }
 {
-    let decisions = decisions_of(alloc, n, &schema.tables, &stream.rules)?;
+    let decisions = decisions_of(alloc, n, tables, &stream.rules)?;
     let shard = String::from_str(alloc, stream.shard)?;
+    Ok(Decided { shard, decisions })
+}
+
+/// What each stream decides.
+fn decided_from(
+    alloc: Global,
+    tables: &[Table],
+    streams: &[StreamText<'_>],
+) -> Result<Vec<Decided>, PlanFault>
+    ensures { GivesOrFails (λ v. v.items) result (decided_from tables.now 0 streams.now) }
+{
+    let mut decided = Vec::new(alloc);
+    for n in 0..streams.len() {
+        decided.push(decided_by(alloc, tables, n, &streams[n])?)?;
+    }
+    Ok(decided)
+}
+
+/// A stream's plan.
+fn plan_over(alloc: Global, schema: &Arc<Schema>, stream: Decided) -> Result<Arc<Plan>, PlanFault>
+    requires { IsPlan (plan_over (string_bytes (arc_value schema.now).keyspace) (arc_value schema.now).tables.items stream) }
+    ensures { GivesOrFails arc_value result
+        (Ok (plan_over (string_bytes (arc_value schema.now).keyspace) (arc_value schema.now).tables.items stream)) }
+{
+    let Decided { shard, decisions } = stream;
     let schema = Arc::try_clone(schema)?;
     Ok(Arc::new(alloc, Plan::new(schema, shard, decisions))?)
 }
 
 /// A plan for each stream.
-fn plans_from(
+fn plans_over(
     alloc: Global,
     schema: &Arc<Schema>,
-    streams: &[StreamText<'_>],
+    streams: Vec<Decided>,
 ) -> Result<Vec<Arc<Plan>>, PlanFault>
-    requires { AreTables (arc_value schema.now).tables.items }
-    ensures { GivesOrFails (λ v. map arc_value v.items) result
-        (plans_from (string_bytes (arc_value schema.now).keyspace) (arc_value schema.now).tables.items 0 streams.now) }
+    requires { ArePlansOver (string_bytes (arc_value schema.now).keyspace) (arc_value schema.now).tables.items streams.items }
+    ensures { GivesOrFails {Y = List PlanValue} (λ v. map arc_value v.items) result
+        (Ok (map (plan_over (string_bytes (arc_value schema.now).keyspace) (arc_value schema.now).tables.items) streams.items)) }
 {
     let mut plans = Vec::new(alloc);
-    for n in 0..streams.len() {
-        plans.push(plan_of(alloc, schema, n, &streams[n])?)?;
+    for stream in streams {
+        plans.push(plan_over(alloc, schema, stream)?)?;
     }
     Ok(plans)
 }
@@ -91,9 +115,11 @@ fn plans_of_document(alloc: Global, document: &Document<'_>) -> Result<Vec<Arc<P
     ensures { GivesOrFails (λ v. map arc_value v.items) result (plans_of_document document.now) }
 {
     let tables = tables_of(alloc, &document.tables)?;
+    let streams = decided_from(alloc, &tables, &document.streams)?;
+    let tables = closed(alloc, &streams, tables)?;
     let keyspace = String::from_str(alloc, document.keyspace)?;
     let schema = Arc::new(alloc, Schema { keyspace, tables })?;
-    plans_from(alloc, &schema, &document.streams)
+    plans_over(alloc, &schema, streams)
 }
 
 /// The plans of the file's JSON value.
@@ -119,7 +145,8 @@ impl Plan {
     /// read exactly where the file has no fault. A fault is the first in this order: `Json`; `Shape`;
     /// `Limit`; table by table its absent columns, then its unfit types (`NoSuchColumn`, `KeyType`);
     /// stream by stream and rule by rule the rule's form (`BadRule`), then for each table that it is
-    /// first to match `BadRule`, `NoSuchColumn`, `KeyType`. `Memory` is for want of memory alone, and
+    /// first to match `BadRule`, `NoSuchColumn`, `KeyType`; behind all these, table by table, that all
+    /// streams with a rule for it keep the same columns in the same order (`ColumnsDiffer`). `Memory` is for want of memory alone, and
     /// then stands in place of what would have been found later.
     pub fn read_all(alloc: Global, text: &[u8]) -> Result<Vec<Arc<Plan>>, PlanFault>
         ensures reads { GivesOrFails (λ v. map arc_value v.items) result (plans_of text.now) }

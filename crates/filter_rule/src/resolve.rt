@@ -10,6 +10,7 @@ ghost use Rattle.filter_rule.specs.Resolving.{is_key_type, is_vindex_type, place
 use crate::document::{ColumnText, TableText};
 use crate::fault::PlanFault;
 use crate::name::Name;
+use crate::places::Places;
 use crate::table::{ColumnDef, Table};
 use crate::types::{is_long_text, is_short_text, is_whole_number};
 use std::alloc::Global;
@@ -207,5 +208,6 @@ pub(crate) fn resolved(alloc: Global, table: &TableText<'_>) -> Result<Table, Pl
     let vindex = vindex_place(alloc, name, &columns, &table.vindex)?;
     check_key_types(alloc, name, &columns, &table.key)?;
     check_own_vindex(alloc, name, &columns, &table.vindex)?;
-    Ok(Table::new(alloc, name, columns, key, vindex)?)
+    let kept = Places::all(alloc, columns.len())?;
+    Ok(Table::new(alloc, name, columns, key, vindex, kept)?)
 }

@@ -9,7 +9,7 @@ ghost use Rattle.filter_rule.specs.Rules.{or_bad, form_of};
 
 use crate::document::RuleText;
 use crate::fault::PlanFault;
-use filter_text::{Filter, FilterFault, Rows, Scope};
+use filter_text::{ColumnList, Filter, FilterFault, Rows, Scope};
 use std::alloc::Global;
 
 /// Where a rule stands: its stream and its number there, from 0.
@@ -19,10 +19,12 @@ pub(crate) struct Place {
     pub(crate) rule: usize,
 }
 
-/// A rule that has a lawful form: the tables that it is for, and the rows that its filter names.
+/// A rule that has a lawful form: the tables that it is for, the columns that its filter lists, `None`
+/// where it keeps all, and the rows that it names.
 #[derive(Drop)]
 pub(crate) struct RuleForm<'v> {
     pub(crate) scope: Scope<'v>,
+    pub(crate) columns: Option<ColumnList<'v>>,
     pub(crate) rows: Rows<'v>,
 }
 
@@ -68,9 +70,17 @@ pub(crate) fn form_of<'v>(
     ensures { GivesOrFails form_seen result (form_of place.stream place.rule rule.now) }
 {
     let scope = place.or_bad(Scope::parse(rule.matches))?;
-    let Filter { table, rows } = place.filter(alloc, rule.filter)?;
+    let Filter {
+        table,
+        columns,
+        rows,
+    } = place.filter(alloc, rule.filter)?;
     if !scope.agrees(table) {
         return Err(place.fault());
     }
-    Ok(RuleForm { scope, rows })
+    Ok(RuleForm {
+        scope,
+        columns,
+        rows,
+    })
 }

@@ -1,8 +1,9 @@
 //! The tables of a workflow.
 
-ghost use Rattle.std.specs.Prelude.{◌≡◌, ◌↔◌, IfOk, IsTrue};
-ghost use Rattle.filter_rule.specs.PlanTable.{ColumnValue, TableValue};
+ghost use Rattle.std.specs.Prelude.{◌≡◌, ◌↔◌, ◌≤◌, length, IfOk, IsTrue};
+ghost use Rattle.filter_rule.specs.PlanTable.{ColumnValue, TableValue, keeping};
 
+use crate::places::Places;
 use crate::same::{Same, all_same};
 use std::alloc::{AllocError, Global};
 use std::marker::Model;
@@ -48,13 +49,15 @@ impl ColumnDef {
     }
 }
 
-/// A table: its name, its columns in order, its key and, if it has one, its vindex.
+/// A table: its name, its columns in order, its key, its vindex, if it has one, and the columns that the
+/// target keeps of it.
 #[derive(Drop)]
 pub struct Table {
     name: String,
     columns: Vec<ColumnDef>,
     key: Vec<u8>,
     vindex: Option<(usize, Vindex)>,
+    kept: Places,
 }
 
 impl Model for Table {
@@ -63,7 +66,11 @@ impl Model for Table {
 
     ghost Value = { TableValue };
 
-    ghost view = { λ t. record { name = string_bytes t.name; columns = t.columns.items; key = t.key.items; vindex = t.vindex } };
+    ghost use Rattle.std.specs.Prelude.{◌≤◌, length};
+
+    ghost view = { λ t. record { name = string_bytes t.name; columns = t.columns.items; key = t.key.items; vindex = t.vindex; kept = t.kept } };
+
+    ghost invariant = { λ t. length t.columns.items ≤ 256 };
 }
 
 impl Table {
@@ -74,8 +81,10 @@ impl Table {
         columns: Vec<ColumnDef>,
         key: Vec<u8>,
         vindex: Option<(usize, Vindex)>,
+        kept: Places,
     ) -> Result<Table, AllocError>
-        ensures { IfOk result (λ t. t ≡ record { name = name.now; columns = columns.items; key = key.items; vindex = vindex }) }
+        requires { length columns.items ≤ 256 }
+        ensures { IfOk result (λ t. t ≡ record { name = name.now; columns = columns.items; key = key.items; vindex = vindex; kept = kept }) }
     {
         let name = String::from_str(alloc, name)?;
         Ok(Table {
@@ -83,7 +92,15 @@ impl Table {
             columns,
             key,
             vindex,
+            kept,
         })
+    }
+
+    /// Other columns are kept.
+    pub(crate) fn keep(&mut self, kept: Places)
+        ensures { self.new ≡ keeping self.old kept }
+    {
+        self.kept = kept;
     }
 
     /// The table's name.
@@ -96,6 +113,14 @@ impl Table {
     /// The table's columns, in order: 1 to 256 of them.
     pub fn columns(&self) -> &[ColumnDef]
         ensures { result.now ≡ self.now.columns }
+    {
+        self.columns.as_slice()
+    }
+
+    /// The table's columns, of which there are no more than a byte can number.
+    pub(crate) fn few_columns(&self) -> &[ColumnDef]
+        ensures columns { result.now ≡ self.now.columns }
+        ensures few { length result.now ≤ 256 }
     {
         self.columns.as_slice()
     }
@@ -113,6 +138,14 @@ impl Table {
     {
         self.vindex
     }
+
+    /// The places of the columns that the target keeps of the table, in kept order: each key column is
+    /// one of them, and none stands twice.
+    pub fn kept(&self) -> &[u8]
+        ensures { result.now ≡ self.now.kept }
+    {
+        self.kept.as_slice()
+    }
 }
 
 impl Same for ColumnDef {
@@ -127,5 +160,6 @@ impl Same for Table {
             && all_same(&self.columns, &other.columns)
             && self.key == other.key
             && self.vindex == other.vindex
+            && self.kept.same(&other.kept)
     }
 }

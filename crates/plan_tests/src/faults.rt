@@ -127,3 +127,20 @@ fn tells_unfit(alloc: Global) -> Result<bool, AllocError> {
 fn text_of_an_unfit_column(rt: HostRuntime) {
     assert!(rt; matches!(tells_unfit(rt.alloc()), Ok(true)));
 }
+
+/// Whether a table of which streams keep different columns is told.
+fn tells_differing(alloc: Global) -> Result<bool, AllocError> {
+    let table = String::from_str(alloc, "t")?;
+    let fault = PlanFault::ColumnsDiffer { table };
+    is_told(
+        alloc,
+        &fault,
+        57,
+        "the streams keep different columns of table t",
+    )
+}
+
+#[test]
+fn text_of_differing_columns(rt: HostRuntime) {
+    assert!(rt; matches!(tells_differing(rt.alloc()), Ok(true)));
+}

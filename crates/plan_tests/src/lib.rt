@@ -13,6 +13,8 @@ mod filters;
 #[cfg(test)]
 mod limits;
 #[cfg(test)]
+mod lists;
+#[cfg(test)]
 mod ranges;
 #[cfg(test)]
 mod workflows;

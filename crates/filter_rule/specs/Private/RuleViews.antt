@@ -4,4 +4,4 @@ use Rattle.filter_rule.specs.Rules.{RuleForm as FormSaid}
 use Rattle.filter_rule.specs.declared.rule.RuleForm.{RuleForm}
 
 abbrev pub form_seen : RuleForm → FormSaid
-form_seen form = record { scope = scope_said form.scope; rows = rows_said form.rows }
+form_seen form = record { scope = scope_said form.scope; columns = form.columns; rows = rows_said form.rows }
