@@ -2,6 +2,7 @@ mod OrderLaws
 mod TieLaws
 mod MarkLaws
 mod ReadingLaws
+mod KeptLaws
 mod RelationLaws
 mod LeastKey
 pub mod LastpkLaws

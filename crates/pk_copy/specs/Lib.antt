@@ -5,6 +5,7 @@ pub mod KeyOrderLaws
 pub mod PartValue
 pub mod SmallPartValue
 pub mod KeyOf
+pub mod KeyOfKept
 pub mod Marks
 pub mod MarkOrderLaws
 pub mod MarkView

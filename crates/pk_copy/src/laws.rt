@@ -6,6 +6,7 @@ ghost use Rattle.std.specs.Cmp.{IsTotalOrder};
 ghost use Rattle.std.specs.declared.cmp.Ordering.TheVariants.{Equal};
 ghost use Rattle.pk_copy.specs.KeyValue.{KeyValue};
 ghost use Rattle.pk_copy.specs.KeyOrder.{key_cmp};
+ghost use Rattle.pk_copy.specs.KeyOfKept.{KeysAreKept};
 ghost use Rattle.pk_copy.specs.Marks.{marks_cmp, MarksTieWhereEqual};
 
 /// The order of keys holds two keys equal exactly where they have the same table and the same parts.
@@ -18,4 +19,9 @@ pub fn keys_tie_where_they_are_equal()
 pub fn marks_tie_where_they_are_equal()
     ensures total { IsTotalOrder marks_cmp }
     ensures ties { MarksTieWhereEqual }
+{}
+
+/// The key of a row of a plan's table is the key of its kept columns.
+pub fn keys_are_those_of_kept_columns()
+    ensures { KeysAreKept }
 {}

@@ -5,6 +5,7 @@
 mod copy_state;
 mod fault;
 mod kept;
+mod kept_row;
 mod key;
 mod lastpk;
 mod lastpk_laws;
@@ -20,10 +21,13 @@ mod written_key;
 
 pub use copy_state::CopyState;
 pub use fault::KeyFault;
+pub use kept_row::key_of_kept;
 pub use key::Key;
 pub use lastpk::key_of_lastpk;
 pub use lastpk_laws::{keys_read_are_table_keys, lastpks_are_read_again};
-pub use laws::{keys_tie_where_they_are_equal, marks_tie_where_they_are_equal};
+pub use laws::{
+    keys_are_those_of_kept_columns, keys_tie_where_they_are_equal, marks_tie_where_they_are_equal,
+};
 pub use lent::LentKey;
 pub use mark::Mark;
 pub use part::KeyPart;
