@@ -9,7 +9,7 @@ use Rattle.pk_copy.specs.KeyOrder.{key_cmp}
 use Rattle.pk_copy.specs.KeyValue.{KeyValue}
 use Rattle.pk_copy.specs.Marks.{waiting, copied, Marks, AreMarks, IsOfCurrent, current_mark, covers, is_inside}
 use Rattle.target_tables.specs.Touches.{last_at}
-use Rattle.source_feed.specs.History.{touches_in, passing, kept_at}
+use Rattle.source_feed.specs.History.{touches_in, passing, passed_at}
 use Rattle.source_feed.specs.Prepared.{is_on}
 use Rattle.source_feed.specs.Touches.{PutValue, TouchValue, PreparedValue}
 use Rattle.board_laws.proofs.Lookups.{Ties, is_key, same_key}
@@ -65,9 +65,9 @@ same_touches tables (x ∷ xs) (y ∷ ys) long same =
     ∙ sym (filter-append (is_on tables) y.touches (touches_in ys))
 
 -- such groups keep the same at an old key
-pub kept_at-on : (ties : Ties) (tables : ℕ) (one other : List PreparedValue) (n : ℕ) (key : KeyValue) → key.table < tables
-    → on tables (touches_in (take n one)) ≡ on tables (touches_in (take n other)) → kept_at one n key ≡ kept_at other n key
-kept_at-on ties tables one other n key old same =
+pub passed_at-on : (ties : Ties) (tables : ℕ) (one other : List PreparedValue) (n : ℕ) (key : KeyValue) → key.table < tables
+    → on tables (touches_in (take n one)) ≡ on tables (touches_in (take n other)) → passed_at one n key ≡ passed_at other n key
+passed_at-on ties tables one other n key old same =
     ap (λ (t : Option (Option PutValue)). option_and_then passing (option_and_then (λ put. put) t))
     (sym (last_at-on ties tables (touches_in (take n one)) key old)
     ∙ ap (λ (ts : List TouchValue). last_at key_cmp ts key) same

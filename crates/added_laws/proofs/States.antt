@@ -15,7 +15,7 @@ use Rattle.pk_copy.specs.Lastpk.{lastpk_of, lastpk_cells, IsTableKey}
 use Rattle.pk_copy.specs.Marks.{IsOfCurrent, is_inside}
 use Rattle.source_feed.specs.Planned.{FeedValue, IsFeed}
 use Rattle.source_feed.specs.Prepared.{IsSameOn}
-use Rattle.source_feed.specs.History.{touches_in, kept_at}
+use Rattle.source_feed.specs.History.{touches_in, passed_at}
 use Rattle.source_feed.specs.Touches.{PreparedValue, prepared}
 use Rattle.stream_core.specs.declared.phase.Phase.TheVariants.{Running, CatchUp}
 use Rattle.stream_core.specs.Standing.{phase_of}
@@ -25,13 +25,13 @@ use Rattle.board_laws.specs.Lawful.{standing_of, IsSoundState}
 use Rattle.board_laws.specs.Meaning.{State}
 use Rattle.board_laws.specs.Runs.{sound_groups}
 use Rattle.board_laws.proofs.FeedGroups.{last_of, sound-is_read}
-use Rattle.board_laws.proofs.History.{kept_at-take, read-cut}
+use Rattle.board_laws.proofs.History.{passed_at-take, read-cut}
 use Rattle.board_laws.proofs.Lists.{slice_get-take, take-take}
 use Rattle.board_laws.proofs.Lookups.{Ties}
 use Rattle.added_laws.specs.Extended.{marks_of_more, extended_state}
 use Rattle.added_laws.specs.GoingOn.{GoesOn}
 use Rattle.added_laws.specs.Laws.{ExtendedStatesAreSound, PositionsStay, FeedsThatGoOnArentStopped}
-use Rattle.added_laws.proofs.OldTables.{on, same_touches, kept_at-on, inside_old}
+use Rattle.added_laws.proofs.OldTables.{on, same_touches, passed_at-on, inside_old}
 
 -- ---- the tables of an extended plan
 
@@ -105,12 +105,12 @@ module _ (feed : FeedValue) (state : State) (sound : IsSoundState state) (whole 
   extended-cut ties key = by (is_inside state.marks key) refl
     where
       by : (b : Bool) → is_inside state.marks key ≡ b
-          → cond b (kept_at (take state.applied (sound_groups feed)) state.applied key) None ≡ cond b (kept_at state.list state.applied key) None
+          → cond b (passed_at (take state.applied (sound_groups feed)) state.applied key) None ≡ cond b (passed_at state.list state.applied key) None
       by false e = refl
       by true e =
           let inside : key.table < state.marks.tables = inside_old state.marks sound.marks key e in
-          kept_at-take (sound_groups feed) state.applied key
-          ∙ kept_at-on ties (length state.plan.tables) (sound_groups feed) state.list state.applied key (omega (arith, inside, sound.tables)) alike
+          passed_at-take (sound_groups feed) state.applied key
+          ∙ passed_at-on ties (length state.plan.tables) (sound_groups feed) state.list state.applied key (omega (arith, inside, sound.tables)) alike
 
   pub catches_up : phase_of (standing_of (extended_state feed state)) ≡ CatchUp
   catches_up = ap (λ b. cond b Running CatchUp) (ne_eqb state.marks.done (length feed.plan.tables) (λ e. absurd (omega (arith, e, left_to_copy))))

@@ -12,7 +12,7 @@ use Rattle.pk_copy.specs.Marks.{MarkValue, waiting, up_to, copied, Marks, AreMar
 use Rattle.source_feed.specs.declared.fault.FeedFault.{FeedFault}
 use Rattle.source_feed.specs.declared.fault.FeedFault.TheVariants as faults
 use Rattle.source_feed.specs.FaultNumber.{meant_of}
-use Rattle.source_feed.specs.History.{IsKept}
+use Rattle.source_feed.specs.History.{IsPassed}
 use Rattle.source_feed.specs.Image.{ImageRows}
 use Rattle.source_feed.specs.Planned.{FeedValue, IsFeed}
 use Rattle.source_feed.specs.Prepared.{IsSameOn}
@@ -180,7 +180,7 @@ module _ (feed : FeedValue) (state : State) (groups : List PreparedValue) (plan 
   pub made_extended : IsExtendedBy feed state (record { plan = plan; list = groups; applied = applied; marks = marks; snapshot = None })
   made_extended = record { goes_on = again.go_on; is = made_is }
 
-  pub made_stream : ExtendedStatesAreSound → IsSoundState state → IsFeed feed → IsExtended state.plan feed.plan → (image : ImageRows) → IsKept groups 0 image
+  pub made_stream : ExtendedStatesAreSound → IsSoundState state → IsFeed feed → IsExtended state.plan feed.plan → (image : ImageRows) → IsPassed groups 0 image
       → IsStream (record { plan = plan; list = groups; applied = applied; marks = marks; snapshot = None }) 0 image
   made_stream sound_states sound whole more image kept = record {
     sound = subst IsSoundState (sym made_is) (sound_states feed state sound whole more again.go_on);

@@ -20,7 +20,7 @@ use Rattle.source_feed.specs.declared.fault.FeedFault.{FeedFault}
 use Rattle.source_feed.specs.declared.fault.FeedFault.TheVariants as faults
 use Rattle.source_feed.specs.FaultNumber.{meant_of}
 use Rattle.source_feed.specs.GroupValue.{Position}
-use Rattle.source_feed.specs.History.{RowValue, IsKept}
+use Rattle.source_feed.specs.History.{RowValue, IsPassed}
 use Rattle.source_feed.specs.Image.{ImageRows, row_in, lent_row}
 use Rattle.source_feed.specs.Planned.{FeedValue, IsFeed}
 use Rattle.source_feed.specs.Touches.{PreparedValue}
@@ -28,8 +28,8 @@ use Rattle.vevent.specs.CheckpointPart.{StreamPartValue}
 use Rattle.vdiff_core.specs.Report.{IsFirstDifference}
 use Rattle.vdiff_core.proofs.ReportLaws.{IsSameSoFar, stops_at_source, stops_at_target, stops_at_rows, same_for_longer, rest_of_source, rest_of_target}
 use Rattle.board_laws.specs.Cut.{cut_of}
-use Rattle.board_laws.specs.KeptRows.{kept_rows}
-use Rattle.board_laws.specs.Laws.{KeptRowsAreOneList}
+use Rattle.board_laws.specs.KeptRows.{passed_rows}
+use Rattle.board_laws.specs.Laws.{PassedRowsAreOneList}
 use Rattle.board_laws.specs.Meaning.{State, TargetRows}
 use Rattle.board_laws.specs.Runs.{sound_groups}
 use Rattle.board_laws.specs.Step.{due_at}
@@ -120,7 +120,7 @@ module _ (feed : FeedValue) (saved : SavedStream) (number : ℕ) (groups : List 
     state_is = λ i. record { plan = planned i; list = first.are i; applied = number; marks = marked i; snapshot = None };
   }
 
-  pub is_stream : IsFeed feed → IsSaved feed.plan saved → (image : ImageRows) → IsKept groups 0 image → IsStream (record { plan = plan; list = groups; applied = number; marks = marks; snapshot = None }) 0 image
+  pub is_stream : IsFeed feed → IsSaved feed.plan saved → (image : ImageRows) → IsPassed groups 0 image → IsStream (record { plan = plan; list = groups; applied = number; marks = marks; snapshot = None }) 0 image
   is_stream whole sound image kept = record {
     sound = resumed-sound feed whole saved sound (record { plan = plan; list = groups; applied = number; marks = marks; snapshot = None }) is_resumed;
     kept = kept;
@@ -212,9 +212,9 @@ all_rise feeds saved said s one there =
 -- ---- the rows of a stream
 
 -- the rows of an image within the marks are those of the cut
-pub found_are_cut : (one_list : KeptRowsAreOneList) (state : State) (image rows : ImageRows) (imaged : ℕ) → imaged ≡ state.applied → IsKept state.list imaged image → rows ≡ filter (λ row. is_inside state.marks row.0) image → rows ≡ cut_rows state
+pub found_are_cut : (one_list : PassedRowsAreOneList) (state : State) (image rows : ImageRows) (imaged : ℕ) → imaged ≡ state.applied → IsPassed state.list imaged image → rows ≡ filter (λ row. is_inside state.marks row.0) image → rows ≡ cut_rows state
 found_are_cut one_list state image rows imaged there kept is =
-    is ∙ ap (filter (λ row. is_inside state.marks row.0)) (one_list state.list imaged image kept ∙ ap (kept_rows state.list) there)
+    is ∙ ap (filter (λ row. is_inside state.marks row.0)) (one_list state.list imaged image kept ∙ ap (passed_rows state.list) there)
 
 pub least_of : (ties : Ties) (saved : SavedStream) (state : State) (rows : ImageRows) (key : KeyValue) → rows ≡ cut_rows state → IsFirstDifference saved.rows rows key → IsLeastDifference saved state key
 least_of ties saved state rows key is first =

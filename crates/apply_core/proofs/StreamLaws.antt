@@ -7,7 +7,7 @@ use Rattle.std.specs.Prelude.{nat_le}
 use Rattle.std.specs.Option.{option_map}
 use Rattle.source_feed.specs.Prepared.{IsPrepared}
 use Rattle.source_feed.specs.Touches.{PreparedValue}
-use Rattle.source_feed.specs.History.{IsKept}
+use Rattle.source_feed.specs.History.{IsPassed}
 use Rattle.source_feed.specs.Image.{ImageRows}
 use Rattle.board_laws.specs.Meaning.{State}
 use Rattle.board_laws.specs.Lawful.{IsSoundState}
@@ -58,7 +58,7 @@ module _ (sound : StatesStaySound) (old now : State) (is : old ≡ now) (imaged 
         ap (λ (gs : List PreparedValue). record { plan = old.plan; list = gs; applied = old.applied; marks = old.marks; snapshot = None }) cut
         ∙ ap (λ (s : State). state_after s restart) is
 
-    pub restarted-stream : (empty : ImageRows) → IsKept list 0 empty → IsStream (record { plan = old.plan; list = list; applied = old.applied; marks = old.marks; snapshot = None }) 0 empty
+    pub restarted-stream : (empty : ImageRows) → IsPassed list 0 empty → IsStream (record { plan = old.plan; list = list; applied = old.applied; marks = old.marks; snapshot = None }) 0 empty
     restarted-stream empty kept = record {
       sound = subst (λ (s : State). IsSoundState s) (sym restarted-value) (sound now restart (subst (λ (s : State). IsSoundState s) is inv.sound) (may-restart now) tt);
       kept = kept;

@@ -2,7 +2,7 @@
 
 ghost use Rattle.std.specs.Prelude.{◌≡◌, ◌≤◌, length, map, OnOk};
 ghost use Rattle.std.specs.Arc.{arc_value};
-ghost use Rattle.source_feed.specs.History.{IsKept};
+ghost use Rattle.source_feed.specs.History.{IsPassed};
 
 use source_feed::{Image, Prepared};
 use std::alloc::{AllocError, Global};
@@ -17,9 +17,9 @@ pub(crate) fn bring<'h>(
     list: &[Arc<Prepared<'h>>],
     group: u32,
 ) -> Result<(), AllocError>
-    requires kept { IsKept (map arc_value list.now) imaged.old image.old }
+    requires kept { IsPassed (map arc_value list.now) imaged.old image.old }
     requires within { group ≤ length list.now }
-    ensures kept { IsKept (map arc_value list.now) imaged.new image.new }
+    ensures kept { IsPassed (map arc_value list.now) imaged.new image.new }
     ensures no_later { imaged.new ≤ group }
     ensures there { OnOk result (imaged.new ≡ group) }
 {

@@ -15,16 +15,16 @@ use Rattle.pk_copy.specs.KeyOrderLaws.{key_cmp_total}
 use Rattle.pk_copy.specs.KeyValue.{KeyValue}
 use Rattle.pk_copy.specs.Marks.{Marks, current_mark, covers, is_inside, is_beyond, is_past, moved_to, next_table, waiting, up_to, copied}
 use Rattle.target_tables.specs.Rising.{IsRising}
-use Rattle.source_feed.specs.History.{RowValue, kept_at}
+use Rattle.source_feed.specs.History.{RowValue, passed_at}
 use Rattle.source_feed.specs.Image.{ImageRows, row_in}
 use Rattle.board_laws.specs.Meaning.{State}
-use Rattle.board_laws.specs.KeptRows.{kept_rows}
+use Rattle.board_laws.specs.KeptRows.{passed_rows}
 use Rattle.board_laws.specs.Cut.{cut_of}
 use Rattle.board_laws.specs.Chunk.{rows_left, rows_taken, takes_all, marks_behind, copied_state}
 use Rattle.board_laws.specs.Touching.{put_by}
 use Rattle.board_laws.proofs.Lists.{parts_of_last, empty_without_last}
 use Rattle.board_laws.proofs.Lookups.{Ties, all_right, filter-passes, rising-filter, lookup-filter, lookup-front}
-use Rattle.board_laws.proofs.KeptList.{list-is_kept}
+use Rattle.board_laws.proofs.KeptList.{list-is_passed}
 
 -- ---- which keys are copied behind a chunk
 
@@ -118,13 +118,13 @@ and-cond false false x = refl
 
 module _ (ties : Ties) (state : State) where
   pub left-rising : IsRising key_cmp (rows_left state)
-  left-rising = rising-filter (λ row. is_past state.marks row.0) (kept_rows state.list state.applied) (list-is_kept ties state.list state.applied).rising
+  left-rising = rising-filter (λ row. is_past state.marks row.0) (passed_rows state.list state.applied) (list-is_passed ties state.list state.applied).rising
 
   -- the rows that are left: at each key past the mark the kept one
-  pub left-at : (key : KeyValue) → row_in (rows_left state) key ≡ cond (is_past state.marks key) (kept_at state.list state.applied key) None
+  pub left-at : (key : KeyValue) → row_in (rows_left state) key ≡ cond (is_past state.marks key) (passed_at state.list state.applied key) None
   left-at key =
-      lookup-filter ties (λ k. is_past state.marks k) (kept_rows state.list state.applied) key
-      ∙ ap (λ (v : Option RowValue). cond (is_past state.marks key) v None) ((list-is_kept ties state.list state.applied).each_key key)
+      lookup-filter ties (λ k. is_past state.marks k) (passed_rows state.list state.applied) key
+      ∙ ap (λ (v : Option RowValue). cond (is_past state.marks key) v None) ((list-is_passed ties state.list state.applied).each_key key)
 
   -- a chunk that ends with this row: at each key past the mark and up to that row's the kept one
   module _ (c : ℕ) (last : KeyValue × RowValue) (ends : slice_get (rows_taken state c) (length (rows_taken state c) - 1) ≡ Some last) where
@@ -143,41 +143,41 @@ module _ (ties : Ties) (state : State) where
     pub last-past : is_past state.marks last.0 ≡ true
     last-past =
         let all : AllByRecursion (λ row. is_past state.marks row.0 ≡ true) (front ++ last ∷ drop c (rows_left state)) =
-        subst (λ (rows : ImageRows). AllByRecursion (λ row. is_past state.marks row.0 ≡ true) rows) whole (filter-passes (λ row. is_past state.marks row.0) (kept_rows state.list state.applied)) in
+        subst (λ (rows : ImageRows). AllByRecursion (λ row. is_past state.marks row.0 ≡ true) rows) whole (filter-passes (λ row. is_past state.marks row.0) (passed_rows state.list state.applied)) in
         (all_right (λ row. is_past state.marks row.0 ≡ true) front (last ∷ drop c (rows_left state)) all).0
 
-    pub taken-at : (key : KeyValue) → row_in (rows_taken state c) key ≡ cond (is_past state.marks key && is_le (key_cmp key last.0)) (kept_at state.list state.applied key) None
+    pub taken-at : (key : KeyValue) → row_in (rows_taken state c) key ≡ cond (is_past state.marks key && is_le (key_cmp key last.0)) (passed_at state.list state.applied key) None
     taken-at key =
         ap (λ (rows : ImageRows). row_in rows key) parts
         ∙ lookup-front front last (drop c (rows_left state)) (subst (λ (rows : ImageRows). IsRising key_cmp rows) whole left-rising) key
         ∙ ap (λ (rows : ImageRows). cond (is_le (key_cmp key last.0)) (row_in rows key) None) (sym whole)
         ∙ ap (λ (v : Option RowValue). cond (is_le (key_cmp key last.0)) v None) (left-at key)
-        ∙ and-cond (is_past state.marks key) (is_le (key_cmp key last.0)) (kept_at state.list state.applied key)
+        ∙ and-cond (is_past state.marks key) (is_le (key_cmp key last.0)) (passed_at state.list state.applied key)
 
   -- behind a chunk stands at each key its row, or what stood there
   pub cut-after_copy : nat_lt state.marks.done state.marks.tables ≡ true → (c : ℕ) (key : KeyValue) → cut_of (copied_state state c) key ≡ unwrap_or (put_by (rows_taken state c) key) (cut_of state key)
   cut-after_copy copying c key = by (takes_all state c) refl
     where
       kept : Option RowValue
-      kept = kept_at state.list state.applied key
+      kept = passed_at state.list state.applied key
 
-      all : takes_all state c ≡ true → row_in (rows_taken state c) key ≡ cond (is_past state.marks key) (kept_at state.list state.applied key) None
+      all : takes_all state c ≡ true → row_in (rows_taken state c) key ≡ cond (is_past state.marks key) (passed_at state.list state.applied key) None
       all e = ap (λ (rows : ImageRows). row_in rows key) (take_all c (rows_left state) (leb-true (length (rows_left state)) c e)) ∙ left-at key
 
       moved : (o : Option (KeyValue × RowValue)) → slice_get (rows_taken state c) (length (rows_taken state c) - 1) ≡ o
-          → cond (is_inside (option_map_or (λ row. moved_to row.0 state.marks) o state.marks) key) (kept_at state.list state.applied key) None ≡ unwrap_or (put_by (rows_taken state c) key) (cut_of state key)
+          → cond (is_inside (option_map_or (λ row. moved_to row.0 state.marks) o state.marks) key) (passed_at state.list state.applied key) None ≡ unwrap_or (put_by (rows_taken state c) key) (cut_of state key)
       moved None e = sym (ap (λ (rows : ImageRows). unwrap_or (put_by rows key) (cut_of state key)) (empty_without_last (rows_taken state c) e))
       moved (Some last) e =
-          ap (λ b. cond b (kept_at state.list state.applied key) None) (inside-moved state.marks copying key last.0 (last-past c last e))
-          ∙ cut-copied (is_inside state.marks key) (is_past state.marks key && is_le (key_cmp key last.0)) (kept_at state.list state.applied key)
+          ap (λ b. cond b (passed_at state.list state.applied key) None) (inside-moved state.marks copying key last.0 (last-past c last e))
+          ∙ cut-copied (is_inside state.marks key) (is_past state.marks key && is_le (key_cmp key last.0)) (passed_at state.list state.applied key)
           ∙ ap (λ (v : Option RowValue). unwrap_or (option_map Some v) (cut_of state key)) (sym (taken-at c last e key))
 
       by : (b : Bool) → takes_all state c ≡ b → cut_of (copied_state state c) key ≡ unwrap_or (put_by (rows_taken state c) key) (cut_of state key)
       by true e =
           ap (λ b. cut_of (cond b (record { plan = state.plan; list = state.list; applied = state.applied; marks = next_table state.marks; snapshot = None })
           (record { plan = state.plan; list = state.list; applied = state.applied; marks = marks_behind (rows_taken state c) state.marks; snapshot = state.snapshot })) key) e
-          ∙ ap (λ b. cond b (kept_at state.list state.applied key) None) (inside-next state.marks copying key)
-          ∙ cut-copied (is_inside state.marks key) (is_past state.marks key) (kept_at state.list state.applied key)
+          ∙ ap (λ b. cond b (passed_at state.list state.applied key) None) (inside-next state.marks copying key)
+          ∙ cut-copied (is_inside state.marks key) (is_past state.marks key) (passed_at state.list state.applied key)
           ∙ ap (λ (v : Option RowValue). unwrap_or (option_map Some v) (cut_of state key)) (sym (all e))
       by false e =
           ap (λ b. cut_of (cond b (record { plan = state.plan; list = state.list; applied = state.applied; marks = next_table state.marks; snapshot = None })

@@ -10,14 +10,14 @@ use Rattle.filter_rule.specs.PlanValue.{PlanValue}
 use Rattle.pk_copy.specs.KeyValue.{KeyValue}
 use Rattle.pk_copy.specs.Marks.{is_inside, is_beyond, is_past}
 use Rattle.source_feed.specs.Touches.{PreparedValue}
-use Rattle.source_feed.specs.History.{RowValue, IsKept}
+use Rattle.source_feed.specs.History.{RowValue, IsPassed}
 use Rattle.source_feed.specs.Image.{ImageRows, chunk_of}
 use Rattle.board_laws.specs.Meaning.{State}
-use Rattle.board_laws.specs.KeptRows.{kept_rows}
+use Rattle.board_laws.specs.KeptRows.{passed_rows}
 use Rattle.board_laws.specs.Cut.{cut_of}
 use Rattle.board_laws.specs.Lawful.{start_of, IsReadList, IsSoundState, IsLawful}
 use Rattle.board_laws.specs.Chunk.{rows_left, takes_all}
-use Rattle.board_laws.proofs.History.{kept_at-alike}
+use Rattle.board_laws.proofs.History.{passed_at-alike}
 
 nothing : {A P : Type 0} (i : ℕ) (x : A) → slice_get [] i ≡ Some x → P
 nothing i x e = cc
@@ -78,8 +78,8 @@ fresh-lawful plans some few tables = record {
 -- ---- images
 
 -- rows that a history keeps are those that any other keeps with the same first groups
-pub kept-alike : (one other : List PreparedValue) (n : ℕ) (rows : ImageRows) → take n one ≡ take n other → IsKept one n rows → IsKept other n rows
-kept-alike one other n rows e kept = record { rising = kept.rising; each_key = λ key. kept.each_key key ∙ kept_at-alike one other n key e }
+pub passed-alike : (one other : List PreparedValue) (n : ℕ) (rows : ImageRows) → take n one ≡ take n other → IsPassed one n rows → IsPassed other n rows
+passed-alike one other n rows e kept = record { rising = kept.rising; each_key = λ key. kept.each_key key ∙ passed_at-alike one other n key e }
 
 -- ---- chunks
 
@@ -92,11 +92,11 @@ filter-alike {X} p q h (x ∷ xs) = ap (λ b. cond b (x ∷ filter p xs) (filter
 
 -- the first rows past the mark of the first table that isn't done are those that are left
 pub chunk-left : (state : State) (n : ℕ) → nat_lt state.marks.done state.marks.tables ≡ true
-    → chunk_of (kept_rows state.list state.applied) state.marks.done state.marks.upto n ≡ take n (rows_left state)
+    → chunk_of (passed_rows state.list state.applied) state.marks.done state.marks.upto n ≡ take n (rows_left state)
 chunk-left state n copying =
     ap (λ (rows : ImageRows). take n rows)
     (filter-alike (λ row. row.0.table == state.marks.done && is_beyond state.marks.upto row.0) (λ row. is_past state.marks row.0)
-    (λ row. same-test (nat_lt state.marks.done state.marks.tables) (row.0.table == state.marks.done) (is_beyond state.marks.upto row.0) copying) (kept_rows state.list state.applied))
+    (λ row. same-test (nat_lt state.marks.done state.marks.tables) (row.0.table == state.marks.done) (is_beyond state.marks.upto row.0) copying) (passed_rows state.list state.applied))
 
 -- one row more is asked for: whether it is there says whether rows are left behind the chunk
 pub all-taken : (state : State) (c : ℕ) → nat_le (length (take (c + 1) (rows_left state))) c ≡ takes_all state c

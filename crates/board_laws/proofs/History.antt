@@ -15,7 +15,7 @@ use Rattle.target_tables.specs.Touches.{last_at}
 use Rattle.source_feed.specs.GroupOrder.{IsProperPart}
 use Rattle.source_feed.specs.Prepared.{IsPrepared}
 use Rattle.source_feed.specs.Touches.{PutValue, TouchValue, PreparedValue}
-use Rattle.source_feed.specs.History.{RowValue, touches_in, passing, kept_at}
+use Rattle.source_feed.specs.History.{RowValue, touches_in, passing, passed_at}
 use Rattle.source_feed.specs.Image.{kept_after}
 use Rattle.board_laws.specs.Lawful.{IsReadList}
 use Rattle.board_laws.specs.Allowed.{last_position, IsNext}
@@ -53,9 +53,9 @@ take-next history n group e =
     take_more history n group within ∙ ap (λ (g : PreparedValue). take n history ++ g ∷ []) (get_or_from_slice_get history n group group e)
 
 -- one group more keeps at a key what its last touch leaves there, and else what was kept
-pub kept_at-next : (history : List PreparedValue) (n : ℕ) (group : PreparedValue) (key : KeyValue) → slice_get history n ≡ Some group
-    → kept_at history (n + 1) key ≡ kept_after (last_at key_cmp group.touches key) (kept_at history n key)
-kept_at-next history n group key e =
+pub passed_at-next : (history : List PreparedValue) (n : ℕ) (group : PreparedValue) (key : KeyValue) → slice_get history n ≡ Some group
+    → passed_at history (n + 1) key ≡ kept_after (last_at key_cmp group.touches key) (passed_at history n key)
+passed_at-next history n group key e =
     ap (λ (t : Option (Option PutValue)). option_and_then passing (option_and_then (λ put. put) t))
     (ap (λ (gs : List PreparedValue). last_at key_cmp (touches_in gs) key) (take-next history n group e)
     ∙ ap (λ (ts : List TouchValue). last_at key_cmp ts key) (touches_in-more (take n history) group)
@@ -71,14 +71,14 @@ cut-next false t kept = refl
 
 -- ---- histories with the same beginning
 
-pub kept_at-alike : (one other : List PreparedValue) (n : ℕ) (key : KeyValue) → take n one ≡ take n other → kept_at one n key ≡ kept_at other n key
-kept_at-alike one other n key e = ap (λ (gs : List PreparedValue). option_and_then passing (option_and_then (λ put. put) (last_at key_cmp (touches_in gs) key))) e
+pub passed_at-alike : (one other : List PreparedValue) (n : ℕ) (key : KeyValue) → take n one ≡ take n other → passed_at one n key ≡ passed_at other n key
+passed_at-alike one other n key e = ap (λ (gs : List PreparedValue). option_and_then passing (option_and_then (λ put. put) (last_at key_cmp (touches_in gs) key))) e
 
-pub kept_at-push : (history : List PreparedValue) (group : PreparedValue) (n : ℕ) (key : KeyValue) → n ≤ length history → kept_at (history ++ group ∷ []) n key ≡ kept_at history n key
-kept_at-push history group n key h = kept_at-alike (history ++ group ∷ []) history n key (take-append-le n history (group ∷ []) h)
+pub passed_at-push : (history : List PreparedValue) (group : PreparedValue) (n : ℕ) (key : KeyValue) → n ≤ length history → passed_at (history ++ group ∷ []) n key ≡ passed_at history n key
+passed_at-push history group n key h = passed_at-alike (history ++ group ∷ []) history n key (take-append-le n history (group ∷ []) h)
 
-pub kept_at-take : (history : List PreparedValue) (n : ℕ) (key : KeyValue) → kept_at (take n history) n key ≡ kept_at history n key
-kept_at-take history n key = kept_at-alike (take n history) history n key (take-take n history)
+pub passed_at-take : (history : List PreparedValue) (n : ℕ) (key : KeyValue) → passed_at (take n history) n key ≡ passed_at history n key
+passed_at-take history n key = passed_at-alike (take n history) history n key (take-take n history)
 
 -- ---- read lists
 

@@ -12,10 +12,10 @@ use Rattle.pk_copy.specs.KeyOrderLaws.{key_cmp_total}
 use Rattle.pk_copy.specs.KeyValue.{KeyValue}
 use Rattle.target_tables.specs.Rising.{IsRising}
 use Rattle.target_tables.specs.Touches.{last_at}
-use Rattle.source_feed.specs.History.{RowValue, touches_in, kept_at, passing, IsKept}
+use Rattle.source_feed.specs.History.{RowValue, touches_in, passed_at, passing, IsPassed}
 use Rattle.source_feed.specs.Image.{ImageRows}
 use Rattle.source_feed.specs.Touches.{PutValue, TouchValue, PreparedValue}
-use Rattle.board_laws.specs.KeptRows.{with_key, touched_keys, kept_rows}
+use Rattle.board_laws.specs.KeptRows.{with_key, touched_keys, passed_rows}
 use Rattle.board_laws.proofs.Lookups.{Ties, is_key, same_key, each, same_rows}
 
 -- ---- rising keys
@@ -142,20 +142,20 @@ module _ (at : KeyValue → Option RowValue) where
 -- ---- a history
 
 -- the list of kept rows is the kept rows
-pub list-is_kept : (ties : Ties) (history : List PreparedValue) (n : ℕ) → IsKept history n (kept_rows history n)
-list-is_kept ties history n =
+pub list-is_passed : (ties : Ties) (history : List PreparedValue) (n : ℕ) → IsPassed history n (passed_rows history n)
+list-is_passed ties history n =
     let touches : List TouchValue = touches_in (take n history) in
     record {
-      rising = rising_rows (kept_at history n) (touched_keys touches) (rising_touched touches);
-      each_key = λ q. lookup-rows (kept_at history n) ties (touched_keys touches) q ∙ whole q (list_any (is_key q) (touched_keys touches)) refl;
+      rising = rising_rows (passed_at history n) (touched_keys touches) (rising_touched touches);
+      each_key = λ q. lookup-rows (passed_at history n) ties (touched_keys touches) q ∙ whole q (list_any (is_key q) (touched_keys touches)) refl;
     }
   where
-    whole : (q : KeyValue) (b : Bool) → list_any (is_key q) (touched_keys (touches_in (take n history))) ≡ b → cond b (kept_at history n q) None ≡ kept_at history n q
+    whole : (q : KeyValue) (b : Bool) → list_any (is_key q) (touched_keys (touches_in (take n history))) ≡ b → cond b (passed_at history n q) None ≡ passed_at history n q
     whole q true e = refl
     whole q false e = sym (ap (λ (t : Option (Option PutValue)). option_and_then passing (option_and_then (λ put. put) t)) (untouched (touches_in (take n history)) q e))
 
 -- so all rows that a history keeps are the list
-pub kept-is_list : (ties : Ties) (history : List PreparedValue) (n : ℕ) (rows : ImageRows) → IsKept history n rows → rows ≡ kept_rows history n
-kept-is_list ties history n rows kept =
-    let list : IsKept history n (kept_rows history n) = list-is_kept ties history n in
-    same_rows ties rows (kept_rows history n) kept.rising list.rising (λ q. kept.each_key q ∙ sym (list.each_key q))
+pub passed-is_list : (ties : Ties) (history : List PreparedValue) (n : ℕ) (rows : ImageRows) → IsPassed history n rows → rows ≡ passed_rows history n
+passed-is_list ties history n rows kept =
+    let list : IsPassed history n (passed_rows history n) = list-is_passed ties history n in
+    same_rows ties rows (passed_rows history n) kept.rising list.rising (λ q. kept.each_key q ∙ sym (list.each_key q))

@@ -10,10 +10,10 @@ use Rattle.pk_copy.specs.KeyOrder.{key_cmp}
 use Rattle.pk_copy.specs.KeyValue.{KeyValue, AreParts}
 use Rattle.pk_copy.specs.Lastpk.{IsTableKey, KeysOfRowsAreTableKeys}
 use Rattle.target_tables.specs.Touches.{last_at}
-use Rattle.source_feed.specs.History.{RowValue, touches_in, passing, kept_at}
+use Rattle.source_feed.specs.History.{RowValue, touches_in, passing, passed_at}
 use Rattle.source_feed.specs.Prepared.{IsTouchUnder}
 use Rattle.source_feed.specs.Touches.{PutValue, TouchValue, PreparedValue}
-use Rattle.board_laws.specs.KeptRows.{touched_keys, kept_rows}
+use Rattle.board_laws.specs.KeptRows.{touched_keys, passed_rows}
 use Rattle.board_laws.specs.Lawful.{IsReadList}
 use Rattle.board_laws.proofs.History.{read-cut}
 use Rattle.board_laws.proofs.Lookups.{Ties, is_key, same_key}
@@ -71,7 +71,7 @@ last-under ties plan (touch ∷ later) key put all e = by (λ h. last-under ties
     by rest None there false same e = absurd (none-some (Some put) e)
 
 module _ (ties : Ties) (plan : PlanValue) (history : List PreparedValue) (n : ℕ) (all : AllByRecursion (PutsUnder plan) (touches_in (take n history))) where
-  row-under : (key : KeyValue) (row : RowValue) → kept_at history n key ≡ Some row → IsRowUnder plan (key, row)
+  row-under : (key : KeyValue) (row : RowValue) → passed_at history n key ≡ Some row → IsRowUnder plan (key, row)
   row-under key row e = by (last_at key_cmp (touches_in (take n history)) key) refl e
     where
       passed : (put : PutValue) → IsRowUnder plan (key, put.row) → (b : Bool) → cond b (Some put.row) None ≡ Some row → IsRowUnder plan (key, row)
@@ -83,16 +83,16 @@ module _ (ties : Ties) (plan : PlanValue) (history : List PreparedValue) (n : �
       by (Some None) there e = absurd (none-some row e)
       by (Some (Some put)) there e = passed put (last-under ties plan (touches_in (take n history)) key put all there) put.passes e
 
-  rows-under : (keys : List KeyValue) → AllByRecursion (IsRowUnder plan) (filter_map (λ (key : KeyValue). option_map (λ (row : RowValue). (key, row)) (kept_at history n key)) keys)
+  rows-under : (keys : List KeyValue) → AllByRecursion (IsRowUnder plan) (filter_map (λ (key : KeyValue). option_map (λ (row : RowValue). (key, row)) (passed_at history n key)) keys)
   rows-under [] = tt
-  rows-under (key ∷ keys) = by (kept_at history n key) refl (rows-under keys)
+  rows-under (key ∷ keys) = by (passed_at history n key) refl (rows-under keys)
     where
-      by : (o : Option RowValue) → kept_at history n key ≡ o → AllByRecursion (IsRowUnder plan) (filter_map (λ (key : KeyValue). option_map (λ (row : RowValue). (key, row)) (kept_at history n key)) keys)
-          → AllByRecursion (IsRowUnder plan) (cons_option (option_map (λ (row : RowValue). (key, row)) o) (filter_map (λ (key : KeyValue). option_map (λ (row : RowValue). (key, row)) (kept_at history n key)) keys))
+      by : (o : Option RowValue) → passed_at history n key ≡ o → AllByRecursion (IsRowUnder plan) (filter_map (λ (key : KeyValue). option_map (λ (row : RowValue). (key, row)) (passed_at history n key)) keys)
+          → AllByRecursion (IsRowUnder plan) (cons_option (option_map (λ (row : RowValue). (key, row)) o) (filter_map (λ (key : KeyValue). option_map (λ (row : RowValue). (key, row)) (passed_at history n key)) keys))
       by None e rest = rest
       by (Some row) e rest = (row-under key row e, rest)
 
 -- ---- the kept rows
 
-pub kept-under : (ties : Ties) (plan : PlanValue) (list : List PreparedValue) (n : ℕ) → IsReadList plan list → AllByRecursion (IsRowUnder plan) (kept_rows list n)
-kept-under ties plan list n read = rows-under ties plan list n (read-puts plan (take n list) (read-cut plan list n read)) (touched_keys (touches_in (take n list)))
+pub passed-under : (ties : Ties) (plan : PlanValue) (list : List PreparedValue) (n : ℕ) → IsReadList plan list → AllByRecursion (IsRowUnder plan) (passed_rows list n)
+passed-under ties plan list n read = rows-under ties plan list n (read-puts plan (take n list) (read-cut plan list n read)) (touched_keys (touches_in (take n list)))

@@ -18,13 +18,13 @@ use Rattle.source_feed.specs.History.{RowValue}
 use Rattle.board_laws.specs.Meaning.{State}
 use Rattle.board_laws.specs.Lawful.{standing_of, IsSoundState}
 use Rattle.board_laws.specs.Event.{Event, offer, advance, open_at, copy_rows, close, restart, step_of, OnOffer}
-use Rattle.board_laws.specs.KeptRows.{kept_rows}
+use Rattle.board_laws.specs.KeptRows.{passed_rows}
 use Rattle.board_laws.specs.Chunk.{rows_left, rows_taken, takes_all, marks_behind, copied_state}
 use Rattle.board_laws.specs.StateAfter.{state_after}
 use Rattle.board_laws.specs.Allowed.{IsAllowed, IsNext}
 use Rattle.board_laws.proofs.Lists.{slice_get-take}
 use Rattle.board_laws.proofs.Lookups.{Ties, all-filter, all-at}
-use Rattle.board_laws.proofs.RowsUnder.{IsRowUnder, key-under, kept-under}
+use Rattle.board_laws.proofs.RowsUnder.{IsRowUnder, key-under, passed-under}
 use Rattle.board_laws.proofs.History.{read-next, read-cut}
 use Rattle.board_laws.proofs.Chunks.{and-left, and-right, last-past}
 
@@ -114,7 +114,7 @@ module _ (state : State) (sound : IsSoundState state) where
       last-key : (last : KeyValue × RowValue) → slice_get (rows_taken state c) (length (rows_taken state c) - 1) ≡ Some last → IsTableKey state.plan last.0
       last-key last e =
           let under : AllByRecursion (IsRowUnder state.plan) (rows_left state) =
-          all-filter (IsRowUnder state.plan) (λ row. is_past state.marks row.0) (kept_rows state.list state.applied) (kept-under ties state.plan state.list state.applied sound.list) in
+          all-filter (IsRowUnder state.plan) (λ row. is_past state.marks row.0) (passed_rows state.list state.applied) (passed-under ties state.plan state.list state.applied sound.list) in
           key-under of_rows state.plan last (all-at (IsRowUnder state.plan) (rows_left state) (length (rows_taken state c) - 1) last under (slice_get-take c (rows_left state) (length (rows_taken state c) - 1) last e))
 
       moved : (o : Option (KeyValue × RowValue)) → slice_get (rows_taken state c) (length (rows_taken state c) - 1) ≡ o

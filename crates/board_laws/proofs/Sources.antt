@@ -9,7 +9,7 @@ use Rattle.pk_copy.specs.KeyValue.{KeyValue}
 use Rattle.pk_copy.specs.Marks.{is_inside}
 use Rattle.target_tables.specs.Contents.{value_at}
 use Rattle.target_tables.specs.Touches.{last_at}
-use Rattle.source_feed.specs.History.{RowValue, touches_in, passing, kept_at}
+use Rattle.source_feed.specs.History.{RowValue, touches_in, passing, passed_at}
 use Rattle.source_feed.specs.Planned.{FeedValue}
 use Rattle.source_feed.specs.Touches.{PreparedValue}
 use Rattle.board_laws.specs.Allowed.{last_position}
@@ -68,15 +68,15 @@ module _ (feeds : List FeedValue) (board : Meaning) (lawful : IsLawful board) (s
       let same : length (take state.applied state.list) ≡ length (take state.applied groups) = ap length front in
       omega (arith, one, other, same)
 
-  kept : (key : KeyValue) → kept_at state.list state.applied key ≡ kept_at groups state.applied key
+  kept : (key : KeyValue) → passed_at state.list state.applied key ≡ passed_at groups state.applied key
   kept key = ap (kept_of key) front
 
-  rows : (key : KeyValue) (row : RowValue) → (value_at key_cmp board.rows key ≡ Some (s, row)) ↔ (IsTrue (is_inside state.marks key) × (kept_at groups state.applied key ≡ Some row))
+  rows : (key : KeyValue) (row : RowValue) → (value_at key_cmp board.rows key ≡ Some (s, row)) ↔ (IsTrue (is_inside state.marks key) × (passed_at groups state.applied key ≡ Some row))
   rows key row = (
     λ e.
         let r : IsReplayed board s key row = (replayed board lawful s key row).0 e in
         let same : r.state ≡ state = same_Some r.state state (sym r.stream ∙ here) in
-        (subst (λ (z : State). IsTrue (is_inside z.marks key)) same r.copied, sym (kept key) ∙ subst (λ (z : State). kept_at z.list z.applied key ≡ Some row) same r.kept),
+        (subst (λ (z : State). IsTrue (is_inside z.marks key)) same r.copied, sym (kept key) ∙ subst (λ (z : State). passed_at z.list z.applied key ≡ Some row) same r.kept),
     λ r. (replayed board lawful s key row).1 (record { state = state; stream = here; copied = r.0; kept = kept key ∙ r.1 }),
   )
 

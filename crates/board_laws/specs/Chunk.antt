@@ -6,11 +6,11 @@ use Rattle.std.specs.Option.{option_map_or}
 use Rattle.pk_copy.specs.Marks.{Marks, is_past, moved_to, next_table}
 use Rattle.source_feed.specs.Image.{ImageRows}
 use Rattle.board_laws.specs.Meaning.{State}
-use Rattle.board_laws.specs.KeptRows.{kept_rows}
+use Rattle.board_laws.specs.KeptRows.{passed_rows}
 
 -- the kept rows that are still to be copied out of that table: those past its mark, by rising key
 abbrev pub rows_left : State → ImageRows
-rows_left state = filter (λ row. is_past state.marks row.0) (kept_rows state.list state.applied)
+rows_left state = filter (λ row. is_past state.marks row.0) (passed_rows state.list state.applied)
 
 -- the first c of them
 abbrev pub rows_taken : State → ℕ → ImageRows

@@ -4,12 +4,12 @@ use Rattle.std.specs.Prelude.{ℕ, Option, Some, None, ◌==◌, slice_get, if�
 use Rattle.std.specs.Option.{option_and_then}
 use Rattle.pk_copy.specs.KeyValue.{KeyValue}
 use Rattle.pk_copy.specs.Marks.{is_inside}
-use Rattle.source_feed.specs.History.{RowValue, kept_at}
+use Rattle.source_feed.specs.History.{RowValue, passed_at}
 use Rattle.board_laws.specs.Meaning.{State, Meaning}
 
 -- the row of a stream's cut at a key
 abbrev pub cut_of : State → KeyValue → Option RowValue
-cut_of state key = if is_inside state.marks key then kept_at state.list state.applied key else None
+cut_of state key = if is_inside state.marks key then passed_at state.list state.applied key else None
 
 -- the same of stream s of a board; nothing where there is no such stream
 abbrev pub cut_in : Meaning → ℕ → KeyValue → Option RowValue

@@ -6,7 +6,7 @@ use Rattle.std.specs.Option.{option_map}
 use Rattle.std.specs.Ordering.{match_ordering}
 use Rattle.pk_copy.specs.KeyOrder.{key_cmp}
 use Rattle.pk_copy.specs.KeyValue.{KeyValue}
-use Rattle.source_feed.specs.History.{touches_in, kept_at}
+use Rattle.source_feed.specs.History.{touches_in, passed_at}
 use Rattle.source_feed.specs.Image.{ImageRows}
 use Rattle.source_feed.specs.Touches.{TouchValue, PreparedValue}
 
@@ -21,5 +21,5 @@ touched_keys [] = []
 touched_keys (touch ∷ later) = with_key touch.0 (touched_keys later)
 
 -- the rows that the first n groups left and that pass the filter, by rising key
-abbrev pub kept_rows : List PreparedValue → ℕ → ImageRows
-kept_rows history n = filter_map (λ key. option_map (λ row. (key, row)) (kept_at history n key)) (touched_keys (touches_in (take n history)))
+abbrev pub passed_rows : List PreparedValue → ℕ → ImageRows
+passed_rows history n = filter_map (λ key. option_map (λ row. (key, row)) (passed_at history n key)) (touched_keys (touches_in (take n history)))

@@ -7,10 +7,10 @@ use Rattle.target_tables.specs.Rising.{IsRising}
 use Rattle.target_tables.specs.Touches.{NoneInTheWay, IsLeastClash, IsTouched}
 use Rattle.source_feed.specs.Prepared.{IsPrepared}
 use Rattle.source_feed.specs.Touches.{PreparedValue}
-use Rattle.source_feed.specs.History.{IsKept}
+use Rattle.source_feed.specs.History.{IsPassed}
 use Rattle.source_feed.specs.Image.{ImageRows, chunk_of}
 use Rattle.board_laws.specs.Meaning.{State, TargetRows, Meaning}
-use Rattle.board_laws.specs.KeptRows.{kept_rows}
+use Rattle.board_laws.specs.KeptRows.{passed_rows}
 use Rattle.board_laws.specs.Lawful.{start_of, IsReadList, IsSoundState, IsLawful}
 use Rattle.board_laws.specs.Event.{Event, OnOffer}
 use Rattle.board_laws.specs.Chunk.{rows_left, takes_all}
@@ -62,12 +62,12 @@ ReadListsAreShort = (plan : PlanValue) (list : List PreparedValue) → IsReadLis
 -- ---- kept rows
 
 -- the rows that a history keeps are one list
-abbrev pub KeptRowsAreOneList : Type 0
-KeptRowsAreOneList = (history : List PreparedValue) (n : ℕ) (rows : ImageRows) → IsKept history n rows → rows ≡ kept_rows history n
+abbrev pub PassedRowsAreOneList : Type 0
+PassedRowsAreOneList = (history : List PreparedValue) (n : ℕ) (rows : ImageRows) → IsPassed history n rows → rows ≡ passed_rows history n
 
 -- histories with the same first n groups keep the same rows
 abbrev pub FirstGroupsKeep : Type 0
-FirstGroupsKeep = (one other : List PreparedValue) (n : ℕ) (rows : ImageRows) → take n one ≡ take n other → IsKept one n rows → IsKept other n rows
+FirstGroupsKeep = (one other : List PreparedValue) (n : ℕ) (rows : ImageRows) → take n one ≡ take n other → IsPassed one n rows → IsPassed other n rows
 
 -- ---- chunks
 
@@ -75,7 +75,7 @@ FirstGroupsKeep = (one other : List PreparedValue) (n : ℕ) (rows : ImageRows) 
 abbrev pub ChunksAreLeft : Type 0
 ChunksAreLeft =
     (state : State) (n : ℕ) → state.marks.done < state.marks.tables
-    → chunk_of (kept_rows state.list state.applied) state.marks.done state.marks.upto n ≡ take n (rows_left state)
+    → chunk_of (passed_rows state.list state.applied) state.marks.done state.marks.upto n ≡ take n (rows_left state)
 
 -- of one row more than c there are at most c exactly where a chunk of c takes all
 abbrev pub OneMoreTells : Type 0

@@ -2,7 +2,7 @@
 use Rattle.std.specs.Prelude.{◌≡◌, ℕ, List, take, Some, IsTrue, slice_get}
 use Rattle.pk_copy.specs.KeyValue.{KeyValue}
 use Rattle.pk_copy.specs.Marks.{is_inside}
-use Rattle.source_feed.specs.History.{RowValue, kept_at}
+use Rattle.source_feed.specs.History.{RowValue, passed_at}
 use Rattle.source_feed.specs.Planned.{FeedValue, IsFeed}
 use Rattle.board_laws.specs.Meaning.{State, Meaning}
 use Rattle.board_laws.specs.Runs.{sound_groups}
@@ -33,4 +33,4 @@ pub record IsReplayed (board : Meaning) (s : ℕ) (key : KeyValue) (row : RowVal
   pub state : State
   pub stream : slice_get board.streams s ≡ Some state
   pub copied : IsTrue (is_inside state.marks key)
-  pub kept : kept_at state.list state.applied key ≡ Some row
+  pub kept : passed_at state.list state.applied key ≡ Some row

@@ -5,7 +5,7 @@ use Rattle.pk_copy.specs.KeyValue.{KeyValue}
 use Rattle.pk_copy.specs.Marks.{is_inside}
 use Rattle.target_tables.specs.Contents.{value_at}
 use Rattle.source_feed.specs.GroupValue.{Position}
-use Rattle.source_feed.specs.History.{RowValue, kept_at}
+use Rattle.source_feed.specs.History.{RowValue, passed_at}
 use Rattle.source_feed.specs.Planned.{PlannedGroupValue, FeedValue}
 use Rattle.source_feed.specs.Touches.{group_at}
 use Rattle.board_laws.specs.Allowed.{last_position}
@@ -39,7 +39,7 @@ pub record ShowsSource (feed : FeedValue) (board : Meaning) (s : ℕ) : Type 0 w
   pub position : IsNumberAt feed (applied_position state) number
   pub sound : number ≤ length (sound_groups feed)
   pub rows : (key : KeyValue) (row : RowValue)
-      → (value_at key_cmp board.rows key ≡ Some (s, row)) ↔ (IsTrue (is_inside state.marks key) × (kept_at (sound_groups feed) number key ≡ Some row))
+      → (value_at key_cmp board.rows key ≡ Some (s, row)) ↔ (IsTrue (is_inside state.marks key) × (passed_at (sound_groups feed) number key ≡ Some row))
 
 -- the same of a stream whose feed is the one of its number
 pub record ShowsItsSource (feeds : List FeedValue) (board : Meaning) (s : ℕ) : Type 0 where

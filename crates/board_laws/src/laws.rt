@@ -1,7 +1,7 @@
 //! Laws of boards, each the contract of a function without a body: they hold of the values that contracts
 //! see a board as.
 
-ghost use Rattle.board_laws.specs.Laws.{TouchesAreSteps, StillSteps, ClashesAreOfTheCut, StatesStaySound, ReadListsAreShort, KeptRowsAreOneList, FirstGroupsKeep, ChunksAreLeft, OneMoreTells, FreshBoardsAreLawful};
+ghost use Rattle.board_laws.specs.Laws.{TouchesAreSteps, StillSteps, ClashesAreOfTheCut, StatesStaySound, ReadListsAreShort, PassedRowsAreOneList, FirstGroupsKeep, ChunksAreLeft, OneMoreTells, FreshBoardsAreLawful};
 
 use pk_copy::{keys_read_are_table_keys, keys_tie_where_they_are_equal};
 
@@ -20,7 +20,7 @@ pub fn steps_keep_boards_lawful()
 
 /// The rows that some groups keep are one list, and the first groups of a history say it.
 pub fn kept_rows_are_one_list()
-    ensures list { KeptRowsAreOneList }
+    ensures list { PassedRowsAreOneList }
     ensures first_groups { FirstGroupsKeep }
 {
     keys_tie_where_they_are_equal();

@@ -7,10 +7,10 @@ use Rattle.std.proofs.lemmas.Option.{slice_get_within, get_or_from_slice_get}
 use Rattle.pk_copy.specs.KeyOrder.{key_cmp}
 use Rattle.pk_copy.specs.KeyValue.{KeyValue}
 use Rattle.target_tables.specs.Touches.{last_at}
-use Rattle.source_feed.specs.History.{RowValue, passing, kept_at}
+use Rattle.source_feed.specs.History.{RowValue, passing, passed_at}
 use Rattle.source_feed.specs.Image.{kept_after}
 use Rattle.source_feed.specs.Touches.{PutValue, TouchValue, PreparedValue}
-use Rattle.source_feed.proofs.ImageLaws.{last_at-append, kept_at-more, take-next}
+use Rattle.source_feed.proofs.ImageLaws.{last_at-append, passed_at-more, take-next}
 
 -- one touch more: it leaves its row where it has the key, and else what stood there
 one_more : (same : Bool) (put : Option PutValue) (earlier : Option (Option PutValue)) (before : Option RowValue)
@@ -29,5 +29,5 @@ touch_more touches i touch key before at =
     ∙ one_more (eq_by_cmp key_cmp key touch.0) touch.1 (last_at key_cmp (take i touches) key) before
 
 pub group_more : (history : List PreparedValue) (n : ℕ) (group : PreparedValue) (key : KeyValue) → slice_get history n ≡ Some group
-    → kept_at history (n + 1) key ≡ kept_after (last_at key_cmp group.touches key) (kept_at history n key)
-group_more history n group key at = kept_at-more history history n (n + 1) group key (take-next history n group at)
+    → passed_at history (n + 1) key ≡ kept_after (last_at key_cmp group.touches key) (passed_at history n key)
+group_more history n group key at = passed_at-more history history n (n + 1) group key (take-next history n group at)

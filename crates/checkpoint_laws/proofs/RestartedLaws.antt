@@ -24,7 +24,7 @@ use Rattle.board_laws.specs.Meaning.{State, TargetRows, Meaning}
 use Rattle.board_laws.specs.Runs.{sound_groups}
 use Rattle.board_laws.specs.Sources.{HasGroupAt, IsNumberAt}
 use Rattle.board_laws.specs.StateAfter.{state_after}
-use Rattle.board_laws.proofs.History.{kept_at-take}
+use Rattle.board_laws.proofs.History.{passed_at-take}
 use Rattle.board_laws.proofs.Lists.{take-take}
 use Rattle.board_laws.proofs.Lookups.{Ties}
 use Rattle.board_laws.proofs.Sources.{known_at}
@@ -46,7 +46,7 @@ abbrev again : State → State
 again state = state_after state restart
 
 cut_again : (state : State) (key : KeyValue) → cut_of (again state) key ≡ cut_of state key
-cut_again state key = ap (λ (o : Option RowValue). cond (is_inside state.marks key) o None) (kept_at-take state.list state.applied key)
+cut_again state key = ap (λ (o : Option RowValue). cond (is_inside state.marks key) o None) (passed_at-take state.list state.applied key)
 
 abbrev kept_of : List PreparedValue → ImageRows
 kept_of groups =

@@ -26,13 +26,13 @@ use Rattle.vevent.specs.EventValue.{FieldValue}
 use Rattle.vevent.specs.WrittenEvent.{IsColumn}
 use Rattle.vevent.specs.WrittenPart.{IsSoundTable, IsSoundStream, StreamPartsAreReadAgain}
 use Rattle.board_laws.specs.Allowed.{last_position}
-use Rattle.board_laws.specs.KeptRows.{kept_rows}
+use Rattle.board_laws.specs.KeptRows.{passed_rows}
 use Rattle.board_laws.specs.Lawful.{IsReadList, IsSoundState, IsLawful}
 use Rattle.board_laws.specs.Meaning.{State, Meaning}
 use Rattle.board_laws.proofs.History.{read-cut}
 use Rattle.board_laws.proofs.Lists.{slice_get-push}
 use Rattle.board_laws.proofs.Lookups.{Ties, each, all-at, all-filter}
-use Rattle.board_laws.proofs.RowsUnder.{IsRowUnder, kept-under}
+use Rattle.board_laws.proofs.RowsUnder.{IsRowUnder, passed-under}
 use Rattle.added_laws.specs.Extended.{marks_of_more}
 use Rattle.join_laws.specs.Compatible.{plans_of_board}
 use Rattle.join_laws.specs.Joined.{cut_rows}
@@ -380,9 +380,9 @@ record Known (plan : PlanValue) (one : SavedStream) : Type 0 where
 -- the rows of a cut stand at their own keys
 cut_keyed : (ties : Ties) (state : State) → IsSoundState state → AllByRecursion (IsKeyed state.plan) (cut_rows state)
 cut_keyed ties state sound =
-    all-filter (IsKeyed state.plan) (λ row. is_inside state.marks row.0) (kept_rows state.list state.applied)
-    (each (IsRowUnder state.plan) (IsKeyed state.plan) (λ row under. record { table = under.table; width = under.width; key = under.key }) (kept_rows state.list state.applied)
-    (kept-under ties state.plan state.list state.applied sound.list))
+    all-filter (IsKeyed state.plan) (λ row. is_inside state.marks row.0) (passed_rows state.list state.applied)
+    (each (IsRowUnder state.plan) (IsKeyed state.plan) (λ row under. record { table = under.table; width = under.width; key = under.key }) (passed_rows state.list state.applied)
+    (passed-under ties state.plan state.list state.applied sound.list))
 
 module _ (ties : Ties) (board : Meaning) (plans : AllByRecursion IsPlan (plans_of_board board)) (lawful : IsLawful board) (within : AreWithin board) where
   long : length (saved_of board) ≡ length (plans_of_board board)

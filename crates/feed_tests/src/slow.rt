@@ -6,7 +6,7 @@ ghost use Rattle.std.specs.Arc.{arc_value};
 ghost use Rattle.std.specs.Option.{option_and_then};
 ghost use Rattle.pk_copy.specs.KeyOrder.{key_cmp};
 ghost use Rattle.target_tables.specs.Touches.{last_at};
-ghost use Rattle.source_feed.specs.History.{passing, kept_at};
+ghost use Rattle.source_feed.specs.History.{passing, passed_at};
 ghost use Rattle.source_feed.specs.Image.{kept_after};
 
 use pk_copy::LentKey;
@@ -43,7 +43,7 @@ fn row_after<'h>(
 
 /// The row that stands at a key after some groups, if it passes the filter.
 pub(crate) fn slow_row<'h>(groups: &[Arc<Prepared<'h>>], key: &LentKey<'h>) -> Option<RowBytes<'h>>
-    ensures { result ≡ kept_at (map arc_value groups.now) (length groups.now) key.now }
+    ensures { result ≡ passed_at (map arc_value groups.now) (length groups.now) key.now }
 {
     let mut left = None;
     for group in groups {

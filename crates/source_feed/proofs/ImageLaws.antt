@@ -15,7 +15,7 @@ use Rattle.target_tables.specs.Contents.{value_at}
 use Rattle.target_tables.specs.Rising.{IsRising}
 use Rattle.target_tables.specs.Touches.{last_at, touched, IsTouched}
 use Rattle.source_feed.specs.Touches.{PutValue, TouchValue, PreparedValue}
-use Rattle.source_feed.specs.History.{RowValue, touches_in, passing, kept_at, IsKept}
+use Rattle.source_feed.specs.History.{RowValue, touches_in, passing, passed_at, IsPassed}
 use Rattle.source_feed.specs.Image.{ImageRows, row_in, kept_after}
 use Rattle.source_feed.specs.Private.ImageEntries.{Entries, rows_of, AreOwn, change_of}
 
@@ -105,9 +105,9 @@ kept-or None earlier = refl
 kept-or (Some put) earlier = refl
 
 -- groups of which the first m' are the first m of others and one more
-pub kept_at-more : (groups more : List PreparedValue) (m n : ℕ) (group : PreparedValue) (k : KeyValue) → take n more ≡ take m groups ++ group ∷ []
-    → kept_at more n k ≡ kept_after (last_at key_cmp group.touches k) (kept_at groups m k)
-kept_at-more groups more m n group k e =
+pub passed_at-more : (groups more : List PreparedValue) (m n : ℕ) (group : PreparedValue) (k : KeyValue) → take n more ≡ take m groups ++ group ∷ []
+    → passed_at more n k ≡ kept_after (last_at key_cmp group.touches k) (passed_at groups m k)
+passed_at-more groups more m n group k e =
     ap (λ (t : Option (Option PutValue)). option_and_then passing (option_and_then (λ put. put) t))
     (ap (λ (gs : List PreparedValue). last_at key_cmp (touches_in gs) k) e
     ∙ ap (λ (ts : List TouchValue). last_at key_cmp ts k) (touches_in-more (take m groups) group)
@@ -115,11 +115,11 @@ kept_at-more groups more m n group k e =
     ∙ kept-or (last_at key_cmp group.touches k) (last_at key_cmp (touches_in (take m groups)) k)
 
 pub kept-more : (groups more : List PreparedValue) (m n : ℕ) (group : PreparedValue) (old new : ImageRows) → take n more ≡ take m groups ++ group ∷ [] → IsRising key_cmp new
-    → ((k : KeyValue) → row_in new k ≡ kept_after (last_at key_cmp group.touches k) (row_in old k)) → IsKept groups m old → IsKept more n new
+    → ((k : KeyValue) → row_in new k ≡ kept_after (last_at key_cmp group.touches k) (row_in old k)) → IsPassed groups m old → IsPassed more n new
 kept-more groups more m n group old new e rising h kept = record {
   rising = rising;
   each_key = λ k.
-      h k ∙ ap (λ (v : Option RowValue). kept_after (last_at key_cmp group.touches k) v) (kept.each_key k) ∙ sym (kept_at-more groups more m n group k e);
+      h k ∙ ap (λ (v : Option RowValue). kept_after (last_at key_cmp group.touches k) v) (kept.each_key k) ∙ sym (passed_at-more groups more m n group k e);
 }
 
 -- one group more of a history

@@ -25,10 +25,10 @@ abbrev pub passing : PutValue → Option RowValue
 passing put = if put.passes then Some put.row else None
 
 -- the row that the first n groups left at a key, if it passes the filter
-abbrev pub kept_at : List PreparedValue → ℕ → KeyValue → Option RowValue
-kept_at history n key = option_and_then passing (row_at history n key)
+abbrev pub passed_at : List PreparedValue → ℕ → KeyValue → Option RowValue
+passed_at history n key = option_and_then passing (row_at history n key)
 
 -- rows by rising key that are just those which the first n groups left and which pass the filter
-pub record IsKept (history : List PreparedValue) (n : ℕ) (rows : List (KeyValue × RowValue)) : Type 0 where
+pub record IsPassed (history : List PreparedValue) (n : ℕ) (rows : List (KeyValue × RowValue)) : Type 0 where
   pub rising : IsRising key_cmp rows
-  pub each_key : (key : KeyValue) → lookup (eq_by_cmp key_cmp key) rows ≡ kept_at history n key
+  pub each_key : (key : KeyValue) → lookup (eq_by_cmp key_cmp key) rows ≡ passed_at history n key

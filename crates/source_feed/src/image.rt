@@ -5,7 +5,7 @@ ghost use Rattle.std.specs.Option.{option_and_then};
 ghost use Rattle.pk_copy.specs.KeyOrder.{key_cmp};
 ghost use Rattle.pk_copy.specs.KeyValue.{KeyValue};
 ghost use Rattle.target_tables.specs.Touches.{last_at};
-ghost use Rattle.source_feed.specs.History.{passing, IsKept};
+ghost use Rattle.source_feed.specs.History.{passing, IsPassed};
 ghost use Rattle.source_feed.specs.Image.{row_in, kept_after};
 ghost use Rattle.source_feed.specs.Touches.{PreparedValue};
 ghost use Rattle.source_feed.specs.Private.ImageEntries.{change_of};
@@ -66,7 +66,7 @@ impl<'h> Image<'h> {
     /// The image before the first group: no row. Takes no memory.
     pub fn new(alloc: Global) -> Image<'h>
         ensures empty { result ≡ [] }
-        ensures kept { (history : List PreparedValue) → IsKept history 0 result }
+        ensures kept { (history : List PreparedValue) → IsPassed history 0 result }
     {
         Image {
             rows: Tables::new(alloc),
@@ -83,7 +83,7 @@ impl<'h> Image<'h> {
     /// Takes every row away. Takes no memory.
     pub fn clear(&mut self)
         ensures empty { self.new ≡ [] }
-        ensures kept { (history : List PreparedValue) → IsKept history 0 self.new }
+        ensures kept { (history : List PreparedValue) → IsPassed history 0 self.new }
     {
         self.rows.clear();
     }
@@ -95,8 +95,8 @@ impl<'h> Image<'h> {
     /// the work; an error is want of it, and leaves the image as it was.
     pub fn advance(&mut self, alloc: Global, group: &Prepared<'h>) -> Result<(), AllocError>
         ensures touched { OnOk result ((key : KeyValue) → row_in self.new key ≡ kept_after (last_at key_cmp group.now.touches key) (row_in self.old key)) }
-        ensures kept { OnOk result ((history : List PreparedValue) (n : ℕ) → slice_get history n ≡ Some group.now → IsKept history n self.old → IsKept history (n + 1) self.new) }
-        ensures kept_on { OnOk result ((history : List PreparedValue) → IsKept history (length history) self.old → IsKept (history ++ group.now ∷ []) (length history + 1) self.new) }
+        ensures kept { OnOk result ((history : List PreparedValue) (n : ℕ) → slice_get history n ≡ Some group.now → IsPassed history n self.old → IsPassed history (n + 1) self.new) }
+        ensures kept_on { OnOk result ((history : List PreparedValue) → IsPassed history (length history) self.old → IsPassed (history ++ group.now ∷ []) (length history + 1) self.new) }
         ensures unchanged { OnErr result (self.new ≡ self.old) }
     {
         let changes = changes_of(alloc, group.touches())?;

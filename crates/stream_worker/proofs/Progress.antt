@@ -19,7 +19,7 @@ use Rattle.pk_copy.specs.KeyValue.{KeyValue}
 use Rattle.pk_copy.specs.Marks.{Marks, current_mark, covers, is_inside, is_beyond, is_past, moved_to, next_table, waiting, copied}
 use Rattle.stream_core.specs.Standing.{Standing}
 use Rattle.target_tables.specs.Touches.{last_at}
-use Rattle.source_feed.specs.History.{RowValue, touches_in, passing, kept_at}
+use Rattle.source_feed.specs.History.{RowValue, touches_in, passing, passed_at}
 use Rattle.source_feed.specs.Image.{ImageRows, row_in}
 use Rattle.source_feed.specs.Planned.{FeedValue}
 use Rattle.source_feed.specs.Touches.{PutValue, TouchValue, PreparedValue, prepared}
@@ -102,7 +102,7 @@ front_of {A} (suc m) (suc n) (x ∷ xs) =
     (suc rest.0, ap (λ (ys : List A). x ∷ ys) rest.1)
 
 -- a key at which a stream's applied groups keep a row is one that its feed touches
-kept-touched : (feed : FeedValue) (state : State) → ReadsFeed feed state → (key : KeyValue) (row : RowValue) → kept_at state.list state.applied key ≡ Some row
+kept-touched : (feed : FeedValue) (state : State) → ReadsFeed feed state → (key : KeyValue) (row : RowValue) → passed_at state.list state.applied key ≡ Some row
     → list_any (λ touch. is_key key touch.0) (touches_in (sound_groups feed)) ≡ true
 kept-touched feed state reads key row e =
     let front : (k : ℕ) × (take state.applied (take reads.length_read (sound_groups feed)) ≡ take k (sound_groups feed)) = front_of state.applied reads.length_read (sound_groups feed) in
@@ -176,18 +176,18 @@ module _ (ties : Ties) (feed : FeedValue) (state : State) (reads : ReadsFeed fee
     inside key = inside-moved state.marks copies key last.0 past
 
     -- it is a row that is kept
-    last-kept : (row : RowValue) × (kept_at state.list state.applied last.0 ≡ Some row)
+    last-kept : (row : RowValue) × (passed_at state.list state.applied last.0 ≡ Some row)
     last-kept =
         let parts : (front : ImageRows) × (rows_taken state c ≡ front ++ last ∷ []) = parts_of_last (rows_taken state c) last ends in
         let there : row_in (rows_taken state c) last.0 ≡ option_or (row_in parts.0 last.0) (Some last.1)
         = ap (λ (rows : ImageRows). row_in rows last.0) parts.1
         ∙ lookup-append (is_key last.0) parts.0 (last ∷ [])
         ∙ ap (λ b. option_or (row_in parts.0 last.0) (cond b (Some last.1) None)) (is_itself last.0) in
-        let kept : row_in (rows_taken state c) last.0 ≡ kept_at state.list state.applied last.0
-        = taken-at ties state c last ends last.0 ∙ ap (λ b. cond b (kept_at state.list state.applied last.0) None) (both (is_past state.marks last.0) (is_le (key_cmp last.0 last.0)) past itself) in
+        let kept : row_in (rows_taken state c) last.0 ≡ passed_at state.list state.applied last.0
+        = taken-at ties state c last ends last.0 ∙ ap (λ b. cond b (passed_at state.list state.applied last.0) None) (both (is_past state.marks last.0) (is_le (key_cmp last.0 last.0)) past itself) in
         by (row_in parts.0 last.0) (sym kept ∙ there)
       where
-        by : (o : Option RowValue) → kept_at state.list state.applied last.0 ≡ option_or o (Some last.1) → (row : RowValue) × (kept_at state.list state.applied last.0 ≡ Some row)
+        by : (o : Option RowValue) → passed_at state.list state.applied last.0 ≡ option_or o (Some last.1) → (row : RowValue) × (passed_at state.list state.applied last.0 ≡ Some row)
         by None e = (last.1, e)
         by (Some row) e = (row, e)
 

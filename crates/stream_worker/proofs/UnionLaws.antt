@@ -14,7 +14,7 @@ use Rattle.pk_copy.specs.Marks.{Marks, AreMarks, IsOfCurrent, current_mark, cove
 use Rattle.target_tables.specs.Contents.{value_at}
 use Rattle.target_tables.specs.Rising.{IsRising}
 use Rattle.target_tables.specs.Touches.{last_at}
-use Rattle.source_feed.specs.History.{RowValue, touches_in, passing, kept_at}
+use Rattle.source_feed.specs.History.{RowValue, touches_in, passing, passed_at}
 use Rattle.source_feed.specs.Planned.{FeedValue}
 use Rattle.source_feed.specs.Prepared.{IsTouchUnder}
 use Rattle.source_feed.specs.Touches.{PutValue, TouchValue, PreparedValue}
@@ -26,7 +26,7 @@ use Rattle.board_laws.specs.Reading.{ReadsFeed, HasFeed}
 use Rattle.board_laws.specs.Runs.{sound_groups}
 use Rattle.board_laws.proofs.Lists.{slice_get-take, take-fewer}
 use Rattle.board_laws.proofs.Lookups.{Ties, is_key, same_key, same_rows}
-use Rattle.board_laws.proofs.History.{kept_at-alike}
+use Rattle.board_laws.proofs.History.{passed_at-alike}
 use Rattle.apply_core.specs.Shown.{all_rows}
 use Rattle.apply_core.proofs.ShowLaws.{all-unowned}
 use Rattle.stream_worker.proofs.CourseLaws.{running-done}
@@ -80,14 +80,14 @@ inside-all marks are all key = by marks.upto are.current (nat_lt key.table marks
 
 module _ (ties : Ties) (feed : FeedValue) (state : State) (sound : IsSoundState state) (reads : ReadsFeed feed state) (ended : HasEnded feed state) where
   -- its list is all of the feed's groups
-  kept-whole : (key : KeyValue) → kept_at state.list state.applied key ≡ kept_of feed key
+  kept-whole : (key : KeyValue) → passed_at state.list state.applied key ≡ kept_of feed key
   kept-whole key =
       let enough : length feed.groups ≤ reads.length_read =
       (let most : length (take reads.length_read (sound_groups feed)) ≤ reads.length_read = length-take_most reads.length_read (sound_groups feed) in
       let many : length (take reads.length_read (sound_groups feed)) ≡ length feed.groups = ap (λ (xs : List PreparedValue). length xs) (sym reads.list) ∙ ended.read in
       omega (arith, most, many)) in
-      ap (λ n. kept_at state.list n key) ended.applied
-      ∙ kept_at-alike state.list (sound_groups feed) (length feed.groups) key
+      ap (λ n. passed_at state.list n key) ended.applied
+      ∙ passed_at-alike state.list (sound_groups feed) (length feed.groups) key
       (ap (λ (xs : List PreparedValue). take (length feed.groups) xs) reads.list ∙ take-fewer (length feed.groups) reads.length_read (sound_groups feed) enough)
 
   touched-tables : AllByRecursion (IsOfTable state.marks.tables) (touches_in (take state.applied state.list))
@@ -98,9 +98,9 @@ module _ (ties : Ties) (feed : FeedValue) (state : State) (sound : IsSoundState 
       tables_of group.plan state.marks.tables (ap (λ (plan : PlanValue). length plan.tables) (sound.list.planned i group here) ∙ sym sound.tables) group.touches (sound.list.prepared i group here).touches)
 
   ended-cut : (key : KeyValue) → cut_of state key ≡ kept_of feed key
-  ended-cut key = ap (λ b. cond b (kept_at state.list state.applied key) None) (inside-all state.marks sound.marks (running-done (standing_of state) ended.running) key) ∙ by (nat_lt key.table state.marks.tables) refl ∙ kept-whole key
+  ended-cut key = ap (λ b. cond b (passed_at state.list state.applied key) None) (inside-all state.marks sound.marks (running-done (standing_of state) ended.running) key) ∙ by (nat_lt key.table state.marks.tables) refl ∙ kept-whole key
     where
-      by : (b : Bool) → nat_lt key.table state.marks.tables ≡ b → cond b (kept_at state.list state.applied key) None ≡ kept_at state.list state.applied key
+      by : (b : Bool) → nat_lt key.table state.marks.tables ≡ b → cond b (passed_at state.list state.applied key) None ≡ passed_at state.list state.applied key
       by true e = refl
       by false e =
           sym (ap (λ (t : Option (Option PutValue)). option_and_then passing (option_and_then (λ put. put) t))

@@ -7,7 +7,7 @@ use Rattle.stream_core.specs.declared.phase.Phase.TheVariants.{Running}
 use Rattle.stream_core.specs.Standing.{phase_of}
 use Rattle.target_tables.specs.Rising.{IsRising}
 use Rattle.vdiff_core.specs.RowsValue.{RowsValue, row_with_key}
-use Rattle.source_feed.specs.History.{RowValue, kept_at}
+use Rattle.source_feed.specs.History.{RowValue, passed_at}
 use Rattle.source_feed.specs.Planned.{FeedValue}
 use Rattle.board_laws.specs.Meaning.{State, Meaning}
 use Rattle.board_laws.specs.Lawful.{standing_of, IsLawful}
@@ -52,7 +52,7 @@ AreAsBefore streams old new = (s : ℕ) → ¬ (IsNamedStream streams s) → sli
 
 -- the row that all groups of a feed left at a key, if it passes the filter
 abbrev pub kept_of : FeedValue → KeyValue → Option RowValue
-kept_of feed key = kept_at (sound_groups feed) (length feed.groups) key
+kept_of feed key = passed_at (sound_groups feed) (length feed.groups) key
 
 -- the row that one of the feeds keeps at a key: the first that keeps one there
 abbrev pub kept_by : List FeedValue → KeyValue → Option RowValue

@@ -1,6 +1,6 @@
 -- What every stream of a board keeps beside what it means: its image.
 use Rattle.std.specs.Prelude.{◌≡◌, ℕ, ◌≤◌, length, IfSome}
-use Rattle.source_feed.specs.History.{IsKept}
+use Rattle.source_feed.specs.History.{IsPassed}
 use Rattle.source_feed.specs.Image.{ImageRows}
 use Rattle.board_laws.specs.Meaning.{State}
 use Rattle.board_laws.specs.Lawful.{IsSoundState}
@@ -9,6 +9,6 @@ use Rattle.board_laws.specs.Lawful.{IsSoundState}
 -- open it is the snapshot's
 pub record IsStream (state : State) (imaged : ℕ) (image : ImageRows) : Type 0 where
   pub sound : IsSoundState state
-  pub kept : IsKept state.list imaged image
+  pub kept : IsPassed state.list imaged image
   pub within : imaged ≤ length state.list
   pub opened : IfSome state.snapshot (λ m. m ≡ imaged)

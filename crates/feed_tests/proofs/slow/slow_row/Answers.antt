@@ -5,7 +5,7 @@ use Rattle.std.specs.Prelude.{slice_get}
 use Rattle.std.specs.Option.{option_map}
 use Rattle.pk_copy.specs.KeyOrder.{key_cmp}
 use Rattle.target_tables.specs.Touches.{last_at}
-use Rattle.source_feed.specs.History.{RowValue, kept_at}
+use Rattle.source_feed.specs.History.{RowValue, passed_at}
 use Rattle.source_feed.specs.Image.{kept_after}
 use Rattle.source_feed.specs.Touches.{TouchValue}
 use Rattle.feed_tests.proofs.SlowLaws.{group_more}
