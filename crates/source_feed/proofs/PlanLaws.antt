@@ -195,7 +195,7 @@ change_under : (plan : PlanValue) (change : TableChangeValue) (number : Option �
 change_under plan change None planned n f e = cc
 change_under plan change (Some t) planned n f e =
     subst (IsChangeUnder plan) (same_Some (record { table = t; before = change.before; after = change.after }) planned e)
-    (record { table = (position-Some _ plan.tables t (record { name = []; columns = []; key = []; vindex = None }) n).0; before = f.before t n; after = f.after t n })
+    (record { table = (position-Some _ plan.tables t (record { name = []; columns = []; key = []; vindex = None; kept = [] }) n).0; before = f.before t n; after = f.after t n })
 
 changes_under : (plan : PlanValue) (changes : List TableChangeValue) → AllByRecursion (Fits plan) changes → AllByRecursion (IsChangeUnder plan) (filter_map (planned_change plan) changes)
 changes_under plan [] all = tt

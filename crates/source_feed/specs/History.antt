@@ -1,10 +1,12 @@
 -- What a history of groups leaves of a source's rows: for each key what touched it last, found by looking
--- back at the whole of it (this profile).
+-- back at the whole of it; and what of these rows a target keeps (this profile).
 use Rattle.std.specs.Prelude.{◌≡◌, ℕ, List, take, Option, Some, None, if◌then◌else◌}
 use Rattle.std.specs.List.{flat_map}
 use Rattle.std.specs.Map.{lookup}
-use Rattle.std.specs.Option.{option_and_then}
+use Rattle.std.specs.Option.{option_map, option_and_then}
 use Rattle.std.specs.Ordering.{eq_by_cmp}
+use Rattle.filter_rule.specs.PlanValue.{PlanValue, kept_columns_of}
+pub use Rattle.row_view.specs.Picked.{picked}
 pub use Rattle.row_view.specs.Row.{RowValue}
 use Rattle.pk_copy.specs.KeyOrder.{key_cmp}
 use Rattle.pk_copy.specs.KeyValue.{KeyValue}
@@ -27,6 +29,22 @@ passing put = if put.passes then Some put.row else None
 -- the row that the first n groups left at a key, if it passes the filter
 abbrev pub passed_at : List PreparedValue → ℕ → KeyValue → Option RowValue
 passed_at history n key = option_and_then passing (row_at history n key)
+
+-- ---- what a target keeps of the rows that pass
+
+-- a row of kept columns, in kept order; a row of a source has all columns of its table
+abbrev pub KeptRow : Type 0
+KeptRow = RowValue
+
+-- the kept columns of a row at a key
+abbrev pub kept_of : PlanValue → KeyValue → RowValue → KeptRow
+kept_of plan key row = picked (kept_columns_of plan key.table) row
+
+-- the kept columns of the row that the first n groups left at a key, if it passes the filter
+abbrev pub kept_at : PlanValue → List PreparedValue → ℕ → KeyValue → Option KeptRow
+kept_at plan history n key = option_map (kept_of plan key) (passed_at history n key)
+
+-- ---- the rows that pass, as a list
 
 -- rows by rising key that are just those which the first n groups left and which pass the filter
 pub record IsPassed (history : List PreparedValue) (n : ℕ) (rows : List (KeyValue × RowValue)) : Type 0 where
