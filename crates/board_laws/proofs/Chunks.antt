@@ -19,7 +19,7 @@ use Rattle.source_feed.specs.History.{RowValue, passed_at}
 use Rattle.source_feed.specs.Image.{ImageRows, row_in}
 use Rattle.board_laws.specs.Meaning.{State}
 use Rattle.board_laws.specs.KeptRows.{passed_rows}
-use Rattle.board_laws.specs.Cut.{cut_of}
+use Rattle.board_laws.proofs.PassedCut.{passed_cut}
 use Rattle.board_laws.specs.Chunk.{rows_left, rows_taken, takes_all, marks_behind, copied_state}
 use Rattle.board_laws.specs.Touching.{put_by}
 use Rattle.board_laws.proofs.Lists.{parts_of_last, empty_without_last}
@@ -155,7 +155,7 @@ module _ (ties : Ties) (state : State) where
         ∙ and-cond (is_past state.marks key) (is_le (key_cmp key last.0)) (passed_at state.list state.applied key)
 
   -- behind a chunk stands at each key its row, or what stood there
-  pub cut-after_copy : nat_lt state.marks.done state.marks.tables ≡ true → (c : ℕ) (key : KeyValue) → cut_of (copied_state state c) key ≡ unwrap_or (put_by (rows_taken state c) key) (cut_of state key)
+  pub cut-after_copy : nat_lt state.marks.done state.marks.tables ≡ true → (c : ℕ) (key : KeyValue) → passed_cut (copied_state state c) key ≡ unwrap_or (put_by (rows_taken state c) key) (passed_cut state key)
   cut-after_copy copying c key = by (takes_all state c) refl
     where
       kept : Option RowValue
@@ -165,21 +165,21 @@ module _ (ties : Ties) (state : State) where
       all e = ap (λ (rows : ImageRows). row_in rows key) (take_all c (rows_left state) (leb-true (length (rows_left state)) c e)) ∙ left-at key
 
       moved : (o : Option (KeyValue × RowValue)) → slice_get (rows_taken state c) (length (rows_taken state c) - 1) ≡ o
-          → cond (is_inside (option_map_or (λ row. moved_to row.0 state.marks) o state.marks) key) (passed_at state.list state.applied key) None ≡ unwrap_or (put_by (rows_taken state c) key) (cut_of state key)
-      moved None e = sym (ap (λ (rows : ImageRows). unwrap_or (put_by rows key) (cut_of state key)) (empty_without_last (rows_taken state c) e))
+          → cond (is_inside (option_map_or (λ row. moved_to row.0 state.marks) o state.marks) key) (passed_at state.list state.applied key) None ≡ unwrap_or (put_by (rows_taken state c) key) (passed_cut state key)
+      moved None e = sym (ap (λ (rows : ImageRows). unwrap_or (put_by rows key) (passed_cut state key)) (empty_without_last (rows_taken state c) e))
       moved (Some last) e =
           ap (λ b. cond b (passed_at state.list state.applied key) None) (inside-moved state.marks copying key last.0 (last-past c last e))
           ∙ cut-copied (is_inside state.marks key) (is_past state.marks key && is_le (key_cmp key last.0)) (passed_at state.list state.applied key)
-          ∙ ap (λ (v : Option RowValue). unwrap_or (option_map Some v) (cut_of state key)) (sym (taken-at c last e key))
+          ∙ ap (λ (v : Option RowValue). unwrap_or (option_map Some v) (passed_cut state key)) (sym (taken-at c last e key))
 
-      by : (b : Bool) → takes_all state c ≡ b → cut_of (copied_state state c) key ≡ unwrap_or (put_by (rows_taken state c) key) (cut_of state key)
+      by : (b : Bool) → takes_all state c ≡ b → passed_cut (copied_state state c) key ≡ unwrap_or (put_by (rows_taken state c) key) (passed_cut state key)
       by true e =
-          ap (λ b. cut_of (cond b (record { plan = state.plan; list = state.list; applied = state.applied; marks = next_table state.marks; snapshot = None })
+          ap (λ b. passed_cut (cond b (record { plan = state.plan; list = state.list; applied = state.applied; marks = next_table state.marks; snapshot = None })
           (record { plan = state.plan; list = state.list; applied = state.applied; marks = marks_behind (rows_taken state c) state.marks; snapshot = state.snapshot })) key) e
           ∙ ap (λ b. cond b (passed_at state.list state.applied key) None) (inside-next state.marks copying key)
           ∙ cut-copied (is_inside state.marks key) (is_past state.marks key) (passed_at state.list state.applied key)
-          ∙ ap (λ (v : Option RowValue). unwrap_or (option_map Some v) (cut_of state key)) (sym (all e))
+          ∙ ap (λ (v : Option RowValue). unwrap_or (option_map Some v) (passed_cut state key)) (sym (all e))
       by false e =
-          ap (λ b. cut_of (cond b (record { plan = state.plan; list = state.list; applied = state.applied; marks = next_table state.marks; snapshot = None })
+          ap (λ b. passed_cut (cond b (record { plan = state.plan; list = state.list; applied = state.applied; marks = next_table state.marks; snapshot = None })
           (record { plan = state.plan; list = state.list; applied = state.applied; marks = marks_behind (rows_taken state c) state.marks; snapshot = state.snapshot })) key) e
           ∙ moved (slice_get (rows_taken state c) (length (rows_taken state c) - 1)) refl

@@ -21,7 +21,7 @@ use Rattle.target_tables.specs.Touches.{last_at, owner_in_the_way}
 use Rattle.source_feed.specs.declared.fault.FeedFault.{FeedFault}
 use Rattle.source_feed.specs.Planned.{PlannedGroupValue, FeedValue}
 use Rattle.source_feed.specs.Touches.{PutValue, TouchValue, PreparedValue, touches_of, prepared, prepared_if, prepared_at}
-use Rattle.source_feed.specs.History.{RowValue, touches_in, passing, passed_at}
+use Rattle.source_feed.specs.History.{RowValue, touches_in, passing, kept_of, kept_at}
 use Rattle.source_feed.proofs.ImageLaws.{last_at-append}
 use Rattle.board_laws.specs.declared.answer.Answer.{Answer}
 use Rattle.board_laws.specs.declared.refusal.Refusal.{Refusal}
@@ -255,8 +255,8 @@ cut-touched feeds s state has key row e =
     touched_front front.0 (sound_groups has.feed) key
     (λ untouched. none-some row (sym (no_row (is_inside state.marks key) (ap (λ (gs : List PreparedValue). last_at key_cmp (touches_in gs) key) groups ∙ untouched)) ∙ e))
   where
-    no_row : (b : Bool) → last_at key_cmp (touches_in (take state.applied state.list)) key ≡ None → cond b (passed_at state.list state.applied key) None ≡ None
-    no_row true untouched = ap (λ (t : Option (Option PutValue)). option_and_then passing (option_and_then (λ put. put) t)) untouched
+    no_row : (b : Bool) → last_at key_cmp (touches_in (take state.applied state.list)) key ≡ None → cond b (kept_at state.plan state.list state.applied key) None ≡ None
+    no_row true untouched = ap (λ (t : Option (Option PutValue)). option_map (kept_of state.plan key) (option_and_then passing (option_and_then (λ put. put) t))) untouched
     no_row false untouched = refl
 
 -- ---- no row is in the way

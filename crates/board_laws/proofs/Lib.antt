@@ -2,6 +2,8 @@ pub mod Lists
 pub mod Lookups
 pub mod Owning
 pub mod KeptList
+pub mod KeptRowList
+pub mod PassedCut
 pub mod Chunks
 pub mod History
 pub mod RowsUnder

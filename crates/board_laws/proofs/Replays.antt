@@ -10,7 +10,7 @@ use Rattle.pk_copy.specs.KeyOrder.{key_cmp}
 use Rattle.pk_copy.specs.KeyValue.{KeyValue}
 use Rattle.pk_copy.specs.Marks.{is_inside}
 use Rattle.target_tables.specs.Contents.{value_at}
-use Rattle.source_feed.specs.History.{RowValue, passed_at}
+use Rattle.source_feed.specs.History.{RowValue, kept_at}
 use Rattle.board_laws.specs.Meaning.{State, Meaning}
 use Rattle.board_laws.specs.Cut.{cut_of, cut_in, own_row}
 use Rattle.board_laws.specs.Lawful.{start_of, IsSoundState, IsLawful}
@@ -43,14 +43,14 @@ replayed board lawful s key row = (
       its_row s row (value_at key_cmp board.rows key)
       (lawful.cuts s key
       ∙ ap (λ (o : Option State). option_and_then (λ x. cut_of x key) o) r.stream
-      ∙ ap (λ b. cond b (passed_at r.state.list r.state.applied key) None) r.copied
+      ∙ ap (λ b. cond b (kept_at r.state.plan r.state.list r.state.applied key) None) r.copied
       ∙ r.kept),
 )
   where
     by : (o : Option State) → slice_get board.streams s ≡ o → option_and_then (λ x. cut_of x key) o ≡ Some row → IsReplayed board s key row
     by None at e = absurd (none-some row e)
     by (Some state) at e =
-        let parts : (is_inside state.marks key ≡ true) × (passed_at state.list state.applied key ≡ Some row) = within row (is_inside state.marks key) (passed_at state.list state.applied key) e in
+        let parts : (is_inside state.marks key ≡ true) × (kept_at state.plan state.list state.applied key ≡ Some row) = within row (is_inside state.marks key) (kept_at state.plan state.list state.applied key) e in
         record { state = state; stream = at; copied = parts.0; kept = parts.1 }
 
 -- ---- a stream's board by itself

@@ -3,13 +3,14 @@ use Rattle.std.proofs.Common.{◌≡◌, ℕ, zero, suc, ◌<◌, ◌≤◌, inl
 use Rattle.std.proofs.lemmas.List.{length-take, length-take-le}
 use Rattle.std.proofs.lemmas.Option.{same_Some}
 use Rattle.std.specs.Prelude.{◌↔◌}
-use Rattle.std.specs.Option.{option_and_then}
+use Rattle.std.specs.Option.{option_map, option_and_then}
+use Rattle.filter_rule.specs.PlanValue.{PlanValue}
 use Rattle.pk_copy.specs.KeyOrder.{key_cmp}
 use Rattle.pk_copy.specs.KeyValue.{KeyValue}
 use Rattle.pk_copy.specs.Marks.{is_inside}
 use Rattle.target_tables.specs.Contents.{value_at}
 use Rattle.target_tables.specs.Touches.{last_at}
-use Rattle.source_feed.specs.History.{RowValue, touches_in, passing, passed_at}
+use Rattle.source_feed.specs.History.{RowValue, touches_in, passing, passed_at, kept_of, kept_at}
 use Rattle.source_feed.specs.Planned.{FeedValue}
 use Rattle.source_feed.specs.Touches.{PreparedValue}
 use Rattle.board_laws.specs.Allowed.{last_position}
@@ -45,8 +46,8 @@ known_at feed (suc i) le =
 
 -- ---- rows
 
-abbrev kept_of : KeyValue → List PreparedValue → Option RowValue
-kept_of key groups = option_and_then passing (option_and_then (λ put. put) (last_at key_cmp (touches_in groups) key))
+abbrev last_passed : KeyValue → List PreparedValue → Option RowValue
+last_passed key groups = option_and_then passing (option_and_then (λ put. put) (last_at key_cmp (touches_in groups) key))
 
 module _ (feeds : List FeedValue) (board : Meaning) (lawful : IsLawful board) (s : ℕ) (state : State) (here : slice_get board.streams s ≡ Some state) (has : HasFeed feeds s state) where
   abbrev groups : List PreparedValue
@@ -68,15 +69,17 @@ module _ (feeds : List FeedValue) (board : Meaning) (lawful : IsLawful board) (s
       let same : length (take state.applied state.list) ≡ length (take state.applied groups) = ap length front in
       omega (arith, one, other, same)
 
-  kept : (key : KeyValue) → passed_at state.list state.applied key ≡ passed_at groups state.applied key
-  kept key = ap (kept_of key) front
+  kept : (key : KeyValue) → kept_at state.plan state.list state.applied key ≡ kept_at has.feed.plan groups state.applied key
+  kept key =
+      ap (λ (gs : List PreparedValue). option_map (kept_of state.plan key) (last_passed key gs)) front
+      ∙ ap (λ (plan : PlanValue). option_map (kept_of plan key) (passed_at groups state.applied key)) has.reads.plan
 
-  rows : (key : KeyValue) (row : RowValue) → (value_at key_cmp board.rows key ≡ Some (s, row)) ↔ (IsTrue (is_inside state.marks key) × (passed_at groups state.applied key ≡ Some row))
+  rows : (key : KeyValue) (row : RowValue) → (value_at key_cmp board.rows key ≡ Some (s, row)) ↔ (IsTrue (is_inside state.marks key) × (kept_at has.feed.plan groups state.applied key ≡ Some row))
   rows key row = (
     λ e.
         let r : IsReplayed board s key row = (replayed board lawful s key row).0 e in
         let same : r.state ≡ state = same_Some r.state state (sym r.stream ∙ here) in
-        (subst (λ (z : State). IsTrue (is_inside z.marks key)) same r.copied, sym (kept key) ∙ subst (λ (z : State). passed_at z.list z.applied key ≡ Some row) same r.kept),
+        (subst (λ (z : State). IsTrue (is_inside z.marks key)) same r.copied, sym (kept key) ∙ subst (λ (z : State). kept_at z.plan z.list z.applied key ≡ Some row) same r.kept),
     λ r. (replayed board lawful s key row).1 (record { state = state; stream = here; copied = r.0; kept = kept key ∙ r.1 }),
   )
 

@@ -8,7 +8,7 @@ use Rattle.source_feed.specs.Image.{ImageRows}
 use Rattle.board_laws.specs.Meaning.{State}
 use Rattle.board_laws.specs.KeptRows.{passed_rows}
 
--- the kept rows that are still to be copied out of that table: those past its mark, by rising key
+-- the rows that pass and are still to be copied out of that table: those past its mark, by rising key
 abbrev pub rows_left : State → ImageRows
 rows_left state = filter (λ row. is_past state.marks row.0) (passed_rows state.list state.applied)
 

@@ -59,13 +59,13 @@ StatesStaySound = (state : State) (event : Event) → IsSoundState state → IsA
 abbrev pub ReadListsAreShort : Type 0
 ReadListsAreShort = (plan : PlanValue) (list : List PreparedValue) → IsReadList plan list → length list < 2 ^ 31
 
--- ---- kept rows
+-- ---- rows that pass
 
--- the rows that a history keeps are one list
+-- the rows of a history that pass are one list
 abbrev pub PassedRowsAreOneList : Type 0
 PassedRowsAreOneList = (history : List PreparedValue) (n : ℕ) (rows : ImageRows) → IsPassed history n rows → rows ≡ passed_rows history n
 
--- histories with the same first n groups keep the same rows
+-- of histories with the same first n groups the same rows pass
 abbrev pub FirstGroupsKeep : Type 0
 FirstGroupsKeep = (one other : List PreparedValue) (n : ℕ) (rows : ImageRows) → take n one ≡ take n other → IsPassed one n rows → IsPassed other n rows
 

@@ -2,7 +2,7 @@
 use Rattle.std.specs.Prelude.{◌≡◌, ℕ, List, take, Some, IsTrue, slice_get}
 use Rattle.pk_copy.specs.KeyValue.{KeyValue}
 use Rattle.pk_copy.specs.Marks.{is_inside}
-use Rattle.source_feed.specs.History.{RowValue, passed_at}
+use Rattle.source_feed.specs.History.{KeptRow, kept_at}
 use Rattle.source_feed.specs.Planned.{FeedValue, IsFeed}
 use Rattle.board_laws.specs.Meaning.{State, Meaning}
 use Rattle.board_laws.specs.Runs.{sound_groups}
@@ -27,10 +27,10 @@ AllReadTheirFeeds feeds board = (s : ℕ) (state : State) → slice_get board.st
 
 -- ---- rows
 
--- replaying the stream's applied groups from empty tables leaves the row at the key, it passes the stream's filter,
--- and the key is copied
-pub record IsReplayed (board : Meaning) (s : ℕ) (key : KeyValue) (row : RowValue) : Type 0 where
+-- replaying the stream's applied groups from empty tables leaves a row at the key of which these are the kept columns,
+-- it passes the stream's filter, and the key is copied
+pub record IsReplayed (board : Meaning) (s : ℕ) (key : KeyValue) (row : KeptRow) : Type 0 where
   pub state : State
   pub stream : slice_get board.streams s ≡ Some state
   pub copied : IsTrue (is_inside state.marks key)
-  pub kept : passed_at state.list state.applied key ≡ Some row
+  pub kept : kept_at state.plan state.list state.applied key ≡ Some row

@@ -5,7 +5,7 @@ use Rattle.pk_copy.specs.KeyValue.{KeyValue}
 use Rattle.pk_copy.specs.Marks.{is_inside}
 use Rattle.target_tables.specs.Contents.{value_at}
 use Rattle.source_feed.specs.GroupValue.{Position}
-use Rattle.source_feed.specs.History.{RowValue, passed_at}
+use Rattle.source_feed.specs.History.{KeptRow, kept_at}
 use Rattle.source_feed.specs.Planned.{PlannedGroupValue, FeedValue}
 use Rattle.source_feed.specs.Touches.{group_at}
 use Rattle.board_laws.specs.Allowed.{last_position}
@@ -31,15 +31,16 @@ IsNumberAt feed position number = ((position ≡ []) × (number ≡ 0)) ⊎ HasG
 -- ---- rows
 
 -- A stream shows its source: a row stands for it at a key exactly where the groups of its feed up to the one at the
--- stream's recorded position, all of them sound, leave it there, it passes the filter, and its key is copied.
+-- stream's recorded position, all of them sound, leave one there of which these are the kept columns, it passes the
+-- filter, and its key is copied.
 pub record ShowsSource (feed : FeedValue) (board : Meaning) (s : ℕ) : Type 0 where
   pub state : State
   pub stream : slice_get board.streams s ≡ Some state
   pub number : ℕ
   pub position : IsNumberAt feed (applied_position state) number
   pub sound : number ≤ length (sound_groups feed)
-  pub rows : (key : KeyValue) (row : RowValue)
-      → (value_at key_cmp board.rows key ≡ Some (s, row)) ↔ (IsTrue (is_inside state.marks key) × (passed_at (sound_groups feed) number key ≡ Some row))
+  pub rows : (key : KeyValue) (row : KeptRow)
+      → (value_at key_cmp board.rows key ≡ Some (s, row)) ↔ (IsTrue (is_inside state.marks key) × (kept_at feed.plan (sound_groups feed) number key ≡ Some row))
 
 -- the same of a stream whose feed is the one of its number
 pub record ShowsItsSource (feeds : List FeedValue) (board : Meaning) (s : ℕ) : Type 0 where
