@@ -11,7 +11,7 @@ use Rattle.pk_copy.specs.KeyValue.{KeyValue}
 use Rattle.pk_copy.specs.Marks.{is_inside}
 use Rattle.target_tables.specs.Contents.{value_at}
 use Rattle.target_tables.specs.Touches.{last_at, owner_in_the_way}
-use Rattle.source_feed.specs.History.{RowValue, touches_in, passing, passed_at}
+use Rattle.source_feed.specs.History.{RowValue, touches_in, passing, kept_of, kept_at}
 use Rattle.source_feed.specs.Planned.{FeedValue}
 use Rattle.source_feed.specs.Touches.{PutValue, TouchValue, PreparedValue}
 use Rattle.source_feed.proofs.ImageLaws.{last_at-append}
@@ -53,8 +53,8 @@ row-touched feeds s state has key row =
     (subst (λ (groups : List PreparedValue). IsTouchedIn groups key) has.reads.list
     (front-touches state.applied state.list key (λ untouched. row (by (is_inside state.marks key) untouched))))
   where
-    by : (b : Bool) → last_at key_cmp (touches_in (take state.applied state.list)) key ≡ None → cond b (passed_at state.list state.applied key) None ≡ None
-    by true untouched = ap (λ (t : Option (Option PutValue)). option_and_then passing (option_and_then (λ put. put) t)) untouched
+    by : (b : Bool) → last_at key_cmp (touches_in (take state.applied state.list)) key ≡ None → cond b (kept_at state.plan state.list state.applied key) None ≡ None
+    by true untouched = ap (λ (t : Option (Option PutValue)). option_map (kept_of state.plan key) (option_and_then passing (option_and_then (λ put. put) t))) untouched
     by false untouched = refl
 
 -- ---- beginnings of one feed

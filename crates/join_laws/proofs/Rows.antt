@@ -17,10 +17,10 @@ use Rattle.target_tables.specs.Rising.{IsRising}
 use Rattle.source_feed.specs.History.{RowValue}
 use Rattle.source_feed.specs.Image.{ImageRows, row_in}
 use Rattle.board_laws.specs.Meaning.{State, TargetRows}
-use Rattle.board_laws.specs.KeptRows.{passed_rows}
+use Rattle.board_laws.specs.KeptRows.{kept_rows}
 use Rattle.board_laws.specs.Cut.{cut_of, cut_in, own_row}
 use Rattle.board_laws.specs.Lawful.{IsSoundState, IsLawful}
-use Rattle.board_laws.proofs.KeptList.{list-is_passed}
+use Rattle.board_laws.proofs.KeptRowList.{list-kept}
 use Rattle.board_laws.proofs.Lookups.{Ties, is_key, is_itself, same_key, each, lookup-filter, none_above}
 use Rattle.join_laws.specs.Joined.{cut_rows, with_row, with_rows, rows_from, board_of}
 use Rattle.join_laws.specs.Compatible.{AreApart}
@@ -126,8 +126,8 @@ row_of_one s (state ∷ later) k = option_or (row_of_one (s + 1) later k) (as_ro
 
 cut_row : (ties : Ties) (state : State) (k : KeyValue) → row_in (cut_rows state) k ≡ cut_of state k
 cut_row ties state k =
-    lookup-filter ties (is_inside state.marks) (passed_rows state.list state.applied) k
-    ∙ ap (λ (o : Option RowValue). cond (is_inside state.marks k) o None) ((list-is_passed ties state.list state.applied).each_key k)
+    lookup-filter ties (is_inside state.marks) (kept_rows state.plan state.list state.applied) k
+    ∙ ap (λ (o : Option RowValue). cond (is_inside state.marks k) o None) (list-kept ties state.plan state.list state.applied k)
 
 pub rising_from : (s : ℕ) (states : List State) → IsRising key_cmp (rows_from s states)
 rising_from s [] = tt

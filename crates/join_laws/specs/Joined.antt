@@ -8,12 +8,12 @@ use Rattle.pk_copy.specs.Marks.{is_inside}
 use Rattle.source_feed.specs.History.{RowValue}
 use Rattle.source_feed.specs.Image.{ImageRows}
 use Rattle.board_laws.specs.Meaning.{State, TargetRows, Meaning}
-use Rattle.board_laws.specs.KeptRows.{passed_rows}
+use Rattle.board_laws.specs.KeptRows.{kept_rows}
 use Rattle.join_laws.specs.Chosen.{all_chosen}
 
 -- the rows of a stream's cut, by rising key
 abbrev pub cut_rows : State → ImageRows
-cut_rows state = filter (λ row. is_inside state.marks row.0) (passed_rows state.list state.applied)
+cut_rows state = filter (λ row. is_inside state.marks row.0) (kept_rows state.plan state.list state.applied)
 
 -- one row more at its place by key; where a row stands at the key, that one stays
 abbrev pub with_row : KeyValue × (ℕ × RowValue) → TargetRows → TargetRows
