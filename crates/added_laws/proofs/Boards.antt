@@ -7,7 +7,7 @@ use Rattle.filter_rule.specs.PlanTable.{TableValue}
 use Rattle.pk_copy.specs.KeyOrder.{key_cmp}
 use Rattle.pk_copy.specs.KeyValue.{KeyValue}
 use Rattle.pk_copy.specs.Marks.{is_inside}
-use Rattle.source_feed.specs.History.{RowValue, passed_at}
+use Rattle.source_feed.specs.History.{RowValue, kept_at}
 use Rattle.source_feed.specs.Planned.{FeedValue}
 use Rattle.stream_core.specs.declared.phase.Phase.TheVariants.{CatchUp}
 use Rattle.stream_core.specs.Standing.{phase_of}
@@ -127,7 +127,7 @@ to-copy feeds board lawful may s state e =
 inside_of : (state : State) (key : KeyValue) (row : RowValue) → cut_of state key ≡ Some row → is_inside state.marks key ≡ true
 inside_of state key row cut = by (is_inside state.marks key) refl cut
   where
-    by : (b : Bool) → is_inside state.marks key ≡ b → cond b (passed_at state.list state.applied key) None ≡ Some row → is_inside state.marks key ≡ true
+    by : (b : Bool) → is_inside state.marks key ≡ b → cond b (kept_at state.plan state.list state.applied key) None ≡ Some row → is_inside state.marks key ≡ true
     by true e h = e
     by false e h = absurd (none-some row h)
 

@@ -4,18 +4,18 @@ use Rattle.std.proofs.lemmas.Bool.{ne_eqb}
 use Rattle.std.proofs.lemmas.List.{length-map, length-take-le}
 use Rattle.std.proofs.lemmas.Option.{slice_get_within}
 use Rattle.std.specs.Prelude.{IfSome}
-use Rattle.std.specs.Option.{option_map_or}
+use Rattle.std.specs.Option.{option_map, option_map_or}
 use Rattle.std.specs.Result.{ok_prefix}
 use Rattle.filter_rule.specs.Extending.{IsExtended}
 use Rattle.filter_rule.specs.PlanTable.{ColumnValue, TableValue}
-use Rattle.filter_rule.specs.PlanValue.{PlanValue}
+use Rattle.filter_rule.specs.PlanValue.{PlanValue, kept_columns_of}
 use Rattle.pk_copy.specs.KeyOf.{key_in}
 use Rattle.pk_copy.specs.KeyValue.{KeyValue}
 use Rattle.pk_copy.specs.Lastpk.{lastpk_of, lastpk_cells, IsTableKey}
 use Rattle.pk_copy.specs.Marks.{IsOfCurrent, is_inside}
 use Rattle.source_feed.specs.Planned.{FeedValue, IsFeed}
 use Rattle.source_feed.specs.Prepared.{IsSameOn}
-use Rattle.source_feed.specs.History.{touches_in, passed_at}
+use Rattle.source_feed.specs.History.{picked, touches_in, passed_at, kept_of, kept_at}
 use Rattle.source_feed.specs.Touches.{PreparedValue, prepared}
 use Rattle.stream_core.specs.declared.phase.Phase.TheVariants.{Running, CatchUp}
 use Rattle.stream_core.specs.Standing.{phase_of}
@@ -101,16 +101,22 @@ module _ (feed : FeedValue) (state : State) (sound : IsSoundState state) (whole 
       = goes.same i y x (omega (arith, inside, long)) (slice_get-take state.applied state.list i y q) (slice_get-take state.applied (sound_groups feed) i x p) in
       sym same.touches)
 
+  -- of an old table the same columns are kept
+  kept_still : (key : KeyValue) → key.table < length state.plan.tables → kept_columns_of feed.plan key.table ≡ kept_columns_of state.plan key.table
+  kept_still key below = ap (λ (o : Option TableValue). option_map_or (λ (table : TableValue). table.kept) o []) (sym (same_table state.plan feed.plan more key.table below))
+
   pub extended-cut : (ties : Ties) (key : KeyValue) → cut_of (extended_state feed state) key ≡ cut_of state key
   extended-cut ties key = by (is_inside state.marks key) refl
     where
       by : (b : Bool) → is_inside state.marks key ≡ b
-          → cond b (passed_at (take state.applied (sound_groups feed)) state.applied key) None ≡ cond b (passed_at state.list state.applied key) None
+          → cond b (kept_at feed.plan (take state.applied (sound_groups feed)) state.applied key) None ≡ cond b (kept_at state.plan state.list state.applied key) None
       by false e = refl
       by true e =
           let inside : key.table < state.marks.tables = inside_old state.marks sound.marks key e in
-          passed_at-take (sound_groups feed) state.applied key
-          ∙ passed_at-on ties (length state.plan.tables) (sound_groups feed) state.list state.applied key (omega (arith, inside, sound.tables)) alike
+          ap (option_map (kept_of feed.plan key))
+          (passed_at-take (sound_groups feed) state.applied key
+          ∙ passed_at-on ties (length state.plan.tables) (sound_groups feed) state.list state.applied key (omega (arith, inside, sound.tables)) alike)
+          ∙ ap (λ (places : List ℕ). option_map (picked places) (passed_at state.list state.applied key)) (kept_still key (omega (arith, inside, sound.tables)))
 
   pub catches_up : phase_of (standing_of (extended_state feed state)) ≡ CatchUp
   catches_up = ap (λ b. cond b Running CatchUp) (ne_eqb state.marks.done (length feed.plan.tables) (λ e. absurd (omega (arith, e, left_to_copy))))
