@@ -8,7 +8,7 @@ use Rattle.std.specs.List.{AllByRecursion}
 use Rattle.std.specs.Result.{result_ok}
 use Rattle.filter_rule.specs.PlanValue.{PlanValue}
 use Rattle.filter_rule.specs.WellFormed.{IsPlan}
-use Rattle.pk_copy.specs.KeyOf.{key_of}
+use Rattle.pk_copy.specs.KeyOfKept.{key_of_kept}
 use Rattle.pk_copy.specs.KeyValue.{KeyValue}
 use Rattle.pk_copy.specs.Lastpk.{key_of_lastpk}
 use Rattle.pk_copy.specs.Marks.{copied, waiting, Marks, current_mark, mark_of}
@@ -142,7 +142,7 @@ same_keyed plan t (x ∷ xs) [] a b c d e = absurd (none-some x.1 (ap (λ (rows 
 same_keyed plan t (x ∷ xs) (y ∷ ys) a b c d e =
     let row : x.1 ≡ y.1 = same_Some x.1 y.1 (ap (λ (rows : List RowValue). slice_get rows 0) e) in
     let table : x.0.table ≡ y.0.table = eqb-true x.0.table t c.0 ∙ sym (eqb-true y.0.table t d.0) in
-    let key : x.0 ≡ y.0 = same_Some x.0 y.0 (ap result_ok (sym a.0.key ∙ ap (λ (n : ℕ). key_of plan n x.1) table ∙ ap (key_of plan y.0.table) row ∙ b.0.key)) in
+    let key : x.0 ≡ y.0 = same_Some x.0 y.0 (ap result_ok (sym a.0.key ∙ ap (λ (n : ℕ). key_of_kept plan n x.1) table ∙ ap (key_of_kept plan y.0.table) row ∙ b.0.key)) in
     let later : xs ≡ ys = same_keyed plan t xs ys a.1 b.1 c.1 d.1 (ap others e) in
     λ i. (key i, row i) ∷ later i
 

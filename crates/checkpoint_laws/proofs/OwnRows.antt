@@ -11,10 +11,10 @@ use Rattle.target_tables.specs.Rising.{IsRising}
 use Rattle.source_feed.specs.History.{RowValue}
 use Rattle.source_feed.specs.Image.{row_in}
 use Rattle.board_laws.specs.Meaning.{State, TargetRows, Meaning}
-use Rattle.board_laws.specs.KeptRows.{passed_rows}
+use Rattle.board_laws.specs.KeptRows.{kept_rows}
 use Rattle.board_laws.specs.Cut.{cut_of, own_row}
 use Rattle.board_laws.specs.Lawful.{IsLawful}
-use Rattle.board_laws.proofs.KeptList.{list-is_passed}
+use Rattle.board_laws.proofs.KeptRowList.{list-rising, list-kept}
 use Rattle.board_laws.proofs.Lookups.{Ties, is_key, lookup-filter, rising-filter, same_rows}
 use Rattle.board_laws.proofs.OwnPart.{own_part, only, rising_part, value_in_part}
 use Rattle.join_laws.specs.Joined.{cut_rows}
@@ -59,12 +59,12 @@ own-at s rows q rising = lookup-map (own_part s rows) q ∙ ap row_of (value_in_
 -- ---- the rows of a cut
 
 pub cut-rising : (ties : Ties) (state : State) → IsRising key_cmp (cut_rows state)
-cut-rising ties state = rising-filter (λ row. is_inside state.marks row.0) (passed_rows state.list state.applied) (list-is_passed ties state.list state.applied).rising
+cut-rising ties state = rising-filter (λ row. is_inside state.marks row.0) (kept_rows state.plan state.list state.applied) (list-rising ties state.plan state.list state.applied)
 
 pub cut-at : (ties : Ties) (state : State) (q : KeyValue) → row_in (cut_rows state) q ≡ cut_of state q
 cut-at ties state q =
-    lookup-filter ties (is_inside state.marks) (passed_rows state.list state.applied) q
-    ∙ ap (λ (o : Option RowValue). cond (is_inside state.marks q) o None) ((list-is_passed ties state.list state.applied).each_key q)
+    lookup-filter ties (is_inside state.marks) (kept_rows state.plan state.list state.applied) q
+    ∙ ap (λ (o : Option RowValue). cond (is_inside state.marks q) o None) (list-kept ties state.plan state.list state.applied q)
 
 pub own-is_cut : (ties : Ties) (board : Meaning) → IsLawful board → (s : ℕ) (state : State) → slice_get board.streams s ≡ Some state → own_rows s board.rows ≡ cut_rows state
 own-is_cut ties board lawful s state here =

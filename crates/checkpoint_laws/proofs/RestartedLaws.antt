@@ -11,14 +11,14 @@ use Rattle.pk_copy.specs.KeyValue.{KeyValue}
 use Rattle.pk_copy.specs.Marks.{is_inside}
 use Rattle.target_tables.specs.Touches.{last_at}
 use Rattle.source_feed.specs.GroupValue.{Position}
-use Rattle.source_feed.specs.History.{RowValue, touches_in, passing}
+use Rattle.source_feed.specs.History.{RowValue, touches_in, passing, kept_of}
 use Rattle.source_feed.specs.Image.{ImageRows}
 use Rattle.source_feed.specs.Planned.{PlannedGroupValue, FeedValue, IsFeed}
 use Rattle.source_feed.specs.Touches.{PreparedValue}
 use Rattle.board_laws.specs.Allowed.{last_position}
 use Rattle.board_laws.specs.Cut.{cut_of}
 use Rattle.board_laws.specs.Event.{restart}
-use Rattle.board_laws.specs.KeptRows.{touched_keys}
+use Rattle.board_laws.specs.KeptRows.{touched_keys, kept_row}
 use Rattle.board_laws.specs.Lawful.{IsLawful}
 use Rattle.board_laws.specs.Meaning.{State, TargetRows, Meaning}
 use Rattle.board_laws.specs.Runs.{sound_groups}
@@ -46,15 +46,15 @@ abbrev again : State → State
 again state = state_after state restart
 
 cut_again : (state : State) (key : KeyValue) → cut_of (again state) key ≡ cut_of state key
-cut_again state key = ap (λ (o : Option RowValue). cond (is_inside state.marks key) o None) (passed_at-take state.list state.applied key)
+cut_again state key = ap (λ (o : Option RowValue). cond (is_inside state.marks key) (option_map (kept_of state.plan key) o) None) (passed_at-take state.list state.applied key)
 
-abbrev kept_of : List PreparedValue → ImageRows
-kept_of groups =
+abbrev rows_behind : List PreparedValue → ImageRows
+rows_behind groups =
     filter_map (λ (key : KeyValue). option_map (λ (row : RowValue). (key, row)) (option_and_then passing (option_and_then (λ put. put) (last_at key_cmp (touches_in groups) key))))
     (touched_keys (touches_in groups))
 
 rows_again : (state : State) → cut_rows (again state) ≡ cut_rows state
-rows_again state = ap (λ (groups : List PreparedValue). filter (λ row. is_inside state.marks row.0) (kept_of groups)) (take-take state.applied state.list)
+rows_again state = ap (λ (groups : List PreparedValue). filter (λ row. is_inside state.marks row.0) (map (kept_row state.plan) (rows_behind groups))) (take-take state.applied state.list)
 
 all_again : (s : ℕ) (states : List State) → rows_from s (map again states) ≡ rows_from s states
 all_again s [] = refl

@@ -3,17 +3,18 @@ use Rattle.std.proofs.Common.{◌≡◌, ◌==◌, ℕ, zero, suc, ◌+◌, ◌-
 use Rattle.std.proofs.lemmas.Bool.{eqb-true, ltb-true}
 use Rattle.std.proofs.lemmas.List.{length-map, length-append}
 use Rattle.std.proofs.lemmas.Option.{same_Some, none-some, slice_get-map, slice_get_within}
-use Rattle.std.specs.Prelude.{IfSome, nat_lt}
+use Rattle.std.specs.Prelude.{IfSome, nat_lt, slice_index_or}
 use Rattle.std.specs.List.{AllByRecursion, filter_map}
 use Rattle.std.specs.Option.{option_map, option_map_or}
 use Rattle.filter_rule.specs.Extending.{IsExtended}
 use Rattle.filter_rule.specs.PlanTable.{ColumnValue, TableValue}
-use Rattle.filter_rule.specs.PlanValue.{PlanValue, columns_of, key_columns_of}
+use Rattle.filter_rule.specs.PlanValue.{PlanValue, columns_of, key_columns_of, kept_columns_of}
 use Rattle.filter_rule.specs.WellFormed.{IsColumnDef, IsTable, IsPlan}
 use Rattle.gtid_set.specs.declared.interval.Interval.{Interval}
 use Rattle.gtid_set.specs.Position.{IsCanonical}
 use Rattle.gtid_set.specs.Text.{position_of_text, text_limit}
-use Rattle.pk_copy.specs.KeyOf.{cell_at, key_in}
+use Rattle.pk_copy.specs.KeyOfKept.{kept_cell, KeysAreKept}
+use Rattle.pk_copy.specs.KeyOf.{key_in}
 use Rattle.pk_copy.specs.KeyValue.{Part, KeyValue}
 use Rattle.pk_copy.specs.Lastpk.{lastpk_of, part_text, lastpk_cells, key_of_lastpk, IsTableKey}
 use Rattle.pk_copy.specs.Marks.{MarkValue, waiting, up_to, copied, Marks, AreMarks, IsOfCurrent, current_mark, mark_of, is_inside}
@@ -26,7 +27,7 @@ use Rattle.vevent.specs.EventValue.{FieldValue}
 use Rattle.vevent.specs.WrittenEvent.{IsColumn}
 use Rattle.vevent.specs.WrittenPart.{IsSoundTable, IsSoundStream, StreamPartsAreReadAgain}
 use Rattle.board_laws.specs.Allowed.{last_position}
-use Rattle.board_laws.specs.KeptRows.{passed_rows}
+use Rattle.board_laws.specs.KeptRows.{passed_rows, kept_row, kept_rows}
 use Rattle.board_laws.specs.Lawful.{IsReadList, IsSoundState, IsLawful}
 use Rattle.board_laws.specs.Meaning.{State, Meaning}
 use Rattle.board_laws.proofs.History.{read-cut}
@@ -89,8 +90,8 @@ columns_are : (columns : List ColumnValue) → ((i : ℕ) (column : ColumnValue)
 columns_are [] h = tt
 columns_are (column ∷ columns) h = let is : IsColumnDef column = h 0 column refl in (record { name = is.name_text; number = omega (arith, is.type_bits) }, columns_are columns (λ i. h (suc i)))
 
-plan_columns : (plan : PlanValue) → IsPlan plan → (t : ℕ) → AllByRecursion IsColumn (fields_of_table plan t)
-plan_columns plan is t = by (slice_get plan.tables t) refl
+table_columns : (plan : PlanValue) → IsPlan plan → (t : ℕ) → AllByRecursion IsColumn (map field_of (columns_of plan t))
+table_columns plan is t = by (slice_get plan.tables t) refl
   where
     by : (o : Option TableValue) → slice_get plan.tables t ≡ o → AllByRecursion IsColumn (map field_of (option_map_or (λ (table : TableValue). table.columns) o []))
     by None here = tt
@@ -112,9 +113,9 @@ column_at (c ∷ columns) (suc place) column h e = column_at columns place colum
 abbrev field_in : List ColumnValue → ℕ → Option FieldValue
 field_in columns place = option_map field_of (slice_get columns place)
 
-key_columns : (columns : List ColumnValue) (places : List ℕ) → AllByRecursion IsColumn (map field_of columns) → AllByRecursion IsColumn (filter_map (field_in columns) places)
-key_columns columns [] h = tt
-key_columns columns (place ∷ places) h = by (slice_get columns place) refl (key_columns columns places h)
+columns_at : (columns : List ColumnValue) (places : List ℕ) → AllByRecursion IsColumn (map field_of columns) → AllByRecursion IsColumn (filter_map (field_in columns) places)
+columns_at columns [] h = tt
+columns_at columns (place ∷ places) h = by (slice_get columns place) refl (columns_at columns places h)
   where
     by : (o : Option ColumnValue) → slice_get columns place ≡ o → AllByRecursion IsColumn (filter_map (field_in columns) places) → AllByRecursion IsColumn (filter_map (field_in columns) (place ∷ places))
     by None e rest = subst (AllByRecursion IsColumn) (sym (filter_none (field_in columns) place places (ap (option_map field_of) e))) rest
@@ -140,8 +141,8 @@ module _ (version : Version) (plan : PlanValue) (well : IsPlan plan) (saved : Sa
   sound_table t = record {
     mark = small (mark_of saved.marks t);
     answer = record {
-      fields = plan_columns plan well t;
-      pkfields = key_columns (columns_of plan t) (key_columns_of plan t) (plan_columns plan well t);
+      fields = columns_at (columns_of plan t) (kept_columns_of plan t) (table_columns plan well t);
+      pkfields = columns_at (columns_of plan t) (key_columns_of plan t) (table_columns plan well t);
       gtid = position_utf8 saved.position canonical;
       rows = values_within (saved_rows_of_table t saved.rows) (all-filter (λ (row : KeyValue × RowValue). IsWithinLimits row.1) (λ row. row.0.table == t) saved.rows within.rows);
       lastpk = last_within t (mark_of saved.marks t) (of_mark (λ key. IsWithinLimits (lastpk_of key)) saved.marks t marks within.last);
@@ -193,6 +194,9 @@ columns_in o = option_map_or (λ (table : TableValue). table.columns) o []
 abbrev key_in_table : Option TableValue → List ℕ
 key_in_table o = option_map_or (λ (table : TableValue). table.key) o []
 
+abbrev kept_in : Option TableValue → List ℕ
+kept_in o = option_map_or (λ (table : TableValue). table.kept) o []
+
 abbrev key_fields_in : Option TableValue → List FieldValue
 key_fields_in o = filter_map (field_in (columns_in o)) (key_in_table o)
 
@@ -222,8 +226,8 @@ module _ (reads : ReadsBack) (version : Version) (old new : PlanValue) (front : 
       let same : slice_get old.tables row.0.table ≡ slice_get new.tables row.0.table = front.tables row.0.table is.table in
       record {
         table = omega (arith, is.table, front.fewer);
-        width = is.width ∙ ap (λ (o : Option TableValue). length (columns_in o)) same;
-        key = ap (λ (o : Option TableValue). key_in row.0.table (map (cell_at (columns_in o) row.1) (key_in_table o))) (sym same) ∙ is.key;
+        width = is.width ∙ ap (λ (o : Option TableValue). length (kept_in o)) same;
+        key = ap (λ (o : Option TableValue). key_in row.0.table (map (kept_cell (columns_in o) (kept_in o) row.1) (key_in_table o))) (sym same) ∙ is.key;
       }
 
   key_of_current : (o : Option KeyValue) → IfSome o (IsOfCurrent saved.marks) → IfSome o (IsOfCurrent (marks_of_more (length new.tables) saved.marks))
@@ -253,7 +257,7 @@ module _ (reads : ReadsBack) (version : Version) (old new : PlanValue) (front : 
     named = has_name version t less;
     mark = refl;
     answer = record {
-      fields = ap (λ (o : Option TableValue). map field_of (columns_in o)) (front.tables t less);
+      fields = ap (λ (o : Option TableValue). filter_map (field_in (columns_in o)) (kept_in o)) (front.tables t less);
       key_fields = ap key_fields_in (front.tables t less);
       position = reads saved.position canonical within.short;
       rows = refl;
@@ -377,21 +381,36 @@ record Known (plan : PlanValue) (one : SavedStream) : Type 0 where
   sound : IsSaved plan one
   canonical : IsCanonical one.position
 
--- the rows of a cut stand at their own keys
-cut_keyed : (ties : Ties) (state : State) → IsSoundState state → AllByRecursion (IsKeyed state.plan) (cut_rows state)
-cut_keyed ties state sound =
-    all-filter (IsKeyed state.plan) (λ row. is_inside state.marks row.0) (passed_rows state.list state.applied)
-    (each (IsRowUnder state.plan) (IsKeyed state.plan) (λ row under. record { table = under.table; width = under.width; key = under.key }) (passed_rows state.list state.applied)
-    (passed-under ties state.plan state.list state.applied sound.list))
+-- a row of a plan's table stands at its own key with its kept columns too
+row_keyed : KeysAreKept → (plan : PlanValue) → IsPlan plan → (row : KeyValue × RowValue) → IsRowUnder plan row → IsKeyed plan (kept_row plan row)
+row_keyed kept plan well row under = record {
+  table = under.table;
+  width = length-map (kept_columns_of plan row.0.table) (λ place. slice_index_or row.1 place None);
+  key = kept plan row.0.table row.1 well under.table ∙ under.key;
+}
 
-module _ (ties : Ties) (board : Meaning) (plans : AllByRecursion IsPlan (plans_of_board board)) (lawful : IsLawful board) (within : AreWithin board) where
+rows_keyed : KeysAreKept → (plan : PlanValue) → IsPlan plan → (rows : ImageRows) → AllByRecursion (IsRowUnder plan) rows → AllByRecursion (IsKeyed plan) (map (kept_row plan) rows)
+rows_keyed kept plan well [] h = tt
+rows_keyed kept plan well (row ∷ rows) h = (row_keyed kept plan well row h.0, rows_keyed kept plan well rows h.1)
+
+-- the rows of a cut stand at their own keys
+cut_keyed : KeysAreKept → (ties : Ties) (state : State) → IsPlan state.plan → IsSoundState state → AllByRecursion (IsKeyed state.plan) (cut_rows state)
+cut_keyed kept ties state well sound =
+    all-filter (IsKeyed state.plan) (λ row. is_inside state.marks row.0) (kept_rows state.plan state.list state.applied)
+    (rows_keyed kept state.plan well (passed_rows state.list state.applied) (passed-under ties state.plan state.list state.applied sound.list))
+
+module _ (keys_kept : KeysAreKept) (ties : Ties) (board : Meaning) (plans : AllByRecursion IsPlan (plans_of_board board)) (lawful : IsLawful board) (within : AreWithin board) where
   long : length (saved_of board) ≡ length (plans_of_board board)
   long = saved_long 0 board.streams board.rows ∙ sym (length-map board.streams (λ (state : State). state.plan))
+
+  well_of : (s : ℕ) (state : State) → slice_get board.streams s ≡ Some state → IsPlan state.plan
+  well_of s state here =
+      all-at IsPlan (plans_of_board board) s state.plan plans (slice_get-map (λ (state : State). state.plan) board.streams s ∙ ap (option_map (λ (state : State). state.plan)) here)
 
   of_state : (s : ℕ) (state : State) → slice_get board.streams s ≡ Some state → Known state.plan (saved_stream s state board.rows)
   of_state s state here =
       let sound : IsSoundState state = lawful.sound s state here in
-      let keyed : AllByRecursion (IsKeyed state.plan) (own_rows s board.rows) = subst (AllByRecursion (IsKeyed state.plan)) (sym (own-is_cut ties board lawful s state here)) (cut_keyed ties state sound) in
+      let keyed : AllByRecursion (IsKeyed state.plan) (own_rows s board.rows) = subst (AllByRecursion (IsKeyed state.plan)) (sym (own-is_cut ties board lawful s state here)) (cut_keyed keys_kept ties state (well_of s state here) sound) in
       record {
         sound = record { tables = sound.tables; marks = sound.marks; upto = sound.upto; rising = own-rising s board.rows lawful.rising; keyed = keyed };
         canonical = position_is state sound;
@@ -479,13 +498,13 @@ all_tables : (version : Version) (plan : PlanValue) → IsPlan plan → AreSoMan
 all_tables One plan is = refl
 all_tables Two plan is = (is.tables.count.0, omega arith)
 
-pub saved_boards : Ties → StreamPartsAreReadAgain → ReadsBack → SavedBoardsAreSaid
-saved_boards ties parts_again reads version board plans lawful within short =
+pub saved_boards : KeysAreKept → Ties → StreamPartsAreReadAgain → ReadsBack → SavedBoardsAreSaid
+saved_boards keys_kept ties parts_again reads version board plans lawful within short =
     subst (IsCheckpoint (plans_of_board board) (checkpoint_in version board))
-    (under_own (plans_of_board board) (saved_of board) (long ties board plans lawful within) (λ s plan one p q. (known_at ties board plans lawful within s plan one p q).sound.tables))
-    (says_all ties board plans lawful within reads version (plans_of_board board) refl
+    (under_own (plans_of_board board) (saved_of board) (long keys_kept ties board plans lawful within) (λ s plan one p q. (known_at keys_kept ties board plans lawful within s plan one p q).sound.tables))
+    (says_all keys_kept ties board plans lawful within reads version (plans_of_board board) refl
     (λ s old new p q. subst (IsFront old) (same_Some old new (sym p ∙ q)) (front_itself old))
-    (λ s old new p q. subst (λ (plan : PlanValue). AreSoMany version plan (length old.tables)) (same_Some old new (sym p ∙ q)) (all_tables version old (well_at ties board plans lawful within s old p)))
+    (λ s old new p q. subst (λ (plan : PlanValue). AreSoMany version plan (length old.tables)) (same_Some old new (sym p ∙ q)) (all_tables version old (well_at keys_kept ties board plans lawful within s old p)))
     parts_again short)
 
 -- the tables of a plan stand in front of those of one that extends it
@@ -496,9 +515,9 @@ front_extended old new more = record {
   tables = λ t less. ap (λ (tables : List TableValue). slice_get tables t) (sym more.tables) ∙ get_in_front (length old.tables) new.tables t less;
 }
 
-pub saved_boards_of_more : Ties → StreamPartsAreReadAgain → ReadsBack → SavedBoardsAreSaidOfMore
-saved_boards_of_more ties parts_again reads board news plans lawful within short are =
-    says_all ties board plans lawful within reads Two news are.count
+pub saved_boards_of_more : KeysAreKept → Ties → StreamPartsAreReadAgain → ReadsBack → SavedBoardsAreSaidOfMore
+saved_boards_of_more keys_kept ties parts_again reads board news plans lawful within short are =
+    says_all keys_kept ties board plans lawful within reads Two news are.count
     (λ s old new p q. front_extended old new (are.each_plan s old new p q))
-    (λ s old new p q. let more : IsExtended old new = are.each_plan s old new p q in ((well_at ties board plans lawful within s old p).tables.count.0, omega (arith, more.more)))
+    (λ s old new p q. let more : IsExtended old new = are.each_plan s old new p q in ((well_at keys_kept ties board plans lawful within s old p).tables.count.0, omega (arith, more.more)))
     parts_again short

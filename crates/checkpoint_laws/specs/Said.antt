@@ -2,9 +2,9 @@
 -- profile).
 use Rattle.std.specs.Prelude.{◌≡◌, ℕ, ◌<◌, ◌≤◌, List, ◌++◌, map, length, Option, None, Some, Ok, IfSome, slice_get}
 use Rattle.std.specs.List.{AllByRecursion}
-use Rattle.filter_rule.specs.PlanValue.{PlanValue, columns_of, key_columns_of, table_name}
+use Rattle.filter_rule.specs.PlanValue.{PlanValue, key_columns_of, kept_columns_of, table_name}
 use Rattle.gtid_set.specs.Text.{position_of_text}
-use Rattle.pk_copy.specs.KeyOf.{key_of}
+use Rattle.pk_copy.specs.KeyOfKept.{key_of_kept}
 use Rattle.pk_copy.specs.KeyOrder.{key_cmp}
 use Rattle.pk_copy.specs.KeyValue.{KeyValue}
 use Rattle.pk_copy.specs.Lastpk.{key_of_lastpk, IsTableKey}
@@ -37,7 +37,7 @@ SaysLast plan t waiting lastpk = lastpk ≡ None
 SaysLast plan t (up_to key) lastpk = (row : RowValue) × (lastpk ≡ Some row) × (length row ≡ length (key_columns_of plan t)) × (key_of_lastpk plan t row ≡ Ok key)
 SaysLast plan t copied lastpk = lastpk ≡ None
 
--- an answer has the columns of the table and of its key, the position, the rows of the table in order, and the
+-- an answer has the kept columns of the table and those of its key, the position, the rows of the table in order, and the
 -- key of its mark
 pub record SaysAnswer (plan : PlanValue) (saved : SavedStream) (t : ℕ) (answer : AnswerValue) : Type 0 where
   pub fields : answer.fields ≡ fields_of_table plan t
@@ -59,11 +59,11 @@ pub record SaysTable (version : Version) (plan : PlanValue) (saved : SavedStream
 
 -- ---- a stream's part
 
--- a row is of one of the plan's tables, has its width, and stands at its own key
+-- a row is of one of the plan's tables, has the width of its kept columns, and stands at its own key
 pub record IsKeyed (plan : PlanValue) (row : KeyValue × RowValue) : Type 0 where
   pub table : row.0.table < length plan.tables
-  pub width : length row.1 ≡ length (columns_of plan row.0.table)
-  pub key : key_of plan row.0.table row.1 ≡ Ok row.0
+  pub width : length row.1 ≡ length (kept_columns_of plan row.0.table)
+  pub key : key_of_kept plan row.0.table row.1 ≡ Ok row.0
 
 -- what can be said of a stream under a plan: marks of its tables, of which the first ones are done, then at most one
 -- is copied up to a key of it, and the others wait; rows by rising key, each at its own key

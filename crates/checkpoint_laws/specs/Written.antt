@@ -4,7 +4,7 @@ use Rattle.std.specs.Prelude.{ℕ, zero, suc, ◌==◌, List, [], ◌∷◌, ◌
 use Rattle.std.specs.List.{filter, filter_map, flat_map}
 use Rattle.std.specs.Option.{option_map}
 use Rattle.filter_rule.specs.PlanTable.{ColumnValue}
-use Rattle.filter_rule.specs.PlanValue.{PlanValue, columns_of, key_columns_of, table_name}
+use Rattle.filter_rule.specs.PlanValue.{PlanValue, columns_of, key_columns_of, kept_columns_of, table_name}
 use Rattle.gtid_set.specs.Printed.{printed_position}
 use Rattle.pk_copy.specs.Lastpk.{lastpk_of}
 use Rattle.pk_copy.specs.Marks.{MarkValue, waiting, up_to, copied, mark_of}
@@ -27,9 +27,9 @@ use Rattle.checkpoint_laws.specs.Saved.{SavedStream, saved_of}
 abbrev pub field_of : ColumnValue → FieldValue
 field_of column = record { name = column.name; type_number = column.type_number }
 
--- the columns of a table
+-- the columns that are kept of a table, in kept order
 abbrev pub fields_of_table : PlanValue → ℕ → List FieldValue
-fields_of_table plan t = map field_of (columns_of plan t)
+fields_of_table plan t = filter_map (λ place. option_map field_of (slice_get (columns_of plan t) place)) (kept_columns_of plan t)
 
 -- the columns of its key, in key order
 abbrev pub key_fields_of : PlanValue → ℕ → List FieldValue

@@ -5,7 +5,7 @@ ghost use Rattle.checkpoint_laws.specs.Added.{SavedBoardsAreSaidOfMore, Extended
 ghost use Rattle.checkpoint_laws.specs.Laws.{CheckpointsAreReadAgain, CheckpointsSayOneThing, ResumedBoardsAreLawful, RestartedBoardsAreResumed, SavedBoardsAreSaid};
 
 use gtid_set::printed_text_reads_back;
-use pk_copy::keys_tie_where_they_are_equal;
+use pk_copy::{keys_are_those_of_kept_columns, keys_tie_where_they_are_equal};
 use vevent::stream_parts_are_read_again;
 
 /// Parts of streams that are written as a checkpoint are read as these parts, where they are within the
@@ -27,6 +27,7 @@ pub fn checkpoints_say_one_thing()
 pub fn saved_boards_are_said()
     ensures { SavedBoardsAreSaid }
 {
+    keys_are_those_of_kept_columns();
     stream_parts_are_read_again();
     printed_text_reads_back();
     keys_tie_where_they_are_equal();
@@ -53,6 +54,7 @@ pub fn restarted_boards_are_resumed()
 pub fn saved_boards_are_said_of_more()
     ensures { SavedBoardsAreSaidOfMore }
 {
+    keys_are_those_of_kept_columns();
     stream_parts_are_read_again();
     printed_text_reads_back();
     keys_tie_where_they_are_equal();
