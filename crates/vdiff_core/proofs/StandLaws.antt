@@ -13,8 +13,8 @@ use Rattle.std.proofs.lemmas.Option.{slice_get-get_or}
 use Rattle.std.specs.Str.{bytes_eq}
 use Rattle.std.proofs.lemmas.Slice.Eq.{bytes_eq-Decides}
 use Rattle.filter_rule.specs.PlanTable.{TableValue}
-use Rattle.filter_rule.specs.PlanValue.{PlanValue, columns_of, table_name}
-use Rattle.pk_copy.specs.KeyOf.{key_of}
+use Rattle.filter_rule.specs.PlanValue.{PlanValue, kept_columns_of, table_name}
+use Rattle.pk_copy.specs.KeyOfKept.{key_of_kept}
 use Rattle.pk_copy.specs.KeyOrder.{key_cmp}
 use Rattle.pk_copy.specs.KeyValue.{KeyValue}
 use Rattle.target_tables.specs.Rising.{AreAbove, AreBelow}
@@ -51,9 +51,9 @@ ok_same x y e = cc
 
 same_row : (plan : PlanValue) (a b : KeyValue × RowValue) (r q : List ℕ) → FitsPlan plan a → FitsPlan plan b → a.0.table ≡ b.0.table → row_line a.1 ++ r ≡ row_line b.1 ++ q → (a ≡ b) × (r ≡ q)
 same_row plan a b r q fits other tables e =
-    let width : length a.1 ≡ length b.1 = fits.width ∙ ap (λ (t : ℕ). length (columns_of plan t)) tables ∙ sym other.width in
+    let width : length a.1 ≡ length b.1 = fits.width ∙ ap (λ (t : ℕ). length (kept_columns_of plan t)) tables ∙ sym other.width in
     let same = same_columns a.1 b.1 r q width fits.bytes other.bytes e in
-    let key : a.0 ≡ b.0 = ok_same a.0 b.0 (sym fits.key ∙ ap (λ (t : ℕ). key_of plan t a.1) tables ∙ ap (key_of plan b.0.table) same.0 ∙ other.key) in
+    let key : a.0 ≡ b.0 = ok_same a.0 b.0 (sym fits.key ∙ ap (λ (t : ℕ). key_of_kept plan t a.1) tables ∙ ap (key_of_kept plan b.0.table) same.0 ∙ other.key) in
     (λ i. (key i, same.0 i), same.1)
 
 same_line : (plan : PlanValue) (s n m : Behind) (l k r q : List ℕ) → CanStand plan s n l → CanStand plan s m k → l ++ r ≡ k ++ q → (n ≡ m) × (r ≡ q)
@@ -389,11 +389,11 @@ read_all plan text now rest n so_far none all =
 -- ---- the line of a row
 
 -- the row that is taken is the one that can be added
-same_taken : (plan : PlanValue) (old new : Behind) (t width : ℕ) (row : RowValue) (text behind line rest : List ℕ) → TakesRow width row text behind → width ≡ length (columns_of plan t) → old.begun ≡ t + 1 → text ≡ line ++ rest → (x : AddsRow plan old new line)
+same_taken : (plan : PlanValue) (old new : Behind) (t width : ℕ) (row : RowValue) (text behind line rest : List ℕ) → TakesRow width row text behind → width ≡ length (kept_columns_of plan t) → old.begun ≡ t + 1 → text ≡ line ++ rest → (x : AddsRow plan old new line)
     → (x.row.1 ≡ row) × (x.row.0.table ≡ t)
 same_taken plan old new t width row text behind line rest taken wide last is x =
     let table : x.row.0.table ≡ t = omega (arith, x.begun_last, last) in
-    let widths : length x.row.1 ≡ length row = x.fits.width ∙ ap (λ (k : ℕ). length (columns_of plan k)) table ∙ sym wide ∙ sym taken.width_is in
+    let widths : length x.row.1 ≡ length row = x.fits.width ∙ ap (λ (k : ℕ). length (kept_columns_of plan k)) table ∙ sym wide ∙ sym taken.width_is in
     let text_is : row_line x.row.1 ++ rest ≡ row_line row ++ behind = ap (λ (l : List ℕ). l ++ rest) (sym x.is_line) ∙ sym is ∙ taken.parts in
     ((same_columns x.row.1 row rest behind widths x.fits.bytes taken.bytes text_is).0, table)
 
@@ -401,19 +401,19 @@ not_ok : {X E : Type 0} (r : Result X E) (x : X) → r ≡ Ok x → IsErr r → 
 not_ok (Ok y) x e h = true≢false (sym h)
 not_ok (Err y) x e h = cc
 
-pub key_refused : (plan : PlanValue) (old : Behind) (t width : ℕ) (row : RowValue) (text behind : List ℕ) → TakesRow width row text behind → width ≡ length (columns_of plan t) → old.begun ≡ t + 1 → IsErr (key_of plan t row) → NoRowStands plan old text
+pub key_refused : (plan : PlanValue) (old : Behind) (t width : ℕ) (row : RowValue) (text behind : List ℕ) → TakesRow width row text behind → width ≡ length (kept_columns_of plan t) → old.begun ≡ t + 1 → IsErr (key_of_kept plan t row) → NoRowStands plan old text
 key_refused plan old t width row text behind taken wide last refused line rest new is x =
     let same = same_taken plan old new t width row text behind line rest taken wide last is x in
-    not_ok (key_of plan t row) x.row.0 (sym (ap (λ (k : ℕ). key_of plan k x.row.1) same.1 ∙ ap (key_of plan t) same.0) ∙ x.fits.key) refused
+    not_ok (key_of_kept plan t row) x.row.0 (sym (ap (λ (k : ℕ). key_of_kept plan k x.row.1) same.1 ∙ ap (key_of_kept plan t) same.0) ∙ x.fits.key) refused
 
-pub key_not_behind : (plan : PlanValue) (old : Behind) (t width : ℕ) (row : RowValue) (text behind : List ℕ) (key : KeyValue) → TakesRow width row text behind → width ≡ length (columns_of plan t) → old.begun ≡ t + 1 → key_of plan t row ≡ Ok key → (AreBelow key_cmp key old.rows → ⊥)
+pub key_not_behind : (plan : PlanValue) (old : Behind) (t width : ℕ) (row : RowValue) (text behind : List ℕ) (key : KeyValue) → TakesRow width row text behind → width ≡ length (kept_columns_of plan t) → old.begun ≡ t + 1 → key_of_kept plan t row ≡ Ok key → (AreBelow key_cmp key old.rows → ⊥)
     → NoRowStands plan old text
 key_not_behind plan old t width row text behind key taken wide last is_key not_below line rest new is x =
     let same = same_taken plan old new t width row text behind line rest taken wide last is x in
-    let keys : x.row.0 ≡ key = ok_same x.row.0 key (sym x.fits.key ∙ ap (λ (k : ℕ). key_of plan k x.row.1) same.1 ∙ ap (key_of plan t) same.0 ∙ is_key) in
+    let keys : x.row.0 ≡ key = ok_same x.row.0 key (sym x.fits.key ∙ ap (λ (k : ℕ). key_of_kept plan k x.row.1) same.1 ∙ ap (key_of_kept plan t) same.0 ∙ is_key) in
     not_below (subst (λ (k : KeyValue). AreBelow key_cmp k old.rows) keys x.above)
 
-pub row_is_added : (plan : PlanValue) (old : Behind) (t width : ℕ) (row : RowValue) (text behind : List ℕ) (key : KeyValue) → TakesRow width row text behind → width ≡ length (columns_of plan t) → old.begun ≡ t + 1 → t < length plan.tables → key_of plan t row ≡ Ok key → key.table ≡ t
+pub row_is_added : (plan : PlanValue) (old : Behind) (t width : ℕ) (row : RowValue) (text behind : List ℕ) (key : KeyValue) → TakesRow width row text behind → width ≡ length (kept_columns_of plan t) → old.begun ≡ t + 1 → t < length plan.tables → key_of_kept plan t row ≡ Ok key → key.table ≡ t
     → AreBelow key_cmp key old.rows → TakesRowLine plan old (record { begun = old.begun; rows = old.rows ++ (key, row) ∷ [] }) text behind
 row_is_added plan old t width row text behind key taken wide last lt is_key table below = record {
   line = row_line row;
@@ -422,8 +422,8 @@ row_is_added plan old t width row text behind key taken wide last lt is_key tabl
     row = (key, row);
     fits = record {
       table = omega (arith, table, lt);
-      width = taken.width_is ∙ wide ∙ ap (λ (k : ℕ). length (columns_of plan k)) (sym table);
-      key = ap (λ (k : ℕ). key_of plan k row) table ∙ is_key;
+      width = taken.width_is ∙ wide ∙ ap (λ (k : ℕ). length (kept_columns_of plan k)) (sym table);
+      key = ap (λ (k : ℕ). key_of_kept plan k row) table ∙ is_key;
       limits = taken.limits;
       bytes = taken.bytes;
     };

@@ -10,9 +10,10 @@ use Rattle.std.proofs.lemmas.List.Sums.{prefix_len-le-length}
 use Rattle.std.specs.declared.cmp.Ordering.TheVariants.{Less, Greater}
 use Rattle.std.proofs.lemmas.List.Elements.{filter-append}
 use Rattle.std.proofs.lemmas.Bool.Decides.{nat_tests}
+use Rattle.std.proofs.lemmas.Option.{slice_get_within}
 use Rattle.filter_rule.specs.PlanTable.{TableValue}
-use Rattle.filter_rule.specs.PlanValue.{PlanValue, columns_of}
-use Rattle.filter_rule.specs.WellFormed.{IsPlan}
+use Rattle.filter_rule.specs.PlanValue.{PlanValue, kept_columns_of}
+use Rattle.filter_rule.specs.WellFormed.{Holds, IsTable, IsPlan}
 use Rattle.pk_copy.specs.KeyOrder.{key_cmp, parts_cmp}
 use Rattle.pk_copy.specs.KeyValue.{KeyValue}
 use Rattle.target_tables.specs.Rising.{IsRising}
@@ -120,8 +121,12 @@ place_of [] i less = absurd (omega arith)
 place_of (x ∷ xs) zero less = (x, refl)
 place_of (x ∷ xs) (suc i) less = place_of xs i (omega arith)
 
--- each table of a plan has a column
-pub columns_some : (plan : PlanValue) (t : ℕ) → t < length plan.tables → IsPlan plan → 1 ≤ length (columns_of plan t)
-columns_some plan t less is =
+-- of each table of a plan a column is kept, since its key is
+pub kept_some : (plan : PlanValue) (t : ℕ) → t < length plan.tables → IsPlan plan → 1 ≤ length (kept_columns_of plan t)
+kept_some plan t less is =
     let there : (table : TableValue) × (slice_get plan.tables t ≡ Some table) = place_of plan.tables t less in
-    subst (λ (o : Option TableValue). 1 ≤ length (option_map_or (λ (table : TableValue). table.columns) o [])) (sym there.1) (is.tables.each_table t there.0 there.1).column_count.0
+    let table : IsTable there.0 = is.tables.each_table t there.0 there.1 in
+    let first : (place : ℕ) × (slice_get there.0.key 0 ≡ Some place) = place_of there.0.key 0 (omega (arith, table.key_count.0)) in
+    let held : Holds there.0.kept first.0 = table.kept_columns.key_kept 0 first.0 first.1 in
+    let within : held.0 < length there.0.kept = slice_get_within there.0.kept held.0 first.0 held.1 in
+    subst (λ (o : Option TableValue). 1 ≤ length (option_map_or (λ (table : TableValue). table.kept) o [])) (sym there.1) (omega (arith, within))

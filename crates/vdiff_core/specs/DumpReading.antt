@@ -2,8 +2,8 @@
 -- (this profile).
 use Rattle.std.specs.Prelude.{◌≡◌, ◌≢◌, ℕ, ◌+◌, ◌<◌, ◌≤◌, ◌⊎◌, List, [], ◌∷◌, ◌++◌, length, IfSome, Result, Ok, Err}
 use Rattle.std.specs.List.{AllByRecursion, flat_map}
-use Rattle.filter_rule.specs.PlanValue.{PlanValue, columns_of, table_name}
-use Rattle.pk_copy.specs.KeyOf.{key_of}
+use Rattle.filter_rule.specs.PlanValue.{PlanValue, kept_columns_of, table_name}
+use Rattle.pk_copy.specs.KeyOfKept.{key_of_kept}
 use Rattle.pk_copy.specs.KeyOrder.{key_cmp}
 use Rattle.pk_copy.specs.KeyValue.{KeyValue}
 use Rattle.row_view.specs.WrittenRow.{IsWithinLimits}
@@ -15,12 +15,12 @@ use Rattle.vdiff_core.specs.RowsValue.{RowValue, RowsValue}
 abbrev pub AreByteValues : RowValue → Type 0
 AreByteValues row = AllByRecursion (λ column. IfSome column (AllByRecursion (λ byte. byte < 256))) row
 
--- a row that a dump of the plan's tables can have: of one of them, as wide as it, at the key that its columns
+-- a row that a dump of the plan's tables can have: of the kept columns of one of them, at the key that these
 -- give, and within the limits of a row
 pub record FitsPlan (plan : PlanValue) (row : KeyValue × RowValue) : Type 0 where
   pub table : row.0.table < length plan.tables
-  pub width : length row.1 ≡ length (columns_of plan row.0.table)
-  pub key : key_of plan row.0.table row.1 ≡ Ok row.0
+  pub width : length row.1 ≡ length (kept_columns_of plan row.0.table)
+  pub key : key_of_kept plan row.0.table row.1 ≡ Ok row.0
   pub limits : IsWithinLimits row.1
   pub bytes : AreByteValues row.1
 

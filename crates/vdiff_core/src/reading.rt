@@ -1,8 +1,8 @@
 //! Reading of dumps.
 
 ghost use Rattle.std.specs.Prelude.{◌≡◌, ◌⊎◌, ℕ, ◌+◌, ◌<◌, ◌≤◌, ◌++◌, IfOk, Ok, Err, length, MatchOption, IfSome, IsErr, IsOk, List};
-ghost use Rattle.filter_rule.specs.PlanValue.{columns_of, table_name};
-ghost use Rattle.pk_copy.specs.KeyOf.{key_of};
+ghost use Rattle.filter_rule.specs.PlanValue.{kept_columns_of, table_name};
+ghost use Rattle.pk_copy.specs.KeyOfKept.{key_of_kept};
 ghost use Rattle.vdiff_core.specs.Dump.{table_line};
 ghost use Rattle.vdiff_core.specs.DumpReading.{IsDump, IsFirstBad, NoLineStands, MayHaveRow, AreReadOnce};
 ghost use Rattle.vdiff_core.specs.DumpFaults.{number_of};
@@ -13,7 +13,7 @@ use crate::line_fault::LineFault;
 use crate::row_cells::take_row;
 use crate::rows::Rows;
 use filter_rule::Plan;
-use pk_copy::{Key, key_of};
+use pk_copy::{Key, key_of_kept};
 use row_view::RowBuf;
 use std::alloc::Global;
 use std::marker::Model;
@@ -90,7 +90,7 @@ impl DumpRows {
             return Err(LineFault::Bad);
         }
         let t = (self.begun - 1) as u8;
-        let (row, rest) = take_row(alloc, plan.columns(t).len(), text)?;
+        let (row, rest) = take_row(alloc, plan.kept_columns(t).len(), text)?;
         let key = key_of_row(alloc, plan, t, &row)?;
         if !self.rows.is_behind_all(&key) {
             return Err(LineFault::Bad);
@@ -103,12 +103,12 @@ impl DumpRows {
 /// The key of a row of table `t`.
 fn key_of_row(alloc: Global, plan: &Plan, t: u8, row: &RowBuf) -> Result<Key, LineFault>
     requires table { t < length plan.now.tables }
-    requires columns { length row.now ≡ length (columns_of plan.now t) }
-    ensures ok { IfOk result (λ key. (key_of plan.now t row.now ≡ Ok key) × (key.table ≡ t)) }
-    ensures bad { result ≡ Err LineFault.Bad → IsErr (key_of plan.now t row.now) }
-    ensures memory { result ≡ Err LineFault.Memory → IsOk (key_of plan.now t row.now) }
+    requires columns { length row.now ≡ length (kept_columns_of plan.now t) }
+    ensures ok { IfOk result (λ key. (key_of_kept plan.now t row.now ≡ Ok key) × (key.table ≡ t)) }
+    ensures bad { result ≡ Err LineFault.Bad → IsErr (key_of_kept plan.now t row.now) }
+    ensures memory { result ≡ Err LineFault.Memory → IsOk (key_of_kept plan.now t row.now) }
 {
-    match key_of(plan, t, &row.view()) {
+    match key_of_kept(plan, t, &row.view()) {
         Ok(key) => Ok(Key::from_view(alloc, &key)?),
         Err(_) => Err(LineFault::Bad),
     }
@@ -116,7 +116,7 @@ fn key_of_row(alloc: Global, plan: &Plan, t: u8, row: &RowBuf) -> Result<Key, Li
 
 /// Reads a dump of the plan's tables: exactly the texts that `write_dump` writes of rows that fit them are
 /// read, and then as these rows. `BadDump` names the first line, from 1, that can't stand behind those
-/// before it: any other than the next table's or a row's of the table that began last, as wide as it, with a
+/// before it: any other than the next table's or a row's of the table that began last, of its kept columns, with a
 /// key that can be read and is greater than those so far; where lines are missing, the one behind the last.
 /// A line without its end can't stand there. Any other error is want of memory, which comes of a line alone that
 /// stands behind the name of a table. Linear in the text.
