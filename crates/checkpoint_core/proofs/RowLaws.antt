@@ -11,7 +11,7 @@ use Rattle.std.specs.List.{AllByRecursion, filter}
 use Rattle.std.specs.Ordering.{ordering_then, ordering_index}
 use Rattle.std.specs.Result.{result_ok}
 use Rattle.filter_rule.specs.PlanValue.{PlanValue}
-use Rattle.pk_copy.specs.KeyOf.{key_of}
+use Rattle.pk_copy.specs.KeyOfKept.{key_of_kept}
 use Rattle.pk_copy.specs.KeyOrder.{key_cmp, parts_cmp}
 use Rattle.pk_copy.specs.KeyValue.{KeyValue}
 use Rattle.source_feed.specs.History.{RowValue}
@@ -37,7 +37,7 @@ Given = ℕ × RowValue
 -- a row of a table has one key
 pub same_row_key : (plan : PlanValue) (t : ℕ) (row : RowValue) (one other : KeyValue) → IsRowOf plan t row one → IsRowOf plan t row other → one ≡ other
 same_row_key plan t row one other p q =
-    same_Some one other (ap result_ok (sym p.keyed.key ∙ ap (λ (n : ℕ). key_of plan n row) (p.table ∙ sym q.table) ∙ q.keyed.key))
+    same_Some one other (ap result_ok (sym p.keyed.key ∙ ap (λ (n : ℕ). key_of_kept plan n row) (p.table ∙ sym q.table) ∙ q.keyed.key))
 
 -- a row with its key behind others
 pub next_rows : (plan : PlanValue) (t : ℕ) (row : RowValue) (old new : ImageRows) → IsNextRow plan t row old new → AreRows plan (map of_table old) old → AreRows plan (map of_table new) new
@@ -97,7 +97,7 @@ module _ (plan : PlanValue) (t : ℕ) (row : RowValue) (later : List Given) wher
       let first : of_table x ≡ of_table o = ap (λ (xs : List Given). first_given xs (of_table o)) e in
       let table : x.0.table ≡ o.0.table = ap (λ (g : Given). g.0) first in
       let value : x.1 ≡ o.1 = ap (λ (g : Given). g.1) first in
-      let key : x.0 ≡ o.0 = same_Some x.0 o.0 (ap result_ok (sym keyed.0.key ∙ ap (λ (n : ℕ). key_of plan n x.1) table ∙ ap (key_of plan o.0.table) value ∙ k.0.key)) in
+      let key : x.0 ≡ o.0 = same_Some x.0 o.0 (ap result_ok (sym keyed.0.key ∙ ap (λ (n : ℕ). key_of_kept plan n x.1) table ∙ ap (key_of_kept plan o.0.table) value ∙ k.0.key)) in
       let rest : IsBehind plan old all t row = behind old all k.1 rising.1 keyed.1 (ap later_given e) in
       record {
         key = rest.key;

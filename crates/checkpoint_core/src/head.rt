@@ -7,7 +7,7 @@ ghost use Rattle.vevent.specs.ColumnView.{field_value};
 ghost use Rattle.checkpoint_laws.specs.Written.{fields_of_table, key_fields_of};
 ghost use Rattle.checkpoint_core.specs.Private.Reading.{OfEachTable, HasHead};
 
-use crate::texts::{fields_at, fields_of};
+use crate::texts::fields_at;
 use filter_rule::Plan;
 use gtid_set::{GtidFault, GtidSet, same_set_is_equality};
 use std::alloc::{AllocError, Global};
@@ -63,7 +63,7 @@ fn means(alloc: Global, text: &str, position: &GtidSet) -> Result<bool, AllocErr
     }
 }
 
-/// Whether an answer has the columns of table `t` and of its key. An error is want of memory.
+/// Whether an answer has the kept columns of table `t` and those of its key. An error is want of memory.
 fn has_columns(
     alloc: Global,
     plan: &Plan,
@@ -73,7 +73,7 @@ fn has_columns(
     requires { t < length plan.now.tables }
     ensures { IfOk result (λ yes. IsTrue yes ↔ ((answer.now.fields ≡ fields_of_table plan.now t) × (answer.now.pkfields ≡ key_fields_of plan.now t))) }
 {
-    let columns = fields_of(alloc, plan.columns(t))?;
+    let columns = fields_at(alloc, plan.columns(t), plan.kept_columns(t))?;
     let key_columns = fields_at(alloc, plan.columns(t), plan.key_columns(t))?;
     if !are_fields(answer.fields(), &columns) {
         return Ok(false);

@@ -10,7 +10,7 @@ ghost use Rattle.checkpoint_core.specs.Private.Reading.{IsRowOf, IsNextRow, AreR
 
 use crate::fault::ReadFault;
 use filter_rule::Plan;
-use pk_copy::{Key, key_of};
+use pk_copy::{Key, key_of_kept};
 use row_view::RowBytes;
 use std::alloc::Global;
 use vevent::{AnswerRows, TablePart};
@@ -22,10 +22,10 @@ fn key_for(alloc: Global, plan: &Plan, t: u8, row: &RowBytes<'_>) -> Result<Key,
     ensures err { IfErr result (IsNothing (IsRowOf plan.now t row.now)) }
 {
     let view = row.view();
-    if view.len() != plan.columns(t).len() {
+    if view.len() != plan.kept_columns(t).len() {
         return Err(ReadFault::Broken);
     }
-    match key_of(plan, t, &view) {
+    match key_of_kept(plan, t, &view) {
         Err(_) => Err(ReadFault::Broken),
         Ok(key) => Ok(Key::from_view(alloc, &key)?),
     }

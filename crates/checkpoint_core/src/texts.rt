@@ -75,20 +75,6 @@ fn field_of(column: &ColumnDef) -> ColumnField<'_>
     }
 }
 
-/// Columns as an answer names them.
-pub(crate) fn fields_of<'a>(
-    alloc: Global,
-    columns: &'a [ColumnDef],
-) -> Result<Vec<ColumnField<'a>>, AllocError>
-    ensures { IfOk result (λ fields. map field_value fields.items ≡ map field_of columns.now) }
-{
-    let mut fields = Vec::new(alloc);
-    for column in columns {
-        fields.push(field_of(column))?;
-    }
-    Ok(fields)
-}
-
 /// The column at a place, as an answer names it.
 fn field_at(columns: &[ColumnDef], place: usize) -> ColumnField<'_>
     requires { place < length columns.now }
@@ -167,7 +153,7 @@ fn table_text<'a>(
     Ok(TableText {
         name: name_of(plan, t),
         mark: kind_of(mark),
-        fields: fields_of(alloc, plan.columns(t))?,
+        fields: fields_at(alloc, plan.columns(t), plan.kept_columns(t))?,
         key_fields: fields_at(alloc, plan.columns(t), plan.key_columns(t))?,
         rows: table_rows(alloc, own, t)?,
         last: last_row(alloc, mark)?,
