@@ -18,11 +18,13 @@ use Rattle.target_tables.specs.Rising.{Ordered, IsRising}
 use Rattle.target_tables.specs.Touches.{last_at, change_at}
 use Rattle.target_tables.proofs.Order.{ordered_with}
 use Rattle.target_tables.proofs.Values.{none_above}
-use Rattle.source_feed.specs.History.{RowValue, passing}
+use Rattle.filter_rule.specs.PlanValue.{PlanValue}
+use Rattle.source_feed.specs.History.{RowValue, passing, kept_of}
 use Rattle.source_feed.specs.Image.{ImageRows, row_in, lent_row}
 use Rattle.source_feed.specs.Touches.{PutValue, TouchValue}
+use Rattle.board_laws.specs.KeptRows.{kept_row}
 use Rattle.board_laws.specs.Touching.{put_by}
-use Rattle.apply_core.specs.Private.Changes.{Change, change_of, lent_change, put_row}
+use Rattle.apply_core.specs.Private.Changes.{Change, AreOfTables, change_of, kept_change, lent_change, put_row}
 use denote.Ref.{Bor}
 
 abbrev Lent : Type 0
@@ -101,6 +103,32 @@ falling-lent : (kept : List Lent) → IsRising (flip_args lent_cmp) kept → Ord
 falling-lent [] h = tt
 falling-lent (change ∷ later) h = (each_lent change.0.now later h.0, falling-lent later h.1)
 
+-- ---- the kept columns of what is left
+
+kept_end : (plan : PlanValue) (x : Change) (k : KeyValue) (v : Option (Option RowValue)) (b : Bool) → (b ≡ true → k ≡ x.0)
+    → option_or (option_map (option_map (kept_of plan k)) v) (cond b (Some (option_map (kept_of plan x.0) x.1)) None) ≡ option_map (option_map (kept_of plan k)) (option_or v (cond b (Some x.1) None))
+kept_end plan x k (Some put) b same = refl
+kept_end plan x k None true same = ap (λ (key : KeyValue). Some (option_map (kept_of plan key) x.1)) (sym (same refl))
+kept_end plan x k None false same = refl
+
+-- what comes last of changes with their kept columns is what comes last, with its kept columns
+last_at-kept : (ties : (a b : KeyValue) → key_cmp a b ≡ Equal → a ≡ b) (plan : PlanValue) (xs : Rows) (k : KeyValue) → last_at key_cmp (map (kept_change plan) xs) k ≡ option_map (option_map (kept_of plan k)) (last_at key_cmp xs k)
+last_at-kept ties plan [] k = refl
+last_at-kept ties plan (x ∷ xs) k =
+    ap (λ (v : Option (Option RowValue)). option_or v (cond (eq_by_cmp key_cmp k x.0) (Some (option_map (kept_of plan x.0) x.1)) None)) (last_at-kept ties plan xs k)
+    ∙ kept_end plan x k (last_at key_cmp xs k) (eq_by_cmp key_cmp k x.0) (λ e. ties k x.0 ((Equal-is (key_cmp k x.0)).0 e))
+
+each_kept : (plan : PlanValue) (k : KeyValue) (xs : Rows) → AllByRecursion (λ change. key_cmp k change.0 ≡ Less) xs → AllByRecursion (λ change. key_cmp k change.0 ≡ Less) (map (kept_change plan) xs)
+each_kept plan k [] h = tt
+each_kept plan k (x ∷ xs) h = (h.0, each_kept plan k xs h.1)
+
+rising-kept : (plan : PlanValue) (xs : Rows) → IsRising key_cmp xs → IsRising key_cmp (map (kept_change plan) xs)
+rising-kept plan [] h = tt
+rising-kept plan (x ∷ xs) h = (each_kept plan x.0 xs h.0, rising-kept plan xs h.1)
+
+pub tables-reversed : (plan : PlanValue) (changes : List Lent) → AreOfTables plan (map lent_change changes) → AreOfTables plan (map lent_change (reverse changes))
+tables-reversed plan changes h = subst (AreOfTables plan) (sym (map-reverse lent_change changes)) (all_reversed _ (map lent_change changes) h)
+
 -- ---- the touches of copied keys
 
 module _ (ties : (a b : KeyValue) → key_cmp a b ≡ Equal → a ≡ b) (marks : Marks) where
@@ -144,12 +172,12 @@ module _ (ties : (a b : KeyValue) → key_cmp a b ≡ Equal → a ≡ b) (marks 
       ∙ one_more (inside touch) (is_inside marks k) same (last_at key_cmp later k) touch.1 (λ e. ap (is_inside marks) (ties k touch.0 ((Equal-is (key_cmp k touch.0)).0 e)))
 
   -- the last of the lent changes of each key, the other way round, is what the touches leave at copied keys
-  pub left-by_last : (touches : List TouchValue) (changes kept : List Lent) (puts : Rows)
+  lent-by_last : (touches : List TouchValue) (changes kept : List Lent) (puts : Rows)
       → map lent_change changes ≡ map change_of (filter inside touches)
       → ((k : Bor KeyValue) → change_at lent_cmp kept k ≡ last_at lent_cmp changes k)
       → puts ≡ map lent_change (reverse kept)
       → (key : KeyValue) → last_at key_cmp puts key ≡ cond (is_inside marks key) (option_map left (last_at key_cmp touches key)) None
-  left-by_last touches changes kept puts lent last made key =
+  lent-by_last touches changes kept puts lent last made key =
       ap (λ (ps : Rows). last_at key_cmp ps key) (made ∙ map-reverse lent_change kept)
       ∙ last_at-reverse (map lent_change kept) key
       ∙ sym (change_at-lent kept (lend key))
@@ -158,17 +186,37 @@ module _ (ties : (a b : KeyValue) → key_cmp a b ≡ Equal → a ≡ b) (marks 
       ∙ ap (λ (cs : Rows). last_at key_cmp cs key) lent
       ∙ last_at-copied touches key
 
-pub rising-by_last : (kept : List Lent) (puts : Rows) → IsRising (flip_args lent_cmp) kept → puts ≡ map lent_change (reverse kept) → IsRising key_cmp puts
-rising-by_last kept puts falling made = subst (IsRising key_cmp) (sym (made ∙ map-reverse lent_change kept)) (rising-reverse (map lent_change kept) (falling-lent kept falling))
+  -- and with their kept columns these
+  pub left-by_last : (plan : PlanValue) (touches : List TouchValue) (changes kept : List Lent) (puts : Rows)
+      → map lent_change changes ≡ map change_of (filter inside touches)
+      → ((k : Bor KeyValue) → change_at lent_cmp kept k ≡ last_at lent_cmp changes k)
+      → puts ≡ map (kept_change plan) (map lent_change (reverse kept))
+      → (key : KeyValue) → last_at key_cmp puts key ≡ option_map (option_map (kept_of plan key)) (cond (is_inside marks key) (option_map left (last_at key_cmp touches key)) None)
+  left-by_last plan touches changes kept puts lent last made key =
+      ap (λ (ps : Rows). last_at key_cmp ps key) made
+      ∙ last_at-kept ties plan (map lent_change (reverse kept)) key
+      ∙ ap (option_map (option_map (kept_of plan key))) (lent-by_last touches changes kept (map lent_change (reverse kept)) lent last refl key)
+
+pub rising-by_last : (plan : PlanValue) (kept : List Lent) (puts : Rows) → IsRising (flip_args lent_cmp) kept → puts ≡ map (kept_change plan) (map lent_change (reverse kept)) → IsRising key_cmp puts
+rising-by_last plan kept puts falling made =
+    subst (IsRising key_cmp) (sym (made ∙ ap (map (kept_change plan)) (map-reverse lent_change kept))) (rising-kept plan (reverse (map lent_change kept)) (rising-reverse (map lent_change kept) (falling-lent kept falling)))
 
 -- ---- the rows of a chunk
 
-abbrev put_lent : Bor KeyValue × Bor RowValue → Change
-put_lent row = put_row (lent_row row)
+abbrev put_lent : PlanValue → Bor KeyValue × Bor RowValue → Change
+put_lent plan row = put_row (kept_row plan (lent_row row))
 
-each_of : (rows : List (Bor KeyValue × Bor RowValue)) → map put_lent rows ≡ map put_row (map lent_row rows)
-each_of [] = refl
-each_of (x ∷ rows) = ap (λ (later : Rows). put_lent x ∷ later) (each_of rows)
+each_of : (plan : PlanValue) (rows : List (Bor KeyValue × Bor RowValue)) → map (put_lent plan) rows ≡ map put_row (map (kept_row plan) (map lent_row rows))
+each_of plan [] = refl
+each_of plan (x ∷ rows) = ap (λ (later : Rows). put_lent plan x ∷ later) (each_of plan rows)
+
+above-picked : (plan : PlanValue) (k : KeyValue) (rows : ImageRows) → AllByRecursion (λ row. key_cmp k row.0 ≡ Less) rows → AllByRecursion (λ row. key_cmp k row.0 ≡ Less) (map (kept_row plan) rows)
+above-picked plan k [] h = tt
+above-picked plan k (x ∷ rows) h = (h.0, above-picked plan k rows h.1)
+
+rising-picked : (plan : PlanValue) (rows : ImageRows) → IsRising key_cmp rows → IsRising key_cmp (map (kept_row plan) rows)
+rising-picked plan [] h = tt
+rising-picked plan (x ∷ rows) h = (above-picked plan x.0 rows h.0, rising-picked plan rows h.1)
 
 last_at-rows : (rows : ImageRows) (k : KeyValue) → IsRising key_cmp rows → last_at key_cmp (map put_row rows) k ≡ put_by rows k
 last_at-rows [] k h = refl
@@ -194,8 +242,11 @@ rising-rows : (rows : ImageRows) → IsRising key_cmp rows → IsRising key_cmp 
 rising-rows [] h = tt
 rising-rows (x ∷ rows) h = (each_put x.0 rows h.0, rising-rows rows h.1)
 
-pub put-by_rows : (rows : List (Bor KeyValue × Bor RowValue)) (puts : Rows) → puts ≡ map put_lent rows → IsRising key_cmp (map lent_row rows) → (key : KeyValue) → last_at key_cmp puts key ≡ put_by (map lent_row rows) key
-put-by_rows rows puts made rising key = ap (λ (ps : Rows). last_at key_cmp ps key) (made ∙ each_of rows) ∙ last_at-rows (map lent_row rows) key rising
+pub put-by_rows : (plan : PlanValue) (rows : List (Bor KeyValue × Bor RowValue)) (puts : Rows) → puts ≡ map (put_lent plan) rows → IsRising key_cmp (map lent_row rows)
+    → (key : KeyValue) → last_at key_cmp puts key ≡ put_by (map (kept_row plan) (map lent_row rows)) key
+put-by_rows plan rows puts made rising key =
+    ap (λ (ps : Rows). last_at key_cmp ps key) (made ∙ each_of plan rows) ∙ last_at-rows (map (kept_row plan) (map lent_row rows)) key (rising-picked plan (map lent_row rows) rising)
 
-pub rising-by_rows : (rows : List (Bor KeyValue × Bor RowValue)) (puts : Rows) → puts ≡ map put_lent rows → IsRising key_cmp (map lent_row rows) → IsRising key_cmp puts
-rising-by_rows rows puts made rising = subst (IsRising key_cmp) (sym (made ∙ each_of rows)) (rising-rows (map lent_row rows) rising)
+pub rising-by_rows : (plan : PlanValue) (rows : List (Bor KeyValue × Bor RowValue)) (puts : Rows) → puts ≡ map (put_lent plan) rows → IsRising key_cmp (map lent_row rows) → IsRising key_cmp puts
+rising-by_rows plan rows puts made rising =
+    subst (IsRising key_cmp) (sym (made ∙ each_of plan rows)) (rising-rows (map (kept_row plan) (map lent_row rows)) (rising-picked plan (map lent_row rows) rising))

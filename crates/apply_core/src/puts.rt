@@ -1,19 +1,21 @@
 //! Keys and rows in memory of their own, as a step puts them into the target. They are made before the
 //! target is touched, and where it is shared before it is taken.
 
-ghost use Rattle.std.specs.Prelude.{◌≡◌, ◌++◌, [], List, map, reverse, Some, IfOk};
-ghost use Rattle.std.specs.List.{filter};
+ghost use Rattle.std.specs.Prelude.{◌≡◌, ◌++◌, [], List, map, reverse, Some, IfOk, IfSome};
+ghost use Rattle.std.specs.List.{AllByRecursion, filter};
 ghost use Rattle.std.specs.Option.{option_map, option_and_then, option_copied};
 ghost use Rattle.pk_copy.specs.KeyOrder.{key_cmp};
 ghost use Rattle.pk_copy.specs.KeyValue.{KeyValue};
 ghost use Rattle.pk_copy.specs.Marks.{is_inside};
 ghost use Rattle.target_tables.specs.Rising.{IsRising};
 ghost use Rattle.target_tables.specs.Touches.{last_at};
-ghost use Rattle.source_feed.specs.History.{passing};
+ghost use Rattle.source_feed.specs.History.{passing, kept_of};
 ghost use Rattle.source_feed.specs.Image.{lent_row};
+ghost use Rattle.board_laws.specs.KeptRows.{kept_row};
 ghost use Rattle.board_laws.specs.Touching.{left_by, put_by};
-ghost use Rattle.apply_core.specs.Private.Changes.{change_of, lent_change, put_row};
+ghost use Rattle.apply_core.specs.Private.Changes.{IsOfTable, AreOfTables, kept_change, change_of, lent_change, put_row};
 
+use filter_rule::Plan;
 use pk_copy::{CopyState, Key, LentKey, keys_tie_where_they_are_equal};
 use row_view::{RowBuf, RowBytes};
 use source_feed::{Prepared, Touch};
@@ -38,8 +40,8 @@ impl Puts {
         }
     }
 
-    /// What a group leaves at the copied keys, by rising key: the last touch of each key puts a row that
-    /// passes the plan's filter, and else takes the key away. Takes memory for these touches alone; an
+    /// What a group leaves at the copied keys, by rising key: the last touch of each key puts the kept
+    /// columns of a row that passes the plan's filter, and else takes the key away. Takes memory for these touches alone; an
     /// error is want of it.
     pub fn of_group(
         alloc: Global,
@@ -53,20 +55,23 @@ impl Puts {
     }
 }
 
-/// A key and the row that is put there, in memory of their own; without a row the key is taken away.
+/// A key and the kept columns of the row that is put there, in memory of their own; without a row the key
+/// is taken away. That the key is of a table of the plan and the row as wide as it is the caller's.
 fn owned(
     alloc: Global,
+    plan: &Plan,
     key: &LentKey<'_>,
     row: Option<&RowBytes<'_>>,
 ) -> Result<(Key, Option<RowBuf>), AllocError>
-    ensures { IfOk result (λ put. put ≡ (key.now, option_copied row.entry)) }
+    requires { IfSome (option_copied row.entry) (λ row. IsOfTable plan.now key.now row) }
+    ensures { IfOk result (λ put. put ≡ (key.now, option_map (kept_of plan.now key.now) (option_copied row.entry))) }
 {
-    let key = Key::from_view(alloc, &key.view())?;
+    let owned_key = Key::from_view(alloc, &key.view())?;
     let row = match row {
-        Some(row) => Some(RowBuf::from_bytes(alloc, row)?),
+        Some(row) => Some(RowBuf::pick(alloc, &row.view(), plan.kept_columns(key.table()))?),
         None => None,
     };
-    Ok((key, row))
+    Ok((owned_key, row))
 }
 
 /// The row that a touch puts into the target: none where it leaves nothing or the row doesn't pass.
@@ -96,17 +101,19 @@ fn lent_changes<'g, 'h>(
     Ok(changes)
 }
 
-/// Changes in memory of their own, the last one first.
+/// Changes with the kept columns of their rows, in memory of their own, the last one first.
 fn owned_changes(
     alloc: Global,
+    plan: &Plan,
     mut changes: Vec<(&LentKey<'_>, Option<RowBytes<'_>>)>,
 ) -> Result<Vec<(Key, Option<RowBuf>)>, AllocError>
-    ensures { IfOk result (λ puts. puts.items ≡ map lent_change (reverse changes.entry.items)) }
+    requires { AreOfTables plan.now (map lent_change changes.entry.items) }
+    ensures { IfOk result (λ puts. puts.items ≡ map (kept_change plan.now) (map lent_change (reverse changes.entry.items))) }
 {
     changes.reverse();
     let mut puts = Vec::with_capacity(alloc, changes.len())?;
     for (key, row) in &changes {
-        puts.push(owned(alloc, key, row.as_ref())?)?;
+        puts.push(owned(alloc, plan, key, row.as_ref())?)?;
     }
     Ok(puts)
 }
@@ -125,23 +132,25 @@ fn puts_of_group(
     keys_tie_where_they_are_equal();
     let changes = lent_changes(alloc, marks, group.touches())?;
     let last = last_touches(alloc, changes)?;
-    let puts = owned_changes(alloc, last)?;
+    let puts = owned_changes(alloc, group.plan(), last)?;
     Ok(puts)
 }
 
-/// The rows of a chunk at their keys, in memory of their own. That the keys rise is the caller's. An error
-/// is want of memory.
+/// The kept columns of the rows of a chunk at their keys, in memory of their own. That the keys rise, and
+/// that each row is of a table of the plan, is the caller's. An error is want of memory.
 pub(crate) fn puts_of_rows(
     alloc: Global,
+    plan: &Plan,
     rows: &[(&LentKey<'_>, &RowBytes<'_>)],
 ) -> Result<Vec<(Key, Option<RowBuf>)>, AllocError>
-    requires { IsRising key_cmp (map lent_row rows.now) }
-    ensures put { IfOk result (λ puts. (key : KeyValue) → last_at key_cmp puts.items key ≡ put_by (map lent_row rows.now) key) }
+    requires rising { IsRising key_cmp (map lent_row rows.now) }
+    requires of_tables { AllByRecursion (λ row. IsOfTable plan.now row.0 row.1) (map lent_row rows.now) }
+    ensures put { IfOk result (λ puts. (key : KeyValue) → last_at key_cmp puts.items key ≡ put_by (map (kept_row plan.now) (map lent_row rows.now)) key) }
     ensures rising { IfOk result (λ puts. IsRising key_cmp puts.items) }
 {
     let mut puts = Vec::with_capacity(alloc, rows.len())?;
     for (key, row) in rows {
-        puts.push(owned(alloc, key, Some(row))?)?;
+        puts.push(owned(alloc, plan, key, Some(row))?)?;
     }
     Ok(puts)
 }

@@ -89,7 +89,7 @@ impl<'h> Stream<'h> {
         let mut rows = self.rows_to_copy(alloc, c)?;
         let done = rows.len() <= c as usize;
         rows.truncate(c as usize);
-        let puts = puts_of_rows(alloc, &rows)?;
+        let puts = puts_of_rows(alloc, &self.plan, &rows)?;
         let last = last_key(alloc, &rows)?;
         let copied = Copied {
             rows: rows.len() as u32,

@@ -1,10 +1,12 @@
 -- The changes that a step makes in the target, before and behind the copy of their keys and rows.
-use Rattle.std.specs.Prelude.{Option, Some}
-use Rattle.std.specs.Option.{option_and_then}
+use Rattle.std.specs.Prelude.{◌≡◌, ◌<◌, List, length, IfSome, Option, Some}
+use Rattle.std.specs.List.{AllByRecursion}
+use Rattle.std.specs.Option.{option_map, option_and_then}
+use Rattle.filter_rule.specs.PlanValue.{PlanValue, columns_of}
 use Rattle.pk_copy.specs.KeyValue.{KeyValue}
 use Rattle.target_tables.specs.declared.fault.TableFault.{TableFault}
 use Rattle.target_tables.specs.declared.fault.TableFault.TheVariants as table
-use Rattle.source_feed.specs.History.{RowValue, passing}
+use Rattle.source_feed.specs.History.{RowValue, passing, kept_of}
 use Rattle.source_feed.specs.Touches.{TouchValue}
 use Rattle.board_laws.specs.declared.refusal.Refusal.{Refusal}
 use Rattle.board_laws.specs.declared.refusal.Refusal.TheVariants.{OwnedByOther, Memory}
@@ -21,6 +23,18 @@ change_of touch = (touch.0, option_and_then passing touch.1)
 -- a change whose key is lent
 abbrev pub lent_change : Bor KeyValue × Option RowValue → Change
 lent_change change = (change.0.now, change.1)
+
+-- a row is of a table of the plan, and as wide as it
+abbrev pub IsOfTable : PlanValue → KeyValue → RowValue → Type 0
+IsOfTable plan key row = (key.table < length plan.tables) × (length row ≡ length (columns_of plan key.table))
+
+-- each row that is left is of a table of the plan
+abbrev pub AreOfTables : PlanValue → List Change → Type 0
+AreOfTables plan changes = AllByRecursion (λ change. IfSome change.1 (IsOfTable plan change.0)) changes
+
+-- a change with the kept columns of its row
+abbrev pub kept_change : PlanValue → Change → Change
+kept_change plan change = (change.0, option_map (kept_of plan change.0) change.1)
 
 -- a row that is put
 abbrev pub put_row : KeyValue × RowValue → Change
