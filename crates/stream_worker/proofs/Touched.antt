@@ -14,7 +14,7 @@ use Rattle.stream_core.specs.declared.step.Step.{Step}
 use Rattle.stream_core.specs.declared.step.Step.TheVariants.{Offer, Advance, OpenAt, CopyRows, Close, Restart}
 use Rattle.target_tables.specs.Touches.{last_at, owner_in_the_way}
 use Rattle.source_feed.specs.declared.fault.FeedFault.{FeedFault}
-use Rattle.source_feed.specs.History.{RowValue, touches_in, passing, passed_at}
+use Rattle.source_feed.specs.History.{RowValue, touches_in, passing, kept_of, kept_at}
 use Rattle.source_feed.specs.Planned.{PlannedGroupValue, FeedValue}
 use Rattle.source_feed.specs.Touches.{PutValue, TouchValue, PreparedValue, prepared, prepared_at}
 use Rattle.source_feed.proofs.ImageLaws.{last_at-append}
@@ -110,8 +110,8 @@ touched_front k groups key touched =
 pub cut_front : (state : State) (key : KeyValue) (row : RowValue) → cut_of state key ≡ Some row → IsTouchedIn (take state.applied state.list) key
 cut_front state key row e = λ untouched. none-some row (sym (no_row (is_inside state.marks key) untouched) ∙ e)
   where
-    no_row : (b : Bool) → last_at key_cmp (touches_in (take state.applied state.list)) key ≡ None → cond b (passed_at state.list state.applied key) None ≡ None
-    no_row true untouched = ap (λ (t : Option (Option PutValue)). option_and_then passing (option_and_then (λ put. put) t)) untouched
+    no_row : (b : Bool) → last_at key_cmp (touches_in (take state.applied state.list)) key ≡ None → cond b (kept_at state.plan state.list state.applied key) None ≡ None
+    no_row true untouched = ap (λ (t : Option (Option PutValue)). option_map (kept_of state.plan key) (option_and_then passing (option_and_then (λ put. put) t))) untouched
     no_row false untouched = refl
 
 -- a key that a front of a stream's list touches its feed touches

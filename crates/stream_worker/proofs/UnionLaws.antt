@@ -14,7 +14,7 @@ use Rattle.pk_copy.specs.Marks.{Marks, AreMarks, IsOfCurrent, current_mark, cove
 use Rattle.target_tables.specs.Contents.{value_at}
 use Rattle.target_tables.specs.Rising.{IsRising}
 use Rattle.target_tables.specs.Touches.{last_at}
-use Rattle.source_feed.specs.History.{RowValue, touches_in, passing, passed_at}
+use Rattle.source_feed.specs.History.{RowValue, touches_in, passing, kept_of, kept_at}
 use Rattle.source_feed.specs.Planned.{FeedValue}
 use Rattle.source_feed.specs.Prepared.{IsTouchUnder}
 use Rattle.source_feed.specs.Touches.{PutValue, TouchValue, PreparedValue}
@@ -30,7 +30,7 @@ use Rattle.board_laws.proofs.History.{passed_at-alike}
 use Rattle.apply_core.specs.Shown.{all_rows}
 use Rattle.apply_core.proofs.ShowLaws.{all-unowned}
 use Rattle.stream_worker.proofs.CourseLaws.{running-done}
-use Rattle.stream_worker.specs.Ended.{HasEnded, IsFedBoard, AllHaveEnded, kept_of, kept_by, KeepApart, IsRowsUnion}
+use Rattle.stream_worker.specs.Ended.{HasEnded, IsFedBoard, AllHaveEnded, kept_of_feed, kept_by, KeepApart, IsRowsUnion}
 
 -- ---- keys of planned tables
 
@@ -80,15 +80,17 @@ inside-all marks are all key = by marks.upto are.current (nat_lt key.table marks
 
 module _ (ties : Ties) (feed : FeedValue) (state : State) (sound : IsSoundState state) (reads : ReadsFeed feed state) (ended : HasEnded feed state) where
   -- its list is all of the feed's groups
-  kept-whole : (key : KeyValue) → passed_at state.list state.applied key ≡ kept_of feed key
+  kept-whole : (key : KeyValue) → kept_at state.plan state.list state.applied key ≡ kept_of_feed feed key
   kept-whole key =
       let enough : length feed.groups ≤ reads.length_read =
       (let most : length (take reads.length_read (sound_groups feed)) ≤ reads.length_read = length-take_most reads.length_read (sound_groups feed) in
       let many : length (take reads.length_read (sound_groups feed)) ≡ length feed.groups = ap (λ (xs : List PreparedValue). length xs) (sym reads.list) ∙ ended.read in
       omega (arith, most, many)) in
-      ap (λ n. passed_at state.list n key) ended.applied
-      ∙ passed_at-alike state.list (sound_groups feed) (length feed.groups) key
-      (ap (λ (xs : List PreparedValue). take (length feed.groups) xs) reads.list ∙ take-fewer (length feed.groups) reads.length_read (sound_groups feed) enough)
+      ap (λ n. kept_at state.plan state.list n key) ended.applied
+      ∙ ap (option_map (kept_of state.plan key))
+      (passed_at-alike state.list (sound_groups feed) (length feed.groups) key
+      (ap (λ (xs : List PreparedValue). take (length feed.groups) xs) reads.list ∙ take-fewer (length feed.groups) reads.length_read (sound_groups feed) enough))
+      ∙ ap (λ (plan : PlanValue). kept_at plan (sound_groups feed) (length feed.groups) key) reads.plan
 
   touched-tables : AllByRecursion (IsOfTable state.marks.tables) (touches_in (take state.applied state.list))
   touched-tables =
@@ -97,26 +99,26 @@ module _ (ties : Ties) (feed : FeedValue) (state : State) (sound : IsSoundState 
       let here : slice_get state.list i ≡ Some group = slice_get-take state.applied state.list i group e in
       tables_of group.plan state.marks.tables (ap (λ (plan : PlanValue). length plan.tables) (sound.list.planned i group here) ∙ sym sound.tables) group.touches (sound.list.prepared i group here).touches)
 
-  ended-cut : (key : KeyValue) → cut_of state key ≡ kept_of feed key
-  ended-cut key = ap (λ b. cond b (passed_at state.list state.applied key) None) (inside-all state.marks sound.marks (running-done (standing_of state) ended.running) key) ∙ by (nat_lt key.table state.marks.tables) refl ∙ kept-whole key
+  ended-cut : (key : KeyValue) → cut_of state key ≡ kept_of_feed feed key
+  ended-cut key = ap (λ b. cond b (kept_at state.plan state.list state.applied key) None) (inside-all state.marks sound.marks (running-done (standing_of state) ended.running) key) ∙ by (nat_lt key.table state.marks.tables) refl ∙ kept-whole key
     where
-      by : (b : Bool) → nat_lt key.table state.marks.tables ≡ b → cond b (passed_at state.list state.applied key) None ≡ passed_at state.list state.applied key
+      by : (b : Bool) → nat_lt key.table state.marks.tables ≡ b → cond b (kept_at state.plan state.list state.applied key) None ≡ kept_at state.plan state.list state.applied key
       by true e = refl
       by false e =
-          sym (ap (λ (t : Option (Option PutValue)). option_and_then passing (option_and_then (λ put. put) t))
+          sym (ap (λ (t : Option (Option PutValue)). option_map (kept_of state.plan key) (option_and_then passing (option_and_then (λ put. put) t)))
           (untouched ties state.marks.tables (touches_in (take state.applied state.list)) key touched-tables (ltb-false key.table state.marks.tables e)))
 
 -- ---- the rows that feeds keep
 
-none-kept : (feeds : List FeedValue) (key : KeyValue) → ((t : ℕ) (feed : FeedValue) → slice_get feeds t ≡ Some feed → kept_of feed key ≡ None) → kept_by feeds key ≡ None
+none-kept : (feeds : List FeedValue) (key : KeyValue) → ((t : ℕ) (feed : FeedValue) → slice_get feeds t ≡ Some feed → kept_of_feed feed key ≡ None) → kept_by feeds key ≡ None
 none-kept [] key h = refl
 none-kept (feed ∷ later) key h = ap (λ (v : Option RowValue). option_or v (kept_by later key)) (h 0 feed refl) ∙ none-kept later key (λ t f e. h (suc t) f e)
 
-one-kept : (feeds : List FeedValue) (key : KeyValue) (s : ℕ) (feed : FeedValue) (row : RowValue) → slice_get feeds s ≡ Some feed → kept_of feed key ≡ Some row
-    → ((t : ℕ) (other : FeedValue) → t ≢ s → slice_get feeds t ≡ Some other → kept_of other key ≡ None) → kept_by feeds key ≡ Some row
+one-kept : (feeds : List FeedValue) (key : KeyValue) (s : ℕ) (feed : FeedValue) (row : RowValue) → slice_get feeds s ≡ Some feed → kept_of_feed feed key ≡ Some row
+    → ((t : ℕ) (other : FeedValue) → t ≢ s → slice_get feeds t ≡ Some other → kept_of_feed other key ≡ None) → kept_by feeds key ≡ Some row
 one-kept [] key s feed row at e others = absurd (none-some feed at)
 one-kept (first ∷ later) key zero feed row at e others =
-    ap (λ (f : FeedValue). option_or (kept_of f key) (kept_by later key)) (same_Some first feed at) ∙ ap (λ (v : Option RowValue). option_or v (kept_by later key)) e
+    ap (λ (f : FeedValue). option_or (kept_of_feed f key) (kept_by later key)) (same_Some first feed at) ∙ ap (λ (v : Option RowValue). option_or v (kept_by later key)) e
 one-kept (first ∷ later) key (suc s) feed row at e others =
     ap (λ (v : Option RowValue). option_or v (kept_by later key)) (others 0 first (λ is. absurd (omega (arith, is))) refl)
     ∙ one-kept later key s feed row at e (λ t other ne here. others (suc t) other (λ is. ne (omega (arith, is))) here)
@@ -142,7 +144,7 @@ there_is (x ∷ xs) (suc i) h = there_is xs i (omega (arith, h))
 
 module _ (ties : Ties) (feeds : List FeedValue) (board : Meaning) (fed : IsFedBoard feeds board) (ended : AllHaveEnded feeds board) where
   -- a feed has a stream, whose row at a key is what the feed keeps there
-  own-kept : (s : ℕ) (feed : FeedValue) → slice_get feeds s ≡ Some feed → (key : KeyValue) → own_row s (value_at key_cmp board.rows key) ≡ kept_of feed key
+  own-kept : (s : ℕ) (feed : FeedValue) → slice_get feeds s ≡ Some feed → (key : KeyValue) → own_row s (value_at key_cmp board.rows key) ≡ kept_of_feed feed key
   own-kept s feed at key =
       let within : s < length board.streams = (let less : s < length feeds = slice_get_within feeds s feed at in omega (arith, less, fed.count)) in
       let here : (state : State) × (slice_get board.streams s ≡ Some state) = there_is board.streams s within in

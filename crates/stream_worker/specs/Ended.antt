@@ -7,7 +7,7 @@ use Rattle.stream_core.specs.declared.phase.Phase.TheVariants.{Running}
 use Rattle.stream_core.specs.Standing.{phase_of}
 use Rattle.target_tables.specs.Rising.{IsRising}
 use Rattle.vdiff_core.specs.RowsValue.{RowsValue, row_with_key}
-use Rattle.source_feed.specs.History.{RowValue, passed_at}
+use Rattle.source_feed.specs.History.{KeptRow, kept_at}
 use Rattle.source_feed.specs.Planned.{FeedValue}
 use Rattle.board_laws.specs.Meaning.{State, Meaning}
 use Rattle.board_laws.specs.Lawful.{standing_of, IsLawful}
@@ -50,20 +50,20 @@ AreAsBefore streams old new = (s : ℕ) → ¬ (IsNamedStream streams s) → sli
 
 -- ---- the rows of whole feeds
 
--- the row that all groups of a feed left at a key, if it passes the filter
-abbrev pub kept_of : FeedValue → KeyValue → Option RowValue
-kept_of feed key = passed_at (sound_groups feed) (length feed.groups) key
+-- the kept columns of the row that all groups of a feed left at a key, if it passes the filter
+abbrev pub kept_of_feed : FeedValue → KeyValue → Option KeptRow
+kept_of_feed feed key = kept_at feed.plan (sound_groups feed) (length feed.groups) key
 
 -- the row that one of the feeds keeps at a key: the first that keeps one there
-abbrev pub kept_by : List FeedValue → KeyValue → Option RowValue
+abbrev pub kept_by : List FeedValue → KeyValue → Option KeptRow
 kept_by [] key = None
-kept_by (feed ∷ later) key = option_or (kept_of feed key) (kept_by later key)
+kept_by (feed ∷ later) key = option_or (kept_of_feed feed key) (kept_by later key)
 
 -- no two of the feeds keep a row at one key
 abbrev pub KeepApart : List FeedValue → Type 0
 KeepApart feeds =
     (s t : ℕ) (one other : FeedValue) (key : KeyValue) → slice_get feeds s ≡ Some one → slice_get feeds t ≡ Some other
-    → kept_of one key ≢ None → kept_of other key ≢ None → s ≡ t
+    → kept_of_feed one key ≢ None → kept_of_feed other key ≢ None → s ≡ t
 
 -- rows by rising key that are just those which the feeds keep, each of one feed alone
 pub record IsRowsUnion (feeds : List FeedValue) (rows : RowsValue) : Type 0 where
