@@ -4,7 +4,7 @@ use Rattle.std.specs.Option.{option_or}
 use Rattle.refusal_words.specs.declared.list.TheConstants.{LIST}
 use Rattle.refusal_words.specs.declared.wire.TheConstants.{ENDS_INSIDE, LONG_VARINT, GROUP_WIRE_TYPE, BAD_WIRE_TYPE, BAD_FIELD_NUMBER, ROW_IS_NO_LIST, LENGTHS_PAST_VALUES, MANY_COLUMNS, LONG_ROW, EVENT_IS_NO_LIST, MESSAGE_TWICE, EVENT_TYPE, NOT_UTF8, PARTIAL_ROW}
 use Rattle.refusal_words.specs.declared.position.TheConstants.{FLAVOUR, UUID, INTERVAL, COLON, LONG_POSITION, RANGE, NULL_UNDER_VINDEX, NUMBER_UNDER_VINDEX}
-use Rattle.refusal_words.specs.declared.workflow.TheConstants.{NOT_JSON, SHAPE, NO_COLUMN, COLUMN_TYPE, RULE, LIMIT, NULL_KEY, BAD_KEY}
+use Rattle.refusal_words.specs.declared.workflow.TheConstants.{NOT_JSON, SHAPE, NO_COLUMN, COLUMN_TYPE, RULE, LIMIT, OTHER_COLUMNS, NULL_KEY, BAD_KEY}
 use Rattle.refusal_words.specs.declared.target.TheConstants.{OTHER_ROW, MEMORY}
 use Rattle.refusal_words.specs.declared.feed.TheConstants.{CUT_MESSAGE, BAD_EVENT, NO_POSITION, DIVERGES, FIELDS_DIFFER, NO_FIELDS, ROW_WIDTH, OPEN_AT_END, OTHER_SHARD, BAD_ROW, NO_GROUP, MISPLACED, NOT_HEX, BAD_POSITION, LONG_FEED}
 use Rattle.refusal_words.specs.declared.steps.TheConstants.{GAP, NOTHING_READ, SNAPSHOT_REACHED, NOT_COPYING, SNAPSHOT_OPEN, SNAPSHOT_BEHIND, SNAPSHOT_NOT_READ, NO_SNAPSHOT, NOT_REACHED, OTHER_PLAN, OTHER_GROUP, OTHER_HISTORY, NO_STREAM}
@@ -55,6 +55,7 @@ workflow_texts =
     (54, COLUMN_TYPE.now) ∷
     (55, RULE.now) ∷
     (56, LIMIT.now) ∷
+    (57, OTHER_COLUMNS.now) ∷
     (61, NULL_KEY.now) ∷
     (62, BAD_KEY.now) ∷
     []

@@ -30,6 +30,7 @@ pub const LIST: &str = "\
 54   a column of the workflow has an unfit type
 55   a rule of the workflow can't be read or used
 56   the workflow has none or too many of something
+57   streams keep different columns of a table
 61   a row has NULL in its key
 62   a row's key has a value that is no number in range
 71   another stream's row stands at a key

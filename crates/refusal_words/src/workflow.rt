@@ -14,6 +14,7 @@ pub(crate) fn text_of(number: u64) -> Option<&'static str>
         54 => Some(COLUMN_TYPE),
         55 => Some(RULE),
         56 => Some(LIMIT),
+        57 => Some(OTHER_COLUMNS),
         61 => Some(NULL_KEY),
         62 => Some(BAD_KEY),
         _ => None,
@@ -46,7 +47,8 @@ pub const NO_COLUMN: &str = "\
 53   a column that the workflow names isn't there
 
 A column that the workflow names isn't among the columns of its table: in its
-key, its vindex or a filter. The line has the table and the column.
+key, its vindex or a filter, or among those that a filter lists. The line has
+the table and the column.
 Usual causes: a misspelt name, or another case: names are compared byte by
 byte.
 What to do: write it as it stands under the table's columns, or add the column
@@ -71,7 +73,8 @@ A rule of a stream's filter can't be read, or can't be used for a table. The
 line has the stream and the rule, both from 0.
 Usual causes: a regular expression other than /.*; a WHERE other than one
 in_keyrange; a key range for a table without a vindex; a range such as 80-40; a
-table in the text that isn't the one of `match`.
+table in the text that isn't the one of `match`; a list of columns without one
+of the table's key, or with one that stands twice.
 What to do: docs/FORMATS.md, 'Workflow file', lists the forms that are read.
 ";
 
@@ -83,6 +86,18 @@ The workflow has none or too many of something: it has 1 to 64 streams and 1 to
 Usual causes: an empty list of tables or streams; a table without a key.
 What to do: split a larger workflow by its tables; leave tables without a
 primary key out.
+";
+
+pub const OTHER_COLUMNS: &str = "\
+57   streams keep different columns of a table
+
+The rules of two streams list different columns of a table, or the same ones
+in another order, or one lists columns and the other keeps all. The line has
+the table.
+Usual causes: a rule of one shard that was changed alone; a list beside a
+select *.
+What to do: write the same list of columns in the first rule of every stream
+that matches the table. Which rows a stream keeps may differ.
 ";
 
 pub const NULL_KEY: &str = "\

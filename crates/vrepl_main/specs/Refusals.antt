@@ -3,7 +3,7 @@ use Rattle.std.specs.Prelude.{ℕ, List, [], ◌∷◌, ◌++◌, Option, Some, 
 use Rattle.vevent.specs.declared.fault.EventFault.TheVariants.{BadType}
 use Rattle.filter_rule.specs.Faults as plans
 use Rattle.filter_rule.specs.declared.fault.PlanFault.{PlanFault}
-use Rattle.filter_rule.specs.declared.fault.PlanFault.TheVariants.{NoSuchColumn, KeyType, BadRule}
+use Rattle.filter_rule.specs.declared.fault.PlanFault.TheVariants.{NoSuchColumn, KeyType, BadRule, ColumnsDiffer}
 use Rattle.source_feed.specs.FaultNumber as feed
 use Rattle.source_feed.specs.declared.fault.FeedFault.{FeedFault}
 use Rattle.source_feed.specs.declared.fault.FeedFault.TheVariants.{Event, Diverged}
@@ -47,11 +47,12 @@ column_text table column = codes " table " ++ table ++ codes " column " ++ colum
 abbrev pub rule_text : ℕ → ℕ → List ℕ
 rule_text stream rule = named_number (codes " stream ") stream ++ named_number (codes " rule ") rule
 
--- what stands behind the number of a refused workflow: a column, or a rule of a stream, both counted from 0
+-- what stands behind the number of a refused workflow: a column, a table, or a rule of a stream, both counted from 0
 abbrev pub workflow_details : PlanFault → List ℕ
 workflow_details (NoSuchColumn table column) = column_text (string_bytes table) (string_bytes column)
 workflow_details (KeyType table column) = column_text (string_bytes table) (string_bytes column)
 workflow_details (BadRule stream rule) = rule_text stream rule
+workflow_details (ColumnsDiffer table) = codes " table " ++ string_bytes table
 workflow_details _ = []
 
 -- what stands behind the number

@@ -193,6 +193,14 @@ fn print_column<E: Out>(
     put_str(err, text, column)
 }
 
+/// Prints which table is at fault.
+fn print_table<E: Out>(err: &mut E, text: &mut Gathered, table: &str) -> Result<(), OutFailed>
+    ensures { AddsText result (at (E.written err.old) text.old) (at (E.written err.new) text.new) (codes " table " ++ table.now) }
+{
+    put_all(err, text, b" table ")?;
+    put_str(err, text, table)
+}
+
 /// Prints which rule of which stream is at fault.
 fn print_rule<E: Out>(
     err: &mut E,
@@ -219,6 +227,7 @@ fn print_workflow_details<E: Out>(
             print_column(err, text, table.as_str(), column.as_str())
         }
         PlanFault::BadRule { stream, rule } => print_rule(err, text, *stream, *rule),
+        PlanFault::ColumnsDiffer { table } => print_table(err, text, table.as_str()),
         _ => Ok(()),
     }
 }
