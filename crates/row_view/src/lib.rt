@@ -27,4 +27,5 @@ pub use row_bytes::RowBytes;
 pub use steps::Steps;
 pub use written_columns::write_columns;
 pub use written_laws::rows_are_read_again;
+pub use written_picked::are_all;
 pub use written_row::{row_size, write_row};

@@ -97,8 +97,9 @@ pub(crate) fn put_picked(
     append_picked(out, row, places)
 }
 
-/// Whether the places are those of all columns of a row of so many, in order.
-pub(crate) fn are_all(places: &[u8], count: usize) -> bool
+/// Whether these places are those of all columns of a row of so many columns, in order, so that
+/// such a row picked by them is itself. Takes no memory.
+pub fn are_all(places: &[u8], count: usize) -> bool
     ensures { IsTrue result → (row : RowValue) → length row ≡ count → picked places.now row ≡ row }
 {
     let mut next: usize = 0;
