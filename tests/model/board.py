@@ -72,7 +72,7 @@ class Board:
                         raise Refused(90, b" group %d table %s cause %d" % (n, name, it))
                 yield table, key, row if is_after else None, passes
 
-    def kept(self, s, n):
+    def passed(self, s, n):
         """The rows of the first n groups that pass: of each key, what its last touch left."""
         touches = [it for i in range(1, n + 1) for it in self.touches(s, i)]
         found = {}
@@ -83,11 +83,14 @@ class Board:
         return found
 
     def cut(self, s, n, marks):
+        """The kept columns of the rows that pass, at the keys up to which the marks say that all is copied."""
+
         def is_inside(table, key):
             mark = marks[table]
             return mark == "done" or mark != "waits" and key <= mark
 
-        return {it: row for it, row in self.kept(s, n).items() if is_inside(*it)}
+        tables = self.workflow.tables
+        return {it: tables[it[0]].picked(row) for it, row in self.passed(s, n).items() if is_inside(*it)}
 
     def rows_of(self, s):
         it = self.streams[s]
@@ -155,7 +158,7 @@ class Board:
             raise Refused(109)
         at = it.done()
         mark, marks = it.marks[at], list(it.marks)
-        due = sorted(key for table, key in self.kept(s, it.applied) if table == at and (mark == "waits" or key > mark))
+        due = sorted(key for table, key in self.passed(s, it.applied) if table == at and (mark == "waits" or key > mark))
         is_done = len(due) <= count
         marks[at] = "done" if is_done else due[count - 1] if count else mark
         self.refuse_foreign(s, self.cut(s, it.applied, marks))

@@ -42,7 +42,7 @@ def save(board, version=2, count=None):
         part, rows = put_text(1, shard), board.rows_of(s)
         for t, table in enumerate(board.workflow.tables[:count]):
             mark = board.streams[s].marks[t]
-            answer = b"".join(put_message(1, put_field(*it)) for it in table.columns)
+            answer = b"".join(put_message(1, put_field(*it)) for it in table.kept_columns())
             answer += b"".join(put_message(2, put_field(*table.columns[it])) for it in table.key_places)
             answer += put_text(3, b"MySQL56/" + print_position(board.position(s)))
             answer += b"".join(put_message(4, put_row(rows[key])) for key in sorted(rows) if key[0] == t)
@@ -94,7 +94,7 @@ def table_part(data, span, table, version):
     part = message(data, span, (2,))
     need(version == 1 or part.text(3) == table.name)
     answer = message(data, (part.spans(2) or [(0, 0)])[0], (5,))
-    need(columns(data, answer.spans(1)) == table.columns)
+    need(columns(data, answer.spans(1)) == table.kept_columns())
     need(columns(data, answer.spans(2)) == [table.columns[it] for it in table.key_places])
     try:
         position = read_position(answer.text(3))
@@ -106,8 +106,8 @@ def table_part(data, span, table, version):
     rows, last = {}, None
     for it in answer.spans(4):
         said = row(data, it)
-        need(len(said) == len(table.columns))
-        key = table.key_of(said)
+        need(len(said) == len(table.kept))
+        key = table.key_of_kept(said)
         need(isinstance(key, tuple) and (last is None or last < key))
         last = key
         rows[key] = said
@@ -116,10 +116,7 @@ def table_part(data, span, table, version):
 
 def key_of_lastpk(table, said):
     need(len(said) == len(table.key_places))
-    whole = [None] * len(table.columns)
-    for place, value in zip(table.key_places, said):
-        whole[place] = value
-    key = table.key_of(whole)
+    key = table.key_in(said)
     need(isinstance(key, tuple))
     return key
 

@@ -70,7 +70,7 @@ def run_in_threads(is_hex, policy, workflow, feeds):
             unsound.append(refused)
         boards.append(board)
         for n in range(board.streams[s].read + 1):
-            for key in board.kept(s, n):
+            for key in board.passed(s, n):
                 at.setdefault(key, set()).add(s)
     shared = {key: who for key, who in at.items() if len(who) > 1}
     if unsound and not shared:

@@ -38,7 +38,7 @@ class Bent(Board):
             table = r.randrange(len(self.workflow.tables))
             row = self.case.row(self.workflow.tables[table])
             key = self.workflow.tables[table].key_of(row)
-            rows |= {(table, key): row} if isinstance(key, tuple) else {}
+            rows |= {(table, key): self.workflow.tables[table].picked(row)} if isinstance(key, tuple) else {}
             if rows and self.case.chance(0.5):
                 del rows[r.choice(list(rows))]
         return rows
@@ -156,7 +156,7 @@ class Case(Feeds):
                 steps += [("open", s, last), ("copy", s, 9)] * self.r.choice([0, 0, 0, 1]) + [("open", s, last)]
                 for it in steps:
                     board.reply(it)
-                rows = len(board.kept(s, board.streams[s].applied)) if board.streams[s].applied else 0
+                rows = len(board.passed(s, board.streams[s].applied)) if board.streams[s].applied else 0
                 board.reply(("copy", s, self.r.randrange(rows + 1)))
         return boards
 
@@ -197,7 +197,8 @@ class Case(Feeds):
             for row in [self.row(table)] * self.chance(0.5):
                 other |= {(t, table.key_of(row)): row} if isinstance(table.key_of(row), tuple) else {}
         for name, rows in (("source", one), ("target", other)):
-            self.files[name] = dump(self.read, rows) if self.read else b"table t\n"
+            kept = {key: tables[key[0]].picked(row) for key, row in rows.items()}
+            self.files[name] = dump(self.read, kept) if self.read else b"table t\n"
         self.files["workflow"] = self.said
         names = ["source", "target"]
         if self.chance(0.2):

@@ -31,24 +31,35 @@ def all_ignored(said):
     return found
 
 
-def ranged(table, stream):
-    """What a stream passes of a table: nothing, all, or a range as (column, vindex, start, end)."""
+def said_of(table, stream):
+    """What a stream's first rule for a table says, if it has one."""
     for rule in stream["filter"]["rules"]:
         if rule["match"] in ("/.*", table["name"]):
-            _, column, vindex, bounds = read_filter(rule.get("filter", "").encode())
-            if bounds is None:
-                return "all"
-            own = [it.encode() for it in table.get("vindex", ())]
-            return (*((column, vindex) if column is not None else own), *bounds)
+            return read_filter(rule.get("filter", "").encode())
     return None
 
 
-def words(it):
+def ranged(table, stream):
+    """What a stream passes of a table: nothing, all, or a range as (column, vindex, start, end)."""
+    said = said_of(table, stream)
+    if said is None:
+        return None
+    _, _, column, vindex, bounds = said
+    if bounds is None:
+        return "all"
+    own = [it.encode() for it in table.get("vindex", ())]
+    return (*((column, vindex) if column is not None else own), *bounds)
+
+
+def words(table, stream):
+    """What a stream keeps of a table: the columns that its rule lists, if it does, and the rows."""
+    said, it = said_of(table, stream), ranged(table, stream)
     if it is None:
         return b"no row"
+    columns = b"" if said[1] is None else b"columns %s " % b",".join(said[1])
     if it == "all":
-        return b"every row"
-    return b"range %s-%s of %s by %s" % (it[2].hex().encode(), it[3].hex().encode(), it[0], it[1])
+        return columns + b"every row"
+    return columns + b"range %s-%s of %s by %s" % (it[2].hex().encode(), it[3].hex().encode(), it[0], it[1])
 
 
 def rule_lines(data):
@@ -56,7 +67,7 @@ def rule_lines(data):
     said = read_json(data)
     lines = []
     for i, stream in enumerate(said["streams"]):
-        lines += [b"rule stream %d table %s %s" % (i, table["name"].encode(), words(ranged(table, stream))) for table in said["tables"]]
+        lines += [b"rule stream %d table %s %s" % (i, table["name"].encode(), words(table, stream)) for table in said["tables"]]
     return lines
 
 

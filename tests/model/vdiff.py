@@ -113,5 +113,5 @@ def read_line(table, line):
         if cell(value) != text:
             return None
         row.append(value)
-    key = table.key_of(row) if len(row) == len(table.columns) else 0
+    key = table.key_of_kept(row) if len(row) == len(table.kept) else 0
     return None if isinstance(key, int) else (key, row)

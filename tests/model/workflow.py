@@ -57,13 +57,8 @@ def keyspace_id(vindex, value):
     return number.to_bytes(8, "big")
 
 
-def read_filter(text):
-    """A filter as (table or nothing, column or nothing, vindex or nothing, range or nothing)."""
-    if not text:
-        return None, None, None, None
-    first = TOKEN.match(text)
-    if not (first and first[1] and first[1].lower() == b"select"):
-        return None, None, None, key_range(text)
+def tokens_of(text):
+    """The tokens of a text, each as its kind and what it says."""
     tokens, at = [], 0
     while text[at:].strip(b" \t\r\n"):
         it = TOKEN.match(text, at)
@@ -72,6 +67,39 @@ def read_filter(text):
         kind = next(i for i in range(1, 5) if it[i] is not None)
         tokens.append(("word name quoted sign".split()[kind - 1], it[kind]))
         at = it.end()
+    return tokens
+
+
+def is_from(token):
+    return token[0] == "word" and token[1].lower() == b"from"
+
+
+def read_list(tokens):
+    """Takes the columns of a list off the tokens, with its `from`: none of `*`."""
+    end = next((i for i, it in enumerate(tokens) if is_from(it)), None)
+    if end is None:
+        raise BadForm
+    listed = tokens[:end]
+    del tokens[: end + 1]
+    if listed == [("sign", b"*")]:
+        return None
+    names, marks = listed[::2], listed[1::2]
+    if len(listed) % 2 == 0 or any(kind not in ("word", "name") for kind, _ in names) or any(it != ("sign", b",") for it in marks):
+        raise BadForm
+    columns = [name for _, name in names]
+    if len({*columns}) < len(columns):
+        raise BadForm
+    return columns
+
+
+def read_filter(text):
+    """A filter as (table or nothing, list of columns or nothing, column or nothing, vindex or nothing, range or nothing)."""
+    if not text:
+        return None, None, None, None, None
+    first = TOKEN.match(text)
+    if not (first and first[1] and first[1].lower() == b"select"):
+        return None, None, None, None, key_range(text)
+    tokens = tokens_of(text)
 
     def take(*wanted):
         kind, said = tokens.pop(0) if tokens else (None, None)
@@ -81,11 +109,11 @@ def read_filter(text):
             raise BadForm
         return said
 
-    for key in (b"select", b"*", b"from"):
-        take(("sign", key) if key == b"*" else ("word", key))
+    take(("word", b"select"))
+    listed = read_list(tokens)
     table = take("name")
     if not tokens:
-        return table, None, None, None
+        return table, listed, None, None, None
     for kind, key in (("word", b"where"), ("word", b"in_keyrange"), ("sign", b"(")):
         take((kind, key))
     column = vindex = None
@@ -100,7 +128,7 @@ def read_filter(text):
     take(("sign", b")"))
     if tokens:
         raise BadForm
-    return table, column, vindex, bounds
+    return table, listed, column, vindex, bounds
 
 
 def need(holds):
@@ -173,6 +201,7 @@ class Table:
 
     def judge(self):
         self.key_places = [self.place(column) for column in self.key]
+        self.kept = list(range(len(self.columns)))
         if self.vindex:
             self.place(self.vindex[0])
         for column in self.key:
@@ -183,11 +212,25 @@ class Table:
 
     def key_of(self, row):
         """The parts of a row's key, or the number of its fault."""
-        values = [row[place] for place in self.key_places]
+        return self.key_in([row[place] for place in self.key_places])
+
+    def key_of_kept(self, row):
+        """The same of a row of kept columns."""
+        return self.key_in([row[self.kept.index(place)] for place in self.key_places])
+
+    def key_in(self, values):
         if None in values:
             return 61
         parts = [number_of(it) if self.is_number(i) else it for i, it in enumerate(values)]
         return 62 if None in parts else tuple(parts)
+
+    def picked(self, row):
+        """The kept columns of a row, in the order in which they are kept."""
+        return [row[place] for place in self.kept]
+
+    def kept_columns(self):
+        """The names and types of the kept columns."""
+        return self.picked(self.columns)
 
     def is_number(self, i):
         return self.columns[self.key_places[i]][1] in WHOLE
@@ -209,9 +252,12 @@ class Workflow:
         for table in self.tables:
             table.judge()
         self.filters = [[None] * len(self.tables) for _ in self.shards]
+        self.kept_by = [[None] * len(self.tables) for _ in self.shards]
         for stream, rules in enumerate(self.rules):
             for rule, (match, text) in enumerate(rules):
                 self.judge_rule(stream, rule, match, text)
+        for i, table in enumerate(self.tables):
+            self.keep(table, [by[i] for by in self.kept_by if by[i] is not None])
         self.columns = {table.name: table.columns for table in self.tables}
 
     def shape(self, said):
@@ -229,7 +275,7 @@ class Workflow:
     def judge_rule(self, stream, rule, match, text):
         bad = Refused(55, b" stream %d rule %d" % (stream, rule))
         try:
-            named, column, vindex, bounds = read_filter(text)
+            named, listed, column, vindex, bounds = read_filter(text)
         except BadForm:
             raise bad from None
         is_pattern = match.startswith(b"/")
@@ -239,14 +285,23 @@ class Workflow:
             if self.filters[stream][i] is not None or not (is_pattern or table.name == match):
                 continue
             self.filters[stream][i] = "all"
+            if bounds is not None and column is None and table.vindex is None:
+                raise bad
+            if listed is not None and not {*table.key} <= {*listed}:
+                raise bad
+            self.kept_by[stream][i] = [table.place(it) for it in (table.names if listed is None else listed)]
             if bounds is None:
                 continue
-            if column is None and table.vindex is None:
-                raise bad
             by = (column, vindex) if column is not None else table.vindex
             place = table.place(by[0])
             table.judge_vindex(*by)
             self.filters[stream][i] = place, by[1], bounds
+
+    def keep(self, table, kept):
+        """Keeps of a table what all streams that have a rule for it keep: all columns, where none has one."""
+        if any(it != kept[0] for it in kept):
+            raise Refused(57, b" table %s" % table.name)
+        table.kept = kept[0] if kept else table.kept
 
     def passes(self, stream, table, row):
         """Whether a row passes, or the number of the fault for which that isn't known."""
