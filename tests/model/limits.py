@@ -38,6 +38,12 @@ CONDITIONS = [
     "in_keyrange('-80')", "`in_keyrange`('-80')", " in_keyrange(where,'numeric','-80')", " in_keyrange(id,'numeric','')", " in_keyrange(1d,'numeric','-')",
     " in_keyrange(v,'binary','61-62')", " in_keyrange(v,'binary_md5','-80')", " in_keyrange(id,'reverse_bits','-80')", " in_keyrange(id,'binary','31-')",
 ]
+LISTS = [
+    "id", "id,v", " v , id ", "`id`", "v", "id,id", "id,`id`", "id,x", "x,id", "x", "v,x", "id,,v", "id,", ",id", "id v", "*,id", "id,*", "(id)", "'id'", "id,from", "from", "from,id",
+    "id,FROM", "id,`from`", "id,select", "ID", "id,``", "id,`v\t`", "",
+]
+FILTERS += [f"select {it} from t" for it in LISTS] + ["select`id`from`t`", "select id from", "select id", "select v from u", "select id from t where in_keyrange(x,'binary','-')"]
+FILTERS += ["select id from t where in_keyrange(v,'binary','61-62')", "select v from t where in_keyrange(x,'binary','-')", "select id,x from t where in_keyrange(y,'binary','-')"]
 FILTERS += ["select * from t where" + it for it in CONDITIONS] + [f"select * from t where in_keyrange('{it}')" for it in RANGES] + RANGES
 
 DOCUMENTS = [

@@ -4,7 +4,7 @@ import json
 from .workflow import TYPE, WHOLE
 
 NAMES = ["t", "u", "a b", "from", "ks.t", "é", "T"]
-COLUMN_NAMES = ["id", "v", "w", "Key", "where", "x y", "ü"]
+COLUMN_NAMES = ["id", "v", "w", "Key", "where", "from", "x y", "ü"]
 RANGES = ["-", "0", "-80", "80-", "40-c0", "-00", "80-00", "4000-80", "00-80", "-01", "01-", "e0-", "0cc1-90"]
 RANGES += ["61-6162", "-61", "61-", "-0000000000000003", "0000000000000001-0000000000000002", "-0CC175B9c0f1b6a831c399e269772661"]
 BAD_RANGES = ["8-", "80-40", "x", "40-4000-", "80", " -80", "80-80", "--"]
@@ -35,6 +35,7 @@ class Workflows(Chances):
         r = self.r
         tables = [self.table(name) for name in r.sample(NAMES, r.choices([1, 2, 3], [6, 3, 1])[0])]
         shards = r.sample(["-80", "80-", "0", "", "-40", "ü"], r.choices([1, 2, 3], [5, 4, 1])[0])
+        self.lists = {table["name"]: self.list_of(table) for table in tables if self.chance(0.3)}
         streams = [{"shard": it, "filter": {"rules": self.rules(tables)}} for it in shards]
         said = {"keyspace": r.choice(["ks", "ks", "", "k"]), "tables": tables, "streams": streams}
         if self.is_faulty(0.15):
@@ -67,9 +68,17 @@ class Workflows(Chances):
         is_whole = TYPE.get(kind, kind) in WHOLE
         return self.r.choice(["numeric", "reverse_bits"] if is_whole and self.chance(0.7) or self.is_faulty(0.05) else ["binary", "binary_md5"])
 
-    def rules(self, tables):
+    def list_of(self, table):
+        """Columns to be kept of a table, in any order: its key and maybe others."""
         r = self.r
-        said = []
+        others = [name for name, _ in table["columns"] if name not in table["key"]]
+        listed = table["key"] + r.sample(others, r.randrange(len(others) + 1))
+        return r.sample(listed, len(listed))
+
+    def rules(self, tables):
+        """Rules for some tables; a table of which columns are listed has its own before all others, in nearly every stream."""
+        r = self.r
+        said = [{"match": it["name"], "filter": self.select(it)} for it in tables if it["name"] in self.lists and self.chance(0.97)]
         for _ in range(r.choices([0, 1, 2, 3], [1, 12, 4, 2])[0]):
             table = r.choice(tables)
             match = r.choice(["/.*", table["name"]])
@@ -98,8 +107,25 @@ class Workflows(Chances):
         is_plain = all(it.isascii() and (it.isalnum() or it in "_$") for it in text)
         return text if is_plain and self.chance(0.7) else f"`{text}`"
 
+    def column(self, text):
+        return self.name(text) if text != "from" or self.is_faulty(0.3) else f"`{text}`"
+
+    def columns(self, table):
+        """What stands between `select` and `from`."""
+        r = self.r
+        if table["name"] not in self.lists or self.chance(0.02):
+            return ["*"]
+        listed = list(self.lists[table["name"]])
+        if self.is_faulty(0.3):
+            listed[r.randrange(len(listed))] = r.choice(["id", "x", "ID", listed[0]])
+        if self.is_faulty(0.1):
+            listed.pop(r.randrange(len(listed)))
+        if self.chance(0.02):
+            r.shuffle(listed)
+        return [it for name in listed for it in (",", self.column(name))][1:]
+
     def select(self, table):
-        said = [self.word("select"), "*", self.word("from"), self.name(table["name"])]
+        said = [self.word("select"), *self.columns(table), self.word("from"), self.name(table["name"])]
         if self.chance(0.75):
             said += [self.word("where"), self.word("in_keyrange"), "("]
             if self.chance(0.75) or "vindex" not in table and not self.is_faulty(0.1):
