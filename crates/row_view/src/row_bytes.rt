@@ -1,6 +1,7 @@
 //! The bytes of a row.
 
 ghost use Rattle.std.specs.Prelude.{◌≡◌, ◌↔◌, IsTrue, IsOk, Ok};
+ghost use Rattle.row_view.specs.Picked.{picked, ArePlaces};
 ghost use Rattle.row_view.specs.Row.{columns_in, row_of_message};
 ghost use Rattle.row_view.specs.Private.Kept.{IsGood};
 
@@ -8,7 +9,7 @@ use crate::columns::Columns;
 use crate::fault::RowFault;
 use crate::found::{VALUES, found_in};
 use crate::row::RowView;
-use crate::same::are_same;
+use crate::same::{are_picked, are_same};
 use proto_wire::last_text;
 use std::marker::Model;
 
@@ -89,5 +90,14 @@ impl<'b> RowBytes<'b> {
         ensures { IsTrue result ↔ (self.now ≡ other.now) }
     {
         self.message == other.message || are_same(self.columns(), other.columns())
+    }
+
+    /// Whether this row is what the other one's columns at these places are, in the places' order.
+    /// That each place is below the other's `len` is the caller's. Takes no memory.
+    pub fn is_picked(&self, row: &RowView<'_>, places: &[u8]) -> bool
+        requires { ArePlaces places.now row.now }
+        ensures { IsTrue result ↔ (self.now ≡ picked places.now row.now) }
+    {
+        are_picked(self.columns(), row, places)
     }
 }
