@@ -3,10 +3,9 @@
 use crate::feeds::{LOWER, TWO, UPPER, feeds_of};
 use std::alloc::{AllocError, Global};
 use std::test::Fail;
+use step_script::{ScriptFault, ScriptStep, read_script};
 use stream_core::Step;
-use vrepl_main::{
-    GivenFeed, Refusal, ScriptFault, ScriptStep, given_feeds, open_workflow, read_script,
-};
+use vrepl_main::{GivenFeed, Refusal, given_feeds, open_workflow};
 
 /// A line for each step, with comments, blanks, tabs, zeros in front, both ends of lines, and no last one.
 const ALL_STEPS: &[u8] = b"# none\n\r\n \t offer\t007  1 \t\r\n#\nadvance 0\nopen 1 2\n\

@@ -3,7 +3,6 @@ pub mod InputLaws
 pub mod AddLaws
 mod NumberLaws
 pub mod CommandLaws
-mod LineLaws
 mod KeyTextLaws
 mod OpenLaws
 mod ScriptRunLaws

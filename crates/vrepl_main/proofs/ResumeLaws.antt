@@ -7,7 +7,7 @@ use Rattle.board_laws.specs.Meaning.{Meaning}
 use Rattle.vdiff_core.specs.Printing.{Written, IsWritten, BreaksOff}
 use Rattle.apply_core.specs.Resuming.{IsResumed}
 use Rattle.vrepl_main.specs.declared.resuming.ResumeRefusal.{ResumeRefusal}
-use Rattle.vrepl_main.specs.declared.script.ScriptStep.{ScriptStep}
+use Rattle.step_script.specs.declared.script.ScriptStep.{ScriptStep}
 use Rattle.vrepl_main.specs.Reasons.{Reason}
 use Rattle.vrepl_main.specs.Replied.{all_given}
 use Rattle.vrepl_main.specs.ResumedRun.{IsRepliedBehind, AreFirstBehind, PrintsResumed, RefusesResume}

@@ -8,7 +8,7 @@ use Rattle.board_laws.specs.Meaning.{Meaning}
 use Rattle.checkpoint_laws.specs.Written.{checkpoint_of}
 use Rattle.apply_core.specs.Fresh.{fresh_board}
 use Rattle.vrepl_main.specs.declared.refusal.Refusal.{Refusal}
-use Rattle.vrepl_main.specs.declared.script.ScriptStep.{ScriptStep}
+use Rattle.step_script.specs.declared.script.ScriptStep.{ScriptStep}
 use Rattle.vdiff_core.specs.Printing.{Written, BreaksOff}
 use Rattle.vrepl_main.specs.Command.{RefusesCommand, IsUnwritten}
 use Rattle.vrepl_main.specs.Reasons.{Reason}

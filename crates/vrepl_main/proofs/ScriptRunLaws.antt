@@ -9,7 +9,7 @@ use Rattle.board_laws.specs.Meaning.{Meaning}
 use Rattle.vdiff_core.proofs.PrintLaws.{adds_none}
 use Rattle.vdiff_core.specs.Printing.{Written, Prints}
 use Rattle.vrepl_main.specs.Adding.{WriterPlace, at, IsTextPut, IsBegun}
-use Rattle.vrepl_main.specs.declared.script.ScriptStep.{ScriptStep}
+use Rattle.step_script.specs.declared.script.ScriptStep.{ScriptStep}
 use Rattle.vrepl_main.specs.ScriptRun.{ScriptReply, IsScriptStep, IsScriptRun, reply_text, replies_text}
 use Rattle.vrepl_main.specs.ScriptPrinting.{RepliesTo, HasReplied, PrintsRun}
 use Rattle.vrepl_main.proofs.AddLaws.{then_put, then_stops, then_finishes}

@@ -9,8 +9,8 @@ use Rattle.board_laws.specs.Sources.{AllShowTheirSources}
 use Rattle.board_laws.proofs.Following.{run-lawful}
 use Rattle.board_laws.proofs.FeedLaws.{run-reads}
 use Rattle.board_laws.proofs.Sources.{all_show}
-use Rattle.vrepl_main.specs.declared.script.ScriptStep.{ScriptStep}
-use Rattle.vrepl_main.specs.declared.script.ScriptStep.TheVariants as script
+use Rattle.step_script.specs.declared.script.ScriptStep.{ScriptStep}
+use Rattle.step_script.specs.declared.script.ScriptStep.TheVariants as script
 use Rattle.vrepl_main.specs.ScriptRun.{ScriptReply, answers, stands, shows, byte_of, standing_in, standing_reply, AnswersStep, ShowsRows, IsScriptStep, IsScriptRun, IsFed, ShowsSources, IsTold}
 
 -- ---- one line

@@ -8,8 +8,6 @@ pub mod Inputs
 pub mod Adding
 pub mod Shown
 pub mod Show
-pub mod ScriptLines
-pub mod ScriptRefusal
 pub mod AnswerText
 pub mod RefusedText
 pub mod ResumedText

@@ -3,7 +3,7 @@ use Rattle.std.specs.Prelude.{ℕ, List, take, Result, Ok, Err}
 use Rattle.filter_rule.specs.PlanValue.{PlanValue}
 use Rattle.source_feed.specs.Planned.{FeedValue}
 use Rattle.vdiff_core.specs.Printing.{Written, IsWritten}
-use Rattle.vrepl_main.specs.declared.script.ScriptStep.{ScriptStep}
+use Rattle.step_script.specs.declared.script.ScriptStep.{ScriptStep}
 use Rattle.vrepl_main.specs.Reasons.{Reason}
 use Rattle.vrepl_main.specs.ScriptRun.{ScriptGiven, IsRepliedTo}
 

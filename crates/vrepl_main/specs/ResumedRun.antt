@@ -9,7 +9,7 @@ use Rattle.apply_core.specs.Resuming.{IsResumed, IsRefusedResume}
 use Rattle.vdiff_core.specs.Printing.{Written, IsWritten}
 use Rattle.vrepl_main.specs.declared.resuming.ResumeRefusal.{ResumeRefusal}
 use Rattle.vrepl_main.specs.declared.resuming.ResumeRefusal.TheVariants.{Given, Checkpoint}
-use Rattle.vrepl_main.specs.declared.script.ScriptStep.{ScriptStep}
+use Rattle.step_script.specs.declared.script.ScriptStep.{ScriptStep}
 use Rattle.vrepl_main.specs.Command.{RefusesCommand}
 use Rattle.vrepl_main.specs.Opening.{OpenedValue}
 use Rattle.vrepl_main.specs.Printing.{PrintsOrBreaks}

@@ -4,7 +4,7 @@ use Rattle.filter_rule.specs.PlanValue.{PlanValue}
 use Rattle.source_feed.specs.Planned.{FeedValue}
 use Rattle.board_laws.specs.Meaning.{Meaning}
 use Rattle.vdiff_core.specs.Printing.{Written, IsWritten, BreaksOff}
-use Rattle.vrepl_main.specs.declared.script.ScriptStep.{ScriptStep}
+use Rattle.step_script.specs.declared.script.ScriptStep.{ScriptStep}
 use Rattle.vrepl_main.specs.Adding.{WriterPlace, IsTextPut, AddsText}
 use Rattle.vrepl_main.specs.ScriptRun.{ScriptReply, IsScriptStep, IsScriptRun, ShowsRows, reply_text, replies_text}
 

@@ -19,11 +19,11 @@ use Rattle.board_laws.specs.declared.step_refusal.StepRefusal.TheVariants.{Refus
 use Rattle.apply_core.specs.Fresh.{fresh_board}
 use Rattle.board_laws.specs.Sources.{applied_position, AllShowTheirSources}
 use Rattle.apply_core.specs.Shown.{all_rows}
-use Rattle.vrepl_main.specs.declared.script.ScriptStep.{ScriptStep}
-use Rattle.vrepl_main.specs.declared.script.ScriptStep.TheVariants as script
+use Rattle.step_script.specs.declared.script.ScriptStep.{ScriptStep}
+use Rattle.step_script.specs.declared.script.ScriptStep.TheVariants as script
 use Rattle.vrepl_main.specs.Reasons.{Reason, bad_script}
 use Rattle.vrepl_main.specs.Opening.{OpenedValue, opened, opened_bytes}
-use Rattle.vrepl_main.specs.ScriptLines.{script_steps}
+use Rattle.step_script.specs.ScriptLines.{script_steps}
 use Rattle.vrepl_main.specs.AnswerText.{answer_text, state_text}
 use Rattle.vrepl_main.specs.RefusedText.{refused_text}
 

@@ -9,13 +9,13 @@ ghost use Rattle.vrepl_main.specs.ScriptPrinting.{Replies, PrintsRows};
 
 use crate::answer_text::print_answer;
 use crate::refused_text::print_refused;
-use crate::script::ScriptStep;
 use crate::state_text::print_state;
 use apply_core::{Answer, Board, Refusal, StepRefusal};
 use filter_rule::Plan;
 use gtid_set::GtidSet;
 use source_feed::Feed;
 use std::alloc::Global;
+use step_script::ScriptStep;
 use stream_core::{Cursor, Step};
 use vdiff_core::{Gathered, Out, OutFailed, Rows, write_dump};
 

@@ -5,11 +5,11 @@ ghost use Rattle.vrepl_main.specs.Adding.{at};
 ghost use Rattle.vrepl_main.specs.ScriptPrinting.{RepliesTo};
 
 use crate::line::take_line;
-use crate::script::ScriptStep;
 use apply_core::Board;
 use filter_rule::Plan;
 use source_feed::Feed;
 use std::alloc::Global;
+use step_script::ScriptStep;
 use vdiff_core::{Gathered, Out, OutFailed};
 
 /// Takes the steps of a script on a board, one after another, and adds their replies.

@@ -11,13 +11,13 @@ use crate::given::{GivenFeed, given_feeds};
 use crate::opened::{Opened, open_workflow};
 use crate::refusal::{Refusal, refuse};
 use crate::resumed_text::refuse_resume;
-use crate::script::ScriptStep;
 use crate::stepping::{first_plan, print_taken, steps_of};
 use apply_core::{ResumeFault, resume as resumed_board};
 use filter_rule::Plan;
 use source_feed::Feed;
 use std::alloc::Global;
 use std::sync::Arc;
+use step_script::ScriptStep;
 use vdiff_core::Out;
 
 /// Why nothing is resumed.

@@ -15,13 +15,13 @@ use crate::given::{GivenFeed, given_feeds};
 use crate::line::answer_to;
 use crate::opened::{Opened, open_workflow};
 use crate::refusal::{Refusal, refuse};
-use crate::script::ScriptStep;
 use crate::stepping::{fresh_board, steps_of};
 use apply_core::{Answer, Board, StepRefusal, save as checkpoint};
 use filter_rule::Plan;
 use source_feed::Feed;
 use std::alloc::{AllocError, Global};
 use std::sync::Arc;
+use step_script::ScriptStep;
 use vdiff_core::{Out, OutFailed, put_all};
 
 /// The number of a refusal for want of memory.

@@ -3,7 +3,7 @@
 ghost use Rattle.std.specs.Prelude.{◌≡◌, ◌⊎◌, ◌≤◌, Some, OnOk, IfErr, IfOk, length, map, slice_get};
 ghost use Rattle.std.specs.Arc.{arc_value};
 ghost use Rattle.apply_core.specs.Fresh.{fresh_board};
-ghost use Rattle.vrepl_main.specs.ScriptLines.{script_steps};
+ghost use Rattle.step_script.specs.ScriptLines.{script_steps};
 ghost use Rattle.vrepl_main.specs.ScriptRun.{IsFed, script_given, given_bytes, said_steps};
 ghost use Rattle.vrepl_main.specs.Given.{given_value};
 ghost use Rattle.vrepl_main.specs.Reasons.{GivesOfInputs};
@@ -15,12 +15,12 @@ use crate::given::{GivenFeed, given_feeds};
 use crate::lines::take_lines;
 use crate::opened::{Opened, open_workflow};
 use crate::refusal::{Refusal, refuse};
-use crate::script::{ScriptFault, ScriptStep, read_script};
 use apply_core::{Board, fed_board};
 use filter_rule::Plan;
 use source_feed::Feed;
 use std::alloc::{AllocError, Global};
 use std::sync::Arc;
+use step_script::{ScriptFault, ScriptStep, read_script};
 use vdiff_core::{Gathered, Out, OutFailed};
 
 /// Takes the steps of a script on a board over a workflow and its feeds, one in the order of the streams

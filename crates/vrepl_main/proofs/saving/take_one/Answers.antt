@@ -1,6 +1,6 @@
 use Rattle.std.proofs.Common.{OnOk, refl, sym, subst}
 use Rattle.apply_core.specs.Shown.{all_rows}
-use Rattle.vrepl_main.specs.declared.script.ScriptStep.{ScriptStep}
+use Rattle.step_script.specs.declared.script.ScriptStep.{ScriptStep}
 use Rattle.vrepl_main.specs.ScriptRun.{ScriptReply, answers, shows, IsScriptStep, IsTold, standing_in, standing_reply}
 use Rattle.vrepl_main.proofs.SourceLaws.{on_ok_by, stands_told}
 use Rattle.vrepl_main.proofs.saving.take_one.Goals as goal

@@ -2,8 +2,8 @@ use Rattle.std.proofs.Common.{rules, tests}
 use Rattle.std.specs.Prelude.{◌==◌}
 use Rattle.std.proofs.lemmas.Iterator.{YieldsList-from_slice}
 use Rattle.std.proofs.lemmas.Iterator.Search.{position_from_yields_List}
-use Rattle.vrepl_main.proofs.LineLaws.{split-at, split-last}
-use Rattle.vrepl_main.proofs.script.first_line.Goals as goal
+use Rattle.step_script.proofs.LineLaws.{split-at, split-last}
+use Rattle.step_script.proofs.word.first_line.Goals as goal
 
 pub returns-in-Some-clause-more : goal.returns-in-Some-clause-more
 returns-in-Some-clause-more c =

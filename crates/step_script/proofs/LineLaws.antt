@@ -8,8 +8,7 @@ use Rattle.std.proofs.Common.{Bool, true, false, cond, ltb, length, take, drop, 
 use Rattle.std.specs.Option.{option_and_then}
 use Rattle.std.specs.List.{slice_split, position_or_len, onto_first}
 use Rattle.std.proofs.lemmas.List.Splits.{slice_split_first}
-use Rattle.vrepl_main.specs.ScriptLines.{number_continued, small}
-use Rattle.vrepl_main.specs.declared.script.Line.TheVariants as line
+use Rattle.step_script.specs.ScriptLines.{number_continued, small}
 
 -- ---- numbers
 
@@ -61,5 +60,3 @@ split-last-place p xs place false at past absent = split-none p xs (omega (arith
 pub split-last : (p : ℕ → Bool) (xs : List ℕ) (r : Option ℕ) → r ≡ None → r ≡ cond (ltb (position_or_len p xs) (length xs)) (Some (position_or_len p xs)) None
     → slice_split p xs ≡ xs ∷ []
 split-last p xs r absent is = split-last-place p xs (position_or_len p xs) (ltb (position_or_len p xs) (length xs)) refl refl (sym absent ∙ is)
-
--- ---- steps

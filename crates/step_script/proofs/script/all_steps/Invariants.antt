@@ -1,9 +1,9 @@
 use Rattle.std.proofs.Common.{◌≡◌, ◌+◌, ◌≤◌, length}
 use Rattle.std.specs.Prelude.{◌==◌}
 use Rattle.std.specs.List.{slice_split}
-use Rattle.vrepl_main.specs.ScriptLines.{steps_from, script_steps}
-use Rattle.vrepl_main.specs.ScriptRefusal.{steps_before}
-use Rattle.vrepl_main.proofs.script.read_script.Given as goal
+use Rattle.step_script.specs.ScriptLines.{steps_from, script_steps}
+use Rattle.step_script.specs.Private.{steps_before}
+use Rattle.step_script.proofs.script.all_steps.Given as goal
 
 -- the steps so far, and the lines still to come behind them, are the script
 abbrev pub invariant-loop-steps : goal.invariant-loop-steps

@@ -1,7 +1,7 @@
 use Rattle.std.proofs.Common.{◌≡◌, ◌<◌, ◌^◌, drop}
 use Rattle.std.specs.Option.{option_and_then}
-use Rattle.vrepl_main.specs.ScriptLines.{number_continued, script_number_of, small}
-use Rattle.vrepl_main.proofs.script.number_of.Given as goal
+use Rattle.step_script.specs.ScriptLines.{number_continued, script_number_of, small}
+use Rattle.step_script.proofs.number.number_of.Given as goal
 
 -- the digits still to come are behind the value so far
 abbrev pub invariant-loop-digit : goal.invariant-loop-digit

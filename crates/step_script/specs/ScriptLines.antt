@@ -5,10 +5,10 @@ use Rattle.std.specs.List.{slice_split}
 use Rattle.std.specs.Str.{bytes_eq}
 use Rattle.stream_core.specs.declared.step.Step.{Step}
 use Rattle.stream_core.specs.declared.step.Step.TheVariants as step
-use Rattle.vrepl_main.specs.declared.script.ScriptStep.{ScriptStep}
-use Rattle.vrepl_main.specs.declared.script.ScriptStep.TheVariants.{Take, State, Dump}
-use Rattle.vrepl_main.specs.declared.script.Line.{Line}
-use Rattle.vrepl_main.specs.declared.script.Line.TheVariants as line
+use Rattle.step_script.specs.declared.script.ScriptStep.{ScriptStep}
+use Rattle.step_script.specs.declared.script.ScriptStep.TheVariants.{Take, State, Dump}
+use Rattle.step_script.specs.declared.line.Line.{Line}
+use Rattle.step_script.specs.declared.line.Line.TheVariants as line
 
 -- ---- words
 
@@ -59,9 +59,13 @@ taken_on stream found = option_map (Take stream) found
 abbrev pub said_of : List ℕ → ℕ → Option ScriptStep
 said_of word stream = if bytes_eq word (codes "state") then Some (State stream) else taken_on stream (bare_step word)
 
+-- what is said by one word
+abbrev pub said_alone : List ℕ → Option ScriptStep
+said_alone word = if bytes_eq word (codes "dump") then Some Dump else None
+
 -- what these words say, if they say something: `dump`, `state S`, or a step on a stream
 abbrev pub script_step_of : List (List ℕ) → Option ScriptStep
-script_step_of (word ∷ []) = if bytes_eq word (codes "dump") then Some Dump else None
+script_step_of (word ∷ []) = said_alone word
 script_step_of (word ∷ stream ∷ []) = option_and_then (said_of word) (script_number_of stream)
 script_step_of (word ∷ stream ∷ number ∷ []) = option_and_then (λ s. option_and_then (λ n. taken_on s (numbered_step word n)) (script_number_of number)) (script_number_of stream)
 script_step_of _ = None

@@ -1,9 +1,9 @@
 use Rattle.std.proofs.Common.{◌+◌, ℕ, List, get_or, drop, sym, ap, ◌∙◌, arith}
 use Rattle.std.specs.Option.{option_and_then}
 use Rattle.std.proofs.lemmas.List.{drop_more}
-use Rattle.vrepl_main.specs.ScriptLines.{number_continued, small}
-use Rattle.vrepl_main.proofs.LineLaws.{number_from-large}
-use Rattle.vrepl_main.proofs.script.number_of.Goals as goal
+use Rattle.step_script.specs.ScriptLines.{number_continued, small}
+use Rattle.step_script.proofs.LineLaws.{number_from-large}
+use Rattle.step_script.proofs.number.number_of.Goals as goal
 
 pub returns-then-value-from : goal.returns-then-value-from
 returns-then-value-from c =

@@ -1,0 +1,16 @@
+use Rattle.std.proofs.Common.{rules, tests}
+use Rattle.std.proofs.lemmas.Iterator.{YieldsList-from_slice}
+use Rattle.std.proofs.lemmas.Iterator.Search.{position_from_yields_List}
+use Rattle.step_script.specs.ScriptLines.{is_word_gap}
+use Rattle.step_script.proofs.LineLaws.{split-at, split-last}
+use Rattle.step_script.proofs.word.first_part.Goals as goal
+
+pub returns-in-Some-clause-more : goal.returns-in-Some-clause-more
+returns-in-Some-clause-more c =
+    split-at is_word_gap c.args.text.now c.in-Some.end c.position.result c.in-Some.is
+    (position_from_yields_List is_word_gap _ _ c.position.result c.position.ensures.ran (YieldsList-from_slice c.args.text.now cc) (λ x b q k. search (rules, tests)))
+
+pub returns-in-None-clause-last : goal.returns-in-None-clause-last
+returns-in-None-clause-last c =
+    split-last is_word_gap c.args.text.now c.position.result c.in-None.is
+    (position_from_yields_List is_word_gap _ _ c.position.result c.position.ensures.ran (YieldsList-from_slice c.args.text.now cc) (λ x b q k. search (rules, tests)))
