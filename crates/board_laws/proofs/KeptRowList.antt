@@ -19,11 +19,11 @@ above-kept : (plan : PlanValue) (key : KeyValue) (rows : ImageRows) → AllByRec
 above-kept plan key [] h = tt
 above-kept plan key (row ∷ rows) h = (h.0, above-kept plan key rows h.1)
 
-rising-kept : (plan : PlanValue) (rows : ImageRows) → IsRising key_cmp rows → IsRising key_cmp (map (kept_row plan) rows)
+pub rising-kept : (plan : PlanValue) (rows : ImageRows) → IsRising key_cmp rows → IsRising key_cmp (map (kept_row plan) rows)
 rising-kept plan [] h = tt
 rising-kept plan (row ∷ rows) h = (above-kept plan row.0 rows h.0, rising-kept plan rows h.1)
 
-lookup-kept : (ties : Ties) (plan : PlanValue) (key : KeyValue) (rows : ImageRows) → lookup (is_key key) (map (kept_row plan) rows) ≡ option_map (kept_of plan key) (lookup (is_key key) rows)
+pub lookup-kept : (ties : Ties) (plan : PlanValue) (key : KeyValue) (rows : ImageRows) → lookup (is_key key) (map (kept_row plan) rows) ≡ option_map (kept_of plan key) (lookup (is_key key) rows)
 lookup-kept ties plan key [] = refl
 lookup-kept ties plan key (row ∷ rows) = by (is_key key row.0) refl (lookup-kept ties plan key rows)
   where
