@@ -1,29 +1,34 @@
 -- A chunk of rows: what is made of the rows that the image lends, and what a stream keeps behind it.
-use Rattle.std.proofs.Common.{◌≡◌, ℕ, ◌+◌, ◌-◌, Bool, true, false, cond, List, length, map, take, drop, Option, Some, None, Vec, Global, slice_get, get_or, refl, sym, ap, subst, ◌∙◌, arith}
+use Rattle.std.proofs.Common.{◌≡◌, ℕ, zero, suc, ◌+◌, ◌-◌, Bool, true, false, cond, List, [], ◌∷◌, length, map, take, drop, Option, Some, None, Vec, Global, slice_get, get_or, refl, sym, ap, subst, ◌∙◌, arith}
 use Rattle.std.proofs.lemmas.List.{length-map, take-append-drop, take-take}
 use Rattle.std.proofs.lemmas.Option.{slice_get-map, same_Some, get_or_from_slice_get}
-use Rattle.std.specs.List.{take-map}
+use Rattle.std.specs.List.{AllByRecursion, filter, take-map}
 use Rattle.std.specs.Prelude.{IsTrue, IfSome, nat_le}
 use Rattle.std.specs.Option.{option_map, option_map_or}
+use Rattle.filter_rule.specs.PlanValue.{PlanValue}
 use Rattle.pk_copy.specs.KeyOrder.{key_cmp}
 use Rattle.pk_copy.specs.KeyValue.{KeyValue}
 use Rattle.pk_copy.specs.Marks.{Marks, is_past, moved_to, next_table}
 use Rattle.target_tables.specs.Rising.{IsRising}
 use Rattle.target_tables.specs.Touches.{last_at}
-use Rattle.source_feed.specs.History.{RowValue}
-use Rattle.source_feed.specs.Image.{ImageRows, lent_row}
+use Rattle.source_feed.specs.History.{RowValue, kept_of}
+use Rattle.source_feed.specs.Image.{ImageRows, row_in, lent_row}
 use Rattle.board_laws.specs.declared.answer.Copied.{Copied}
 use Rattle.board_laws.specs.Meaning.{State}
 use Rattle.board_laws.specs.Lawful.{IsSoundState}
 use Rattle.board_laws.specs.Event.{copy_rows}
 use Rattle.board_laws.specs.Chunk.{rows_left, rows_taken, takes_all, marks_behind}
+use Rattle.board_laws.specs.KeptRows.{passed_rows, kept_row}
 use Rattle.board_laws.specs.StateAfter.{state_after}
 use Rattle.board_laws.specs.Touching.{touch_of, put_by}
 use Rattle.board_laws.specs.Allowed.{IsAllowed}
 use Rattle.board_laws.specs.Laws.{StatesStaySound, OneMoreTells}
+use Rattle.board_laws.proofs.KeptRowList.{lookup-kept}
 use Rattle.board_laws.proofs.Lookups.{Ties, rising-left}
 use Rattle.board_laws.proofs.Chunks.{left-rising, last-past}
+use Rattle.board_laws.proofs.RowsUnder.{IsRowUnder, passed-under}
 use Rattle.apply_core.specs.Chunks.{last_key_of, IsMoveOf, IsTakenChunk, IsChunkFor}
+use Rattle.apply_core.specs.Private.Changes.{IsOfTable}
 use Rattle.apply_core.specs.Private.StreamState.{IsStream}
 use Rattle.apply_core.specs.Private.StreamStep.{MayMake, ArePutsOf}
 use Rattle.apply_core.specs.declared.taking.Chunk.{Chunk}
@@ -60,22 +65,69 @@ pub all-told : OneMoreTells → (state : State) (c : ℕ) (found : LentRows) →
 all-told tells state c found e =
     ap (λ n. nat_le n c) (sym (length-map found lent_row) ∙ ap length e) ∙ tells state c
 
+-- the kept columns of rows put what the rows put, with its kept columns
+put_by-kept : Ties → (plan : PlanValue) (rows : ImageRows) (key : KeyValue) → put_by (map (kept_row plan) rows) key ≡ option_map (option_map (kept_of plan key)) (put_by rows key)
+put_by-kept ties plan rows key = ap (option_map Some) (lookup-kept ties plan key rows) ∙ by (row_in rows key)
+  where
+    by : (o : Option RowValue) → option_map {U = Option RowValue} Some (option_map (kept_of plan key) o) ≡ option_map (option_map (kept_of plan key)) (option_map {U = Option RowValue} Some o)
+    by None = refl
+    by (Some row) = refl
+
+-- the rows of a chunk are of the plan's tables
+of_table : (plan : PlanValue) (row : KeyValue × RowValue) → IsRowUnder plan row → IsOfTable plan row.0 row.1
+of_table plan row h = (h.table, h.width)
+
+all_of_tables : (plan : PlanValue) (rows : ImageRows) → AllByRecursion (IsRowUnder plan) rows → AllByRecursion (λ row. IsOfTable plan row.0 row.1) rows
+all_of_tables plan [] h = tt
+all_of_tables plan (row ∷ rows) h = (of_table plan row h.0, all_of_tables plan rows h.1)
+
+all_within : (P : KeyValue × RowValue → Bool) (plan : PlanValue) (rows : ImageRows) → AllByRecursion (IsRowUnder plan) rows → AllByRecursion (IsRowUnder plan) (filter P rows)
+all_within P plan [] h = tt
+all_within P plan (row ∷ rows) h = by (P row) (all_within P plan rows h.1)
+  where
+    by : (b : Bool) → AllByRecursion (IsRowUnder plan) (filter P rows) → AllByRecursion (IsRowUnder plan) (cond b (row ∷ filter P rows) (filter P rows))
+    by true rest = (h.0, rest)
+    by false rest = rest
+
+all_first : (plan : PlanValue) (c : ℕ) (rows : ImageRows) → AllByRecursion (IsRowUnder plan) rows → AllByRecursion (IsRowUnder plan) (take c rows)
+all_first plan c [] h = subst (AllByRecursion (IsRowUnder plan)) (sym (take_none c)) tt
+  where
+    take_none : (n : ℕ) → take n {A = KeyValue × RowValue} [] ≡ []
+    take_none zero = refl
+    take_none (suc n) = refl
+all_first plan zero (row ∷ rows) h = tt
+all_first plan (suc c) (row ∷ rows) h = (h.0, all_first plan c rows h.1)
+
+-- of a sound state the rows that pass and that a test takes are of the plan's tables
+pub passed_of_tables : Ties → (state : State) → IsSoundState state → (P : KeyValue × RowValue → Bool) → AllByRecursion (λ row. IsOfTable state.plan row.0 row.1) (filter P (passed_rows state.list state.applied))
+passed_of_tables ties state sound P =
+    all_of_tables state.plan (filter P (passed_rows state.list state.applied))
+    (all_within P state.plan (passed_rows state.list state.applied) (passed-under ties state.plan state.list state.applied sound.list))
+
+pub taken_of_tables : Ties → (state : State) → IsSoundState state → (c : ℕ) → AllByRecursion (λ row. IsOfTable state.plan row.0 row.1) (rows_taken state c)
+taken_of_tables ties state sound c =
+    all_of_tables state.plan (rows_taken state c)
+    (all_first state.plan c (rows_left state) (all_within (λ row. is_past state.marks row.0) state.plan (passed_rows state.list state.applied) (passed-under ties state.plan state.list state.applied sound.list)))
+
 -- what a chunk answers
 abbrev copied_of : ℕ → Bool → Copied
 copied_of rows done = record { rows = rows; done = done }
 
 -- what is made of the rows of the image is the chunk: of the first c, lent once for their puts and once for the last key
-pub is-taken : OneMoreTells → (state : State) (c : ℕ) (found : LentRows) → map lent_row found ≡ take (c + 1) (rows_left state)
+pub is-taken : Ties → OneMoreTells → (state : State) (c : ℕ) (found : LentRows) → map lent_row found ≡ take (c + 1) (rows_left state)
     → (rows first second : LentRows) → rows ≡ take c found → first ≡ rows → second ≡ rows
-    → (puts : Vec (KeyValue × Option RowValue) Global) → ((key : KeyValue) → last_at key_cmp puts.items key ≡ put_by (map lent_row first) key)
+    → (puts : Vec (KeyValue × Option RowValue) Global) → ((key : KeyValue) → last_at key_cmp puts.items key ≡ put_by (map (kept_row state.plan) (map lent_row first)) key)
     → (all : ℕ) → all ≡ length found → (count : ℕ) → count ≡ length rows → (last : Option KeyValue) → last ≡ last_key_of (map lent_row second)
     → IsTakenChunk state c (record { puts = puts; step = record { copied = record { rows = count; done = nat_le all c }; last = last } })
-is-taken tells state c found e rows first second cut one two puts put all of_found count of_rows last by_last =
+is-taken ties tells state c found e rows first second cut one two puts put all of_found count of_rows last by_last =
     let taken : map lent_row rows ≡ rows_taken state c = ap (λ (xs : LentRows). map lent_row xs) cut ∙ taken-lent state c found e in
     let done : nat_le all c ≡ takes_all state c = ap (λ n. nat_le n c) of_found ∙ all-told tells state c found e in
     let rows_are : count ≡ length (rows_taken state c) = of_rows ∙ sym (length-map rows lent_row) ∙ ap length taken in
     record {
-      puts = λ key. put key ∙ ap (λ (xs : ImageRows). put_by xs key) (ap (λ (xs : LentRows). map lent_row xs) one ∙ taken);
+      puts = λ key.
+          put key
+          ∙ ap (λ (xs : ImageRows). put_by (map (kept_row state.plan) xs) key) (ap (λ (xs : LentRows). map lent_row xs) one ∙ taken)
+          ∙ put_by-kept ties state.plan (rows_taken state c) key;
       step = record {
         copied = ap (λ (n : ℕ). copied_of n (nat_le all c)) rows_are ∙ ap (λ (b : Bool). copied_of (length (rows_taken state c)) b) done;
         last = by_last ∙ ap last_key_of (ap (λ (xs : LentRows). map lent_row xs) two ∙ taken);

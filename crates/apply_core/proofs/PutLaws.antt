@@ -1,15 +1,17 @@
 -- What the puts of a group and of a chunk say at a key, and that their keys rise.
-use Rattle.std.proofs.Common.{◌≡◌, Bool, true, false, cond, List, [], ◌∷◌, ◌++◌, map, reverse, append-nil, Option, Some, None, Ordering, refl, sym, ap, subst, ◌∙◌}
+use Rattle.std.proofs.Common.{◌≡◌, Bool, true, false, cond, List, [], ◌∷◌, ◌++◌, length, map, reverse, append-nil, Option, Some, None, Ok, Ordering, refl, sym, ap, subst, ◌∙◌}
 use Rattle.std.proofs.lemmas.Bool.{true≢false}
-use Rattle.std.proofs.lemmas.Cmp.{tied_back}
+use Rattle.std.proofs.lemmas.Cmp.{tied_back, tied_itself}
 use Rattle.std.proofs.lemmas.Grind.{reverse_onto}
 use Rattle.std.proofs.lemmas.List.{map-append}
+use Rattle.std.proofs.lemmas.Option.{none-some, same_Some}
 use Rattle.std.specs.Cmp.{Equal-is}
 use Rattle.std.specs.declared.cmp.Ordering.TheVariants.{Less, Equal}
 use Rattle.std.specs.List.{AllByRecursion, filter}
 use Rattle.std.specs.Map.{lookup}
 use Rattle.std.specs.Option.{option_or, option_map, option_and_then}
-use Rattle.std.specs.Ordering.{eq_by_cmp, flip_args}
+use Rattle.std.specs.Ordering.{eq_by_cmp, flip_args, is_eq}
+use Rattle.std.specs.Prelude.{IfSome}
 use Rattle.pk_copy.specs.KeyOrder.{key_cmp}
 use Rattle.pk_copy.specs.KeyOrderLaws.{key_cmp_total}
 use Rattle.pk_copy.specs.KeyValue.{KeyValue}
@@ -18,13 +20,14 @@ use Rattle.target_tables.specs.Rising.{Ordered, IsRising}
 use Rattle.target_tables.specs.Touches.{last_at, change_at}
 use Rattle.target_tables.proofs.Order.{ordered_with}
 use Rattle.target_tables.proofs.Values.{none_above}
-use Rattle.filter_rule.specs.PlanValue.{PlanValue}
+use Rattle.filter_rule.specs.PlanValue.{PlanValue, passes_of}
 use Rattle.source_feed.specs.History.{RowValue, passing, kept_of}
 use Rattle.source_feed.specs.Image.{ImageRows, row_in, lent_row}
+use Rattle.source_feed.specs.Prepared.{IsTouchUnder}
 use Rattle.source_feed.specs.Touches.{PutValue, TouchValue}
 use Rattle.board_laws.specs.KeptRows.{kept_row}
 use Rattle.board_laws.specs.Touching.{put_by}
-use Rattle.apply_core.specs.Private.Changes.{Change, AreOfTables, change_of, kept_change, lent_change, put_row}
+use Rattle.apply_core.specs.Private.Changes.{Change, IsOfTable, AreOfTables, change_of, kept_change, lent_change, put_row}
 use denote.Ref.{Bor}
 
 abbrev Lent : Type 0
@@ -126,8 +129,34 @@ rising-kept : (plan : PlanValue) (xs : Rows) → IsRising key_cmp xs → IsRisin
 rising-kept plan [] h = tt
 rising-kept plan (x ∷ xs) h = (each_kept plan x.0 xs h.0, rising-kept plan xs h.1)
 
-pub tables-reversed : (plan : PlanValue) (changes : List Lent) → AreOfTables plan (map lent_change changes) → AreOfTables plan (map lent_change (reverse changes))
-tables-reversed plan changes h = subst (AreOfTables plan) (sym (map-reverse lent_change changes)) (all_reversed _ (map lent_change changes) h)
+-- ---- rows of the plan's tables
+
+last_at-none : (k : KeyValue) (xs : Rows) → AllByRecursion (λ change. key_cmp k change.0 ≡ Less) xs → last_at key_cmp xs k ≡ None
+last_at-none k [] h = refl
+last_at-none k (x ∷ xs) h =
+    ap (λ (o : Option (Option RowValue)). option_or o (cond (eq_by_cmp key_cmp k x.0) (Some x.1) None)) (last_at-none k xs h.1)
+    ∙ ap (λ (o : Ordering). cond {A = Option (Option RowValue)} (is_eq o) (Some x.1) None) h.0
+
+-- what comes last at each key of rising ones are all of them
+all_by_last : (P : KeyValue → Option RowValue → Type 0) (xs : Rows) → IsRising key_cmp xs → ((k : KeyValue) (v : Option RowValue) → last_at key_cmp xs k ≡ Some v → P k v) → AllByRecursion (λ change. P change.0 change.1) xs
+all_by_last P [] h each = tt
+all_by_last P (x ∷ xs) h each = (
+  each x.0 x.1 here,
+  all_by_last P xs h.1 (λ k v e. each k v (ap (λ (o : Option (Option RowValue)). option_or o (cond (eq_by_cmp key_cmp k x.0) (Some x.1) None)) e)),
+)
+  where
+    here : last_at key_cmp (x ∷ xs) x.0 ≡ Some x.1
+    here =
+        ap (λ (o : Option (Option RowValue)). option_or o (cond (eq_by_cmp key_cmp x.0 x.0) (Some x.1) None)) (last_at-none x.0 xs h.0)
+        ∙ ap (λ (o : Ordering). cond {A = Option (Option RowValue)} (is_eq o) (Some x.1) None) (tied_itself key_cmp_total x.0)
+
+-- the row that a touch puts is of its key's table
+of_touch : (plan : PlanValue) (touch : TouchValue) → IsTouchUnder plan touch → IfSome touch.1 (λ put. IsOfTable plan touch.0 put.row)
+of_touch plan touch h = by touch.1 h.put
+  where
+    by : (o : Option PutValue) → IfSome o (λ put. (put.row ≡ h.row) × (passes_of plan touch.0.table h.row ≡ Ok put.passes)) → IfSome o (λ put. IsOfTable plan touch.0 put.row)
+    by None e = tt
+    by (Some put) e = (h.table, ap length e.0 ∙ h.width)
 
 -- ---- the touches of copied keys
 
@@ -185,6 +214,41 @@ module _ (ties : (a b : KeyValue) → key_cmp a b ≡ Equal → a ≡ b) (marks 
       ∙ last_at-lent changes (lend key)
       ∙ ap (λ (cs : Rows). last_at key_cmp cs key) lent
       ∙ last_at-copied touches key
+
+  -- the row that comes last at a key is of its table
+  last_of_table : (plan : PlanValue) (touches : List TouchValue) (k : KeyValue) (v : Option PutValue) → AllByRecursion (IsTouchUnder plan) touches → last_at key_cmp touches k ≡ Some v → IfSome v (λ put. IsOfTable plan k put.row)
+  last_of_table plan [] k v all e = absurd (none-some v e)
+  last_of_table plan (touch ∷ later) k v all e = by (λ h. last_of_table plan later k v all.1 h) (last_at key_cmp later k) refl (eq_by_cmp key_cmp k touch.0) refl e
+    where
+      by : (last_at key_cmp later k ≡ Some v → IfSome v (λ put. IsOfTable plan k put.row)) → (o : Option (Option PutValue)) → last_at key_cmp later k ≡ o → (b : Bool) → eq_by_cmp key_cmp k touch.0 ≡ b
+          → option_or o (cond b (Some touch.1) None) ≡ Some v → IfSome v (λ put. IsOfTable plan k put.row)
+      by rest (Some x) there b same e = rest (there ∙ e)
+      by rest None there true same e =
+          subst (λ (key : KeyValue). IfSome v (λ put. IsOfTable plan key put.row)) (sym (ties k touch.0 ((Equal-is (key_cmp k touch.0)).0 same)))
+          (subst (λ (o : Option PutValue). IfSome o (λ put. IsOfTable plan touch.0 put.row)) (same_Some touch.1 v e) (of_touch plan touch all.0))
+      by rest None there false same e = absurd (none-some v e)
+
+  left_of_table : (plan : PlanValue) (k : KeyValue) (is : Bool) (o : Option (Option PutValue)) → ((v : Option PutValue) → o ≡ Some v → IfSome v (λ put. IsOfTable plan k put.row)) → (r : Option RowValue)
+      → cond is (option_map left o) None ≡ Some r → IfSome r (IsOfTable plan k)
+  left_of_table plan k false o h r e = absurd (none-some r e)
+  left_of_table plan k true None h r e = absurd (none-some r e)
+  left_of_table plan k true (Some None) h r e = subst (λ (o : Option RowValue). IfSome o (IsOfTable plan k)) (same_Some None r e) tt
+  left_of_table plan k true (Some (Some put)) h r e = subst (λ (o : Option RowValue). IfSome o (IsOfTable plan k)) (same_Some (passing put) r e) (by put.passes)
+    where
+      by : (b : Bool) → IfSome (cond b (Some put.row) None) (IsOfTable plan k)
+      by true = h (Some put) refl
+      by false = tt
+
+  -- the rows that are left are of the plan's tables
+  pub left_of_tables : (plan : PlanValue) (touches : List TouchValue) (changes kept : List Lent) → AllByRecursion (IsTouchUnder plan) touches
+      → map lent_change changes ≡ map change_of (filter inside touches)
+      → ((k : Bor KeyValue) → change_at lent_cmp kept k ≡ last_at lent_cmp changes k)
+      → IsRising (flip_args lent_cmp) kept
+      → AreOfTables plan (map lent_change (reverse kept))
+  left_of_tables plan touches changes kept under lent last falling =
+      all_by_last (λ k v. IfSome v (IsOfTable plan k)) (map lent_change (reverse kept))
+      (subst (IsRising key_cmp) (sym (map-reverse lent_change kept)) (rising-reverse (map lent_change kept) (falling-lent kept falling)))
+      (λ k v e. left_of_table plan k (is_inside marks k) (last_at key_cmp touches k) (λ put there. last_of_table plan touches k put under there) v (sym (lent-by_last touches changes kept (map lent_change (reverse kept)) lent last refl k) ∙ e))
 
   -- and with their kept columns these
   pub left-by_last : (plan : PlanValue) (touches : List TouchValue) (changes kept : List Lent) (puts : Rows)

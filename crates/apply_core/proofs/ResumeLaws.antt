@@ -6,7 +6,7 @@ use Rattle.std.proofs.lemmas.List.Elements.{filter-append}
 use Rattle.std.proofs.lemmas.Option.{same_Some, none-some, slice_get-map, slice_get_within}
 use Rattle.std.specs.declared.cmp.Ordering.TheVariants.{Less, Equal, Greater}
 use Rattle.std.specs.Cmp.{Equal-is}
-use Rattle.std.specs.List.{filter}
+use Rattle.std.specs.List.{AllByRecursion, filter}
 use Rattle.std.specs.Prelude.{IfSome}
 use Rattle.std.specs.Option.{option_or, option_map}
 use Rattle.std.specs.Ordering.{eq_by_cmp, is_le}
@@ -28,8 +28,9 @@ use Rattle.vevent.specs.CheckpointPart.{StreamPartValue}
 use Rattle.vdiff_core.specs.Report.{IsFirstDifference}
 use Rattle.vdiff_core.proofs.ReportLaws.{IsSameSoFar, stops_at_source, stops_at_target, stops_at_rows, same_for_longer, rest_of_source, rest_of_target}
 use Rattle.board_laws.specs.Cut.{cut_of}
-use Rattle.board_laws.specs.KeptRows.{passed_rows}
+use Rattle.board_laws.specs.KeptRows.{passed_rows, kept_row}
 use Rattle.board_laws.specs.Laws.{PassedRowsAreOneList}
+use Rattle.board_laws.specs.Lawful.{IsSoundState}
 use Rattle.board_laws.specs.Meaning.{State, TargetRows}
 use Rattle.board_laws.specs.Runs.{sound_groups}
 use Rattle.board_laws.specs.Step.{due_at}
@@ -49,10 +50,11 @@ use Rattle.checkpoint_laws.proofs.ResumedLaws.{at_same_place, at_inside, resumed
 use Rattle.checkpoint_laws.proofs.RestartedLaws.{one_number}
 use Rattle.checkpoint_core.specs.Groups.{AreFirst, StopsBefore}
 use Rattle.apply_core.specs.Feeds.{AreWholeFeeds}
-use Rattle.apply_core.specs.Private.Changes.{put_row}
+use Rattle.apply_core.specs.Private.Changes.{IsOfTable, found_row, put_row}
 use Rattle.apply_core.specs.Private.Resuming.{AtEachOfThree, IsNumberOf, AreNumbers, AreSaid, IsUnsoundAt, refusal_of_feed, AreOthers, AllRise}
 use Rattle.apply_core.specs.Private.StreamState.{IsStream}
 use Rattle.apply_core.specs.Private.Together.{AreTogether, ArePutsOfCut}
+use Rattle.apply_core.proofs.CopyLaws.{passed_of_tables}
 use denote.Ref.{Bor}
 
 -- ---- three lists
@@ -211,10 +213,35 @@ all_rise feeds saved said s one there =
 
 -- ---- the rows of a stream
 
--- the rows of an image within the marks are those of the cut
-pub found_are_cut : (one_list : PassedRowsAreOneList) (state : State) (image rows : ImageRows) (imaged : ℕ) → imaged ≡ state.applied → IsPassed state.list imaged image → rows ≡ filter (λ row. is_inside state.marks row.0) image → rows ≡ cut_rows state
-found_are_cut one_list state image rows imaged there kept is =
+-- a test of keys takes the kept columns of the rows that it takes
+filter-kept : (plan : PlanValue) (P : KeyValue → Bool) (rows : ImageRows) → map (kept_row plan) (filter (λ row. P row.0) rows) ≡ filter (λ row. P row.0) (map (kept_row plan) rows)
+filter-kept plan P [] = refl
+filter-kept plan P (row ∷ rows) = by (P row.0) (filter-kept plan P rows)
+  where
+    by : (b : Bool) → map (kept_row plan) (filter (λ (row : KeyValue × RowValue). P row.0) rows) ≡ filter (λ (row : KeyValue × RowValue). P row.0) (map (kept_row plan) rows)
+        → map (kept_row plan) (cond b (row ∷ filter (λ (row : KeyValue × RowValue). P row.0) rows) (filter (λ (row : KeyValue × RowValue). P row.0) rows))
+        ≡ cond b (kept_row plan row ∷ filter (λ (row : KeyValue × RowValue). P row.0) (map (kept_row plan) rows)) (filter (λ (row : KeyValue × RowValue). P row.0) (map (kept_row plan) rows))
+    by true rest = ap (λ (later : ImageRows). kept_row plan row ∷ later) rest
+    by false rest = rest
+
+-- the rows of an image within the marks are those that pass there
+pub found_pass : (one_list : PassedRowsAreOneList) (state : State) (image rows : ImageRows) (imaged : ℕ) → imaged ≡ state.applied → IsPassed state.list imaged image → rows ≡ filter (λ row. is_inside state.marks row.0) image
+    → rows ≡ filter (λ row. is_inside state.marks row.0) (passed_rows state.list state.applied)
+found_pass one_list state image rows imaged there kept is =
     is ∙ ap (filter (λ row. is_inside state.marks row.0)) (one_list state.list imaged image kept ∙ ap (passed_rows state.list) there)
+
+pub found_of_tables : Ties → (state : State) → IsSoundState state → (rows : ImageRows) → rows ≡ filter (λ row. is_inside state.marks row.0) (passed_rows state.list state.applied) → AllByRecursion (λ row. IsOfTable state.plan row.0 row.1) rows
+found_of_tables ties state sound rows is =
+    subst (AllByRecursion (λ (row : KeyValue × RowValue). IsOfTable state.plan row.0 row.1)) (sym is) (passed_of_tables ties state sound (λ row. is_inside state.marks row.0))
+
+each_found : (plan : PlanValue) (rows : List (Bor KeyValue × Bor RowValue)) → map (found_row plan) rows ≡ map (kept_row plan) (map lent_row rows)
+each_found plan [] = refl
+each_found plan (row ∷ rows) = ap (λ (later : ImageRows). found_row plan row ∷ later) (each_found plan rows)
+
+-- their kept columns are those of the cut
+pub found_are_cut : (state : State) (rows : List (Bor KeyValue × Bor RowValue)) → map lent_row rows ≡ filter (λ row. is_inside state.marks row.0) (passed_rows state.list state.applied) → map (found_row state.plan) rows ≡ cut_rows state
+found_are_cut state rows is =
+    each_found state.plan rows ∙ ap (map (kept_row state.plan)) is ∙ filter-kept state.plan (is_inside state.marks) (passed_rows state.list state.applied)
 
 pub least_of : (ties : Ties) (saved : SavedStream) (state : State) (rows : ImageRows) (key : KeyValue) → rows ≡ cut_rows state → IsFirstDifference saved.rows rows key → IsLeastDifference saved state key
 least_of ties saved state rows key is first =

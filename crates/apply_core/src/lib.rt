@@ -13,6 +13,7 @@ mod copying;
 mod fresh;
 mod join_rows;
 mod joining;
+mod kept;
 mod one_step;
 mod place;
 mod puts;

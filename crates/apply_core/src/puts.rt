@@ -15,6 +15,7 @@ ghost use Rattle.board_laws.specs.KeptRows.{kept_row};
 ghost use Rattle.board_laws.specs.Touching.{left_by, put_by};
 ghost use Rattle.apply_core.specs.Private.Changes.{IsOfTable, AreOfTables, kept_change, change_of, lent_change, put_row};
 
+use crate::kept::copy_kept;
 use filter_rule::Plan;
 use pk_copy::{CopyState, Key, LentKey, keys_tie_where_they_are_equal};
 use row_view::{RowBuf, RowBytes};
@@ -41,8 +42,8 @@ impl Puts {
     }
 
     /// What a group leaves at the copied keys, by rising key: the last touch of each key puts the kept
-    /// columns of a row that passes the plan's filter, and else takes the key away. Takes memory for these touches alone; an
-    /// error is want of it.
+    /// columns of a row that passes the plan's filter, and else takes the key away. Takes memory for these
+    /// touches alone; an error is want of it.
     pub fn of_group(
         alloc: Global,
         marks: &CopyState,
@@ -68,7 +69,7 @@ fn owned(
 {
     let owned_key = Key::from_view(alloc, &key.view())?;
     let row = match row {
-        Some(row) => Some(RowBuf::pick(alloc, &row.view(), plan.kept_columns(key.table()))?),
+        Some(row) => Some(copy_kept(alloc, plan, key, row)?),
         None => None,
     };
     Ok((owned_key, row))
@@ -107,7 +108,7 @@ fn owned_changes(
     plan: &Plan,
     mut changes: Vec<(&LentKey<'_>, Option<RowBytes<'_>>)>,
 ) -> Result<Vec<(Key, Option<RowBuf>)>, AllocError>
-    requires { AreOfTables plan.now (map lent_change changes.entry.items) }
+    requires { AreOfTables plan.now (map lent_change (reverse changes.entry.items)) }
     ensures { IfOk result (λ puts. puts.items ≡ map (kept_change plan.now) (map lent_change (reverse changes.entry.items))) }
 {
     changes.reverse();
@@ -119,8 +120,8 @@ fn owned_changes(
 }
 
 /// What a group leaves at the copied keys, in memory of its own and by rising key: the last touch of each
-/// key puts a row that passes the plan's filter, and else takes the key away. Only these touches are
-/// copied. Takes a search among the touches' keys; an error is want of memory.
+/// key puts the kept columns of a row that passes the plan's filter, and else takes the key away. Only
+/// these touches are copied. Takes a search among the touches' keys; an error is want of memory.
 fn puts_of_group(
     alloc: Global,
     marks: &CopyState,

@@ -1,7 +1,7 @@
 //! The rows of a checkpoint beside those that the feeds leave, and put together over one target.
 
 ghost use Rattle.std.specs.Prelude.{◌≡◌, ◌≤◌, ◌<◌, ◌+◌, List, length, map, take, MatchOption, IfOk, IfErr, OnOk};
-ghost use Rattle.std.specs.List.{filter};
+ghost use Rattle.std.specs.List.{AllByRecursion, filter};
 ghost use Rattle.pk_copy.specs.KeyOrder.{key_cmp};
 ghost use Rattle.pk_copy.specs.Marks.{is_inside};
 ghost use Rattle.target_tables.specs.Rising.{IsRising};
@@ -9,16 +9,18 @@ ghost use Rattle.source_feed.specs.Image.{lent_row};
 ghost use Rattle.vdiff_core.specs.Report.{IsFirstDifference};
 ghost use Rattle.checkpoint_laws.specs.Resumed.{AgreesWith, AtEachPlace};
 ghost use Rattle.checkpoint_laws.specs.Refused.{IsLeastDifference};
-ghost use Rattle.apply_core.specs.Private.Changes.{put_row};
+ghost use Rattle.apply_core.specs.Private.Changes.{IsOfTable, found_row, put_row};
 ghost use Rattle.apply_core.specs.Private.Resuming.{AreOthers, HaveClash, AllRise};
 ghost use Rattle.apply_core.specs.Private.Together.{AreTogether};
 
 use crate::bringing::bring;
+use crate::kept::is_kept;
 use crate::stream::Stream;
 use crate::together::put_stream;
 use board_laws::kept_rows_are_one_list;
 use checkpoint_core::ReadStream;
 use checkpoint_laws::ResumeFault;
+use filter_rule::Plan;
 use join_laws::JoinFault;
 use pk_copy::{CopyState, Key, LentKey, keys_tie_where_they_are_equal};
 use row_view::{RowBuf, RowBytes};
@@ -46,16 +48,19 @@ fn rows_inside<'i, 'h>(
     Ok(rows)
 }
 
-/// The least key at which two lists of rows by rising key differ, if any. One walk over what is the same. An
-/// error is want of memory.
+/// The least key at which rows and the kept columns of others, both by rising key, differ, if any. One walk
+/// over what is the same, without a copy. That each of the others is of a table of the plan is the caller's.
+/// An error is want of memory.
 fn first_difference(
     alloc: Global,
+    plan: &Plan,
     saved: &[(Key, RowBytes<'_>)],
     found: &[(&LentKey<'_>, &RowBytes<'_>)],
 ) -> Result<Option<Key>, AllocError>
     requires saved { IsRising key_cmp saved.now }
-    requires found { IsRising key_cmp (map lent_row found.now) }
-    ensures { IfOk result (λ key. MatchOption key (saved.now ≡ map lent_row found.now) (IsFirstDifference saved.now (map lent_row found.now))) }
+    requires found { IsRising key_cmp (map (found_row plan.now) found.now) }
+    requires of_tables { AllByRecursion (λ row. IsOfTable plan.now row.0 row.1) (map lent_row found.now) }
+    ensures { IfOk result (λ key. MatchOption key (saved.now ≡ map (found_row plan.now) found.now) (IsFirstDifference saved.now (map (found_row plan.now) found.now))) }
 {
     keys_tie_where_they_are_equal();
     for i in 0..saved.len() {
@@ -66,7 +71,7 @@ fn first_difference(
             Ordering::Less => return Ok(Some(saved[i].0.try_clone(alloc)?)),
             Ordering::Greater => return Ok(Some(Key::from_view(alloc, &found[i].0.view())?)),
             Ordering::Equal => {
-                if !saved[i].1.same(found[i].1) {
+                if !is_kept(plan, found[i].0, found[i].1, &saved[i].1) {
                     return Ok(Some(saved[i].0.try_clone(alloc)?));
                 }
             }
@@ -85,8 +90,8 @@ fn order_of(ours: &Key, theirs: &LentKey<'_>) -> Ordering
     ours.view().cmp(&theirs.view())
 }
 
-/// The least key at which the rows that a checkpoint says of a stream aren't those that its applied groups
-/// leave within its marks, if any. The image of these groups is built for it. An error is want of memory.
+/// The least key at which the rows that a checkpoint says of a stream aren't the kept columns of those that
+/// its applied groups leave within its marks, if any. The image of these groups is built for it. An error is want of memory.
 fn difference(
     alloc: Global,
     stream: &Stream<'_>,
@@ -108,7 +113,7 @@ fn difference(
         stream.applied,
     )?;
     let rows = rows_inside(alloc, &image, &stream.marks)?;
-    first_difference(alloc, saved.rows(), &rows)
+    first_difference(alloc, &stream.plan, saved.rows(), &rows)
 }
 
 /// Refused 117 where the rows that a checkpoint says of a stream aren't those that its applied groups leave

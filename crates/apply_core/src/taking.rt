@@ -78,7 +78,7 @@ impl<'h> Stream<'h> {
         Ok(found)
     }
 
-    /// The next chunk, in memory of its own. One row more tells whether it takes all that are left. An error
+    /// The next chunk, its rows' kept columns in memory of their own. One row more tells whether it takes all that are left. An error
     /// is want of memory.
     pub(crate) fn take_chunk(&self, alloc: Global, c: u32) -> Result<Chunk, AllocError>
         requires { IsAllowed self.now (copy_rows c) }
@@ -86,6 +86,7 @@ impl<'h> Stream<'h> {
     {
         keys_tie_where_they_are_equal();
         chunks_are_of_the_rows_left();
+        self.is_sound();
         let mut rows = self.rows_to_copy(alloc, c)?;
         let done = rows.len() <= c as usize;
         rows.truncate(c as usize);

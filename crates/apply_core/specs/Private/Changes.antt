@@ -7,7 +7,9 @@ use Rattle.pk_copy.specs.KeyValue.{KeyValue}
 use Rattle.target_tables.specs.declared.fault.TableFault.{TableFault}
 use Rattle.target_tables.specs.declared.fault.TableFault.TheVariants as table
 use Rattle.source_feed.specs.History.{RowValue, passing, kept_of}
+use Rattle.source_feed.specs.Image.{lent_row}
 use Rattle.source_feed.specs.Touches.{TouchValue}
+use Rattle.board_laws.specs.KeptRows.{kept_row}
 use Rattle.board_laws.specs.declared.refusal.Refusal.{Refusal}
 use Rattle.board_laws.specs.declared.refusal.Refusal.TheVariants.{OwnedByOther, Memory}
 use denote.Ref.{Bor}
@@ -35,6 +37,10 @@ AreOfTables plan changes = AllByRecursion (λ change. IfSome change.1 (IsOfTable
 -- a change with the kept columns of its row
 abbrev pub kept_change : PlanValue → Change → Change
 kept_change plan change = (change.0, option_map (kept_of plan change.0) change.1)
+
+-- a lent row with its kept columns
+abbrev pub found_row : PlanValue → Bor KeyValue × Bor RowValue → KeyValue × RowValue
+found_row plan row = kept_row plan (lent_row row)
 
 -- a row that is put
 abbrev pub put_row : KeyValue × RowValue → Change

@@ -5,7 +5,8 @@ use Rattle.pk_copy.specs.Marks.{Marks, is_inside}
 use Rattle.source_feed.specs.History.{RowValue}
 use Rattle.source_feed.specs.Image.{lent_row}
 use Rattle.board_laws.specs.Meaning.{State}
-use Rattle.apply_core.proofs.ResumeLaws.{found_are_cut, cut_rises, least_found}
+use Rattle.apply_core.specs.Private.Changes.{found_row}
+use Rattle.apply_core.proofs.ResumeLaws.{found_pass, found_of_tables, found_are_cut, cut_rises, least_found}
 use Rattle.apply_core.proofs.resumed_rows.difference.Goals as goal
 
 pub first_difference-requires-clause-found : goal.first_difference-requires-clause-found
@@ -13,14 +14,24 @@ first_difference-requires-clause-found c =
     let marks = ap (λ (s : State). s.marks) c.stream.view_is in
     let there = c.in_ok-bring.ensures.there ∙ ap (λ (s : State). s.applied) c.stream.view_is in
     let inside = c.in_ok-rows.ensures ∙ ap (λ (m : Marks). filter (λ (row : KeyValue × RowValue). is_inside m row.0) c.bring.new.image) marks in
-    let cut = found_are_cut c.kept_rows_are_one_list.ensures.list c.args.stream.now c.bring.new.image (map lent_row c.in_ok-rows.rows.items) c.bring.new.imaged there (rw c.list.ensures at c.in_ok-bring.ensures.kept) inside in
-    cut_rises (λ a b. (c.keys_tie_where_they_are_equal.ensures a b).0) c.args.stream.now (map lent_row c.deref.result.now) (ap (map lent_row) c.deref.ensures.value ∙ cut)
+    let pass = found_pass c.kept_rows_are_one_list.ensures.list c.args.stream.now c.bring.new.image (map lent_row c.in_ok-rows.rows.items) c.bring.new.imaged there (rw c.list.ensures at c.in_ok-bring.ensures.kept) inside in
+    let cut = found_are_cut c.args.stream.now c.in_ok-rows.rows.items pass in
+    cut_rises (λ a b. (c.keys_tie_where_they_are_equal.ensures a b).0) c.args.stream.now (map (found_row c.args.stream.now.plan) c.deref.result.now) (ap (map (found_row c.args.stream.now.plan)) c.deref.ensures.value ∙ cut)
+
+pub first_difference-requires-clause-of_tables : goal.first_difference-requires-clause-of_tables
+first_difference-requires-clause-of_tables c =
+    let marks = ap (λ (s : State). s.marks) c.stream.view_is in
+    let there = c.in_ok-bring.ensures.there ∙ ap (λ (s : State). s.applied) c.stream.view_is in
+    let inside = c.in_ok-rows.ensures ∙ ap (λ (m : Marks). filter (λ (row : KeyValue × RowValue). is_inside m row.0) c.bring.new.image) marks in
+    let pass = found_pass c.kept_rows_are_one_list.ensures.list c.args.stream.now c.bring.new.image (map lent_row c.in_ok-rows.rows.items) c.bring.new.imaged there (rw c.list.ensures at c.in_ok-bring.ensures.kept) inside in
+    found_of_tables (λ a b. (c.keys_tie_where_they_are_equal.ensures a b).0) c.args.stream.now c.is_sound.ensures (map lent_row c.deref.result.now) (ap (map lent_row) c.deref.ensures.value ∙ pass)
 
 pub returns : goal.returns
 returns c =
     let marks = ap (λ (s : State). s.marks) c.stream.view_is in
     let there = c.in_ok-bring.ensures.there ∙ ap (λ (s : State). s.applied) c.stream.view_is in
     let inside = c.in_ok-rows.ensures ∙ ap (λ (m : Marks). filter (λ (row : KeyValue × RowValue). is_inside m row.0) c.bring.new.image) marks in
-    let cut = found_are_cut c.kept_rows_are_one_list.ensures.list c.args.stream.now c.bring.new.image (map lent_row c.in_ok-rows.rows.items) c.bring.new.imaged there (rw c.list.ensures at c.in_ok-bring.ensures.kept) inside in
-    least_found (λ a b. (c.keys_tie_where_they_are_equal.ensures a b).0) c.args.saved.now c.args.stream.now c.rows.result.now (map lent_row c.deref.result.now) c.rows.ensures (ap (map lent_row) c.deref.ensures.value ∙ cut)
+    let pass = found_pass c.kept_rows_are_one_list.ensures.list c.args.stream.now c.bring.new.image (map lent_row c.in_ok-rows.rows.items) c.bring.new.imaged there (rw c.list.ensures at c.in_ok-bring.ensures.kept) inside in
+    let cut = found_are_cut c.args.stream.now c.in_ok-rows.rows.items pass in
+    least_found (λ a b. (c.keys_tie_where_they_are_equal.ensures a b).0) c.args.saved.now c.args.stream.now c.rows.result.now (map (found_row c.args.stream.now.plan) c.deref.result.now) c.rows.ensures (ap (map (found_row c.args.stream.now.plan)) c.deref.ensures.value ∙ cut)
     c.first_difference.result c.first_difference.ensures

@@ -3,8 +3,8 @@ use Rattle.std.proofs.lemmas.List.{length-map}
 use Rattle.std.proofs.lemmas.Option.{slice_get_read}
 use Rattle.pk_copy.specs.KeyOrder.{key_cmp}
 use Rattle.pk_copy.specs.KeyValue.{KeyValue}
-use Rattle.source_feed.specs.History.{RowValue}
-use Rattle.source_feed.specs.Image.{lent_row}
+use Rattle.source_feed.specs.History.{RowValue, kept_of}
+use Rattle.apply_core.specs.Private.Changes.{found_row}
 use Rattle.vdiff_core.specs.Report.{IsFirstDifference}
 use Rattle.apply_core.proofs.ResumeLaws.{LentRow, differs_less, differs_greater, differs_rows, goes_on, source_longer, target_longer, same_read}
 use Rattle.apply_core.proofs.StreamLaws.{item_at}
@@ -13,67 +13,67 @@ use Rattle.apply_core.proofs.resumed_rows.first_difference.Goals as goal
 pub returns-then-i-found : goal.returns-then-i-found
 returns-then-i-found c =
     let here = slice_get_read c.args.saved.now (length c.args.saved.now) c.loop-i.i c.index-saved-i.result refl c.loop-i-test.true c.index-saved-i.is in
-    let most : length (map lent_row c.args.found.now) ≤ c.loop-i.i = omega (arith, length-map c.args.found.now lent_row, c.if-i-found.true) in
-    subst (IsFirstDifference c.args.saved.now (map lent_row c.args.found.now)) (ap (λ (row : KeyValue × RowValue). row.0) c.index-saved-i.is ∙ sym c.in_ok-try_clone.ensures) (source_longer c.args.saved.now (map lent_row c.args.found.now) c.loop-i.i c.loop-i.invariant c.index-saved-i.result here most)
+    let most : length (map (found_row c.args.plan.now) c.args.found.now) ≤ c.loop-i.i = omega (arith, length-map c.args.found.now (found_row c.args.plan.now), c.if-i-found.true) in
+    subst (IsFirstDifference c.args.saved.now (map (found_row c.args.plan.now) c.args.found.now)) (ap (λ (row : KeyValue × RowValue). row.0) c.index-saved-i.is ∙ sym c.in_ok-try_clone.ensures) (source_longer c.args.saved.now (map (found_row c.args.plan.now) c.args.found.now) c.loop-i.i c.loop-i.invariant c.index-saved-i.result here most)
 
 pub returns-in-Less : goal.returns-in-Less
 returns-in-Less c =
     let inside : c.loop-i.i < length c.args.found.now = omega (arith, c.if-i-found.false) in
     let here = slice_get_read c.args.saved.now (length c.args.saved.now) c.loop-i.i c.index-saved-i-in-loop-i.result refl c.loop-i-test.true c.index-saved-i-in-loop-i.is in
     let again = slice_get_read c.args.saved.now (length c.args.saved.now) c.loop-i.i c.index-saved-i-in-Less.result refl c.loop-i-test.true c.index-saved-i-in-Less.is in
-    let there = item_at lent_row c.args.found.now c.loop-i.i c.index-found-i.result (lent_row c.index-found-i.result) inside c.index-found-i.is refl in
-    subst (IsFirstDifference c.args.saved.now (map lent_row c.args.found.now)) (same_read (λ (row : KeyValue × RowValue). row.0) c.args.saved.now c.loop-i.i c.index-saved-i-in-loop-i.result c.index-saved-i-in-Less.result here again ∙ ap (λ (row : KeyValue × RowValue). row.0) c.index-saved-i-in-Less.is ∙ sym c.in_ok-try_clone-in-Less.ensures)
-    (differs_less c.args.saved.now (map lent_row c.args.found.now) c.loop-i.i c.loop-i.invariant c.index-saved-i-in-loop-i.result (lent_row c.index-found-i.result) here there (ap₂ key_cmp (ap (λ (row : KeyValue × RowValue). row.0) c.index-saved-i-in-loop-i.is) (ap (λ (row : LentRow). row.0.now) c.index-found-i.is) ∙ sym c.order_of.ensures ∙ c.in-Less.is))
+    let there = item_at (found_row c.args.plan.now) c.args.found.now c.loop-i.i c.index-found-i.result (found_row c.args.plan.now c.index-found-i.result) inside c.index-found-i.is refl in
+    subst (IsFirstDifference c.args.saved.now (map (found_row c.args.plan.now) c.args.found.now)) (same_read (λ (row : KeyValue × RowValue). row.0) c.args.saved.now c.loop-i.i c.index-saved-i-in-loop-i.result c.index-saved-i-in-Less.result here again ∙ ap (λ (row : KeyValue × RowValue). row.0) c.index-saved-i-in-Less.is ∙ sym c.in_ok-try_clone-in-Less.ensures)
+    (differs_less c.args.saved.now (map (found_row c.args.plan.now) c.args.found.now) c.loop-i.i c.loop-i.invariant c.index-saved-i-in-loop-i.result (found_row c.args.plan.now c.index-found-i.result) here there (ap₂ key_cmp (ap (λ (row : KeyValue × RowValue). row.0) c.index-saved-i-in-loop-i.is) (ap (λ (row : LentRow). row.0.now) c.index-found-i.is) ∙ sym c.order_of.ensures ∙ c.in-Less.is))
 
 pub returns-in-Greater : goal.returns-in-Greater
 returns-in-Greater c =
     let inside : c.loop-i.i < length c.args.found.now = omega (arith, c.if-i-found.false) in
     let here = slice_get_read c.args.saved.now (length c.args.saved.now) c.loop-i.i c.index-saved-i-in-loop-i.result refl c.loop-i-test.true c.index-saved-i-in-loop-i.is in
-    let there = item_at lent_row c.args.found.now c.loop-i.i c.index-found-i.result (lent_row c.index-found-i.result) inside c.index-found-i.is refl in
-    let again = item_at lent_row c.args.found.now c.loop-i.i c.index-found-i-in-Greater.result (lent_row c.index-found-i-in-Greater.result) inside c.index-found-i-in-Greater.is refl in
-    subst (IsFirstDifference c.args.saved.now (map lent_row c.args.found.now))
-    (same_read (λ (row : KeyValue × RowValue). row.0) (map lent_row c.args.found.now) c.loop-i.i (lent_row c.index-found-i.result) (lent_row c.index-found-i-in-Greater.result) there again ∙ ap (λ (row : LentRow). row.0.now) c.index-found-i-in-Greater.is ∙ sym (c.in_ok-from_view-in-Greater.ensures ∙ c.view.ensures))
-    (differs_greater c.args.saved.now (map lent_row c.args.found.now) c.loop-i.i c.loop-i.invariant c.index-saved-i-in-loop-i.result (lent_row c.index-found-i.result) here there (ap₂ key_cmp (ap (λ (row : KeyValue × RowValue). row.0) c.index-saved-i-in-loop-i.is) (ap (λ (row : LentRow). row.0.now) c.index-found-i.is) ∙ sym c.order_of.ensures ∙ c.in-Greater.is))
+    let there = item_at (found_row c.args.plan.now) c.args.found.now c.loop-i.i c.index-found-i.result (found_row c.args.plan.now c.index-found-i.result) inside c.index-found-i.is refl in
+    let again = item_at (found_row c.args.plan.now) c.args.found.now c.loop-i.i c.index-found-i-in-Greater.result (found_row c.args.plan.now c.index-found-i-in-Greater.result) inside c.index-found-i-in-Greater.is refl in
+    subst (IsFirstDifference c.args.saved.now (map (found_row c.args.plan.now) c.args.found.now))
+    (same_read (λ (row : KeyValue × RowValue). row.0) (map (found_row c.args.plan.now) c.args.found.now) c.loop-i.i (found_row c.args.plan.now c.index-found-i.result) (found_row c.args.plan.now c.index-found-i-in-Greater.result) there again ∙ ap (λ (row : LentRow). row.0.now) c.index-found-i-in-Greater.is ∙ sym (c.in_ok-from_view-in-Greater.ensures ∙ c.view.ensures))
+    (differs_greater c.args.saved.now (map (found_row c.args.plan.now) c.args.found.now) c.loop-i.i c.loop-i.invariant c.index-saved-i-in-loop-i.result (found_row c.args.plan.now c.index-found-i.result) here there (ap₂ key_cmp (ap (λ (row : KeyValue × RowValue). row.0) c.index-saved-i-in-loop-i.is) (ap (λ (row : LentRow). row.0.now) c.index-found-i.is) ∙ sym c.order_of.ensures ∙ c.in-Greater.is))
 
-pub returns-then-not-same : goal.returns-then-not-same
-returns-then-not-same c =
-    let target = map lent_row c.args.found.now in
+pub returns-then-not-is_kept : goal.returns-then-not-is_kept
+returns-then-not-is_kept c =
+    let target = map (found_row c.args.plan.now) c.args.found.now in
     let i = c.loop-i.i in
     let x = c.index-saved-i-in-loop-i.result in
     let y = c.index-found-i.result in
     let inside : i < length c.args.found.now = omega (arith, c.if-i-found.false) in
     let here = slice_get_read c.args.saved.now (length c.args.saved.now) i x refl c.loop-i-test.true c.index-saved-i-in-loop-i.is in
     let again = slice_get_read c.args.saved.now (length c.args.saved.now) i c.index-saved-i-in-Equal.result refl c.loop-i-test.true c.index-saved-i-in-Equal.is in
-    let named = slice_get_read c.args.saved.now (length c.args.saved.now) i c.index-saved-i-then-not-same.result refl c.loop-i-test.true c.index-saved-i-then-not-same.is in
-    let there = item_at lent_row c.args.found.now i y (lent_row y) inside c.index-found-i.is refl in
-    let beside = item_at lent_row c.args.found.now i c.index-found-i-in-Equal.result (lent_row c.index-found-i-in-Equal.result) inside c.index-found-i-in-Equal.is refl in
+    let named = slice_get_read c.args.saved.now (length c.args.saved.now) i c.index-saved-i-then-not-is_kept.result refl c.loop-i-test.true c.index-saved-i-then-not-is_kept.is in
+    let there = item_at (found_row c.args.plan.now) c.args.found.now i y (found_row c.args.plan.now y) inside c.index-found-i.is refl in
+    let beside = item_at (found_row c.args.plan.now) c.args.found.now i c.index-found-i-in-Equal.result (found_row c.args.plan.now c.index-found-i-in-Equal.result) inside c.index-found-i-in-Equal.is refl in
     let key = (c.keys_tie_where_they_are_equal.ensures x.0 y.0.now).0 (ap₂ key_cmp (ap (λ (row : KeyValue × RowValue). row.0) c.index-saved-i-in-loop-i.is) (ap (λ (row : LentRow). row.0.now) c.index-found-i.is) ∙ sym c.order_of.ensures ∙ c.in-Equal.is) in
-    subst (IsFirstDifference c.args.saved.now target) (same_read (λ (row : KeyValue × RowValue). row.0) c.args.saved.now i x c.index-saved-i-then-not-same.result here named ∙ ap (λ (row : KeyValue × RowValue). row.0) c.index-saved-i-then-not-same.is ∙ sym c.in_ok-try_clone-in-Equal.ensures)
-    (differs_rows c.args.saved.now target i c.loop-i.invariant x (lent_row y) here there key (λ e.
-    let told = c.same.ensures.1 (sym (ap (λ (row : KeyValue × RowValue). row.1) c.index-saved-i-in-Equal.is) ∙ same_read (λ (row : KeyValue × RowValue). row.1) c.args.saved.now i c.index-saved-i-in-Equal.result x again here ∙ e ∙ same_read (λ (row : KeyValue × RowValue). row.1) target i (lent_row y) (lent_row c.index-found-i-in-Equal.result) there beside ∙ ap (λ (row : LentRow). row.1.now) c.index-found-i-in-Equal.is) in
-    let other = c.if-not-same.true in
+    subst (IsFirstDifference c.args.saved.now target) (same_read (λ (row : KeyValue × RowValue). row.0) c.args.saved.now i x c.index-saved-i-then-not-is_kept.result here named ∙ ap (λ (row : KeyValue × RowValue). row.0) c.index-saved-i-then-not-is_kept.is ∙ sym c.in_ok-try_clone-in-Equal.ensures)
+    (differs_rows c.args.saved.now target i c.loop-i.invariant x (found_row c.args.plan.now y) here there key (λ e.
+    let told = c.is_kept.ensures.1 (sym (ap (λ (row : KeyValue × RowValue). row.1) c.index-saved-i-in-Equal.is) ∙ same_read (λ (row : KeyValue × RowValue). row.1) c.args.saved.now i c.index-saved-i-in-Equal.result x again here ∙ e ∙ same_read (λ (row : KeyValue × RowValue). row.1) target i (found_row c.args.plan.now y) (found_row c.args.plan.now c.index-found-i-in-Equal.result) there beside ∙ ap (λ (row : LentRow). kept_of c.args.plan.now row.0.now row.1.now) c.index-found-i-in-Equal.is) in
+    let other = c.if-not-is_kept.true in
     cc))
 
 pub loop-i-preserved : goal.loop-i-preserved
 loop-i-preserved c =
-    let target = map lent_row c.args.found.now in
+    let target = map (found_row c.args.plan.now) c.args.found.now in
     let i = c.loop-i.i in
     let x = c.index-saved-i-in-loop-i.result in
     let y = c.index-found-i.result in
     let inside : i < length c.args.found.now = omega (arith, c.if-i-found.false) in
     let here = slice_get_read c.args.saved.now (length c.args.saved.now) i x refl c.loop-i-test.true c.index-saved-i-in-loop-i.is in
     let again = slice_get_read c.args.saved.now (length c.args.saved.now) i c.index-saved-i-in-Equal.result refl c.loop-i-test.true c.index-saved-i-in-Equal.is in
-    let there = item_at lent_row c.args.found.now i y (lent_row y) inside c.index-found-i.is refl in
-    let beside = item_at lent_row c.args.found.now i c.index-found-i-in-Equal.result (lent_row c.index-found-i-in-Equal.result) inside c.index-found-i-in-Equal.is refl in
+    let there = item_at (found_row c.args.plan.now) c.args.found.now i y (found_row c.args.plan.now y) inside c.index-found-i.is refl in
+    let beside = item_at (found_row c.args.plan.now) c.args.found.now i c.index-found-i-in-Equal.result (found_row c.args.plan.now c.index-found-i-in-Equal.result) inside c.index-found-i-in-Equal.is refl in
     let key = (c.keys_tie_where_they_are_equal.ensures x.0 y.0.now).0 (ap₂ key_cmp (ap (λ (row : KeyValue × RowValue). row.0) c.index-saved-i-in-loop-i.is) (ap (λ (row : LentRow). row.0.now) c.index-found-i.is) ∙ sym c.order_of.ensures ∙ c.in-Equal.is) in
-    goes_on c.args.saved.now target i c.loop-i.invariant x (lent_row y) here there key
-    (same_read (λ (row : KeyValue × RowValue). row.1) c.args.saved.now i x c.index-saved-i-in-Equal.result here again ∙ ap (λ (row : KeyValue × RowValue). row.1) c.index-saved-i-in-Equal.is ∙ c.same.ensures.0 c.if-not-same.false ∙ sym (ap (λ (row : LentRow). row.1.now) c.index-found-i-in-Equal.is) ∙ same_read (λ (row : KeyValue × RowValue). row.1) target i (lent_row c.index-found-i-in-Equal.result) (lent_row y) beside there)
+    goes_on c.args.saved.now target i c.loop-i.invariant x (found_row c.args.plan.now y) here there key
+    (same_read (λ (row : KeyValue × RowValue). row.1) c.args.saved.now i x c.index-saved-i-in-Equal.result here again ∙ ap (λ (row : KeyValue × RowValue). row.1) c.index-saved-i-in-Equal.is ∙ c.is_kept.ensures.0 c.if-not-is_kept.false ∙ sym (ap (λ (row : LentRow). kept_of c.args.plan.now row.0.now row.1.now) c.index-found-i-in-Equal.is) ∙ same_read (λ (row : KeyValue × RowValue). row.1) target i (found_row c.args.plan.now c.index-found-i-in-Equal.result) (found_row c.args.plan.now y) beside there)
 
 pub returns-then-saved-found : goal.returns-then-saved-found
 returns-then-saved-found c =
-    let target = map lent_row c.args.found.now in
+    let target = map (found_row c.args.plan.now) c.args.found.now in
     let y = c.index-found-saved.result in
     let end : c.loop-i.i ≡ length c.args.saved.now = omega (arith, c.loop-i-test.false, c.loop-i.auto.i-end) in
-    let there = item_at lent_row c.args.found.now (length c.args.saved.now) y (lent_row y) c.if-saved-found.true c.index-found-saved.is refl in
+    let there = item_at (found_row c.args.plan.now) c.args.found.now (length c.args.saved.now) y (found_row c.args.plan.now y) c.if-saved-found.true c.index-found-saved.is refl in
     subst (IsFirstDifference c.args.saved.now target) (ap (λ (row : LentRow). row.0.now) c.index-found-saved.is ∙ sym (c.in_ok-from_view.ensures ∙ c.view-then-saved-found.ensures))
-    (target_longer c.args.saved.now target c.loop-i.i c.loop-i.invariant (lent_row y) (subst (λ n. slice_get target n ≡ Some (lent_row y)) (sym end) there) c.loop-i-test.false)
+    (target_longer c.args.saved.now target c.loop-i.i c.loop-i.invariant (found_row c.args.plan.now y) (subst (λ n. slice_get target n ≡ Some (found_row c.args.plan.now y)) (sym end) there) c.loop-i-test.false)
