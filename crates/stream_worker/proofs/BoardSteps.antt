@@ -14,18 +14,20 @@ use Rattle.stream_core.specs.declared.step.Step.TheVariants.{Advance}
 use Rattle.stream_core.specs.Standing.{Standing}
 use Rattle.stream_core.specs.StepTable.{decided}
 use Rattle.target_tables.specs.Contents.{value_at}
-use Rattle.source_feed.specs.History.{RowValue}
+use Rattle.filter_rule.specs.PlanValue.{PlanValue}
+use Rattle.source_feed.specs.History.{RowValue, kept_of}
 use Rattle.source_feed.specs.Touches.{PreparedValue}
 use Rattle.board_laws.specs.declared.answer.Answer.{Answer}
 use Rattle.board_laws.specs.declared.refusal.Refusal.{Refusal}
 use Rattle.board_laws.specs.declared.refusal.Refusal.TheVariants.{NoStream, Core, Memory}
 use Rattle.board_laws.specs.Meaning.{State, Meaning}
-use Rattle.board_laws.specs.Lawful.{standing_of, IsLawful}
+use Rattle.board_laws.specs.Lawful.{standing_of, IsLawful, IsSoundState}
 use Rattle.board_laws.specs.Event.{Event, offer, advance, open_at, copy_rows, close, restart}
 use Rattle.board_laws.specs.Chunk.{takes_all, copied_state}
 use Rattle.board_laws.specs.StateAfter.{state_after}
 use Rattle.board_laws.specs.declared.answer.Answer.TheVariants.{Applied}
 use Rattle.board_laws.specs.Cut.{own_row}
+use Rattle.board_laws.specs.Touching.{left_by, passed_by, touch_of}
 use Rattle.board_laws.specs.Step.{IsMade, IsRefusedFor, IsRefusedOn, IsStep}
 use Rattle.apply_core.specs.Chunks.{IsChunkFor}
 use Rattle.apply_core.specs.Putting.{DoAsStep}
@@ -159,14 +161,23 @@ next_here old now given s next is here = ap (λ (laid : Laid). next_group_of lai
     by None h = absurd h
     by (Some state) h = sym h.group
 
-pub puts_here : (old : Meaning) (now : Laid) (given s : ℕ) (next : Next) → laid_of old given ≡ now → IsSomeAnd (slice_get now.board s) (λ state. IsNextOf state next)
-    → IfSome (slice_get old.streams s) (λ state. DoAsStep state advance next.puts.changes.items)
-puts_here old now given s next is here =
-    subst (λ (laid : Laid). IfSome (slice_get laid.board s) (λ state. DoAsStep state advance next.puts.changes.items)) (sym is) (by (slice_get now.board s) here)
+-- what the next group leaves is what the step does, since its plan is the stream's
+left_is_touch : (state : State) → IsSoundState state → (key : KeyValue) → option_and_then (λ group. left_by state.marks group key) (slice_get state.list state.applied) ≡ touch_of state advance key
+left_is_touch state sound key = by (slice_get state.list state.applied) refl
   where
-    by : (o : Option State) → IsSomeAnd o (λ state. IsNextOf state next) → IfSome o (λ state. DoAsStep state advance next.puts.changes.items)
-    by None h = absurd h
-    by (Some state) h = h.puts
+    by : (o : Option PreparedValue) → slice_get state.list state.applied ≡ o
+        → option_and_then (λ (group : PreparedValue). left_by state.marks group key) o ≡ option_map (option_map (kept_of state.plan key)) (option_and_then (λ (group : PreparedValue). passed_by state.marks group key) o)
+    by None there = refl
+    by (Some group) there = ap (λ (plan : PlanValue). option_map (option_map (kept_of plan key)) (passed_by state.marks group key)) (sound.list.planned state.applied group there)
+
+pub puts_here : (old : Meaning) (now : Laid) (given s : ℕ) (next : Next) → laid_of old given ≡ now → IsLawful old → IsSomeAnd (slice_get now.board s) (λ state. IsNextOf state next)
+    → IfSome (slice_get old.streams s) (λ state. DoAsStep state advance next.puts.changes.items)
+puts_here old now given s next is lawful here =
+    by (slice_get old.streams s) refl (subst (λ (laid : Laid). IsSomeAnd (slice_get laid.board s) (λ state. IsNextOf state next)) (sym is) here)
+  where
+    by : (o : Option State) → slice_get old.streams s ≡ o → IsSomeAnd o (λ state. IsNextOf state next) → IfSome o (λ state. DoAsStep state advance next.puts.changes.items)
+    by None there h = absurd h
+    by (Some state) there h = λ key. h.puts key ∙ left_is_touch state (lawful.sound s state there) key
 
 -- what stands behind an advance: the stream, and the group at its new number
 applied_state : (old new : Meaning) (s : ℕ) (answer : Answer) (made : IsMade old s advance answer new) → slice_get new.streams s ≡ Some (state_after made.state advance)

@@ -198,8 +198,6 @@ next_taken before s taken holding standing outline next own h numbers is built =
     by : (o : Option State) → state_seen before s ≡ o → option_map standing_of o ≡ Some standing → option_map outline_of o ≡ Some outline → IsSomeAnd (slice_get taken.board s) (λ state. IsNextOf state next)
     by None e none more = cc
     by (Some state) e one two =
-        let in_state : IsNextIn (outline_of state) state.applied next =
-        subst (λ (o : Outlined). IsNextIn o state.applied next) (sym (same_Some (outline_of state) outline two))
-        (subst (λ (n : ℕ). IsNextIn outline n next) (sym (ap (λ (x : Standing). x.applied) (same_Some (standing_of state) standing one))) built) in
         subst (λ (o : Option State). IsSomeAnd o (λ state. IsNextOf state next)) (sym (own_as_seen before s taken standing own h.says numbers ∙ e))
-        (record { group = in_state.group; puts = in_state.puts })
+        (subst (λ (o : Outlined). IsNextIn o state.applied next) (sym (same_Some (outline_of state) outline two))
+        (subst (λ (n : ℕ). IsNextIn outline n next) (sym (ap (λ (x : Standing). x.applied) (same_Some (standing_of state) standing one))) built))

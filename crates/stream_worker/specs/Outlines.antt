@@ -8,9 +8,7 @@ use Rattle.pk_copy.specs.Marks.{Marks}
 use Rattle.target_tables.specs.Touches.{last_at}
 use Rattle.source_feed.specs.Touches.{PreparedValue}
 use Rattle.board_laws.specs.Meaning.{State}
-use Rattle.board_laws.specs.Event.{advance}
 use Rattle.board_laws.specs.Touching.{left_by}
-use Rattle.apply_core.specs.Putting.{DoAsStep}
 use Rattle.stream_worker.specs.declared.outline.Next.{Next}
 use Rattle.stream_worker.specs.Knowing.{Knows, state_seen}
 
@@ -28,9 +26,8 @@ pub record IsNextIn (outline : Outlined) (applied : ℕ) (next : Next) : Type 0 
   pub puts : (key : KeyValue) → last_at key_cmp next.puts.changes.items key ≡ option_and_then (λ group. left_by outline.marks group key) (slice_get outline.list applied)
 
 -- the group that a stream in this state applies next, and what that puts
-pub record IsNextOf (state : State) (next : Next) : Type 0 where
-  pub group : option_map arc_value next.group ≡ slice_get state.list state.applied
-  pub puts : DoAsStep state advance next.puts.changes.items
+abbrev pub IsNextOf : State → Next → Type 0
+IsNextOf state next = IsNextIn (outline_of state) state.applied next
 
 -- the outlines, in order, of the streams that a pass saw
 abbrev pub AreOutlinesSeen : List Outlined → Knows → Type 0

@@ -9,7 +9,7 @@ use Rattle.stream_worker.proofs.BoardSteps.{of_step, none_applied, receipt_of, n
 use Rattle.stream_worker.proofs.deal.Deal.advance.Goals as goal
 
 pub advance_by-result-requires : goal.advance_by-result-requires
-advance_by-result-requires c = puts_here c.self.inside.board c.args.self.now c.self.inside.given c.args.s c.args.next c.self.view_is c.requires
+advance_by-result-requires c = puts_here c.self.inside.board c.args.self.now c.self.inside.given c.args.s c.args.next c.self.view_is c.self.invariant c.requires
 
 pub returns-in-Ok-Some-clause-receipt : goal.returns-in-Ok-Some-clause-receipt
 returns-in-Ok-Some-clause-receipt c =
