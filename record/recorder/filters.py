@@ -13,8 +13,10 @@ BY_NAME = {kind.name: kind for kind in NAMED}
 _BLANKS = r"[ \t\r\n]*"
 _NAME = r"(`[^`]+`|[\w$]+)"
 _QUOTED = r"'([^']*)'"
+_COLUMN = r"(?:`[^`]+`|[\w$]+(?![\w$]))"
 _SELECT = re.compile(
-    rf"{_BLANKS}select\s+\*\s+from\s+{_NAME}(?:\s+where\s+in_keyrange{_BLANKS}\({_BLANKS}"
+    rf"{_BLANKS}select(?![\w$]){_BLANKS}(\*|{_COLUMN}(?:{_BLANKS},{_BLANKS}{_COLUMN})*){_BLANKS}from(?![\w$]){_BLANKS}{_NAME}"
+    rf"(?:\s+where\s+in_keyrange{_BLANKS}\({_BLANKS}"
     rf"(?:{_NAME}{_BLANKS},{_BLANKS}{_QUOTED}{_BLANKS},{_BLANKS})?{_QUOTED}{_BLANKS}\))?{_BLANKS}", re.I)  # fmt: skip
 
 
@@ -39,8 +41,15 @@ class Planned:
             return f"HEX({name})"
         return f"HEX(CONCAT({name}))" if kind == Kind.BIT else f"HEX(CAST({name} AS CHAR))"
 
-    def cells(self) -> str:
-        parts = [f"IF({quoted(name)} IS NULL, 'N', CONCAT('x', LOWER({self._text(name)})))" for name in self.kinds]
+    def kept(self, filtered: str) -> list[str]:
+        """The columns that a filter keeps, in their order."""
+        found = _SELECT.fullmatch(filtered)
+        if not found or found[1] == "*":
+            return [*self.kinds]
+        return [name.strip("`") for name in re.findall(_COLUMN, found[1])]
+
+    def cells(self, columns: list[str]) -> str:
+        parts = [f"IF({quoted(name)} IS NULL, 'N', CONCAT('x', LOWER({self._text(name)})))" for name in columns]
         return f"CONCAT_WS(CHAR(9), {', '.join(parts)})"
 
     def order(self) -> list[str]:
@@ -68,7 +77,7 @@ class Planned:
         found = _SELECT.fullmatch(filtered)
         if not found:
             return self._in_range(self.vindex, filtered)
-        _, column, vindex, place = found.groups()
+        *_, column, vindex, place = found.groups()
         if place is None:
             return "TRUE"
         return self._in_range((column.strip("`"), vindex) if column else self.vindex, place)
@@ -102,12 +111,19 @@ def dump_query(workflow: dict, schemas: list[str]) -> str:
         for stream, schema in zip(streams, schemas):
             filtered = _rule_of(stream, table.name)
             if filtered is not None:
-                parts.append(f"SELECT {table.cells()} AS line, {keys} FROM {quoted(schema)}.{quoted(table.name)} WHERE {table.condition(filtered)}")
+                cells = table.cells(table.kept(filtered))
+                parts.append(f"SELECT {cells} AS line, {keys} FROM {quoted(schema)}.{quoted(table.name)} WHERE {table.condition(filtered)}")
         lines.append(f"SELECT {_literal('table ' + table.name)};")
         if parts:
             union = "\n  UNION ALL ".join(parts)
             lines.append(f"SELECT line FROM (\n  {union}\n) AS dumped ORDER BY {', '.join(order)};")
     return "\n".join(lines) + "\n"
+
+
+def kept_columns(workflow: dict, table: Planned) -> list[str]:
+    """The columns that the target has of a table, in their order: all, where no stream has a rule for it."""
+    rules = [_rule_of(stream, table.name) for stream in workflow["streams"]]
+    return next((table.kept(it) for it in rules if it is not None), [*table.kinds])
 
 
 def _rule_of(stream: dict, table: str) -> str | None:
