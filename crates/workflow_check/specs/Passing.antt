@@ -1,4 +1,4 @@
--- Which rows of a table a stream passes, as the file says it, and ranges that don't tile (this profile).
+-- Which rows of a table a stream passes, and which columns of it it keeps, as the file says it (this profile).
 use Rattle.std.specs.Prelude.{ℕ, ◌+◌, List, [], ◌∷◌, ◌++◌, codes, decimal, Option, None, Some, option_and_then, option_map}
 use Rattle.std.specs.List.{flat_map}
 use Rattle.serde_json.specs.Data.{Data}
@@ -6,7 +6,7 @@ use Rattle.hex.specs.Hex.{encode_lower}
 use Rattle.vindex.specs.Bounds.{Bounds}
 use Rattle.vindex.specs.KeyspaceId.{vindex_name}
 use Rattle.vindex.specs.declared.vindexes.Vindex.{Vindex}
-use Rattle.filter_text.specs.FilterText.{RowsSaid, every_row, in_own_range, in_range_of, filter_of}
+use Rattle.filter_text.specs.FilterText.{RowsSaid, every_row, in_own_range, in_range_of, FilterMeaning, filter_of}
 use Rattle.filter_rule.specs.Document.{RuleSaid}
 use Rattle.workflow_check.specs.Json.{text_at}
 use Rattle.workflow_check.specs.Rules.{rules_in, own_vindex, first_rule}
@@ -17,9 +17,13 @@ pub record RangedValue : Type 0 where
   pub vindex : Vindex
   pub range : Bounds
 
--- the rows that a filter names
+-- what a rule's filter says
+abbrev pub said_by : Option RuleSaid → Option FilterMeaning
+said_by rule = option_and_then (λ r. filter_of r.filter) rule
+
+-- the rows that it names
 abbrev pub rows_by : Option RuleSaid → Option RowsSaid
-rows_by rule = option_and_then (λ r. option_map (λ said. said.rows) (filter_of r.filter)) rule
+rows_by rule = option_map (λ said. said.rows) (said_by rule)
 
 -- a key range that they are in: one alone is under the table's own vindex
 abbrev pub own_ranged : Bounds → Option (List ℕ × Vindex) → Option RangedValue
@@ -44,13 +48,27 @@ abbrev pub ranged_text : Option RangedValue → List ℕ
 ranged_text None = codes "every row"
 ranged_text (Some r) = codes "range " ++ range_text r.range ++ codes " of " ++ r.column ++ codes " by " ++ vindex_name r.vindex
 
-abbrev pub rows_text : Option (List ℕ × Vindex) → Option RowsSaid → List ℕ
-rows_text own None = codes "no row"
-rows_text own (Some rows) = ranged_text (range_said own rows)
+-- columns, each behind a comma
+abbrev pub more_columns : List (List ℕ) → List ℕ
+more_columns columns = flat_map (λ column. 44 ∷ column) columns
 
--- the rows of a table that a stream passes
+-- columns parted by commas
+abbrev pub parted : List (List ℕ) → List ℕ
+parted [] = []
+parted (column ∷ columns) = column ++ more_columns columns
+
+-- the columns that a filter lists, where it lists any
+abbrev pub columns_text : Option (List (List ℕ)) → List ℕ
+columns_text None = []
+columns_text (Some columns) = codes "columns " ++ parted columns ++ codes " "
+
+abbrev pub said_text : Option (List ℕ × Vindex) → Option FilterMeaning → List ℕ
+said_text own None = codes "no row"
+said_text own (Some said) = columns_text said.columns ++ ranged_text (range_said own said.rows)
+
+-- the columns that are listed of a table, and its rows that a stream passes
 abbrev pub table_words : List RuleSaid → Data → List ℕ
-table_words rules table = rows_text (own_vindex table) (rows_by (first_rule rules (text_at (codes "name") table)))
+table_words rules table = said_text (own_vindex table) (said_by (first_rule rules (text_at (codes "name") table)))
 
 -- ---- lines
 

@@ -7,6 +7,7 @@ mod file;
 mod ignored;
 mod json;
 mod kinds;
+mod listed;
 mod note;
 mod passing;
 mod ranges;

@@ -1,4 +1,4 @@
-//! Which rows of a table a stream passes, in words.
+//! Which rows of a table a stream passes, and which columns it keeps, in words.
 
 ghost use Rattle.std.specs.Prelude.{◌≡◌, ◌++◌, IfOk, OnOk, codes, decimal, map};
 ghost use Rattle.std.specs.Option.{option_copied, option_map};
@@ -6,10 +6,11 @@ ghost use Rattle.std.specs.String.{string_bytes};
 ghost use Rattle.serde_json.specs.View.{view};
 ghost use Rattle.hex.specs.Hex.{encode_lower};
 ghost use Rattle.vindex.specs.KeyspaceId.{vindex_name};
-ghost use Rattle.filter_text.specs.Views.{rows_said};
-ghost use Rattle.workflow_check.specs.Passing.{rows_by, own_ranged, range_said, end_text, range_text, ranged_text, rows_text, table_words, rule_line, stream_lines, rule_lines};
+ghost use Rattle.filter_text.specs.Views.{meaning, rows_said};
+ghost use Rattle.workflow_check.specs.Passing.{said_by, rows_by, own_ranged, range_said, end_text, range_text, ranged_text, said_text, table_words, rule_line, stream_lines, rule_lines};
 
 use crate::json::text_at;
+use crate::listed::columns_text;
 use crate::note::number_text;
 use crate::rules::{Rule, first_rule, rules_in, vindex_in};
 use filter_text::{Filter, FilterFault, Rows};
@@ -34,6 +35,20 @@ impl<'v> Model for Ranged<'v> {
     ghost view = { λ r. record { column = r.column.now; vindex = r.vindex; range = r.range } };
 }
 
+/// What a rule's filter says.
+fn said_by<'v>(alloc: Global, rule: Option<&Rule<'v>>) -> Result<Option<Filter<'v>>, AllocError>
+    ensures { IfOk result (λ said. option_map meaning said ≡ said_by (option_copied rule.entry)) }
+{
+    let Some(rule) = rule else {
+        return Ok(None);
+    };
+    match Filter::parse(alloc, rule.filter()) {
+        Ok(filter) => Ok(Some(filter)),
+        Err(FilterFault::Memory) => Err(AllocError),
+        Err(FilterFault::BadForm) => Ok(None),
+    }
+}
+
 /// The rows that a rule's filter names.
 pub(crate) fn rows_by<'v>(
     alloc: Global,
@@ -41,13 +56,9 @@ pub(crate) fn rows_by<'v>(
 ) -> Result<Option<Rows<'v>>, AllocError>
     ensures { IfOk result (λ rows. option_map rows_said rows ≡ rows_by (option_copied rule.entry)) }
 {
-    let Some(rule) = rule else {
-        return Ok(None);
-    };
-    match Filter::parse(alloc, rule.filter()) {
-        Ok(filter) => Ok(Some(filter.rows)),
-        Err(FilterFault::Memory) => Err(AllocError),
-        Err(FilterFault::BadForm) => Ok(None),
+    match said_by(alloc, rule)? {
+        None => Ok(None),
+        Some(said) => Ok(Some(said.rows)),
     }
 }
 
@@ -127,27 +138,30 @@ fn ranged_text(alloc: Global, ranged: Option<&Ranged<'_>>) -> Result<String, All
     Ok(text)
 }
 
-/// The rows of a table in words.
-fn rows_text<'v>(
+/// The listed columns of a table and its rows, in words.
+fn said_text<'v>(
     alloc: Global,
     own: Option<(&'v str, Vindex)>,
-    rows: Option<Rows<'v>>,
+    said: Option<Filter<'v>>,
 ) -> Result<String, AllocError>
-    ensures { IfOk result (λ text. string_bytes text ≡ rows_text (option_map (λ v. (v.0.now, v.1)) own.entry) (option_map rows_said rows.entry)) }
+    ensures { IfOk result (λ text. string_bytes text ≡ said_text (option_map (λ v. (v.0.now, v.1)) own.entry) (option_map meaning said.entry)) }
 {
-    let Some(rows) = rows else {
+    let Some(said) = said else {
         return Ok(String::from_str(alloc, "no row")?);
     };
-    let ranged = range_of(own, rows);
-    ranged_text(alloc, ranged.as_ref())
+    let mut text = columns_text(alloc, &said.columns)?;
+    let ranged = range_of(own, said.rows);
+    let rows = ranged_text(alloc, ranged.as_ref())?;
+    text.push_str(&rows)?;
+    Ok(text)
 }
 
-/// The rows of a table that a stream with these rules passes, in words.
+/// The columns that a stream with these rules lists of a table, and the rows that it passes, in words.
 fn table_words(alloc: Global, rules: &[Rule<'_>], table: &Value) -> Result<String, AllocError>
     ensures { IfOk result (λ text. string_bytes text ≡ table_words rules.now (view table.now)) }
 {
-    let rows = rows_by(alloc, first_rule(rules, text_at(table, "name")))?;
-    rows_text(alloc, vindex_in(table), rows)
+    let said = said_by(alloc, first_rule(rules, text_at(table, "name")))?;
+    said_text(alloc, vindex_in(table), said)
 }
 
 /// A stream's number and a table's name.
