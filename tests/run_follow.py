@@ -20,7 +20,8 @@ import sys
 import tempfile
 import time
 
-from model import making
+from model import checkpoint, making, program
+from model.board import Board
 
 SECONDS = 120
 OLD = b"what stood there before"
@@ -282,10 +283,26 @@ def progress(room, r, rounds=30):
     yield "without the word nothing is told", said == wanted
 
 
+def of_listed_columns(room, r, rounds=10):
+    """A target that keeps two columns in another order: what the plain model saves at the feeds' ends, wherever it stood."""
+    workflow, alike = making.workflow("-80", "80-", match="t", text="select v, id from t"), 0
+    for _ in range(rounds):
+        feeds = two_feeds(r, 6)
+        board = Board(*program.opened(False, workflow, feeds(6).values()))
+        for s in range(2):
+            board.fill(s, 1000, 100, 4)
+        room.put(workflow=workflow, **feeds(r.randrange(6)))
+        assert room.follow()[0] == 0
+        room.put(**feeds(6))
+        ran = room.follow("--checkpoint=kept", "--dump", *r.choice(ENDS))
+        alike += ran == (0, board.dump(), b"") and room.get("kept") == checkpoint.save(board)
+    yield f"{rounds} checkpoints of listed columns are moved on to the model's", alike == rounds
+
+
 def main(built):
     passed = failed = 0
     r = random.Random(1)
-    for part in (from_nothing, from_anywhere, again_and_again, only_some, refused, cut_short, killed, progress):
+    for part in (from_nothing, from_anywhere, again_and_again, only_some, refused, cut_short, killed, progress, of_listed_columns):
         with tempfile.TemporaryDirectory(prefix="vrepl-follow-") as place:
             for title, holds in part(Room(built, place), r):
                 passed, failed = passed + bool(holds), failed + (not holds)
