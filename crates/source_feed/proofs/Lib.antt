@@ -17,3 +17,4 @@ pub mod ImageLaws
 pub mod ChunkLaws
 pub mod FrameLaws
 pub mod PiecesLaws
+pub mod TableLaws
