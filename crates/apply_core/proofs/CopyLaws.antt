@@ -90,11 +90,8 @@ all_within P plan (row ∷ rows) h = by (P row) (all_within P plan rows h.1)
     by false rest = rest
 
 all_first : (plan : PlanValue) (c : ℕ) (rows : ImageRows) → AllByRecursion (IsRowUnder plan) rows → AllByRecursion (IsRowUnder plan) (take c rows)
-all_first plan c [] h = subst (AllByRecursion (IsRowUnder plan)) (sym (take_none c)) tt
-  where
-    take_none : (n : ℕ) → take n {A = KeyValue × RowValue} [] ≡ []
-    take_none zero = refl
-    take_none (suc n) = refl
+all_first plan zero [] h = tt
+all_first plan (suc c) [] h = tt
 all_first plan zero (row ∷ rows) h = tt
 all_first plan (suc c) (row ∷ rows) h = (h.0, all_first plan c rows h.1)
 

@@ -64,7 +64,7 @@ fn owned(
     key: &LentKey<'_>,
     row: Option<&RowBytes<'_>>,
 ) -> Result<(Key, Option<RowBuf>), AllocError>
-    requires { IfSome (option_copied row.entry) (λ row. IsOfTable plan.now key.now row) }
+    requires { IfSome (option_copied row) (λ row. IsOfTable plan.now key.now row) }
     ensures { IfOk result (λ put. put ≡ (key.now, option_map (kept_of plan.now key.now) (option_copied row.entry))) }
 {
     let owned_key = Key::from_view(alloc, &key.view())?;
@@ -108,7 +108,7 @@ fn owned_changes(
     plan: &Plan,
     mut changes: Vec<(&LentKey<'_>, Option<RowBytes<'_>>)>,
 ) -> Result<Vec<(Key, Option<RowBuf>)>, AllocError>
-    requires { AreOfTables plan.now (map lent_change (reverse changes.entry.items)) }
+    requires { AreOfTables plan.now (map lent_change (reverse changes.items)) }
     ensures { IfOk result (λ puts. puts.items ≡ map (kept_change plan.now) (map lent_change (reverse changes.entry.items))) }
 {
     changes.reverse();

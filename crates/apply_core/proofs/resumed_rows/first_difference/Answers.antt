@@ -4,7 +4,9 @@ use Rattle.std.proofs.lemmas.Option.{slice_get_read}
 use Rattle.pk_copy.specs.KeyOrder.{key_cmp}
 use Rattle.pk_copy.specs.KeyValue.{KeyValue}
 use Rattle.source_feed.specs.History.{RowValue, kept_of}
-use Rattle.apply_core.specs.Private.Changes.{found_row}
+use Rattle.source_feed.specs.Image.{lent_row}
+use Rattle.board_laws.proofs.Lookups.{all-at}
+use Rattle.apply_core.specs.Private.Changes.{IsOfTable, found_row}
 use Rattle.vdiff_core.specs.Report.{IsFirstDifference}
 use Rattle.apply_core.proofs.ResumeLaws.{LentRow, differs_less, differs_greater, differs_rows, goes_on, source_longer, target_longer, same_read}
 use Rattle.apply_core.proofs.StreamLaws.{item_at}
@@ -35,6 +37,19 @@ returns-in-Greater c =
     (same_read (λ (row : KeyValue × RowValue). row.0) (map (found_row c.args.plan.now) c.args.found.now) c.loop-i.i (found_row c.args.plan.now c.index-found-i.result) (found_row c.args.plan.now c.index-found-i-in-Greater.result) there again ∙ ap (λ (row : LentRow). row.0.now) c.index-found-i-in-Greater.is ∙ sym (c.in_ok-from_view-in-Greater.ensures ∙ c.view.ensures))
     (differs_greater c.args.saved.now (map (found_row c.args.plan.now) c.args.found.now) c.loop-i.i c.loop-i.invariant c.index-saved-i-in-loop-i.result (found_row c.args.plan.now c.index-found-i.result) here there (ap₂ key_cmp (ap (λ (row : KeyValue × RowValue). row.0) c.index-saved-i-in-loop-i.is) (ap (λ (row : LentRow). row.0.now) c.index-found-i.is) ∙ sym c.order_of.ensures ∙ c.in-Greater.is))
 
+pub is_kept-requires : goal.is_kept-requires
+is_kept-requires c =
+    let i = c.loop-i.i in
+    let y = c.index-found-i.result in
+    let inside : i < length c.args.found.now = omega (arith, c.if-i-found.false) in
+    let found = slice_get_read c.args.found.now (length c.args.found.now) i y refl inside c.index-found-i.is in
+    let keyed = slice_get_read c.args.found.now (length c.args.found.now) i c.index-found-i-in-Equal.result refl inside c.index-found-i-in-Equal.is in
+    let beside = slice_get_read c.args.found.now (length c.args.found.now) i c.index-found-i-in-Equal-2.result refl inside c.index-found-i-in-Equal-2.is in
+    let key_is = same_read (λ (row : LentRow). row.0.now) c.args.found.now i y c.index-found-i-in-Equal.result found keyed ∙ ap (λ (row : LentRow). row.0.now) c.index-found-i-in-Equal.is in
+    let row_is = same_read (λ (row : LentRow). row.1.now) c.args.found.now i y c.index-found-i-in-Equal-2.result found beside ∙ ap (λ (row : LentRow). row.1.now) c.index-found-i-in-Equal-2.is in
+    let of_table = all-at (λ row. IsOfTable c.args.plan.now row.0 row.1) (map lent_row c.args.found.now) i (lent_row y) c.requires.of_tables (item_at lent_row c.args.found.now i y (lent_row y) inside c.index-found-i.is refl) in
+    subst (λ (key : KeyValue). IsOfTable c.args.plan.now key _) key_is (subst (IsOfTable c.args.plan.now y.0.now) row_is of_table)
+
 pub returns-then-not-is_kept : goal.returns-then-not-is_kept
 returns-then-not-is_kept c =
     let target = map (found_row c.args.plan.now) c.args.found.now in
@@ -46,11 +61,15 @@ returns-then-not-is_kept c =
     let again = slice_get_read c.args.saved.now (length c.args.saved.now) i c.index-saved-i-in-Equal.result refl c.loop-i-test.true c.index-saved-i-in-Equal.is in
     let named = slice_get_read c.args.saved.now (length c.args.saved.now) i c.index-saved-i-then-not-is_kept.result refl c.loop-i-test.true c.index-saved-i-then-not-is_kept.is in
     let there = item_at (found_row c.args.plan.now) c.args.found.now i y (found_row c.args.plan.now y) inside c.index-found-i.is refl in
-    let beside = item_at (found_row c.args.plan.now) c.args.found.now i c.index-found-i-in-Equal.result (found_row c.args.plan.now c.index-found-i-in-Equal.result) inside c.index-found-i-in-Equal.is refl in
+    let found = slice_get_read c.args.found.now (length c.args.found.now) i y refl inside c.index-found-i.is in
+    let keyed = slice_get_read c.args.found.now (length c.args.found.now) i c.index-found-i-in-Equal.result refl inside c.index-found-i-in-Equal.is in
+    let beside = slice_get_read c.args.found.now (length c.args.found.now) i c.index-found-i-in-Equal-2.result refl inside c.index-found-i-in-Equal-2.is in
+    let key_is = same_read (λ (row : LentRow). row.0.now) c.args.found.now i y c.index-found-i-in-Equal.result found keyed ∙ ap (λ (row : LentRow). row.0.now) c.index-found-i-in-Equal.is in
+    let row_is = same_read (λ (row : LentRow). row.1.now) c.args.found.now i y c.index-found-i-in-Equal-2.result found beside ∙ ap (λ (row : LentRow). row.1.now) c.index-found-i-in-Equal-2.is in
     let key = (c.keys_tie_where_they_are_equal.ensures x.0 y.0.now).0 (ap₂ key_cmp (ap (λ (row : KeyValue × RowValue). row.0) c.index-saved-i-in-loop-i.is) (ap (λ (row : LentRow). row.0.now) c.index-found-i.is) ∙ sym c.order_of.ensures ∙ c.in-Equal.is) in
     subst (IsFirstDifference c.args.saved.now target) (same_read (λ (row : KeyValue × RowValue). row.0) c.args.saved.now i x c.index-saved-i-then-not-is_kept.result here named ∙ ap (λ (row : KeyValue × RowValue). row.0) c.index-saved-i-then-not-is_kept.is ∙ sym c.in_ok-try_clone-in-Equal.ensures)
     (differs_rows c.args.saved.now target i c.loop-i.invariant x (found_row c.args.plan.now y) here there key (λ e.
-    let told = c.is_kept.ensures.1 (sym (ap (λ (row : KeyValue × RowValue). row.1) c.index-saved-i-in-Equal.is) ∙ same_read (λ (row : KeyValue × RowValue). row.1) c.args.saved.now i c.index-saved-i-in-Equal.result x again here ∙ e ∙ same_read (λ (row : KeyValue × RowValue). row.1) target i (found_row c.args.plan.now y) (found_row c.args.plan.now c.index-found-i-in-Equal.result) there beside ∙ ap (λ (row : LentRow). kept_of c.args.plan.now row.0.now row.1.now) c.index-found-i-in-Equal.is) in
+    let told = c.is_kept.ensures.1 (sym (ap (λ (row : KeyValue × RowValue). row.1) c.index-saved-i-in-Equal.is) ∙ same_read (λ (row : KeyValue × RowValue). row.1) c.args.saved.now i c.index-saved-i-in-Equal.result x again here ∙ e ∙ ap₂ (kept_of c.args.plan.now) key_is row_is) in
     let other = c.if-not-is_kept.true in
     cc))
 
@@ -64,10 +83,14 @@ loop-i-preserved c =
     let here = slice_get_read c.args.saved.now (length c.args.saved.now) i x refl c.loop-i-test.true c.index-saved-i-in-loop-i.is in
     let again = slice_get_read c.args.saved.now (length c.args.saved.now) i c.index-saved-i-in-Equal.result refl c.loop-i-test.true c.index-saved-i-in-Equal.is in
     let there = item_at (found_row c.args.plan.now) c.args.found.now i y (found_row c.args.plan.now y) inside c.index-found-i.is refl in
-    let beside = item_at (found_row c.args.plan.now) c.args.found.now i c.index-found-i-in-Equal.result (found_row c.args.plan.now c.index-found-i-in-Equal.result) inside c.index-found-i-in-Equal.is refl in
+    let found = slice_get_read c.args.found.now (length c.args.found.now) i y refl inside c.index-found-i.is in
+    let keyed = slice_get_read c.args.found.now (length c.args.found.now) i c.index-found-i-in-Equal.result refl inside c.index-found-i-in-Equal.is in
+    let beside = slice_get_read c.args.found.now (length c.args.found.now) i c.index-found-i-in-Equal-2.result refl inside c.index-found-i-in-Equal-2.is in
+    let key_is = same_read (λ (row : LentRow). row.0.now) c.args.found.now i y c.index-found-i-in-Equal.result found keyed ∙ ap (λ (row : LentRow). row.0.now) c.index-found-i-in-Equal.is in
+    let row_is = same_read (λ (row : LentRow). row.1.now) c.args.found.now i y c.index-found-i-in-Equal-2.result found beside ∙ ap (λ (row : LentRow). row.1.now) c.index-found-i-in-Equal-2.is in
     let key = (c.keys_tie_where_they_are_equal.ensures x.0 y.0.now).0 (ap₂ key_cmp (ap (λ (row : KeyValue × RowValue). row.0) c.index-saved-i-in-loop-i.is) (ap (λ (row : LentRow). row.0.now) c.index-found-i.is) ∙ sym c.order_of.ensures ∙ c.in-Equal.is) in
     goes_on c.args.saved.now target i c.loop-i.invariant x (found_row c.args.plan.now y) here there key
-    (same_read (λ (row : KeyValue × RowValue). row.1) c.args.saved.now i x c.index-saved-i-in-Equal.result here again ∙ ap (λ (row : KeyValue × RowValue). row.1) c.index-saved-i-in-Equal.is ∙ c.is_kept.ensures.0 c.if-not-is_kept.false ∙ sym (ap (λ (row : LentRow). kept_of c.args.plan.now row.0.now row.1.now) c.index-found-i-in-Equal.is) ∙ same_read (λ (row : KeyValue × RowValue). row.1) target i (found_row c.args.plan.now c.index-found-i-in-Equal.result) (found_row c.args.plan.now y) beside there)
+    (same_read (λ (row : KeyValue × RowValue). row.1) c.args.saved.now i x c.index-saved-i-in-Equal.result here again ∙ ap (λ (row : KeyValue × RowValue). row.1) c.index-saved-i-in-Equal.is ∙ c.is_kept.ensures.0 c.if-not-is_kept.false ∙ sym (ap₂ (kept_of c.args.plan.now) key_is row_is))
 
 pub returns-then-saved-found : goal.returns-then-saved-found
 returns-then-saved-found c =
