@@ -234,6 +234,10 @@ pub found_of_tables : Ties → (state : State) → IsSoundState state → (rows 
 found_of_tables ties state sound rows is =
     subst (AllByRecursion (λ (row : KeyValue × RowValue). IsOfTable state.plan row.0 row.1)) (sym is) (passed_of_tables ties state sound (λ row. is_inside state.marks row.0))
 
+-- what is the same is of the table too
+pub of_table_as : (plan : PlanValue) (key other : KeyValue) (row same : RowValue) → key ≡ other → row ≡ same → IsOfTable plan key row → IsOfTable plan other same
+of_table_as plan key other row same key_is row_is h = subst (λ (k : KeyValue). IsOfTable plan k same) key_is (subst (IsOfTable plan key) row_is h)
+
 each_found : (plan : PlanValue) (rows : List (Bor KeyValue × Bor RowValue)) → map (found_row plan) rows ≡ map (kept_row plan) (map lent_row rows)
 each_found plan [] = refl
 each_found plan (row ∷ rows) = ap (λ (later : ImageRows). found_row plan row ∷ later) (each_found plan rows)

@@ -8,7 +8,7 @@ use Rattle.source_feed.specs.Image.{lent_row}
 use Rattle.board_laws.proofs.Lookups.{all-at}
 use Rattle.apply_core.specs.Private.Changes.{IsOfTable, found_row}
 use Rattle.vdiff_core.specs.Report.{IsFirstDifference}
-use Rattle.apply_core.proofs.ResumeLaws.{LentRow, differs_less, differs_greater, differs_rows, goes_on, source_longer, target_longer, same_read}
+use Rattle.apply_core.proofs.ResumeLaws.{LentRow, of_table_as, differs_less, differs_greater, differs_rows, goes_on, source_longer, target_longer, same_read}
 use Rattle.apply_core.proofs.StreamLaws.{item_at}
 use Rattle.apply_core.proofs.resumed_rows.first_difference.Goals as goal
 
@@ -48,7 +48,7 @@ is_kept-requires c =
     let key_is = same_read (λ (row : LentRow). row.0.now) c.args.found.now i y c.index-found-i-in-Equal.result found keyed ∙ ap (λ (row : LentRow). row.0.now) c.index-found-i-in-Equal.is in
     let row_is = same_read (λ (row : LentRow). row.1.now) c.args.found.now i y c.index-found-i-in-Equal-2.result found beside ∙ ap (λ (row : LentRow). row.1.now) c.index-found-i-in-Equal-2.is in
     let of_table = all-at (λ row. IsOfTable c.args.plan.now row.0 row.1) (map lent_row c.args.found.now) i (lent_row y) c.requires.of_tables (item_at lent_row c.args.found.now i y (lent_row y) inside c.index-found-i.is refl) in
-    subst (λ (key : KeyValue). IsOfTable c.args.plan.now key _) key_is (subst (IsOfTable c.args.plan.now y.0.now) row_is of_table)
+    of_table_as c.args.plan.now _ _ _ _ key_is row_is of_table
 
 pub returns-then-not-is_kept : goal.returns-then-not-is_kept
 returns-then-not-is_kept c =
