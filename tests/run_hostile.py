@@ -4,7 +4,7 @@
 usage: tests/run_hostile.py PROGRAM
 
 Each answer is compared with that of the plain model in tests/model: the worked feed cut to each length and with each
-byte changed, through `show` and `step`; three checkpoints likewise, through `resume`, where a board that is taken has
+byte changed, through `show` and `step`; four checkpoints likewise, through `resume`, where a board that is taken has
 to be one of the feed's; positions, rows, hexadecimal text, scripts, filters and workflows on both sides of a limit;
 restarts after each step of a script, by `restart` and by `save` and `resume`; dumps and checkpoints into pipes whose
 reader is gone, into a full device and into files of limited size; all cases with reads and writes that are interrupted
@@ -304,12 +304,18 @@ def of_a_table_that_waits():
     return program.save(False, making.ONE, [making.MOVING], script), making.ONE, [making.MOVING]
 
 
+def of_listed_columns():
+    """A checkpoint of a row whose columns stand in another order than in its feed."""
+    workflow = making.workflow("-80", match="t", text="select v, id from t")
+    return program.save(False, workflow, [making.ONE_ROW], making.COPY_ONE), workflow, [making.ONE_ROW]
+
+
 def checks(room):
     one = program.save(False, making.ONE, [making.ONE_ROW], making.COPY_ONE), making.ONE, [making.ONE_ROW]
     yield "the worked feed cut", damaged_feed(room, cut, making.ONE_ROW)
     yield "the worked feed with a byte changed", damaged_feed(room, changed, making.ONE_ROW)
     yield "feeds that are broken", broken_feeds(room)
-    for title, given in (("one row", one), ("two streams", of_two_streams()), ("a table that waits", of_a_table_that_waits())):
+    for title, given in (("one row", one), ("two streams", of_two_streams()), ("a table that waits", of_a_table_that_waits()), ("listed columns", of_listed_columns())):
         yield f"the checkpoint of {title} cut", damaged_checkpoint(room, cut, *given)
         yield f"the checkpoint of {title} with a byte changed", damaged_checkpoint(room, changed, *given)
     yield "texts on both sides of a limit", at_limits(room)
