@@ -150,6 +150,10 @@ all_by_last P (x ∷ xs) h each = (
         ap (λ (o : Option (Option RowValue)). option_or o (cond (eq_by_cmp key_cmp x.0 x.0) (Some x.1) None)) (last_at-none x.0 xs h.0)
         ∙ ap (λ (o : Ordering). cond {A = Option (Option RowValue)} (is_eq o) (Some x.1) None) (tied_itself key_cmp_total x.0)
 
+-- of the same row the same
+pub of_table_if : (plan : PlanValue) (key : KeyValue) (o same : Option RowValue) → same ≡ o → IfSome o (IsOfTable plan key) → IfSome same (λ row. IsOfTable plan key row)
+of_table_if plan key o same is h = subst (λ (v : Option RowValue). IfSome v (IsOfTable plan key)) (sym is) h
+
 -- the row that a touch puts is of its key's table
 of_touch : (plan : PlanValue) (touch : TouchValue) → IsTouchUnder plan touch → IfSome touch.1 (λ put. IsOfTable plan touch.0 put.row)
 of_touch plan touch h = by touch.1 h.put
