@@ -3,3 +3,5 @@ pub mod Singular
 pub mod ColumnCount
 pub mod EventParts
 pub mod Sound
+pub mod AnswerParts
+pub mod PartContents

@@ -6,11 +6,8 @@ ghost use Rattle.vevent.specs.declared.fault.EventFault.{EventFault};
 ghost use Rattle.vevent.specs.Judging.{IsValue, IsAtFault};
 ghost use Rattle.vevent.specs.CheckpointPart.{TablePartValue, StreamPartValue, mark_number, mark_of_number, table_part_of, stream_part_of, table_conditions, table_part_at, stream_conditions, stream_part_at};
 
-use crate::checkpoint_faults::{
-    answer_in, are_texts_of_stream, are_texts_of_table, check_stream, check_table, repeats_in,
-    repeats_in_tables, row_fault_of_stream, row_fault_of_table,
-};
 use crate::fault::EventFault;
+use crate::part_contents::{answer_in, stream_contents_of, table_contents_of};
 use crate::rows_answer::RowsAnswer;
 use crate::text::text_of;
 use proto_wire::{Parts, last_text, last_varint};
@@ -75,14 +72,14 @@ impl<'b> Model for TablePart<'b> {
 fn table_of_bytes(bytes: &[u8]) -> Result<TablePart<'_>, EventFault>
     ensures { result ≡ table_part_at bytes.now }
 {
-    check_table(bytes).map_err(EventFault::Wire)?;
-    if repeats_in(bytes) {
+    let contents = table_contents_of(bytes).map_err(EventFault::Wire)?;
+    if contents.repeats() {
         return Err(EventFault::RepeatedMessage);
     }
-    if !are_texts_of_table(bytes) {
+    if !contents.are_texts() {
         return Err(EventFault::NotUtf8);
     }
-    if let Some(fault) = row_fault_of_table(bytes) {
+    if let Some(fault) = contents.fault() {
         return Err(EventFault::Row(fault));
     }
     Ok(TablePart { message: bytes })
@@ -154,14 +151,14 @@ impl<'b> Model for StreamPart<'b> {
 fn stream_of_bytes(bytes: &[u8]) -> Result<StreamPart<'_>, EventFault>
     ensures { result ≡ stream_part_at bytes.now }
 {
-    check_stream(bytes).map_err(EventFault::Wire)?;
-    if repeats_in_tables(bytes) {
+    let contents = stream_contents_of(bytes).map_err(EventFault::Wire)?;
+    if contents.repeats {
         return Err(EventFault::RepeatedMessage);
     }
-    if !are_texts_of_stream(bytes) {
+    if !contents.are_texts() {
         return Err(EventFault::NotUtf8);
     }
-    if let Some(fault) = row_fault_of_stream(bytes) {
+    if let Some(fault) = contents.fault {
         return Err(EventFault::Row(fault));
     }
     Ok(StreamPart { message: bytes })

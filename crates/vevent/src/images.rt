@@ -28,8 +28,7 @@ pub(crate) struct Images<'b> {
 }
 
 impl<'b> Images<'b> {
-    /// Reads a row: its fault, where none was found before, and how many columns it has. One that
-    /// can't be read has none.
+    /// Reads a row: how many columns it has, or else its fault, where none was found before.
     fn put_row(&mut self, row: &[u8])
         ensures fault { self.new.fault ≡ option_or self.old.fault (result_err (row_of_message row.now)) }
         ensures columns { (wanted : ℕ) → all_have self.new.columns wanted ≡ (all_have self.old.columns wanted && image_has wanted row.now) }
@@ -37,14 +36,10 @@ impl<'b> Images<'b> {
         ensures after { self.new.after ≡ self.old.after }
         ensures partial { self.new.is_partial ≡ self.old.is_partial }
     {
-        let columns = match RowView::read(row) {
-            Ok(row) => row.len(),
-            Err(fault) => {
-                self.fault = self.fault.or(Some(fault));
-                0
-            }
-        };
-        self.columns = self.columns.and(ColumnCount::Same(columns));
+        match RowView::read(row) {
+            Ok(row) => self.columns = self.columns.and(ColumnCount::Same(row.len())),
+            Err(fault) => self.fault = self.fault.or(Some(fault)),
+        }
     }
 
     /// Meets a field.

@@ -1,8 +1,7 @@
 //! The events of a VStream (`binlogdata.proto`), read without a copy and written.
 #![tactic(auto)]
 
-mod answer_faults;
-mod checkpoint_faults;
+mod answer_parts;
 mod checkpoint_part;
 mod column_count;
 mod event;
@@ -12,6 +11,7 @@ mod field_event;
 mod ignored;
 mod images;
 mod kind;
+mod part_contents;
 mod response;
 mod row_event;
 mod row_parts;

@@ -8,9 +8,7 @@ ghost use Rattle.vevent.specs.Message.{image_of};
 ghost use Rattle.vevent.specs.Judging.{IsValue, IsAtFault};
 ghost use Rattle.vevent.specs.Answer.{AnswerValue, answer_of, are_answer_texts, answer_row_fault, answer_conditions, answer_at};
 
-use crate::answer_faults::{
-    are_texts_of_answer, check_answer, is_there_twice, row_fault_of_answer,
-};
+use crate::answer_parts::answer_parts_of;
 use crate::fault::EventFault;
 use crate::field_event::ColumnFields;
 use crate::text::text_of;
@@ -41,14 +39,14 @@ impl<'b> Model for RowsAnswer<'b> {
 fn answer_of_bytes(bytes: &[u8]) -> Result<RowsAnswer<'_>, EventFault>
     ensures { result ≡ answer_at bytes.now }
 {
-    check_answer(bytes).map_err(EventFault::Wire)?;
-    if is_there_twice(bytes, 5) {
+    let parts = answer_parts_of(bytes).map_err(EventFault::Wire)?;
+    if parts.repeats() {
         return Err(EventFault::RepeatedMessage);
     }
-    if !are_texts_of_answer(bytes) {
+    if !parts.are_texts() {
         return Err(EventFault::NotUtf8);
     }
-    if let Some(fault) = row_fault_of_answer(bytes) {
+    if let Some(fault) = parts.fault {
         return Err(EventFault::Row(fault));
     }
     Ok(RowsAnswer { message: bytes })

@@ -1,13 +1,14 @@
 -- How many columns rows have, by what was met of them.
-use Rattle.std.specs.Prelude.{◌≡◌, ℕ, ◌==◌, ◌&&◌, Bool, true, false, List, length}
+use Rattle.std.specs.Prelude.{◌≡◌, ℕ, ◌==◌, ◌&&◌, Bool, true, false, List}
 use Rattle.std.specs.List.{filter_map, list_all}
+use Rattle.std.specs.Result.{result_ok}
 use Rattle.proto_wire.specs.Field.{WireField, fields_of}
 use Rattle.vevent.specs.declared.column_count.ColumnCount.{ColumnCount}
 use Rattle.vevent.specs.declared.column_count.ColumnCount.TheVariants.{NoRow, Same, Mixed}
 use Rattle.vevent.specs.EventValue.{ChangeValue}
 use Rattle.proto_wire.specs.Parts.{part_in}
-use Rattle.vevent.specs.Message.{image_of}
-use Rattle.vevent.specs.Columns.{have_columns}
+use Rattle.row_view.specs.Row.{row_of_message}
+use Rattle.vevent.specs.Columns.{has_columns, have_columns}
 
 -- all rows that were met have so many columns
 abbrev pub all_have : ColumnCount → ℕ → Bool
@@ -15,9 +16,9 @@ all_have NoRow columns = true
 all_have (Same met) columns = met == columns
 all_have Mixed columns = false
 
--- a row has so many columns; one that can't be read has none
+-- a row has so many columns, where it can be read
 abbrev pub image_has : ℕ → List ℕ → Bool
-image_has columns row = length (image_of row) == columns
+image_has columns row = has_columns columns (result_ok (row_of_message row))
 
 -- so have the rows before and after in the fields of a row change, however many there are
 abbrev pub images_have : ℕ → List WireField → Bool

@@ -1,0 +1,15 @@
+use Rattle.std.proofs.Common.{List, Ok, subst, ap, ◌∙◌}
+use Rattle.proto_wire.specs.Field.{WireField, wire_field}
+use Rattle.vevent.specs.CheckpointPart.{in_stream}
+use Rattle.vevent.specs.Private.PartContents.{IsStream}
+use Rattle.vevent.proofs.Walks.{next_item, first_in_others}
+use Rattle.vevent.proofs.part_contents.stream_contents_of.Goals as goal
+
+pub loop-field-preserved : goal.loop-field-preserved
+loop-field-preserved c =
+    let given = c.in_ok-field.was ∙ ap (λ field. Ok field) c.in-Some.is in
+    let next = next_item wire_field c.loop-field.fields c.next_field.new.self c.next_field.result c.in-Some.field c.next_field.ensures given in
+    let met = subst (λ (more : List WireField). IsStream c.args.part.now c.loop-field.contents more) next.0 c.loop-field.invariant.0 in (
+      c.in_ok-put.ensures.put c.args.part.now c.next_field.new.self.items met,
+      first_in_others in_stream (wire_field c.in-Some.field) c.loop-field.fields c.next_field.new.self next c.in_ok-put.ensures.wire ∙ c.loop-field.invariant.1,
+    )
