@@ -26,10 +26,6 @@ take-front {A} (x ∷ xs) ys (suc n) e = ap (λ (more : List A). x ∷ more) (ta
 same_Ok : {A F : Type 0} (r : Result A F) (x y : A) → r ≡ Ok x → r ≡ Ok y → x ≡ y
 same_Ok r x y e f = cc
 
--- the bytes are these messages and nothing else
-abbrev pub AreMessages : List ℕ → List (List ℕ) → Type 0
-AreMessages bytes messages = Spells IsFrame (NoFrame (length bytes)) bytes messages None
-
 -- ---- what stands behind whole messages
 
 -- the messages at the front are read, and then the rest

@@ -1,7 +1,7 @@
 -- A group that is judged without memory is refused as the one whose touches are asked for.
 use Rattle.std.proofs.Common.{◌≡◌, ◌∙◌, ℕ, ◌+◌, ◌<◌, List, ◌∷◌, ◌++◌, length, get_or, drop, Option, None, Some, Result, Ok, Err, refl, sym, ap, subst}
 use Rattle.std.proofs.lemmas.List.{at_drop_more}
-use Rattle.std.specs.Prelude.{IfSome, IsOk}
+use Rattle.std.specs.Prelude.{IsOk}
 use Rattle.std.specs.Result.{result_err}
 use Rattle.outcome.specs.Outcome.{◌>>=◌}
 use Rattle.filter_rule.specs.PlanValue.{PlanValue}
@@ -21,10 +21,6 @@ refused_by (Err f) fault e = cc
 pub is_given : {A F : Type 0} (r : Result A F) → result_err r ≡ None → IsOk r
 is_given (Ok x) e = search
 is_given (Err f) e = cc
-
-pub refuses_itself : {A F : Type 0} (r : Result A F) → IfSome (result_err r) (λ f. r ≡ Err f)
-refuses_itself (Ok x) = tt
-refuses_itself (Err f) = refl
 
 mapped : {A B F : Type 0} (f : A → B) (r : Result A F) → result_err (r >>= λ x. Ok (f x)) ≡ result_err r
 mapped f (Ok x) = refl

@@ -134,13 +134,6 @@ messages_are bytes n few sound is = rw (lt-ltb (length bytes) (2 ^ 31) few, soun
 pub messages_broken : (bytes : List ℕ) (fault : FeedFault) → length bytes < 2 ^ 31 → broken_by (frames_of bytes).fault ≡ Some fault → messages_in bytes ≡ Err fault
 messages_broken bytes fault few broken = rw (lt-ltb (length bytes) (2 ^ 31) few, broken) refl
 
-pub messages_too_long : (bytes : List ℕ) → 2 ^ 31 ≤ length bytes → messages_in bytes ≡ Err FeedTooLong
-messages_too_long bytes long = by (nat_lt (length bytes) (2 ^ 31)) refl
-  where
-    by : (b : Bool) → nat_lt (length bytes) (2 ^ 31) ≡ b → messages_in bytes ≡ Err FeedTooLong
-    by true e = absurd (let less : length bytes < 2 ^ 31 = ltb-true (length bytes) (2 ^ 31) e in omega (arith, less, long))
-    by false e = rw e refl
-
 pub messages_said : (bytes : List ℕ) (n : ℕ) → messages_in bytes ≡ Ok n → (length bytes < 2 ^ 31) × (broken_by (frames_of bytes).fault ≡ None) × (n ≡ length (frames_of bytes).items)
 messages_said bytes n e = by (nat_lt (length bytes) (2 ^ 31)) (broken_by (frames_of bytes).fault) refl refl e
   where
