@@ -116,17 +116,27 @@ fn has_columns(list: &ColumnList<'_>, wanted: &[&str]) -> bool {
     left.next_column().is_none()
 }
 
+/// The filter lists these columns.
+fn lists(filter: &Filter<'_>, wanted: &[&str]) -> bool {
+    match &filter.columns {
+        Some(list) => has_columns(list, wanted),
+        None => false,
+    }
+}
+
+/// The text is read as a filter that lists these columns.
+fn is_list(alloc: Global, text: &str, wanted: &[&str]) -> bool {
+    match Filter::parse(alloc, text) {
+        Ok(filter) => lists(&filter, wanted),
+        Err(_) => false,
+    }
+}
+
 /// Whether each text is read as a filter that lists the columns beside it.
 fn are_lists(alloc: Global, rows: &[(&str, &[&str])]) -> bool {
     for (text, wanted) in rows {
-        match Filter::parse(alloc, text) {
-            Ok(
-                Filter {
-                    columns: Some(list),
-                    ..
-                },
-            ) if has_columns(&list, wanted) => {}
-            _ => return false,
+        if !is_list(alloc, text, wanted) {
+            return false;
         }
     }
     true
