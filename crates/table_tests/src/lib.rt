@@ -4,6 +4,8 @@
 #[cfg(test)]
 mod groups_of_touches;
 #[cfg(test)]
+mod kept_rows;
+#[cfg(test)]
 mod keys;
 #[cfg(test)]
 mod lastpk;
