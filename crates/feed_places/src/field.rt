@@ -71,7 +71,7 @@ fn differing_in<'h>(plan: &Plan, message: &'h [u8]) -> Option<Differing<'h>> {
     None
 }
 
-/// The first message with a FIELD event that differs, from 0, and the column in which it does.
+/// The number of the first message with a FIELD event that differs, from 1, and the column in which it does.
 pub(crate) fn first_field<'h>(
     plan: &Plan,
     messages: &[Message<'h>],
@@ -79,7 +79,7 @@ pub(crate) fn first_field<'h>(
     for i in 0..messages.len() {
         let message = &messages[i];
         if let Some(found) = differing_in(plan, message.bytes) {
-            return Some((i, found));
+            return Some((i + 1, found));
         }
     }
     None

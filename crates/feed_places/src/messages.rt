@@ -6,7 +6,7 @@ ghost use Rattle.proto_wire.specs.Frame.{frames_of};
 ghost use Rattle.source_feed.specs.FaultNumber.{meant_of};
 ghost use Rattle.source_feed.specs.Planned.{source_of};
 ghost use Rattle.feed_places.specs.Front.{whole_groups};
-ghost use Rattle.feed_places.specs.Messages.{is_read_message, first_unread};
+ghost use Rattle.feed_places.specs.Messages.{behind, behind_message, byte_of, is_read_message, first_unread, unread_message};
 
 use filter_rule::Plan;
 use proto_wire::{Frames, varint_of};
@@ -56,29 +56,58 @@ fn is_read(message: &[u8]) -> bool
     }
 }
 
-/// The first message that isn't read, from 0.
+/// The number of the first message that isn't read, from 1.
 pub(crate) fn first_unread(messages: &[Message<'_>]) -> Option<usize>
-    ensures { result ≡ first_unread 0 messages.now }
+    ensures { result ≡ first_unread 1 messages.now }
 {
     for i in 0..messages.len() {
         let message = &messages[i];
         if !is_read(message.bytes) {
-            return Some(i);
+            return Some(i + 1);
         }
     }
     None
 }
 
+/// The number of the first message that isn't read, from 1, or else of what stands behind the last one.
+pub(crate) fn unread_message(alloc: Global, feed: &[u8]) -> Result<usize, AllocError>
+    ensures { IfOk result (λ number. number ≡ unread_message feed.now) }
+{
+    let messages = messages_of(alloc, feed)?;
+    match first_unread(&messages) {
+        None => Ok(messages.len() + 1),
+        Some(number) => Ok(number),
+    }
+}
+
+/// What stands behind the message at the front; all of it where none stands there.
+#[tactic(auto, unfolding(proto_wire::specs::Field::sized_at))]
+fn behind_message(bytes: &[u8]) -> &[u8]
+    ensures { result.now ≡ behind_message bytes.now }
+{
+    match varint_of(bytes) {
+        Ok((size, after)) if size <= after.len() as u64 => &after[size as usize..],
+        _ => bytes,
+    }
+}
+
 /// What stands behind the first messages of a feed.
-pub(crate) fn behind(feed: &[u8], count: usize) -> &[u8] {
+fn behind(feed: &[u8], count: usize) -> &[u8]
+    ensures { result.now ≡ behind count feed.now }
+{
     let mut rest = feed;
     for _ in 0..count {
-        match varint_of(rest) {
-            Ok((size, after)) if size <= after.len() as u64 => rest = &after[size as usize..],
-            _ => return rest,
-        }
+        rest = behind_message(rest);
     }
     rest
+}
+
+/// The first byte of a message, from 0, by the message's number, from 1.
+pub(crate) fn byte_of(feed: &[u8], number: usize) -> usize
+    ensures { result ≡ byte_of number feed.now }
+{
+    feed.len()
+        .saturating_sub(behind(feed, number.saturating_sub(1)).len())
 }
 
 /// How many whole groups some messages have, of which the last transaction may be open: a message of one event,

@@ -1,48 +1,65 @@
 //! The place of a feed's fault, in words.
 
+ghost use Rattle.std.specs.Prelude.{◌≡◌, IfOk};
+ghost use Rattle.std.specs.Option.{option_map};
+ghost use Rattle.std.specs.String.{string_bytes};
+ghost use Rattle.feed_places.specs.Front.{whole_groups};
+ghost use Rattle.feed_places.specs.Place.{groups_text, message_text, IsMessagePlace, IsPlace};
+ghost use Rattle.source_feed.specs.Planned.{source_of};
+ghost use Rattle.feed_places.specs.Messages.{unread_message};
+
 use crate::column::differing_text;
 use crate::field::first_field;
-use crate::messages::{behind, first_unread, messages_of, whole_groups};
+use crate::messages::{byte_of, messages_of, unread_message, whole_groups};
 use filter_rule::Plan;
-use proto_wire::Frames;
 use source_feed::FeedFault;
 use std::alloc::Global;
 
-/// The place of a message, from 0: its number, from 1, its first byte, from 0, and how many whole groups stand
-/// in the messages before it.
-fn message_text(
-    alloc: Global,
-    plan: &Plan,
-    feed: &[u8],
-    place: usize,
-) -> Result<String, FeedFault> {
-    let byte = feed.len().saturating_sub(behind(feed, place).len());
-    let number = place.saturating_add(1);
-    let front = &feed[..byte];
-    let text = match whole_groups(alloc, front, plan) {
-        Ok(groups) => format!(in alloc; "message {number} byte {byte} behind group {groups}")?,
-        Err(FeedFault::Memory) => return Err(FeedFault::Memory),
-        Err(_) => format!(in alloc; "message {number} byte {byte}")?,
-    };
+/// How many whole groups stand in some messages; nothing where they are refused themselves.
+fn groups_text(alloc: Global, plan: &Plan, front: &[u8]) -> Result<String, FeedFault>
+    ensures { IfOk result (λ text. string_bytes text ≡ groups_text (whole_groups front.now (source_of plan.now))) }
+{
+    match whole_groups(alloc, front, plan) {
+        Ok(groups) => {
+            let text = format!(in alloc; " behind group {groups}")?;
+            Ok(text)
+        }
+        Err(FeedFault::Memory) => Err(FeedFault::Memory),
+        Err(_) => Ok(String::new(alloc)),
+    }
+}
+
+/// The place of a message: its number, from 1, its first byte, from 0, and how many whole groups stand in the
+/// messages before it.
+fn message_text(alloc: Global, plan: &Plan, feed: &[u8], number: usize) -> Result<String, FeedFault>
+    ensures { IfOk result (λ text. string_bytes text ≡ message_text plan.now feed.now number) }
+{
+    let byte = byte_of(feed, number);
+    let groups = groups_text(alloc, plan, &feed[..byte])?;
+    let text = format!(in alloc; "message {number} byte {byte}{groups}")?;
     Ok(text)
 }
 
 /// The place of the first message that isn't read, or else of what is no message.
-fn unread_text(alloc: Global, plan: &Plan, feed: &[u8]) -> Result<String, FeedFault> {
-    let messages = messages_of(alloc, feed)?;
-    let place = first_unread(&messages).unwrap_or(messages.len());
-    message_text(alloc, plan, feed, place)
+fn unread_text(alloc: Global, plan: &Plan, feed: &[u8]) -> Result<String, FeedFault>
+    ensures { IfOk result (λ text. string_bytes text ≡ message_text plan.now feed.now (unread_message feed.now)) }
+{
+    let number = unread_message(alloc, feed)?;
+    message_text(alloc, plan, feed, number)
 }
 
 /// The place of the first FIELD event that differs, and the column in which it does.
-fn field_text(alloc: Global, plan: &Plan, feed: &[u8]) -> Result<Option<String>, FeedFault> {
+fn field_text(alloc: Global, plan: &Plan, feed: &[u8]) -> Result<Option<String>, FeedFault>
+    ensures { IfOk result (λ place. IsMessagePlace plan.now feed.now (option_map string_bytes place)) }
+{
     let messages = messages_of(alloc, feed)?;
-    let Some((place, found)) = first_field(plan, &messages) else {
+    let Some((number, found)) = first_field(plan, &messages) else {
         return Ok(None);
     };
-    let message = message_text(alloc, plan, feed, place)?;
+    let mut text = message_text(alloc, plan, feed, number)?;
     let column = differing_text(alloc, plan, &found)?;
-    let text = format!(in alloc; "{message} {column}")?;
+    text.push_str(" ")?;
+    text.push_str(&column)?;
     Ok(Some(text))
 }
 
@@ -53,7 +70,9 @@ pub fn place_of(
     plan: &Plan,
     feed: &[u8],
     fault: FeedFault,
-) -> Result<Option<String>, FeedFault> {
+) -> Result<Option<String>, FeedFault>
+    ensures { IfOk result (λ place. IsPlace plan.now feed.now fault (option_map string_bytes place)) }
+{
     match fault {
         FeedFault::Frame | FeedFault::Event(_) => Ok(Some(unread_text(alloc, plan, feed)?)),
         FeedFault::FieldsDiffer => field_text(alloc, plan, feed),
