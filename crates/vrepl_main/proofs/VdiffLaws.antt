@@ -53,6 +53,7 @@ refuses_workflow errors.Limit workflow source target now is = (Err (bad_workflow
 refuses_workflow (errors.NoSuchColumn table column) workflow source target now is = (Err (bad_workflow _), is, (refl, refl))
 refuses_workflow (errors.KeyType table column) workflow source target now is = (Err (bad_workflow _), is, (refl, refl))
 refuses_workflow (errors.BadRule stream rule) workflow source target now is = (Err (bad_workflow _), is, (refl, refl))
+refuses_workflow (errors.ColumnsDiffer table) workflow source target now is = (Err (bad_workflow _), is, (refl, refl))
 
 module _ (workflow source target : List ℕ) (plan : PlanValue) (others : List PlanValue) (is : plans_of workflow ≡ Ok (plan ∷ others)) (now : Written) where
   -- the source's bad line

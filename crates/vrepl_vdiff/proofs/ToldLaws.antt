@@ -39,6 +39,7 @@ refuses_workflow options errors.Limit workflow source target now is = (Err (bad_
 refuses_workflow options (errors.NoSuchColumn table column) workflow source target now is = (Err (bad_workflow _), is, (refl, refl))
 refuses_workflow options (errors.KeyType table column) workflow source target now is = (Err (bad_workflow _), is, (refl, refl))
 refuses_workflow options (errors.BadRule stream rule) workflow source target now is = (Err (bad_workflow _), is, (refl, refl))
+refuses_workflow options (errors.ColumnsDiffer table) workflow source target now is = (Err (bad_workflow _), is, (refl, refl))
 
 workflow_names : (fault : PlanFault) (workflow : List ℕ) (source target : NamedDump) → NamesBad workflow source target (refusal_of_workflow fault) []
 workflow_names errors.Memory workflow source target = tt
@@ -48,6 +49,7 @@ workflow_names errors.Limit workflow source target = tt
 workflow_names (errors.NoSuchColumn table column) workflow source target = tt
 workflow_names (errors.KeyType table column) workflow source target = tt
 workflow_names (errors.BadRule stream rule) workflow source target = tt
+workflow_names (errors.ColumnsDiffer table) workflow source target = tt
 
 workflow_error : (json : Bool) (fault : PlanFault) → error_of json (refusal_of_workflow fault) [] ≡ []
 workflow_error true errors.Memory = refl
@@ -57,6 +59,7 @@ workflow_error true errors.Limit = refl
 workflow_error true (errors.NoSuchColumn table column) = refl
 workflow_error true (errors.KeyType table column) = refl
 workflow_error true (errors.BadRule stream rule) = refl
+workflow_error true (errors.ColumnsDiffer table) = refl
 workflow_error false fault = refl
 
 pub told_workflow : (options : Options) (fault : PlanFault) (workflow : List ℕ) (source target : NamedDump) (now : Written) (error : List ℕ) → error ≡ [] → plans.Fails {Y = List PlanValue} fault (plans_of workflow) → IsTold options workflow source target (refusal_of_workflow fault) error now now
