@@ -2,6 +2,7 @@
 from . import Refused, told as file, wire
 from .board import Board, key_text
 from .feed import Feed, print_position
+from .vdiff import line as json_line
 
 PASSED_OVER = {5: b"DDL", 11: b"OTHER", 19: b"SAVEPOINT"}
 WHY = (b"missing", b"differs", b"standing", b"moved")
@@ -51,44 +52,116 @@ def counted(lines):
     return [b"%d" % len(lines)] * bool(lines), lines[:10]
 
 
-def stream(workflow, board, s, name, data):
-    """A stream's lines, and its warnings."""
-    table_names = [table.name for table in workflow.tables]
-    groups = Feed(data, workflow.keyspace, workflow.shards[s]).groups
-    touches = [board.touches(s, n) for n in range(1, len(groups) + 1)]
-    line = b"stream %d file %s shard %s groups %d" % (s, name, workflow.shards[s], len(groups))
-    warned = []
-    if groups:
-        line += b" first %s last %s" % tuple(print_position(groups[i][0]) for i in (0, -1))
-        intervals = list(groups[0][0].values())
-        if len(intervals) != 1 or list(intervals[0]) != [(1, 1)]:
-            warned.append(b"starts at " + print_position(groups[0][0]))
-    else:
-        warned.append(b"no groups")
-    lines = [line]
-    for t, table in enumerate(table_names):
-        touching = sum(any(it[0] == t for it in group) for group in touches)
-        passing = sum(any(it[0] == t and it[2] is not None and it[3] for it in group) for group in touches)
-        lines.append(b"table %s groups %d passing %d" % (table, touching, passing))
-        if not touching:
-            warned.append(b"table %s untouched" % table)
-        elif not passing:
-            warned.append(b"table %s passes no row" % table)
-    unknown = {name: None for _, changes in groups for name, *_ in changes if name not in table_names}
-    for one in unknown:
-        behind = one.partition(b".")[2]
-        warned.append(b"no table " + one + (b" nearest " + behind if behind in table_names else b""))
-    findings = list(told(workflow, groups))
-    for why in WHY:
-        count, first = counted([it for it in findings if it[0] == why])
-        warned += [why + b" " + it for it in count]
-        warned += [b"%s group %d change %d table %s key %s" % (*it[:4], key_text(it[4])) for it in first]
-    count, first = counted(list(skipped(data)))
-    warned += [b"skipped " + it for it in count] + [b"skipped message %d %s %s" % it for it in first]
-    return lines, [b"warning stream %d %s" % (s, it) for it in warned]
+class Stream:
+    """What is found of a stream's feed."""
+
+    def __init__(self, workflow, board, s, name, data):
+        self.number, self.name, self.shard = s, name, workflow.shards[s]
+        self.groups = Feed(data, workflow.keyspace, self.shard).groups
+        self.places = [print_position(it) for it, _ in self.groups]
+        self.touches = [board.touches(s, n) for n in range(1, len(self.groups) + 1)]
+        self.keys = {it[:2] for group in self.touches for it in group}
+        table_names = [table.name for table in workflow.tables]
+        rows = [it for it, _ in board.passed(s, len(self.groups))]
+        self.tables = [(table, *self.groups_of(t), rows.count(t)) for t, table in enumerate(table_names)]
+        unknown = {name: None for _, changes in self.groups for name, *_ in changes if name not in table_names}
+        behind = [it.partition(b".")[2] for it in unknown]
+        self.unknown = [(one, it if it in table_names else None) for one, it in zip(unknown, behind)]
+        self.findings = list(told(workflow, self.groups))
+        self.skipped = list(skipped(data))
+
+    def groups_of(self, t):
+        """How many groups touch a table, and how many put a row there that passes."""
+        touching = sum(any(it[0] == t for it in group) for group in self.touches)
+        return touching, sum(any(it[0] == t and it[2] is not None and it[3] for it in group) for group in self.touches)
+
+    def lines(self):
+        line = b"stream %d file %s shard %s groups %d" % (self.number, self.name, self.shard, len(self.groups))
+        if self.groups:
+            line += b" first %s last %s" % (self.places[0], self.places[-1])
+        return [line] + [b"table %s groups %d passing %d rows %d" % it for it in self.tables]
+
+    def warnings(self):
+        warned = []
+        if not self.groups:
+            warned.append(b"no groups")
+        else:
+            intervals = list(self.groups[0][0].values())
+            if len(intervals) != 1 or list(intervals[0]) != [(1, 1)]:
+                warned.append(b"starts at " + self.places[0])
+        for table, touching, passing, _ in self.tables:
+            if not touching:
+                warned.append(b"table %s untouched" % table)
+            elif not passing:
+                warned.append(b"table %s passes no row" % table)
+        warned += [b"no table " + one + (b" nearest " + it if it else b"") for one, it in self.unknown]
+        for why in WHY:
+            count, first = counted([it for it in self.findings if it[0] == why])
+            warned += [why + b" " + it for it in count]
+            warned += [b"%s group %d change %d table %s key %s at %s" % (*it[:4], key_text(it[4]), self.places[it[1] - 1]) for it in first]
+        count, first = counted(self.skipped)
+        warned += [b"skipped " + it for it in count] + [b"skipped message %d %s %s" % it for it in first]
+        return [b"warning stream %d %s" % (self.number, it) for it in warned]
+
+    def as_object(self):
+        def found(is_move):
+            names = ("why", "group", "change", "table")
+            these = [it for it in self.findings if (it[0] == b"moved") == is_move]
+            return [dict(zip(names, it), key=key_parts(it[4]), position=self.places[it[1] - 1]) for it in these]
+
+        return {
+            "stream": self.number,
+            "file": self.name,
+            "shard": self.shard,
+            "groups": len(self.groups),
+            "first": self.places[0] if self.places else None,
+            "last": self.places[-1] if self.places else None,
+            "tables": [dict(zip(("table", "groups", "passing", "rows"), it)) for it in self.tables],
+            "unknown": [dict(zip(("name", "nearest"), it)) for it in self.unknown],
+            "findings": found(False),
+            "moves": found(True),
+            "skipped": [dict(zip(("message", "type", "statement"), it)) for it in self.skipped],
+        }
 
 
-def check(workflow, feeds, names, datas, text):
+def key_parts(key):
+    return key_text(key).split(b",")
+
+
+def touched_twice(streams):
+    """The least key that two feeds touch, if there is one, with the first two streams whose feeds do."""
+    at = {}
+    for it in streams:
+        for key in it.keys:
+            at.setdefault(key, []).append(it.number)
+    return min(((key, who[:2]) for key, who in at.items() if len(who) > 1), default=None)
+
+
+def decoded(said):
+    """A value with each text as it is read from its bytes."""
+    if isinstance(said, dict):
+        return {name: decoded(it) for name, it in said.items()}
+    if isinstance(said, list):
+        return [decoded(it) for it in said]
+    return said.decode() if isinstance(said, bytes) else said
+
+
+def whole_object(workflow, streams, text, warned):
+    twice = touched_twice(streams)
+    if twice:
+        (table, key), who = twice
+        twice = {"table": workflow.tables[table].name, "key": key_parts(key), "streams": who}
+    said = {
+        "rules": [{"stream": i, "table": table, "rows": rows} for i, table, rows in file.rules(text)],
+        "streams": [it.as_object() for it in streams],
+        "touched": twice,
+        "notes": [{"path": path, "why": why, "table": table or None} for path, why, table in file.notes(text)],
+        "warned": warned,
+    }
+    return json_line(decoded(said))
+
+
+def check(workflow, feeds, names, datas, text, as_json=False):
     """The status and the text, where the workflow's file has this text."""
     board = Board(workflow, feeds)
     for s, feed in enumerate(feeds):
@@ -97,7 +170,14 @@ def check(workflow, feeds, names, datas, text):
                 board.touches(s, n)
             except Refused as bad:
                 raise Refused(90, b"".join(bad.line.partition(b" cause ")[1:])[:-1].split(b" table")[0]) from None
-    said = [stream(workflow, board, s, *it) for s, it in enumerate(zip(names, datas))]
-    warned = [line for _, one in said for line in one] + file.notes(text)
-    lines = file.rule_lines(text) + [line for one, _ in said for line in one] + warned
-    return (3 if warned else 0), b"".join(line + b"\n" for line in lines)
+    streams = [Stream(workflow, board, s, *it) for s, it in enumerate(zip(names, datas))]
+    warned = [line for it in streams for line in it.warnings()]
+    twice = touched_twice(streams)
+    if twice:
+        (table, key), who = twice
+        warned.append(b"warning streams %d and %d touch table %s key %s" % (*who, workflow.tables[table].name, key_text(key)))
+    warned += file.note_lines(file.notes(text))
+    lines = [b"rule stream %d table %s %s" % (i, table.encode(), rows) for i, table, rows in file.rules(text)]
+    lines += [line for it in streams for line in it.lines()] + warned
+    said = whole_object(workflow, streams, text, bool(warned)) if as_json else b"".join(line + b"\n" for line in lines)
+    return (3 if warned else 0), said

@@ -90,11 +90,11 @@ def inputs(command, names, files, stdin):
     return [stdin if at == hyphen else files[name] for at, name in enumerate(names)]
 
 
-def checked(is_hex, text, names, feeds):
+def checked(is_hex, as_json, text, names, feeds):
     """What `check` says; a refusal's line has the place behind it, if it has one."""
     try:
         said = opened(is_hex, text, feeds)
-        return check(*said, names, [bytes_of_hex(it) if is_hex else it for it in feeds], text)
+        return check(*said, names, [bytes_of_hex(it) if is_hex else it for it in feeds], text, as_json)
     except Refused as refused:
         number = int(refused.line.split()[1])
         workflow = Workflow(text) if number in (81, 82, 85) else None
@@ -121,7 +121,7 @@ def said_by(words, files, stdin):
     if command == "run":
         return (run_alone if "--alone" in options else run_in_threads)(is_hex, policy, given[0], given[1:])
     if command == "check":
-        return checked(is_hex, given[0], [it.encode() for it in names[1:]], given[1:])
+        return checked(is_hex, "--json" in options, given[0], [it.encode() for it in names[1:]], given[1:])
     if command == "resume":
         return resume(is_hex, files[values["checkpoint"]], given[0], given[1:], stdin)
     if command == "join":

@@ -62,13 +62,10 @@ def words(table, stream):
     return columns + b"range %s-%s of %s by %s" % (it[2].hex().encode(), it[3].hex().encode(), it[0], it[1])
 
 
-def rule_lines(data):
-    """A line for each table of each stream with the rows that the stream passes."""
+def rules(data):
+    """For each table of each stream: the stream, the table, and the rows that the stream passes."""
     said = read_json(data)
-    lines = []
-    for i, stream in enumerate(said["streams"]):
-        lines += [b"rule stream %d table %s %s" % (i, table["name"].encode(), words(table, stream)) for table in said["tables"]]
-    return lines
+    return [(i, table["name"], words(table, stream)) for i, stream in enumerate(said["streams"]) for table in said["tables"]]
 
 
 def do_tile(ranges):
@@ -77,22 +74,30 @@ def do_tile(ranges):
     return at[0][0] == b"" and at[-1][1] == b"" and all(at[i][1] == at[i + 1][0] != b"" for i in range(len(at) - 1))
 
 
+FLAWS = {"ignored": b"isn't read", "unmatched": b"matches no table", "undecided": b"has no rule for table ", "untiled": b"has ranges that don't tile"}
+
+
+def note_lines(told):
+    """The lines of what is told of a file."""
+    return [b"warning workflow %s %s%s" % (shown(path), FLAWS[why], shown(table)) for path, why, table in told]
+
+
 def notes(data):
-    """The lines of what is told of a file that is read."""
+    """What is told of a file that is read: a path, why, and the table's name, empty where the path says it."""
     said = read_json(data)
     names = [table["name"] for table in said["tables"]]
-    told = [shown(path) + b" isn't read" for path in all_ignored(said)]
+    told = [(path, "ignored", "") for path in all_ignored(said)]
     for i, stream in enumerate(said["streams"]):
         for j, rule in enumerate(stream["filter"]["rules"]):
             if rule["match"] not in ("/.*", *names):
-                told.append(b"streams[%d].filter.rules[%d] matches no table" % (i, j))
+                told.append((f"streams[{i}].filter.rules[{j}]", "unmatched", ""))
     for i, stream in enumerate(said["streams"]):
-        told += [b"streams[%d] has no rule for table " % i + shown(table["name"]) for table in said["tables"] if ranged(table, stream) is None]
+        told += [(f"streams[{i}]", "undecided", table["name"]) for table in said["tables"] if ranged(table, stream) is None]
     for i, table in enumerate(said["tables"]):
         ranges = [ranged(table, stream) for stream in said["streams"]]
         if all(isinstance(it, tuple) for it in ranges) and len({it[:2] for it in ranges}) == 1 < len({*ranges}):
-            told += [] if do_tile(ranges) else [b"tables[%d] has ranges that don't tile" % i]
-    return [b"warning workflow " + it for it in told]
+            told += [] if do_tile(ranges) else [(f"tables[{i}]", "untiled", "")]
+    return told
 
 
 # ---- where a file is at fault

@@ -3,3 +3,4 @@ pub mod ReplayLaws
 pub mod FindingLaws
 pub mod ListLaws
 pub mod CheckLaws
+pub mod SharedLaws

@@ -1,8 +1,9 @@
 -- Loops over changes and groups, one on.
-use Rattle.std.proofs.Common.{◌≡◌, ℕ, suc, ◌+◌, List, [], ◌∷◌, ◌++◌, true, false, length, take, min, reverse, Option, Some, None, Result, Ok, Err, refl, ap, sym, ◌∙◌, subst, add-one, arith}
+use Rattle.std.proofs.Common.{◌≡◌, ◌<◌, ℕ, suc, ◌+◌, map, get_or, List, [], ◌∷◌, ◌++◌, true, false, length, take, min, reverse, Option, Some, None, Result, Ok, Err, refl, ap, sym, ◌∙◌, subst, add-one, arith}
 use Rattle.std.specs.Prelude.{slice_get}
 use Rattle.std.specs.List.{flat_map, sum_by}
-use Rattle.std.proofs.lemmas.List.{append_assoc, append-nil, drop_all, take_min, take_more, flat_map_more}
+use Rattle.std.proofs.lemmas.List.{append_assoc, append-nil, drop_all, get_or-map, length-map, take_min, take_more, flat_map_more}
+use Rattle.std.proofs.lemmas.Option.{slice_get-get_or}
 use Rattle.outcome.specs.Outcome.{◌>>=◌, each}
 use Rattle.source_feed.specs.GroupValue.{GroupValue}
 use Rattle.feed_check.specs.KeyedChanges.{KeyedChangeValue, keyed_in}
@@ -51,3 +52,10 @@ front_within n xs =
     ap (λ k. take k xs) same ∙ take_min n xs
 
 -- ---- counts
+
+-- ---- items by their places
+
+pub item_at : {A B : Type 0} (f : A → B) (xs : List A) (i : ℕ) (x : A) (y : B) → i < length xs → x ≡ get_or xs i x → y ≡ f x → slice_get (map f xs) i ≡ Some y
+item_at f xs i x y within at is =
+    slice_get-get_or (map f xs) i y (subst (λ n. i < n) (sym (length-map xs f)) within)
+    ∙ ap Some (get_or-map f xs i x y within ∙ ap f (sym at) ∙ sym is)

@@ -12,7 +12,6 @@ use Rattle.target_tables.specs.Contents.{value_at}
 use Rattle.target_tables.specs.Touches.{last_at, touched, IsTouched}
 use Rattle.vdiff_core.specs.Report.{column_eq, row_eq}
 use Rattle.source_feed.specs.History.{RowValue}
-use Rattle.feed_check.specs.KeyedChanges.{KeyedRowValue}
 use Rattle.feed_check.specs.Replay.{left_at}
 use Rattle.feed_check.specs.Private.Replayed.{Entries, rows_of, AreOwn, row_in}
 
@@ -40,28 +39,28 @@ same_rows a b r h = both r (row_eq a b) h (row_eq-Decides a b)
 
 -- ---- one key of the rows
 
-pub row_in-rows_of : (entries : Entries) (k : KeyValue) → row_in (rows_of entries) k ≡ option_map (λ there. there.1) (value_at key_cmp entries k)
+pub row_in-rows_of : {R : Type 0} (entries : Entries R) (k : KeyValue) → row_in (rows_of entries) k ≡ option_map (λ there. there.1) (value_at key_cmp entries k)
 row_in-rows_of entries k = lookup-map_values (λ there. there.1) (eq_by_cmp key_cmp k) entries
 
-touched-own : (t : Option (Option RowValue)) (there : Option (ℕ × RowValue)) → IfSome there (λ x. x.0 ≡ 0)
+touched-own : {R : Type 0} (t : Option (Option R)) (there : Option (ℕ × R)) → IfSome there (λ x. x.0 ≡ 0)
     → option_map (λ x. x.1) (touched 0 t there) ≡ left_at t (option_map (λ x. x.1) there)
 touched-own None there own = refl
 touched-own (Some (Some row)) there own = refl
 touched-own (Some None) None own = refl
-touched-own (Some None) (Some there) own = ap (λ n. option_map (λ (x : ℕ × RowValue). x.1) (cond (n == 0) None (Some there))) own
+touched-own {R} (Some None) (Some there) own = ap (λ n. option_map (λ (x : ℕ × R). x.1) (cond (n == 0) None (Some there))) own
 
 -- what touches leave at each key
-pub rows_after : (old new : Entries) (touches : List (KeyValue × Option RowValue)) (before : List KeyedRowValue) → rows_of old ≡ before
+pub rows_after : {R : Type 0} (old new : Entries R) (touches : List (KeyValue × Option R)) (before : List (KeyValue × R)) → rows_of old ≡ before
     → AreOwn old → IsTouched key_cmp old 0 (last_at key_cmp touches) new
     → (k : KeyValue) → row_in (rows_of new) k ≡ left_at (last_at key_cmp touches k) (row_in before k)
-rows_after old new touches before seen own h k =
+rows_after {R} old new touches before seen own h k =
     row_in-rows_of new k
-    ∙ ap (λ (v : Option (ℕ × RowValue)). option_map (λ x. x.1) v) (h k)
+    ∙ ap (λ (v : Option (ℕ × R)). option_map (λ x. x.1) v) (h k)
     ∙ touched-own (last_at key_cmp touches k) (value_at key_cmp old k) (own k)
-    ∙ ap (λ (v : Option RowValue). left_at (last_at key_cmp touches k) v) (sym (row_in-rows_of old k))
-    ∙ ap (λ (rows : List KeyedRowValue). left_at (last_at key_cmp touches k) (row_in rows k)) seen
+    ∙ ap (λ (v : Option R). left_at (last_at key_cmp touches k) v) (sym (row_in-rows_of old k))
+    ∙ ap (λ (rows : List (KeyValue × R)). left_at (last_at key_cmp touches k) (row_in rows k)) seen
 
 -- a row that was found is the one that stands
-pub row_found : (entries : Entries) (before : List KeyedRowValue) (k : KeyValue) (found : Option RowValue) → rows_of entries ≡ before
+pub row_found : {R : Type 0} (entries : Entries R) (before : List (KeyValue × R)) (k : KeyValue) (found : Option R) → rows_of entries ≡ before
     → found ≡ option_map (λ there. there.1) (value_at key_cmp entries k) → found ≡ row_in before k
-row_found entries before k found seen e = e ∙ sym (row_in-rows_of entries k) ∙ ap (λ (rows : List KeyedRowValue). row_in rows k) seen
+row_found {R} entries before k found seen e = e ∙ sym (row_in-rows_of entries k) ∙ ap (λ (rows : List (KeyValue × R)). row_in rows k) seen

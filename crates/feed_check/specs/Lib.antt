@@ -4,5 +4,6 @@ pub mod Findings
 pub mod Skipped
 pub mod Unknown
 pub mod Checked
+pub mod Shared
 pub mod Report
 pub mod Private

@@ -1,2 +1,3 @@
 -- What serves the loops over a feed's changes alone, and no public contract.
 pub mod Replayed
+pub mod Owners

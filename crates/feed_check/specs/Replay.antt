@@ -21,7 +21,7 @@ abbrev pub touches_of_keyed : KeyedChangeValue → List (KeyValue × Option RowV
 touches_of_keyed change = removal change.before ++ put change.after
 
 -- what a last touch leaves at a key: without a touch what stood there
-abbrev pub left_at : Option (Option RowValue) → Option RowValue → Option RowValue
+abbrev pub left_at : {R : Type 0} → Option (Option R) → Option R → Option R
 left_at None there = there
 left_at (Some left) there = left
 

@@ -9,8 +9,9 @@ use Rattle.pk_copy.specs.KeyValue.{Part}
 use Rattle.pk_copy.specs.Lastpk.{part_text}
 use Rattle.source_feed.specs.GroupValue.{Position}
 use Rattle.source_feed.specs.Touches.{PreparedValue}
-use Rattle.feed_check.specs.Checked.{CheckedValue, touching, passing_groups}
+use Rattle.feed_check.specs.Checked.{CheckedValue, touching, passing_groups, rows_of_table}
 use Rattle.feed_check.specs.Findings.{FindingValue}
+use Rattle.feed_check.specs.Shared.{SharedValue, shared_of}
 use Rattle.feed_check.specs.Skipped.{SkippedValue}
 use Rattle.feed_check.specs.declared.finding.Doubt.{Doubt}
 use Rattle.feed_check.specs.declared.finding.Doubt.TheVariants.{NoRow, OtherRow, RowThere, Moved}
@@ -52,9 +53,14 @@ stream_head i file check = codes "stream " ++ decimal i ++ codes " file " ++ fil
 abbrev pub stream_line : ℕ → List ℕ → CheckedValue → List ℕ
 stream_line i file check = stream_head i file check ++ places_text check.history ++ 10 ∷ []
 
--- a table of a stream: how many groups touch it, and how many put a row that passes the stream's filter
+-- a table: how many groups touch it, how many put a row that passes the stream's filter, and how many such rows there
+-- are at the feed's end
+abbrev pub counts_line : List ℕ → ℕ → ℕ → ℕ → List ℕ
+counts_line name touching passing rows = codes "table " ++ name ++ codes " groups " ++ decimal touching ++ codes " passing " ++ decimal passing ++ codes " rows " ++ decimal rows ++ 10 ∷ []
+
+-- a table of a stream
 abbrev pub checked_table_line : CheckedValue → ℕ → List ℕ → List ℕ
-checked_table_line check t name = codes "table " ++ name ++ codes " groups " ++ decimal (touching t check.history) ++ codes " passing " ++ decimal (passing_groups t check.history) ++ 10 ∷ []
+checked_table_line check t name = counts_line name (touching t check.history) (passing_groups t check.history) (rows_of_table t check.rows)
 
 -- the tables from one on
 abbrev pub checked_table_lines : CheckedValue → ℕ → List TableValue → List ℕ
@@ -163,27 +169,35 @@ abbrev pub finding_head : FindingValue → List ℕ
 finding_head found = why_text found.why ++ codes " group " ++ decimal found.group ++ codes " change " ++ decimal found.place
 
 -- behind that the table and the key
-abbrev pub finding_text : List TableValue → FindingValue → List ℕ
-finding_text tables found = finding_head found ++ codes " table " ++ name_of_table tables found.key.table ++ codes " key " ++ parts_text found.key.parts
+abbrev pub keyed_text : List TableValue → FindingValue → List ℕ
+keyed_text tables found = finding_head found ++ codes " table " ++ name_of_table tables found.key.table ++ codes " key " ++ parts_text found.key.parts
 
-abbrev pub finding_warnings : ℕ → List TableValue → List FindingValue → List ℕ
-finding_warnings i tables findings = flat_map (λ found. warning i (finding_text tables found)) findings
+-- the group of a number, from 1
+abbrev pub group_of : List PreparedValue → ℕ → Option PreparedValue
+group_of history number = slice_get history (number - 1)
+
+-- behind that the group's position
+abbrev pub finding_text : CheckedValue → FindingValue → List ℕ
+finding_text check found = keyed_text check.plan.tables found ++ group_place_text (codes " at ") (group_of check.history found.group)
+
+abbrev pub finding_warnings : ℕ → CheckedValue → List FindingValue → List ℕ
+finding_warnings i check findings = flat_map (λ found. warning i (finding_text check found)) findings
 
 -- the findings of one kind: their count, and the first ten
-abbrev pub kind_warnings : ℕ → List TableValue → Doubt → List FindingValue → List ℕ
-kind_warnings i tables why these = count_warning i why (length these) ++ finding_warnings i tables (take 10 these)
+abbrev pub kind_warnings : ℕ → CheckedValue → Doubt → List FindingValue → List ℕ
+kind_warnings i check why these = count_warning i why (length these) ++ finding_warnings i check (take 10 these)
 
 abbrev pub of_kind : Doubt → List FindingValue → List FindingValue
 of_kind why findings = filter (λ found. same_why why found.why) findings
 
-abbrev pub told_warnings : ℕ → List TableValue → Doubt → List FindingValue → List ℕ
-told_warnings i tables why findings = kind_warnings i tables why (of_kind why findings)
+abbrev pub told_warnings : ℕ → CheckedValue → Doubt → List FindingValue → List ℕ
+told_warnings i check why findings = kind_warnings i check why (of_kind why findings)
 
 -- what is told of a stream's changes
 abbrev pub change_warnings : ℕ → CheckedValue → List ℕ
 change_warnings i check =
-    told_warnings i check.plan.tables NoRow check.findings ++ (told_warnings i check.plan.tables OtherRow check.findings
-    ++ (told_warnings i check.plan.tables RowThere check.findings ++ told_warnings i check.plan.tables Moved check.moves))
+    told_warnings i check NoRow check.findings ++ (told_warnings i check OtherRow check.findings
+    ++ (told_warnings i check RowThere check.findings ++ told_warnings i check Moved check.moves))
 
 -- the warnings of a stream
 abbrev pub stream_warnings : ℕ → CheckedValue → List ℕ
@@ -194,6 +208,32 @@ stream_warnings i check =
 abbrev pub warnings_from : ℕ → List CheckedValue → List ℕ
 warnings_from i [] = []
 warnings_from i (check ∷ later) = stream_warnings i check ++ warnings_from (i + 1) later
+
+-- ---- keys of two feeds
+
+-- the tables of the workflow
+abbrev pub tables_of : List CheckedValue → List TableValue
+tables_of [] = []
+tables_of (check ∷ later) = check.plan.tables
+
+-- the two streams
+abbrev pub shared_head : SharedValue → List ℕ
+shared_head shared = decimal shared.one ++ codes " and " ++ decimal shared.other ++ codes " touch"
+
+-- behind that the table and the key that both touch
+abbrev pub shared_text : List TableValue → SharedValue → List ℕ
+shared_text tables shared = shared_head shared ++ codes " table " ++ name_of_table tables shared.key.table ++ codes " key " ++ parts_text shared.key.parts
+
+-- and the end of the line
+abbrev pub ended : List ℕ → List ℕ
+ended text = text ++ 10 ∷ []
+
+abbrev pub shared_line : List TableValue → SharedValue → List ℕ
+shared_line tables shared = codes "warning streams " ++ ended (shared_text tables shared)
+
+abbrev pub shared_warning : List TableValue → Option SharedValue → List ℕ
+shared_warning tables None = []
+shared_warning tables (Some shared) = shared_line tables shared
 
 -- ---- all streams
 
@@ -206,6 +246,10 @@ abbrev pub has_some : List ℕ → Bool
 has_some [] = false
 has_some (byte ∷ bytes) = true
 
+-- the warnings of each stream, and behind them that of the least key that two feeds touch
+abbrev pub all_warnings : List CheckedValue → List ℕ
+all_warnings checks = warnings_from 0 checks ++ shared_warning (tables_of checks) (shared_of checks)
+
 -- the lines of all streams, whose files have these names, and behind them all warnings
 abbrev pub check_report_of : List (List ℕ) → List CheckedValue → ReportValue
-check_report_of files checks = record { text = lines_from files 0 checks ++ warnings_from 0 checks; warned = has_some (warnings_from 0 checks) }
+check_report_of files checks = record { text = lines_from files 0 checks ++ all_warnings checks; warned = has_some (all_warnings checks) }

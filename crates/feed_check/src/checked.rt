@@ -1,30 +1,35 @@
 //! A feed, checked.
 
-ghost use Rattle.std.specs.Prelude.{◌≡◌, ◌+◌, ◌<◌, ◌^◌, length, map, slice_get};
+ghost use Rattle.std.specs.Prelude.{◌≡◌, ◌+◌, ◌<◌, ◌^◌, IfOk, length, map, slice_get};
 ghost use Rattle.std.specs.Option.{option_copied, option_map};
 ghost use Rattle.std.specs.Arc.{arc_value};
 ghost use Rattle.std.specs.List.{list_any};
 ghost use Rattle.outcome.specs.Outcome.{GivesUnless};
 ghost use Rattle.source_feed.specs.FaultNumber.{meant_of};
+ghost use Rattle.source_feed.specs.Image.{lent_row};
 ghost use Rattle.feed_check.specs.Checked.{checked, checked_feeds, history_of, is_passing, touches_table, passes_in_table, touching, passing_groups};
 
 use crate::before_images::findings_of;
 use crate::finding::Finding;
+use crate::last_rows::last_rows;
 use crate::moves::moves_of;
 use crate::skipped::{Skipped, skipped_of};
 use crate::unknown::unknown_tables;
 use filter_rule::{Plan, Table};
-use source_feed::{Feed, FeedFault, Prepared, Put, Touch, read_groups};
-use std::alloc::Global;
+use pk_copy::LentKey;
+use row_view::RowBytes;
+use source_feed::{Feed, FeedFault, Image, Prepared, Put, Touch, read_groups};
+use std::alloc::{AllocError, Global};
 use std::marker::Model;
 use std::sync::Arc;
 
-/// What a check of a feed gives: its groups with their touches, what is told of its changes, the names that no
-/// table has, and the events that are passed over.
+/// What a check of a feed gives: its groups with their touches, the rows that pass at its end, what is told of its
+/// changes, the names that no table has, and the events that are passed over.
 #[derive(Drop)]
 pub struct Checked<'h> {
     plan: Arc<Plan>,
     groups: Vec<Arc<Prepared<'h>>>,
+    image: Image<'h>,
     findings: Vec<Finding<'h>>,
     moves: Vec<Finding<'h>>,
     unknown: Vec<&'h str>,
@@ -38,7 +43,7 @@ impl<'h> Model for Checked<'h> {
 
     ghost Value = { CheckedValue };
 
-    ghost view = { λ c. record { plan = arc_value c.plan; history = map arc_value c.groups.items; findings = c.findings.items; moves = c.moves.items; unknown = map (λ name. name.now) c.unknown.items; skipped = c.skipped.items } };
+    ghost view = { λ c. record { plan = arc_value c.plan; history = map arc_value c.groups.items; rows = c.image; findings = c.findings.items; moves = c.moves.items; unknown = map (λ name. name.now) c.unknown.items; skipped = c.skipped.items } };
 }
 
 /// The number of the group at a place, from 0.
@@ -75,6 +80,7 @@ pub fn check_feed<'h>(
     ensures { GivesUnless meant_of (λ check. check) result (checked bytes.now feed.now) }
 {
     let groups = prepare_all(alloc, feed)?;
+    let image = last_rows(alloc, &groups)?;
     let plan = feed.plan();
     let read = read_groups(alloc, bytes, plan.keyspace(), plan.shard())?;
     let findings = findings_of(alloc, plan, &read)?;
@@ -84,6 +90,7 @@ pub fn check_feed<'h>(
     Ok(Checked {
         plan: Arc::clone(plan)?,
         groups,
+        image,
         findings,
         moves,
         unknown,
@@ -190,11 +197,26 @@ impl<'h> Checked<'h> {
         self.groups.len()
     }
 
+    /// The feed's groups.
+    pub(crate) fn groups(&self) -> &[Arc<Prepared<'h>>]
+        ensures { map arc_value result.now ≡ self.now.history }
+    {
+        self.groups.as_slice()
+    }
+
     /// The feed's group at a place, from 0.
     pub fn group(&self, place: usize) -> Option<&Prepared<'h>>
         ensures { option_copied result ≡ slice_get self.now.history place }
     {
         group_at(self.groups.as_slice(), place)
+    }
+
+    /// The rows that pass the stream's filter at the feed's end, by rising key. Takes memory for the answer; an
+    /// error is want of it.
+    pub fn rows(&self, alloc: Global) -> Result<Vec<(&LentKey<'h>, &RowBytes<'h>)>, AllocError>
+        ensures { IfOk result (λ rows. map lent_row rows.items ≡ self.now.rows) }
+    {
+        self.image.rows(alloc)
     }
 
     /// The source shard's name.

@@ -47,7 +47,7 @@ pub(crate) fn push_start_warning(
 }
 
 /// What stands behind the first dot of a name; nothing where it has none.
-fn behind_dot(name: &str) -> &str
+pub fn behind_dot(name: &str) -> &str
     ensures { result.now ≡ after_first (λ b. b == 46) name.now }
 {
     match name.split_once('.') {
@@ -123,9 +123,9 @@ fn front(bytes: &[u8], most: usize) -> &[u8]
     &bytes[..bytes.len().min(most)]
 }
 
-/// The beginning of a statement, printable.
+/// The beginning of a statement, printable. An error is want of memory.
 #[tactic(auto, unfolding(crate::specs::Report::shown_statement))]
-fn shown(alloc: Global, statement: &[u8]) -> Result<String, AllocError>
+pub fn statement_text(alloc: Global, statement: &[u8]) -> Result<String, AllocError>
     ensures { IfOk result (λ text. string_bytes text ≡ shown_statement statement.now) }
 {
     let mut text = String::new(alloc);
@@ -133,9 +133,9 @@ fn shown(alloc: Global, statement: &[u8]) -> Result<String, AllocError>
     Ok(text)
 }
 
-/// The name of an event's type.
+/// The name of the type of an event that is passed over.
 #[tactic(auto, unfolding(crate::specs::Report::kind_text))]
-fn kind_text(kind: u64) -> &'static str
+pub fn kind_text(kind: u64) -> &'static str
     ensures { result.now ≡ kind_text kind }
 {
     if kind == 5 {
@@ -169,7 +169,7 @@ fn skipped_text(alloc: Global, event: &Skipped<'_>) -> Result<String, AllocError
     ensures { IfOk result (λ text. string_bytes text ≡ skipped_text event.now) }
 {
     let mut text = skipped_head(alloc, event)?;
-    let statement = shown(alloc, event.statement())?;
+    let statement = statement_text(alloc, event.statement())?;
     text.push_str(" ")?;
     text.push_str(&statement)?;
     Ok(text)

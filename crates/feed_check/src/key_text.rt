@@ -18,8 +18,8 @@ fn cell_text(alloc: Global, bytes: &[u8]) -> Result<String, AllocError>
     format!(in alloc; "x{digits}")
 }
 
-/// A part of a key.
-fn part_text(alloc: Global, part: &KeyPart<'_>) -> Result<String, AllocError>
+/// A part of a key as a cell of a dump. An error is want of memory.
+pub fn part_text(alloc: Global, part: &KeyPart<'_>) -> Result<String, AllocError>
     ensures { IfOk result (λ text. string_bytes text ≡ part_cell (part_value part.now)) }
 {
     match part {

@@ -1,13 +1,16 @@
 //! What a check of all streams says, as text.
 
 ghost use Rattle.std.specs.Prelude.{◌≡◌, ◌++◌, OnOk, IfOk, map};
-ghost use Rattle.std.specs.Option.{option_copied};
 ghost use Rattle.std.specs.String.{string_bytes};
-ghost use Rattle.feed_check.specs.Report.{file_name, stream_head, stream_line, places_text, checked_table_line, checked_table_lines, group_place_text, lines_from, warnings_from, has_some, check_report_of};
+ghost use Rattle.feed_check.specs.Report.{file_name, stream_head, stream_line, counts_line, checked_table_lines, lines_from, warnings_from, tables_of, all_warnings, has_some, check_report_of};
 
 use crate::checked::Checked;
+use crate::last_rows::rows_of_table;
+use crate::places::places_text;
+use crate::shared::shared_of;
+use crate::shared_warning::push_shared_warning;
 use crate::warnings::push_stream_warnings;
-use source_feed::Prepared;
+use filter_rule::Table;
 use std::alloc::{AllocError, Global};
 use std::marker::Model;
 
@@ -57,6 +60,16 @@ impl Report {
     }
 }
 
+/// The tables of the workflow, of which there are checks.
+pub fn tables_of<'c>(checks: &'c [Checked<'_>]) -> &'c [Table]
+    ensures { result.now ≡ tables_of checks.entry.now }
+{
+    match checks {
+        [] => &[],
+        [check, ..] => check.tables(),
+    }
+}
+
 /// Whether a text has a byte.
 fn has_some(text: &str) -> bool
     ensures { result ≡ has_some text.now }
@@ -64,31 +77,8 @@ fn has_some(text: &str) -> bool
     !text.is_empty()
 }
 
-/// A group's position behind a word, if there is that group.
-fn place_text(alloc: Global, word: &str, group: Option<&Prepared<'_>>) -> Result<String, AllocError>
-    ensures { IfOk result (λ text. string_bytes text ≡ group_place_text word.now (option_copied group.entry)) }
-{
-    match group {
-        None => Ok(String::new(alloc)),
-        Some(group) => {
-            let position = group.position();
-            format!(in alloc; "{word}{position}")
-        }
-    }
-}
-
-/// The positions of a feed's first group and of its last.
-fn places_text(alloc: Global, check: &Checked<'_>) -> Result<String, AllocError>
-    ensures { IfOk result (λ text. string_bytes text ≡ places_text check.now.history) }
-{
-    let first = place_text(alloc, " first ", check.group(0))?;
-    let last = place_text(alloc, " last ", check.group(check.len().saturating_sub(1)))?;
-    let text = format!(in alloc; "{first}{last}")?;
-    Ok(text)
-}
-
 /// The name of a stream's file.
-fn file_name<'f>(files: &[&'f str], i: usize) -> &'f str
+pub fn file_name<'f>(files: &[&'f str], i: usize) -> &'f str
     ensures { result.now ≡ file_name (map (λ file. file.now) files.now) i }
 {
     match files.get(i) {
@@ -127,18 +117,18 @@ fn stream_line(
     Ok(line)
 }
 
-/// The line of a table of a stream.
+/// The line of a table of a stream: its name, how many groups touch it, how many put a row that passes, and how
+/// many such rows there are at the feed's end.
 fn table_line(
     alloc: Global,
-    check: &Checked<'_>,
-    t: usize,
     name: &str,
+    touching: usize,
+    passing: usize,
+    rows: usize,
 ) -> Result<String, AllocError>
-    ensures { IfOk result (λ text. string_bytes text ≡ checked_table_line check.now t name.now) }
+    ensures { IfOk result (λ text. string_bytes text ≡ counts_line name.now touching passing rows) }
 {
-    let touching = check.touching(t);
-    let passing = check.passing(t);
-    let line = format!(in alloc; "table {name} groups {touching} passing {passing}\n")?;
+    let line = format!(in alloc; "table {name} groups {touching} passing {passing} rows {rows}\n")?;
     Ok(line)
 }
 
@@ -147,8 +137,15 @@ fn push_tables(alloc: Global, check: &Checked<'_>, text: &mut String) -> Result<
     ensures { OnOk result (string_bytes text.new ≡ string_bytes text.old ++ checked_table_lines check.now 0 check.now.plan.tables) }
 {
     let tables = check.tables();
+    let rows = check.rows(alloc)?;
     for t in 0..tables.len() {
-        let line = table_line(alloc, check, t, tables[t].name())?;
+        let line = table_line(
+            alloc,
+            tables[t].name(),
+            check.touching(t),
+            check.passing(t),
+            rows_of_table(&rows, t),
+        )?;
         text.push_str(&line)?;
     }
     Ok(())
@@ -181,13 +178,23 @@ fn all_lines(alloc: Global, files: &[&str], checks: &[Checked<'_>]) -> Result<St
     Ok(text)
 }
 
-/// The warnings of all streams.
+/// Puts the warnings of all streams behind a text.
+fn push_warnings(alloc: Global, checks: &[Checked<'_>], text: &mut String) -> Result<(), AllocError>
+    ensures { OnOk result (string_bytes text.new ≡ string_bytes text.old ++ warnings_from 0 checks.now) }
+{
+    for i in 0..checks.len() {
+        push_stream_warnings(alloc, i, &checks[i], text)?;
+    }
+    Ok(())
+}
+
+/// All warnings.
 fn all_warnings(alloc: Global, checks: &[Checked<'_>]) -> Result<String, AllocError>
-    ensures { IfOk result (λ text. string_bytes text ≡ warnings_from 0 checks.now) }
+    ensures { IfOk result (λ text. string_bytes text ≡ all_warnings checks.now) }
 {
     let mut text = String::new(alloc);
-    for i in 0..checks.len() {
-        push_stream_warnings(alloc, i, &checks[i], &mut text)?;
-    }
+    push_warnings(alloc, checks, &mut text)?;
+    let shared = shared_of(alloc, checks)?;
+    push_shared_warning(alloc, tables_of(checks), shared.as_ref(), &mut text)?;
     Ok(text)
 }

@@ -1,4 +1,4 @@
-//! The rows that stand while a feed is replayed.
+//! What stands at keys while feeds are gone through.
 
 ghost use Rattle.std.specs.Prelude.{◌≡◌, [], OnOk};
 ghost use Rattle.std.specs.Option.{option_copied, option_map};
@@ -10,24 +10,23 @@ ghost use Rattle.feed_check.specs.Replay.{left_at};
 ghost use Rattle.feed_check.specs.Private.Replayed.{row_in};
 
 use pk_copy::LentKey;
-use row_view::RowBytes;
 use std::alloc::{AllocError, Global};
 use std::marker::Model;
 use target_tables::{TableFault, Tables};
 
-/// Rows by key. Keys and rows are lent from the feed's buffer. Seen in contracts as the list of keys and rows,
-/// by rising key.
+/// Rows, or what else stands at keys, by key. Keys are lent from the feed's buffer. Seen in contracts as the list
+/// of keys and rows, by rising key.
 #[derive(Drop)]
-pub(crate) struct Rows<'h> {
-    rows: Tables<LentKey<'h>, RowBytes<'h>>,
+pub(crate) struct Rows<'h, R> {
+    rows: Tables<LentKey<'h>, R>,
 }
 
-impl<'h> Model for Rows<'h> {
+impl<'h, R> Model for Rows<'h, R> {
     ghost use Rattle.std.specs.Prelude.{List};
-    ghost use Rattle.feed_check.specs.KeyedChanges.{KeyedRowValue};
+    ghost use Rattle.pk_copy.specs.KeyValue.{KeyValue};
     ghost use Rattle.feed_check.specs.Private.Replayed.{rows_of, AreOwn};
 
-    ghost Value = { List KeyedRowValue };
+    ghost Value = { List (KeyValue × R) };
 
     ghost view = { λ r. rows_of r.rows.entries };
 
@@ -35,10 +34,7 @@ impl<'h> Model for Rows<'h> {
 }
 
 /// The row at a key of a map.
-fn row_at<'t, 'h>(
-    rows: &'t Tables<LentKey<'h>, RowBytes<'h>>,
-    key: &LentKey<'h>,
-) -> Option<&'t RowBytes<'h>>
+fn row_at<'t, 'h, R>(rows: &'t Tables<LentKey<'h>, R>, key: &LentKey<'h>) -> Option<&'t R>
     ensures { option_copied result ≡ option_map (λ there. there.1) (value_at key_cmp rows.now.entries key.now) }
 {
     match rows.get(key) {
@@ -47,9 +43,9 @@ fn row_at<'t, 'h>(
     }
 }
 
-impl<'h> Rows<'h> {
+impl<'h, R: Drop> Rows<'h, R> {
     /// No row stands. Takes no memory.
-    pub(crate) fn new(alloc: Global) -> Rows<'h>
+    pub(crate) fn new(alloc: Global) -> Rows<'h, R>
         ensures { result ≡ [] }
     {
         Rows {
@@ -58,7 +54,7 @@ impl<'h> Rows<'h> {
     }
 
     /// The row at a key.
-    pub(crate) fn at(&self, key: &LentKey<'h>) -> Option<&RowBytes<'h>>
+    pub(crate) fn at(&self, key: &LentKey<'h>) -> Option<&R>
         ensures { option_copied result ≡ row_in self.now key.now }
     {
         row_at(&self.rows, key)
@@ -68,7 +64,7 @@ impl<'h> Rows<'h> {
     pub(crate) fn touch(
         &mut self,
         alloc: Global,
-        touches: Vec<(LentKey<'h>, Option<RowBytes<'h>>)>,
+        touches: Vec<(LentKey<'h>, Option<R>)>,
     ) -> Result<(), AllocError>
         ensures { OnOk result ((key : KeyValue) → row_in self.new key ≡ left_at (last_at key_cmp touches.entry.items key) (row_in self.old key)) }
     {

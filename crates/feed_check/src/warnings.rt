@@ -2,15 +2,18 @@
 
 ghost use Rattle.std.specs.Prelude.{◌≡◌, ◌++◌, OnOk, IfOk, map, take};
 ghost use Rattle.std.specs.List.{filter};
+ghost use Rattle.std.specs.Option.{option_copied};
 ghost use Rattle.std.specs.String.{string_bytes};
-ghost use Rattle.filter_rule.specs.PlanTable.{TableValue, name_of_table};
-ghost use Rattle.feed_check.specs.Report.{change_warnings, count_warning, finding_head, finding_text, finding_warnings, groups_warning, kind_warnings, numbered, of_kind, same_why, stream_warnings, table_warning, table_warnings, told_warnings, warning, why_text};
+ghost use Rattle.filter_rule.specs.PlanTable.{name_of_table};
+ghost use Rattle.feed_check.specs.Report.{change_warnings, count_warning, finding_head, finding_text, group_of, keyed_text, finding_warnings, groups_warning, kind_warnings, numbered, of_kind, same_why, stream_warnings, table_warning, table_warnings, told_warnings, warning, why_text};
 
 use crate::checked::Checked;
 use crate::feed_warnings::{push_name_warnings, push_skipped_warnings, push_start_warning};
 use crate::finding::{Doubt, Finding};
 use crate::key_text::key_text;
+use crate::places::place_text;
 use filter_rule::Table;
+use source_feed::Prepared;
 use std::alloc::{AllocError, Global};
 
 /// How many findings of a kind are told one by one.
@@ -100,7 +103,7 @@ fn push_table_warnings(
 }
 
 /// The word for why a change isn't true.
-fn why_text(why: Doubt) -> &'static str
+pub fn why_text(why: Doubt) -> &'static str
     ensures { result.now ≡ why_text why }
 {
     match why {
@@ -160,7 +163,7 @@ fn push_count_warning(
 }
 
 /// The name of a table by its number.
-fn name_of_table(tables: &[Table], t: u8) -> &str
+pub fn name_of_table(tables: &[Table], t: u8) -> &str
     ensures { result.now ≡ name_of_table tables.now t }
 {
     match tables.get(usize::from(t)) {
@@ -181,8 +184,8 @@ fn finding_head(alloc: Global, found: &Finding<'_>) -> Result<String, AllocError
 }
 
 /// A finding: that, and behind it the table and the key.
-fn finding_text(alloc: Global, tables: &[Table], found: &Finding<'_>) -> Result<String, AllocError>
-    ensures { IfOk result (λ text. string_bytes text ≡ finding_text tables.now found.now) }
+fn keyed_text(alloc: Global, tables: &[Table], found: &Finding<'_>) -> Result<String, AllocError>
+    ensures { IfOk result (λ text. string_bytes text ≡ keyed_text tables.now found.now) }
 {
     let head = finding_head(alloc, found)?;
     let name = name_of_table(tables, found.key().table());
@@ -191,18 +194,39 @@ fn finding_text(alloc: Global, tables: &[Table], found: &Finding<'_>) -> Result<
     Ok(text)
 }
 
+/// The group of a number, from 1.
+pub fn group_of<'c, 'h>(check: &'c Checked<'h>, number: u32) -> Option<&'c Prepared<'h>>
+    ensures { option_copied result ≡ group_of check.now.history number }
+{
+    check.group((number as usize).saturating_sub(1))
+}
+
+/// A finding: that, and behind it the group's position.
+fn finding_text(
+    alloc: Global,
+    check: &Checked<'_>,
+    found: &Finding<'_>,
+) -> Result<String, AllocError>
+    ensures { IfOk result (λ text. string_bytes text ≡ finding_text check.now found.now) }
+{
+    let mut text = keyed_text(alloc, check.tables(), found)?;
+    let place = place_text(alloc, " at ", group_of(check, found.group()))?;
+    text.push_str(&place)?;
+    Ok(text)
+}
+
 /// Puts the warnings of some findings behind a text.
 fn push_findings(
     alloc: Global,
     i: usize,
-    tables: &[Table],
+    check: &Checked<'_>,
     findings: &[&Finding<'_>],
     text: &mut String,
 ) -> Result<(), AllocError>
-    ensures { OnOk result (string_bytes text.new ≡ string_bytes text.old ++ finding_warnings i tables.now (map (λ found. found.now) findings.now)) }
+    ensures { OnOk result (string_bytes text.new ≡ string_bytes text.old ++ finding_warnings i check.now (map (λ found. found.now) findings.now)) }
 {
     for found in findings {
-        let warned = finding_text(alloc, tables, found)?;
+        let warned = finding_text(alloc, check, found)?;
         push_warning(alloc, i, &warned, text)?;
     }
     Ok(())
@@ -219,16 +243,16 @@ fn first_of<'a, 'f, 'h>(these: &'a [&'f Finding<'h>]) -> &'a [&'f Finding<'h>]
 fn push_told(
     alloc: Global,
     i: usize,
-    tables: &[Table],
+    check: &Checked<'_>,
     why: Doubt,
     findings: &[Finding<'_>],
     text: &mut String,
 ) -> Result<(), AllocError>
-    ensures { OnOk result (string_bytes text.new ≡ string_bytes text.old ++ told_warnings i tables.now why findings.now) }
+    ensures { OnOk result (string_bytes text.new ≡ string_bytes text.old ++ told_warnings i check.now why findings.now) }
 {
     let these = of_kind(alloc, why, findings)?;
     push_count_warning(alloc, i, why, these.len(), text)?;
-    push_findings(alloc, i, tables, first_of(&these), text)?;
+    push_findings(alloc, i, check, first_of(&these), text)?;
     Ok(())
 }
 
@@ -241,11 +265,10 @@ fn push_change_warnings(
 ) -> Result<(), AllocError>
     ensures { OnOk result (string_bytes text.new ≡ string_bytes text.old ++ change_warnings i check.now) }
 {
-    let tables = check.tables();
-    push_told(alloc, i, tables, Doubt::NoRow, check.findings(), text)?;
-    push_told(alloc, i, tables, Doubt::OtherRow, check.findings(), text)?;
-    push_told(alloc, i, tables, Doubt::RowThere, check.findings(), text)?;
-    push_told(alloc, i, tables, Doubt::Moved, check.moves(), text)?;
+    push_told(alloc, i, check, Doubt::NoRow, check.findings(), text)?;
+    push_told(alloc, i, check, Doubt::OtherRow, check.findings(), text)?;
+    push_told(alloc, i, check, Doubt::RowThere, check.findings(), text)?;
+    push_told(alloc, i, check, Doubt::Moved, check.moves(), text)?;
     Ok(())
 }
 

@@ -5,24 +5,23 @@ use Rattle.std.specs.Ordering.{eq_by_cmp}
 use Rattle.pk_copy.specs.KeyOrder.{key_cmp}
 use Rattle.pk_copy.specs.KeyValue.{KeyValue}
 use Rattle.target_tables.specs.Contents.{value_at}
-use Rattle.source_feed.specs.History.{RowValue}
 use Rattle.feed_check.specs.KeyedChanges.{KeyedRowValue, KeyedChangeValue}
 use Rattle.feed_check.specs.Replay.{row_left}
 use Rattle.feed_check.specs.Findings.{FindingValue, findings_in}
 
-abbrev pub Entries : Type 0
-Entries = List (KeyValue × (ℕ × RowValue))
+abbrev pub Entries : Type 0 → Type 0
+Entries R = List (KeyValue × (ℕ × R))
 
 -- the rows, without their stream
-abbrev pub rows_of : Entries → List KeyedRowValue
+abbrev pub rows_of : {R : Type 0} → Entries R → List (KeyValue × R)
 rows_of entries = map (λ e. (e.0, e.1.1)) entries
 
 -- what stands at each key is of stream 0
-abbrev pub AreOwn : Entries → Type 0
+abbrev pub AreOwn : {R : Type 0} → Entries R → Type 0
 AreOwn entries = (key : KeyValue) → IfSome (value_at key_cmp entries key) (λ there. there.0 ≡ 0)
 
 -- the row at a key
-abbrev pub row_in : List KeyedRowValue → KeyValue → Option RowValue
+abbrev pub row_in : {R : Type 0} → List (KeyValue × R) → KeyValue → Option R
 row_in rows key = lookup (eq_by_cmp key_cmp key) rows
 
 -- the rows and findings behind a history of changes, the latest first

@@ -3,4 +3,4 @@ use Rattle.feed_check.proofs.RowLaws.{row_found}
 use Rattle.feed_check.proofs.rows.Rows.at.Goals as goal
 
 pub returns : goal.returns
-returns c = row_found c.self.inside.rows.entries c.args.self.now c.args.key.now (option_copied c.row_at.result) c.self.view_is c.row_at.ensures
+returns g c = row_found c.self.inside.rows.entries c.args.self.now c.args.key.now (option_copied c.row_at.result) c.self.view_is c.row_at.ensures

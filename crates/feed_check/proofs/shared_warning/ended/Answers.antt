@@ -1,6 +1,6 @@
 use Rattle.std.proofs.Common.{arith}
 use Rattle.std.proofs.lemmas.Grind.{common_steps}
-use Rattle.feed_check.proofs.warnings.finding_text.Goals as goal
+use Rattle.feed_check.proofs.shared_warning.ended.Goals as goal
 
 pub returns : goal.returns
 returns c = grind (arith, common_steps)

@@ -1,8 +1,8 @@
 use Rattle.std.proofs.Common.{◌≡◌, ◌++◌, drop}
 use Rattle.std.specs.String.{string_bytes}
 use Rattle.feed_check.specs.Report.{warnings_from}
-use Rattle.feed_check.proofs.report.all_warnings.Given as goal
+use Rattle.feed_check.proofs.report.push_warnings.Given as goal
 
 -- the text so far, and that of the streams that are left, are the whole
 abbrev pub invariant-loop-i : goal.invariant-loop-i
-invariant-loop-i l = string_bytes l.text ++ warnings_from l.i (drop l.i l.checks) ≡ warnings_from 0 l.checks
+invariant-loop-i l = string_bytes l.text ++ warnings_from l.i (drop l.i l.checks) ≡ string_bytes l.fn.text ++ warnings_from 0 l.checks
