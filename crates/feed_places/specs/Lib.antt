@@ -1,3 +1,4 @@
 pub mod Messages
 pub mod Front
+pub mod Differing
 pub mod Place

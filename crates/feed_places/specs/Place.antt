@@ -1,9 +1,12 @@
 -- The place of a feed's fault, in words (this profile).
 use Rattle.std.specs.Prelude.{◌≡◌, ℕ, List, [], ◌++◌, take, codes, decimal, Option, None, Some, Result, Ok, Err}
+use Rattle.std.specs.Option.{option_map}
+use Rattle.proto_wire.specs.Frame.{frames_of}
 use Rattle.filter_rule.specs.PlanValue.{PlanValue}
 use Rattle.source_feed.specs.declared.fault.FeedFault.{FeedFault}
 use Rattle.source_feed.specs.declared.fault.FeedFault.TheVariants.{Frame, Event, FieldsDiffer}
 use Rattle.source_feed.specs.Planned.{source_of}
+use Rattle.feed_places.specs.Differing.{differing_text, first_message}
 use Rattle.feed_places.specs.Front.{whole_groups}
 use Rattle.feed_places.specs.Messages.{byte_of, unread_message}
 
@@ -17,20 +20,14 @@ abbrev pub message_text : PlanValue → List ℕ → ℕ → List ℕ
 message_text plan feed number =
     codes "message " ++ decimal number ++ codes " byte " ++ decimal (byte_of number feed) ++ groups_text (whole_groups (take (byte_of number feed) feed) (source_of plan))
 
--- the place of a message, with a table and a column behind it
-pub record IsColumnPlace (plan : PlanValue) (feed text : List ℕ) : Type 0 where
-  pub number : ℕ
-  pub column : List ℕ
-  pub said : text ≡ message_text plan feed number ++ codes " " ++ column
+-- the message of the first FIELD that differs, and the table and the column in which it does
+abbrev pub field_text : PlanValue → List ℕ → Option (List ℕ)
+field_text plan feed = option_map (λ found. message_text plan feed found.0 ++ codes " " ++ differing_text plan found.1) (first_message plan 1 (frames_of feed).items)
 
-abbrev pub IsMessagePlace : PlanValue → List ℕ → Option (List ℕ) → Type 0
-IsMessagePlace plan feed None = Unit {0}
-IsMessagePlace plan feed (Some text) = IsColumnPlace plan feed text
-
--- of a broken message or an event that isn't read the first message that isn't; of a FIELD that differs a message
--- and a column; of other faults nothing
+-- of a broken message or an event that isn't read the first message that isn't; of a FIELD that differs the first that
+-- does; of other faults nothing
 abbrev pub IsPlace : PlanValue → List ℕ → FeedFault → Option (List ℕ) → Type 0
 IsPlace plan feed Frame place = place ≡ Some (message_text plan feed (unread_message feed))
 IsPlace plan feed (Event fault) place = place ≡ Some (message_text plan feed (unread_message feed))
-IsPlace plan feed FieldsDiffer place = IsMessagePlace plan feed place
+IsPlace plan feed FieldsDiffer place = place ≡ field_text plan feed
 IsPlace plan feed fault place = place ≡ None

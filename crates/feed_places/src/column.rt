@@ -1,7 +1,13 @@
 //! The column in which a FIELD event differs, in words.
 
+ghost use Rattle.std.specs.Prelude.{◌≡◌, IfOk, Some, None, slice_get};
+ghost use Rattle.std.specs.Option.{option_map};
+ghost use Rattle.std.specs.String.{string_bytes};
+ghost use Rattle.vevent.specs.ColumnView.{field_value};
+ghost use Rattle.feed_places.specs.Differing.{other_text, column_text, table_text, differing_value, differing_text};
+
 use crate::field::Differing;
-use filter_rule::{ColumnDef, Plan};
+use filter_rule::{ColumnDef, Plan, Table};
 use std::alloc::{AllocError, Global};
 use vevent::ColumnField;
 
@@ -10,12 +16,14 @@ fn other_text(
     alloc: Global,
     column: &ColumnDef,
     field: &ColumnField<'_>,
-) -> Result<String, AllocError> {
+) -> Result<String, AllocError>
+    ensures { IfOk result (λ text. string_bytes text ≡ other_text column.now (field_value field.now)) }
+{
     let name = column.name();
     let said = field.name;
     let said_type = field.type_number;
     let type_number = column.type_number();
-    let text = if name == field.name {
+    let text = if name == said {
         format!(in alloc; "column {name} type {said_type} wanted {type_number}")?
     } else {
         format!(in alloc; "column {said} wanted {name}")?
@@ -23,26 +31,60 @@ fn other_text(
     Ok(text)
 }
 
+/// What the feed has in the place of a column of the workflow, if it has something there.
+fn beside_text(
+    alloc: Global,
+    column: &ColumnDef,
+    field: Option<ColumnField<'_>>,
+) -> Result<String, AllocError>
+    ensures { IfOk result (λ text. string_bytes text ≡ column_text (Some column.now) (option_map field_value field.entry)) }
+{
+    match field {
+        Some(field) => other_text(alloc, column, &field),
+        None => {
+            let name = column.name();
+            let text = format!(in alloc; "column {name} missing")?;
+            Ok(text)
+        }
+    }
+}
+
+/// What the feed has where the workflow has no column.
+fn unwanted_text(alloc: Global, field: Option<ColumnField<'_>>) -> Result<String, AllocError>
+    ensures { IfOk result (λ text. string_bytes text ≡ column_text None (option_map field_value field.entry)) }
+{
+    match field {
+        Some(field) => {
+            let said = field.name;
+            let text = format!(in alloc; "column {said} unwanted")?;
+            Ok(text)
+        }
+        None => Ok(String::new(alloc)),
+    }
+}
+
 /// What the feed has in a column's place, and what the workflow has there.
 fn column_text(
     alloc: Global,
     columns: &[ColumnDef],
     found: &Differing<'_>,
-) -> Result<String, AllocError> {
-    match (columns.get(found.place), &found.said) {
-        (Some(column), Some(field)) => other_text(alloc, column, field),
-        (Some(column), None) => {
-            let name = column.name();
-            let text = format!(in alloc; "column {name} missing")?;
-            Ok(text)
-        }
-        (None, Some(field)) => {
-            let said = field.name;
-            let text = format!(in alloc; "column {said} unwanted")?;
-            Ok(text)
-        }
-        (None, None) => Ok(String::new(alloc)),
+) -> Result<String, AllocError>
+    ensures { IfOk result (λ text. string_bytes text ≡ column_text (slice_get columns.now found.now.place) (option_map field_value found.now.said)) }
+{
+    match columns.get(found.place) {
+        Some(column) => beside_text(alloc, column, found.said),
+        None => unwanted_text(alloc, found.said),
     }
+}
+
+/// The table and the column in which a FIELD event differs.
+fn table_text(alloc: Global, table: &Table, found: &Differing<'_>) -> Result<String, AllocError>
+    ensures { IfOk result (λ text. string_bytes text ≡ table_text (differing_value found.now) table.now) }
+{
+    let name = table.name();
+    let column = column_text(alloc, table.columns(), found)?;
+    let text = format!(in alloc; "table {name} {column}")?;
+    Ok(text)
 }
 
 /// The table and the column in which a FIELD event differs, with what stands there and what is wanted.
@@ -50,12 +92,11 @@ pub(crate) fn differing_text(
     alloc: Global,
     plan: &Plan,
     found: &Differing<'_>,
-) -> Result<String, AllocError> {
-    let Some(table) = plan.tables().get(usize::from(found.table)) else {
-        return Ok(String::new(alloc));
-    };
-    let name = table.name();
-    let column = column_text(alloc, table.columns(), found)?;
-    let text = format!(in alloc; "table {name} {column}")?;
-    Ok(text)
+) -> Result<String, AllocError>
+    ensures { IfOk result (λ text. string_bytes text ≡ differing_text plan.now (differing_value found.now)) }
+{
+    match plan.tables().get(usize::from(found.table)) {
+        None => Ok(String::new(alloc)),
+        Some(table) => table_text(alloc, table, found),
+    }
 }
