@@ -8,7 +8,8 @@ use Rattle.source_feed.specs.FaultNumber as feed
 use Rattle.source_feed.specs.declared.fault.FeedFault.{FeedFault}
 use Rattle.source_feed.specs.declared.fault.FeedFault.TheVariants as fault
 use Rattle.feed_check.specs.Checked.{CheckedValue, checked_feeds}
-use Rattle.feed_check.specs.Report.{ReportValue, check_report_of}
+use Rattle.feed_check.specs.Report.{ReportValue}
+use Rattle.check_said.specs.Said.{said_of}
 use Rattle.vrepl_main.specs.HexText.{feed_bytes}
 use Rattle.vrepl_main.specs.InputList.{workflow_of}
 use Rattle.vrepl_main.specs.Opening.{OpenedValue}
@@ -17,7 +18,7 @@ use Rattle.vrepl_main.specs.RefusalOf.{refusal_of_feed}
 use Rattle.vrepl_main.specs.declared.refusal.Refusal.{Refusal}
 use Rattle.vrepl_main.specs.declared.refusal.Refusal.TheVariants.{Memory, Workflow, FeedCount, Feed, BadHex, BadScript, BadDump, CannotRead, CannotWrite}
 use Rattle.std.proofs.lemmas.Simd.{map-map}
-use Rattle.vrepl_check.specs.Checking.{IsWarned, bytes_or_none, said_checks, report_with, report_given, report_asked, said_bytes, said_with, with_file}
+use Rattle.vrepl_check.specs.Checking.{IsWarned, bytes_or_none, said_checks, report_with, report_given, report_asked, report_bytes}
 
 -- what refuses a step refuses what is made of it
 behind : {X Y : Type 0} (o : Option Reason) (reading : Result X Reason) (f : X → Result Y Reason) → MatchOption o ⊥ (λ reason. reading ≡ Err reason) → MatchOption o ⊥ (λ reason. (reading >>= f) ≡ Err reason)
@@ -32,45 +33,41 @@ abbrev gives : ReportValue → Result ReportValue Reason
 gives report = Ok report
 
 -- the refusal of a group that isn't sound
-pub refuses_checks : (files : List (List ℕ)) (given : FeedFault) (reading : Result (List CheckedValue) FeedFault) → outcome.Refuses feed.meant_of given reading
-    → RefusesInputs (refusal_of_feed given) (said_checks reading >>= λ checks. Ok (check_report_of files checks))
-refuses_checks files fault.Memory reading is = tt
-refuses_checks files other reading is = ap (λ (r : Result (List CheckedValue) FeedFault). said_checks r >>= λ checks. gives (check_report_of files checks)) is
+pub refuses_checks : (json : Bool) (files : List (List ℕ)) (workflow : List ℕ) (given : FeedFault) (reading : Result (List CheckedValue) FeedFault) → outcome.Refuses feed.meant_of given reading
+    → RefusesInputs (refusal_of_feed given) (said_checks reading >>= λ checks. Ok (said_of json workflow files checks))
+refuses_checks json files workflow fault.Memory reading is = tt
+refuses_checks json files workflow other reading is = ap (λ (r : Result (List CheckedValue) FeedFault). said_checks r >>= λ checks. gives (said_of json workflow files checks)) is
 
 -- feeds as they are given
-pub given_as : {A : Type 0} (feeds : List A) (view : A → List ℕ) (hex : Bool) (files : List (List ℕ)) (workflow : List ℕ) (given : List (Option (List ℕ))) → given ≡ map (λ feed. feed_bytes hex (view feed)) feeds
-    → said_bytes files workflow given ≡ report_given hex files workflow (map view feeds)
-given_as feeds view hex files workflow given is =
-    ap (λ (bytes : List (Option (List ℕ))). said_bytes files workflow bytes) (is ∙ sym (map-map (feed_bytes hex) view feeds))
+pub given_as : {A : Type 0} (feeds : List A) (view : A → List ℕ) (json hex : Bool) (files : List (List ℕ)) (workflow : List ℕ) (given : List (Option (List ℕ))) → given ≡ map (λ feed. feed_bytes hex (view feed)) feeds
+    → report_bytes json files workflow given ≡ report_given json hex files workflow (map view feeds)
+given_as feeds view json hex files workflow given is =
+    ap (λ (bytes : List (Option (List ℕ))). report_bytes json files workflow bytes) (is ∙ sym (map-map (feed_bytes hex) view feeds))
 
 -- the same of feeds that were opened
-pub refused_checks : (files : List (List ℕ)) (given : List (Option (List ℕ))) (reading : Result OpenedValue Reason) (opened : OpenedValue) (fault : FeedFault) → reading ≡ Ok opened
-    → outcome.Refuses feed.meant_of fault (checked_feeds (map bytes_or_none given) opened.feeds) → RefusesInputs (refusal_of_feed fault) (reading >>= report_with files given)
-refused_checks files given reading opened fault is bad =
-    subst (λ (r : Result OpenedValue Reason). RefusesInputs (refusal_of_feed fault) (r >>= report_with files given)) (sym is) (refuses_checks files fault (checked_feeds (map bytes_or_none given) opened.feeds) bad)
+pub refused_checks : (json : Bool) (files : List (List ℕ)) (workflow : List ℕ) (given : List (Option (List ℕ))) (reading : Result OpenedValue Reason) (opened : OpenedValue) (fault : FeedFault) → reading ≡ Ok opened
+    → outcome.Refuses feed.meant_of fault (checked_feeds (map bytes_or_none given) opened.feeds) → RefusesInputs (refusal_of_feed fault) (reading >>= report_with json files workflow given)
+refused_checks json files workflow given reading opened fault is bad =
+    subst (λ (r : Result OpenedValue Reason). RefusesInputs (refusal_of_feed fault) (r >>= report_with json files workflow given)) (sym is) (refuses_checks json files workflow fault (checked_feeds (map bytes_or_none given) opened.feeds) bad)
 
 -- the report on them
-pub report_is : (files : List (List ℕ)) (given : List (Option (List ℕ))) (reading : Result OpenedValue Reason) (opened : OpenedValue) (checks : List CheckedValue) (report : ReportValue) → reading ≡ Ok opened
-    → checked_feeds (map bytes_or_none given) opened.feeds ≡ Ok checks → report ≡ check_report_of files checks → (reading >>= report_with files given) ≡ Ok report
-report_is files given reading opened checks report is checked made =
-    ap (λ (r : Result OpenedValue Reason). r >>= report_with files given) is
-    ∙ ap (λ (r : Result (List CheckedValue) FeedFault). said_checks r >>= λ checks. gives (check_report_of files checks)) checked
+pub report_is : (json : Bool) (files : List (List ℕ)) (workflow : List ℕ) (given : List (Option (List ℕ))) (reading : Result OpenedValue Reason) (opened : OpenedValue) (checks : List CheckedValue) (report : ReportValue) → reading ≡ Ok opened
+    → checked_feeds (map bytes_or_none given) opened.feeds ≡ Ok checks → report ≡ said_of json workflow files checks → (reading >>= report_with json files workflow given) ≡ Ok report
+report_is json files workflow given reading opened checks report is checked made =
+    ap (λ (r : Result OpenedValue Reason). r >>= report_with json files workflow given) is
+    ∙ ap (λ (r : Result (List CheckedValue) FeedFault). said_checks r >>= λ checks. gives (said_of json workflow files checks)) checked
     ∙ ap gives (sym made)
-
--- the report with what is told of the file
-pub said_is : (workflow : List ℕ) (reading : Result ReportValue Reason) (report said : ReportValue) → reading ≡ Ok report → said ≡ with_file workflow report → (reading >>= said_with workflow) ≡ Ok said
-said_is workflow reading report said is made = ap (λ (r : Result ReportValue Reason). r >>= said_with workflow) is ∙ ap gives (sym made)
 
 -- whether it warns
 pub warned_as : (reading : Result ReportValue Reason) (report : ReportValue) (warned : Bool) → reading ≡ Ok report → warned ≡ report.warned → IsWarned warned reading
 warned_as reading report warned is says = subst (λ (r : Result ReportValue Reason). IsWarned warned r) (sym is) (sym says)
 
 -- what stands first in the inputs, and the feeds behind it
-pub asked_is : {X : Type 0} (f : X → List ℕ) (hex : Bool) (files : List (List ℕ)) (inputs : List X) (first : X) (workflow : List ℕ) → 1 ≤ length inputs
-    → first ≡ get_or inputs 0 first → workflow ≡ f first → report_given hex files workflow (map f (take (length inputs - 1) (drop 1 inputs))) ≡ report_asked hex files (map f inputs)
-asked_is {X} f hex files inputs first workflow some at_front front =
+pub asked_is : {X : Type 0} (f : X → List ℕ) (json hex : Bool) (files : List (List ℕ)) (inputs : List X) (first : X) (workflow : List ℕ) → 1 ≤ length inputs
+    → first ≡ get_or inputs 0 first → workflow ≡ f first → report_given json hex files workflow (map f (take (length inputs - 1) (drop 1 inputs))) ≡ report_asked json hex files (map f inputs)
+asked_is {X} f json hex files inputs first workflow some at_front front =
     let all : take (length inputs - 1) (drop 1 inputs) ≡ drop 1 inputs = take_all (length inputs - 1) (drop 1 inputs) (omega (arith, length-drop 1 inputs)) in
     let place : workflow ≡ workflow_of (map f inputs) = front ∙ ap f at_front ∙ sym (get_or-map f inputs 0 first [] (omega (arith, some))) in
-    ap (λ (l : List X). report_given hex files workflow (map f l)) all
-    ∙ ap (λ x. report_given hex files x (map f (drop 1 inputs))) place
-    ∙ ap (report_given hex files (workflow_of (map f inputs))) (sym (drop-map f 1 inputs))
+    ap (λ (l : List X). report_given json hex files workflow (map f l)) all
+    ∙ ap (λ x. report_given json hex files x (map f (drop 1 inputs))) place
+    ∙ ap (report_given json hex files (workflow_of (map f inputs))) (sym (drop-map f 1 inputs))

@@ -1,11 +1,10 @@
 -- What the command `check` prints of a workflow and its feeds, and its verdict (this profile).
-use Rattle.std.specs.Prelude.{◌≡◌, ℕ, ◌||◌, Bool, true, false, not, List, [], ◌∷◌, ◌++◌, map, drop, Option, None, Some, Result, Ok, Err}
+use Rattle.std.specs.Prelude.{◌≡◌, ℕ, Bool, List, [], map, drop, Option, None, Some, Result, Ok, Err}
 use Rattle.outcome.specs.Outcome.{◌>>=◌}
 use Rattle.source_feed.specs.declared.fault.FeedFault.{FeedFault}
 use Rattle.feed_check.specs.Checked.{CheckedValue, checked_feeds}
-use Rattle.feed_check.specs.Report.{ReportValue, check_report_of}
-use Rattle.workflow_check.specs.File.{notes_of, note_lines, rules_text}
-use Rattle.workflow_check.specs.Notes.{NoteValue}
+use Rattle.feed_check.specs.Report.{ReportValue}
+use Rattle.check_said.specs.Said.{said_of}
 use Rattle.vrepl_main.specs.HexText.{feed_bytes}
 use Rattle.vrepl_main.specs.InputList.{workflow_of}
 use Rattle.vrepl_main.specs.Opening.{OpenedValue, opened_bytes}
@@ -22,35 +21,21 @@ said_checks (Ok checks) = Ok checks
 said_checks (Err fault) = Err (bad_feed fault)
 
 -- the report on feeds that were opened of these bytes: refused by the first group that isn't sound
-abbrev pub report_with : List (List ℕ) → List (Option (List ℕ)) → OpenedValue → Result ReportValue Reason
-report_with files given opened = said_checks (checked_feeds (map bytes_or_none given) opened.feeds) >>= λ checks. Ok (check_report_of files checks)
+abbrev pub report_with : Bool → List (List ℕ) → List ℕ → List (Option (List ℕ)) → OpenedValue → Result ReportValue Reason
+report_with json files workflow given opened = said_checks (checked_feeds (map bytes_or_none given) opened.feeds) >>= λ checks. Ok (said_of json workflow files checks)
 
--- the report on a workflow and its feeds, whose files have these names; the faults of opening them come first
-abbrev pub report_bytes : List (List ℕ) → List ℕ → List (Option (List ℕ)) → Result ReportValue Reason
-report_bytes files workflow given = opened_bytes workflow given >>= report_with files given
-
--- nothing is told of a file
-abbrev pub is_empty : List NoteValue → Bool
-is_empty [] = true
-is_empty (note ∷ notes) = false
-
--- what the workflow file says stands before it, and what is told of the file behind it
-abbrev pub with_file : List ℕ → ReportValue → ReportValue
-with_file workflow report = record { text = rules_text workflow ++ (report.text ++ note_lines (notes_of workflow)); warned = report.warned || not (is_empty (notes_of workflow)) }
-
-abbrev pub said_with : List ℕ → ReportValue → Result ReportValue Reason
-said_with workflow report = Ok (with_file workflow report)
-
-abbrev pub said_bytes : List (List ℕ) → List ℕ → List (Option (List ℕ)) → Result ReportValue Reason
-said_bytes files workflow given = report_bytes files workflow given >>= said_with workflow
+-- the report on a workflow and its feeds, whose files have these names, as JSON where that is asked for; the faults of
+-- opening them come first
+abbrev pub report_bytes : Bool → List (List ℕ) → List ℕ → List (Option (List ℕ)) → Result ReportValue Reason
+report_bytes json files workflow given = opened_bytes workflow given >>= report_with json files workflow given
 
 -- the same of feeds that may be given as hexadecimal text
-abbrev pub report_given : Bool → List (List ℕ) → List ℕ → List (List ℕ) → Result ReportValue Reason
-report_given hex files workflow feeds = said_bytes files workflow (map (feed_bytes hex) feeds)
+abbrev pub report_given : Bool → Bool → List (List ℕ) → List ℕ → List (List ℕ) → Result ReportValue Reason
+report_given json hex files workflow feeds = report_bytes json files workflow (map (feed_bytes hex) feeds)
 
 -- the workflow stands first, and the feeds behind it
-abbrev pub report_asked : Bool → List (List ℕ) → List (List ℕ) → Result ReportValue Reason
-report_asked hex files inputs = report_given hex files (workflow_of inputs) (drop 1 inputs)
+abbrev pub report_asked : Bool → Bool → List (List ℕ) → List (List ℕ) → Result ReportValue Reason
+report_asked json hex files inputs = report_given json hex files (workflow_of inputs) (drop 1 inputs)
 
 -- the text of a report
 abbrev pub text_of_report : Result ReportValue Reason → Result (List ℕ) Reason

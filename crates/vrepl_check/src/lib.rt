@@ -3,7 +3,6 @@
 
 mod checking;
 mod placing;
-mod said;
 
 pub use checking::{check, check_on};
 pub use placing::place_on;

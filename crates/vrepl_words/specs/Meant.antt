@@ -1,7 +1,8 @@
 -- What the words that were read ask for.
-use Rattle.vrepl_words.specs.Words.{FollowValue, JoinValue, PortionsValue, ResumeValue, RunValue, ShowValue, StepValue, VdiffValue, WordsValue, asks_follow, asks_join, asks_run, asks_show, asks_step, asks_save, asks_resume, asks_vdiff, asks_check, asks_explain}
+use Rattle.vrepl_words.specs.Words.{CheckValue, FollowValue, JoinValue, PortionsValue, ResumeValue, RunValue, ShowValue, StepValue, VdiffValue, WordsValue, asks_follow, asks_join, asks_run, asks_show, asks_step, asks_save, asks_resume, asks_vdiff, asks_check, asks_explain}
 use Rattle.std.specs.Prelude.{◌≡◌, map, option_map, Option, None, Some, Result, Ok, Err}
 use Rattle.vrepl_words.specs.declared.portions.Portions.{Portions}
+use Rattle.vrepl_words.specs.declared.words.Check.{Check}
 use Rattle.vrepl_words.specs.declared.words.Follow.{Follow}
 use Rattle.vrepl_words.specs.declared.words.Join.{Join}
 use Rattle.vrepl_words.specs.declared.words.Resume.{Resume}
@@ -26,6 +27,9 @@ step_value step = record { hex = step.hex; workflow = step.workflow.now; feeds =
 
 abbrev pub resume_value : Resume → ResumeValue
 resume_value resume = record { checkpoint = resume.checkpoint.now; step = step_value resume.step }
+
+abbrev pub check_value : Check → CheckValue
+check_value check = record { json = check.json; step = step_value check.step }
 
 abbrev pub join_value : Join → JoinValue
 join_value join = record {
@@ -79,7 +83,7 @@ value_of_words (words.Resume resume) = asks_resume (resume_value resume)
 value_of_words (words.Join join) = asks_join (join_value join)
 value_of_words (words.Follow follow) = asks_follow (follow_value follow)
 value_of_words (words.Vdiff files) = asks_vdiff (vdiff_value files)
-value_of_words (words.Check check) = asks_check (step_value check)
+value_of_words (words.Check check) = asks_check (check_value check)
 value_of_words (words.Explain number) = asks_explain number
 
 -- what was met asks for this, if for anything, unless a fault kept it from being read

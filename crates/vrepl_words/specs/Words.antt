@@ -16,7 +16,7 @@ pub record ShowValue : Type 0 where
   pub shard : Text
   pub feed : Text
 
--- `step`, `save` and `check`: a workflow, a feed for each of its streams, and whether feeds are hexadecimal text
+-- `step` and `save`: a workflow, a feed for each of its streams, and whether feeds are hexadecimal text
 pub record StepValue : Type 0 where
   pub hex : Bool
   pub workflow : Text
@@ -52,6 +52,11 @@ pub record ResumeValue : Type 0 where
   pub checkpoint : Text
   pub step : StepValue
 
+-- `check`: whether all is printed as one object of JSON, and what `step` is given
+pub record CheckValue : Type 0 where
+  pub json : Bool
+  pub step : StepValue
+
 -- `join`: a workflow, two checkpoints, further ones, a feed for each of its streams, and whether feeds are hexadecimal text
 pub record JoinValue : Type 0 where
   pub hex : Bool
@@ -81,7 +86,7 @@ pub data WordsValue : Type 0 where
   asks_join : JoinValue → WordsValue
   asks_follow : FollowValue → WordsValue
   asks_vdiff : VdiffValue → WordsValue
-  asks_check : StepValue → WordsValue
+  asks_check : CheckValue → WordsValue
   -- what a refusal's number means, or all of them
   asks_explain : Option ℕ → WordsValue
 
@@ -109,7 +114,7 @@ show_subcommand = record {
   meaning = λ given. Some (asks_show (show_given given));
 }
 
--- what is given to the arguments of `step`, and to those of `save` and `check`
+-- what is given to the arguments of `step`, and to those of `save`
 abbrev pub step_given : List Row → StepValue
 step_given given = record { hex = is_given (codes "hex") given; workflow = text_given (codes "workflow") given; feeds = texts_given (codes "feed") given }
 
@@ -232,12 +237,16 @@ vdiff_subcommand = record {
   meaning = λ given. option_map (λ first. asks_vdiff (vdiff_given given first)) (count_given (codes "first") given);
 }
 
--- `check [--hex] WORKFLOW FEED..`
+-- what is given to the arguments of `check`
+abbrev pub check_given : List Row → CheckValue
+check_given given = record { json = is_given (codes "json") given; step = step_given given }
+
+-- `check [--hex] [--json] WORKFLOW FEED..`
 abbrev pub check_subcommand : Subcommand
 check_subcommand = record {
   name = codes "check";
-  rules = flag_rule (codes "hex") ∷ operand_rule (codes "workflow") ∷ operands_rule (codes "feed") ∷ [];
-  meaning = λ given. Some (asks_check (step_given given));
+  rules = flag_rule (codes "hex") ∷ flag_rule (codes "json") ∷ operand_rule (codes "workflow") ∷ operands_rule (codes "feed") ∷ [];
+  meaning = λ given. Some (asks_check (check_given given));
 }
 
 -- `explain [NUMBER]`

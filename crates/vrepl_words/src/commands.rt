@@ -138,8 +138,10 @@ fn check_command<'w>(alloc: Global) -> Result<Command<'w>, AllocError>
     ensures { IfOk result (IsSubcommand check_subcommand) }
 {
     let about = "Warns of what can't be so in a workflow's feeds";
+    let json_help = "Prints all of it as one JSON object";
     let command = Ok(bare(alloc, "check", about, help::CHECK));
-    with_streams(alloc, with_arg(command, hex(alloc)))
+    let command = with_arg(command, hex(alloc));
+    with_streams(alloc, with_arg(command, flag(alloc, "json", json_help)))
 }
 
 pub(crate) fn vdiff_command<'w>(alloc: Global) -> Result<Command<'w>, AllocError>

@@ -155,7 +155,8 @@ Example:
       examples/two_shards/lower.hex examples/two_shards/upper.hex
 
 Prints a line for each stream and each of its tables, and a line for each thing
-that can't be so.
+that can't be so, of a kind the first ten. With --json all of it is one object,
+which has every one of them.
 
 Status:
   0  nothing is warned of

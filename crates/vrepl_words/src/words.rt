@@ -5,7 +5,7 @@ ghost use Rattle.clap.specs.Words.{FailsBy, first_of, found_of, rows_of, subcomm
 ghost use Rattle.vrepl_words.specs.Arguments.{is_given, portion_given, portion_of, text_given, texts_given};
 ghost use Rattle.vrepl_words.specs.Built.{HasApp};
 ghost use Rattle.vrepl_words.specs.Meant.{Asks, follow_value, portions_value, run_value, show_value, step_value, value_of_words, vdiff_value};
-ghost use Rattle.vrepl_words.specs.Words.{asked_by, asks_check, asks_join, asks_follow, asks_resume, asks_run, asks_save, asks_step, explain_subcommand, faults_of, follow_given, follow_subcommand, join_given, portions_given, program_app, resume_given, run_given, run_subcommand, show_given, step_given, vdiff_given, vdiff_subcommand, words_of};
+ghost use Rattle.vrepl_words.specs.Words.{asked_by, asks_check, asks_join, asks_follow, asks_resume, asks_run, asks_save, asks_step, check_given, explain_subcommand, faults_of, follow_given, follow_subcommand, join_given, portions_given, program_app, resume_given, run_given, run_subcommand, show_given, step_given, vdiff_given, vdiff_subcommand, words_of};
 
 use crate::commands::program;
 use crate::numbers::{bad_number, count_given, refusal_given};
@@ -35,7 +35,7 @@ pub enum Words<'w> {
     /// `vdiff`: compare two dumps.
     Vdiff(Vdiff<'w>),
     /// `check`: look for what can't be so in a workflow's feeds.
-    Check(Step<'w>),
+    Check(Check<'w>),
     /// `explain`: print what is said of a refusal's number, or the list of all.
     Explain(Option<u64>),
 }
@@ -81,6 +81,15 @@ pub struct Resume<'w> {
     pub step: Step<'w>,
 }
 
+/// The words of `check`.
+#[derive(Drop)]
+pub struct Check<'w> {
+    /// Whether all is printed as one object of JSON.
+    pub json: bool,
+    /// The other words, which are those of `step`.
+    pub step: Step<'w>,
+}
+
 /// The words of `join`.
 #[derive(Drop)]
 pub struct Join<'w> {
@@ -98,7 +107,7 @@ pub struct Join<'w> {
     pub feeds: Vec<&'w str>,
 }
 
-/// The words of `step`, and of `save` and `check`, which have the same.
+/// The words of `step`, and of `save`, which has the same.
 #[derive(Drop)]
 pub struct Step<'w> {
     /// Whether the feeds are hexadecimal text.
@@ -233,10 +242,13 @@ fn save_words<'w>(alloc: Global, given: &ArgMatches<'w>) -> Result<Words<'w>, Al
 }
 
 fn check_words<'w>(alloc: Global, given: &ArgMatches<'w>) -> Result<Words<'w>, AllocError>
-    ensures { IfOk result (λ words. value_of_words words ≡ asks_check (step_given (rows_of (found_of given.now)))) }
+    ensures { IfOk result (λ words. value_of_words words ≡ asks_check (check_given (rows_of (found_of given.now)))) }
 {
-    let words = script_words(alloc, given)?;
-    Ok(Words::Check(words))
+    let step = script_words(alloc, given)?;
+    Ok(Words::Check(Check {
+        json: has_flag(given, "json"),
+        step,
+    }))
 }
 
 fn resume_words<'w>(alloc: Global, given: &ArgMatches<'w>) -> Result<Words<'w>, AllocError>

@@ -8,3 +8,4 @@ pub mod Told
 pub mod Shape
 pub mod Counts
 pub mod File
+pub mod Passed

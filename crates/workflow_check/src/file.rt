@@ -20,7 +20,7 @@ use serde_json::Value;
 use std::alloc::{AllocError, Global};
 
 /// The JSON value of a text, if it has one.
-fn value_in(alloc: Global, text: &[u8]) -> Result<Option<Value>, AllocError>
+pub(crate) fn value_in(alloc: Global, text: &[u8]) -> Result<Option<Value>, AllocError>
     ensures { IfOk result (λ value. option_map view value ≡ value_in text.now) }
 {
     match Value::from_slice(alloc, text) {

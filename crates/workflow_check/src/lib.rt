@@ -9,6 +9,7 @@ mod json;
 mod kinds;
 mod listed;
 mod note;
+mod passed;
 mod passing;
 mod ranges;
 mod rules;
@@ -18,3 +19,4 @@ mod told;
 
 pub use file::{fault_text, note_lines, notes_of, rules_of};
 pub use note::{Flaw, Note};
+pub use passed::{Passed, passed_of};

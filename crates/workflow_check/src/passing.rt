@@ -157,7 +157,11 @@ fn said_text<'v>(
 }
 
 /// The columns that a stream with these rules lists of a table, and the rows that it passes, in words.
-fn table_words(alloc: Global, rules: &[Rule<'_>], table: &Value) -> Result<String, AllocError>
+pub(crate) fn table_words(
+    alloc: Global,
+    rules: &[Rule<'_>],
+    table: &Value,
+) -> Result<String, AllocError>
     ensures { IfOk result (λ text. string_bytes text ≡ table_words rules.now (view table.now)) }
 {
     let said = said_by(alloc, first_rule(rules, text_at(table, "name")))?;

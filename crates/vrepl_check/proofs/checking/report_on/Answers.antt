@@ -6,6 +6,6 @@ use Rattle.vrepl_check.proofs.checking.report_on.Goals as goal
 
 pub returns : goal.returns
 returns c =
-    subst (λ (reading : Result ReportValue Reason). GivesOfInputs (λ report. report) c.said_of.result reading)
-    (given_as c.args.feeds.now (λ feed. feed.items) c.args.hex (map (λ file. file.now) c.args.files.now) c.args.workflow.now _ c.in_ok-given.ensures)
-    (rw c.deref.ensures.value at c.said_of.ensures)
+    subst (λ (reading : Result ReportValue Reason). GivesOfInputs (λ report. report) c.report_of.result reading)
+    (given_as c.args.feeds.now (λ feed. feed.items) c.args.json c.args.hex (map (λ file. file.now) c.args.files.now) c.args.workflow.now _ c.in_ok-given.ensures)
+    (rw c.deref.ensures.value at c.report_of.ensures)

@@ -3,7 +3,7 @@ use Rattle.std.specs.Prelude.{IfOk}
 use Rattle.clap.specs.Words.{Row, Text, found_of, rows_of, subcommand_rows_of}
 use Rattle.vrepl_words.specs.Meant.{Asks, value_of_words}
 use Rattle.vrepl_words.specs.declared.words.Words.{Words}
-use Rattle.vrepl_words.specs.Words.{WordsValue, asked_by, explain_subcommand, asks_check, asks_join, asks_resume, asks_save, asks_show, asks_step, follow_subcommand, join_given, resume_given, run_subcommand, show_given, step_given, vdiff_subcommand}
+use Rattle.vrepl_words.specs.Words.{WordsValue, asked_by, check_given, explain_subcommand, asks_check, asks_join, asks_resume, asks_save, asks_show, asks_step, follow_subcommand, join_given, resume_given, run_subcommand, show_given, step_given, vdiff_subcommand}
 use Rattle.vrepl_words.proofs.MetSubcommand.{met, none_met, other_text}
 use Rattle.vrepl_words.proofs.words.asked.Goals as goal
 
@@ -31,7 +31,7 @@ asked_vdiff : (given : List Row) → asked_by (Some (codes "vdiff", given)) ≡ 
 unfolding asked_by
 asked_vdiff given = refl
 
-asked_check : (given : List Row) → asked_by (Some (codes "check", given)) ≡ Some (asks_check (step_given given))
+asked_check : (given : List Row) → asked_by (Some (codes "check", given)) ≡ Some (asks_check (check_given given))
 unfolding asked_by
 asked_check given = refl
 
@@ -116,7 +116,7 @@ pub returns-in-check : goal.returns-in-check
 returns-in-check c =
     let is : subcommand_rows_of c.args.matches.now ≡ Some (c.in_ok-name.name.now, rows_of (found_of c.in_ok-name.given.now)) =
     met c.args.matches.now _ _ c.in_ok-name.ensures.name c.in_ok-name.ensures.rows in
-    asks_read c.check_words.result (asks_check (step_given (rows_of (found_of c.in_ok-name.given.now)))) (asked_by (subcommand_rows_of c.args.matches.now))
+    asks_read c.check_words.result (asks_check (check_given (rows_of (found_of c.in_ok-name.given.now)))) (asked_by (subcommand_rows_of c.args.matches.now))
     (ap asked_by (is ∙ ap (λ n. Some (n, rows_of (found_of c.in_ok-name.given.now))) c.in-check.is) ∙ asked_check (rows_of (found_of c.in_ok-name.given.now)))
     c.check_words.ensures
 

@@ -1,6 +1,10 @@
-use Rattle.std.proofs.Common.{ap}
-use Rattle.vrepl_words.specs.Words.{asks_check}
+use Rattle.std.proofs.Common.{ap, ap₂, Bool}
+use Rattle.vrepl_words.specs.Words.{CheckValue, StepValue, asks_check}
 use Rattle.vrepl_words.proofs.words.check_words.Goals as goal
 
+checks : Bool → StepValue → CheckValue
+checks json step = record { json = json; step = step }
+
 pub returns : goal.returns
-returns c = ap asks_check c.in_ok-words.ensures
+unfolding checks
+returns c = ap asks_check (ap₂ checks c.has_flag.ensures c.in_ok-step.ensures)
