@@ -1,7 +1,8 @@
 -- What is said has no float as JSON.
-use Rattle.std.proofs.Common.{◌≡◌, ℕ, ◌+◌, Bool, true, false, cond, List, [], ◌∷◌, refl, Option, Some, None, map}
+use Rattle.std.proofs.Common.{◌≡◌, ◌∙◌, ℕ, ◌+◌, ◌<◌, Bool, true, false, cond, List, [], ◌∷◌, ◌++◌, drop, get_or, refl, sym, ap, Option, Some, None, map}
 use Rattle.std.specs.Prelude.{◌-◌, ◌==◌, is_some, length, slice_get}
 use Rattle.std.specs.List.{after_first}
+use Rattle.filter_rule.proofs.EachLaws.{drop_at}
 use Rattle.filter_rule.specs.PlanTable.{TableValue}
 use Rattle.filter_rule.specs.PlanValue.{PlanValue, table_of_name}
 use Rattle.pk_copy.specs.KeyValue.{KeyValue}
@@ -82,3 +83,18 @@ check_no_float workflow files checks warned =
       streams_no_float files 0 checks,
       shared_no_float (tables_of checks) (shared_of checks),
     ) refl
+
+-- ---- one stream more
+
+behind : (xs : List Data) (x : Data) (ys : List Data) → (xs ++ x ∷ []) ++ ys ≡ xs ++ x ∷ ys
+behind [] x ys = refl
+behind (y ∷ xs) x ys = ap (λ (l : List Data). y ∷ l) (behind xs x ys)
+
+pub streams_more : (files : List (List ℕ)) (i : ℕ) (checks : List CheckedValue) (check : CheckedValue) (before after whole : List Data) (value : Data) → i < length checks → check ≡ get_or checks i check
+    → after ≡ before ++ value ∷ [] → value ≡ stream_data i (file_name files i) check → before ++ streams_from files i (drop i checks) ≡ whole → after ++ streams_from files (i + 1) (drop (i + 1) checks) ≡ whole
+streams_more files i checks check before after whole value inside is made valued so_far =
+    ap (λ (l : List Data). l ++ streams_from files (i + 1) (drop (i + 1) checks)) made
+    ∙ behind before value (streams_from files (i + 1) (drop (i + 1) checks))
+    ∙ ap (λ (v : Data). before ++ v ∷ streams_from files (i + 1) (drop (i + 1) checks)) valued
+    ∙ sym (ap (λ (l : List CheckedValue). before ++ streams_from files i l) (drop_at checks i check inside ∙ ap (λ (c : CheckedValue). c ∷ drop (i + 1) checks) (sym is)))
+    ∙ so_far

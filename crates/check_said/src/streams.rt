@@ -5,6 +5,7 @@ ghost use Rattle.std.specs.Option.{option_copied};
 ghost use Rattle.serde_json.specs.View.{items_of, view};
 ghost use Rattle.source_feed.specs.Image.{lent_row};
 ghost use Rattle.feed_check.specs.Report.{file_name};
+ghost use Rattle.check_said.specs.Private.Parts.{ArePartsOf};
 ghost use Rattle.check_said.specs.Json.{counts_data, list_data, name_data, nearest_data, shared_data, shared_if, stream_data, streams_from, streams_data, tables_from, tables_data};
 
 use crate::changes::{events_value, findings_value};
@@ -106,24 +107,62 @@ fn names_value(alloc: Global, plan: &Plan, names: &[&str]) -> Result<Value, Allo
     Ok(list_of(values))
 }
 
-/// A stream: its file, its shard, its groups, its tables, and what is told of it.
-fn stream_value(
+/// What is said of a stream, beside its number, its file, its shard and its count of groups.
+#[derive(Drop)]
+struct StreamParts {
+    findings: Value,
+    first: Value,
+    last: Value,
+    moves: Value,
+    skipped: Value,
+    tables: Value,
+    unknown: Value,
+}
+
+/// What is told of a stream, where it begins and ends, and its tables.
+fn parts_of(alloc: Global, check: &Checked<'_>) -> Result<StreamParts, AllocError>
+    ensures { IfOk result (ArePartsOf check.now) }
+{
+    let findings = findings_value(alloc, check, check.findings())?;
+    let first = position_value(alloc, check.group(0))?;
+    let last = position_value(alloc, check.group(check.len().saturating_sub(1)))?;
+    let moves = findings_value(alloc, check, check.moves())?;
+    let skipped = events_value(alloc, check.skipped())?;
+    let tables = tables_value(alloc, check)?;
+    let unknown = names_value(alloc, check.plan(), check.unknown())?;
+    Ok(StreamParts {
+        findings,
+        first,
+        last,
+        moves,
+        skipped,
+        tables,
+        unknown,
+    })
+}
+
+/// A stream of these parts. That they are the stream's is the caller's.
+fn stream_of_parts(
     alloc: Global,
     i: usize,
     file: &str,
     check: &Checked<'_>,
+    parts: StreamParts,
 ) -> Result<Value, AllocError>
+    requires { ArePartsOf check.now parts }
     ensures { IfOk result (λ made. view made ≡ stream_data i file.now check.now) }
 {
-    let findings = findings_value(alloc, check, check.findings())?;
-    let first = position_value(alloc, check.group(0))?;
+    let StreamParts {
+        findings,
+        first,
+        last,
+        moves,
+        skipped,
+        tables,
+        unknown,
+    } = parts;
     let groups = check.len();
-    let last = position_value(alloc, check.group(check.len().saturating_sub(1)))?;
-    let moves = findings_value(alloc, check, check.moves())?;
     let shard = check.shard();
-    let skipped = events_value(alloc, check.skipped())?;
-    let tables = tables_value(alloc, check)?;
-    let unknown = names_value(alloc, check.plan(), check.unknown())?;
     json!(in alloc; {
         "file": file,
         "findings": findings,
@@ -137,6 +176,19 @@ fn stream_value(
         "tables": tables,
         "unknown": unknown
     })
+}
+
+/// A stream: its file, its shard, its groups, its tables, and what is told of it.
+fn stream_value(
+    alloc: Global,
+    i: usize,
+    file: &str,
+    check: &Checked<'_>,
+) -> Result<Value, AllocError>
+    ensures { IfOk result (λ made. view made ≡ stream_data i file.now check.now) }
+{
+    let parts = parts_of(alloc, check)?;
+    stream_of_parts(alloc, i, file, check, parts)
 }
 
 /// Puts streams behind other values.
