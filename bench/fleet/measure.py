@@ -7,7 +7,7 @@ Feeds are made by bench/feed/make_feed.py, ten rows a group, and kept in /tmp/vr
 is filled, the workers, the least and the most seconds of the turns, the peak memory of the largest process, how often the
 program was run, and the bytes of the streams' checkpoints, which are written and read again to be joined. In front of them
 stands `vrepl run`, in threads: of the one target, and of the four, one behind the other. Behind the four stands the slowest of
-them where each is filled alone, by four workers.
+them where each is filled alone, by one worker and by four.
 """
 import argparse
 import json
@@ -102,9 +102,9 @@ def main():
                 runs = [by_fleet(said.program, workflows, feeds, workers) for _ in range(said.turns)]
                 # each target has a run for each stream, one to join them, and one for the dump
                 line(size, what, str(workers), *told(runs), str(len(workflows) * (len(SHARDS) + 2)), f"{moved():,} bytes")
-            if len(workflows) > 1:
-                alone = [max(by_fleet(said.program, {name: it}, feeds, 4) for name, it in workflows.items()) for _ in range(said.turns)]
-                line(size, "the slowest of these alone", "4", *told(alone), str(len(SHARDS) + 2), "")
+            for workers in (1, 4) if len(workflows) > 1 else ():
+                alone = [max(by_fleet(said.program, {name: it}, feeds, workers) for name, it in workflows.items()) for _ in range(said.turns)]
+                line(size, "the slowest of these alone", str(workers), *told(alone), str(len(SHARDS) + 2), "")
 
 
 if __name__ == "__main__":
