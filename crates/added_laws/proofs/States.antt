@@ -7,7 +7,8 @@ use Rattle.std.specs.Prelude.{IfSome}
 use Rattle.std.specs.Option.{option_map, option_map_or}
 use Rattle.std.specs.Result.{ok_prefix}
 use Rattle.filter_rule.specs.Extending.{IsExtended}
-use Rattle.filter_rule.specs.PlanTable.{ColumnValue, TableValue}
+use Rattle.row_view.specs.FieldValue.{FieldValue}
+use Rattle.filter_rule.specs.PlanTable.{TableValue}
 use Rattle.filter_rule.specs.PlanValue.{PlanValue, kept_columns_of}
 use Rattle.pk_copy.specs.KeyOf.{key_in}
 use Rattle.pk_copy.specs.KeyValue.{KeyValue}
@@ -46,7 +47,7 @@ module _ (old new : PlanValue) (more : IsExtended old new) where
   same_table : (t : ℕ) → t < length old.tables → slice_get old.tables t ≡ slice_get new.tables t
   same_table t less = ap (λ (tables : List TableValue). slice_get tables t) (sym more.tables) ∙ get_in_front (length old.tables) new.tables t less
 
-  abbrev columns_in : Option TableValue → List ColumnValue
+  abbrev columns_in : Option TableValue → List FieldValue
   columns_in o = option_map_or (λ (table : TableValue). table.columns) o []
 
   abbrev key_in_table : Option TableValue → List ℕ

@@ -43,7 +43,7 @@ use Rattle.checkpoint_laws.specs.declared.fault.ResumeFault.TheVariants.{FeedCou
 use Rattle.checkpoint_laws.specs.Saved.{SavedStream}
 use Rattle.checkpoint_laws.specs.Said.{IsSaved}
 use Rattle.board_laws.specs.Sources.{IsNumberAt}
-use Rattle.checkpoint_laws.specs.Resumed.{IsKnown, IsResumedAt, AreResumed, AgreesWith, AtEachPlace}
+use Rattle.checkpoint_laws.specs.Resumed.{IsKnown, IsResumedAt, AgreesWith, AtEachPlace}
 use Rattle.checkpoint_laws.specs.Refused.{plans_of_feeds, IsFirstOff, IsLeastDifference, IsRefusedSaved}
 use Rattle.checkpoint_laws.proofs.OwnRows.{cut-at, cut-rising}
 use Rattle.checkpoint_laws.proofs.ResumedLaws.{at_same_place, at_inside, resumed-sound}
@@ -156,9 +156,6 @@ pub record AreFirstResumed (feeds : List FeedValue) (saved : List SavedStream) (
   pub count : length states ≡ n
   pub each_stream : AtEachOfThree IsResumedAt feeds saved states
 
-pub no_streams : (feeds : List FeedValue) (saved : List SavedStream) → AreFirstResumed feeds saved 0 []
-no_streams feeds saved = record { count = refl; each_stream = λ s x y z p q r. absurd (none-some z r) }
-
 pub stream_more : (feeds : List FeedValue) (saved : List SavedStream) (n : ℕ) (states new : List State) (feed : FeedValue) (one : SavedStream) (state : State) → slice_get feeds n ≡ Some feed → slice_get saved n ≡ Some one
     → IsResumedAt feed one state → new ≡ states ++ state ∷ [] → AreFirstResumed feeds saved n states → AreFirstResumed feeds saved (n + 1) new
 stream_more feeds saved n states new feed one state here there at is h = record {
@@ -168,9 +165,6 @@ stream_more feeds saved n states new feed one state here there at is h = record 
 
 pub said_long : (feeds : List FeedValue) (saved : List SavedStream) → AreSaid feeds saved → length saved ≡ length feeds
 said_long feeds saved said = said.is.same_count ∙ length-map feeds (λ (feed : FeedValue). feed.plan)
-
-pub all_resumed : (feeds : List FeedValue) (saved : List SavedStream) (n : ℕ) (states : List State) → AreSaid feeds saved → n ≡ length feeds → AreFirstResumed feeds saved n states → AreResumed feeds saved states
-all_resumed feeds saved n states said end h = record { count = h.count ∙ end; same_count = said_long feeds saved said; each_stream = h.each_stream }
 
 pub stops_at : (feeds : List FeedValue) (saved : List SavedStream) (n : ℕ) (numbers : List ℕ) (states : List State) (feed : FeedValue) (one : SavedStream) → AreWholeFeeds feeds → AreNumbers feeds saved (length feeds) numbers
     → slice_get feeds n ≡ Some feed → slice_get saved n ≡ Some one → AreFirstResumed feeds saved n states → (fault : ResumeFault) → IsUnsoundAt feed one fault → IsRefusedSaved feeds saved fault

@@ -20,7 +20,7 @@ use Rattle.board_laws.specs.Cut.{cut_of, own_row}
 use Rattle.board_laws.specs.Step.{due_at}
 use Rattle.board_laws.proofs.Lists.{slice_get-push}
 use Rattle.board_laws.proofs.Lookups.{Ties, same_rows}
-use Rattle.board_laws.proofs.OwnPart.{own_part, only, rising_part, value_in_part}
+use Rattle.board_laws.proofs.OwnPart.{only}
 use Rattle.join_laws.specs.Joined.{rows_from}
 use Rattle.join_laws.specs.Compatible.{AreApart}
 use Rattle.join_laws.proofs.Rows.{row_of_one, rising_from, value_from, IsRowOf, whose, some_row}
@@ -54,15 +54,6 @@ last_of_rows (x ∷ rows) k h =
 of_its_own : (s : ℕ) (there : Option (ℕ × RowValue)) → option_map (λ (there : ℕ × RowValue). Some there.1) (only s there) ≡ option_map Some (own_row s there)
 of_its_own s None = refl
 of_its_own s (Some x) = elim (x.0 == s) as (λ b. option_map (λ (there : ℕ × RowValue). Some there.1) (cond b (Some x) None) ≡ option_map Some (cond b (Some x.1) None)) [ true ↦ refl | false ↦ refl ]
-
--- what the puts of a stream's rows say at a key
-pub puts_of_stream : (s : ℕ) (rows : TargetRows) (puts : List (KeyValue × Option RowValue)) → IsRising key_cmp rows → puts ≡ map put_entry (own_part s rows)
-    → (key : KeyValue) → last_at key_cmp puts key ≡ option_map Some (own_row s (value_at key_cmp rows key))
-puts_of_stream s rows puts rising made key =
-    ap (λ (ps : List (KeyValue × Option RowValue)). last_at key_cmp ps key) made
-    ∙ last_of_rows (own_part s rows) key (rising_part s rows rising)
-    ∙ ap (λ (o : Option (ℕ × RowValue)). option_map (λ (there : ℕ × RowValue). Some there.1) o) (value_in_part s rows key rising)
-    ∙ of_its_own s (value_at key_cmp rows key)
 
 -- ---- one stream more
 
@@ -164,6 +155,3 @@ module _ (ties : Ties) (lower : List State) (state : State) where
           ∙ ap (λ (o : Option (Option RowValue)). owner_in_the_way (length lower) o (value_at key_cmp (rows_from 0 lower) k)) (due k)
 
 -- ---- what is gone over
-
-pub puts_of_yielded : (s : ℕ) {yielded rows : TargetRows} → yielded ≡ rows → map put_entry (own_part s yielded) ≡ map put_entry (own_part s rows)
-puts_of_yielded s e = ap (λ (rows : TargetRows). map put_entry (own_part s rows)) e

@@ -3,6 +3,7 @@
 ghost use Rattle.std.specs.Prelude.{◌≡◌};
 
 use pk_copy::Key;
+use std::alloc::AllocError;
 use stream_core::CoreRefusal;
 use thiserror::Error;
 
@@ -33,6 +34,26 @@ pub enum Refusal {
     /// A growth was refused.
     #[error("out of memory")]
     Memory,
+}
+
+impl From<AllocError> for Refusal {
+    ghost use Rattle.board_laws.specs.declared.refusal.Refusal.TheVariants.{Memory};
+
+    ghost from_gives = { λ _ refusal. refusal ≡ Memory };
+
+    fn from(_: AllocError) -> Refusal {
+        Refusal::Memory
+    }
+}
+
+impl From<CoreRefusal> for Refusal {
+    ghost use Rattle.board_laws.specs.declared.refusal.Refusal.TheVariants.{Core};
+
+    ghost from_gives = { λ cause refusal. refusal ≡ Core cause };
+
+    fn from(cause: CoreRefusal) -> Refusal {
+        Refusal::Core(cause)
+    }
 }
 
 impl Refusal {

@@ -17,6 +17,16 @@ pub enum StepRefusal {
     Refused(Refusal),
 }
 
+impl From<Refusal> for StepRefusal {
+    ghost use Rattle.board_laws.specs.declared.step_refusal.StepRefusal.TheVariants.{Refused};
+
+    ghost from_gives = { λ cause refusal. refusal ≡ Refused cause };
+
+    fn from(cause: Refusal) -> StepRefusal {
+        StepRefusal::Refused(cause)
+    }
+}
+
 impl StepRefusal {
     ghost use Rattle.board_laws.specs.Refusals.{number_of_step};
 

@@ -18,18 +18,6 @@ use Rattle.checkpoint_core.specs.Groups.{AreFirst, StopsBefore}
 abbrev position_of : PlannedGroupValue → Position
 position_of group = group.position
 
--- the group at a number has this position
-pub group_there : (feed : FeedValue) (position found : Position) (number : ℕ) → Some found ≡ option_map (λ (group : PlannedGroupValue). group.position) (group_at feed number) → found ≡ position → HasGroupAt feed position number
-group_there feed position found number is same = by (group_at feed number) refl is
-  where
-    by : (o : Option PlannedGroupValue) → group_at feed number ≡ o → Some found ≡ option_map position_of o → HasGroupAt feed position number
-    by None there e = absurd (none-some found (sym e))
-    by (Some group) there e = record { group = group; there = there; at = sym (same_Some found group.position e) ∙ same }
-
--- and no other
-pub group_has : (feed : FeedValue) (position found : Position) (number : ℕ) → Some found ≡ option_map (λ (group : PlannedGroupValue). group.position) (group_at feed number) → HasGroupAt feed position number → found ≡ position
-group_has feed position found number is has = same_Some found has.group.position (is ∙ ap (option_map position_of) has.there) ∙ has.at
-
 pub no_group : (feed : FeedValue) (position : Position) (number : ℕ) → None ≡ option_map (λ (group : PlannedGroupValue). group.position) (group_at feed number) → ¬ HasGroupAt feed position number
 no_group feed position number is has = none-some has.group.position (is ∙ ap (option_map position_of) has.there)
 
@@ -101,9 +89,6 @@ there_at_number feed i r inside e = by (slice_get feed.groups i) refl
         slice_get-map (prepared feed.plan) feed.groups i
         ∙ ap (option_map (prepared feed.plan)) there
         ∙ ap Some (sym (ap (prepared_if feed) there) ∙ at)
-
-pub first_none : (feed : FeedValue) → AreFirst feed 0 []
-first_none feed = record { sound = omega arith; are = refl }
 
 pub first_more : (feed : FeedValue) (i : ℕ) (groups new : List PreparedValue) (group : PreparedValue) → i < length feed.groups → prepared_at feed (i + 1) ≡ Ok group → new ≡ groups ++ group ∷ [] → AreFirst feed i groups → AreFirst feed (i + 1) new
 first_more feed i groups new group inside e is first =

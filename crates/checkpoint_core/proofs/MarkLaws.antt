@@ -1,51 +1,23 @@
 -- How far tables are copied, by the parts of a checkpoint.
-use Rattle.std.proofs.Common.{◌≡◌, ◌≢◌, ◌==◌, ◌&&◌, ℕ, ◌+◌, ◌<◌, ◌≤◌, ◌⊎◌, inl, inr, Bool, true, false, cond, List, length, Option, Some, None, slice_get, refl, sym, ap, subst, ◌∙◌, arith}
-use Rattle.std.proofs.lemmas.Bool.{eqb-true, ne_eqb, cases_lt, lt-ltb, le-ltb}
+use Rattle.std.proofs.Common.{◌≡◌, ◌≢◌, ◌==◌, ◌&&◌, ℕ, ◌+◌, ◌<◌, ◌≤◌, ◌⊎◌, inl, inr, cond, List, length, Option, Some, None, slice_get, refl, sym, ap, subst, ◌∙◌, arith}
+use Rattle.std.proofs.lemmas.Bool.{ne_eqb, cases_lt, lt-ltb, le-ltb}
 use Rattle.std.proofs.lemmas.Option.{same_Some, none-some}
 use borrow.Author.Tests.{eq-eqb}
-use Rattle.std.specs.Prelude.{IsTrue, IfSome, nat_lt}
+use Rattle.std.specs.Prelude.{IfSome}
 use Rattle.filter_rule.specs.PlanValue.{PlanValue}
 use Rattle.pk_copy.specs.KeyValue.{KeyValue}
 use Rattle.pk_copy.specs.Lastpk.{IsTableKey}
-use Rattle.pk_copy.specs.Marks.{MarkValue, waiting, up_to, copied, Marks, current_mark, mark_of, is_past, is_beyond, moved_to, next_table}
-use Rattle.source_feed.specs.History.{RowValue}
-use Rattle.vevent.specs.declared.checkpoint_part.TableMark.{TableMark}
+use Rattle.pk_copy.specs.Marks.{MarkValue, waiting, up_to, copied, Marks, current_mark, mark_of}
 use Rattle.vevent.specs.declared.checkpoint_part.TableMark.TheVariants as kinds
-use Rattle.vevent.specs.CheckpointPart.{TablePartValue, mark_number, mark_of_number}
+use Rattle.vevent.specs.CheckpointPart.{TablePartValue, mark_of_number}
 use Rattle.checkpoint_laws.specs.Written.{number_of_mark}
 use Rattle.std.proofs.lemmas.Option.{slice_get_within}
 use Rattle.checkpoint_laws.proofs.ResumedLaws.{at_inside}
 use Rattle.checkpoint_core.specs.declared.marks.MarkRead.{MarkRead}
 use Rattle.checkpoint_core.specs.declared.marks.MarkRead.TheVariants.{Waiting, Upto, Done}
-use Rattle.checkpoint_core.specs.Private.Reading.{mark_read, IsOfPlan, IsLast, IsMarked, SaysMark, IsOpenAt, IsMarkedMore, AreMarksBefore, AreMarksOf}
+use Rattle.checkpoint_core.specs.Private.Reading.{mark_read, IsOfPlan, IsMarked, SaysMark, IsOpenAt, IsMarkedMore, AreMarksBefore, AreMarksOf}
 
 -- ---- the mark of one table
-
--- the row of a key stands with no other mark than the one up to it
-pub waiting_with_row : (plan : PlanValue) (t : ℕ) (row : RowValue) (mark : MarkValue) → IsMarked plan t mark kinds.Waiting (Some row) → ⊥
-waiting_with_row plan t row waiting h = none-some row (sym h.key)
-waiting_with_row plan t row (up_to key) h = let e : 0 ≡ 1 = h.number in omega (arith, e)
-waiting_with_row plan t row copied h = let e : 0 ≡ 2 = h.number in omega (arith, e)
-
-pub copied_with_row : (plan : PlanValue) (t : ℕ) (row : RowValue) (mark : MarkValue) → IsMarked plan t mark kinds.Done (Some row) → ⊥
-copied_with_row plan t row waiting h = let e : 2 ≡ 0 = h.number in omega (arith, e)
-copied_with_row plan t row (up_to key) h = let e : 2 ≡ 1 = h.number in omega (arith, e)
-copied_with_row plan t row copied h = none-some row (sym h.key)
-
--- and that mark not without it
-pub up_to_without_row : (plan : PlanValue) (t : ℕ) (mark : MarkValue) → IsMarked plan t mark kinds.Upto None → ⊥
-up_to_without_row plan t waiting h = let e : 1 ≡ 0 = h.number in omega (arith, e)
-up_to_without_row plan t (up_to key) h = none-some h.key.0 h.key.1
-up_to_without_row plan t copied h = let e : 1 ≡ 2 = h.number in omega (arith, e)
-
--- where the row is no key of the table, there is no mark
-pub no_last_key : (plan : PlanValue) (t : ℕ) (row : RowValue) → ((key : KeyValue) → IsLast plan t row key → ⊥) → (mark : MarkValue) → IsMarked plan t mark kinds.Upto (Some row) → ⊥
-no_last_key plan t row none waiting h = let e : 1 ≡ 0 = h.number in omega (arith, e)
-no_last_key plan t row none (up_to key) h =
-    let (other, is, long, read) = h.key in
-    let same : row ≡ other = same_Some row other is in
-    none key (subst (λ (row : RowValue). IsLast plan t row key) (sym same) (record { long = long; read = read }))
-no_last_key plan t row none copied h = let e : 1 ≡ 2 = h.number in omega (arith, e)
 
 -- ---- a number as a mark
 
@@ -54,16 +26,6 @@ pub no_number : (n : ℕ) (mark : MarkValue) → None ≡ mark_of_number n → n
 no_number n waiting none e = none-some kinds.Waiting (none ∙ ap mark_of_number e)
 no_number n (up_to key) none e = none-some kinds.Upto (none ∙ ap mark_of_number e)
 no_number n copied none e = none-some kinds.Done (none ∙ ap mark_of_number e)
-
--- the number of the mark that it is
-pub its_number : (n : ℕ) (kind : TableMark) → Some kind ≡ mark_of_number n → n ≡ mark_number kind
-its_number n kind e = by (n == 0) (n == 1) (n == 2) refl refl refl e
-  where
-    by : (a b c : Bool) → (n == 0) ≡ a → (n == 1) ≡ b → (n == 2) ≡ c → Some kind ≡ cond a (Some kinds.Waiting) (cond b (Some kinds.Upto) (cond c (Some kinds.Done) None)) → n ≡ mark_number kind
-    by true b c p q r e = eqb-true n 0 p ∙ ap mark_number (sym (same_Some kind kinds.Waiting e))
-    by false true c p q r e = eqb-true n 1 q ∙ ap mark_number (sym (same_Some kind kinds.Upto e))
-    by false false true p q r e = eqb-true n 2 r ∙ ap mark_number (sym (same_Some kind kinds.Done e))
-    by false false false p q r e = absurd (none-some kind (sym e))
 
 -- ---- marks of tables
 
@@ -94,61 +56,6 @@ open_behind m t u at most = open_at m u (record {
   within = omega (arith, at.within, most);
   unmarked = λ e. at.unmarked (omega (arith, e, at.within, most));
 })
-
--- a table waits
-pub more_waiting : (t : ℕ) (m : Marks) → IsOpenAt t m → IsMarkedMore t waiting m m
-more_waiting t m at =
-    let within : m.done ≤ t = at.within in
-    record {
-      count = refl;
-      before = λ i less. refl;
-      here = open_at m t at;
-      key = λ last e. inl e;
-      behind = record { are = at.are; within = omega (arith, within); unmarked = λ e. absurd (omega (arith, within, e)) };
-    }
-
--- the first table that isn't done is done
-pub more_copied : (t : ℕ) (m : Marks) → t < m.tables → IsOpenAt t m → t ≤ m.done → IsMarkedMore t copied m (next_table m)
-more_copied t m inside at most =
-    let within : m.done ≤ t = at.within in
-    record {
-      count = refl;
-      before = λ i less. done_at (next_table m) i (omega (arith, less, most)) ∙ sym (done_at m i (omega (arith, less, most)));
-      here = done_at (next_table m) t (omega (arith, most));
-      key = λ last e. absurd (none-some last e);
-      behind = record {
-        are = record { within = omega (arith, inside, within); current = tt };
-        within = omega (arith, within);
-        unmarked = λ e. refl;
-      };
-    }
-
--- the first table that isn't done is copied up to a key
-pub more_up_to : (t : ℕ) (m : Marks) (key : KeyValue) → t < m.tables → IsOpenAt t m → t ≤ m.done → key.table ≡ t → IsMarkedMore t (up_to key) m (moved_to key m)
-more_up_to t m key inside at most table =
-    let within : m.done ≤ t = at.within in
-    let is : t ≡ m.done = omega (arith, within, most) in
-    record {
-      count = refl;
-      before = λ i less. done_at (moved_to key m) i (omega (arith, less, most)) ∙ sym (done_at m i (omega (arith, less, most)));
-      here = current_at (moved_to key m) t is;
-      key = λ last e. inr (ap up_to (same_Some key last e));
-      behind = record {
-        are = record { within = at.are.within; current = record { copying = omega (arith, inside, is); table = table ∙ is } };
-        within = omega (arith, within);
-        unmarked = λ e. absurd (omega (arith, within, e));
-      };
-    }
-
--- a key of the first table that isn't done is still to be copied, where none of the table is
-pub past_open : (t : ℕ) (m : Marks) (key : KeyValue) → t < m.tables → IsOpenAt t m → t ≤ m.done → key.table ≡ t → IsTrue (is_past m key)
-past_open t m key inside at most table =
-    let within : m.done ≤ t = at.within in
-    let is : t ≡ m.done = omega (arith, within, most) in
-    let none : m.upto ≡ None = at.unmarked (sym is) in
-    let less : nat_lt m.done m.tables ≡ true = lt-ltb m.done m.tables (omega (arith, inside, is)) in
-    let same : (key.table == m.done) ≡ true = eq-eqb key.table m.done (table ∙ is) in
-    ap (λ b. b && ((key.table == m.done) && is_beyond m.upto key)) less ∙ ap (λ b. b && is_beyond m.upto key) same ∙ ap (λ (o : Option KeyValue). is_beyond o key) none
 
 -- ---- marks of the first tables
 

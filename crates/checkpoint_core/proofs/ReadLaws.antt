@@ -19,7 +19,7 @@ use Rattle.checkpoint_laws.specs.Said.{AreStreamParts, IsNamed, SaysTable, AreSo
 use Rattle.checkpoint_laws.specs.Written.{opening}
 use Rattle.checkpoint_laws.proofs.OneThing.{one_version, same_parts}
 use Rattle.checkpoint_laws.proofs.ResumedLaws.{at_inside}
-use Rattle.checkpoint_core.specs.Fault.{IsNothing, HasParts}
+use Rattle.checkpoint_core.specs.Fault.{IsNothing}
 use Rattle.checkpoint_core.specs.declared.fault.ReadFault.{ReadFault}
 use Rattle.checkpoint_core.specs.declared.fault.ReadFault.TheVariants.{Broken}
 use Rattle.checkpoint_core.specs.Private.Reading.{OfEachTable, IsPartOf, AreFramed, AreSoManyParts, IsAtPosition, HasHead, SaysMark, AreMarksOf, AreRows, rows_from, SayTables, SayStreams}
@@ -61,9 +61,6 @@ one_part_more bytes message old new parts more part are items fault is pushed = 
       ∙ sym (append_assoc (oks parts) (Ok part ∷ []) (map stream_part_at new.items))
       ∙ ap (λ (rs : List Read). rs ++ map stream_part_at new.items) (sym (map-append Ok parts (part ∷ [])) ∙ ap oks (sym pushed));
 }
-
-pub reads_none : (bytes : List ℕ) (frames : Reading (List ℕ) FrameFault) → frames ≡ frames_of bytes → ReadsParts bytes frames 0
-reads_none bytes frames is = record { parts = []; are = no_part_yet bytes frames [] is refl; many = refl }
 
 pub reads_more : (bytes message : List ℕ) (old new : Reading (List ℕ) FrameFault) (count : ℕ) (part : StreamPartValue) → ReadsParts bytes old count
     → old.items ≡ message ∷ new.items → old.fault ≡ new.fault → stream_part_at message ≡ Ok part → ReadsParts bytes new (count + 1)
@@ -130,16 +127,6 @@ module _ (bytes : List ℕ) (count : ℕ) (frames : Reading (List ℕ) FrameFaul
           tail_of [] = []
           tail_of (r ∷ rs) = rs
 
--- what is found of a frame where so many parts were read before it
-pub none_behind_broken : (bytes : List ℕ) (count : ℕ) (frames : Reading (List ℕ) FrameFault) (many : ℕ) (fault : FrameFault) → ReadsParts bytes frames many → frames.fault ≡ Some fault → (others : List StreamPartValue) → ¬ AreFramed bytes count others
-none_behind_broken bytes count frames many fault reads is others h = no_broken_frame bytes count frames reads.parts reads.are others h fault is
-
-pub none_of_fewer : (bytes : List ℕ) (count : ℕ) (frames : Reading (List ℕ) FrameFault) (many : ℕ) → ReadsParts bytes frames many → frames.items ≡ [] → many ≢ count → (others : List StreamPartValue) → ¬ AreFramed bytes count others
-none_of_fewer bytes count frames many reads none other others h = no_fewer bytes count frames reads.parts reads.are others h none (λ e. other (sym reads.many ∙ e))
-
-pub none_of_more : (bytes : List ℕ) (count : ℕ) (frames : Reading (List ℕ) FrameFault) (many : ℕ) (message : List ℕ) (rest : List (List ℕ)) → ReadsParts bytes frames many → frames.items ≡ message ∷ rest → many ≡ count → (others : List StreamPartValue) → ¬ AreFramed bytes count others
-none_of_more bytes count frames many message rest reads is long others h = no_more bytes count frames reads.parts reads.are others h message rest is (reads.many ∙ long)
-
 pub none_with_broken : (bytes : List ℕ) (count : ℕ) (frames : Reading (List ℕ) FrameFault) (many : ℕ) (message : List ℕ) (rest : List (List ℕ)) → ReadsParts bytes frames many → frames.items ≡ message ∷ rest → ((part : StreamPartValue) → ¬ IsPartOf message part)
     → (others : List StreamPartValue) → ¬ AreFramed bytes count others
 none_with_broken bytes count frames many message rest reads is none others h = no_broken_part bytes count frames reads.parts reads.are others h message rest is none
@@ -153,19 +140,11 @@ pub something_read : {A : Type 0} {P : A → Type 0} (r : Result A ReadFault) �
 something_read (Ok x) e is = (x, is)
 something_read (Err fault) e is = absurd cc
 
--- where so many parts were read and no frame is left, they are there
-pub reads_all : (bytes : List ℕ) (frames : Reading (List ℕ) FrameFault) (count : ℕ) → ReadsParts bytes frames count → frames.items ≡ [] → frames.fault ≡ None → (parts : List StreamPartValue) × AreFramed bytes count parts
-reads_all bytes frames count reads none ended = (reads.parts, all_parts bytes count frames reads.parts reads.are none ended reads.many)
-
 pub parts_there : (version : Version) (bytes rest : List ℕ) (count : ℕ) (parts : List StreamPartValue) → bytes ≡ opening version ++ rest → AreFramed rest count parts → AreSoManyParts version bytes count parts
 parts_there version bytes rest count parts opened framed = record {
   are = record { rest = rest; opened = opened; messages = framed.messages; framed = framed.framed; read = framed.read };
   long = framed.long;
 }
-
--- bytes of which so many parts are read have them
-pub has_parts : (version : Version) (bytes : List ℕ) (count : ℕ) (parts : List StreamPartValue) → AreSoManyParts version bytes count parts → HasParts bytes count
-has_parts version bytes count parts h = record { version = version; parts = parts; are = h.are; long = h.long }
 
 pub parts_framed : (version other : Version) (bytes rest : List ℕ) (count : ℕ) (parts : List StreamPartValue) → bytes ≡ opening version ++ rest → AreSoManyParts other bytes count parts → AreFramed rest count parts
 parts_framed version other bytes rest count parts opened h =
@@ -177,11 +156,6 @@ parts_framed version other bytes rest count parts opened h =
       read = h.are.read;
       long = h.long;
     }
-
--- bytes that begin with neither version's first ones
-pub no_opening : (bytes : List ℕ) → ((rest : List ℕ) → ¬ (bytes ≡ opening One ++ rest)) → ((rest : List ℕ) → ¬ (bytes ≡ opening Two ++ rest)) → (found : Version × List ℕ) → ¬ (bytes ≡ opening found.0 ++ found.1)
-no_opening bytes one two (One, rest) h = one rest h
-no_opening bytes one two (Two, rest) h = two rest h
 
 -- ---- a stream
 
@@ -273,12 +247,6 @@ pub record SayFirst (version : Version) (plans : List PlanValue) (parts : List S
   pub each_stream : (i : ℕ) (plan : PlanValue) (one : SavedStream) (part : StreamPartValue)
       → slice_get plans i ≡ Some plan → slice_get saved i ≡ Some one → slice_get parts i ≡ Some part → SaysStream version plan one part
 
-pub say_none : (version : Version) (plans : List PlanValue) (parts : List StreamPartValue) (saved : List SavedStream) → saved ≡ [] → SayFirst version plans parts 0 saved
-say_none version plans parts saved none = record {
-  count = ap length none;
-  each_stream = λ i plan one part here there at. absurd (none-some one (ap (λ (xs : List SavedStream). slice_get xs i) (sym none) ∙ there));
-}
-
 pub say_more : (version : Version) (plans : List PlanValue) (parts : List StreamPartValue) (s : ℕ) (old new : List SavedStream) (plan : PlanValue) (one : SavedStream) (part : StreamPartValue) → slice_get plans s ≡ Some plan
     → slice_get parts s ≡ Some part → SaysStream version plan one part → new ≡ old ++ one ∷ [] → SayFirst version plans parts s old → SayFirst version plans parts (s + 1) new
 say_more version plans parts s old new plan one part here at says pushed first = record {
@@ -292,9 +260,6 @@ say_more version plans parts s old new plan one part here at says pushed first =
         subst (λ (p : PlanValue). SaysStream version p one2 part2) plan_is (subst (λ (x : SavedStream). SaysStream version plan x part2) last.1 (subst (SaysStream version plan one) part_is says)))
   ];
 }
-
-pub say_all : (version : Version) (plans : List PlanValue) (parts : List StreamPartValue) (s : ℕ) (saved : List SavedStream) → s ≡ length plans → SayFirst version plans parts s saved → SayStreams version plans parts saved
-say_all version plans parts s saved is first = record { count = first.count ∙ is; each_stream = first.each_stream }
 
 -- nothing is said of all where nothing is said of one
 pub not_one : (version : Version) (plans : List PlanValue) (parts : List StreamPartValue) (s : ℕ) (plan : PlanValue) (part : StreamPartValue) → slice_get plans s ≡ Some plan → slice_get parts s ≡ Some part
@@ -318,10 +283,6 @@ checkpoint_said version plans bytes parts saved are many says = record {
   as_many = many;
   each_stream = says.each_stream;
 }
-
--- what a checkpoint says, its parts do
-pub parts_of_checkpoint : (plans : List PlanValue) (bytes : List ℕ) (saved : List SavedStream) → (h : IsCheckpoint plans bytes saved) → AreSoManyParts h.version bytes (length plans) h.parts
-parts_of_checkpoint plans bytes saved h = record { are = h.are; long = h.count }
 
 module _ (version : Version) (plans : List PlanValue) (bytes : List ℕ) (parts : List StreamPartValue) (saved : List SavedStream) (are : AreStreamParts version bytes parts) (h : IsCheckpoint plans bytes saved) where
   of_version : h.version ≡ version

@@ -115,9 +115,6 @@ next_there plan t row later old all are h none =
 
 -- ---- the rows of tables
 
-rows-from_more : (t : ℕ) (part : TablePartValue) (parts rest : List TablePartValue) → rest ≡ part ∷ parts → rows_from t rest ≡ rows_in t part.answer.rows ++ rows_from (t + 1) parts
-rows-from_more t part parts rest e = ap (rows_from t) e
-
 abbrev values : List Given → List RowValue
 values xs = map (λ (g : Given). g.1) xs
 

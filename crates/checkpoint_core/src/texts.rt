@@ -9,7 +9,7 @@ ghost use Rattle.vevent.specs.CheckpointPart.{mark_number};
 ghost use Rattle.vevent.specs.ColumnView.{field_value};
 ghost use Rattle.vevent.specs.ContentView.{table_content};
 ghost use Rattle.filter_rule.specs.PlanValue.{table_name};
-ghost use Rattle.checkpoint_laws.specs.Written.{field_of, number_of_mark, last_row_of, saved_rows_of_table};
+ghost use Rattle.checkpoint_laws.specs.Written.{number_of_mark, last_row_of, saved_rows_of_table};
 ghost use Rattle.checkpoint_core.specs.Private.Texts.{fields_at, part_of_table, parts_of_tables, text_value};
 
 use filter_rule::{ColumnDef, Plan};
@@ -67,7 +67,7 @@ pub(crate) fn name_of(plan: &Plan, t: u8) -> &[u8]
 
 /// A column as an answer names it.
 fn field_of(column: &ColumnDef) -> ColumnField<'_>
-    ensures { field_value result ≡ field_of column.now }
+    ensures { field_value result ≡ column.now }
 {
     ColumnField {
         name: column.name(),
@@ -78,7 +78,7 @@ fn field_of(column: &ColumnDef) -> ColumnField<'_>
 /// The column at a place, as an answer names it.
 fn field_at(columns: &[ColumnDef], place: usize) -> ColumnField<'_>
     requires { place < length columns.now }
-    ensures { option_map field_of (slice_get columns.now place) ≡ Some (field_value result) }
+    ensures { slice_get columns.now place ≡ Some (field_value result) }
 {
     field_of(&columns[place])
 }

@@ -7,7 +7,8 @@ use Rattle.std.specs.Prelude.{IfSome, nat_lt, slice_index_or}
 use Rattle.std.specs.List.{AllByRecursion, filter_map}
 use Rattle.std.specs.Option.{option_map, option_map_or}
 use Rattle.filter_rule.specs.Extending.{IsExtended}
-use Rattle.filter_rule.specs.PlanTable.{ColumnValue, TableValue}
+use Rattle.row_view.specs.FieldValue.{FieldValue}
+use Rattle.filter_rule.specs.PlanTable.{TableValue}
 use Rattle.filter_rule.specs.PlanValue.{PlanValue, columns_of, key_columns_of, kept_columns_of}
 use Rattle.filter_rule.specs.WellFormed.{IsColumnDef, IsTable, IsPlan}
 use Rattle.gtid_set.specs.declared.interval.Interval.{Interval}
@@ -23,7 +24,6 @@ use Rattle.source_feed.specs.History.{RowValue}
 use Rattle.source_feed.specs.Image.{ImageRows}
 use Rattle.source_feed.specs.Touches.{PreparedValue}
 use Rattle.vevent.specs.CheckpointPart.{TablePartValue, StreamPartValue}
-use Rattle.vevent.specs.EventValue.{FieldValue}
 use Rattle.vevent.specs.WrittenEvent.{IsColumn}
 use Rattle.vevent.specs.WrittenPart.{IsSoundTable, IsSoundStream, StreamPartsAreReadAgain}
 use Rattle.board_laws.specs.Allowed.{last_position}
@@ -42,7 +42,7 @@ use Rattle.checkpoint_laws.specs.declared.version.Version.{Version}
 use Rattle.checkpoint_laws.specs.declared.version.Version.TheVariants.{One, Two}
 use Rattle.checkpoint_laws.specs.Added.{under_plan, under_plans, SavedBoardsAreSaidOfMore}
 use Rattle.checkpoint_laws.specs.Saved.{SavedStream, own_rows, saved_stream, saved_of}
-use Rattle.checkpoint_laws.specs.Written.{field_of, fields_of_table, position_text, number_of_mark, last_row_of, saved_rows_of_table, table_part, numbers_below, table_parts, stream_part, stream_parts, checkpoint_in}
+use Rattle.checkpoint_laws.specs.Written.{fields_of_table, position_text, number_of_mark, last_row_of, saved_rows_of_table, table_part, numbers_below, table_parts, stream_part, stream_parts, checkpoint_in}
 use Rattle.checkpoint_laws.specs.Said.{SaysLast, IsNamed, SaysTable, IsKeyed, IsSaved, AreSoMany, SaysStream, HaveAsMany, IsCheckpoint}
 use Rattle.checkpoint_laws.specs.Laws.{IsStreamWithin, SavedBoardsAreSaid, AreWithin}
 use Rattle.checkpoint_laws.proofs.PartLaws.{checkpoints_read_again}
@@ -86,14 +86,14 @@ of_mark P m t are h = by (nat_lt t m.done) (t == m.done) refl m.upto are.current
 
 -- ---- the columns of a plan
 
-columns_are : (columns : List ColumnValue) → ((i : ℕ) (column : ColumnValue) → slice_get columns i ≡ Some column → IsColumnDef column) → AllByRecursion IsColumn (map field_of columns)
+columns_are : (columns : List FieldValue) → ((i : ℕ) (column : FieldValue) → slice_get columns i ≡ Some column → IsColumnDef column) → AllByRecursion IsColumn columns
 columns_are [] h = tt
 columns_are (column ∷ columns) h = let is : IsColumnDef column = h 0 column refl in (record { name = is.name_text; number = omega (arith, is.type_bits) }, columns_are columns (λ i. h (suc i)))
 
-table_columns : (plan : PlanValue) → IsPlan plan → (t : ℕ) → AllByRecursion IsColumn (map field_of (columns_of plan t))
+table_columns : (plan : PlanValue) → IsPlan plan → (t : ℕ) → AllByRecursion IsColumn (columns_of plan t)
 table_columns plan is t = by (slice_get plan.tables t) refl
   where
-    by : (o : Option TableValue) → slice_get plan.tables t ≡ o → AllByRecursion IsColumn (map field_of (option_map_or (λ (table : TableValue). table.columns) o []))
+    by : (o : Option TableValue) → slice_get plan.tables t ≡ o → AllByRecursion IsColumn (option_map_or (λ (table : TableValue). table.columns) o [])
     by None here = tt
     by (Some table) here = let of : IsTable table = is.tables.each_table t table here in columns_are table.columns of.each_column
 
@@ -105,22 +105,19 @@ filter_more f x xs y e = rw e refl
 filter_none : {A B : Type 0} (f : A → Option B) (x : A) (xs : List A) → f x ≡ None → filter_map f (x ∷ xs) ≡ filter_map f xs
 filter_none f x xs e = rw e refl
 
-column_at : (columns : List ColumnValue) (place : ℕ) (column : ColumnValue) → AllByRecursion IsColumn (map field_of columns) → slice_get columns place ≡ Some column → IsColumn (field_of column)
+column_at : (columns : List FieldValue) (place : ℕ) (column : FieldValue) → AllByRecursion IsColumn columns → slice_get columns place ≡ Some column → IsColumn column
 column_at [] place column h e = absurd (none-some column e)
-column_at (c ∷ columns) zero column h e = subst (λ (c : ColumnValue). IsColumn (field_of c)) (same_Some c column e) h.0
+column_at (c ∷ columns) zero column h e = subst IsColumn (same_Some c column e) h.0
 column_at (c ∷ columns) (suc place) column h e = column_at columns place column h.1 e
 
-abbrev field_in : List ColumnValue → ℕ → Option FieldValue
-field_in columns place = option_map field_of (slice_get columns place)
-
-columns_at : (columns : List ColumnValue) (places : List ℕ) → AllByRecursion IsColumn (map field_of columns) → AllByRecursion IsColumn (filter_map (field_in columns) places)
+columns_at : (columns : List FieldValue) (places : List ℕ) → AllByRecursion IsColumn columns → AllByRecursion IsColumn (filter_map (slice_get columns) places)
 columns_at columns [] h = tt
 columns_at columns (place ∷ places) h = by (slice_get columns place) refl (columns_at columns places h)
   where
-    by : (o : Option ColumnValue) → slice_get columns place ≡ o → AllByRecursion IsColumn (filter_map (field_in columns) places) → AllByRecursion IsColumn (filter_map (field_in columns) (place ∷ places))
-    by None e rest = subst (AllByRecursion IsColumn) (sym (filter_none (field_in columns) place places (ap (option_map field_of) e))) rest
+    by : (o : Option FieldValue) → slice_get columns place ≡ o → AllByRecursion IsColumn (filter_map (slice_get columns) places) → AllByRecursion IsColumn (filter_map (slice_get columns) (place ∷ places))
+    by None e rest = subst (AllByRecursion IsColumn) (sym (filter_none (slice_get columns) place places e)) rest
     by (Some column) e rest =
-        subst (AllByRecursion IsColumn) (sym (filter_more (field_in columns) place places (field_of column) (ap (option_map field_of) e))) (column_at columns place column h e, rest)
+        subst (AllByRecursion IsColumn) (sym (filter_more (slice_get columns) place places column e)) (column_at columns place column h e, rest)
 
 values_within : (rows : ImageRows) → AllByRecursion (λ (row : KeyValue × RowValue). IsWithinLimits row.1) rows → AllByRecursion IsWithinLimits (map (λ (row : KeyValue × RowValue). row.1) rows)
 values_within [] h = tt
@@ -188,7 +185,7 @@ pub record IsFront (old new : PlanValue) : Type 0 where
 pub front_itself : (plan : PlanValue) → IsFront plan plan
 front_itself plan = record { shard = refl; fewer = omega arith; tables = λ t less. refl }
 
-abbrev columns_in : Option TableValue → List ColumnValue
+abbrev columns_in : Option TableValue → List FieldValue
 columns_in o = option_map_or (λ (table : TableValue). table.columns) o []
 
 abbrev key_in_table : Option TableValue → List ℕ
@@ -198,7 +195,7 @@ abbrev kept_in : Option TableValue → List ℕ
 kept_in o = option_map_or (λ (table : TableValue). table.kept) o []
 
 abbrev key_fields_in : Option TableValue → List FieldValue
-key_fields_in o = filter_map (field_in (columns_in o)) (key_in_table o)
+key_fields_in o = filter_map (slice_get (columns_in o)) (key_in_table o)
 
 -- of the tables behind the last one nothing is marked
 waits_behind : (m : Marks) (n t : ℕ) → AreMarks m → m.tables ≡ n → n ≤ t → mark_of m t ≡ waiting
@@ -257,7 +254,7 @@ module _ (reads : ReadsBack) (version : Version) (old new : PlanValue) (front : 
     named = has_name version t less;
     mark = refl;
     answer = record {
-      fields = ap (λ (o : Option TableValue). filter_map (field_in (columns_in o)) (kept_in o)) (front.tables t less);
+      fields = ap (λ (o : Option TableValue). filter_map (slice_get (columns_in o)) (kept_in o)) (front.tables t less);
       key_fields = ap key_fields_in (front.tables t less);
       position = reads saved.position canonical within.short;
       rows = refl;

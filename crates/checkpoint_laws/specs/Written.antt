@@ -2,8 +2,7 @@
 -- `save` writes is version 2; version 1 is the same without the tables' names.
 use Rattle.std.specs.Prelude.{ℕ, zero, suc, ◌==◌, List, [], ◌∷◌, ◌++◌, map, length, Option, Some, None, codes, slice_get}
 use Rattle.std.specs.List.{filter, filter_map, flat_map}
-use Rattle.std.specs.Option.{option_map}
-use Rattle.filter_rule.specs.PlanTable.{ColumnValue}
+use Rattle.row_view.specs.FieldValue.{FieldValue}
 use Rattle.filter_rule.specs.PlanValue.{PlanValue, columns_of, key_columns_of, kept_columns_of, table_name}
 use Rattle.gtid_set.specs.Printed.{printed_position}
 use Rattle.pk_copy.specs.Lastpk.{lastpk_of}
@@ -13,7 +12,6 @@ use Rattle.source_feed.specs.GroupValue.{Position}
 use Rattle.source_feed.specs.History.{RowValue}
 use Rattle.source_feed.specs.Image.{ImageRows}
 use Rattle.vevent.specs.CheckpointPart.{TablePartValue, StreamPartValue}
-use Rattle.vevent.specs.EventValue.{FieldValue}
 use Rattle.vevent.specs.WrittenPart.{written_stream_part}
 use Rattle.board_laws.specs.Meaning.{Meaning}
 use Rattle.join_laws.specs.Compatible.{plans_of_board}
@@ -23,17 +21,13 @@ use Rattle.checkpoint_laws.specs.Saved.{SavedStream, saved_of}
 
 -- ---- a table's part
 
--- a column as an answer names it
-abbrev pub field_of : ColumnValue → FieldValue
-field_of column = record { name = column.name; type_number = column.type_number }
-
 -- the columns that are kept of a table, in kept order
 abbrev pub fields_of_table : PlanValue → ℕ → List FieldValue
-fields_of_table plan t = filter_map (λ place. option_map field_of (slice_get (columns_of plan t) place)) (kept_columns_of plan t)
+fields_of_table plan t = filter_map (slice_get (columns_of plan t)) (kept_columns_of plan t)
 
 -- the columns of its key, in key order
 abbrev pub key_fields_of : PlanValue → ℕ → List FieldValue
-key_fields_of plan t = filter_map (λ place. option_map field_of (slice_get (columns_of plan t) place)) (key_columns_of plan t)
+key_fields_of plan t = filter_map (slice_get (columns_of plan t)) (key_columns_of plan t)
 
 -- the name as a part has it
 abbrev pub name_in : Version → PlanValue → ℕ → List ℕ

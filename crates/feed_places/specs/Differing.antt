@@ -3,9 +3,10 @@ use Rattle.std.specs.Prelude.{ℕ, ◌+◌, List, [], ◌∷◌, ◌++◌, Optio
 use Rattle.std.specs.Option.{option_and_then, option_map, option_map_or}
 use Rattle.std.specs.Str.{bytes_eq}
 use Rattle.vevent.specs.ColumnView.{field_value}
-use Rattle.vevent.specs.EventValue.{EventValue, FieldValue, Field}
+use Rattle.row_view.specs.FieldValue.{FieldValue}
+use Rattle.vevent.specs.EventValue.{EventValue, Field}
 use Rattle.vevent.specs.Response.{response_of}
-use Rattle.filter_rule.specs.PlanTable.{ColumnValue, TableValue}
+use Rattle.filter_rule.specs.PlanTable.{TableValue}
 use Rattle.filter_rule.specs.PlanValue.{PlanValue, columns_of, table_of_name}
 use Rattle.source_feed.specs.Planned.{same_column, source_of}
 use Rattle.source_feed.specs.SourceValue.{table_in_source}
@@ -25,7 +26,7 @@ abbrev pub differing_value : Differing → DifferingValue
 differing_value d = record { table = d.table; place = d.place; said = option_map field_value d.said }
 
 -- the first place at which columns differ, these being from a place on
-abbrev pub first_differing : ℕ → List ColumnValue → List FieldValue → Option (ℕ × Option FieldValue)
+abbrev pub first_differing : ℕ → List FieldValue → List FieldValue → Option (ℕ × Option FieldValue)
 first_differing place [] [] = None
 first_differing place [] (field ∷ fields) = Some (place, Some field)
 first_differing place (column ∷ columns) [] = Some (place, None)
@@ -57,14 +58,14 @@ first_message plan i (message ∷ messages) = or_else (option_map (λ found. (i,
 -- ---- in words
 
 -- a column of the feed beside that of the workflow
-abbrev pub other_text : ColumnValue → FieldValue → List ℕ
+abbrev pub other_text : FieldValue → FieldValue → List ℕ
 other_text column field =
     if bytes_eq column.name field.name
     then codes "column " ++ column.name ++ codes " type " ++ decimal field.type_number ++ codes " wanted " ++ decimal column.type_number
     else codes "column " ++ field.name ++ codes " wanted " ++ column.name
 
 -- what the feed has in a column's place, and what the workflow has there
-abbrev pub column_text : Option ColumnValue → Option FieldValue → List ℕ
+abbrev pub column_text : Option FieldValue → Option FieldValue → List ℕ
 column_text (Some column) (Some field) = other_text column field
 column_text (Some column) None = codes "column " ++ column.name ++ codes " missing"
 column_text None (Some field) = codes "column " ++ field.name ++ codes " unwanted"

@@ -15,7 +15,8 @@ use Rattle.filter_text.specs.RuleScope.{scope_of}
 use Rattle.filter_text.specs.Tokens.{tokens_of}
 use Rattle.filter_rule.specs.Document.{RuleSaid}
 use Rattle.filter_rule.specs.Faults.{Fault, bad_rule}
-use Rattle.filter_rule.specs.PlanTable.{ColumnValue, TableValue}
+use Rattle.row_view.specs.FieldValue.{FieldValue}
+use Rattle.filter_rule.specs.PlanTable.{TableValue}
 use Rattle.filter_rule.specs.Resolving.{all_places, name_at, lists_key, place_in}
 use Rattle.filter_rule.specs.Rules.{RuleForm, form_of, or_bad, agreeing, kept_by}
 use Rattle.filter_rule.specs.WellFormed.{AreDistinct, AreColumnPlaces, Holds, AreKept, IsTable}
@@ -136,26 +137,26 @@ each_there f (z ∷ xs) ys (suc i) x y h is gives =
     then_ok _ (f z) ys h (λ w w_is h2. then_ok _ (each f xs) ys h2 (λ rest rest_is h3.
     ap (λ zs. slice_get zs (suc i)) (sym (same_ok (w ∷ rest) ys h3)) ∙ each_there f xs rest i x y rest_is is gives))
 
-name_of_column : (columns : List ColumnValue) (place : ℕ) (column : ColumnValue) → slice_get columns place ≡ Some column → name_at columns place ≡ column.name
-name_of_column columns place column is = ap (λ o. option_map_or (λ (c : ColumnValue). c.name) o []) is
+name_of_column : (columns : List FieldValue) (place : ℕ) (column : FieldValue) → slice_get columns place ≡ Some column → name_at columns place ≡ column.name
+name_of_column columns place column is = ap (λ o. option_map_or (λ (c : FieldValue). c.name) o []) is
 
-there_within : (columns : List ColumnValue) (place : ℕ) → place < length columns → (column : ColumnValue) × (slice_get columns place ≡ Some column)
+there_within : (columns : List FieldValue) (place : ℕ) → place < length columns → (column : FieldValue) × (slice_get columns place ≡ Some column)
 there_within [] place h = absurd (omega arith)
 there_within (c ∷ columns) zero h = (c, refl)
 there_within (c ∷ columns) (suc place) h = there_within columns place (omega arith)
 
-names_at : (columns : List ColumnValue) (place : ℕ) (column : ColumnValue) → slice_get columns place ≡ Some column → slice_get (map (λ (c : ColumnValue). c.name) columns) place ≡ Some column.name
-names_at columns place column is = slice_get-map (λ (c : ColumnValue). c.name) columns place ∙ ap (option_map (λ (c : ColumnValue). c.name)) is
+names_at : (columns : List FieldValue) (place : ℕ) (column : FieldValue) → slice_get columns place ≡ Some column → slice_get (map (λ (c : FieldValue). c.name) columns) place ≡ Some column.name
+names_at columns place column is = slice_get-map (λ (c : FieldValue). c.name) columns place ∙ ap (option_map (λ (c : FieldValue). c.name)) is
 
 -- the column of a name, where names are distinct
-same_column : (columns : List ColumnValue) (place other : ℕ) (name : List ℕ) → AreDistinct (map (λ (c : ColumnValue). c.name) columns) → place < length columns → name_at columns place ≡ name
-    → (column : ColumnValue) → slice_get columns other ≡ Some column → column.name ≡ name → other ≡ place
+same_column : (columns : List FieldValue) (place other : ℕ) (name : List ℕ) → AreDistinct (map (λ (c : FieldValue). c.name) columns) → place < length columns → name_at columns place ≡ name
+    → (column : FieldValue) → slice_get columns other ≡ Some column → column.name ≡ name → other ≡ place
 same_column columns place other name apart within is column there named =
     let here = there_within columns place within in
     let same : column.name ≡ here.0.name = named ∙ sym is ∙ name_of_column columns place here.0 here.1 in
     apart other place column.name (names_at columns other column there) (names_at columns place here.0 here.1 ∙ ap Some (sym same))
 
-listed_key : (table : List ℕ) (columns : List ColumnValue) (names : List (List ℕ)) (kept : List ℕ) (place : ℕ) → AreDistinct (map (λ (c : ColumnValue). c.name) columns) → each (place_in table columns) names ≡ Ok kept → place < length columns
+listed_key : (table : List ℕ) (columns : List FieldValue) (names : List (List ℕ)) (kept : List ℕ) (place : ℕ) → AreDistinct (map (λ (c : FieldValue). c.name) columns) → each (place_in table columns) names ≡ Ok kept → place < length columns
     → has_column (name_at columns place) names ≡ true → Holds kept place
 listed_key table columns names kept place apart are within has =
     let there = stands names (name_at columns place) has in
@@ -164,7 +165,7 @@ listed_key table columns names kept place apart are within has =
     let same = same_column columns place found.0 (name_at columns place) apart within refl column.column column.stands column.named in
     (there.place, each_there (place_in table columns) names kept there.place (name_at columns place) place are there.is (found.1 ∙ ap Ok same))
 
-listed_within : (table : List ℕ) (columns : List ColumnValue) (names : List (List ℕ)) (kept : List ℕ) → each (place_in table columns) names ≡ Ok kept → AreColumnPlaces columns kept
+listed_within : (table : List ℕ) (columns : List FieldValue) (names : List (List ℕ)) (kept : List ℕ) → each (place_in table columns) names ≡ Ok kept → AreColumnPlaces columns kept
 listed_within table columns names kept are i place is =
     let from = each_at (place_in table columns) names kept are i place is in
     let column = column_found columns from.item place (place_found table columns from.item place from.gives) in

@@ -1,5 +1,5 @@
 -- Plans over shared tables, and the tables of a document.
-use Rattle.std.proofs.Common.{◌≡◌, ℕ, ◌+◌, List, [], ◌∷◌, ◌++◌, length, map, Some, true, String, Vec, Global, Ok, refl, sym, ap, subst, ◌∙◌, string_bytes}
+use Rattle.std.proofs.Common.{◌≡◌, ℕ, ◌+◌, List, [], ◌∷◌, ◌++◌, length, map, Some, true, Global, Ok, refl, sym, ap, ◌∙◌}
 use Rattle.std.specs.Prelude.{slice_get}
 use Rattle.std.specs.Str.{is_utf8}
 use Rattle.std.specs.Arc.{arc_value}
@@ -7,36 +7,21 @@ use Rattle.std.specs.declared.sync.Arc.{Arc}
 use Rattle.filter_rule.specs.Private.Accepted.{AreNarrow, ArePlansOver, IsAccepted}
 use Rattle.filter_rule.specs.Document.{StreamSaid, TableSaid, DocumentSaid}
 use Rattle.outcome.specs.Outcome.{each}
-use Rattle.filter_rule.specs.Private.PlanParts.{plan_value}
 use Rattle.filter_rule.specs.Resolving.{resolved}
 use Rattle.filter_rule.specs.PlanTable.{TableValue}
 use Rattle.filter_rule.specs.Limits.{is_within}
 use Rattle.filter_rule.specs.PlanValue.{PlanValue}
 use Rattle.filter_rule.specs.Reading.{Decided, decided_from, closed_from, plan_over}
 use Rattle.filter_rule.specs.WellFormed.{AreTables, IsPlan}
-use Rattle.filter_rule.specs.declared.decision.Decision.{Decision}
-use Rattle.filter_rule.specs.declared.plan.Schema.{Schema}
 use Rattle.filter_rule.proofs.TableLaws.{HasNames, accepted_names, accepted_within, table_counts, tables_fit}
 use Rattle.filter_rule.proofs.DecidedLaws.{decided_at}
 use Rattle.filter_rule.proofs.KeepingLaws.{AllFit, closed_plan}
 
 -- ---- one plan
 
-abbrev over_shared : (schema : Schema) (shard : List ℕ) (decisions : List Decision) → PlanValue
-over_shared schema shard decisions = record { keyspace = string_bytes schema.keyspace; shard = shard; tables = schema.tables.items; decisions = decisions }
-
-pub plan_shape : (schema copy : Arc Schema Global) (shard : String Global) (decisions : Vec Decision Global) → arc_value copy ≡ arc_value schema → IsPlan (plan_value schema shard decisions) → IsPlan (plan_value copy shard decisions)
-plan_shape schema copy shard decisions same is = subst (λ (s : Schema). IsPlan (over_shared s (string_bytes shard) decisions.items)) (sym same) is
-
-pub plan_made : (schema copy : Arc Schema Global) (shard : String Global) (decisions : Vec Decision Global) → arc_value copy ≡ arc_value schema → plan_value copy shard decisions ≡ plan_value schema shard decisions
-plan_made schema copy shard decisions same = ap (λ (s : Schema). over_shared s (string_bytes shard) decisions.items) same
-
 values_more : (ps : List (Arc PlanValue Global)) (p : Arc PlanValue Global) → map arc_value (ps ++ p ∷ []) ≡ map arc_value ps ++ arc_value p ∷ []
 values_more [] p = refl
 values_more (q ∷ ps) p = ap (λ r. arc_value q ∷ r) (values_more ps p)
-
-pub plans_grown : (ps grown : List (Arc PlanValue Global)) (p : Arc PlanValue Global) (front : List PlanValue) (plan : PlanValue) → map arc_value ps ≡ front → grown ≡ ps ++ p ∷ [] → arc_value p ≡ plan → map arc_value grown ≡ front ++ plan ∷ []
-plans_grown ps grown p front plan so_far more is = ap (map arc_value) more ∙ values_more ps p ∙ ap (λ x. x ++ arc_value p ∷ []) so_far ∙ ap (λ x. front ++ x ∷ []) is
 
 -- the stream that a loop has come to is one of them
 middle : {A : Type 0} (front : List A) (x : A) (xs : List A) → slice_get (front ++ x ∷ xs) (length front) ≡ Some x

@@ -9,7 +9,7 @@ use Rattle.std.proofs.lemmas.Option.{slice_get_past}
 use Rattle.std.proofs.lemmas.Slice.Eq.{bytes_eq-Decides}
 use Rattle.outcome.specs.Outcome.{◌>>=◌, each}
 use Rattle.filter_rule.specs.Faults.{Fault, no_such_column}
-use Rattle.filter_rule.specs.PlanTable.{ColumnValue}
+use Rattle.row_view.specs.FieldValue.{FieldValue}
 use Rattle.filter_rule.specs.Resolving.{place_in, type_in}
 use Rattle.filter_rule.specs.Standing.{HasNoColumn, HasUnfit}
 use Rattle.filter_rule.proofs.StepLaws.{then_ok, same_some, find_none}
@@ -65,21 +65,21 @@ none_found p xs h =
     let past : length xs ≤ position_or_len p xs = grind (arith, nat_tests) in
     find_at p xs ∙ slice_get_past xs (position_or_len p xs) past
 
-not_named : (name : List ℕ) (column : ColumnValue) → is_named name column ≡ false → column.name ≢ name
+not_named : (name : List ℕ) (column : FieldValue) → is_named name column ≡ false → column.name ≢ name
 not_named name column differs same = let yes : is_named name column ≡ true = (bytes_eq-Decides column.name name).1 same in cc
 
-pub absent : (table : List ℕ) (columns : List ColumnValue) (name : List ℕ) (e : Fault) → place_in table columns name ≡ Err e → (no_such_column table name ≡ e) × HasNoColumn columns name
+pub absent : (table : List ℕ) (columns : List FieldValue) (name : List ℕ) (e : Fault) → place_in table columns name ≡ Err e → (no_such_column table name ≡ e) × HasNoColumn columns name
 absent table columns name e h =
     let none = none_from_err (position (is_named name) columns) (no_such_column table name) e h in
     (none.1, λ i column is. not_named name column (find_none (is_named name) columns i column (none_found (is_named name) columns none.0) is))
 
 -- ---- a column of an unfit type
 
-pub unfit_column : (fits : ℕ → Bool) (table : List ℕ) (columns : List ColumnValue) (name : List ℕ) (place : ℕ) → place_in table columns name ≡ Ok place → fits (type_in columns name) ≡ false → HasUnfit fits columns name
+pub unfit_column : (fits : ℕ → Bool) (table : List ℕ) (columns : List FieldValue) (name : List ℕ) (place : ℕ) → place_in table columns name ≡ Ok place → fits (type_in columns name) ≡ false → HasUnfit fits columns name
 unfit_column fits table columns name place place_is unfit =
     let is = place_found table columns name place place_is in
     let there = column_found columns name place is in
-    let type_is : type_in columns name ≡ there.column.type_number = type_in-is columns name place is ∙ ap (λ o. option_map_or (λ (c : ColumnValue). c.type_number) o 0) there.stands in
+    let type_is : type_in columns name ≡ there.column.type_number = type_in-is columns name place is ∙ ap (λ o. option_map_or (λ (c : FieldValue). c.type_number) o 0) there.stands in
     record {
       place = place;
       column = there.column;

@@ -11,7 +11,8 @@ use Rattle.filter_rule.specs.Faults.{Fault, bad_rule, key_type}
 use Rattle.filter_text.specs.FilterText.{RowsSaid, every_row, in_own_range, in_range_of, FilterMeaning, filter_of}
 use Rattle.filter_text.specs.RuleScope.{scope_of, is_for, agrees}
 use Rattle.filter_rule.specs.FirstRule.{is_match, first_match, Decides, IsByFirst}
-use Rattle.filter_rule.specs.PlanTable.{ColumnValue, TableValue}
+use Rattle.row_view.specs.FieldValue.{FieldValue}
+use Rattle.filter_rule.specs.PlanTable.{TableValue}
 use Rattle.filter_rule.specs.PlanValue.{kept_under_rule}
 use Rattle.filter_rule.specs.Reading.{rule_over, decide_in_turn, undecided, decisions_of, Decided, decided_by, decided_from, closed_from}
 use Rattle.filter_rule.specs.Resolving.{all_places, name_at, lists_key, is_vindex_type, place_in, type_in, vindex_place, vindex_type, unfit_key, refuse_type, own_vindex_type, resolved}
@@ -192,7 +193,7 @@ one_not true c h k l = l h
 one_not false c h k l = k refl
 
 -- a key column that isn't listed
-not_listed : (names : List (List ℕ)) (columns : List ColumnValue) (key : List ℕ) → lists_key names columns key ≡ false → (i : ℕ) × (place : ℕ) × (slice_get key i ≡ Some place) × (has_column (name_at columns place) names ≡ false)
+not_listed : (names : List (List ℕ)) (columns : List FieldValue) (key : List ℕ) → lists_key names columns key ≡ false → (i : ℕ) × (place : ℕ) × (slice_get key i ≡ Some place) × (has_column (name_at columns place) names ≡ false)
 not_listed names columns [] h = cc
 not_listed names columns (place ∷ key) h = one_not (has_column (name_at columns place) names) (lists_key names columns key) h
     (λ here. (0, place, refl, here)) (λ later. let there = not_listed names columns key later in (suc there.0, there.1, there.2, there.3))
@@ -204,7 +205,7 @@ key_refused document s n said form names t there first columns is out =
     let place = found.1 in
     let from = each_at (place_in said.name said.columns) said.key t.key is.key found.0 place found.2 in
     let column = column_found said.columns from.item place (place_found said.name said.columns from.item place from.gives) in
-    let name : name_at t.columns place ≡ from.item = ap (λ columns. name_at columns place) is.columns ∙ ap (λ o. option_map_or (λ (c : ColumnValue). c.name) o []) column.stands ∙ column.named in
+    let name : name_at t.columns place ≡ from.item = ap (λ columns. name_at columns place) is.columns ∙ ap (λ o. option_map_or (λ (c : FieldValue). c.name) o []) column.stands ∙ column.named in
     key_left_out said form there first (names, columns, found.0, from.item, from.stands, ap (λ name. has_column name names) (sym name) ∙ found.3)
 
 list_refused : (b : Bool) (document : DocumentSaid) (s n : ℕ) (said : TableSaid) (form : RuleForm) (names : List (List ℕ)) (t : TableValue) (e : Fault) → HasTable document said → IsFirstFor document s n said.name form → form.columns ≡ Some names → IsResolved said t

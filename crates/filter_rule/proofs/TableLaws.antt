@@ -17,7 +17,8 @@ use Rattle.filter_rule.specs.Document.{StreamSaid, TableSaid, DocumentSaid, memb
 use Rattle.outcome.specs.Outcome.{each}
 use Rattle.filter_rule.specs.Faults.{Fault, key_type, limit, no_such_column}
 use Rattle.filter_rule.specs.Limits.{is_up_to, is_table_within, is_within}
-use Rattle.filter_rule.specs.PlanTable.{ColumnValue, TableValue, keeping}
+use Rattle.row_view.specs.FieldValue.{FieldValue}
+use Rattle.filter_rule.specs.PlanTable.{TableValue, keeping}
 use Rattle.filter_rule.specs.Resolving.{all_places, is_key_type, is_vindex_type, place_in, type_in, unfit_key, refuse_type, vindex_place, vindex_type, own_vindex_type, resolved}
 use Rattle.filter_rule.specs.WellFormed.{AreDistinct, AreUpTo, AreColumnPlaces, AreKept, type_at, HasColumn, IsColumnDef, IsTable, AreTables}
 use Rattle.filter_rule.proofs.DistinctNames.{distinct_apart}
@@ -27,7 +28,7 @@ use Rattle.filter_rule.proofs.StepLaws.{then_ok, read_as, same_ok, same_some, so
 -- ---- what the shape of a document says of names
 
 abbrev pub HasDistinctNames : TableSaid → Type 0
-HasDistinctNames table = AreDistinct (map (λ (c : ColumnValue). c.name) table.columns) × AreDistinct table.key
+HasDistinctNames table = AreDistinct (map (λ (c : FieldValue). c.name) table.columns) × AreDistinct table.key
 
 -- what some value says
 record IsSaid {A : Type 0} (reads : Data → Result A Fault) (said : A) : Type 0 where
@@ -54,17 +55,17 @@ table_names d t h =
     then_ok _ (member_in (codes "name") d) t h (λ a a_is h1.
     then_ok _ (name_of a) t h1 (λ name name_is h2.
     then_ok _ (vindex_said d) t h2 (λ vindex vindex_is h3.
-    then_ok _ (list_apart (λ (c : ColumnValue). c.name) column_of (codes "columns") d) t h3 (λ columns columns_is h4.
+    then_ok _ (list_apart (λ (c : FieldValue). c.name) column_of (codes "columns") d) t h3 (λ columns columns_is h4.
     then_ok _ (list_apart (λ (n : List ℕ). n) name_of (codes "key") d) t h4 (λ key key_is h5.
     subst HasDistinctNames (same_ok (record { name = name; columns = columns; key = key; vindex = vindex }) t h5) (
-      (list_apart-Ok (λ (c : ColumnValue). c.name) column_of (codes "columns") d columns columns_is).0,
+      (list_apart-Ok (λ (c : FieldValue). c.name) column_of (codes "columns") d columns columns_is).0,
       subst AreDistinct (same_names key) (list_apart-Ok (λ (n : List ℕ). n) name_of (codes "key") d key key_is).0,
     ))))))
 
 -- a table's name and its columns' are texts, and its types have 32 bits
 pub record HasTexts (table : TableSaid) : Type 0 where
   pub name_text : is_utf8 table.name ≡ true
-  pub each_column : (i : ℕ) (column : ColumnValue) → slice_get table.columns i ≡ Some column → IsColumnDef column
+  pub each_column : (i : ℕ) (column : FieldValue) → slice_get table.columns i ≡ Some column → IsColumnDef column
 
 texts_of_table : (d : Data) (t : TableSaid) → table_of d ≡ Ok t → HasTexts t
 unfolding table_of
@@ -72,9 +73,9 @@ texts_of_table d t h =
     then_ok _ (member_in (codes "name") d) t h (λ a a_is h1.
     then_ok _ (name_of a) t h1 (λ name name_is h2.
     then_ok _ (vindex_said d) t h2 (λ vindex vindex_is h3.
-    then_ok _ (list_apart (λ (c : ColumnValue). c.name) column_of (codes "columns") d) t h3 (λ columns columns_is h4.
+    then_ok _ (list_apart (λ (c : FieldValue). c.name) column_of (codes "columns") d) t h3 (λ columns columns_is h4.
     then_ok _ (list_apart (λ (n : List ℕ). n) name_of (codes "key") d) t h4 (λ key key_is h5.
-    let said = (list_apart-Ok (λ (c : ColumnValue). c.name) column_of (codes "columns") d columns columns_is).1 in
+    let said = (list_apart-Ok (λ (c : FieldValue). c.name) column_of (codes "columns") d columns columns_is).1 in
     subst HasTexts (same_ok (record { name = name; columns = columns; key = key; vindex = vindex }) t h5)
     (record {
       name_text = name_text a name name_is;
@@ -159,21 +160,21 @@ table_counts d i t h is =
 
 -- ---- columns by name
 
-abbrev pub is_named : List ℕ → ColumnValue → Bool
+abbrev pub is_named : List ℕ → FieldValue → Bool
 is_named name column = bytes_eq column.name name
 
-pub place_found : (table : List ℕ) (columns : List ColumnValue) (name : List ℕ) (place : ℕ) → place_in table columns name ≡ Ok place → position (is_named name) columns ≡ Some place
+pub place_found : (table : List ℕ) (columns : List FieldValue) (name : List ℕ) (place : ℕ) → place_in table columns name ≡ Ok place → position (is_named name) columns ≡ Some place
 place_found table columns name place h = some_from_ok (position (is_named name) columns) (no_such_column table name) place h
 
 -- the column of a name, at its place
-pub record NamedColumn (columns : List ColumnValue) (name : List ℕ) (place : ℕ) : Type 0 where
-  pub column : ColumnValue
+pub record NamedColumn (columns : List FieldValue) (name : List ℕ) (place : ℕ) : Type 0 where
+  pub column : FieldValue
   pub stands : slice_get columns place ≡ Some column
   pub named : column.name ≡ name
 
-pub column_found : (columns : List ColumnValue) (name : List ℕ) (place : ℕ) → position (is_named name) columns ≡ Some place → NamedColumn columns name place
+pub column_found : (columns : List FieldValue) (name : List ℕ) (place : ℕ) → position (is_named name) columns ≡ Some place → NamedColumn columns name place
 column_found columns name place is =
-    let none : ColumnValue = record { name = []; type_number = 0 } in
+    let none : FieldValue = record { name = []; type_number = 0 } in
     let there = position-Some (is_named name) columns place none is in
     record {
       column = get_or columns place none;
@@ -185,13 +186,13 @@ same_place : (b : Bool) (found place : ℕ) → cond b (Some found) None ≡ Som
 same_place true found place h = cc
 same_place false found place h = cc
 
-pub type_in-is : (columns : List ColumnValue) (name : List ℕ) (place : ℕ) → position (is_named name) columns ≡ Some place → type_in columns name ≡ type_at columns place
+pub type_in-is : (columns : List FieldValue) (name : List ℕ) (place : ℕ) → position (is_named name) columns ≡ Some place → type_in columns name ≡ type_at columns place
 type_in-is columns name place is =
     let at : position_or_len (is_named name) columns ≡ place = same_place (ltb (position_or_len (is_named name) columns) (length columns)) (position_or_len (is_named name) columns) place is in
     let found : find (is_named name) columns ≡ slice_get columns place = find_at (is_named name) columns ∙ ap (slice_get columns) at in
-    ap (λ o. option_map_or (λ (c : ColumnValue). c.type_number) o 0) found
+    ap (λ o. option_map_or (λ (c : FieldValue). c.type_number) o 0) found
 
-pub has_column : (fits : ℕ → Bool) (table : List ℕ) (columns : List ColumnValue) (name : List ℕ) (place : ℕ) → place_in table columns name ≡ Ok place → fits (type_in columns name) ≡ true → HasColumn fits columns place
+pub has_column : (fits : ℕ → Bool) (table : List ℕ) (columns : List FieldValue) (name : List ℕ) (place : ℕ) → place_in table columns name ≡ Ok place → fits (type_in columns name) ≡ true → HasColumn fits columns place
 has_column fits table columns name place place_is fit =
     let is = place_found table columns name place place_is in
     let there = column_found columns name place is in
@@ -220,10 +221,7 @@ pub range_more : (a n : ℕ) → range_with_len a (suc n) ≡ range_with_len a n
 range_more a zero = let at : a ≡ a + 0 = omega arith in ap (λ x. x ∷ []) at
 range_more a (suc n) = let at : (a + 1) + n ≡ a + suc n = omega arith in ap (λ r. a ∷ r) (range_more (a + 1) n ∙ ap (λ x. range_with_len (a + 1) n ++ x ∷ []) at)
 
-pub range_grown : (n : ℕ) → range_with_len 0 (n + 1) ≡ range_with_len 0 n ++ n ∷ []
-range_grown n = let next : n + 1 ≡ suc n = omega arith in let at : 0 + n ≡ n = omega arith in ap (range_with_len 0) next ∙ range_more 0 n ∙ ap (λ x. range_with_len 0 n ++ x ∷ []) at
-
-pub kept_places : (columns : List ColumnValue) (key : List ℕ) → AreColumnPlaces columns key → AreKept columns key (all_places columns)
+pub kept_places : (columns : List FieldValue) (key : List ℕ) → AreColumnPlaces columns key → AreKept columns key (all_places columns)
 kept_places columns key within = record {
   places = λ i place is.
       let at = range_get 0 (length columns) i place is in
@@ -239,21 +237,21 @@ kept_places columns key within = record {
 
 -- ---- the key
 
-pub distinct_places : (table : List ℕ) (columns : List ColumnValue) (names : List (List ℕ)) (places : List ℕ) → AreDistinct names → each (place_in table columns) names ≡ Ok places → AreDistinct places
+pub distinct_places : (table : List ℕ) (columns : List FieldValue) (names : List (List ℕ)) (places : List ℕ) → AreDistinct names → each (place_in table columns) names ≡ Ok places → AreDistinct places
 distinct_places table columns names places apart is i j place a b =
     let first = each_at (place_in table columns) names places is i place a in
     let second = each_at (place_in table columns) names places is j place b in
     let here = column_found columns first.item place (place_found table columns first.item place first.gives) in
     let there = column_found columns second.item place (place_found table columns second.item place second.gives) in
     let same : here.column ≡ there.column = same_some here.column there.column (sym here.stands ∙ there.stands) in
-    let names_same : second.item ≡ first.item = sym there.named ∙ ap (λ (c : ColumnValue). c.name) (sym same) ∙ here.named in
+    let names_same : second.item ≡ first.item = sym there.named ∙ ap (λ (c : FieldValue). c.name) (sym same) ∙ here.named in
     apart i j first.item first.stands (second.stands ∙ ap Some names_same)
 
 no_refusal : (table : List ℕ) (o a : Option (List ℕ)) → refuse_type table o ≡ Ok a → o ≡ None
 no_refusal table None a h = refl
 no_refusal table (Some name) a h = cc
 
-key_fits : (table : List ℕ) (columns : List ColumnValue) (names : List (List ℕ)) (places : List ℕ) (a : Option (List ℕ)) → each (place_in table columns) names ≡ Ok places → refuse_type table (unfit_key columns names) ≡ Ok a
+key_fits : (table : List ℕ) (columns : List FieldValue) (names : List (List ℕ)) (places : List ℕ) (a : Option (List ℕ)) → each (place_in table columns) names ≡ Ok places → refuse_type table (unfit_key columns names) ≡ Ok a
     → (i place : ℕ) → slice_get places i ≡ Some place → HasColumn is_key_type columns place
 key_fits table columns names places a is fit i place there =
     let from = each_at (place_in table columns) names places is i place there in
@@ -266,14 +264,14 @@ type_kept : (b : Bool) (table name x : List ℕ) → cond b (read_as name) (Err 
 type_kept true table name x h = refl
 type_kept false table name x h = cc
 
-pub named_fits : (table : List ℕ) (columns : List ColumnValue) (name : List ℕ) (vindex : Vindex) (place : ℕ) (x : List ℕ) → place_in table columns name ≡ Ok place → vindex_type table columns name vindex ≡ Ok x → HasColumn (is_vindex_type vindex) columns place
+pub named_fits : (table : List ℕ) (columns : List FieldValue) (name : List ℕ) (vindex : Vindex) (place : ℕ) (x : List ℕ) → place_in table columns name ≡ Ok place → vindex_type table columns name vindex ≡ Ok x → HasColumn (is_vindex_type vindex) columns place
 named_fits table columns name vindex place x place_is type_is =
     has_column (is_vindex_type vindex) table columns name place place_is (type_kept (is_vindex_type vindex (type_in columns name)) table name x type_is)
 
-abbrev pub FitsVindex : List ColumnValue → Option (ℕ × Vindex) → Type 0
+abbrev pub FitsVindex : List FieldValue → Option (ℕ × Vindex) → Type 0
 FitsVindex columns vindex = IfSome vindex (λ v. HasColumn (is_vindex_type v.1) columns v.0)
 
-vindex_fits : (table : List ℕ) (columns : List ColumnValue) (said : Option (List ℕ × Vindex)) (vindex : Option (ℕ × Vindex)) (b : Option (List ℕ)) → vindex_place table columns said ≡ Ok vindex → own_vindex_type table columns said ≡ Ok b → FitsVindex columns vindex
+vindex_fits : (table : List ℕ) (columns : List FieldValue) (said : Option (List ℕ × Vindex)) (vindex : Option (ℕ × Vindex)) (b : Option (List ℕ)) → vindex_place table columns said ≡ Ok vindex → own_vindex_type table columns said ≡ Ok b → FitsVindex columns vindex
 vindex_fits table columns None vindex b h k = subst (FitsVindex columns) (same_ok None vindex h) tt
 vindex_fits table columns (Some v) vindex b h k =
     then_ok _ (place_in table columns v.0) vindex h (λ place place_is e. then_ok _ (vindex_type table columns v.0 v.1) b k (λ x x_is f.

@@ -10,7 +10,7 @@ use Rattle.serde_json.specs.Data.{Data}
 use Rattle.serde_json.specs.Find.{as_str, as_number, as_u64}
 use Rattle.filter_rule.specs.Document.{found, in_utf8, text_of, member_in, text_in, is_name, name_of, in_32_bits, type_by, type_said, pair_of, column_of}
 use Rattle.filter_rule.specs.Faults.{shape}
-use Rattle.filter_rule.specs.PlanTable.{ColumnValue}
+use Rattle.row_view.specs.FieldValue.{FieldValue}
 use Rattle.filter_rule.specs.TypeNumbers.{TypeName, type_names, type_of_name}
 use Rattle.filter_rule.specs.WellFormed.{IsColumnDef}
 use Rattle.filter_rule.proofs.StepLaws.{then_ok, read_as, same_ok, same_some, some_from_ok}
@@ -91,7 +91,7 @@ type_bits : (d : Data) (n : ℕ) → type_said d ≡ Ok n → n < 2 ^ 32
 unfolding type_said
 type_bits d n h = below n (type_bits_by (as_str d) d n h)
 
-pub column_def : (d : Data) (c : ColumnValue) → column_of d ≡ Ok c → IsColumnDef c
+pub column_def : (d : Data) (c : FieldValue) → column_of d ≡ Ok c → IsColumnDef c
 unfolding column_of
 column_def d c h =
     then_ok _ (pair_of d) c h (λ p p_is h1. then_ok _ (name_of p.0) c h1 (λ name name_is h2. then_ok _ (type_said p.1) c h2 (λ number number_is h3.

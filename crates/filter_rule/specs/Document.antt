@@ -9,7 +9,7 @@ use Rattle.vindex.specs.KeyspaceId.{vindex_of_name}
 use Rattle.vindex.specs.declared.vindexes.Vindex.{Vindex}
 use Rattle.outcome.specs.Outcome.{◌>>=◌, each}
 use Rattle.filter_rule.specs.Faults.{Fault, shape}
-use Rattle.filter_rule.specs.PlanTable.{ColumnValue}
+use Rattle.row_view.specs.FieldValue.{FieldValue}
 use Rattle.filter_rule.specs.TypeNumbers.{type_of_name}
 
 -- a rule's `match` and `filter`, as texts
@@ -25,7 +25,7 @@ pub record StreamSaid : Type 0 where
 -- a table with the names of its key and vindex columns
 pub record TableSaid : Type 0 where
   pub name : List ℕ
-  pub columns : List ColumnValue
+  pub columns : List FieldValue
   pub key : List (List ℕ)
   pub vindex : Option (List ℕ × Vindex)
 
@@ -109,7 +109,7 @@ unfoldable pub type_said : Data → Result ℕ Fault
 type_said d = type_by (as_str d) d
 
 -- a column as a pair of its name and its type
-unfoldable pub column_of : Data → Result ColumnValue Fault
+unfoldable pub column_of : Data → Result FieldValue Fault
 column_of d = do
   p ← pair_of d
   name ← name_of p.0

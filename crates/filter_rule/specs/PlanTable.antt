@@ -3,15 +3,12 @@
 -- columns that the target keeps of it, in the order in which it keeps them.
 use Rattle.std.specs.Prelude.{ℕ, List, [], Option, slice_get}
 use Rattle.std.specs.Option.{option_map_or}
+use Rattle.row_view.specs.FieldValue.{FieldValue}
 use Rattle.vindex.specs.declared.vindexes.Vindex.{Vindex}
-
-pub record ColumnValue : Type 0 where
-  pub name : List ℕ
-  pub type_number : ℕ
 
 pub record TableValue : Type 0 where
   pub name : List ℕ
-  pub columns : List ColumnValue
+  pub columns : List FieldValue
   pub key : List ℕ
   pub vindex : Option (ℕ × Vindex)
   pub kept : List ℕ

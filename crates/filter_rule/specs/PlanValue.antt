@@ -6,7 +6,8 @@ use Rattle.std.specs.Str.{bytes_eq}
 use Rattle.vindex.specs.Bounds.{Bounds, in_range}
 use Rattle.vindex.specs.KeyspaceId.{id_of}
 use Rattle.vindex.specs.declared.faults.VindexFault.{VindexFault}
-use Rattle.filter_rule.specs.PlanTable.{ColumnValue, TableValue}
+use Rattle.row_view.specs.FieldValue.{FieldValue}
+use Rattle.filter_rule.specs.PlanTable.{TableValue}
 use Rattle.filter_rule.specs.declared.decision.Decision.{Decision}
 use Rattle.filter_rule.specs.declared.decision.Decision.TheVariants.{NoRule, EveryRow, InRange}
 
@@ -26,7 +27,7 @@ abbrev pub table_name : PlanValue → ℕ → List ℕ
 table_name plan t = option_map_or (λ table. table.name) (slice_get plan.tables t) []
 
 -- the columns of a table, by its number
-abbrev pub columns_of : PlanValue → ℕ → List ColumnValue
+abbrev pub columns_of : PlanValue → ℕ → List FieldValue
 columns_of plan t = option_map_or (λ table. table.columns) (slice_get plan.tables t) []
 
 -- the places of a table's key columns, by its number

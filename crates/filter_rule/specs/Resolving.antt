@@ -9,7 +9,8 @@ use Rattle.filter_text.specs.ColumnList.{has_column}
 use Rattle.filter_rule.specs.Document.{TableSaid}
 use Rattle.outcome.specs.Outcome.{◌>>=◌, each}
 use Rattle.filter_rule.specs.Faults.{Fault, no_such_column, key_type}
-use Rattle.filter_rule.specs.PlanTable.{ColumnValue, TableValue}
+use Rattle.row_view.specs.FieldValue.{FieldValue}
+use Rattle.filter_rule.specs.PlanTable.{TableValue}
 use Rattle.filter_rule.specs.TypeNumbers.{is_whole_number, is_short_text, is_long_text}
 
 -- a key column is a whole number or a short text
@@ -24,26 +25,26 @@ is_vindex_type Binary n = is_key_type n || is_long_text n
 is_vindex_type BinaryMd5 n = is_key_type n || is_long_text n
 
 -- the places of all columns, in their order
-abbrev pub all_places : List ColumnValue → List ℕ
+abbrev pub all_places : List FieldValue → List ℕ
 all_places columns = range_with_len 0 (length columns)
 
 -- the name of the column at a place
-abbrev pub name_at : List ColumnValue → ℕ → List ℕ
+abbrev pub name_at : List FieldValue → ℕ → List ℕ
 name_at columns place = option_map_or (λ column. column.name) (slice_get columns place) []
 
 -- each column of a key is among those of these names
-abbrev pub lists_key : List (List ℕ) → List ColumnValue → List ℕ → Bool
+abbrev pub lists_key : List (List ℕ) → List FieldValue → List ℕ → Bool
 lists_key names columns key = list_all (λ place. has_column (name_at columns place) names) key
 
 -- the place of a table's column of a name
-abbrev pub place_in : List ℕ → List ColumnValue → List ℕ → Result ℕ Fault
+abbrev pub place_in : List ℕ → List FieldValue → List ℕ → Result ℕ Fault
 place_in table columns name = ok_or (position (λ c. bytes_eq c.name name) columns) (no_such_column table name)
 
-abbrev pub type_in : List ColumnValue → List ℕ → ℕ
+abbrev pub type_in : List FieldValue → List ℕ → ℕ
 type_in columns name = option_map_or (λ c. c.type_number) (find (λ c. bytes_eq c.name name) columns) 0
 
 -- a name of a key's columns whose type can't be in a key
-abbrev pub unfit_key : List ColumnValue → List (List ℕ) → Option (List ℕ)
+abbrev pub unfit_key : List FieldValue → List (List ℕ) → Option (List ℕ)
 unfit_key columns names = find (λ name. not (is_key_type (type_in columns name))) names
 
 abbrev pub refuse_type : List ℕ → Option (List ℕ) → Result (Option (List ℕ)) Fault
@@ -51,15 +52,15 @@ refuse_type table None = Ok None
 refuse_type table (Some name) = Err (key_type table name)
 
 -- a vindex at its column's place
-abbrev pub vindex_place : List ℕ → List ColumnValue → Option (List ℕ × Vindex) → Result (Option (ℕ × Vindex)) Fault
+abbrev pub vindex_place : List ℕ → List FieldValue → Option (List ℕ × Vindex) → Result (Option (ℕ × Vindex)) Fault
 vindex_place table columns None = Ok None
 vindex_place table columns (Some v) = place_in table columns v.0 >>= λ place. Ok (Some (place, v.1))
 
 -- a column that a vindex can take, by its name
-abbrev pub vindex_type : List ℕ → List ColumnValue → List ℕ → Vindex → Result (List ℕ) Fault
+abbrev pub vindex_type : List ℕ → List FieldValue → List ℕ → Vindex → Result (List ℕ) Fault
 vindex_type table columns name vindex = if is_vindex_type vindex (type_in columns name) then Ok name else Err (key_type table name)
 
-abbrev pub own_vindex_type : List ℕ → List ColumnValue → Option (List ℕ × Vindex) → Result (Option (List ℕ)) Fault
+abbrev pub own_vindex_type : List ℕ → List FieldValue → Option (List ℕ × Vindex) → Result (Option (List ℕ)) Fault
 own_vindex_type table columns None = Ok None
 own_vindex_type table columns (Some v) = vindex_type table columns v.0 v.1 >>= λ name. Ok (Some name)
 

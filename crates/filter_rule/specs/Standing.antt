@@ -8,7 +8,8 @@ use Rattle.filter_text.specs.FilterText.{in_own_range, in_range_of}
 use Rattle.filter_rule.specs.Document.{RuleSaid, StreamSaid, TableSaid, DocumentSaid, document_of}
 use Rattle.filter_rule.specs.Faults.{Fault, json, shape, limit, no_such_column, key_type, bad_rule, columns_differ}
 use Rattle.filter_rule.specs.FirstRule.{first_match, document_in}
-use Rattle.filter_rule.specs.PlanTable.{ColumnValue, TableValue}
+use Rattle.row_view.specs.FieldValue.{FieldValue}
+use Rattle.filter_rule.specs.PlanTable.{TableValue}
 use Rattle.filter_rule.specs.Reading.{IsNoJson, json_of}
 use Rattle.filter_rule.specs.Resolving.{is_key_type, is_vindex_type, resolved}
 use Rattle.filter_rule.specs.Rules.{RuleForm, form_of, kept_by}
@@ -22,13 +23,13 @@ abbrev pub IsInKey : TableSaid → List ℕ → Type 0
 IsInKey table column = (i : ℕ) × (slice_get table.key i ≡ Some column)
 
 -- no column has the name
-abbrev pub HasNoColumn : List ColumnValue → List ℕ → Type 0
-HasNoColumn columns name = (i : ℕ) (column : ColumnValue) → slice_get columns i ≡ Some column → column.name ≢ name
+abbrev pub HasNoColumn : List FieldValue → List ℕ → Type 0
+HasNoColumn columns name = (i : ℕ) (column : FieldValue) → slice_get columns i ≡ Some column → column.name ≢ name
 
 -- a column has the name, and a type that doesn't fit
-pub record HasUnfit (fits : ℕ → Bool) (columns : List ColumnValue) (name : List ℕ) : Type 0 where
+pub record HasUnfit (fits : ℕ → Bool) (columns : List FieldValue) (name : List ℕ) : Type 0 where
   pub place : ℕ
-  pub column : ColumnValue
+  pub column : FieldValue
   pub stands : slice_get columns place ≡ Some column
   pub named : column.name ≡ name
   pub unfit : fits column.type_number ≡ false

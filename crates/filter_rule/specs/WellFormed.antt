@@ -2,7 +2,8 @@
 use Rattle.std.specs.Prelude.{◌≡◌, ℕ, ◌<◌, ◌≤◌, ◌^◌, List, Some, length, map, slice_get, IfSome, IsTrue, Bool}
 use Rattle.std.specs.Option.{option_map_or}
 use Rattle.std.specs.Str.{is_utf8}
-use Rattle.filter_rule.specs.PlanTable.{ColumnValue, TableValue}
+use Rattle.row_view.specs.FieldValue.{FieldValue}
+use Rattle.filter_rule.specs.PlanTable.{TableValue}
 use Rattle.filter_rule.specs.PlanValue.{PlanValue, decision_at}
 use Rattle.filter_rule.specs.Resolving.{is_key_type, is_vindex_type, all_places}
 use Rattle.filter_rule.specs.declared.decision.Decision.{Decision}
@@ -17,20 +18,20 @@ abbrev pub AreUpTo : {A : Type 0} → ℕ → List A → Type 0
 AreUpTo most xs = (1 ≤ length xs) × (length xs ≤ most)
 
 -- the type of the column at a place
-abbrev pub type_at : List ColumnValue → ℕ → ℕ
+abbrev pub type_at : List FieldValue → ℕ → ℕ
 type_at columns place = option_map_or (λ column. column.type_number) (slice_get columns place) 0
 
 -- each place is that of a column
-abbrev pub AreColumnPlaces : List ColumnValue → List ℕ → Type 0
+abbrev pub AreColumnPlaces : List FieldValue → List ℕ → Type 0
 AreColumnPlaces columns places = (i place : ℕ) → slice_get places i ≡ Some place → place < length columns
 
 -- a column of a type that fits stands at the place
-pub record HasColumn (fits : ℕ → Bool) (columns : List ColumnValue) (place : ℕ) : Type 0 where
+pub record HasColumn (fits : ℕ → Bool) (columns : List FieldValue) (place : ℕ) : Type 0 where
   pub within : place < length columns
   pub fit : IsTrue (fits (type_at columns place))
 
 -- a column's name is a text, and the number of its type has 32 bits
-pub record IsColumnDef (column : ColumnValue) : Type 0 where
+pub record IsColumnDef (column : FieldValue) : Type 0 where
   pub name_text : IsTrue (is_utf8 column.name)
   pub type_bits : column.type_number < 2 ^ 32
 
@@ -39,7 +40,7 @@ abbrev pub Holds : {A : Type 0} → List A → A → Type 0
 Holds xs x = (i : ℕ) × (slice_get xs i ≡ Some x)
 
 -- columns that may be kept of a table: they are its own, none of them twice, and each key column is one
-pub record AreKept (columns : List ColumnValue) (key kept : List ℕ) : Type 0 where
+pub record AreKept (columns : List FieldValue) (key kept : List ℕ) : Type 0 where
   pub places : AreColumnPlaces columns kept
   pub apart : AreDistinct kept
   pub key_kept : (i place : ℕ) → slice_get key i ≡ Some place → Holds kept place
@@ -49,7 +50,7 @@ pub record AreKept (columns : List ColumnValue) (key kept : List ℕ) : Type 0 w
 pub record IsTable (table : TableValue) : Type 0 where
   pub name_text : IsTrue (is_utf8 table.name)
   pub column_count : AreUpTo 256 table.columns
-  pub each_column : (i : ℕ) (column : ColumnValue) → slice_get table.columns i ≡ Some column → IsColumnDef column
+  pub each_column : (i : ℕ) (column : FieldValue) → slice_get table.columns i ≡ Some column → IsColumnDef column
   pub column_names : AreDistinct (map (λ column. column.name) table.columns)
   pub key_count : AreUpTo 8 table.key
   pub key_places : AreDistinct table.key

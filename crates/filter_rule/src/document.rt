@@ -93,9 +93,9 @@ pub(crate) struct ColumnText<'v> {
 }
 
 impl<'v> Model for ColumnText<'v> {
-    ghost use Rattle.filter_rule.specs.PlanTable.{ColumnValue};
+    ghost use Rattle.row_view.specs.FieldValue.{FieldValue};
 
-    ghost Value = { ColumnValue };
+    ghost Value = { FieldValue };
 
     ghost view = { λ c. record { name = c.name; type_number = c.type_number } };
 }

@@ -4,7 +4,8 @@ ghost use Rattle.std.specs.Prelude.{◌≡◌, ℕ, List, None, Ok, find, positi
 ghost use Rattle.std.specs.Str.{bytes_eq};
 ghost use Rattle.outcome.specs.Outcome.{each};
 ghost use Rattle.filter_rule.specs.Faults.{GivesOrFails, no_such_column, key_type, Fault};
-ghost use Rattle.filter_rule.specs.PlanTable.{ColumnValue, TableValue};
+ghost use Rattle.row_view.specs.FieldValue.{FieldValue};
+ghost use Rattle.filter_rule.specs.PlanTable.{TableValue};
 ghost use Rattle.filter_rule.specs.Resolving.{is_key_type, is_vindex_type, place_in, type_in, unfit_key, refuse_type, vindex_place, vindex_type, own_vindex_type, resolved};
 
 use crate::document::{ColumnText, TableText};
@@ -142,7 +143,7 @@ fn places_of(
 
 /// Copies of columns.
 fn copied(alloc: Global, columns: &[ColumnText<'_>]) -> Result<Vec<ColumnDef>, PlanFault>
-    ensures { GivesOrFails {Y = List ColumnValue} (λ v. v.items) result (Ok columns.now) }
+    ensures { GivesOrFails {Y = List FieldValue} (λ v. v.items) result (Ok columns.now) }
 {
     let mut copies = Vec::new(alloc);
     for column in columns {

@@ -1,7 +1,8 @@
 //! The tables of a workflow.
 
 ghost use Rattle.std.specs.Prelude.{◌≡◌, ◌↔◌, ◌≤◌, length, IfOk, IsTrue};
-ghost use Rattle.filter_rule.specs.PlanTable.{ColumnValue, TableValue, keeping};
+ghost use Rattle.row_view.specs.FieldValue.{FieldValue};
+ghost use Rattle.filter_rule.specs.PlanTable.{TableValue, keeping};
 
 use crate::places::Places;
 use crate::same::{Same, all_same};
@@ -18,9 +19,9 @@ pub struct ColumnDef {
 
 impl Model for ColumnDef {
     ghost use Rattle.std.specs.String.{string_bytes};
-    ghost use Rattle.filter_rule.specs.PlanTable.{ColumnValue};
+    ghost use Rattle.row_view.specs.FieldValue.{FieldValue};
 
-    ghost Value = { ColumnValue };
+    ghost Value = { FieldValue };
 
     ghost view = { λ c. record { name = string_bytes c.name; type_number = c.type_number } };
 }

@@ -1,15 +1,11 @@
 -- Cutting the columns of a list off the front of a text.
 use Rattle.std.proofs.Common.{◌≡◌, inl, inr, ℕ, ◌<◌, List, [], ◌∷◌, ◌++◌, length, Bool, true, false, cond, Option, Some, None, option_map, option_and_then, refl, sym, ap, subst, ◌∙◌, codes, append_assoc, arith}
 use Rattle.std.specs.Prelude.{◌==◌, ◌||◌, IsUtf8, IsSome, unwrap_or}
-use Rattle.std.specs.Borrow.{Bor}
-use Rattle.std.specs.Str.{bytes_eq}
-use Rattle.filter_text.specs.ColumnList.{column_of, last_column, with_column, columns_of, list_of, listed_in, IsLeft, has_column, has_twice}
+use Rattle.filter_text.specs.ColumnList.{column_of, last_column, with_column, columns_of, list_of, listed_in, IsLeft}
 use Rattle.filter_text.specs.Lexemes.{Lexeme, is_key, is_this_mark}
 use Rattle.filter_text.specs.Tokens.{tokens_of, with_token}
-use Rattle.filter_text.specs.Private.Cutting.{IsCut}
-use Rattle.filter_text.specs.Private.Listing.{IsNext, IsListBefore, list_from}
+use Rattle.filter_text.specs.Private.Listing.{IsListBefore, list_from}
 use Rattle.filter_text.specs.declared.column.Column.{Column}
-use Rattle.filter_text.specs.declared.token.Token.{Token}
 use Rattle.filter_text.proofs.CutLaws.{no_bytes}
 
 abbrev pub Listed : Type 0
@@ -19,10 +15,6 @@ Listed = List (List ℕ) × List Lexeme
 
 pub none_next : (text rest : List ℕ) → tokens_of rest ≡ tokens_of text → (length rest == 0) ≡ true → unwrap_or (tokens_of text) [] ≡ []
 none_next text rest same ended = ap (λ o. unwrap_or o []) (sym same ∙ no_bytes rest ended)
-
-pub next_cut : (o p : Option (List Lexeme)) (r : Option (Token × Bor (List ℕ))) → o ≡ p → IsCut o r → IsNext p r
-next_cut o p None same h = ap (λ o. unwrap_or o []) (sym same ∙ h)
-next_cut o p (Some cut) same h = sym same ∙ h
 
 -- ---- the first column
 
@@ -115,13 +107,6 @@ pub record HasListed (text left : List ℕ) : Type 0 where
   pub so_far : list_of text ≡ option_map (behind_columns front) (list_of left)
   pub utf8 : IsUtf8 left
 
-nothing_listed : (o : Option Listed) → o ≡ option_map (behind_columns []) o
-nothing_listed None = refl
-nothing_listed (Some listed) = refl
-
-pub listed_first : (text : List ℕ) → IsUtf8 text → HasListed text text
-listed_first text utf8 = record { front = []; so_far = nothing_listed (list_of text); utf8 = utf8 }
-
 one_more : (front : List (List ℕ)) (name : List ℕ) (o : Option Listed) → option_map (behind_columns front) (option_map (with_column name) o) ≡ option_map (behind_columns (front ++ name ∷ [])) o
 one_more front name None = refl
 one_more front name (Some listed) = ap (λ columns. Some (columns, listed.1)) (sym (append_assoc front (name ∷ []) listed.0))
@@ -137,9 +122,6 @@ last_of front name (Some ts) = refl
 pub listed_last : (text left behind name : List ℕ) → HasListed text left → list_of left ≡ option_map (λ rest. last_column rest name) (tokens_of behind) → IsListBefore text behind
 listed_last text left behind name so is =
     record { columns = so.front ++ name ∷ []; is = so.so_far ∙ ap (option_map (behind_columns so.front)) is ∙ last_of so.front name (tokens_of behind) }
-
-pub listed_none : (text left : List ℕ) → HasListed text left → list_of left ≡ None → list_of text ≡ None
-listed_none text left so none = so.so_far ∙ ap (option_map (behind_columns so.front)) none
 
 -- ---- one column after another
 
@@ -203,15 +185,3 @@ more_step text column left shorter is last =
     more_left text column.behind.now column.name.now left (some_above (length column.behind.now) (length text) shorter) (more_from text column is last)
 
 -- ---- a name among columns
-
-pub has_at : (name column : List ℕ) (columns left : List (List ℕ)) → columns ≡ column ∷ left → bytes_eq column name ≡ true → has_column name columns ≡ true
-has_at name column columns left is same = ap (has_column name) is ∙ ap (λ b. b || has_column name left) same
-
-pub has_behind : (name column : List ℕ) (columns left : List (List ℕ)) → columns ≡ column ∷ left → bytes_eq column name ≡ false → has_column name columns ≡ has_column name left
-has_behind name column columns left is other = ap (has_column name) is ∙ ap (λ b. b || has_column name left) other
-
-pub twice_at : (column : List ℕ) (columns left : List (List ℕ)) → columns ≡ column ∷ left → has_column column left ≡ true → has_twice columns ≡ true
-twice_at column columns left is same = ap has_twice is ∙ ap (λ b. b || has_twice left) same
-
-pub twice_behind : (column : List ℕ) (columns left : List (List ℕ)) → columns ≡ column ∷ left → has_column column left ≡ false → has_twice columns ≡ has_twice left
-twice_behind column columns left is other = ap has_twice is ∙ ap (λ b. b || has_twice left) other

@@ -113,9 +113,6 @@ pub not_all : (text rest more : List ℕ) (t m : Lexeme) → tokens_of text ≡ 
 not_all text rest more t m is next opens =
     ap (option_and_then all_of) (is ∙ ap (with_token t) next) ∙ all_at t m false (tokens_of more) opens ∙ none_opened (tokens_of more)
 
-pub all_before : (text rest more : List ℕ) (t m : Lexeme) → tokens_of text ≡ with_token t (tokens_of rest) → tokens_of rest ≡ with_token m (tokens_of more) → opens_all t m ≡ true → IsAllBefore text more
-all_before text rest more t m is next opens = record { star = t; from = m; opens = opens; is = is ∙ ap (with_token t) next }
-
 -- ---- all columns
 
 all_rows : (t m : Lexeme) (o : Option (List Lexeme)) → opens_all t m ≡ true → option_and_then behind (with_token t (with_token m o)) ≡ option_and_then (table_rows None) o
@@ -144,9 +141,6 @@ behind_list (Some ts) h = ap (behind_select ts) h
 pub no_list : (text : List ℕ) → option_and_then all_of (tokens_of text) ≡ None → list_of text ≡ None → option_and_then behind (tokens_of text) ≡ None
 no_list text all none = behind_list (tokens_of text) all ∙ ap (option_and_then listed_rows) none
 
-pub list_read : (text : List ℕ) (r : Result Filter FilterFault) → option_and_then all_of (tokens_of text) ≡ None → Reads meaning r (option_and_then listed_rows (list_of text)) → Reads meaning r (option_and_then behind (tokens_of text))
-list_read text r all h = subst (λ (o : Option FilterMeaning). Reads meaning r o) (sym (behind_list (tokens_of text) all)) h
-
 long_list : (columns : List (List ℕ)) (o : Option (List Lexeme)) → IfSome o (λ ts. 10 < length ts) → option_and_then listed_rows (option_map (λ ts. (columns, ts)) o) ≡ None
 long_list columns None h = refl
 long_list columns (Some ts) h = twice_or (has_twice columns) (table_rows (Some columns) ts) (long_rows (Some columns) ts h) where
@@ -161,16 +155,3 @@ listed_long text rest before long = ap (option_and_then listed_rows) before.is �
 pub record IsListed (text : List ℕ) (ts : List Lexeme) : Type 0 where
   pub some : IsSome (list_of text)
   pub rows : option_and_then listed_rows (list_of text) ≡ cond (has_twice (listed_in text)) None (table_rows (Some (listed_in text)) ts)
-
-pub listed_at : (text rest : List ℕ) (ts : List Lexeme) → IsListBefore text rest → tokens_of rest ≡ Some ts → IsListed text ts
-listed_at text rest ts before is =
-    let list : list_of text ≡ Some (before.columns, ts) = before.is ∙ ap (option_map (λ tokens. (before.columns, tokens))) is in
-    record { some = rw list refl; rows = rw list refl }
-
-pub listed_twice : (text : List ℕ) (ts : List Lexeme) → IsListed text ts → has_twice (listed_in text) ≡ true → option_and_then listed_rows (list_of text) ≡ None
-listed_twice text ts list twice = list.rows ∙ ap (λ b. cond b None (table_rows (Some (listed_in text)) ts)) twice
-
-pub listed_read : (text : List ℕ) (ts : List Lexeme) (r : Result Filter FilterFault) → IsListed text ts → has_twice (listed_in text) ≡ false → Reads meaning r (table_rows (Some (listed_in text)) ts)
-    → Reads meaning r (option_and_then listed_rows (list_of text))
-listed_read text ts r list once h =
-    subst (λ (o : Option FilterMeaning). Reads meaning r o) (sym (list.rows ∙ ap (λ b. cond b None (table_rows (Some (listed_in text)) ts)) once)) h

@@ -33,10 +33,6 @@ trimmed_end-last_other s x some at e =
 
 -- ---- separators
 
--- what stands in front of a cut
-abbrev pub cut_behind : List ℕ → List ℕ × Option (List ℕ) → List ℕ × Option (List ℕ)
-cut_behind front rest = (front ++ rest.0, rest.1)
-
 -- the parts behind a cut: none, or those of what stands behind it
 abbrev pub parts_after : ℕ → Option (List ℕ) → List (List ℕ)
 parts_after c None = []

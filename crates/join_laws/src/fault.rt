@@ -3,6 +3,7 @@
 ghost use Rattle.std.specs.Prelude.{◌≡◌};
 
 use pk_copy::Key;
+use std::alloc::AllocError;
 use thiserror::Error;
 
 /// Why two boards aren't joined.
@@ -21,6 +22,16 @@ pub enum JoinFault {
     /// A growth was refused.
     #[error("out of memory")]
     Memory,
+}
+
+impl From<AllocError> for JoinFault {
+    ghost use Rattle.join_laws.specs.declared.fault.JoinFault.TheVariants.{Memory};
+
+    ghost from_gives = { λ _ fault. fault ≡ Memory };
+
+    fn from(_: AllocError) -> JoinFault {
+        JoinFault::Memory
+    }
 }
 
 impl JoinFault {

@@ -6,7 +6,8 @@ use borrow.Author.Tests.{eqb-true, eqb-false}
 use Rattle.std.proofs.lemmas.Bool.Decides.{nat_tests}
 use Rattle.std.proofs.lemmas.List.Recursion.{is_position_or_len}
 use Rattle.std.proofs.lemmas.Option.{slice_get_cases}
-use Rattle.filter_rule.specs.PlanTable.{ColumnValue, TableValue}
+use Rattle.row_view.specs.FieldValue.{FieldValue}
+use Rattle.filter_rule.specs.PlanTable.{TableValue}
 use Rattle.filter_rule.specs.PlanValue.{PlanValue, columns_of, key_columns_of, kept_columns_of, column_at}
 use Rattle.filter_rule.specs.WellFormed.{type_at, Holds, IsPlan}
 use Rattle.row_view.specs.Picked.{picked}
@@ -83,7 +84,7 @@ table_kept plan t table sound stands = places_kept table.key table.kept (sound.t
 
 -- ---- the key
 
-cells_kept : (columns : List ColumnValue) (kept : List ℕ) (row : RowValue) (key : List ℕ) → ((i place : ℕ) → slice_get key i ≡ Some place → Holds kept place) → map (kept_cell columns kept (picked kept row)) key ≡ map (cell_at columns row) key
+cells_kept : (columns : List FieldValue) (kept : List ℕ) (row : RowValue) (key : List ℕ) → ((i place : ℕ) → slice_get key i ≡ Some place → Holds kept place) → map (kept_cell columns kept (picked kept row)) key ≡ map (cell_at columns row) key
 cells_kept columns kept row [] holds = refl
 cells_kept columns kept row (place ∷ key) holds =
     let at = holds 0 place refl in

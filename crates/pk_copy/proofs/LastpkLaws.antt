@@ -6,7 +6,7 @@ use Rattle.std.proofs.lemmas.List.{length-map}
 use Rattle.std.proofs.lemmas.List.Elements.{recursion_from_All}
 use Rattle.vindex.specs.NumberText.{number_of_text}
 use Rattle.vindex.specs.NumberLaws.{ShortestTextsAreReadBack}
-use Rattle.filter_rule.specs.PlanTable.{ColumnValue}
+use Rattle.row_view.specs.FieldValue.{FieldValue}
 use Rattle.filter_rule.specs.PlanValue.{PlanValue, columns_of, key_columns_of, column_at}
 use Rattle.filter_rule.specs.TypeNumbers.{is_whole_number}
 use Rattle.filter_rule.specs.WellFormed.{type_at}
@@ -36,7 +36,7 @@ cons_same : {A : Type 0} (x y : A) (xs ys : List A) → x ≡ y → xs ≡ ys �
 cons_same {A} x y xs ys e f = ap (λ (z : A). z ∷ xs) e ∙ ap (λ (zs : List A). y ∷ zs) f
 
 -- parts that a row of key columns gives are given again by the row of their texts
-parts_again : ShortestTextsAreReadBack → (columns : List ColumnValue) (places : List ℕ) (row : List (Option (List ℕ))) (parts : List Part) → AllByRecursion IsPart parts
+parts_again : ShortestTextsAreReadBack → (columns : List FieldValue) (places : List ℕ) (row : List (Option (List ℕ))) (parts : List Part) → AllByRecursion IsPart parts
     → map Some parts ≡ map key_part_of (lastpk_cells columns places row) → map Some parts ≡ map key_part_of (lastpk_cells columns places (map (λ part. Some (part_text part)) parts))
 parts_again law columns places row [] is e = refl
 parts_again law columns places [] (q ∷ qs) is e = absurd cc
@@ -55,7 +55,7 @@ read_again law plan t row key parts is =
 
 -- ---- a row's cells are those of its key columns alone
 
-cells_picked : (columns : List ColumnValue) (row : List (Option (List ℕ))) (places : List ℕ) → map (cell_at columns row) places ≡ lastpk_cells columns places (map (column_at row) places)
+cells_picked : (columns : List FieldValue) (row : List (Option (List ℕ))) (places : List ℕ) → map (cell_at columns row) places ≡ lastpk_cells columns places (map (column_at row) places)
 cells_picked columns row [] = refl
 cells_picked columns row (p ∷ ps) = ap (λ (cells : List KeyCell). cell_at columns row p ∷ cells) (cells_picked columns row ps)
 
@@ -68,7 +68,7 @@ lastpks_again law plan t row key parts e = read_again law plan t (map (column_at
 
 -- ---- keys of a table
 
-cells_long : (columns : List ColumnValue) (places : List ℕ) (row : List (Option (List ℕ))) → length row ≡ length places → length (lastpk_cells columns places row) ≡ length places
+cells_long : (columns : List FieldValue) (places : List ℕ) (row : List (Option (List ℕ))) → length row ≡ length places → length (lastpk_cells columns places row) ≡ length places
 cells_long columns [] [] e = refl
 cells_long columns [] (value ∷ row) e = absurd cc
 cells_long columns (p ∷ ps) [] e = absurd cc

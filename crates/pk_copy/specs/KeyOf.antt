@@ -4,7 +4,7 @@ use Rattle.std.specs.Prelude.{◌≡◌, ℕ, List, map, Any, Bool, Option, Some
 use Rattle.std.specs.List.{list_any, filter_map}
 use Rattle.std.specs.Option.{option_map, option_and_then}
 use Rattle.vindex.specs.NumberText.{number_of_text}
-use Rattle.filter_rule.specs.PlanTable.{ColumnValue}
+use Rattle.row_view.specs.FieldValue.{FieldValue}
 use Rattle.filter_rule.specs.PlanValue.{PlanValue, columns_of, key_columns_of, column_at}
 use Rattle.filter_rule.specs.TypeNumbers.{is_whole_number}
 use Rattle.filter_rule.specs.WellFormed.{type_at}
@@ -18,7 +18,7 @@ pub record KeyCell : Type 0 where
   pub value : Option (List ℕ)
 
 -- what a row holds in the column at a place
-abbrev pub cell_at : List ColumnValue → List (Option (List ℕ)) → ℕ → KeyCell
+abbrev pub cell_at : List FieldValue → List (Option (List ℕ)) → ℕ → KeyCell
 cell_at columns row place = record { type_number = type_at columns place; value = column_at row place }
 
 -- what a row of a table holds in the key columns, in key order

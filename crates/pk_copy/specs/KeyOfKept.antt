@@ -1,6 +1,6 @@
 -- The key of a row of the columns that are kept of its table (this profile).
 use Rattle.std.specs.Prelude.{◌≡◌, ℕ, ◌<◌, ◌==◌, List, map, length, position, slice_get, unwrap_or, Some, Result}
-use Rattle.filter_rule.specs.PlanTable.{ColumnValue}
+use Rattle.row_view.specs.FieldValue.{FieldValue}
 use Rattle.filter_rule.specs.PlanValue.{PlanValue, columns_of, key_columns_of, kept_columns_of, column_at}
 use Rattle.filter_rule.specs.WellFormed.{type_at, IsPlan}
 use Rattle.row_view.specs.Picked.{picked}
@@ -14,7 +14,7 @@ unfoldable pub kept_place : List ℕ → ℕ → ℕ
 kept_place kept place = unwrap_or (position (λ column. column == place) kept) (length kept)
 
 -- what a row of kept columns holds in the column at a place of the table
-abbrev pub kept_cell : List ColumnValue → List ℕ → RowValue → ℕ → KeyCell
+abbrev pub kept_cell : List FieldValue → List ℕ → RowValue → ℕ → KeyCell
 kept_cell columns kept row place = record { type_number = type_at columns place; value = column_at row (kept_place kept place) }
 
 -- the key of a row of the kept columns of table t, or why it has none

@@ -2,7 +2,7 @@
 -- (`binlogdata.proto`, VStreamRowsResponse, lastpk).
 use Rattle.std.specs.Prelude.{◌≡◌, ℕ, ◌<◌, length, List, [], ◌∷◌, map, Option, Some, Result, Ok}
 use Rattle.vindex.specs.NumberText.{shortest_text}
-use Rattle.filter_rule.specs.PlanTable.{ColumnValue}
+use Rattle.row_view.specs.FieldValue.{FieldValue}
 use Rattle.filter_rule.specs.PlanValue.{PlanValue, columns_of, key_columns_of}
 use Rattle.filter_rule.specs.WellFormed.{type_at}
 use Rattle.pk_copy.specs.declared.fault.KeyFault.{KeyFault}
@@ -23,11 +23,11 @@ lastpk_of key = map (λ part. Some (part_text part)) key.parts
 -- ---- a row as a key
 
 -- what a column at a place of the table holds
-abbrev pub key_cell : List ColumnValue → ℕ → Option (List ℕ) → KeyCell
+abbrev pub key_cell : List FieldValue → ℕ → Option (List ℕ) → KeyCell
 key_cell columns place value = record { type_number = type_at columns place; value = value }
 
 -- what a row of just the columns at these places holds in them
-abbrev pub lastpk_cells : List ColumnValue → List ℕ → List (Option (List ℕ)) → List KeyCell
+abbrev pub lastpk_cells : List FieldValue → List ℕ → List (Option (List ℕ)) → List KeyCell
 lastpk_cells columns places [] = []
 lastpk_cells columns [] (value ∷ row) = []
 lastpk_cells columns (place ∷ places) (value ∷ row) = key_cell columns place value ∷ lastpk_cells columns places row

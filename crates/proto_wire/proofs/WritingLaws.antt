@@ -1,6 +1,5 @@
 -- What is written is read again.
-use Rattle.std.proofs.Common.{◌≡◌, ℕ, ◌+◌, ◌*◌, ◌^◌, ◌<◌, ◌≤◌, List, [], ◌∷◌, ◌++◌, length, take, None, refl, sym, ap, ◌∙◌, append_assoc, arith}
-use Rattle.std.proofs.lemmas.List.{append-nil, take_at}
+use Rattle.std.proofs.Common.{◌≡◌, ℕ, ◌+◌, ◌*◌, ◌^◌, ◌<◌, ◌≤◌, List, [], ◌∷◌, ◌++◌, length, None, refl, ap, ◌∙◌, append_assoc, arith}
 use Rattle.std.specs.List.{AllByRecursion}
 use Rattle.proto_wire.specs.Reading.{Spells}
 use Rattle.proto_wire.specs.Varint.{IsVarint, NoVarint, varint_at, shortest}
@@ -48,18 +47,8 @@ numbers_read_again numbers fits = only_reading IsVarint NoVarint varint_at varin
 
 -- ---- what a call leaves
 
-pub begins_itself : (xs : List ℕ) → Begins xs xs
-begins_itself xs = record { more = []; is = sym (append-nil xs) }
-
-pub begins_same : (old new : List ℕ) → new ≡ old → Begins old new
-begins_same old new e = record { more = []; is = e ∙ sym (append-nil old) }
-
 pub begins_with : (old new bytes : List ℕ) → new ≡ old ++ bytes → Begins old new
 begins_with old new bytes e = record { more = bytes; is = e }
 
 pub begins_behind : (a b c : List ℕ) → Begins a b → Begins b c → Begins a c
 begins_behind a b c one two = record { more = one.more ++ two.more; is = two.is ∙ ap (λ (w : List ℕ). w ++ two.more) one.is ∙ append_assoc a one.more two.more }
-
--- cut back to what stood there
-pub cut_back : (old new : List ℕ) → Begins old new → take (length old) new ≡ old
-cut_back old new b = rw b.is (take_at old b.more (length old) refl)

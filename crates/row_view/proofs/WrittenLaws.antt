@@ -1,7 +1,7 @@
 -- A row that is written is read again.
 use Rattle.std.proofs.Common.{◌≡◌, ℕ, ℤ, pos, negsuc, ◌+◌, ◌*◌, ◌/◌, ◌%◌, ◌^◌, ◌<◌, ◌≤◌, Bool, true, false, ◌&&◌, ◌==◌, eqb, ltb, List, [], ◌∷◌, ◌++◌, map, length, take, drop, Option, Some, None, Result, Ok, Err, refl, sym, ap, subst, ◌∙◌, append_assoc, arith}
 use Rattle.std.specs.List.{filter_map, AllByRecursion}
-use Rattle.std.proofs.lemmas.Bool.{eq-eqb, eqb-true, ne_eqb, le-ltb, lt-ltb}
+use Rattle.std.proofs.lemmas.Bool.{eq-eqb, eqb-true, ne_eqb, le-ltb}
 use Rattle.std.proofs.lemmas.List.Concat.{flat_map-append}
 use Rattle.std.proofs.lemmas.List.{length-append, length-map, take_at, drop_at, append-nil}
 use Rattle.proto_wire.specs.declared.fault.WireFault.{WireFault}
@@ -19,8 +19,6 @@ use Rattle.row_view.specs.Private.Kept.{IsGood}
 use Rattle.row_view.proofs.KeptLaws.{good-from_IsOk}
 use Rattle.row_view.specs.Row.{size_of_all, columns_in, columns_over, row_with, row_of_message}
 use Rattle.row_view.specs.WrittenRow.{length_of, length_number, written_lengths, written_values, packed_fields, is_plain, length_field, length_fields, written_row, IsWithinLimits, RowsAreReadAgain}
-use Rattle.row_view.specs.Private.Sizes.{AreSizes}
-use Rattle.row_view.specs.declared.written_row.RowSize.{RowSize}
 
 -- ---- lengths
 
@@ -252,10 +250,6 @@ if_ok (Err e) f h = tt
 -- a row of another number of columns has its lengths packed
 pub not_one : (columns : List (Option (List ℕ))) → (length columns ≡ 1 → ⊥) → is_plain columns ≡ false
 not_one columns many = let e : eqb (length columns) 1 ≡ false = ne_eqb (length columns) 1 many in rw e refl
-
--- how long it would be with its lengths packed
-pub packed_size : (columns : List (Option (List ℕ))) → length (written_fields (packed_fields columns)) ≡ length (written_fields (text_field 1 (written_lengths columns))) + length (written_fields (text_field 2 (written_values columns)))
-packed_size columns = ap length (flat_map-append written_field (text_field 1 (written_lengths columns)) (text_field 2 (written_values columns))) ∙ length-append (written_fields (text_field 1 (written_lengths columns))) (written_fields (text_field 2 (written_values columns)))
 
 -- a row of one column has them packed unless that is longer than a row may be
 pub is_one : (columns : List (Option (List ℕ))) → length columns ≡ 1 → is_plain columns ≡ ltb (2 ^ 24) (length (written_fields (packed_fields columns)))

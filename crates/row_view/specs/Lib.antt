@@ -1,5 +1,6 @@
 pub mod ColumnValue
 pub mod FaultNumber
+pub mod FieldValue
 pub mod RowFields
 pub mod Row
 pub mod Picked

@@ -12,7 +12,8 @@ use mathlib.Core.List.{reverse-cons}
 use Rattle.filter_rule.specs.PlanValue.{PlanValue, table_of_name, columns_of}
 use Rattle.filter_rule.specs.WellFormed.{IsPlan}
 use Rattle.vevent.specs.Columns.{has_columns, have_columns}
-use Rattle.vevent.specs.EventValue.{ChangeValue, FieldValue, EventValue, Begin, Commit, Row, Field}
+use Rattle.row_view.specs.FieldValue.{FieldValue}
+use Rattle.vevent.specs.EventValue.{ChangeValue, EventValue, Begin, Commit, Row, Field}
 use Rattle.source_feed.specs.declared.fault.FeedFault.TheVariants.{Misplaced, ColumnCount}
 use Rattle.source_feed.specs.GroupValue.{Position, TableChangeValue, GroupValue}
 use Rattle.source_feed.specs.SourceValue.{table_in_source}

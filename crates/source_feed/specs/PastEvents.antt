@@ -5,7 +5,8 @@ use Rattle.std.specs.Str.{bytes_eq}
 use Rattle.gtid_set.specs.Text.{position_of_text}
 use Rattle.gtid_set.specs.declared.interval.Interval.{Interval}
 use Rattle.gtid_set.specs.declared.fault.GtidFault.{GtidFault}
-use Rattle.vevent.specs.EventValue.{ChangeValue, FieldValue, EventValue, Gtid, Begin, Commit, Rollback, Row, Field, Vgtid}
+use Rattle.row_view.specs.FieldValue.{FieldValue}
+use Rattle.vevent.specs.EventValue.{ChangeValue, EventValue, Gtid, Begin, Commit, Rollback, Row, Field, Vgtid}
 use Rattle.source_feed.specs.SourceValue.{SourceValue, table_in_source, own_gtid}
 use Rattle.source_feed.specs.GroupValue.{Position, TableChangeValue}
 

@@ -5,11 +5,11 @@ use Rattle.std.specs.List.{list_any, filter_map}
 use Rattle.std.specs.Option.{option_map}
 use Rattle.std.specs.Str.{bytes_eq}
 use Rattle.std.specs.Cmp.Lexicographic.{pointwise}
-use Rattle.filter_rule.specs.PlanTable.{ColumnValue}
+use Rattle.row_view.specs.FieldValue.{FieldValue}
 use Rattle.filter_rule.specs.PlanValue.{PlanValue, table_of_name, columns_of}
 use Rattle.filter_rule.specs.WellFormed.{IsPlan}
 use Rattle.vevent.specs.Columns.{has_columns}
-use Rattle.vevent.specs.EventValue.{FieldValue, EventValue, Field}
+use Rattle.vevent.specs.EventValue.{EventValue, Field}
 use Rattle.source_feed.specs.declared.fault.FeedFault.{FeedFault}
 use Rattle.source_feed.specs.declared.fault.FeedFault.TheVariants.{FieldsDiffer}
 use Rattle.source_feed.specs.GroupValue.{Position, TableChangeValue, GroupValue}
@@ -25,11 +25,11 @@ source_of plan = record { keyspace = plan.keyspace; shard = plan.shard }
 -- ---- columns
 
 -- a column of a FIELD event is one of the plan: the same name and the same type
-abbrev pub same_column : ColumnValue → FieldValue → Bool
+abbrev pub same_column : FieldValue → FieldValue → Bool
 same_column column field = bytes_eq column.name field.name && column.type_number == field.type_number
 
 -- the same columns in the same order
-abbrev pub same_columns : List ColumnValue → List FieldValue → Bool
+abbrev pub same_columns : List FieldValue → List FieldValue → Bool
 same_columns columns fields = pointwise same_column columns fields
 
 -- the columns of a table that the plan may have aren't the plan's

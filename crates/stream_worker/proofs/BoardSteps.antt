@@ -5,7 +5,6 @@ use Rattle.std.proofs.lemmas.Option.{same_Some}
 use Rattle.std.specs.Option.{option_map, option_and_then}
 use Rattle.std.specs.Arc.{arc_value}
 use Rattle.std.specs.Prelude.{IsOk, IfSome}
-use Rattle.pk_copy.specs.Marks.{Marks}
 use borrow.Author.Tests.{eqb-true, eq-eqb}
 use Rattle.pk_copy.specs.KeyOrder.{key_cmp}
 use Rattle.pk_copy.specs.KeyValue.{KeyValue}
@@ -283,13 +282,3 @@ chunk_wants old now given s c chunk is lawful h =
     (subst (λ (o : Option State). MatchOption o (Memory ≡ NoStream) (λ state. IsRefusedFor old s state (copy_rows c) Memory)) (sym h.stream) (h.allowed, refl))
 
 -- ---- a chunk
-
--- the marks that were made before are those behind the step
-pub marks_here : (old : Meaning) (now : Laid) (given s c : ℕ) (marks : Marks) → laid_of old given ≡ now → IsSome (slice_get now.board s)
-    → IfSome (slice_get old.streams s) (λ state. marks ≡ (state_after state (copy_rows c)).marks) → IsSomeAnd (slice_get now.board s) (λ state. marks ≡ (state_after state (copy_rows c)).marks)
-marks_here old now given s c marks is there h =
-    by (slice_get now.board s) there (subst (λ (laid : Laid). IfSome (slice_get laid.board s) (λ state. marks ≡ (state_after state (copy_rows c)).marks)) is h)
-  where
-    by : (o : Option State) → IsSome o → IfSome o (λ state. marks ≡ (state_after state (copy_rows c)).marks) → IsSomeAnd o (λ state. marks ≡ (state_after state (copy_rows c)).marks)
-    by None some h = absurd (true≢false (sym some))
-    by (Some state) some h = h

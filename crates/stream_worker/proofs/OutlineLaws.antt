@@ -173,13 +173,6 @@ copy_outlined before holding after s taken left c answer standing outline kept m
     ∙ ap (λ (o : Outlined). outlined o.list marks) one
     ∙ sym e)
 
--- a chunk that is refused leaves it
-pub refused_outlined : (before holding after : Knows) (s : ℕ) (taken left : Laid) (event : Event) (refusal : Refusal) (standing : Standing) (outline : Outlined) → IsBoardPut holding left after
-    → IsBoardStep taken s event (Err refusal) left → IsBoardTaken before taken holding → before.streams ≡ s ∷ [] → option_map standing_of (state_seen before s) ≡ Some standing
-    → option_map outline_of (state_seen before s) ≡ Some outline → option_map outline_of (state_seen after s) ≡ Some outline
-refused_outlined before holding after s taken left event refusal standing outline put step h own numbers is =
-    put_outline before holding after s taken left event (Err refusal) standing outline outline put step h own numbers is (λ state here one there. one)
-
 -- ---- what an advance is built from
 
 -- the group at the place behind the applied ones, and what it leaves at the copied keys

@@ -125,18 +125,6 @@ module _ (feed : FeedValue) (seat : Seat) where
           subst (λ (s : ℕ). EndsSeatStep feed (known after) s refusal) (sym same)
           (reply-ends feed (known seat) (known after) seat.stream seat.own here.0 here.1 step whole reads was is leading refusal h)
 
--- before any step there is no receipt
-pub sits-unreceipted : (seat : Seat) → AreReceipts seat.cursor.applied seat []
-sits-unreceipted seat =
-    let one : (state : State) × (seat_state seat ≡ Some state) = seat_has seat in
-    let stands : standing_of one.0 ≡ seat.cursor = same_Some (standing_of one.0) seat.cursor (sym (ap (option_map standing_of) one.1) ∙ seat.numbers) in
-    let applied : one.0.applied ≡ seat.cursor.applied = ap (λ (a : Standing). a.applied) stands in
-    subst (λ (o : Option State). IsSomeAnd o (λ (state : State). AreReceiptsSince seat.cursor.applied seat.stream state [])) (sym one.1)
-    (record { count = omega (arith, applied); each = λ i receipt at. none-at i receipt at })
-  where
-    none-at : {P : Type 0} (i : ℕ) (receipt : Receipt) → slice_get [] i ≡ Some receipt → P
-    none-at i receipt e = cc
-
 -- ---- a run
 
 module _ (shared : Shared) (feed : FeedValue) (before : Seat) where

@@ -1,28 +1,17 @@
 -- What a call of a seat owes and gains, from the board that it took to the one that it put back.
-use Rattle.std.proofs.Common.{◌≡◌, ◌==◌, ℕ, true, false, List, [], ◌∷◌, Option, Some, None, Result, IsSome, IsSomeAnd, MatchOption, slice_get, inl, refl, sym, ap, ◌∙◌, subst}
+use Rattle.std.proofs.Common.{◌≡◌, ◌==◌, ℕ, true, false, List, [], ◌∷◌, Option, Some, None, Result, MatchOption, slice_get, inl, refl, sym, ap, ◌∙◌, subst}
 use Rattle.std.proofs.lemmas.Bool.{or_left}
 use Rattle.std.specs.Option.{option_map, option_and_then}
 use borrow.Author.Tests.{eq-eqb}
 use Rattle.stream_core.specs.Standing.{Standing}
 use Rattle.board_laws.specs.declared.answer.Answer.{Answer}
 use Rattle.board_laws.specs.declared.refusal.Refusal.{Refusal}
-use Rattle.board_laws.specs.Meaning.{State}
 use Rattle.board_laws.specs.Lawful.{standing_of}
 use Rattle.board_laws.specs.Event.{Event}
 use Rattle.stream_worker.specs.Knowing.{Laid, Knows, names, state_seen}
-use Rattle.stream_worker.specs.Rule.{StateGoesOn, IsSaid, SaysOfBoard, IsBoardTaken, IsOwnChange, CountsSeats, MayPut, IsBoardPut}
+use Rattle.stream_worker.specs.Rule.{IsSaid, SaysOfBoard, IsBoardTaken, IsOwnChange, CountsSeats, MayPut, IsBoardPut}
 use Rattle.stream_worker.specs.Seats.{IsBoardStep, IsSeatStep}
 use Rattle.stream_worker.proofs.BoardSteps.{step_changes}
-
--- a pass that took the board holds it, and saw it
-pub taken_holds : (before holding : Knows) (taken : Laid) → IsBoardTaken before taken holding → holding.holds ≡ true
-taken_holds before holding taken h = ap (λ (v : Knows). v.holds) h.view
-
-pub taken_seen : (before holding : Knows) (taken : Laid) → IsBoardTaken before taken holding → holding.seen ≡ Some taken
-taken_seen before holding taken h = ap (λ (v : Knows). v.seen) h.view
-
-pub taken_streams : (before holding : Knows) (taken : Laid) → IsBoardTaken before taken holding → holding.streams ≡ before.streams
-taken_streams before holding taken h = ap (λ (v : Knows). v.streams) h.view
 
 -- a change of the board that was taken may be put back
 pub may_put_change : (before holding : Knows) (taken left : Laid) → IsBoardTaken before taken holding → IsOwnChange before.streams taken left → CountsSeats before.streams taken left → MayPut holding left
@@ -47,27 +36,7 @@ own_as_seen before s taken standing own says numbers = by before.seen says numbe
     by None said e = cc
     by (Some seen) said e = said.own s (ap (λ (l : List ℕ). names l s) own ∙ named_itself s)
 
--- behind the step its stream is there
-pub still_there : (before : Knows) (s : ℕ) (taken left : Laid) (event : Event) (result : Result Answer Refusal) (standing : Standing) → before.streams ≡ s ∷ [] → SaysOfBoard before taken
-    → option_map standing_of (state_seen before s) ≡ Some standing → IsBoardStep taken s event result left → IsSome (slice_get left.board s)
-still_there before s taken left event result standing own says numbers step = by (slice_get taken.board s) refl was
-  where
-    was : option_map standing_of (slice_get taken.board s) ≡ Some standing
-    was = ap (option_map standing_of) (own_as_seen before s taken standing own says numbers) ∙ numbers
-
-    some : (o : Option State) (state : State) → IsSomeAnd o (StateGoesOn state) → IsSome o
-    some None state h = absurd h
-    some (Some next) state h = refl
-
-    by : (o : Option State) → slice_get taken.board s ≡ o → option_map standing_of o ≡ Some standing → IsSome (slice_get left.board s)
-    by None e h = cc
-    by (Some state) e h = some (slice_get left.board s) state ((step_changes taken left s event result step).every s state e)
-
 -- ---- what the seat then is
-
-pub put_streams : (before holding after : Knows) (s : ℕ) (taken left : Laid) → before.streams ≡ s ∷ [] → IsBoardTaken before taken holding → left.given ≡ taken.given → IsBoardPut holding left after
-    → after.streams ≡ s ∷ []
-put_streams before holding after s taken left own h many put = put.same taken (taken_seen before holding taken h) many ∙ taken_streams before holding taken h ∙ own
 
 pub put_numbers : (holding after : Knows) (s : ℕ) (left : Laid) (standing : Standing) → IsBoardPut holding left after → option_map standing_of (slice_get left.board s) ≡ Some standing
     → option_map standing_of (state_seen after s) ≡ Some standing

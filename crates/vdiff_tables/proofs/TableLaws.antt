@@ -1,5 +1,5 @@
 -- Rows by rising key, table after table.
-use Rattle.std.proofs.Common.{◌≡◌, ℕ, zero, suc, ◌+◌, ◌<◌, ◌≤◌, List, [], ◌∷◌, ◌++◌, length, take, drop, cond, true, false, not, refl, sym, ap, ◌∙◌, arith, Bool, ◌⊎◌, inl, inr, Some, None, take-append-drop, append_assoc, append-nil, get_or}
+use Rattle.std.proofs.Common.{◌≡◌, ℕ, zero, suc, ◌+◌, ◌<◌, ◌≤◌, List, [], ◌∷◌, ◌++◌, length, take, drop, cond, true, false, not, refl, sym, ap, ◌∙◌, arith, Bool, ◌⊎◌, inl, inr, Some, None, take-append-drop, append_assoc, get_or}
 use Rattle.std.specs.Prelude.{◌==◌, nat_lt, position}
 use Rattle.std.specs.Option.{unwrap_or}
 use Rattle.std.specs.List.{position_or_len}
@@ -14,7 +14,6 @@ use Rattle.filter_rule.specs.PlanTable.{TableValue}
 use Rattle.pk_copy.specs.KeyOrder.{key_cmp, parts_cmp}
 use Rattle.pk_copy.specs.KeyValue.{KeyValue}
 use Rattle.target_tables.specs.Rising.{IsRising, AreAbove}
-use Rattle.std.proofs.lemmas.List.{drop_all}
 use Rattle.target_tables.proofs.Order.{each, drop_at}
 use Rattle.vdiff_core.specs.Dump.{rows_of_table}
 use Rattle.vdiff_core.specs.Report.{report_of}
@@ -154,7 +153,3 @@ reports_more tables source target t table left right done n m lt is first second
       left_from = front.1;
       right_from = front'.1;
     }
-
-pub reports_end : (tables : List TableValue) (source target : RowsValue) (t : ℕ) (left right : RowsValue) (done : List NamedReport) → length tables ≤ t → AreReportsTo tables source target t left right done → done ≡ reports_from 0 tables source target
-reports_end tables source target t left right done le so_far =
-    sym (so_far.whole ∙ ap (λ (l : List TableValue). done ++ reports_from t l left right) (drop_all t tables le) ∙ append-nil done)

@@ -16,7 +16,8 @@ use Rattle.row_view.specs.WrittenRow.{IsWithinLimits, RowsAreReadAgain}
 use Rattle.vevent.specs.declared.ignored.IgnoredEvent.TheVariants.{Ddl, Other, Heartbeat, Version, Savepoint}
 use Rattle.vevent.specs.declared.kind.EventKind.{EventKind}
 use Rattle.vevent.specs.declared.kind.EventKind.TheVariants as kind
-use Rattle.vevent.specs.EventValue.{ChangeValue, FieldValue, ShardGtidValue, EventValue, Gtid, Begin, Commit, Rollback, Row, Field, Vgtid, Ignored}
+use Rattle.row_view.specs.FieldValue.{FieldValue}
+use Rattle.vevent.specs.EventValue.{ChangeValue, ShardGtidValue, EventValue, Gtid, Begin, Commit, Rollback, Row, Field, Vgtid, Ignored}
 use Rattle.vevent.specs.Kind.{kind_of}
 use Rattle.vevent.specs.Fault.{first_in, in_plain, in_event, event_wire_fault, row_changes, repeats_a_row, repeats_a_message, are_entry_texts, are_texts, is_other_field, is_partial, in_change, change_fault, first_row_fault}
 use Rattle.vevent.specs.Message.{image_of, change_of, column_field_of, shard_gtid_of, event_of}

@@ -16,7 +16,7 @@ use Rattle.proto_wire.specs.Parts.{bytes_in, part_in, count_in, last_of, first_o
 use Rattle.proto_wire.specs.Writing.{written_field, written_fields, text_field, message_field, FieldsAreReadAgain}
 use Rattle.row_view.specs.Row.{row_of_message}
 use Rattle.row_view.specs.WrittenRow.{written_row, IsWithinLimits, RowsAreReadAgain}
-use Rattle.vevent.specs.EventValue.{FieldValue}
+use Rattle.row_view.specs.FieldValue.{FieldValue}
 use Rattle.vevent.specs.Fault.{first_in, wire_fault_by}
 use Rattle.vevent.specs.Message.{image_of, column_field_of}
 use Rattle.vevent.specs.Judging.{HasNoFault}

@@ -10,7 +10,7 @@ use Rattle.proto_wire.specs.Parts.{text, parts, single, is_repeated}
 use Rattle.row_view.specs.declared.fault.RowFault.{RowFault}
 use Rattle.row_view.specs.Row.{row_of_message}
 use Rattle.vevent.specs.declared.fault.EventFault.{EventFault}
-use Rattle.vevent.specs.EventValue.{FieldValue}
+use Rattle.row_view.specs.FieldValue.{FieldValue}
 use Rattle.vevent.specs.Fault.{first_in, wire_fault_by}
 use Rattle.vevent.specs.Judging.{Conditions, value_by}
 use Rattle.vevent.specs.Message.{image_of, column_field_of}

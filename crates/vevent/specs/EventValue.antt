@@ -1,17 +1,13 @@
 -- What an event says, without where it lies in memory: texts are their bytes, a row is the list of
 -- its columns, NULL as nothing (`binlogdata.proto`, VEvent).
 use Rattle.std.specs.Prelude.{ℕ, List, Option}
+use Rattle.row_view.specs.FieldValue.{FieldValue}
 use Rattle.vevent.specs.declared.ignored.IgnoredEvent.{IgnoredEvent}
 
 -- the row before a change and the row after it, where there is one
 pub record ChangeValue : Type 0 where
   pub before : Option (List (Option (List ℕ)))
   pub after : Option (List (Option (List ℕ)))
-
--- a column's name and the number of its type
-pub record FieldValue : Type 0 where
-  pub name : List ℕ
-  pub type_number : ℕ
 
 -- the position of one shard
 pub record ShardGtidValue : Type 0 where

@@ -6,7 +6,8 @@ use Rattle.std.specs.Result.{result_unwrap_or}
 use Rattle.row_view.specs.Row.{row_of_message}
 use Rattle.vevent.specs.declared.kind.EventKind.{EventKind}
 use Rattle.vevent.specs.declared.kind.EventKind.TheVariants as kind
-use Rattle.vevent.specs.EventValue.{ChangeValue, FieldValue, ShardGtidValue, EventValue, Gtid, Begin, Commit, Rollback, Row, Field, Vgtid, Ignored}
+use Rattle.row_view.specs.FieldValue.{FieldValue}
+use Rattle.vevent.specs.EventValue.{ChangeValue, ShardGtidValue, EventValue, Gtid, Begin, Commit, Rollback, Row, Field, Vgtid, Ignored}
 use Rattle.proto_wire.specs.Parts.{text, scalar, parts, single, embedded}
 
 -- the columns of a row; where an event is accepted, each of its rows has them

@@ -8,7 +8,8 @@ use Rattle.proto_wire.specs.Writing.{written_fields, number_field, text_field, m
 use Rattle.row_view.specs.WrittenRow.{written_row, IsWithinLimits}
 use Rattle.vevent.specs.declared.ignored.IgnoredEvent.{IgnoredEvent}
 use Rattle.vevent.specs.declared.ignored.IgnoredEvent.TheVariants.{Ddl, Other, Heartbeat, Version, Savepoint}
-use Rattle.vevent.specs.EventValue.{ChangeValue, FieldValue, ShardGtidValue, EventValue, Gtid, Begin, Commit, Rollback, Row, Field, Vgtid, Ignored}
+use Rattle.row_view.specs.FieldValue.{FieldValue}
+use Rattle.vevent.specs.EventValue.{ChangeValue, ShardGtidValue, EventValue, Gtid, Begin, Commit, Rollback, Row, Field, Vgtid, Ignored}
 use Rattle.vevent.specs.Event.{event_at}
 
 -- ---- messages

@@ -75,7 +75,7 @@ impl<'b> Model for ColumnFields<'b> {
     ghost use Rattle.std.specs.Prelude.{◌≡◌, true, List, map};
     ghost use Rattle.std.specs.List.{list_all};
     ghost use Rattle.std.specs.Str.{is_utf8};
-    ghost use Rattle.vevent.specs.EventValue.{FieldValue};
+    ghost use Rattle.row_view.specs.FieldValue.{FieldValue};
     ghost use Rattle.proto_wire.specs.Parts.{text};
     ghost use Rattle.vevent.specs.Message.{column_field_of};
 

@@ -17,7 +17,7 @@ use Rattle.stream_worker.specs.declared.run_refusal.RunRefusal.TheVariants.{Feed
 use Rattle.board_laws.specs.Meaning.{Meaning}
 use Rattle.apply_core.specs.Shown.{all_rows}
 use Rattle.checkpoint_laws.specs.Written.{checkpoint_of}
-use Rattle.vrepl_main.specs.Followed.{FollowedValue, IsAtFeedsEnds, IsFollowed, IsNotFollowed, IsTakenUp}
+use Rattle.vrepl_main.specs.Followed.{FollowedValue, IsAtFeedsEnds, IsFollowed, IsTakenUp}
 use Rattle.vrepl_main.specs.OnlyFollowed.{IsMovedOn, IsOnlyFollowed, IsStart, have_streams}
 use Rattle.vrepl_main.specs.Opening.{OpenedValue}
 use Rattle.vrepl_main.specs.Reasons.{Reason}
@@ -63,14 +63,6 @@ refused_run plans feeds WrongPlan fed ends = absurd ends
 refused_run plans feeds (Unsound stream fault) fed ends = (fed, ends)
 refused_run plans feeds (OwnedByOther stream key owner) fed ends = (fed, ends)
 refused_run plans feeds Memory fed ends = (fed, ends)
-
--- a run that is refused from where it was taken up
-pub not_followed : (given : OpenedValue) (checkpoint : Option (List ℕ)) (plan : PlanValue) (refusal : RunRefusal) → slice_get given.plans 0 ≡ Some plan → IsTakenUp given checkpoint → AreFed given.plans given.feeds
-    → EndsRun given.feeds refusal → IsNotFollowed given checkpoint plan refusal
-not_followed given checkpoint plan refusal first up fed ends = record {
-  taken_up = up;
-  refused = record { first = first; refused = refused_run given.plans given.feeds refusal fed ends };
-}
 
 -- the checkpoint of a board on which these streams have moved on
 pub only_followed_by : (reading : Result OpenedValue Reason) (given : OpenedValue) (only : List ℕ) (checkpoint : Option (List ℕ)) (asked : Bool) (followed : FollowedValue) (board : Meaning)

@@ -1,19 +1,18 @@
 -- What is written of a table, before the texts of its stream are known.
-use Rattle.std.specs.Prelude.{ℕ, List, map, option_map, slice_get}
+use Rattle.std.specs.Prelude.{ℕ, List, map, slice_get}
 use Rattle.std.specs.List.{filter_map}
-use Rattle.filter_rule.specs.PlanTable.{ColumnValue}
+use Rattle.row_view.specs.FieldValue.{FieldValue}
 use Rattle.filter_rule.specs.PlanValue.{PlanValue, table_name}
 use Rattle.pk_copy.specs.Marks.{MarkValue, Marks, mark_of}
 use Rattle.source_feed.specs.Image.{ImageRows}
 use Rattle.vevent.specs.CheckpointPart.{TablePartValue, mark_number}
 use Rattle.vevent.specs.ColumnView.{field_value}
-use Rattle.vevent.specs.EventValue.{FieldValue}
-use Rattle.checkpoint_laws.specs.Written.{field_of, fields_of_table, key_fields_of, number_of_mark, last_row_of, saved_rows_of_table, numbers_below}
+use Rattle.checkpoint_laws.specs.Written.{fields_of_table, key_fields_of, number_of_mark, last_row_of, saved_rows_of_table, numbers_below}
 use Rattle.checkpoint_core.specs.declared.texts.TableText.{TableText}
 
 -- the columns at places, as an answer names them
-abbrev pub fields_at : List ColumnValue → List ℕ → List FieldValue
-fields_at columns places = filter_map (λ place. option_map field_of (slice_get columns place)) places
+abbrev pub fields_at : List FieldValue → List ℕ → List FieldValue
+fields_at columns places = filter_map (slice_get columns) places
 
 -- the part of a table by its mark, the rows of its stream and the text of the position
 abbrev pub part_of_table : PlanValue → ℕ → MarkValue → ImageRows → List ℕ → TablePartValue
