@@ -1,10 +1,12 @@
 //! The bytes of a row.
 
-ghost use Rattle.std.specs.Prelude.{◌≡◌, ◌↔◌, IsTrue, IsOk, Ok};
+ghost use Rattle.std.specs.Prelude.{◌≡◌, ◌<◌, ◌↔◌, IsTrue, IsOk, Ok, Some, length, slice_get};
+ghost use Rattle.row_view.specs.ColumnValue.{column_value};
 ghost use Rattle.row_view.specs.Picked.{picked, ArePlaces};
 ghost use Rattle.row_view.specs.Row.{columns_in, row_of_message};
 ghost use Rattle.row_view.specs.Private.Kept.{IsGood};
 
+use crate::column::Column;
 use crate::columns::Columns;
 use crate::fault::RowFault;
 use crate::found::{VALUES, found_in};
@@ -73,6 +75,19 @@ impl<'b> RowBytes<'b> {
         ensures { result ≡ self.now }
     {
         Columns::new(self.message, last_text(self.message, VALUES))
+    }
+
+    /// Column `i` of the row: NULL where its length is negative, else its value. Looks for the values once
+    /// more and decodes the lengths up to its own; takes no memory. `i` is the place of a column.
+    pub fn column(&self, i: usize) -> Column<'b>
+        requires { i < length self.now }
+        ensures { slice_get self.now i ≡ Some (column_value result) }
+    {
+        let mut columns = self.columns();
+        for _ in 0..i {
+            columns.next();
+        }
+        columns.next().unwrap()
     }
 
     /// The bytes of the same row again. Takes no memory.
