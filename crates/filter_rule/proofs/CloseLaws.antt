@@ -1,14 +1,27 @@
 -- Tables that are closed one after another, as far as a loop has come.
-use Rattle.std.proofs.Common.{◌≡◌, ℕ, ◌+◌, ◌<◌, ◌≤◌, List, [], ◌∷◌, ◌++◌, length, take, drop, get_or, Result, Ok, Err, refl, sym, ap, ◌∙◌}
+use Rattle.std.proofs.Common.{◌≡◌, ℕ, ◌+◌, ◌<◌, ◌≤◌, List, [], ◌∷◌, ◌++◌, length, take, drop, get_or, Option, Some, None, Result, Ok, Err, refl, sym, ap, ◌∙◌}
 use Rattle.std.specs.Prelude.{slice_set}
+use Rattle.std.specs.Option.{option_or}
 use Rattle.outcome.specs.Outcome.{◌>>=◌}
 use Rattle.filter_rule.specs.Faults.{Fault}
 use Rattle.filter_rule.specs.PlanTable.{TableValue, keeping}
-use Rattle.filter_rule.specs.Reading.{Decided, first_kept, agreed, closed_from}
+use Rattle.filter_rule.specs.Reading.{Decided, kept_in, first_kept, agreed, closed_from}
 use Rattle.filter_rule.proofs.DecideLaws.{take_set, drop_set, take_all, drop_all}
 use Rattle.filter_rule.proofs.EachLaws.{with_front, front_more, append_none, drop_at}
 
 -- ---- the first stream with a rule
+
+-- what the streams from a place on keep first
+pub first_turn : (t : ℕ) (streams : List Decided) (i : ℕ) (s : Decided) (whole : Option (List ℕ)) → i < length streams → s ≡ get_or streams i s → kept_in t s ≡ None → first_kept t (drop i streams) ≡ whole → first_kept t (drop (i + 1) streams) ≡ whole
+first_turn t streams i s whole within item none so_far =
+    sym (ap (first_kept t) (drop_at streams i s within ∙ ap (λ x. x ∷ drop (i + 1) streams) (sym item)) ∙ ap (λ o. option_or o (first_kept t (drop (i + 1) streams))) none) ∙ so_far
+
+pub first_here : (t : ℕ) (streams : List Decided) (i : ℕ) (s : Decided) (kept : List ℕ) (whole : Option (List ℕ)) → i < length streams → s ≡ get_or streams i s → kept_in t s ≡ Some kept → first_kept t (drop i streams) ≡ whole → Some kept ≡ whole
+first_here t streams i s kept whole within item here so_far =
+    sym (ap (first_kept t) (drop_at streams i s within ∙ ap (λ x. x ∷ drop (i + 1) streams) (sym item)) ∙ ap (λ o. option_or o (first_kept t (drop (i + 1) streams))) here) ∙ so_far
+
+pub first_end : (t : ℕ) (streams : List Decided) (i : ℕ) (whole : Option (List ℕ)) → length streams ≤ i → first_kept t (drop i streams) ≡ whole → None ≡ whole
+first_end t streams i whole past so_far = sym (ap (first_kept t) (drop_all streams i past)) ∙ so_far
 
 -- ---- one table after another
 

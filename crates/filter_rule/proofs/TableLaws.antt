@@ -221,6 +221,9 @@ pub range_more : (a n : ℕ) → range_with_len a (suc n) ≡ range_with_len a n
 range_more a zero = let at : a ≡ a + 0 = omega arith in ap (λ x. x ∷ []) at
 range_more a (suc n) = let at : (a + 1) + n ≡ a + suc n = omega arith in ap (λ r. a ∷ r) (range_more (a + 1) n ∙ ap (λ x. range_with_len (a + 1) n ++ x ∷ []) at)
 
+pub range_grown : (n : ℕ) → range_with_len 0 (n + 1) ≡ range_with_len 0 n ++ n ∷ []
+range_grown n = let next : n + 1 ≡ suc n = omega arith in let at : 0 + n ≡ n = omega arith in ap (range_with_len 0) next ∙ range_more 0 n ∙ ap (λ x. range_with_len 0 n ++ x ∷ []) at
+
 pub kept_places : (columns : List FieldValue) (key : List ℕ) → AreColumnPlaces columns key → AreKept columns key (all_places columns)
 kept_places columns key within = record {
   places = λ i place is.
