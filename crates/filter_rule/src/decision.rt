@@ -6,7 +6,7 @@ ghost use Rattle.filter_rule.specs.Private.Accepted.{IsWithin};
 
 use crate::places::Places;
 use crate::same::Same;
-use row_view::RowView;
+use row_view::RowBytes;
 use vindex::{KeyRange, Vindex, VindexFault};
 
 /// Which rows of one table pass one stream's filter, and which of their columns are kept: the answer of
@@ -44,8 +44,8 @@ impl Decision {
         }
     }
 
-    /// Whether a row passes.
-    pub(crate) fn keeps(&self, row: &RowView<'_>) -> Result<bool, VindexFault>
+    /// Whether a row passes. No column behind the one that the rule names is looked at.
+    pub(crate) fn keeps(&self, row: &RowBytes<'_>) -> Result<bool, VindexFault>
         requires { IsWithin (length row.now) self.now }
         ensures { result ≡ kept_under self.now row.now }
     {

@@ -11,7 +11,7 @@ ghost use Rattle.filter_rule.specs.PlanValue.{PlanValue, columns_of, key_columns
 use crate::decision::Decision;
 use crate::same::{all_same, begins_with};
 use crate::table::{ColumnDef, Table};
-use row_view::RowView;
+use row_view::RowBytes;
 use std::marker::Model;
 use std::sync::Arc;
 use vindex::VindexFault;
@@ -126,9 +126,9 @@ impl Plan {
     /// Whether a row of table `t` passes the stream's filter: the answer of the first rule that matches
     /// the table, and no where none does. A rule by a key range asks for the id of its column's value,
     /// also where the range is whole: `NullValue` for NULL and `NotANumber` where a number from 0 to
-    /// 2^64 - 1 is due. Takes no memory. That `t` is a table of the plan and that the row has as many
-    /// columns as the table is the caller's.
-    pub fn passes(&self, t: u8, row: &RowView<'_>) -> Result<bool, VindexFault>
+    /// 2^64 - 1 is due. Of the row's columns it decodes none behind that one, and takes no memory. That `t`
+    /// is a table of the plan and that the row has as many columns as the table is the caller's.
+    pub fn passes(&self, t: u8, row: &RowBytes<'_>) -> Result<bool, VindexFault>
         requires table { t < length self.now.tables }
         requires columns { length row.now ≡ length (columns_of self.now t) }
         ensures value { result ≡ passes_of self.now t row.now }

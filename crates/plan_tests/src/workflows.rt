@@ -293,7 +293,7 @@ fn answer_of(plan: &Plan, row: &RowView<'_>) -> Option<u8> {
     if plan.tables().is_empty() || row.len() != plan.columns(0).len() {
         return None;
     }
-    match plan.passes(0, row) {
+    match plan.passes(0, &row.bytes()) {
         Ok(passes) => Some(u8::from(passes)),
         Err(fault) => Some(fault.number()),
     }

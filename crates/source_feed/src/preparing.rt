@@ -67,7 +67,7 @@ impl Place<'_> {
         requires columns { length row.now ≡ length (columns_of self.now.plan.now self.now.table) }
         ensures { Gives (λ passes. passes) result (passes_in self.now.plan.now self.now.group self.now.table row.now) }
     {
-        match self.plan.passes(self.table, row) {
+        match self.plan.passes(self.table, &row.bytes()) {
             Ok(passes) => Ok(passes),
             Err(fault) => Err(self.refused(fault.number())),
         }
