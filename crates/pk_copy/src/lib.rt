@@ -31,6 +31,6 @@ pub use laws::{
 pub use lent::LentKey;
 pub use mark::Mark;
 pub use part::KeyPart;
-pub use reading::key_of;
+pub use reading::{key_of, key_of_bytes};
 pub use view::KeyView;
 pub use written_key::lastpk_of;

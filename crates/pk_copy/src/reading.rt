@@ -13,7 +13,7 @@ use crate::part::KeyPart;
 use crate::view::KeyView;
 use arrayvec::ArrayVec;
 use filter_rule::{ColumnDef, Plan, is_whole_number};
-use row_view::{Column, RowView};
+use row_view::{Column, RowBytes, RowView};
 use vindex::number_of;
 
 /// The key of a row of table `t`: the table's number and the values of its key columns in key order,
@@ -22,6 +22,24 @@ use vindex::number_of;
 /// to 2^64 - 1. Takes no memory. That `t` is a table of the plan and that the row has as many columns as
 /// that table is the caller's.
 pub fn key_of<'b>(plan: &Plan, t: u8, row: &RowView<'b>) -> Result<KeyView<'b>, KeyFault>
+    requires table { t < length plan.now.tables }
+    requires columns { length row.now ≡ length (columns_of plan.now t) }
+    ensures value { result ≡ key_of plan.now t row.now }
+    // It is answered exactly where each key column gives a part, and it has these parts.
+    ensures key { (key : KeyValue) → (result ≡ Ok key) ↔ IsKeyOf t (key_cells plan.now t row.now) key }
+
+    // Each refusal comes exactly where this stands in the row.
+    ensures null { (result ≡ Err KeyFault.NullKey) ↔ HoldsNull (key_cells plan.now t row.now) }
+    ensures bad { let cells = key_cells plan.now t row.now in
+        (result ≡ Err KeyFault.BadKey) ↔ ((¬ HoldsNull cells) × LacksPart cells) }
+{
+    key_of_bytes(plan, t, &row.bytes())
+}
+
+/// The key of a row of table `t`, as `key_of` answers it, of the row's bytes: for each key column those up
+/// to it are decoded, and no view is made. Takes no memory. That `t` is a table of the plan and that the
+/// row has as many columns as that table is the caller's.
+pub fn key_of_bytes<'b>(plan: &Plan, t: u8, row: &RowBytes<'b>) -> Result<KeyView<'b>, KeyFault>
     requires table { t < length plan.now.tables }
     requires columns { length row.now ≡ length (columns_of plan.now t) }
     ensures value { result ≡ key_of plan.now t row.now }
@@ -42,7 +60,7 @@ fn key_at<'b>(
     t: u8,
     columns: &[ColumnDef],
     places: &[u8],
-    row: &RowView<'b>,
+    row: &RowBytes<'b>,
 ) -> Result<KeyView<'b>, KeyFault>
     requires few { length places.now ≤ 8 }
     requires places { AreColumnPlaces columns.now places.now }
@@ -71,7 +89,11 @@ fn key_at<'b>(
 }
 
 /// The part that the column at a place gives the key.
-fn part_at<'b>(columns: &[ColumnDef], row: &RowView<'b>, place: u8) -> Result<KeyPart<'b>, KeyFault>
+fn part_at<'b>(
+    columns: &[ColumnDef],
+    row: &RowBytes<'b>,
+    place: u8,
+) -> Result<KeyPart<'b>, KeyFault>
     requires place { place < length columns.now }
     requires width { length row.now ≡ length columns.now }
     ensures part { let cell = cell_at columns.now row.now place in
