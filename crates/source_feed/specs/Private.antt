@@ -7,4 +7,5 @@ pub mod BlockEnd
 pub mod ReaderState
 pub mod TouchesBehind
 pub mod LeftRows
+pub mod RowCounts
 pub mod ImageEntries

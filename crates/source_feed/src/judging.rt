@@ -21,7 +21,7 @@ impl Place<'_> {
         ensures { result_err result ≡ result_err (touches_before self.now.plan.now self.now.group self.now.table row.entry) }
     {
         if let Some(row) = row {
-            self.key_view(&row.view())?;
+            self.key_view(&row)?;
         }
         Ok(())
     }
@@ -33,9 +33,8 @@ impl Place<'_> {
         ensures { result_err result ≡ result_err (touches_after self.now.plan.now self.now.group self.now.table row.entry) }
     {
         if let Some(row) = row {
-            let view = row.view();
-            self.key_view(&view)?;
-            self.passes(&view)?;
+            self.key_view(&row)?;
+            self.passes(&row)?;
         }
         Ok(())
     }

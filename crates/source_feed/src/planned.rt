@@ -5,6 +5,7 @@ ghost use Rattle.std.specs.Arc.{arc_value};
 ghost use Rattle.std.specs.List.{filter_map};
 ghost use Rattle.source_feed.specs.declared.fault.FeedFault.TheVariants.{Memory};
 ghost use Rattle.source_feed.specs.Planned.{planned_change, planned_group};
+ghost use Rattle.source_feed.specs.Private.RowCounts.{rows_in_change};
 
 use crate::changes::Changes;
 use crate::fault::FeedFault;
@@ -53,6 +54,13 @@ impl<'h> PlannedChange<'h> {
         ensures { result ≡ self.now.after }
     {
         self.rows.after_bytes()
+    }
+
+    /// How many rows the change has. Reads no row.
+    pub(crate) fn row_count(&self) -> usize
+        ensures { result ≡ rows_in_change self.now }
+    {
+        usize::from(self.rows.has_before()) + usize::from(self.rows.has_after())
     }
 }
 

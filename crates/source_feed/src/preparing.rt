@@ -1,20 +1,21 @@
 //! The touches of a group.
 
-ghost use Rattle.std.specs.Prelude.{◌≡◌, ◌<◌, ℕ, IsTrue, length, Some, slice_get};
+ghost use Rattle.std.specs.Prelude.{◌≡◌, ◌-◌, ◌^◌, ◌<◌, ℕ, IsTrue, length, min, Some, slice_get};
 ghost use Rattle.outcome.specs.Outcome.{Gives, GivesUnless};
 ghost use Rattle.vevent.specs.Columns.{has_columns};
 ghost use Rattle.filter_rule.specs.PlanValue.{columns_of};
 ghost use Rattle.source_feed.specs.FaultNumber.{meant_of};
 ghost use Rattle.source_feed.specs.Planned.{PlannedChangeValue, IsChangeUnder};
 ghost use Rattle.source_feed.specs.Touches.{key_in_group, passes_in, removal_of, put_of, touches_before, touches_after, touches_of_change, touches_of};
+ghost use Rattle.source_feed.specs.Private.RowCounts.{rows_in};
 ghost use Rattle.source_feed.specs.Private.TouchesBehind.{behind};
 
 use crate::fault::FeedFault;
 use crate::planned::{PlannedChange, PlannedGroup};
 use crate::touch::Touch;
 use filter_rule::Plan;
-use pk_copy::{KeyView, LentKey, key_of};
-use row_view::{RowBytes, RowView};
+use pk_copy::{KeyView, LentKey, key_of_bytes};
+use row_view::RowBytes;
 use std::alloc::Global;
 
 /// Where the rows of a change stand: what a refusal of one of them names.
@@ -38,36 +39,36 @@ impl Place<'_> {
     }
 
     /// The key of a row, to be kept.
-    fn key<'h>(&self, alloc: Global, row: &RowView<'h>) -> Result<LentKey<'h>, FeedFault>
+    fn key<'h>(&self, alloc: Global, row: &RowBytes<'h>) -> Result<LentKey<'h>, FeedFault>
         requires table { self.now.table < length self.now.plan.now.tables }
         requires columns { length row.now ≡ length (columns_of self.now.plan.now self.now.table) }
         ensures { GivesUnless meant_of (λ key. key) result (key_in_group self.now.plan.now self.now.group self.now.table row.now) }
     {
-        match key_of(self.plan, self.table, row) {
+        match key_of_bytes(self.plan, self.table, row) {
             Ok(key) => Ok(LentKey::from_view(alloc, &key)?),
             Err(fault) => Err(self.refused(fault.number())),
         }
     }
 
     /// The key of a row, lent. Takes no memory.
-    pub(crate) fn key_view<'h>(&self, row: &RowView<'h>) -> Result<KeyView<'h>, FeedFault>
+    pub(crate) fn key_view<'h>(&self, row: &RowBytes<'h>) -> Result<KeyView<'h>, FeedFault>
         requires table { self.now.table < length self.now.plan.now.tables }
         requires columns { length row.now ≡ length (columns_of self.now.plan.now self.now.table) }
         ensures { Gives (λ key. key) result (key_in_group self.now.plan.now self.now.group self.now.table row.now) }
     {
-        match key_of(self.plan, self.table, row) {
+        match key_of_bytes(self.plan, self.table, row) {
             Ok(key) => Ok(key),
             Err(fault) => Err(self.refused(fault.number())),
         }
     }
 
     /// What the filter answers of a row. Takes no memory.
-    pub(crate) fn passes(&self, row: &RowView<'_>) -> Result<bool, FeedFault>
+    pub(crate) fn passes(&self, row: &RowBytes<'_>) -> Result<bool, FeedFault>
         requires table { self.now.table < length self.now.plan.now.tables }
         requires columns { length row.now ≡ length (columns_of self.now.plan.now self.now.table) }
         ensures { Gives (λ passes. passes) result (passes_in self.now.plan.now self.now.group self.now.table row.now) }
     {
-        match self.plan.passes(self.table, &row.bytes()) {
+        match self.plan.passes(self.table, row) {
             Ok(passes) => Ok(passes),
             Err(fault) => Err(self.refused(fault.number())),
         }
@@ -79,7 +80,7 @@ impl Place<'_> {
         requires columns { length row.now ≡ length (columns_of self.now.plan.now self.now.table) }
         ensures { GivesUnless meant_of (λ touch. touch) result (removal_of self.now.plan.now self.now.group self.now.table row.now) }
     {
-        let key = self.key(alloc, &row.view())?;
+        let key = self.key(alloc, row)?;
         Ok(Touch::removal(key))
     }
 
@@ -89,9 +90,8 @@ impl Place<'_> {
         requires columns { length row ≡ length (columns_of self.now.plan.now self.now.table) }
         ensures { GivesUnless meant_of (λ touch. touch) result (put_of self.now.plan.now self.now.group self.now.table row.entry) }
     {
-        let view = row.view();
-        let key = self.key(alloc, &view)?;
-        let passes = self.passes(&view)?;
+        let key = self.key(alloc, &row)?;
+        let passes = self.passes(&row)?;
         Ok(Touch::replacement(key, row, passes))
     }
 
@@ -148,7 +148,18 @@ fn put_change<'h>(
     Ok(())
 }
 
-/// The touches of a group, in order.
+/// How many rows the changes have, as far as a number goes.
+fn count_rows(changes: &[PlannedChange<'_>]) -> usize
+    ensures { result ≡ min (rows_in changes.now) (2 ^ 64 - 1) }
+{
+    let mut rows: usize = 0;
+    for change in changes {
+        rows = rows.saturating_add(change.row_count());
+    }
+    rows
+}
+
+/// The touches of a group, in order, in a block of their size.
 pub(crate) fn touches_of<'h>(
     alloc: Global,
     plan: &Plan,
@@ -158,10 +169,9 @@ pub(crate) fn touches_of<'h>(
     ensures { GivesUnless meant_of (λ touches. touches.items) result (touches_of plan.now group.now.number group.now.changes) }
 {
     let changes = group.changes();
-    let mut touches = Vec::with_capacity(alloc, changes.len().saturating_mul(2))?;
+    let mut touches = Vec::with_capacity(alloc, count_rows(changes))?;
     for change in changes {
         put_change(alloc, plan, group.number(), change, &mut touches)?;
     }
-    touches.shrink_to_fit();
     Ok(touches)
 }
