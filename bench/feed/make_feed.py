@@ -77,4 +77,5 @@ def main():
         sys.stdout.buffer.write(group(k, rows, first, by))
 
 
-main()
+if __name__ == "__main__":
+    main()
