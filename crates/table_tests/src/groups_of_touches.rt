@@ -116,6 +116,21 @@ const BESIDE_A_FOREIGN_ROW: &[Group<u64, u32>] = &[
     },
 ];
 
+/// Stages the group, or its touches that were sorted before.
+fn stage(
+    alloc: Global,
+    tables: &mut Tables<u64, u32>,
+    group: &Group<u64, u32>,
+    sorted: bool,
+) -> Result<Staged<u64, u32>, TableFault<u64>> {
+    let touches = group.touches.to_vec(alloc)?;
+    if sorted {
+        let touched = Touched::new(alloc, touches)?;
+        return tables.stage_touched(group.stream, touched);
+    }
+    tables.stage(alloc, group.stream, touches)
+}
+
 /// Whether the group, staged and then committed, is refused as wanted, or waits for its commit; and then leaves
 /// these entries.
 fn waits(
@@ -123,8 +138,9 @@ fn waits(
     tables: &mut Tables<u64, u32>,
     before: &[(u64, u8, u32)],
     group: &Group<u64, u32>,
+    sorted: bool,
 ) -> Result<bool, AllocError> {
-    match tables.stage(alloc, group.stream, group.touches.to_vec(alloc)?) {
+    match stage(alloc, tables, group, sorted) {
         Err(TableFault::Memory) => Err(AllocError),
         Err(TableFault::OwnedByOther { key, owner }) => {
             Ok(group.refused == Some((key, owner)) && holds(tables, group.left))
@@ -137,12 +153,18 @@ fn waits(
     }
 }
 
-/// Whether the groups, each staged and then committed, follow one another as wanted.
+/// Whether the groups, each staged and then committed, follow one another as wanted, whether their touches are
+/// sorted when they are staged or before.
 fn wait(alloc: Global, groups: &[Group<u64, u32>]) -> Result<bool, AllocError> {
+    Ok(wait_by(alloc, groups, false)? && wait_by(alloc, groups, true)?)
+}
+
+/// Whether the groups, each staged in one of both ways and then committed, follow one another as wanted.
+fn wait_by(alloc: Global, groups: &[Group<u64, u32>], sorted: bool) -> Result<bool, AllocError> {
     let mut tables = Tables::new(alloc);
     let mut before: &[(u64, u8, u32)] = &[];
     for group in groups {
-        if !waits(alloc, &mut tables, before, group)? {
+        if !waits(alloc, &mut tables, before, group, sorted)? {
             return Ok(false);
         }
         before = group.left;

@@ -11,6 +11,7 @@ pub mod Sorting
 pub mod Keeping
 pub mod Judging
 pub mod Committing
+pub mod Turning
 pub mod Scanning
 pub mod Applying
 pub mod Mixing

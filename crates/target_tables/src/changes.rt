@@ -1,58 +1,16 @@
-//! Changes of rising entries, and the last touches of a group.
+//! Changes of rising entries.
 
-ghost use Rattle.std.specs.Prelude.{◌≡◌, ℕ, ◌+◌, ◌<◌, ◌≤◌, [], ◌∷◌, ◌++◌, Some, None, IfOk, length, if◌then◌else◌};
+ghost use Rattle.std.specs.Prelude.{◌≡◌, ℕ, ◌+◌, ◌<◌, ◌≤◌, [], ◌∷◌, ◌++◌, Some, None, length, if◌then◌else◌};
 ghost use Rattle.std.specs.List.{insert};
 ghost use Rattle.std.specs.Ordering.{flip_args};
 ghost use Rattle.target_tables.specs.Contents.{value_at};
-ghost use Rattle.target_tables.specs.Kept.{ends_at};
 ghost use Rattle.target_tables.specs.Pages.{entries_of, page_at, flat, room_of};
-ghost use Rattle.target_tables.specs.Rising.{IsRising, NeverFalls};
-ghost use Rattle.target_tables.specs.Touches.{last_at, change_at, is_new, new_keys, IsTouched, IsChanged};
+ghost use Rattle.target_tables.specs.Rising.{IsRising};
+ghost use Rattle.target_tables.specs.Touches.{change_at, is_new, new_keys, IsTouched, IsChanged};
 
 use crate::page::{FULL, HALF};
 use crate::pages::Pages;
 use crate::spots::{Spot, entry_at, spot_of};
-use std::alloc::{AllocError, Global};
-
-/// The last of the touches has the key.
-fn ends_at_key<K: Ord, R>(touches: &[(K, Option<R>)], key: &K) -> bool
-    ensures { result ≡ ends_at K.cmp key.now touches.now }
-{
-    if touches.is_empty() {
-        return false;
-    }
-    touches[touches.len() - 1].0.cmp(key).is_eq()
-}
-
-/// Of touches whose keys don't fall the last of each key, by falling key.
-fn last_of_each<K: Ord + Drop, R: Drop>(
-    alloc: Global,
-    mut touches: Vec<(K, Option<R>)>,
-) -> Result<Vec<(K, Option<R>)>, AllocError>
-    requires { NeverFalls K.cmp touches.items }
-    ensures falling { IfOk result (λ kept. IsRising (flip_args K.cmp) kept.items) }
-    ensures last { IfOk result (λ kept. (k : K) → change_at K.cmp kept.items k ≡ last_at K.cmp touches.items k) }
-{
-    let mut kept = Vec::with_capacity(alloc, touches.len())?;
-    while let Some(touch) = touches.pop() {
-        if !ends_at_key(&kept, &touch.0) {
-            kept.push(touch)?;
-        }
-    }
-    Ok(kept)
-}
-
-/// The last touch of each key, by falling key. Sorts the touches once.
-pub fn last_touches<K: Ord + Drop, R: Drop>(
-    alloc: Global,
-    mut touches: Vec<(K, Option<R>)>,
-) -> Result<Vec<(K, Option<R>)>, AllocError>
-    ensures falling { IfOk result (λ kept. IsRising (flip_args K.cmp) kept.items) }
-    ensures last { IfOk result (λ kept. (k : K) → change_at K.cmp kept.items k ≡ last_at K.cmp touches.items k) }
-{
-    touches.sort_by(|a, b| a.0.cmp(&b.0))?;
-    last_of_each(alloc, touches)
-}
 
 /// Puts an entry with a new key in at its place, and says in which page it stands then. A full page is split in
 /// two of 64 first, and the entry goes into the second if its key is greater than the first's last. Takes no

@@ -17,8 +17,8 @@ mod staged;
 mod survey;
 mod tables;
 mod taken;
+mod touched;
 
-pub use changes::last_touches;
 pub use common::Common;
 pub use fault::TableFault;
 pub use freed::Freed;
@@ -28,3 +28,4 @@ pub use merging::merge;
 pub use scan::Scan;
 pub use staged::Staged;
 pub use tables::Tables;
+pub use touched::{Touched, last_touches};

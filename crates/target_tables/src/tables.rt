@@ -12,7 +12,7 @@ ghost use Rattle.target_tables.specs.Common as shared;
 ghost use Rattle.target_tables.specs.Merged as marked;
 ghost use Rattle.target_tables.specs.Merged.{part_of};
 
-use crate::changes::{change_all, last_touches, put_last};
+use crate::changes::{change_all, put_last};
 use crate::common::Common;
 use crate::fault::TableFault;
 use crate::freed::Freed;
@@ -24,6 +24,7 @@ use crate::spots::{Spot, entry_at, spot_of};
 use crate::staged::Staged;
 use crate::survey::survey;
 use crate::taken::Taken;
+use crate::touched::Touched;
 use std::alloc::{AllocError, Global};
 use std::marker::Model;
 
@@ -213,7 +214,28 @@ impl<K: Ord + Drop, R: Drop> Tables<K, R> {
         ensures ready { IfOk result (IsReady K.cmp self.new) }
         ensures refused { IfErr result (IsRefusal K.cmp self.old.entries stream (last_at K.cmp touches.items)) }
     {
-        let mut changes = last_touches(alloc, touches)?;
+        let touched = Touched::new(alloc, touches)?;
+        self.stage_touched(stream, touched)
+    }
+
+    /// Stages a stream's touches that were sorted before. The same as `stage` of these touches, without the work
+    /// of sorting them. Takes all memory that `commit` will need, and leaves the entries as they are.
+    ///
+    /// Refused 71 where a touched key's last touch is a row and a row of another stream stands
+    /// there, with the least such key and that stream; 72 for want of memory.
+    pub fn stage_touched(
+        &mut self,
+        stream: u8,
+        touched: Touched<K, R>,
+    ) -> Result<Staged<K, R>, TableFault<K>>
+        ensures entries { self.new.entries ≡ self.old.entries }
+        ensures room { self.old.room ≤ self.new.room }
+        ensures stream { IfOk result (λ staged. staged.stream ≡ stream) }
+        ensures last { IfOk result (λ staged. (k : K) → change_at K.cmp staged.changes k ≡ change_at K.cmp touched k) }
+        ensures ready { IfOk result (IsReady K.cmp self.new) }
+        ensures refused { IfErr result (IsRefusal K.cmp self.old.entries stream (change_at K.cmp touched)) }
+    {
+        let mut changes = touched.changes;
         match survey(self.pages.as_slice(), stream, &changes) {
             Err(clash) => Err(TableFault::OwnedByOther {
                 key: changes.swap_remove(clash.place).0,

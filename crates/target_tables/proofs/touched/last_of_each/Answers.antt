@@ -1,7 +1,7 @@
 use Rattle.std.proofs.Common.{◌≡◌, ◌∙◌, true, false, List, Option, sym, ap, subst, rules}
 use Rattle.target_tables.specs.Kept.{ends_at}
 use Rattle.target_tables.proofs.Keeping.{Keeps, keeps_push, keeps_skip, keeps_none}
-use Rattle.target_tables.proofs.changes.last_of_each.Goals as goal
+use Rattle.target_tables.proofs.touched.last_of_each.Goals as goal
 
 pub loop-touch-preserved-in-Continue-branch-2 : goal.loop-touch-preserved-in-Continue-branch-2
 loop-touch-preserved-in-Continue-branch-2 g c =
