@@ -5,6 +5,7 @@ pub mod Values
 pub mod Placed
 pub mod Paging
 pub mod Falling
+pub mod Hinting
 pub mod Rooms
 pub mod Splitting
 pub mod Sorting

@@ -19,11 +19,6 @@ only_less Equal e = absurd (true≢false (sym e))
 only_less Greater e = absurd (true≢false (sym e))
 
 module _ {K V : Type 0} {cmp : K → K → Ordering} (o : IsTotalOrder cmp) where
-  -- one pair is in order
-  pub first_rises : (xs : List (K × V)) → IsRising cmp (take 1 xs)
-  first_rises [] = tt
-  first_rises (x ∷ xs) = (tt, tt)
-
   -- a greater key behind the last of the first n
   pub rises_more : (xs : List (K × V)) (n : ℕ) (a x : K × V) → 0 < n → n < length xs → a ≡ get_or xs (n - 1) a → x ≡ get_or xs n x → IsRising cmp (take n xs) → cmp a.0 x.0 ≡ Less → IsRising cmp (take (n + 1) xs)
   rises_more xs n a x some inside a_is x_is rising less =

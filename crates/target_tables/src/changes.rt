@@ -8,14 +8,16 @@ ghost use Rattle.target_tables.specs.Pages.{entries_of, page_at, flat, room_of};
 ghost use Rattle.target_tables.specs.Rising.{IsRising};
 ghost use Rattle.target_tables.specs.Touches.{change_at, is_new, new_keys, IsTouched, IsChanged};
 
+use crate::drift::{Drift, staged_at};
+use crate::hints::spot_by;
 use crate::page::{FULL, HALF};
 use crate::pages::Pages;
-use crate::spots::{Spot, entry_at, spot_of};
+use crate::spots::{Spot, behind, entry_at};
 
-/// Puts an entry with a new key in at its place, and says in which page it stands then. A full page is split in
+/// Puts an entry with a new key in at its place, and tells the place behind it. A full page is split in
 /// two of 64 first, and the entry goes into the second if its key is greater than the first's last. Takes no
 /// memory.
-fn put_new<K: Drop, R: Drop>(pages: &mut Pages<K, R>, spot: Spot, entry: (K, (u8, R))) -> usize
+fn put_new<K: Drop, R: Drop>(pages: &mut Pages<K, R>, spot: Spot, entry: (K, (u8, R))) -> Spot
     requires inside { 0 < length pages.old.pages → spot.page < length pages.old.pages }
     requires within { spot.place ≤ length (page_at pages.old.pages spot.page) }
     requires room { 1 ≤ room_of pages.old.pages pages.old.spares }
@@ -25,19 +27,19 @@ fn put_new<K: Drop, R: Drop>(pages: &mut Pages<K, R>, spot: Spot, entry: (K, (u8
     let Spot { page, place } = spot;
     if pages.as_slice().is_empty() {
         pages.start(entry);
-        return 0;
+        return behind(0, 0);
     }
     if pages.as_slice()[page].len() < FULL {
         pages.put_in(page, place, entry);
-        return page;
+        return behind(page, place);
     }
     pages.split(page);
     if place < HALF {
         pages.put_in(page, place, entry);
-        return page;
+        return behind(page, place);
     }
     pages.put_in(page + 1, place - HALF, entry);
-    page + 1
+    behind(page + 1, place - HALF)
 }
 
 /// Puts an entry behind all others. Takes no memory.
@@ -48,18 +50,18 @@ pub fn put_last<K: Drop, R: Drop>(pages: &mut Pages<K, R>, entry: (K, (u8, R)))
 {
     let all = pages.as_slice().len();
     if all == 0 {
-        let _page = put_new(pages, Spot { page: 0, place: 0 }, entry);
+        let _behind = put_new(pages, Spot { page: 0, place: 0 }, entry);
         return;
     }
     let page = all - 1;
     let place = pages.as_slice()[page].len();
-    let _page = put_new(pages, Spot { page, place }, entry);
+    let _behind = put_new(pages, Spot { page, place }, entry);
 }
 
 /// A change that was made.
 struct Made<K, R> {
-    /// the page of its key
-    page: usize,
+    /// where what stood at the place of its key stands now
+    now: Spot,
     /// the entry that it replaced or took away; without a row the key of a change that met no entry of its stream
     freed: Option<(K, Option<R>)>,
 }
@@ -67,7 +69,7 @@ struct Made<K, R> {
 /// Puts a stream's row at a key. Takes no memory.
 fn put<K: Ord + Drop, R: Drop>(
     pages: &mut Pages<K, R>,
-    near: usize,
+    hint: Spot,
     stream: u8,
     key: K,
     row: R,
@@ -79,16 +81,16 @@ fn put<K: Ord + Drop, R: Drop>(
     ensures room { (n : ℕ) → n + (if is_new (Some row) (value_at K.cmp (entries_of pages.old.pages) key) then 1 else 0) ≤ room_of pages.old.pages pages.old.spares
         → n ≤ room_of pages.new.pages pages.new.spares }
 {
-    match spot_of(pages.as_slice(), near, &key) {
+    match spot_by(pages.as_slice(), hint, &key) {
         Ok(spot) => {
             let (key, (_, row)) = pages.put_over(spot.page, spot.place, (key, (stream, row)));
             Made {
-                page: spot.page,
+                now: spot,
                 freed: Some((key, Some(row))),
             }
         }
         Err(spot) => Made {
-            page: put_new(pages, spot, (key, (stream, row))),
+            now: put_new(pages, spot, (key, (stream, row))),
             freed: None,
         },
     }
@@ -97,7 +99,7 @@ fn put<K: Ord + Drop, R: Drop>(
 /// Takes a stream's row at a key away. Takes no memory.
 fn take_away<K: Ord + Drop, R: Drop>(
     pages: &mut Pages<K, R>,
-    near: usize,
+    hint: Spot,
     stream: u8,
     key: K,
 ) -> Made<K, R>
@@ -106,24 +108,27 @@ fn take_away<K: Ord + Drop, R: Drop>(
     ensures values { IsChanged K.cmp (entries_of pages.old.pages) stream (key, None) (entries_of pages.new.pages) }
     ensures room { room_of pages.old.pages pages.old.spares ≤ room_of pages.new.pages pages.new.spares }
 {
-    match spot_of(pages.as_slice(), near, &key) {
+    match spot_by(pages.as_slice(), hint, &key) {
         Ok(spot) => {
             let entry = entry_at(pages.as_slice(), spot);
             let owner = entry.1.0;
             if owner == stream {
                 let (key, (_, row)) = pages.take_out(spot.page, spot.place);
                 return Made {
-                    page: spot.page,
+                    now: Spot {
+                        page: spot.page,
+                        place: spot.place.wrapping_sub(1),
+                    },
                     freed: Some((key, Some(row))),
                 };
             }
             Made {
-                page: spot.page,
+                now: spot,
                 freed: Some((key, None)),
             }
         }
         Err(spot) => Made {
-            page: spot.page,
+            now: spot,
             freed: Some((key, None)),
         },
     }
@@ -132,7 +137,7 @@ fn take_away<K: Ord + Drop, R: Drop>(
 /// Makes one change of a stream. Takes no memory.
 fn make_change<K: Ord + Drop, R: Drop>(
     pages: &mut Pages<K, R>,
-    near: usize,
+    hint: Spot,
     stream: u8,
     change: (K, Option<R>),
 ) -> Made<K, R>
@@ -145,17 +150,18 @@ fn make_change<K: Ord + Drop, R: Drop>(
 {
     let (key, row) = change;
     match row {
-        Some(row) => put(pages, near, stream, key, row),
-        None => take_away(pages, near, stream, key),
+        Some(row) => put(pages, hint, stream, key, row),
+        None => take_away(pages, hint, stream, key),
     }
 }
 
-/// A stream's changes, each at a key of its own, by rising key, each sought from the page of the one before
-/// it. Takes no memory. What they replaced and took away is handed back, in their places in the list.
+/// A stream's changes, each at a key of its own, by rising key. Each is looked for where it was
+/// staged, as far as the changes before it tell where that is now. Takes no memory. What they replaced and took away is handed back, in their places in the list.
 pub fn change_all<K: Ord + Drop, R: Drop>(
     pages: &mut Pages<K, R>,
     stream: u8,
     mut changes: Vec<(K, Option<R>)>,
+    spots: &[Spot],
 ) -> Vec<(K, Option<R>)>
     requires rising { IsRising K.cmp (entries_of pages.old.pages) }
     requires falling { IsRising (flip_args K.cmp) changes.items }
@@ -163,12 +169,14 @@ pub fn change_all<K: Ord + Drop, R: Drop>(
     ensures rising { IsRising K.cmp (entries_of pages.new.pages) }
     ensures values { IsTouched K.cmp (entries_of pages.old.pages) stream (change_at K.cmp changes.items) (entries_of pages.new.pages) }
 {
-    let mut near = 0;
+    let mut drift = Drift::new(pages.as_slice().len());
     let mut left = changes.len();
     while left > 0 {
         left -= 1;
-        let Made { page, freed } = make_change(pages, near, stream, changes.swap_remove(left));
-        near = page;
+        let staged = staged_at(spots, left);
+        let hint = drift.hint(pages.as_slice(), staged);
+        let Made { now, freed } = make_change(pages, hint, stream, changes.swap_remove(left));
+        drift.go_on(staged, now);
         if let Some(entry) = freed {
             changes.push_reserved(entry);
         }

@@ -3,8 +3,10 @@
 
 mod changes;
 mod common;
+mod drift;
 mod fault;
 mod freed;
+mod hints;
 mod laws;
 mod left;
 mod merging;

@@ -16,8 +16,32 @@ pub struct Spot {
     pub place: usize,
 }
 
+/// The place itself, whether an entry stands or would stand there.
+pub fn spot_in(found: Result<Spot, Spot>) -> Spot {
+    match found {
+        Ok(spot) => spot,
+        Err(spot) => spot,
+    }
+}
+
+/// The place behind this one in its page.
+pub fn behind(page: usize, place: usize) -> Spot {
+    Spot {
+        page,
+        place: place.wrapping_add(1),
+    }
+}
+
+/// Where a greater key may stand: behind an entry that was found, or where none was.
+pub fn next_to(found: Result<Spot, Spot>) -> Spot {
+    match found {
+        Ok(spot) => behind(spot.page, spot.place),
+        Err(spot) => spot,
+    }
+}
+
 /// The page's first key is greater than this one.
-fn is_past<K: Ord, R>(page: &Page<K, R>, key: &K) -> bool
+pub fn is_past<K: Ord, R>(page: &Page<K, R>, key: &K) -> bool
     ensures { result ≡ begins_past K.cmp key.now page.now }
 {
     match page.entries().first() {

@@ -1,5 +1,6 @@
 //! What a stream has staged.
 
+use crate::spots::Spot;
 use std::marker::Model;
 
 /// The changes of a stream's group, staged for a map: each touched key once, with its last touch.
@@ -9,6 +10,8 @@ pub struct Staged<K: Ord, R> {
     pub(crate) stream: u8,
     /// by falling key
     pub(crate) changes: Vec<(K, Option<R>)>,
+    /// where staging found each key, that of the last change first
+    pub(crate) spots: Vec<Spot>,
 }
 
 impl<K: Ord, R> Model for Staged<K, R> {

@@ -1,15 +1,17 @@
 //! What the changes of a group meet in the map, before any is made.
 
-ghost use Rattle.std.specs.Prelude.{◌≡◌, IfOk, IfErr};
+ghost use Rattle.std.specs.Prelude.{◌≡◌, ◌+◌, ◌≤◌, length, vec_len, IfOk, IfErr};
 ghost use Rattle.std.specs.List.{AllByRecursion};
+ghost use Rattle.std.specs.Vec.{vec_capacity};
 ghost use Rattle.target_tables.specs.Contents.{value_at};
 ghost use Rattle.target_tables.specs.Rising.{IsRising};
 ghost use Rattle.target_tables.specs.Kept.{verdict_of, IsFree, IsLastClash};
 ghost use Rattle.target_tables.specs.Pages.{entries_of, AreFull};
 ghost use Rattle.target_tables.specs.Touches.{new_keys};
 
+use crate::hints::spot_by;
 use crate::page::Page;
-use crate::spots::{entry_at, spot_of};
+use crate::spots::{Spot, entry_at, next_to, spot_in};
 
 /// What a change meets.
 #[derive(Clone, Copy)]
@@ -31,56 +33,73 @@ pub struct Clash {
     pub owner: u8,
 }
 
-/// What a change meets. It is sought from the page `near`, in whose place comes the page that its key falls into.
-fn judge<K: Ord, R>(
-    pages: &[Page<K, R>],
-    near: &mut usize,
-    stream: u8,
-    change: &(K, Option<R>),
-) -> Verdict
+/// What a change meets, and where.
+#[derive(Clone, Copy)]
+struct Met {
+    verdict: Verdict,
+    /// the place of its key, or the one at which it would stand
+    found: Result<Spot, Spot>,
+}
+
+/// What a change meets. The place that the hint names is looked at first.
+fn judge<K: Ord, R>(pages: &[Page<K, R>], hint: Spot, stream: u8, change: &(K, Option<R>)) -> Met
     requires rising { IsRising K.cmp (entries_of pages.now) }
     requires full { AreFull pages.now }
-    ensures { result ≡ verdict_of stream change.now.1 (value_at K.cmp (entries_of pages.now) change.now.0) }
+    ensures { result.verdict ≡ verdict_of stream change.now.1 (value_at K.cmp (entries_of pages.now) change.now.0) }
 {
+    let found = spot_by(pages, hint, &change.0);
     if change.1.is_none() {
-        return Verdict::Free;
+        return Met {
+            verdict: Verdict::Free,
+            found,
+        };
     }
-    match spot_of(pages, *near, &change.0) {
-        Err(spot) => {
-            *near = spot.page;
-            Verdict::NewKey
-        }
+    match found {
+        Err(_) => Met {
+            verdict: Verdict::NewKey,
+            found,
+        },
         Ok(spot) => {
-            *near = spot.page;
             let entry = entry_at(pages, spot);
             let owner = entry.1.0;
             if owner == stream {
-                Verdict::Free
+                Met {
+                    verdict: Verdict::Free,
+                    found,
+                }
             } else {
-                Verdict::Foreign(owner)
+                Met {
+                    verdict: Verdict::Foreign(owner),
+                    found,
+                }
             }
         }
     }
 }
 
 /// How many changes put a row at a new key, or the last change that a row of another stream is in
-/// the way of. Looks each key up once.
+/// the way of. Looks each key up once, and tells the places that it found, that of the last change first.
 pub fn survey<K: Ord, R>(
     pages: &[Page<K, R>],
     stream: u8,
     changes: &[(K, Option<R>)],
+    spots: &mut Vec<Spot>,
 ) -> Result<usize, Clash>
     requires rising { IsRising K.cmp (entries_of pages.now) }
     requires full { AreFull pages.now }
+    requires places { vec_len spots.old + length changes.now ≤ vec_capacity spots.old }
     ensures ok { IfOk result (λ count. (count ≡ new_keys K.cmp (entries_of pages.now) changes.now) × AllByRecursion (IsFree K.cmp (entries_of pages.now) stream) changes.now) }
     ensures err { IfErr result (λ clash. IsLastClash K.cmp (entries_of pages.now) stream changes.now clash.place clash.owner) }
 {
     let mut place = changes.len();
     let mut count = 0;
-    let mut near = 0;
+    let mut near = Spot { page: 0, place: 0 };
     while place > 0 {
         place -= 1;
-        match judge(pages, &mut near, stream, &changes[place]) {
+        let met = judge(pages, near, stream, &changes[place]);
+        near = next_to(met.found);
+        spots.push_reserved(spot_in(met.found));
+        match met.verdict {
             Verdict::NewKey => count += 1,
             Verdict::Foreign(owner) => return Err(Clash { place, owner }),
             Verdict::Free => {}

@@ -236,29 +236,38 @@ impl<K: Ord + Drop, R: Drop> Tables<K, R> {
         ensures refused { IfErr result (IsRefusal K.cmp self.old.entries stream (change_at K.cmp touched)) }
     {
         let mut changes = touched.changes;
-        match survey(self.pages.as_slice(), stream, &changes) {
+        let mut spots = Vec::with_capacity(*changes.allocator(), changes.len())?;
+        match survey(self.pages.as_slice(), stream, &changes, &mut spots) {
             Err(clash) => Err(TableFault::OwnedByOther {
                 key: changes.swap_remove(clash.place).0,
                 owner: clash.owner,
             }),
             Ok(count) => {
                 self.reserve(count)?;
-                Ok(Staged { stream, changes })
+                Ok(Staged {
+                    stream,
+                    changes,
+                    spots,
+                })
             }
         }
     }
 
-    /// Makes the changes that were staged, and hands on what they replaced or took away, to be dropped.
-    /// Takes no memory and always succeeds. That nothing was committed since they were staged is the
+    /// Makes the changes that were staged, and hands on what they replaced or took away, to be dropped. Each key
+    /// is looked for where staging found it, and sought where it isn't there any more. Takes no memory and always succeeds. That nothing was committed since they were staged is the
     /// caller's.
     pub fn commit(&mut self, staged: Staged<K, R>) -> Freed<K, R>
         requires { IsReady K.cmp self.old staged }
         ensures values { IsTouched K.cmp self.old.entries staged.stream (change_at K.cmp staged.changes) self.new.entries }
         ensures rising { IsRising K.cmp self.new.entries }
     {
-        let Staged { stream, changes } = staged;
-        let entries = change_all(&mut self.pages, stream, changes);
-        Freed { entries }
+        let Staged {
+            stream,
+            changes,
+            spots,
+        } = staged;
+        let entries = change_all(&mut self.pages, stream, changes, &spots);
+        Freed { entries, spots }
     }
 
     /// Makes a stream's touches: stages them and commits them. Of each key the touch that comes last

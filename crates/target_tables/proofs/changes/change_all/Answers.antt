@@ -6,8 +6,8 @@ use Rattle.target_tables.specs.Touches.{is_new, new_keys}
 use Rattle.target_tables.proofs.Committing.{Leads, leads_on, leads_to_all, new_left, new_keys-push, take_swapped, taken_apart}
 use Rattle.target_tables.proofs.changes.change_all.Goals as goal
 
-pub make_change-page-requires-clause-room : goal.make_change-page-requires-clause-room
-make_change-page-requires-clause-room g c =
+pub make_change-freed-requires-clause-room : goal.make_change-freed-requires-clause-room
+make_change-freed-requires-clause-room g c =
     let xs : List (g.row.K.Denot × Option g.row.R.Denot) = c.loop-left.changes.items in
     let n : ℕ = c.loop-left.left in
     let x : g.row.K.Denot × Option g.row.R.Denot = c.swap_remove.result in
@@ -32,7 +32,7 @@ loop-left-preserved g c =
     let parts : take n xs ≡ take (n - 1) xs ++ x ∷ [] = taken_apart xs n x some most c.swap_remove.ensures.value in
     let es : List (g.row.K.Denot × (ℕ × g.row.R.Denot)) = entries_of c.loop-left.pages.pages in
     let room : new_keys g.K.Ord.cmp es (take n xs) ≤ room_of c.loop-left.pages.pages c.loop-left.pages.spares = c.loop-left.invariant.3 in
-    let next : List (g.row.K.Denot × (ℕ × g.row.R.Denot)) = entries_of c.make_change-page.new.pages.pages in
+    let next : List (g.row.K.Denot × (ℕ × g.row.R.Denot)) = entries_of c.make_change-freed.new.pages.pages in
     let left : List (g.row.K.Denot × Option g.row.R.Denot) = take (n - 1) c.swap_remove.new.self.items in
     let same : left ≡ take (n - 1) xs = ap (λ (l : List (g.row.K.Denot × Option g.row.R.Denot)). take (n - 1) l) c.swap_remove.ensures.items ∙ take_swapped xs (n - 1) x (omega arith) in
     let apart : take n xs ≡ left ++ x ∷ [] = parts ∙ ap (λ (l : List (g.row.K.Denot × Option g.row.R.Denot)). l ++ x ∷ []) (sym same) in
@@ -40,11 +40,11 @@ loop-left-preserved g c =
     let h : Leads g.K.Ord.cmp (entries_of c.args.pages.now.pages) c.args.stream c.args.changes.items (left ++ x ∷ []) es = subst P apart c.loop-left.invariant.2 in
     let count : new_keys g.K.Ord.cmp es (take n xs) ≡ new_keys g.K.Ord.cmp next left + cond (is_new x.1 (value_at g.K.Ord.cmp es x.0)) 1 0 =
     ap (λ (l : List (g.row.K.Denot × Option g.row.R.Denot)). new_keys g.K.Ord.cmp es l) apart
-    ∙ new_left g.met.K.Ord.total c.args.stream left x es next h.falling c.make_change-page.ensures.values in (
+    ∙ new_left g.met.K.Ord.total c.args.stream left x es next h.falling c.make_change-freed.ensures.values in (
       omega arith,
-      c.make_change-page.ensures.rising,
-      leads_on g.met.K.Ord.total c.args.stream left x es next h.falling c.make_change-page.ensures.values (entries_of c.args.pages.now.pages) c.args.changes.items h,
-      c.make_change-page.ensures.room (new_keys g.K.Ord.cmp next left) (omega arith),
+      c.make_change-freed.ensures.rising,
+      leads_on g.met.K.Ord.total c.args.stream left x es next h.falling c.make_change-freed.ensures.values (entries_of c.args.pages.now.pages) c.args.changes.items h,
+      c.make_change-freed.ensures.room (new_keys g.K.Ord.cmp next left) (omega arith),
     )
 
 pub loop-left-preserved-in-Some : goal.loop-left-preserved-in-Some
@@ -58,7 +58,7 @@ loop-left-preserved-in-Some g c =
     let parts : take n xs ≡ take (n - 1) xs ++ x ∷ [] = taken_apart xs n x some most c.swap_remove.ensures.value in
     let es : List (g.row.K.Denot × (ℕ × g.row.R.Denot)) = entries_of c.loop-left.pages.pages in
     let room : new_keys g.K.Ord.cmp es (take n xs) ≤ room_of c.loop-left.pages.pages c.loop-left.pages.spares = c.loop-left.invariant.3 in
-    let next : List (g.row.K.Denot × (ℕ × g.row.R.Denot)) = entries_of c.make_change-page.new.pages.pages in
+    let next : List (g.row.K.Denot × (ℕ × g.row.R.Denot)) = entries_of c.make_change-freed.new.pages.pages in
     let left : List (g.row.K.Denot × Option g.row.R.Denot) = take (n - 1) c.push_reserved.new.self.items in
     let same : left ≡ take (n - 1) xs = ap (λ (l : List (g.row.K.Denot × Option g.row.R.Denot)). take (n - 1) l) c.push_reserved.ensures.items ∙ take-append-le (n - 1) c.swap_remove.new.self.items _ (omega arith) ∙ ap (λ (l : List (g.row.K.Denot × Option g.row.R.Denot)). take (n - 1) l) c.swap_remove.ensures.items ∙ take_swapped xs (n - 1) x (omega arith) in
     let apart : take n xs ≡ left ++ x ∷ [] = parts ∙ ap (λ (l : List (g.row.K.Denot × Option g.row.R.Denot)). l ++ x ∷ []) (sym same) in
@@ -66,11 +66,11 @@ loop-left-preserved-in-Some g c =
     let h : Leads g.K.Ord.cmp (entries_of c.args.pages.now.pages) c.args.stream c.args.changes.items (left ++ x ∷ []) es = subst P apart c.loop-left.invariant.2 in
     let count : new_keys g.K.Ord.cmp es (take n xs) ≡ new_keys g.K.Ord.cmp next left + cond (is_new x.1 (value_at g.K.Ord.cmp es x.0)) 1 0 =
     ap (λ (l : List (g.row.K.Denot × Option g.row.R.Denot)). new_keys g.K.Ord.cmp es l) apart
-    ∙ new_left g.met.K.Ord.total c.args.stream left x es next h.falling c.make_change-page.ensures.values in (
+    ∙ new_left g.met.K.Ord.total c.args.stream left x es next h.falling c.make_change-freed.ensures.values in (
       omega arith,
-      c.make_change-page.ensures.rising,
-      leads_on g.met.K.Ord.total c.args.stream left x es next h.falling c.make_change-page.ensures.values (entries_of c.args.pages.now.pages) c.args.changes.items h,
-      c.make_change-page.ensures.room (new_keys g.K.Ord.cmp next left) (omega arith),
+      c.make_change-freed.ensures.rising,
+      leads_on g.met.K.Ord.total c.args.stream left x es next h.falling c.make_change-freed.ensures.values (entries_of c.args.pages.now.pages) c.args.changes.items h,
+      c.make_change-freed.ensures.room (new_keys g.K.Ord.cmp next left) (omega arith),
     )
 
 pub returns-clause-values : goal.returns-clause-values

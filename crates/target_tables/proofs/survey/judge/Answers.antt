@@ -9,7 +9,7 @@ use Rattle.target_tables.proofs.survey.judge.Goals as goal
 pub returns-in-Err : goal.returns-in-Err
 returns-in-Err g c =
     let some : is_some c.args.change.now.1 ≡ true = c.is_none.ensures ∙ ap not c.if-is_none.false in
-    verdict_new c.args.stream c.args.change.now.1 _ some (none_here g.met.K.Ord.total (entries_of c.args.pages.now) c.args.change.now.0 (flat c.args.pages.now c.in-Err.spot.page c.in-Err.spot.place) c.requires.rising c.in-Err.ensures.gap)
+    verdict_new c.args.stream c.args.change.now.1 _ some (none_here g.met.K.Ord.total (entries_of c.args.pages.now) c.args.change.now.0 (flat c.args.pages.now c.in-Err.field-0.page c.in-Err.field-0.place) c.requires.rising c.in-Err.ensures.gap)
 
 pub returns-then-owner-stream : goal.returns-then-owner-stream
 returns-then-owner-stream g c =

@@ -14,15 +14,15 @@ returns-in-Foreign-clause-err g c =
     let P : ℕ → Type 0 = λ n. AllByRecursion (IsFree g.K.Ord.cmp (entries_of c.args.pages.now) c.args.stream) (drop n c.args.changes.now) in
     record {
       inside = inside;
-      here = clash_here g.K.Ord.cmp (entries_of c.args.pages.now) c.args.stream c.args.changes.now (c.loop-place.place - 1) c.in-Foreign.owner c.index-changes-place.result inside c.index-changes-place.is (sym c.judge.ensures ∙ c.in-Foreign.is);
-      later = subst P behind c.loop-place.invariant.2;
+      here = clash_here g.K.Ord.cmp (entries_of c.args.pages.now) c.args.stream c.args.changes.now (c.loop-place.place - 1) c.in-Foreign.owner c.index-changes-place.result inside c.index-changes-place.is (sym c.judge-met.ensures ∙ c.in-Foreign.is);
+      later = subst P behind c.loop-place.invariant.3;
     }
 
 pub returns-clause-ok : goal.returns-clause-ok
 returns-clause-ok g c =
     let P : ℕ → Type 0 = λ p. (c.loop-place.count ≡ new_keys g.K.Ord.cmp (entries_of c.args.pages.now) (drop p c.args.changes.now)) × AllByRecursion (IsFree g.K.Ord.cmp (entries_of c.args.pages.now) c.args.stream) (drop p c.args.changes.now) in
     let none : c.loop-place.place ≡ 0 = omega arith in
-    subst P none (c.loop-place.invariant.1, c.loop-place.invariant.2)
+    subst P none (c.loop-place.invariant.2, c.loop-place.invariant.3)
 
 pub loop-place-init : goal.loop-place-init
-loop-place-init g c = rw (drop-length c.args.changes.now) (omega arith, refl, tt)
+loop-place-init g c = rw (drop-length c.args.changes.now) (omega arith, omega arith, refl, tt)

@@ -1,0 +1,69 @@
+//! Where places that staging found are after changes.
+
+use crate::page::Page;
+use crate::spots::Spot;
+
+/// What is known of how places moved since a group was staged. What it tells are hints: a change looks at
+/// the key that stands there.
+#[derive(Clone, Copy)]
+pub struct Drift {
+    /// how many pages there were
+    pages: usize,
+    /// the last change's place as it was staged
+    staged: Spot,
+    /// where what stood there stands now
+    now: Spot,
+}
+
+impl Drift {
+    /// Before the first change, with so many pages.
+    pub fn new(pages: usize) -> Drift {
+        let first = Spot { page: 0, place: 0 };
+        Drift {
+            pages,
+            staged: first,
+            now: first,
+        }
+    }
+
+    /// A change that was staged at a place was made; what stood there stands at another one now.
+    pub fn go_on(&mut self, staged: Spot, now: Spot) {
+        self.staged = staged;
+        self.now = now;
+    }
+
+    /// Where a staged place may be now: as far behind the last change as it was, if it was in the same page, and
+    /// past that page's end in the next one; else in its own page, which moved as pages were put in and taken out.
+    pub fn hint<K, R>(&self, pages: &[Page<K, R>], staged: Spot) -> Spot {
+        if staged.page != self.staged.page {
+            return Spot {
+                page: staged
+                    .page
+                    .wrapping_add(pages.len())
+                    .wrapping_sub(self.pages),
+                place: staged.place,
+            };
+        }
+        let page = self.now.page;
+        let place = self
+            .now
+            .place
+            .wrapping_add(staged.place)
+            .wrapping_sub(self.staged.place);
+        match pages.get(page) {
+            Some(changed) if place > changed.len() => Spot {
+                page: page.wrapping_add(1),
+                place: place.wrapping_sub(changed.len()),
+            },
+            _ => Spot { page, place },
+        }
+    }
+}
+
+/// The place that was found for the change at `left` in a list of changes: they were found from the list's end.
+pub fn staged_at(spots: &[Spot], left: usize) -> Spot {
+    match spots.get(spots.len().wrapping_sub(left).wrapping_sub(1)) {
+        Some(spot) => *spot,
+        None => Spot { page: 0, place: 0 },
+    }
+}
