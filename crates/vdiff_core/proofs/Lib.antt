@@ -5,4 +5,6 @@ mod TableLaws
 pub mod ReportLaws
 mod TogetherLaws
 mod ReadingLaws
+mod DigitValues
+mod SpanLaws
 mod StandLaws

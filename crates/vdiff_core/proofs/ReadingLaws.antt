@@ -1,17 +1,18 @@
 -- What is read off the front of a text is what is spelled there.
-use Rattle.std.proofs.Common.{◌≡◌, ℕ, zero, suc, ◌+◌, ◌-◌, ◌*◌, ◌/◌, ◌%◌, ◌<◌, ◌≤◌, List, [], ◌∷◌, ◌++◌, length, true, false, refl, sym, ap, ◌∙◌, append_assoc, append-nil, Bool, Option, Some, None, arith, subst, map, take, get_or, Result, Err}
-use Rattle.std.specs.Prelude.{◌==◌, ◌&&◌, nat_le, IfSome, slice_index}
+use Rattle.std.proofs.Common.{◌≡◌, ℕ, zero, suc, ◌+◌, ◌-◌, ◌*◌, ◌/◌, ◌%◌, ◌<◌, ◌≤◌, List, [], ◌∷◌, ◌++◌, length, true, false, refl, sym, ap, ◌∙◌, append_assoc, append-nil, Bool, Option, Some, None, arith, subst, map, take, get_or, Result, Ok, Err}
+use Rattle.std.specs.Prelude.{◌==◌, ◌&&◌, nat_le, IfSome, slice_index, IsOk}
 use Rattle.std.specs.List.{AllByRecursion}
 use Rattle.std.specs.Option.{option_and_then, option_map}
 use Rattle.std.proofs.lemmas.List.{map-append, take_more}
 use Rattle.std.proofs.lemmas.List.Concat.{flat_map-cons}
+use Rattle.row_view.specs.Row.{row_of_message}
 use Rattle.row_view.specs.WrittenRow.{IsWithinLimits}
 use Rattle.std.proofs.lemmas.Bool.Decides.{nat_tests}
 use Rattle.hex.specs.Hex.{encode_lower, encode_with, lower_digits}
 use Rattle.vdiff_core.specs.Cells.{cell, cells}
 use Rattle.vdiff_core.specs.Dump.{row_line}
 use Rattle.vdiff_core.specs.DumpReading.{AreByteValues}
-use Rattle.vdiff_core.specs.Private.Reading.{digit_of, with_pair, bytes_front, cell_front, behind_byte, pair_front, with_column, with_columns, cells_front, row_front, TakesCell, TakesCells, TakesSoFar, IsRowLine, TakesRow, NoRowIn}
+use Rattle.vdiff_core.specs.Private.Reading.{digit_of, with_pair, bytes_front, cell_front, behind_byte, pair_front, with_column, with_columns, cells_front, row_front, TakesCell, TakesCells, TakesSoFar, IsRowLine, TakesRow, TakesMessage, NoRowIn}
 use Rattle.vdiff_core.specs.RowsValue.{RowValue}
 
 -- ---- digits
@@ -60,7 +61,7 @@ high_digit (suc (suc (suc (suc (suc zero))))) lt = refl
 high_digit (suc (suc (suc (suc (suc (suc n)))))) lt = absurd (omega arith)
 
 -- what is read as a value is its digit
-abbrev IsDigit : ℕ → ℕ → Type 0
+abbrev pub IsDigit : ℕ → ℕ → Type 0
 IsDigit c d = (d < 16) × (slice_index lower_digits d ≡ c)
 
 digit_low : (c d : ℕ) → 48 ≤ c → c ≤ 57 → d ≡ c - 48 → IsDigit c d
@@ -72,7 +73,7 @@ digit_high c d low high e =
     let is : k + 10 ≡ d = omega arith in
     (omega arith, ap (slice_index lower_digits) (sym is) ∙ high_digit k (omega arith) ∙ omega arith)
 
-digit_is : (c d : ℕ) → digit_of c ≡ Some d → IsDigit c d
+pub digit_is : (c d : ℕ) → digit_of c ≡ Some d → IsDigit c d
 digit_is c d e = by (nat_le 48 c && nat_le c 57) (nat_le 97 c && nat_le c 102) refl refl
   where
     by : (low high : Bool) → (nat_le 48 c && nat_le c 57) ≡ low → (nat_le 97 c && nat_le c 102) ≡ high → IsDigit c d
@@ -278,6 +279,13 @@ bytes_more whole old text rest byte is pair =
     is ∙ ap (λ (q : List ℕ × List ℕ). (old ++ q.0, q.1)) (front_more text (byte, rest) pair)
     ∙ ap (λ (l : List ℕ). (l, (bytes_front rest).1)) (sym (append_assoc old (byte ∷ []) (bytes_front rest).0))
 
+-- a piece more
+pub piece_more : (whole : List ℕ × List ℕ) (old piece text rest : List ℕ) → whole ≡ (old ++ (bytes_front text).0, (bytes_front text).1) → bytes_front text ≡ (piece ++ (bytes_front rest).0, (bytes_front rest).1)
+    → whole ≡ ((old ++ piece) ++ (bytes_front rest).0, (bytes_front rest).1)
+piece_more whole old piece text rest is taken =
+    is ∙ ap (λ (q : List ℕ × List ℕ). (old ++ q.0, q.1)) taken
+    ∙ ap (λ (l : List ℕ). (l, (bytes_front rest).1)) (sym (append_assoc old piece (bytes_front rest).0))
+
 front_ends : (text : List ℕ) → pair_front text ≡ None → bytes_front text ≡ ([], text)
 unfolding bytes_front
 front_ends [] e = refl
@@ -368,13 +376,13 @@ line_no_end count none now new text t u first others missing =
 
 -- ---- columns as they are lent
 
-pub map_more : {A B C : Type 0} (g : A → C) (f : B → C) (xs : List A) (ys : List B) (i : ℕ) (x : A) (y : B) → map g xs ≡ map f (take i ys) → g x ≡ f y → i < length ys → y ≡ get_or ys i y → map g (xs ++ x ∷ []) ≡ map f (take (i + 1) ys)
-map_more {A} {B} {C} g f xs ys i x y so_far same lt is =
+pub map_more : {A B C : Type 0} (g : A → C) (f : B → C) (xs : List A) (ys : List B) (i : ℕ) (x : A) (d : B) → map g xs ≡ map f (take i ys) → g x ≡ f (get_or ys i d) → i < length ys → map g (xs ++ x ∷ []) ≡ map f (take (i + 1) ys)
+map_more {A} {B} {C} g f xs ys i x d so_far same lt =
     map-append g xs (x ∷ [])
     ∙ ap (λ (l : List C). l ++ g x ∷ []) so_far
-    ∙ ap (λ (z : C). map f (take i ys) ++ z ∷ []) (same ∙ ap f is)
-    ∙ sym (map-append f (take i ys) (get_or ys i y ∷ []))
-    ∙ ap (map f) (sym (take_more ys i y lt))
+    ∙ ap (λ (z : C). map f (take i ys) ++ z ∷ []) same
+    ∙ sym (map-append f (take i ys) (get_or ys i d ∷ []))
+    ∙ ap (map f) (sym (take_more ys i d lt))
 
 -- ---- what is read is spelled, and what is spelled is read
 
@@ -414,6 +422,19 @@ err_is {T} {E} r x y p q = errs x y (sym p ∙ q)
   where
     errs : (x y : E) → ◌≡◌ {A = Result T E} (Err x) (Err y) → x ≡ y
     errs x y e = cc
+
+ok_is : {T E : Type 0} (r : Result T E) (x y : T) → r ≡ Ok x → r ≡ Ok y → x ≡ y
+ok_is {T} {E} r x y p q = oks x y (sym p ∙ q)
+  where
+    oks : (x y : T) → ◌≡◌ {A = Result T E} (Ok x) (Ok y) → x ≡ y
+    oks x y e = cc
+
+-- the message of a line that was taken is a row, and it is that line's
+pub message_is_row : (width : ℕ) (message text rest : List ℕ) → TakesMessage width message text rest → IsOk (row_of_message message)
+message_is_row width message text rest taken = subst IsOk (sym taken.1) refl
+
+pub message_row : (width : ℕ) (message text rest : List ℕ) (row : RowValue) → TakesMessage width message text rest → row_of_message message ≡ Ok row → TakesRow width row text rest
+message_row width message text rest row taken is = subst (λ (r : RowValue). TakesRow width r text rest) (ok_is (row_of_message message) taken.0 row taken.1 is) taken.2
 
 -- why no row is taken: there is no line, or its columns are beyond the limits
 pub none_of_none : (n : ℕ) (text : List ℕ) → row_front n text ≡ None → (row : RowValue) (rest : List ℕ) → row_front n text ≡ Some (row, rest) → IsWithinLimits row → ⊥

@@ -1,5 +1,5 @@
 -- The rows of two lists by rising key together, and how many keys they have.
-use Rattle.std.proofs.Common.{◌≡◌, ℕ, ◌+◌, ◌≤◌, inl, inr, List, [], ◌∷◌, length, cond, true, false, refl, sym, ap, ◌∙◌, Option, Some, None, subst, arith, Ordering}
+use Rattle.std.proofs.Common.{◌≡◌, ℕ, ◌+◌, ◌≤◌, inl, inr, [], ◌∷◌, length, cond, true, false, refl, sym, ap, ◌∙◌, Option, Some, None, subst, arith, Ordering}
 use Rattle.std.specs.Prelude.{Bool, zero, suc}
 use Rattle.std.specs.Option.{option_or}
 use Rattle.std.specs.Ordering.{eq_by_cmp, ordering_reverse}

@@ -2,3 +2,4 @@
 pub mod Progress
 pub mod Tables
 pub mod Reading
+pub mod Spans

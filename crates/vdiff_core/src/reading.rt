@@ -10,11 +10,11 @@ ghost use Rattle.vdiff_core.specs.RowsValue.{RowsValue};
 ghost use Rattle.vdiff_core.specs.Private.Reading.{TakesLine, TakesRowLine, NoRowStands};
 
 use crate::line_fault::LineFault;
-use crate::row_cells::take_row;
+use crate::row_cells::{RowCells, take_row};
 use crate::rows::Rows;
 use filter_rule::Plan;
 use pk_copy::{Key, key_of_kept};
-use row_view::RowBuf;
+use row_view::{RowBuf, RowBytes};
 use std::alloc::Global;
 use std::marker::Model;
 
@@ -27,11 +27,14 @@ pub enum DumpFault {
     Memory,
 }
 
-/// What stands behind some lines: how many tables have begun, and the rows so far.
+/// What stands behind some lines: how many tables have begun, and the rows so far; and the memory that
+/// one line after another is read into. Seen in contracts as what stands behind the lines.
 #[derive(Drop)]
 struct DumpRows {
     begun: usize,
     rows: Rows,
+    cells: RowCells,
+    message: Vec<u8>,
 }
 
 impl Model for DumpRows {
@@ -90,18 +93,21 @@ impl DumpRows {
             return Err(LineFault::Bad);
         }
         let t = (self.begun - 1) as u8;
-        let (row, rest) = take_row(alloc, plan.kept_columns(t).len(), text)?;
+        let width = plan.kept_columns(t).len();
+        let rest = take_row(&mut self.cells, &mut self.message, alloc, width, text)?;
+        let row = RowBytes::of_row(&self.message);
         let key = key_of_row(alloc, plan, t, &row)?;
         if !self.rows.is_behind_all(&key) {
             return Err(LineFault::Bad);
         }
-        self.rows.push(key, row)?;
+        let copy = RowBuf::from_bytes(alloc, &row)?;
+        self.rows.push(key, copy)?;
         Ok(rest)
     }
 }
 
 /// The key of a row of table `t`.
-fn key_of_row(alloc: Global, plan: &Plan, t: u8, row: &RowBuf) -> Result<Key, LineFault>
+fn key_of_row(alloc: Global, plan: &Plan, t: u8, row: &RowBytes<'_>) -> Result<Key, LineFault>
     requires table { t < length plan.now.tables }
     requires columns { length row.now ≡ length (kept_columns_of plan.now t) }
     ensures ok { IfOk result (λ key. (key_of_kept plan.now t row.now ≡ Ok key) × (key.table ≡ t)) }
@@ -131,6 +137,8 @@ pub fn read_dump(alloc: Global, plan: &Plan, bytes: &[u8]) -> Result<Rows, DumpF
     let mut read = DumpRows {
         begun: 0,
         rows: Rows::new(alloc),
+        cells: RowCells::new(alloc),
+        message: Vec::new(alloc),
     };
     let mut rest = bytes;
     let mut line: usize = 1;

@@ -1,31 +1,52 @@
 //! The columns of a row's line in a dump.
 
-ghost use Rattle.std.specs.Prelude.{◌≡◌, ◌-◌, ◌<◌, ◌≤◌, ℕ, List, [], MatchOption, IfSome, IfOk, IfErr, Some, None, Err, length, map};
+ghost use Rattle.std.specs.Prelude.{◌≡◌, ◌-◌, ◌<◌, ◌≤◌, ◌+◌, ℕ, List, [], take, MatchOption, IfSome, IfOk, IfErr, OnOk, Some, None, Ok, Err, length, map};
 ghost use Rattle.std.specs.Option.{option_map};
 ghost use Rattle.row_view.specs.ColumnValue.{column_value};
+ghost use Rattle.row_view.specs.Row.{row_of_message};
 ghost use Rattle.row_view.specs.WrittenRow.{IsWithinLimits};
 ghost use Rattle.vdiff_core.specs.RowsValue.{RowValue};
-ghost use Rattle.vdiff_core.specs.Private.Reading.{digit_of, pair_front, bytes_front, cell_front, behind_byte, cells_front, row_front, TakesCell, TakesCells, TakesRow, NoRowIn};
+ghost use Rattle.vdiff_core.specs.Private.Reading.{digit_of, pair_front, bytes_front, with_bytes, cell_front, behind_byte, cells_front, row_front, TakesCell, TakesCells, TakesMessage, NoRowIn};
+ghost use Rattle.vdiff_core.specs.Private.Spans.{bytes_at, columns_at, EndsWithin, AreWithin};
 
 use crate::line_fault::LineFault;
-use row_view::{Column, ROW_COLUMNS, RowBuf, RowView, rows_are_read_again, write_columns};
+use row_view::{Column, ROW_BYTES, ROW_COLUMNS, rows_are_read_again, write_columns};
 use std::alloc::{AllocError, Global};
 use std::marker::Model;
 
-/// Columns that are read one after another, nothing for NULL. Seen in contracts as their values.
+/// The most bytes that are read at once.
+const PIECE: usize = 64;
+
+/// The value of each character as a digit in lower case, 16 where it is none.
+static DIGITS: [u8; 256] =
+    *b"\x10\x10\x10\x10\x10\x10\x10\x10\x10\x10\x10\x10\x10\x10\x10\x10\x10\x10\x10\x10\x10\x10\x10\x10\x10\x10\x10\x10\x10\x10\x10\x10\x10\x10\x10\x10\x10\x10\x10\x10\x10\x10\x10\x10\x10\x10\x10\x10\x00\x01\x02\x03\x04\x05\x06\x07\x08\x09\x10\x10\x10\x10\x10\x10\x10\x10\x10\x10\x10\x10\x10\x10\x10\x10\x10\x10\x10\x10\x10\x10\x10\x10\x10\x10\x10\x10\x10\x10\x10\x10\x10\x10\x10\x10\x10\x10\x10\x0a\x0b\x0c\x0d\x0e\x0f\x10\x10\x10\x10\x10\x10\x10\x10\x10\x10\x10\x10\x10\x10\x10\x10\x10\x10\x10\x10\x10\x10\x10\x10\x10\x10\x10\x10\x10\x10\x10\x10\x10\x10\x10\x10\x10\x10\x10\x10\x10\x10\x10\x10\x10\x10\x10\x10\x10\x10\x10\x10\x10\x10\x10\x10\x10\x10\x10\x10\x10\x10\x10\x10\x10\x10\x10\x10\x10\x10\x10\x10\x10\x10\x10\x10\x10\x10\x10\x10\x10\x10\x10\x10\x10\x10\x10\x10\x10\x10\x10\x10\x10\x10\x10\x10\x10\x10\x10\x10\x10\x10\x10\x10\x10\x10\x10\x10\x10\x10\x10\x10\x10\x10\x10\x10\x10\x10\x10\x10\x10\x10\x10\x10\x10\x10\x10\x10\x10\x10\x10\x10\x10\x10\x10\x10\x10\x10\x10\x10\x10\x10\x10\x10\x10\x10\x10\x10\x10\x10\x10\x10\x10";
+
+/// Where a column's value lies among the values of its line.
+#[derive(Clone, Copy)]
+pub(crate) struct Span {
+    start: usize,
+    end: usize,
+}
+
+/// The columns of a line, read one after another: the bytes of its values together, and where each lies
+/// among them, nothing for NULL. Its memory serves one line after another. Seen in contracts as the
+/// columns' values.
 #[derive(Drop)]
 pub(crate) struct RowCells {
-    cells: Vec<Option<Vec<u8>>>,
+    values: Vec<u8>,
+    spans: Vec<Option<Span>>,
 }
 
 impl Model for RowCells {
-    ghost use Rattle.std.specs.Prelude.{map};
-    ghost use Rattle.std.specs.Option.{option_map};
+    ghost use Rattle.std.specs.Prelude.{length};
     ghost use Rattle.vdiff_core.specs.RowsValue.{RowValue};
+    ghost use Rattle.vdiff_core.specs.Private.Spans.{columns_at, AreWithin};
 
     ghost Value = { RowValue };
 
-    ghost view = { λ c. map (option_map (λ v. v.items)) c.cells.items };
+    ghost view = { λ c. columns_at c.values.items c.spans.items };
+
+    ghost invariant = { λ c. AreWithin (length c.values.items) c.spans.items };
 }
 
 impl RowCells {
@@ -34,16 +55,21 @@ impl RowCells {
         ensures { result ≡ [] }
     {
         RowCells {
-            cells: Vec::new(alloc),
+            values: Vec::new(alloc),
+            spans: Vec::new(alloc),
         }
     }
 
+    /// Forgets the columns and keeps their memory.
+    fn clear(&mut self)
+        ensures { self.new ≡ [] }
+    {
+        self.spans.clear();
+        self.values.clear();
+    }
+
     /// Takes a cell off the front and pushes its column.
-    pub(crate) fn take_cell<'t>(
-        &mut self,
-        alloc: Global,
-        text: &'t [u8],
-    ) -> Result<&'t [u8], LineFault>
+    fn take_cell<'t>(&mut self, text: &'t [u8]) -> Result<&'t [u8], LineFault>
         ensures taken { IfOk result (λ rest. TakesCell self.old self.new text.now rest.now) }
         ensures bad { result ≡ Err LineFault.Bad → cell_front text.now ≡ None }
     {
@@ -52,12 +78,14 @@ impl RowCells {
         };
         match *first {
             b'N' => {
-                self.cells.push(None)?;
+                self.spans.push(None)?;
                 Ok(rest)
             }
             b'x' => {
-                let (value, behind) = take_bytes(alloc, rest)?;
-                self.cells.push(Some(value))?;
+                let start = self.values.len();
+                let behind = push_bytes(&mut self.values, rest)?;
+                let end = self.values.len();
+                self.spans.push(Some(Span { start, end }))?;
                 Ok(behind)
             }
             _ => Err(LineFault::Bad),
@@ -65,91 +93,99 @@ impl RowCells {
     }
 
     /// Takes so many cells off the front, each with the tab before it.
-    pub(crate) fn take_cells<'t>(
-        &mut self,
-        alloc: Global,
-        count: usize,
-        text: &'t [u8],
-    ) -> Result<&'t [u8], LineFault>
+    fn take_cells<'t>(&mut self, count: usize, text: &'t [u8]) -> Result<&'t [u8], LineFault>
         ensures taken { IfOk result (λ rest. TakesCells count self.old self.new text.now rest.now) }
         ensures bad { result ≡ Err LineFault.Bad → cells_front count text.now ≡ None }
     {
         let mut rest = text;
         for _ in 0..count {
             let cell = take_byte(rest, b'\t')?;
-            rest = self.take_cell(alloc, cell)?;
+            rest = self.take_cell(cell)?;
         }
         Ok(rest)
     }
 
-    /// The row of these columns.
-    fn row(&self, alloc: Global) -> Result<RowBuf, LineFault>
-        ensures row { IfOk result (λ row. (row ≡ self.now) × IsWithinLimits self.now) }
+    /// Writes the row of these columns over a message.
+    fn write_over(&self, message: &mut Vec<u8>, alloc: Global) -> Result<(), LineFault>
+        ensures row { OnOk result ((row_of_message message.new.items ≡ Ok self.now) × IsWithinLimits self.now) }
         ensures bad { result ≡ Err LineFault.Bad → IsWithinLimits self.now → ⊥ }
     {
-        rows_are_read_again();
-        if self.cells.len() > usize::from(ROW_COLUMNS) {
-            return Err(LineFault::Bad);
-        }
-        let columns = columns_of(alloc, &self.cells)?;
-        let mut message = Vec::new(alloc);
-        write_columns(&mut message, &columns)?;
-        match RowView::read(&message) {
-            Ok(row) => Ok(RowBuf::from_view(alloc, &row)?),
-            Err(_) => Err(LineFault::Bad),
-        }
+        let columns = columns_of(alloc, &self.values, &self.spans)?;
+        write_row(message, &columns)?;
+        Ok(())
     }
 }
 
-/// The columns of values, lent.
-fn columns_of(alloc: Global, cells: &[Option<Vec<u8>>]) -> Result<Vec<Column<'_>>, AllocError>
-    ensures { IfOk result (λ columns. map column_value columns.items ≡ map (option_map (λ v. v.items)) cells.now) }
+/// The columns of spans of these values, lent.
+fn columns_of<'c>(
+    alloc: Global,
+    values: &'c [u8],
+    spans: &[Option<Span>],
+) -> Result<Vec<Column<'c>>, AllocError>
+    requires { AreWithin (length values.now) spans.now }
+    ensures { IfOk result (λ columns. map column_value columns.items ≡ columns_at values.now spans.now) }
 {
-    let mut columns = Vec::new(alloc);
-    for cell in cells {
-        columns.push(column_of(cell))?;
+    let mut columns = Vec::with_capacity(alloc, spans.len())?;
+    for span in spans {
+        columns.push(column_of(values, span))?;
     }
     Ok(columns)
 }
 
-/// The column of a value, lent.
-fn column_of(cell: &Option<Vec<u8>>) -> Column<'_>
-    ensures { column_value result ≡ option_map (λ v. v.items) cell.now }
+/// The column of a span, lent.
+fn column_of<'c>(values: &'c [u8], span: &Option<Span>) -> Column<'c>
+    requires { EndsWithin (length values.now) span.now }
+    ensures { column_value result ≡ option_map (bytes_at values.now) span.now }
 {
-    match cell {
+    match span {
         None => Column::Null,
-        Some(value) => Column::Bytes(value),
+        Some(span) => Column::Bytes(&values[span.start..span.end]),
     }
 }
 
-/// The row of a line in front, of at least one column, and what stands behind the line.
+/// Writes the row of these columns over a message.
+fn write_row(message: &mut Vec<u8>, columns: &[Column<'_>]) -> Result<(), LineFault>
+    ensures row { OnOk result ((row_of_message message.new.items ≡ Ok (map column_value columns.now)) × IsWithinLimits (map column_value columns.now)) }
+    ensures bad { result ≡ Err LineFault.Bad → IsWithinLimits (map column_value columns.now) → ⊥ }
+{
+    rows_are_read_again();
+    if columns.len() > usize::from(ROW_COLUMNS) {
+        return Err(LineFault::Bad);
+    }
+    message.clear();
+    write_columns(message, columns)?;
+    if message.len() > ROW_BYTES {
+        return Err(LineFault::Bad);
+    }
+    Ok(())
+}
+
+/// Takes the line of a row off the front, of at least one column, and writes the row over a message; the answer
+/// is what stands behind the line.
 pub(crate) fn take_row<'t>(
+    cells: &mut RowCells,
+    message: &mut Vec<u8>,
     alloc: Global,
     width: usize,
     text: &'t [u8],
-) -> Result<(RowBuf, &'t [u8]), LineFault>
+) -> Result<&'t [u8], LineFault>
     requires { 0 < width }
-    ensures taken { IfOk result (λ taken. TakesRow width taken.0 text.now taken.1.now) }
+    ensures taken { IfOk result (λ rest. TakesMessage width message.new.items text.now rest.now) }
     ensures bad { result ≡ Err LineFault.Bad → NoRowIn width text.now }
 {
-    let mut cells = RowCells::new(alloc);
-    let rest = take_line(&mut cells, alloc, width - 1, text)?;
-    Ok((cells.row(alloc)?, rest))
+    let rest = take_line(cells, width - 1, text)?;
+    cells.write_over(message, alloc)?;
+    Ok(rest)
 }
 
-/// Takes a row's line off the front, of a cell and so many more, and pushes its columns.
-fn take_line<'t>(
-    cells: &mut RowCells,
-    alloc: Global,
-    count: usize,
-    text: &'t [u8],
-) -> Result<&'t [u8], LineFault>
-    requires { cells.old ≡ [] }
+/// Takes a row's line off the front, of a cell and so many more; its columns stand in place of those before.
+fn take_line<'t>(cells: &mut RowCells, count: usize, text: &'t [u8]) -> Result<&'t [u8], LineFault>
     ensures taken { IfOk result (λ rest. row_front count text.now ≡ Some (cells.new, rest.now)) }
     ensures bad { result ≡ Err LineFault.Bad → row_front count text.now ≡ None }
 {
-    let others = cells.take_cell(alloc, text)?;
-    let end = cells.take_cells(alloc, count, others)?;
+    cells.clear();
+    let others = cells.take_cell(text)?;
+    let end = cells.take_cells(count, others)?;
     let rest = take_byte(end, b'\n')?;
     Ok(rest)
 }
@@ -165,20 +201,46 @@ fn take_byte(text: &[u8], byte: u8) -> Result<&[u8], LineFault>
     }
 }
 
-/// The bytes that pairs of digits in front spell, and what stands behind them.
-fn take_bytes<'t>(alloc: Global, text: &'t [u8]) -> Result<(Vec<u8>, &'t [u8]), AllocError>
-    ensures { IfOk result (λ taken. bytes_front text.now ≡ (taken.0.items, taken.1.now)) }
+/// Pushes the bytes that pairs of digits in front spell; the answer is what stands behind these.
+fn push_bytes<'t>(bytes: &mut Vec<u8>, text: &'t [u8]) -> Result<&'t [u8], AllocError>
+    ensures pushed { IfOk result (λ rest. with_bytes bytes.old.items (bytes_front text.now) ≡ (bytes.new.items, rest.now)) }
+    ensures kept { length bytes.old.items ≤ length bytes.new.items }
 {
-    let mut bytes = Vec::new(alloc);
+    let mut room = [0; PIECE];
     let mut rest = text;
-    while let Some((byte, behind)) = pair_in_front(rest) {
-        bytes.push(byte)?;
+    loop {
+        let (count, behind) = take_piece(&mut room, rest);
+        bytes.extend_from_slice(&room[..count])?;
+        if count < PIECE {
+            return Ok(behind);
+        }
         rest = behind;
     }
-    Ok((bytes, rest))
+}
+
+/// Writes bytes that pairs of digits in front spell over room for some: all of them, or as many as there is
+/// room for. The answer is how many, and what stands behind these.
+#[inline(always)]
+fn take_piece<'t>(room: &mut [u8], text: &'t [u8]) -> (usize, &'t [u8])
+    ensures room { length room.new ≡ length room.old }
+    ensures taken { bytes_front text.now ≡ with_bytes (take result.0 room.new) (bytes_front result.1.now) }
+    ensures within { result.0 ≤ length room.old }
+    ensures all { result.0 < length room.old → pair_front result.1.now ≡ None }
+    ensures parts { length result.1.now + result.0 ≤ length text.now }
+{
+    let mut rest = text;
+    for i in 0..room.len() {
+        let Some((byte, behind)) = pair_in_front(rest) else {
+            return (i, rest);
+        };
+        room[i] = byte;
+        rest = behind;
+    }
+    (room.len(), rest)
 }
 
 /// The byte of a pair of digits in front, and what stands behind them.
+#[inline(always)]
 fn pair_in_front(text: &[u8]) -> Option<(u8, &[u8])>
     ensures pair { MatchOption result (pair_front text.now ≡ None) (λ pair. pair_front text.now ≡ Some (pair.0, pair.1.now)) }
     ensures shorter { IfSome result (λ pair. length pair.1.now < length text.now) }
@@ -191,13 +253,14 @@ fn pair_in_front(text: &[u8]) -> Option<(u8, &[u8])>
 }
 
 /// The value of a digit in lower case, below 16.
+#[inline(always)]
 fn digit_value(character: u8) -> Option<u8>
     ensures value { result ≡ digit_of character }
     ensures range { IfSome result (λ digit. digit < 16) }
 {
-    match character {
-        b'0'..=b'9' => Some(character - b'0'),
-        b'a'..=b'f' => Some(character - b'a' + 10),
-        _ => None,
+    let value = DIGITS[usize::from(character)];
+    if value > 15 {
+        return None;
     }
+    Some(value)
 }

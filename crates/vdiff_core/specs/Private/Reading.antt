@@ -1,7 +1,8 @@
 -- What is read off the front of a text.
-use Rattle.std.specs.Prelude.{◌≡◌, ℕ, ◌≤◌, length, ◌+◌, ◌-◌, ◌*◌, ◌&&◌, ◌==◌, nat_le, zero, suc, if◌then◌else◌, List, [], ◌∷◌, ◌++◌, Option, Some, None}
+use Rattle.std.specs.Prelude.{◌≡◌, ℕ, ◌≤◌, length, ◌+◌, ◌-◌, ◌*◌, ◌&&◌, ◌==◌, nat_le, zero, suc, if◌then◌else◌, List, [], ◌∷◌, ◌++◌, Option, Some, None, Ok}
 use Rattle.std.specs.Option.{option_map, option_and_then}
 use Rattle.filter_rule.specs.PlanValue.{PlanValue}
+use Rattle.row_view.specs.Row.{row_of_message}
 use Rattle.row_view.specs.WrittenRow.{IsWithinLimits}
 use Rattle.vdiff_core.specs.Dump.{row_line}
 use Rattle.vdiff_core.specs.DumpReading.{AddsRow, AreByteValues, Behind, CanStand, Stand, at_front, joined_lines}
@@ -24,6 +25,10 @@ unfoldable pub bytes_front : List ℕ → List ℕ × List ℕ
 bytes_front [] = ([], [])
 bytes_front (last ∷ []) = ([], last ∷ [])
 bytes_front (high ∷ low ∷ rest) = with_pair (digit_of high) (digit_of low) (bytes_front rest) ([], high ∷ low ∷ rest)
+
+-- bytes in front of those that are spelled
+abbrev pub with_bytes : List ℕ → List ℕ × List ℕ → List ℕ × List ℕ
+with_bytes bytes front = (bytes ++ front.0, front.1)
 
 -- the byte of a pair of digits in front, and what stands behind them
 abbrev pub pair_front : List ℕ → Option (ℕ × List ℕ)
@@ -92,6 +97,10 @@ pub record TakesRow (width : ℕ) (row : RowValue) (text rest : List ℕ) : Type
   pub width_is : length row ≡ width
   pub bytes : AreByteValues row
   pub limits : IsWithinLimits row
+
+-- one was, and the message is the row's
+abbrev pub TakesMessage : ℕ → List ℕ → List ℕ → List ℕ → Type 0
+TakesMessage width message text rest = (row : RowValue) × (row_of_message message ≡ Ok row) × TakesRow width row text rest
 
 -- no line of a row is in front
 abbrev pub NoRowIn : ℕ → List ℕ → Type 0

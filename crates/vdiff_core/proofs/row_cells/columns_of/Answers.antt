@@ -1,7 +1,13 @@
 use Rattle.std.specs.Option.{option_map}
+use Rattle.std.proofs.Common.{length}
 use Rattle.row_view.specs.ColumnValue.{column_value}
+use Rattle.vdiff_core.specs.Private.Spans.{bytes_at}
 use Rattle.vdiff_core.proofs.ReadingLaws.{map_more}
+use Rattle.vdiff_core.proofs.SpanLaws.{within_at}
 use Rattle.vdiff_core.proofs.row_cells.columns_of.Goals as goal
 
-pub loop-cell-preserved : goal.loop-cell-preserved
-loop-cell-preserved c = rw c.in_ok-push.ensures.items (map_more column_value (option_map (λ v. v.items)) c.loop-cell.columns.items c.args.cells.now c.loop-cell.cell-index c.column_of.result c.cell-item.result c.loop-cell.invariant c.column_of.ensures c.loop-cell-test.true c.cell-item.is)
+pub column_of-requires : goal.column_of-requires
+column_of-requires c = within_at (length c.args.values.now) c.loop-span.span-index c.args.spans.now _ c.loop-span-test.true c.requires
+
+pub loop-span-preserved : goal.loop-span-preserved
+loop-span-preserved c = rw c.in_ok-push.ensures.items (map_more column_value (option_map (bytes_at c.args.values.now)) c.loop-span.columns.items c.args.spans.now c.loop-span.span-index c.column_of.result _ c.loop-span.invariant c.column_of.ensures c.loop-span-test.true)

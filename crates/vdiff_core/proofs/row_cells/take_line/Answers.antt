@@ -17,4 +17,4 @@ pub returns-in_err-rest-clause-bad : goal.returns-in_err-rest-clause-bad
 returns-in_err-rest-clause-bad c = λ e. line_no_end _ _ _ _ _ _ _ c.in_ok-others.ensures.taken c.in_ok-end.ensures.taken c.in_err-rest.ensures.bad
 
 pub returns-clause-taken : goal.returns-clause-taken
-returns-clause-taken c = line_taken _ _ _ _ _ _ _ _ c.requires c.in_ok-others.ensures.taken c.in_ok-end.ensures.taken c.in_ok-rest.ensures.taken
+returns-clause-taken c = line_taken _ _ _ _ _ _ _ _ c.clear.ensures c.in_ok-others.ensures.taken c.in_ok-end.ensures.taken c.in_ok-rest.ensures.taken

@@ -8,10 +8,12 @@ returns-in_err-rest-clause-bad c =
     let p = err_from_is_err_and c.from_residual.result c.from_residual.ensures.1 in
     λ e. no_row_taken _ _ c.requires (none_of_none (c.args.width - 1) c.args.text.now (c.in_err-rest.ensures.bad (ap Err (sym p.2 ∙ err_is _ _ _ p.1 e))))
 
-pub returns-in_err-row-clause-bad : goal.returns-in_err-row-clause-bad
-returns-in_err-row-clause-bad c =
-    let p = err_from_is_err_and c.from_residual-in_err-row.result c.from_residual-in_err-row.ensures.1 in
-    λ e. no_row_taken _ _ c.requires (none_of_limits (c.args.width - 1) c.args.text.now _ _ c.in_ok-rest.ensures.taken (c.in_err-row.ensures.bad (ap Err (sym p.2 ∙ err_is _ _ _ p.1 e))))
+pub returns-in_err-write_over-clause-bad : goal.returns-in_err-write_over-clause-bad
+returns-in_err-write_over-clause-bad c =
+    let p = err_from_is_err_and c.from_residual-in_err-write_over.result c.from_residual-in_err-write_over.ensures.1 in
+    λ e. no_row_taken _ _ c.requires (none_of_limits (c.args.width - 1) c.args.text.now _ _ c.in_ok-rest.ensures.taken (c.in_err-write_over.ensures.bad (ap Err (sym p.2 ∙ err_is _ _ _ p.1 e))))
 
 pub returns-clause-taken : goal.returns-clause-taken
-returns-clause-taken c = row_taken _ _ _ _ c.requires (rw c.in_ok-row.ensures.row.0 c.in_ok-rest.ensures.taken) (rw c.in_ok-row.ensures.row.0 c.in_ok-row.ensures.row.1)
+returns-clause-taken c =
+    let row = c.in_ok-write_over.ensures.row in
+    (_, row.0, row_taken _ _ _ _ c.requires c.in_ok-rest.ensures.taken row.1)
