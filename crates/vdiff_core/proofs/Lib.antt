@@ -1,7 +1,7 @@
 pub mod DigitPairs
 mod RowsLaws
 pub mod PrintLaws
-mod TableLaws
+pub mod TableLaws
 pub mod ReportLaws
 mod TogetherLaws
 mod ReadingLaws

@@ -2,7 +2,7 @@
 use Rattle.std.proofs.Common.{◌≡◌, ℕ, zero, suc, ◌+◌, ◌<◌, ◌≤◌, List, [], ◌∷◌, ◌++◌, length, take, drop, cond, true, false, not, refl, sym, ap, ◌∙◌, arith, Bool, ◌⊎◌, inl, inr, Option, Some, None, slice_get, subst, take-append-drop}
 use Rattle.std.specs.Prelude.{◌==◌, nat_lt, position}
 use Rattle.std.specs.Option.{option_map_or, unwrap_or}
-use Rattle.std.specs.List.{position_or_len}
+use Rattle.std.specs.List.{AllByRecursion, position_or_len}
 use Rattle.std.specs.Ordering.{nat_cmp, ordering_then}
 use Rattle.std.specs.Cmp.{nat_cmp_is}
 use Rattle.std.proofs.lemmas.Bool.{cases_lt}
@@ -18,9 +18,9 @@ use Rattle.pk_copy.specs.KeyOrder.{key_cmp, parts_cmp}
 use Rattle.pk_copy.specs.KeyValue.{KeyValue}
 use Rattle.target_tables.specs.Rising.{IsRising}
 use Rattle.target_tables.proofs.Order.{each}
-use Rattle.vdiff_core.specs.Dump.{row_lines, rows_of_table, table_line, table_lines}
-use Rattle.vdiff_core.specs.Private.Tables.{AreFrom}
-use Rattle.vdiff_core.specs.RowsValue.{RowValue, RowsValue}
+use Rattle.vdiff_core.specs.Dump.{row_line, row_lines, rows_of_table, table_line, table_lines}
+use Rattle.vdiff_core.specs.Private.Tables.{AreFrom, behind_table, IsOtherFirst, IsTakenOf}
+use Rattle.vdiff_core.specs.RowsValue.{RowValue, RowsValue, unowned, all_rows}
 
 -- a lesser key is of the same table or of one before
 lesser_table : (a b : KeyValue) → (b.table < a.table) ⊎ (a.table ≤ b.table) → key_cmp a b ≡ Less → a.table ≤ b.table
@@ -44,7 +44,7 @@ none_before s t (row ∷ rows) lt from =
     let differs : (row.0.table == s) ≡ false = grind (arith, nat_tests, from.0, lt) in
     ap (λ b. cond b (row ∷ rows_of_table s rows) (rows_of_table s rows)) differs ∙ none_before s t rows lt from.1
 
-abbrev other : ℕ → KeyValue × RowValue → Bool
+abbrev pub other : ℕ → KeyValue × RowValue → Bool
 other t row = not (row.0.table == t)
 
 -- the rows in front that are of table t, where none is of one before
@@ -93,7 +93,7 @@ rows_behind : (s t : ℕ) (rows : RowsValue) → t < s → rows_of_table s (rows
 rows_behind s t [] lt = refl
 rows_behind s t (row ∷ rows) lt = behind_first s t row rows (row.0.table == t) refl lt (rows_behind s t rows lt)
 
-rows_left : (s t n : ℕ) (rows : RowsValue) → t < s → rows_of_table t rows ≡ take n rows → rows_of_table s rows ≡ rows_of_table s (drop n rows)
+pub rows_left : (s t n : ℕ) (rows : RowsValue) → t < s → rows_of_table t rows ≡ take n rows → rows_of_table s rows ≡ rows_of_table s (drop n rows)
 rows_left s t n rows lt front =
     let none : rows_of_table s (take n rows) ≡ [] = ap (rows_of_table s) (sym front) ∙ rows_behind s t rows lt in
     ap (rows_of_table s) (sym (take-append-drop n rows)) ∙ filter-append (λ row. row.0.table == s) (take n rows) (drop n rows) ∙ ap (λ (l : RowsValue). l ++ rows_of_table s (drop n rows)) none
@@ -108,6 +108,64 @@ pub first_table : (t n : ℕ) (table : TableValue) (tables : List TableValue) (r
     → table_lines t (table ∷ tables) rows ≡ (table_line table.name ++ row_lines (take n rows)) ++ table_lines (t + 1) tables (drop n rows)
 first_table t n table tables rows front =
     rw (front, lines_left (t + 1) t n tables rows (omega arith) front) refl
+
+-- ---- rows that are taken out one after another
+
+behind_at : (t : ℕ) (row : KeyValue × RowValue) (rows : RowsValue) (b : Bool) → (row.0.table == t) ≡ b → behind_table t rows ≡ drop (position_or_len (other t) rows) rows
+    → behind_table t (row ∷ rows) ≡ drop (position_or_len (other t) (row ∷ rows)) (row ∷ rows)
+behind_at t row rows true e others =
+    let n : ℕ = position_or_len (other t) rows in
+    let more : (k : ℕ) → k ≡ suc n → behind_table t rows ≡ drop k (row ∷ rows) = λ k is. rw is others in
+    rw e (more (1 + n) (omega arith))
+behind_at t row rows false e others = rw e refl
+
+behind_is : (t : ℕ) (rows : RowsValue) → behind_table t rows ≡ drop (position_or_len (other t) rows) rows
+behind_is t [] = refl
+behind_is t (row ∷ rows) = behind_at t row rows (row.0.table == t) refl (behind_is t rows)
+
+-- the rows behind a table rise, and are of those behind it
+pub behind_rows : (t : ℕ) (rows : RowsValue) → IsRising key_cmp rows → AreFrom t rows → IsRising key_cmp (behind_table t rows) × AreFrom (t + 1) (behind_table t rows)
+behind_rows t rows rising from = (
+  subst (IsRising key_cmp) (sym (behind_is t rows)) (rising_left (position_or_len (other t) rows) rows rising),
+  subst (AreFrom (t + 1)) (sym (behind_is t rows)) (in_front t rows rising from).1,
+)
+
+-- the lines of a table, and of those behind it
+pub table_and_others : (t : ℕ) (table : TableValue) (tables : List TableValue) (rows : RowsValue) → IsRising key_cmp rows → AreFrom t rows
+    → table_lines t (table ∷ tables) rows ≡ (table_line table.name ++ row_lines (rows_of_table t rows)) ++ table_lines (t + 1) tables (behind_table t rows)
+table_and_others t table tables rows rising from =
+    let n : ℕ = position_or_len (other t) rows in
+    let front : rows_of_table t rows ≡ take n rows = (in_front t rows rising from).0 in
+    first_table t n table tables rows front
+    ∙ ap (λ (l : RowsValue). (table_line table.name ++ row_lines l) ++ table_lines (t + 1) tables (drop n rows)) (sym front)
+    ∙ ap (λ (l : RowsValue). (table_line table.name ++ row_lines (rows_of_table t rows)) ++ table_lines (t + 1) tables l) (sym (behind_is t rows))
+
+-- the line of a row that is taken out, and those of the others of its table
+pub taken_line : (t : ℕ) (old : RowsValue) (row : RowValue) (new : RowsValue) → IsTakenOf t old row new → row_lines (rows_of_table t old) ≡ row_line row ++ row_lines (rows_of_table t new)
+taken_line t old row new taken =
+    ap (λ (rows : RowsValue). row_lines (rows_of_table t rows)) taken.parts
+    ∙ ap (λ (b : Bool). row_lines (cond b ((taken.key, row) ∷ rows_of_table t new) (rows_of_table t new))) taken.of_table
+
+-- the rows behind its table stay
+pub taken_behind : (t : ℕ) (old : RowsValue) (row : RowValue) (new : RowsValue) → IsTakenOf t old row new → behind_table t new ≡ behind_table t old
+taken_behind t old row new taken =
+    sym (ap (behind_table t) taken.parts ∙ ap (λ (b : Bool). cond b (behind_table t new) ((taken.key, row) ∷ new)) taken.of_table)
+
+-- no row of the table is left where the first one isn't of it
+pub none_taken : (t : ℕ) (rows : RowsValue) → IsRising key_cmp rows → AreFrom t rows → IsOtherFirst t rows → (rows_of_table t rows ≡ []) × (behind_table t rows ≡ rows)
+none_taken t [] rising from first = (refl, refl)
+none_taken t (row ∷ rows) rising from first =
+    let later : t + 1 ≤ row.0.table = grind (arith, nat_tests, from.0, first) in
+    (none_before t (t + 1) (row ∷ rows) (omega arith) (from_first (t + 1) row rows rising later), ap (λ (b : Bool). cond b (behind_table t rows) (row ∷ rows)) first)
+
+-- the keys of a target's rows rise, whoever owns them
+above_unowned : (key : KeyValue) (entries : List (KeyValue × (ℕ × RowValue))) → AllByRecursion (λ (later : KeyValue × (ℕ × RowValue)). key_cmp key later.0 ≡ Less) entries → AllByRecursion (λ (later : KeyValue × RowValue). key_cmp key later.0 ≡ Less) (all_rows entries)
+above_unowned key [] above = tt
+above_unowned key (entry ∷ entries) above = (above.0, above_unowned key entries above.1)
+
+pub rising_unowned : (entries : List (KeyValue × (ℕ × RowValue))) → IsRising key_cmp entries → IsRising key_cmp (all_rows entries)
+rising_unowned [] rising = tt
+rising_unowned (entry ∷ entries) rising = (above_unowned entry.0 entries rising.0, rising_unowned entries rising.1)
 
 -- there is no table before the first one
 pub from_none : (rows : RowsValue) → AreFrom 0 rows

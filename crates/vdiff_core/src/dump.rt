@@ -1,18 +1,22 @@
 //! The dump of rows: all tables of a plan as text.
 
-ghost use Rattle.std.specs.Prelude.{◌≡◌, ◌∷◌, ◌==◌, not, position};
+ghost use Rattle.std.specs.Prelude.{◌≡◌, ◌∷◌, ◌==◌, not, position, OnOk};
 ghost use Rattle.pk_copy.specs.KeyOrder.{key_cmp};
 ghost use Rattle.target_tables.specs.Rising.{IsRising};
-ghost use Rattle.vdiff_core.specs.Dump.{row_line, row_lines, table_line, table_lines, dump_of};
+ghost use Rattle.vdiff_core.specs.Dump.{row_line, row_lines, rows_of_table, table_line, table_lines, dump_of};
 ghost use Rattle.vdiff_core.specs.Printing.{Prints, Adds};
+ghost use Rattle.vdiff_core.specs.Private.Tables.{AreFrom, behind_table};
+ghost use Rattle.vdiff_core.specs.RowsValue.{all_rows};
 
 use crate::cells::{add_cell, add_cells};
 use crate::gathered::Gathered;
+use crate::lent_rows::LentRows;
 use crate::rows::Rows;
 use crate::writer::{Out, OutFailed};
 use filter_rule::{Plan, Table};
 use pk_copy::Key;
 use row_view::{Columns, RowBuf};
+use target_tables::Tables;
 
 /// Writes the dump of the rows: for each table in the plan's order the line `table NAME`, then its rows
 /// by key, one a line, the cells parted by one tab; a cell is `x` and the value in lower case
@@ -24,6 +28,55 @@ pub fn write_dump<O: Out>(out: &mut O, plan: &Plan, rows: &Rows) -> Result<(), O
     let mut text = Gathered::new();
     add_tables(out, &mut text, plan.tables(), rows.as_slice())?;
     text.finish(out)
+}
+
+/// The same of all rows of a target, whoever owns them, as they lie there: none is copied.
+pub fn write_target_dump<O: Out>(
+    out: &mut O,
+    plan: &Plan,
+    target: &Tables<Key, RowBuf>,
+) -> Result<(), OutFailed>
+    ensures { Prints result (O.written out.old) (O.written out.new) (dump_of plan.now (all_rows target.now.entries)) }
+{
+    let mut text = Gathered::new();
+    let rows = LentRows::new(target.iter());
+    add_lent_tables(out, &mut text, plan.tables(), rows)?;
+    text.finish(out)
+}
+
+/// Adds the tables, each with its rows, which are lent.
+fn add_lent_tables<O: Out>(
+    out: &mut O,
+    text: &mut Gathered,
+    tables: &[Table],
+    mut rows: LentRows<'_>,
+) -> Result<(), OutFailed>
+    requires { IsRising key_cmp rows }
+    ensures { Adds result (O.written out.old) text.old (O.written out.new) text.new (table_lines 0 tables.now rows.entry) }
+{
+    for t in 0..tables.len() {
+        add_table_line(out, text, tables[t].name())?;
+        add_rows_of(out, text, t, &mut rows)?;
+    }
+    Ok(())
+}
+
+/// Adds the lines of the rows of table `t`, which no row is before, and leaves them behind.
+fn add_rows_of<O: Out>(
+    out: &mut O,
+    text: &mut Gathered,
+    t: usize,
+    rows: &mut LentRows<'_>,
+) -> Result<(), OutFailed>
+    requires rising { IsRising key_cmp rows.old }
+    requires from { AreFrom t rows.old }
+    ensures added { Adds result (O.written out.old) text.old (O.written out.new) text.new (row_lines (rows_of_table t rows.old)) }
+    ensures left { OnOk result (rows.new ≡ behind_table t rows.old) }
+{
+    while let Some(row) = rows.next_of(t) {
+        add_row(out, text, row.columns())?;
+    }
+    Ok(())
 }
 
 /// Adds the tables, each with its rows.
@@ -46,8 +99,8 @@ fn add_tables<O: Out>(
     Ok(())
 }
 
-/// The place of the first row that isn't of table `t`.
-fn place_of_other(rows: &[(Key, RowBuf)], t: usize) -> Option<usize>
+/// The place of the first row that isn't of table `t`. Takes no memory.
+pub fn place_of_other(rows: &[(Key, RowBuf)], t: usize) -> Option<usize>
     ensures { result ≡ position (λ row. not (row.0.table == t)) rows.now }
 {
     rows.iter().position(|row| usize::from(row.0.table()) != t)

@@ -4,6 +4,7 @@
 mod cells;
 mod dump;
 mod gathered;
+mod lent_rows;
 mod line_fault;
 mod places;
 mod put;
@@ -14,10 +15,10 @@ mod rows;
 mod writer;
 
 pub use cells::{add_cell, add_cells};
-pub use dump::write_dump;
+pub use dump::{place_of_other, write_dump, write_target_dump};
 pub use gathered::Gathered;
 pub use put::put_all;
 pub use reading::{DumpFault, read_dump, texts_are_read_once};
-pub use report::{Report, compare, first_difference};
+pub use report::{Report, compare, compare_rows, first_difference};
 pub use rows::Rows;
 pub use writer::{Out, OutFailed, Writer};

@@ -1,10 +1,13 @@
 //! Two sets of rows compared.
 
 ghost use Rattle.std.specs.Prelude.{◌≡◌, ◌+◌, MatchOption};
+ghost use Rattle.pk_copy.specs.KeyOrder.{key_cmp};
+ghost use Rattle.target_tables.specs.Rising.{IsRising};
 ghost use Rattle.vdiff_core.specs.Report.{report_of, HaveKeys, IsFirstDifference};
 
 use crate::rows::Rows;
 use pk_copy::{Key, keys_tie_where_they_are_equal};
+use row_view::RowBuf;
 use std::cmp::Ordering;
 
 /// How many keys of two sets of rows there are of each kind.
@@ -30,15 +33,32 @@ pub fn compare(source: &Rows, target: &Rows) -> Report
     ensures keys { HaveKeys source.now target.now result.processed }
 {
     keys_tie_where_they_are_equal();
-    let mut report = Report {
+    compare_rows(source.as_slice(), target.as_slice())
+}
+
+/// No keys of any kind.
+fn no_keys() -> Report
+    ensures { result ≡ record { processed = 0; matching = 0; mismatched = 0; extra_source = 0; extra_target = 0 } }
+{
+    Report {
         processed: 0,
         matching: 0,
         mismatched: 0,
         extra_source: 0,
         extra_target: 0,
-    };
-    let mut left = source.as_slice();
-    let mut right = target.as_slice();
+    }
+}
+
+/// The same of lists of rows by rising key; that the keys rise is the caller's. Takes no memory.
+pub fn compare_rows(source: &[(Key, RowBuf)], target: &[(Key, RowBuf)]) -> Report
+    requires source { IsRising key_cmp source.now }
+    requires target { IsRising key_cmp target.now }
+    ensures { result ≡ report_of source.now target.now }
+{
+    keys_tie_where_they_are_equal();
+    let mut report = no_keys();
+    let mut left = source;
+    let mut right = target;
     while let (Some((ours, lefts)), Some((theirs, rights))) = (
         left.split_first(),
         right.split_first(),

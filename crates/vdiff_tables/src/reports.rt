@@ -1,18 +1,12 @@
 //! Two sets of rows compared table by table.
 
-ghost use Rattle.std.specs.Prelude.{◌≡◌, IfOk, map, not, ◌==◌, position};
-ghost use Rattle.pk_copy.specs.KeyOrder.{key_cmp};
-ghost use Rattle.target_tables.specs.Rising.{IsRising};
-ghost use Rattle.vdiff_core.specs.Report.{report_of};
+ghost use Rattle.std.specs.Prelude.{◌≡◌, IfOk, map};
 ghost use Rattle.vdiff_tables.specs.NamedReports.{named_report};
 ghost use Rattle.vdiff_tables.specs.Reports.{reports_from};
 
 use filter_rule::Plan;
-use pk_copy::{Key, keys_tie_where_they_are_equal};
-use row_view::RowBuf;
 use std::alloc::{AllocError, Global};
-use std::cmp::Ordering;
-use vdiff_core::{Report, Rows};
+use vdiff_core::{Report, Rows, compare_rows, place_of_other};
 
 /// A table's name, and how many of its keys there are of each kind.
 #[derive(Clone, Copy)]
@@ -45,60 +39,4 @@ pub fn table_reports<'p>(
         right = rights;
     }
     Ok(reports)
-}
-
-/// The place of the first row that isn't of table `t`.
-fn place_of_other(rows: &[(Key, RowBuf)], t: usize) -> Option<usize>
-    ensures { result ≡ position (λ row. not (row.0.table == t)) rows.now }
-{
-    rows.iter().position(|row| usize::from(row.0.table()) != t)
-}
-
-/// Compares two lists of rows by rising key, in one walk over both.
-fn compare_rows(source: &[(Key, RowBuf)], target: &[(Key, RowBuf)]) -> Report
-    requires source { IsRising key_cmp source.now }
-    requires target { IsRising key_cmp target.now }
-    ensures { result ≡ report_of source.now target.now }
-{
-    keys_tie_where_they_are_equal();
-    let mut report = Report {
-        processed: 0,
-        matching: 0,
-        mismatched: 0,
-        extra_source: 0,
-        extra_target: 0,
-    };
-    let mut left = source;
-    let mut right = target;
-    while let (Some((ours, lefts)), Some((theirs, rights))) = (
-        left.split_first(),
-        right.split_first(),
-    ) {
-        match ours.0.cmp(&theirs.0) {
-            Ordering::Less => {
-                report.extra_source += 1;
-                left = lefts;
-            }
-            Ordering::Greater => {
-                report.extra_target += 1;
-                right = rights;
-            }
-            Ordering::Equal => {
-                if ours.1.same(&theirs.1) {
-                    report.matching += 1;
-                } else {
-                    report.mismatched += 1;
-                }
-                left = lefts;
-                right = rights;
-            }
-        }
-    }
-    report.extra_source += left.len();
-    report.extra_target += right.len();
-    report.processed = report.matching
-        + report.mismatched
-        + report.extra_source
-        + report.extra_target;
-    report
 }

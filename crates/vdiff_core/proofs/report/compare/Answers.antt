@@ -1,34 +1,12 @@
-use Rattle.std.proofs.Common.{◌∙◌, ap, sym, inl, inr}
-use Rattle.vdiff_core.proofs.ReportLaws.{none_of, walk_ends, walks_matching, walks_mismatched, walks_source, walks_target}
+use Rattle.std.proofs.Common.{◌∙◌, ap}
 use Rattle.vdiff_core.proofs.TogetherLaws.{processed_keys}
 use Rattle.vdiff_core.specs.declared.report.Report.{Report}
 use Rattle.vdiff_core.proofs.report.compare.Goals as goal
-use Rattle.vdiff_core.proofs.report.compare.Goals.{in_default, in_default-2}
-
-pub loop-ours-preserved-in-Less : goal.loop-ours-preserved-in-Less
-loop-ours-preserved-in-Less c =
-    let w = rw (c.in-Some-Some.ensures.cases.0, c.in-Some-Some.ensures'.cases.0) at c.loop-ours.invariant in
-    rw c.in-Some-Some.ensures'.cases.0 (walks_source _ _ _ _ _ _ _ _ _ _ w (sym c.cmp.ensures ∙ c.in-Less.is))
-
-pub loop-ours-preserved-in-Greater : goal.loop-ours-preserved-in-Greater
-loop-ours-preserved-in-Greater c =
-    let w = rw (c.in-Some-Some.ensures.cases.0, c.in-Some-Some.ensures'.cases.0) at c.loop-ours.invariant in
-    rw c.in-Some-Some.ensures.cases.0 (walks_target _ _ _ _ _ _ _ _ _ _ w (sym c.cmp.ensures ∙ c.in-Greater.is))
-
-pub loop-ours-preserved-then-same : goal.loop-ours-preserved-then-same
-loop-ours-preserved-then-same c =
-    let w = rw (c.in-Some-Some.ensures.cases.0, c.in-Some-Some.ensures'.cases.0) at c.loop-ours.invariant in
-    walks_matching _ _ _ _ _ _ _ _ _ _ w ((c.keys_tie_where_they_are_equal.ensures _ _).0 (sym c.cmp.ensures ∙ c.in-Equal.is)) (c.same.ensures.0 c.if-same.true)
-
-pub loop-ours-preserved : goal.loop-ours-preserved
-loop-ours-preserved c =
-    let w = rw (c.in-Some-Some.ensures.cases.0, c.in-Some-Some.ensures'.cases.0) at c.loop-ours.invariant in
-    walks_mismatched _ _ _ _ _ _ _ _ _ _ w ((c.keys_tie_where_they_are_equal.ensures _ _).0 (sym c.cmp.ensures ∙ c.in-Equal.is)) (λ e. let told = c.same.ensures.1 e in cc)
 
 pub returns-clause-report : goal.returns-clause-report
-returns-clause-report c = walk_ends _ _ _ _ _ _ _ _ c.loop-ours.invariant (elim c.match-split_first.branch [ in_default w ↦ inr (none_of _ w.in_default.ensures'.cases) | in_default-2 w ↦ inl (none_of _ w.in_default.ensures.cases) ])
+returns-clause-report c = rw (← c.as_slice.ensures.rows, ← c.as_slice-2.ensures.rows) c.compare_rows.ensures
 
 pub returns-clause-keys : goal.returns-clause-keys
 returns-clause-keys c =
-    let all = processed_keys (λ a b. (c.keys_tie_where_they_are_equal.ensures a b).0) c.args.source.now c.args.target.now c.as_slice-left.ensures.rising c.as_slice-right.ensures.rising in
+    let all = processed_keys (λ a b. (c.keys_tie_where_they_are_equal.ensures a b).0) c.args.source.now c.args.target.now c.as_slice.ensures.rising c.as_slice-2.ensures.rising in
     (all.0, all.1, ap (λ (r : Report). r.processed) (returns-clause-report c) ∙ all.2)

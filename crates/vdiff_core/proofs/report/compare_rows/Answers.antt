@@ -1,7 +1,7 @@
 use Rattle.std.proofs.Common.{◌∙◌, sym, inl, inr}
 use Rattle.vdiff_core.proofs.ReportLaws.{none_of, walk_ends, walks_matching, walks_mismatched, walks_source, walks_target}
-use Rattle.vdiff_tables.proofs.reports.compare_rows.Goals as goal
-use Rattle.vdiff_tables.proofs.reports.compare_rows.Goals.{in_default, in_default-2}
+use Rattle.vdiff_core.proofs.report.compare_rows.Goals as goal
+use Rattle.vdiff_core.proofs.report.compare_rows.Goals.{in_default, in_default-2}
 
 pub loop-ours-preserved-in-Less : goal.loop-ours-preserved-in-Less
 loop-ours-preserved-in-Less c =
