@@ -12,7 +12,10 @@ pub mod TogetherLaws
 pub mod BesideLaws
 pub mod JoinLaws
 pub mod SaveLaws
+pub mod FirstMetLaws
+pub mod CommonLaws
 pub mod MeetingLaws
+pub mod FurtherLaws
 pub mod ResumeLaws
 pub mod ReadLaws
 pub mod AfterSaveLaws

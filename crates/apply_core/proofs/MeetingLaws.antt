@@ -1,18 +1,18 @@
--- Which rows of two boards are those of the chosen states, the first that clash, and the rows of both together.
-use Rattle.std.proofs.Common.{◌≡◌, ◌≢◌, ◌==◌, ℕ, zero, suc, ◌+◌, ◌<◌, ◌≤◌, ◌⊎◌, inl, inr, Bool, true, false, not, cond, List, [], ◌∷◌, ◌++◌, length, take, Option, Some, None, MatchOption, slice_get, refl, sym, ap, subst, ◌∙◌, arith}
+-- Whose rows are those of the chosen states, and the rows of both boards together.
+use Rattle.std.proofs.Common.{◌≡◌, ◌≢◌, ◌==◌, ℕ, zero, suc, ◌+◌, ◌<◌, ◌≤◌, ◌⊎◌, inl, inr, Bool, true, false, not, cond, List, [], ◌∷◌, ◌++◌, take, Option, Some, None, slice_get, refl, sym, ap, subst, ◌∙◌, arith}
 use Rattle.std.proofs.lemmas.Bool.{eqb-true, eq-eqb, ne_eqb, false≢true, true≢false}
 use Rattle.std.proofs.lemmas.Cmp.{tied_itself}
-use Rattle.std.proofs.lemmas.Option.{same_Some, none-some, slice_get_within}
+use Rattle.std.proofs.lemmas.Option.{same_Some, none-some}
 use Rattle.std.proofs.Math.Nat.{eq-or-lt_of_le}
 use Rattle.std.specs.declared.cmp.Ordering.TheVariants.{Less, Equal, Greater}
 use Rattle.std.specs.List.{AllByRecursion}
 use Rattle.std.specs.Option.{option_or, option_map, option_and_then}
-use Rattle.std.specs.Ordering.{ordering_reverse, is_eq, is_lt}
+use Rattle.std.specs.Ordering.{ordering_reverse, is_lt}
 use Rattle.pk_copy.specs.KeyOrder.{key_cmp}
 use Rattle.pk_copy.specs.KeyOrderLaws.{key_cmp_total}
 use Rattle.pk_copy.specs.KeyValue.{KeyValue}
 use Rattle.target_tables.specs.Contents.{value_at}
-use Rattle.target_tables.specs.Common.{with_other, common}
+use Rattle.target_tables.specs.Common.{common}
 use Rattle.target_tables.specs.Merged.{has_mark, is_true, of_part, AreMerged}
 use Rattle.target_tables.specs.Rising.{IsRising}
 use Rattle.target_tables.specs.Touches.{owner_in_the_way}
@@ -21,7 +21,7 @@ use Rattle.board_laws.specs.Meaning.{State, TargetRows, Meaning}
 use Rattle.board_laws.specs.Lawful.{IsLawful}
 use Rattle.board_laws.specs.Cut.{cut_of, cut_in, own_row}
 use Rattle.board_laws.specs.Step.{due_at}
-use Rattle.board_laws.proofs.Lookups.{Ties, is_key, is_itself, same_key, same_rows, each, all_right}
+use Rattle.board_laws.proofs.Lookups.{Ties, same_rows, each, all_right}
 use Rattle.join_laws.specs.Order.{state_cmp}
 use Rattle.join_laws.specs.Chosen.{all_chosen}
 use Rattle.join_laws.specs.Joined.{rows_from}
@@ -30,152 +30,10 @@ use Rattle.join_laws.specs.Refused.{IsFirstClash}
 use Rattle.join_laws.proofs.Pairs.{partner, IsChosenOf, chosen_at}
 use Rattle.join_laws.proofs.Rows.{row_of_one, rising_from, value_from, IsRowOf, whose, some_row}
 use Rattle.apply_core.specs.Private.Beside.{plans_in}
-use Rattle.apply_core.specs.Private.Meeting.{IsMark, AreMarksUpTo, AreFurtherMarks, Met, clashes, AreOrdered, IsNoneBefore, IsNoneUpTo, NoneClash, IsFirstMet}
+use Rattle.apply_core.specs.Private.Meeting.{AreFurtherMarks, Met, clashes, IsNoneBefore, IsNoneUpTo, NoneClash, IsFirstMet}
 use Rattle.apply_core.proofs.JoinLaws.{chosen_first, chosen_second}
-
--- ---- one key more
-
-all_join : {X : Type 0} (P : X → Type 0) (xs ys : List X) → AllByRecursion P xs → AllByRecursion P ys → AllByRecursion P (xs ++ ys)
-all_join P [] ys h k = k
-all_join P (x ∷ xs) ys h k = (h.0, all_join P xs ys h.1 k)
-
-append_assoc : {X : Type 0} (xs ys zs : List X) → (xs ++ ys) ++ zs ≡ xs ++ (ys ++ zs)
-append_assoc [] ys zs = refl
-append_assoc {X} (x ∷ xs) ys zs = ap (λ (l : List X). x ∷ l) (append_assoc xs ys zs)
-
-never : {P : Type 0} (b : Bool) → b ≡ false → b ≡ true → P
-never b e f = absurd (true≢false (sym f ∙ e))
-
-module _ (marks : List Bool) (seen : List Met) (met : Met) where
-  pub none_more : NoneClash marks seen → clashes marks met.1.0 met.1.1 ≡ false → NoneClash marks (seen ++ met ∷ [])
-  none_more none e = all_join (λ (m : Met). clashes marks m.1.0 m.1.1 ≡ false) seen (met ∷ []) none (e, tt)
-
-  pub first_is : (later lower : ℕ) → NoneClash marks seen → clashes marks met.1.0 met.1.1 ≡ true → AreOrdered met.1.0 met.1.1 later lower → IsFirstMet marks (seen ++ met ∷ []) met.0 later lower
-  first_is later lower none clash order = record {
-    front = seen;
-    met = met;
-    back = [];
-    parts = refl;
-    is = refl;
-    clash = clash;
-    order = order;
-    before = each (λ (m : Met). clashes marks m.1.0 m.1.1 ≡ false) (IsNoneUpTo marks later) (λ m e. never (clashes marks m.1.0 m.1.1) e) seen none;
-    behind = tt;
-  }
-
-  module _ (key : KeyValue) (least own : ℕ) (h : IsFirstMet marks seen key least own) where
-    pub first_stays : (clashes marks met.1.0 met.1.1 ≡ true → (least ≤ met.1.0) ⊎ (least ≤ met.1.1)) → IsFirstMet marks (seen ++ met ∷ []) key least own
-    first_stays late = record {
-      front = h.front;
-      met = h.met;
-      back = h.back ++ met ∷ [];
-      parts = ap (λ (l : List Met). l ++ met ∷ []) h.parts ∙ append_assoc h.front (h.met ∷ h.back) (met ∷ []);
-      is = h.is;
-      clash = h.clash;
-      order = h.order;
-      before = h.before;
-      behind = all_join (IsNoneBefore marks least) h.back (met ∷ []) h.behind (late, tt);
-    }
-
-    pub first_sooner : (later lower : ℕ) → clashes marks met.1.0 met.1.1 ≡ true → AreOrdered met.1.0 met.1.1 later lower → later < least → IsFirstMet marks (seen ++ met ∷ []) met.0 later lower
-    first_sooner later lower clash order less = record {
-      front = seen;
-      met = met;
-      back = [];
-      parts = refl;
-      is = refl;
-      clash = clash;
-      order = order;
-      before = subst (AllByRecursion (IsNoneUpTo marks later)) (sym h.parts)
-          (all_join (IsNoneUpTo marks later) h.front (h.met ∷ h.back)
-          (each (IsNoneUpTo marks least) (IsNoneUpTo marks later) (λ m f c. elim (f c) [ inl l ↦ inl (omega (arith, l, less)) | inr l ↦ inr (omega (arith, l, less)) ]) h.front h.before) (
-            (λ _. (elim h.order [ inl o ↦ inl (let e : least ≡ h.met.1.0 = o.0 in omega (arith, e, less)) | inr o ↦ inr (let e : least ≡ h.met.1.1 = o.0 in omega (arith, e, less)) ])),
-            each (IsNoneBefore marks least) (IsNoneUpTo marks later) (λ m f c. elim (f c) [ inl l ↦ inl (omega (arith, l, less)) | inr l ↦ inr (omega (arith, l, less)) ]) h.back h.behind,
-          ));
-      behind = tt;
-    }
-
--- ---- what the keys that both have are
-
--- both lists have a row there, of these streams
-pub record Stands (one other : TargetRows) (met : Met) : Type 0 where
-  pub first : ℕ × RowValue
-  pub second : ℕ × RowValue
-  pub here : value_at key_cmp one met.0 ≡ Some first
-  pub there : value_at key_cmp other met.0 ≡ Some second
-  pub stream : met.1.0 ≡ first.0
-  pub beside : met.1.1 ≡ second.0
-  pub above : (d : KeyValue) → AllByRecursion (λ (e : KeyValue × (ℕ × RowValue)). key_cmp d e.0 ≡ Less) one → key_cmp d met.0 ≡ Less
-
-all_stand : (one other : TargetRows) → IsRising key_cmp one → AllByRecursion (Stands one other) (common key_cmp one other)
-all_stand [] other h = tt
-all_stand (e ∷ one) other h = by (later (all_stand one other h.1)) (value_at key_cmp other e.0) refl
-  where
-    later : AllByRecursion (Stands one other) (common key_cmp one other) → AllByRecursion (Stands (e ∷ one) other) (common key_cmp one other)
-    later rest = each (Stands one other) (Stands (e ∷ one) other) (λ m st. keep m st) (common key_cmp one other) rest
-      where
-        keep : (m : Met) → Stands one other m → Stands (e ∷ one) other m
-        keep m st =
-            let less : key_cmp e.0 m.0 ≡ Less = st.above e.0 h.0 in
-            let greater : key_cmp m.0 e.0 ≡ Greater = key_cmp_total.antisymm m.0 e.0 ∙ ap ordering_reverse less in
-            record {
-              first = st.first;
-              second = st.second;
-              here = ap (λ r. cond (is_eq r) (Some e.1) (value_at key_cmp one m.0)) greater ∙ st.here;
-              there = st.there;
-              stream = st.stream;
-              beside = st.beside;
-              above = λ d up. st.above d up.1;
-            }
-
-    by : AllByRecursion (Stands (e ∷ one) other) (common key_cmp one other) → (v : Option (ℕ × RowValue)) → value_at key_cmp other e.0 ≡ v → AllByRecursion (Stands (e ∷ one) other) (with_other e v (common key_cmp one other))
-    by rest None p = rest
-    by rest (Some w) p = (
-      record {
-        first = e.1;
-        second = w;
-        here = ap (λ b. cond b (Some e.1) (value_at key_cmp one e.0)) (is_itself e.0);
-        there = p;
-        stream = refl;
-        beside = refl;
-        above = λ d up. up.0;
-      },
-      rest,
-    )
-
-rising_common : (one other : TargetRows) → IsRising key_cmp one → IsRising key_cmp (common key_cmp one other)
-rising_common [] other h = tt
-rising_common (e ∷ one) other h = by (rising_common one other h.1) (value_at key_cmp other e.0)
-  where
-    by : IsRising key_cmp (common key_cmp one other) → (v : Option (ℕ × RowValue)) → IsRising key_cmp (with_other e v (common key_cmp one other))
-    by rest None = rest
-    by rest (Some w) = (
-      each (Stands one other) (λ (m : Met). key_cmp e.0 m.0 ≡ Less) (λ m st. st.above e.0 h.0) (common key_cmp one other) (all_stand one other h.1),
-      rest,
-    )
-
--- what is true of each such key
-of_common : (ties : Ties) (P : Met → Type 0) (one other : TargetRows) (k : KeyValue) (v w : ℕ × RowValue) → value_at key_cmp one k ≡ Some v → value_at key_cmp other k ≡ Some w
-    → AllByRecursion P (common key_cmp one other) → P (k, (v.0, w.0))
-of_common ties P [] other k v w e f h = absurd (none-some v e)
-of_common ties P (x ∷ one) other k v w e f h = by (λ p all. of_common ties P one other k v w p f all) (is_key k x.0) refl
-  where
-    rest : (o : Option (ℕ × RowValue)) → AllByRecursion P (with_other x o (common key_cmp one other)) → AllByRecursion P (common key_cmp one other)
-    rest None all = all
-    rest (Some y) all = all.1
-
-    front : AllByRecursion P (with_other x (Some w) (common key_cmp one other)) → P (x.0, (x.1.0, w.0))
-    front all = all.0
-
-    by : (value_at key_cmp one k ≡ Some v → AllByRecursion P (common key_cmp one other) → P (k, (v.0, w.0))) → (b : Bool) → is_key k x.0 ≡ b → P (k, (v.0, w.0))
-    by again true q =
-        let key : k ≡ x.0 = same_key ties k x.0 q in
-        let value : x.1 ≡ v = same_Some x.1 v (sym (ap (λ b. cond b (Some x.1) (value_at key_cmp one k)) q) ∙ e) in
-        let there : value_at key_cmp other x.0 ≡ Some w = sym (ap (value_at key_cmp other) key) ∙ f in
-        let p : P (x.0, (x.1.0, w.0)) = front (subst (λ (o : Option (ℕ × RowValue)). AllByRecursion P (with_other x o (common key_cmp one other))) there h) in
-        subst (λ (n : ℕ). P (k, (n, w.0))) (ap (λ (y : ℕ × RowValue). y.0) value) (subst (λ (q : KeyValue). P (q, (x.1.0, w.0))) (sym key) p)
-    by again false q =
-        again (sym (ap (λ b. cond b (Some x.1) (value_at key_cmp one k)) q) ∙ e) (rest (value_at key_cmp other x.0) h)
+use Rattle.apply_core.proofs.FirstMetLaws.{all_join, never}
+use Rattle.apply_core.proofs.CommonLaws.{Stands, all_stand, rising_common, of_common}
 
 -- ---- whose rows are those of the chosen states
 
@@ -535,38 +393,3 @@ module _ (ties : Ties) (a b : Meaning) (marks : List Bool) (la : IsLawful a) (lb
               other_streams of.place (sym (ap (has_mark marks false) same) ∙ t) x.0))
               ∙ is_of (value_at key_cmp b.rows k) (has_mark marks true) (of.place, v.1) x.1 x.0
               ∙ is
-
--- ---- the marks
-
-push_before : {A : Type 0} (xs : List A) (x : A) (i : ℕ) → i < length xs → slice_get (xs ++ x ∷ []) i ≡ slice_get xs i
-push_before [] x i less = absurd (omega arith)
-push_before (y ∷ xs) x zero less = refl
-push_before (y ∷ xs) x (suc i) less = push_before xs x i (omega arith)
-
-push_at : {A : Type 0} (xs : List A) (x : A) (i : ℕ) → i ≡ length xs → slice_get (xs ++ x ∷ []) i ≡ Some x
-push_at [] x zero e = refl
-push_at [] x (suc i) e = absurd (omega arith)
-push_at (y ∷ xs) x zero e = absurd (omega arith)
-push_at (y ∷ xs) x (suc i) e = push_at xs x i (omega arith)
-
--- one stream's mark more
-pub marked_more : (xs ys : List State) (n : ℕ) (marks : List Bool) (mark : Bool) → length marks ≡ n → AreMarksUpTo n xs ys marks → IsMark xs ys n mark → AreMarksUpTo (n + 1) xs ys (marks ++ mark ∷ [])
-marked_more xs ys n marks mark long h is s x y less p q = by (eq-or-lt_of_le (let le : s ≤ n = omega (arith, less) in le))
-  where
-    by : (s ≡ n) ⊎ (s < n) → slice_get (marks ++ mark ∷ []) s ≡ Some (is_lt (state_cmp x y))
-    by (inl same) = push_at marks mark s (same ∙ sym long) ∙ ap (λ (b : Bool). Some b) (is x y (sym (ap (slice_get xs) same) ∙ p) (sym (ap (slice_get ys) same) ∙ q))
-    by (inr before) = push_before marks mark s (omega (arith, before, long)) ∙ h s x y before p q
-
-pub all_marked : (xs ys : List State) (n : ℕ) (marks : List Bool) → length xs ≤ n → AreMarksUpTo n xs ys marks → AreFurtherMarks xs ys marks
-all_marked xs ys n marks most h s x y p q = let inside : s < length xs = slice_get_within xs s x p in h s x y (omega (arith, inside, most)) p q
-
-pub no_marks : (xs ys : List State) (marks : List Bool) → AreMarksUpTo 0 xs ys marks
-no_marks xs ys marks s x y less p q = absurd (omega arith)
-
--- ---- cases of an option
-
-pub from_none : {A : Type 0} (X : Type 0) (Q : A → Type 0) (o : Option A) → o ≡ None → MatchOption o X Q → X
-from_none {A} X Q o e h = subst (λ (p : Option A). MatchOption p X Q) e h
-
-pub from_some : {A : Type 0} (X : Type 0) (Q : A → Type 0) (o : Option A) (a : A) → o ≡ Some a → MatchOption o X Q → Q a
-from_some {A} X Q o a e h = subst (λ (p : Option A). MatchOption p X Q) e h

@@ -57,13 +57,9 @@ fn puts_of_next_on(alloc: Global, streams: &[Stream<'_>], s: u8) -> Result<Puts,
         return Err(Refusal::NoStream);
     }
     let stream = &streams[s as usize];
-    match stream.judge(Step::Advance) {
-        Err(refusal) => Err(Refusal::Core(refusal)),
-        Ok(()) => match stream.puts_of_next(alloc) {
-            Err(_) => Err(Refusal::Memory),
-            Ok(puts) => Ok(puts),
-        },
-    }
+    stream.judge(Step::Advance)?;
+    let puts = stream.puts_of_next(alloc)?;
+    Ok(puts)
 }
 
 /// Whether nothing that stream `s` has itself is against applying its next group. Takes no memory.
@@ -74,10 +70,8 @@ fn may_advance(streams: &[Stream<'_>], s: u8) -> Result<(), Refusal>
     if s as usize >= streams.len() {
         return Err(Refusal::NoStream);
     }
-    match streams[s as usize].judge(Step::Advance) {
-        Err(refusal) => Err(Refusal::Core(refusal)),
-        Ok(()) => Ok(()),
-    }
+    streams[s as usize].judge(Step::Advance)?;
+    Ok(())
 }
 
 /// The next group of stream `s` counts as applied. That it may is the caller's. Takes no memory.
@@ -98,13 +92,9 @@ impl<'h> Board<'h> {
     pub fn advance(&mut self, alloc: Global, s: u8) -> Result<u32, Refusal>
         ensures { IsStep self.old s advance (answered answers.Answer.Applied result) self.new }
     {
-        match puts_of_next_on(alloc, &self.streams, s) {
-            Err(refusal) => Err(refusal),
-            Ok(puts) => match self.advance_by(alloc, s, puts) {
-                Err(refusal) => Err(refusal),
-                Ok((number, _)) => Ok(number),
-            },
-        }
+        let puts = puts_of_next_on(alloc, &self.streams, s)?;
+        let (number, _) = self.advance_by(alloc, s, puts)?;
+        Ok(number)
     }
 
     /// The same with puts that were built before, so that a target that is shared needn't be held
@@ -121,12 +111,10 @@ impl<'h> Board<'h> {
         ensures { IsStep self.old s advance (answered (λ made. answers.Answer.Applied made.0) result) self.new }
     {
         steps_keep_boards_lawful();
-        match may_advance(&self.streams, s) {
-            Err(refusal) => Err(refusal),
-            Ok(()) => match self.rows.apply(alloc, s, puts.changes) {
-                Err(fault) => Err(refusal_by(fault)),
-                Ok(freed) => Ok((advance_on(&mut self.streams, s), freed)),
-            },
+        may_advance(&self.streams, s)?;
+        match self.rows.apply(alloc, s, puts.changes) {
+            Err(fault) => Err(refusal_by(fault)),
+            Ok(freed) => Ok((advance_on(&mut self.streams, s), freed)),
         }
     }
 }

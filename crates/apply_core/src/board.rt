@@ -61,13 +61,11 @@ impl<'h> Board<'h> {
         if !have_same_tables(&plans) {
             return Err(Refusal::WrongPlan);
         }
-        match fresh_streams(alloc, plans) {
-            Err(_) => Err(Refusal::Memory),
-            Ok(streams) => Ok(Board {
-                streams,
-                rows: Tables::new(alloc),
-            }),
-        }
+        let streams = fresh_streams(alloc, plans)?;
+        Ok(Board {
+            streams,
+            rows: Tables::new(alloc),
+        })
     }
 
     /// A group is offered to stream `s`: it is read, or was read before.

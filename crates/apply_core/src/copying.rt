@@ -96,13 +96,9 @@ fn chunk_on(alloc: Global, streams: &[Stream<'_>], s: u8, c: u32) -> Result<Chun
         return Err(Refusal::NoStream);
     }
     let stream = &streams[s as usize];
-    match stream.judge(Step::CopyRows(c)) {
-        Err(refusal) => Err(Refusal::Core(refusal)),
-        Ok(()) => match stream.take_chunk(alloc, c) {
-            Err(_) => Err(Refusal::Memory),
-            Ok(taken) => Ok(taken),
-        },
-    }
+    stream.judge(Step::CopyRows(c))?;
+    let chunk = stream.take_chunk(alloc, c)?;
+    Ok(chunk)
 }
 
 /// The chunk of stream `s` counts as copied. That it may is the caller's. Takes no memory.
@@ -127,13 +123,9 @@ impl<'h> Board<'h> {
     pub fn copy_chunk(&mut self, alloc: Global, s: u8, c: u32) -> Result<Copied, Refusal>
         ensures { IsStep self.old s (copy_rows c) (answered answers.Answer.Copied result) self.new }
     {
-        match self.next_chunk(alloc, s, c) {
-            Err(refusal) => Err(refusal),
-            Ok(chunk) => match self.copy_by(alloc, s, c, chunk) {
-                Err(refusal) => Err(refusal),
-                Ok((copied, _)) => Ok(copied),
-            },
-        }
+        let chunk = self.next_chunk(alloc, s, c)?;
+        let (copied, _) = self.copy_by(alloc, s, c, chunk)?;
+        Ok(copied)
     }
 
     /// The next chunk of stream `s`, of up to `c` rows, in memory of its own. Refused as `copy_chunk` is, a

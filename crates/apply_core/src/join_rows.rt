@@ -134,17 +134,12 @@ pub(crate) fn mark_further(
     keys_tie_where_they_are_equal();
     a.is_lawful();
     b.is_lawful();
-    let Ok(marks) = marks_of(alloc, a, b) else {
-        return Err(JoinFault::Memory);
+    let marks = marks_of(alloc, a, b)?;
+    let Some(met) = first_met(&marks, a.rows.common(&b.rows)) else {
+        return Ok(marks);
     };
-    match first_met(&marks, a.rows.common(&b.rows)) {
-        None => Ok(marks),
-        Some(met) => match met.key.try_clone(alloc) {
-            Err(_) => Err(JoinFault::Memory),
-            Ok(key) => Err(JoinFault::OwnedByOther {
-                key,
-                owner: met.lower,
-            }),
-        },
-    }
+    Err(JoinFault::OwnedByOther {
+        key: met.key.try_clone(alloc)?,
+        owner: met.lower,
+    })
 }

@@ -42,26 +42,17 @@ impl<'h> Board<'h> {
     {
         match step {
             Step::Offer(number) => self.offer_of(alloc, feed, s, number),
-            Step::Advance => match self.advance(alloc, s) {
-                Ok(number) => Ok(Answer::Applied(number)),
-                Err(refusal) => Err(StepRefusal::Refused(refusal)),
+            Step::Advance => Ok(Answer::Applied(self.advance(alloc, s)?)),
+            Step::OpenAt(group) => {
+                self.open_snapshot(alloc, s, group)?;
+                Ok(Answer::Opened(group))
             },
-            Step::OpenAt(group) => match self.open_snapshot(alloc, s, group) {
-                Ok(()) => Ok(Answer::Opened(group)),
-                Err(refusal) => Err(StepRefusal::Refused(refusal)),
+            Step::CopyRows(rows) => Ok(Answer::Copied(self.copy_chunk(alloc, s, rows)?)),
+            Step::Close => {
+                self.close_snapshot(s)?;
+                Ok(Answer::Closed)
             },
-            Step::CopyRows(rows) => match self.copy_chunk(alloc, s, rows) {
-                Ok(copied) => Ok(Answer::Copied(copied)),
-                Err(refusal) => Err(StepRefusal::Refused(refusal)),
-            },
-            Step::Close => match self.close_snapshot(s) {
-                Ok(()) => Ok(Answer::Closed),
-                Err(refusal) => Err(StepRefusal::Refused(refusal)),
-            },
-            Step::Restart => match self.restart(s) {
-                Ok(applied) => Ok(Answer::Restarted(applied)),
-                Err(refusal) => Err(StepRefusal::Refused(refusal)),
-            },
+            Step::Restart => Ok(Answer::Restarted(self.restart(s)?)),
         }
     }
 

@@ -157,11 +157,7 @@ pub fn run_schedule<'h>(
     streams_read_their_feeds();
     rows_are_replayed();
     boards_show_their_sources();
-    match fed_board(alloc, plans, feeds) {
-        Err(refusal) => Err(refusal),
-        Ok(mut board) => match board.take_steps(alloc, feeds, steps) {
-            Err(_) => Err(Refusal::Memory),
-            Ok(replies) => Ok((board, replies)),
-        },
-    }
+    let mut board = fed_board(alloc, plans, feeds)?;
+    let replies = board.take_steps(alloc, feeds, steps)?;
+    Ok((board, replies))
 }

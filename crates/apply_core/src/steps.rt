@@ -68,13 +68,9 @@ pub(crate) fn open_on(
         return Err(Refusal::NoStream);
     }
     let stream = &mut streams[s as usize];
-    match stream.judge(Step::OpenAt(group)) {
-        Err(refusal) => Err(Refusal::Core(refusal)),
-        Ok(()) => match stream.open_at(alloc, group) {
-            Err(_) => Err(Refusal::Memory),
-            Ok(()) => Ok(()),
-        },
-    }
+    stream.judge(Step::OpenAt(group))?;
+    stream.open_at(alloc, group)?;
+    Ok(())
 }
 
 /// The snapshot of stream `s` is closed. Takes no memory.
@@ -85,13 +81,9 @@ pub(crate) fn close_on(streams: &mut [Stream<'_>], s: u8) -> Result<(), Refusal>
         return Err(Refusal::NoStream);
     }
     let stream = &mut streams[s as usize];
-    match stream.judge(Step::Close) {
-        Err(refusal) => Err(Refusal::Core(refusal)),
-        Ok(()) => {
-            stream.close();
-            Ok(())
-        }
-    }
+    stream.judge(Step::Close)?;
+    stream.close();
+    Ok(())
 }
 
 /// Stream `s` starts again behind its applied group. Takes no memory.

@@ -101,8 +101,27 @@ fn is_dump_of(alloc: Global, rows: &Rows, feeds: &[Feed<'_>], wanted: &[u8]) -> 
     }
 }
 
-/// Whether this is the dump of the target under the plan of the first of these feeds.
+/// Whether this is the dump of the rows as they lie in the board, under the plan of the first of these feeds.
+fn writes(alloc: Global, board: &Board<'_>, feeds: &[Feed<'_>], wanted: &[u8]) -> bool {
+    let Some(feed) = feeds.first() else {
+        return false;
+    };
+    let mut page = Page {
+        bytes: Vec::new(alloc),
+        failures: 0,
+    };
+    match board.write_dump(&mut page, feed.plan()) {
+        Ok(()) => page.bytes.as_slice() == wanted,
+        Err(_) => false,
+    }
+}
+
+/// Whether this is the dump of the target under the plan of the first of these feeds, written of the rows as they lie
+/// there and of their copies.
 pub(crate) fn dumps(alloc: Global, board: &Board<'_>, feeds: &[Feed<'_>], wanted: &[u8]) -> bool {
+    if !writes(alloc, board, feeds, wanted) {
+        return false;
+    }
     match board.rows(alloc) {
         Ok(rows) => is_dump_of(alloc, &rows, feeds, wanted),
         Err(_) => false,

@@ -1,7 +1,7 @@
 use Rattle.std.proofs.Common.{◌≡◌, ◌≤◌, inl, inr, true, false, ◌∷◌, ◌++◌, [], sym, subst, ◌∙◌, arith}
 use Rattle.pk_copy.specs.KeyValue.{KeyValue}
 use Rattle.apply_core.specs.Private.Meeting.{clashes, NoneClash, IsFirstMet}
-use Rattle.apply_core.proofs.MeetingLaws.{none_more, first_is, first_stays, first_sooner, from_none, from_some}
+use Rattle.apply_core.proofs.FirstMetLaws.{none_more, first_is, first_stays, first_sooner, from_none, from_some}
 use Rattle.apply_core.proofs.join_rows.keep_first.Goals as goal
 
 pub returns-then-clash : goal.returns-then-clash

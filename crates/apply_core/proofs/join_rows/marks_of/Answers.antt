@@ -2,7 +2,7 @@ use Rattle.std.proofs.Common.{◌≡◌, ◌≤◌, ◌+◌, ◌++◌, ◌∷◌
 use Rattle.std.proofs.lemmas.List.{length-append}
 use Rattle.board_laws.specs.Meaning.{Meaning}
 use Rattle.apply_core.specs.Private.Meeting.{AreMarksUpTo}
-use Rattle.apply_core.proofs.MeetingLaws.{marked_more, all_marked}
+use Rattle.apply_core.proofs.FurtherLaws.{marked_more, all_marked}
 use Rattle.apply_core.proofs.join_rows.marks_of.Goals as goal
 
 pub loop-s-preserved : goal.loop-s-preserved

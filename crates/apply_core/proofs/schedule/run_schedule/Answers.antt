@@ -11,24 +11,24 @@ use Rattle.apply_core.proofs.schedule.run_schedule.Goals as goal
 pub returns-clause-rows : goal.returns-clause-rows
 returns-clause-rows c =
     let plans = map arc_value c.args.plans.items in
-    let start : IsLawful (fresh_board plans) = fresh-board arc_value c.fresh_boards_are_lawful.ensures c.args.plans.items c.requires.some c.requires.few c.in-Ok.ensures.fed.tables (map start_of plans) [] refl refl in
-    let run : IsRun c.args.feeds.now (fresh_board plans) c.args.steps.now c.in-Ok-take_steps.replies.items c.take_steps.new.self
-    = subst (λ (b : Meaning). IsRun c.args.feeds.now b c.args.steps.now c.in-Ok-take_steps.replies.items c.take_steps.new.self) c.in-Ok.ensures.fresh c.in-Ok-take_steps.ensures.run in
+    let start : IsLawful (fresh_board plans) = fresh-board arc_value c.fresh_boards_are_lawful.ensures c.args.plans.items c.requires.some c.requires.few c.in_ok-board.ensures.fed.tables (map start_of plans) [] refl refl in
+    let run : IsRun c.args.feeds.now (fresh_board plans) c.args.steps.now c.in_ok-replies.replies.items c.take_steps.new.self
+    = subst (λ (b : Meaning). IsRun c.args.feeds.now b c.args.steps.now c.in_ok-replies.replies.items c.take_steps.new.self) c.in_ok-board.ensures.fresh c.in_ok-replies.ensures.run in
     let lawful : IsLawful c.take_steps.new.self
-    = c.streams_follow_their_own_steps.ensures.lawful c.args.feeds.now (fresh_board plans) c.take_steps.new.self c.args.steps.now c.in-Ok-take_steps.replies.items run start in
+    = c.streams_follow_their_own_steps.ensures.lawful c.args.feeds.now (fresh_board plans) c.take_steps.new.self c.args.steps.now c.in_ok-replies.replies.items run start in
     c.rows_are_replayed.ensures c.take_steps.new.self lawful
 
 pub returns-clause-reads : goal.returns-clause-reads
 returns-clause-reads c =
-    c.in-Ok-take_steps.ensures.reads c.in-Ok.ensures.reads
+    c.in_ok-replies.ensures.reads c.in_ok-board.ensures.reads
 
 pub returns-clause-shows : goal.returns-clause-shows
 returns-clause-shows c =
-    c.in-Ok-take_steps.ensures.shows c.in-Ok.ensures.reads
+    c.in_ok-replies.ensures.shows c.in_ok-board.ensures.reads
 
 pub returns-clause-own : goal.returns-clause-own
 returns-clause-own c =
     let plans = map arc_value c.args.plans.items in
-    let run : IsRun c.args.feeds.now (fresh_board plans) c.args.steps.now c.in-Ok-take_steps.replies.items c.take_steps.new.self
-    = subst (λ (b : Meaning). IsRun c.args.feeds.now b c.args.steps.now c.in-Ok-take_steps.replies.items c.take_steps.new.self) c.in-Ok.ensures.fresh c.in-Ok-take_steps.ensures.run in
-    all-taken c.args.feeds.now plans c.in-Ok.ensures.fed.opened c.streams_follow_their_own_steps.ensures.follow c.args.steps.now c.in-Ok-take_steps.replies.items c.take_steps.new.self run
+    let run : IsRun c.args.feeds.now (fresh_board plans) c.args.steps.now c.in_ok-replies.replies.items c.take_steps.new.self
+    = subst (λ (b : Meaning). IsRun c.args.feeds.now b c.args.steps.now c.in_ok-replies.replies.items c.take_steps.new.self) c.in_ok-board.ensures.fresh c.in_ok-replies.ensures.run in
+    all-taken c.args.feeds.now plans c.in_ok-board.ensures.fed.opened c.streams_follow_their_own_steps.ensures.follow c.args.steps.now c.in_ok-replies.replies.items c.take_steps.new.self run

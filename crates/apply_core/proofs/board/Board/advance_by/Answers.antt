@@ -5,21 +5,21 @@ use Rattle.board_laws.specs.Meaning.{Meaning}
 use Rattle.apply_core.proofs.ApplyLaws.{puts_here, lent-refused, lent-made, lent-made-lawful}
 use Rattle.apply_core.proofs.board.Board.advance_by.Goals as goal
 
-pub invariant_of-self-in-Ok-apply : goal.invariant_of-self-in-Ok-apply
-invariant_of-self-in-Ok-apply c =
+pub invariant_of-self-in-Ok : goal.invariant_of-self-in-Ok
+invariant_of-self-in-Ok c =
     let same : length c.advance_on.new.streams ≡ c.self.inside.streams.len = omega (arith, c.advance_on.auto.streams, c.deref_mut.ensures.len) in
-    lent-made-lawful c.self.inside.streams.items c.self.inside.rows.entries c.apply.new.self.entries c.args.s advance c.args.puts.changes.items c.self.invariant tt c.deref.result.now c.deref.ensures.value (puts_here c.deref.result.now c.self.inside.streams.items c.args.self.now.streams c.args.s advance c.args.puts.changes.items c.deref.ensures.value (ap (λ (b : Meaning). b.streams) c.self.view_is) c.in-Ok.ensures.may c.requires)
-    c.steps_keep_boards_lawful.ensures.touches c.in-Ok-apply.ensures.clear c.in-Ok-apply.ensures.values c.in-Ok-apply.ensures.rising
+    lent-made-lawful c.self.inside.streams.items c.self.inside.rows.entries c.apply.new.self.entries c.args.s advance c.args.puts.changes.items c.self.invariant tt c.deref.result.now c.deref.ensures.value (puts_here c.deref.result.now c.self.inside.streams.items c.args.self.now.streams c.args.s advance c.args.puts.changes.items c.deref.ensures.value (ap (λ (b : Meaning). b.streams) c.self.view_is) c.in_ok-may_advance.ensures.may c.requires)
+    c.steps_keep_boards_lawful.ensures.touches c.in-Ok.ensures.clear c.in-Ok.ensures.values c.in-Ok.ensures.rising
     (Applied c.advance_on.result) c.deref_mut.result.now c.advance_on.new.streams c.deref_mut.ensures.value c.advance_on.ensures c.self.inside.streams.len same
 
-pub returns-in-Err-apply : goal.returns-in-Err-apply
-returns-in-Err-apply c =
-    lent-refused c.self.inside.streams.items c.self.inside.rows.entries c.apply.new.self.entries c.args.s advance c.args.puts.changes.items c.self.invariant tt c.deref.result.now c.deref.ensures.value (puts_here c.deref.result.now c.self.inside.streams.items c.args.self.now.streams c.args.s advance c.args.puts.changes.items c.deref.ensures.value (ap (λ (b : Meaning). b.streams) c.self.view_is) c.in-Ok.ensures.may c.requires)
-    c.steps_keep_boards_lawful.ensures.clashes (λ state. refl) c.in-Err-apply.fault c.in-Err-apply.ensures.refused c.refusal_by.result c.refusal_by.ensures c.in-Err-apply.ensures.unchanged c.args.self.now c.self.view_is
+pub returns-in-Err : goal.returns-in-Err
+returns-in-Err c =
+    lent-refused c.self.inside.streams.items c.self.inside.rows.entries c.apply.new.self.entries c.args.s advance c.args.puts.changes.items c.self.invariant tt c.deref.result.now c.deref.ensures.value (puts_here c.deref.result.now c.self.inside.streams.items c.args.self.now.streams c.args.s advance c.args.puts.changes.items c.deref.ensures.value (ap (λ (b : Meaning). b.streams) c.self.view_is) c.in_ok-may_advance.ensures.may c.requires)
+    c.steps_keep_boards_lawful.ensures.clashes (λ state. refl) c.in-Err.fault c.in-Err.ensures.refused c.refusal_by.result c.refusal_by.ensures c.in-Err.ensures.unchanged c.args.self.now c.self.view_is
 
-pub returns-in-Ok-apply : goal.returns-in-Ok-apply
-returns-in-Ok-apply c =
+pub returns-in-Ok : goal.returns-in-Ok
+returns-in-Ok c =
     let same : length c.advance_on.new.streams ≡ c.self.inside.streams.len = omega (arith, c.advance_on.auto.streams, c.deref_mut.ensures.len) in
-    lent-made c.self.inside.streams.items c.self.inside.rows.entries c.apply.new.self.entries c.args.s advance c.args.puts.changes.items c.self.invariant tt c.deref.result.now c.deref.ensures.value (puts_here c.deref.result.now c.self.inside.streams.items c.args.self.now.streams c.args.s advance c.args.puts.changes.items c.deref.ensures.value (ap (λ (b : Meaning). b.streams) c.self.view_is) c.in-Ok.ensures.may c.requires)
-    c.steps_keep_boards_lawful.ensures.touches c.in-Ok-apply.ensures.clear c.in-Ok-apply.ensures.values c.in-Ok-apply.ensures.rising
+    lent-made c.self.inside.streams.items c.self.inside.rows.entries c.apply.new.self.entries c.args.s advance c.args.puts.changes.items c.self.invariant tt c.deref.result.now c.deref.ensures.value (puts_here c.deref.result.now c.self.inside.streams.items c.args.self.now.streams c.args.s advance c.args.puts.changes.items c.deref.ensures.value (ap (λ (b : Meaning). b.streams) c.self.view_is) c.in_ok-may_advance.ensures.may c.requires)
+    c.steps_keep_boards_lawful.ensures.touches c.in-Ok.ensures.clear c.in-Ok.ensures.values c.in-Ok.ensures.rising
     (Applied c.advance_on.result) c.deref_mut.result.now c.advance_on.new.streams c.deref_mut.ensures.value c.advance_on.ensures c.self.inside.streams.len same c.args.self.now c.self.view_is

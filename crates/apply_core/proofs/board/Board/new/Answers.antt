@@ -9,4 +9,4 @@ pub invariant_of-result : goal.invariant_of-result
 invariant_of-result c =
     fresh-board arc_value c.fresh_boards_are_lawful.ensures c.args.plans.items c.requires.some c.requires.few
     (subst (λ plans. HaveSameTables (map arc_value plans)) c.deref.ensures.value (c.have_same_tables.ensures.0 (subst IsTrue (sym c.if-not-have_same_tables.false) refl)))
-    c.in-Ok.streams.items c.new.result.entries c.in-Ok.ensures c.new.ensures
+    c.in_ok-streams.streams.items c.new.result.entries c.in_ok-streams.ensures c.new.ensures
