@@ -32,7 +32,7 @@ use std::alloc::Global;
 use std::sync::{Arc, Wait};
 use std::thread::Threads;
 use stream_worker::{Policy, RunRefusal, run_alone, run_parallel};
-use vdiff_core::{Gathered, Out, OutFailed, Rows, write_dump};
+use vdiff_core::{Gathered, Out, OutFailed};
 
 /// Why a run prints no dump.
 #[derive(Drop)]
@@ -131,34 +131,34 @@ fn print_run<R: Threads + Wait + Sync, G: Progress + Sync, W: Out>(
     let Ok(given) = given_feeds(alloc, hex, feeds) else {
         return Err(RunFault::Given(Refusal::Memory));
     };
-    let (plan, rows) = filled_rows(rt, alloc, alone, policy, gate, workflow, &given)?;
-    match print_rows(out, &plan, &rows) {
+    let (plan, board) = filled_board(rt, alloc, alone, policy, gate, workflow, &given)?;
+    match print_rows(out, &plan, &board) {
         Ok(()) => Ok(()),
         Err(refusal) => Err(RunFault::Given(refusal)),
     }
 }
 
-/// Prints the dump of rows.
-fn print_rows<W: Out>(out: &mut W, plan: &Plan, rows: &Rows) -> Result<(), Refusal<'static>>
-    ensures printed { Prints result (W.written out.old) (W.written out.new) (dump_of plan.now rows.now) }
+/// Prints the dump of a board's rows.
+fn print_rows<W: Out>(out: &mut W, plan: &Plan, board: &Board<'_>) -> Result<(), Refusal<'static>>
+    ensures printed { Prints result (W.written out.old) (W.written out.new) (dump_of plan.now (all_rows board.now.rows)) }
     ensures refused { IfErr result IsUnwritten }
 {
-    write_dump(out, plan, rows)?;
+    board.write_dump(out, plan)?;
     Ok(())
 }
 
-/// The rows behind a run over the bytes of the feeds, and the plan whose tables they are of.
-fn filled_rows<R: Threads + Wait + Sync, G: Progress + Sync>(
+/// The board behind a run over the bytes of the feeds, and the plan whose tables its rows are of.
+fn filled_board<'h, R: Threads + Wait + Sync, G: Progress + Sync>(
     rt: &R,
     alloc: Global,
     alone: bool,
     policy: &Policy,
     gate: &G,
     workflow: &[u8],
-    given: &[GivenFeed<'_>],
-) -> Result<(Arc<Plan>, Rows), RunFault>
-    ensures filled { IfOk result (λ filled. IsFilled (opened_bytes workflow.now (map given_value given.now)) (record { plan = arc_value filled.0; rows = filled.1 })) }
-    ensures refused { IfErr result (λ fault. IsUnfilled fault (opened_bytes workflow.now (map given_value given.now))) }
+    given: &'h [GivenFeed<'_>],
+) -> Result<(Arc<Plan>, Board<'h>), RunFault>
+    ensures filled { IfOk result (λ filled. IsFilled (opened_bytes workflow.now (map given_value given.entry.now)) (record { plan = arc_value filled.0; rows = all_rows filled.1.rows })) }
+    ensures refused { IfErr result (λ fault. IsUnfilled fault (opened_bytes workflow.now (map given_value given.entry.now))) }
 {
     let opened = match open_streams(rt, alloc, alone, workflow, given) {
         Ok(opened) => opened,
@@ -170,10 +170,7 @@ fn filled_rows<R: Threads + Wait + Sync, G: Progress + Sync>(
     };
     match run_streams(rt, alloc, alone, plans, &feeds, policy, gate) {
         Err(refusal) => Err(RunFault::Stream { plan, refusal }),
-        Ok(board) => match board.rows(alloc) {
-            Err(_) => Err(RunFault::Given(Refusal::Memory)),
-            Ok(rows) => Ok((plan, rows)),
-        },
+        Ok(board) => Ok((plan, board)),
     }
 }
 

@@ -1,6 +1,7 @@
 use Rattle.std.proofs.Common.{subst, Result}
 use Rattle.std.proofs.lemmas.Result.{err_from_is_err_and}
 use Rattle.std.specs.Arc.{arc_value}
+use Rattle.apply_core.specs.Shown.{all_rows}
 use Rattle.vrepl_main.specs.Opening.{OpenedValue}
 use Rattle.vrepl_main.specs.Reasons.{Reason}
 use Rattle.vrepl_main.specs.Running.{IsFilled, IsUnfilled}
@@ -16,11 +17,11 @@ returns-in_err-plan-clause-refused g c =
 pub returns-in-Ok-print_rows-clause-printed : goal.returns-in-Ok-print_rows-clause-printed
 returns-in-Ok-print_rows-clause-printed g c =
     let e = opened_as c.args.feeds.now (λ feed. feed.items) c.args.hex c.args.workflow.now _ c.in-Ok.ensures in
-    let filled = subst (λ (r : Result OpenedValue Reason). IsFilled r (record { plan = arc_value c.in_ok-plan.plan; rows = c.in_ok-plan.rows })) e (rw c.deref.ensures.value at c.in_ok-plan.ensures.filled) in
-    (record { plan = arc_value c.in_ok-plan.plan; rows = c.in_ok-plan.rows }, filled, rw c.deref-2.ensures at c.in-Ok-print_rows.ensures.printed)
+    let filled = subst (λ (r : Result OpenedValue Reason). IsFilled r (record { plan = arc_value c.in_ok-plan.plan; rows = all_rows c.in_ok-plan.board.rows })) e (rw c.deref.ensures.value at c.in_ok-plan.ensures.filled) in
+    (record { plan = arc_value c.in_ok-plan.plan; rows = all_rows c.in_ok-plan.board.rows }, filled, rw c.deref-2.ensures at c.in-Ok-print_rows.ensures.printed)
 
 pub returns-clause-refused : goal.returns-clause-refused
 returns-clause-refused g c =
     let e = opened_as c.args.feeds.now (λ feed. feed.items) c.args.hex c.args.workflow.now _ c.in-Ok.ensures in
-    let filled = subst (λ (r : Result OpenedValue Reason). IsFilled r (record { plan = arc_value c.in_ok-plan.plan; rows = c.in_ok-plan.rows })) e (rw c.deref.ensures.value at c.in_ok-plan.ensures.filled) in
-    unwritten_run c.in-Err.refusal _ (record { plan = arc_value c.in_ok-plan.plan; rows = c.in_ok-plan.rows }) _ _ filled (rw c.deref-2.ensures at c.in-Err.ensures.printed) c.in-Err.ensures.refused
+    let filled = subst (λ (r : Result OpenedValue Reason). IsFilled r (record { plan = arc_value c.in_ok-plan.plan; rows = all_rows c.in_ok-plan.board.rows })) e (rw c.deref.ensures.value at c.in_ok-plan.ensures.filled) in
+    unwritten_run c.in-Err.refusal _ (record { plan = arc_value c.in_ok-plan.plan; rows = all_rows c.in_ok-plan.board.rows }) _ _ filled (rw c.deref-2.ensures at c.in-Err.ensures.printed) c.in-Err.ensures.refused

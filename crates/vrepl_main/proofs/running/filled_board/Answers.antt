@@ -4,7 +4,7 @@ use Rattle.vrepl_main.specs.Given.{given_value}
 use Rattle.vrepl_main.specs.Opening.{opened_bytes}
 use Rattle.vrepl_main.specs.OpenedFeeds.{opened_value}
 use Rattle.vrepl_main.proofs.RunLaws.{refused_run}
-use Rattle.vrepl_main.proofs.running.filled_rows.Goals as goal
+use Rattle.vrepl_main.proofs.running.filled_board.Goals as goal
 
 pub returns-in-Err-run_streams-clause-refused : goal.returns-in-Err-run_streams-clause-refused
 returns-in-Err-run_streams-clause-refused g c =
