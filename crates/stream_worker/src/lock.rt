@@ -14,8 +14,8 @@ use std::hint::spin_loop;
 use std::marker::Model;
 use std::sync::Wait;
 
-/// How often a receive is tried before the thread sleeps: some 0.2 ms.
-const SPINS: u32 = 4_000;
+/// How often a receive is tried before the thread sleeps, where up to four streams share the board: some 0.2 ms.
+const SPINS: usize = 4_000;
 
 /// What a pass knows: the numbers of its streams, whether it holds the board, and the board as its last
 /// step left it. It exists in proofs alone: no value of it is made.
@@ -99,18 +99,33 @@ pub type LockPass<'h> = Pass<Deal<'h>, Known>;
 /// The two ends of the lock's channel.
 #[derive(Drop)]
 pub struct Lock<'h> {
+    /// how often a receive is tried before the thread sleeps
+    spins: usize,
     sender: RuledSender<Deal<'h>, Known, LockRule>,
     receiver: RuledReceiver<Deal<'h>, Known, LockRule>,
     ghost one: { receives_on receiver ≡ sends_on sender },
 }
 
 impl<'h> Lock<'h> {
-    /// A lock with the opener's pass, which is to put the board in first. An error is want of memory.
-    pub(crate) fn new(alloc: Global) -> Result<(Lock<'h>, LockPass<'h>), AllocError>
+    /// A lock of a board of so many streams, with the opener's pass, which is to put the board in first. The more streams
+    /// wait for it, the sooner their threads sleep. An error is want of memory.
+    pub(crate) fn new(alloc: Global, streams: usize) -> Result<(Lock<'h>, LockPass<'h>), AllocError>
         ensures { IfOk result (λ r. IsSeatAt (sends_on r.0.sender) r.1 × (view r.1 ≡ first_view)) }
     {
         let (sender, receiver, pass) = bounded_with::<Deal<'h>, Known, LockRule, Global>(alloc, 1)?;
-        Ok((Lock { sender, receiver }, pass))
+        let spins = if streams > 4 {
+            4 * SPINS / streams
+        } else {
+            SPINS
+        };
+        Ok((
+            Lock {
+                spins,
+                sender,
+                receiver,
+            },
+            pass,
+        ))
     }
 
     /// Takes the board, when no other pass holds it. A receive is tried for a while before the thread
@@ -122,7 +137,7 @@ impl<'h> Lock<'h> {
     {
         let mut tries = 0;
         for _ in rt.forever() {
-            if tries < SPINS {
+            if tries < self.spins {
                 if let Ok(deal) = self.receiver.try_recv_as::<Take, R>(rt, pass) {
                     return deal;
                 }

@@ -122,7 +122,7 @@ impl<'h> Shared<'h> {
         let Ok(seats) = Vec::with_capacity(alloc, n) else {
             return Err(OpenRefusal { board });
         };
-        let Ok((lock, mut opener)) = Lock::new(alloc) else {
+        let Ok((lock, mut opener)) = Lock::new(alloc, n) else {
             return Err(OpenRefusal { board });
         };
         lock.put_back(rt, &mut opener, Deal::new(board));
