@@ -4,7 +4,6 @@
 
 mod copy_state;
 mod fault;
-mod front;
 mod kept;
 mod kept_row;
 mod key;
@@ -12,7 +11,6 @@ mod lastpk;
 mod lastpk_laws;
 mod laws;
 mod lent;
-mod lent_kept;
 mod mark;
 mod owned;
 mod part;
@@ -28,8 +26,7 @@ pub use key::Key;
 pub use lastpk::key_of_lastpk;
 pub use lastpk_laws::{keys_read_are_table_keys, lastpks_are_read_again};
 pub use laws::{
-    fronts_keep_the_order, keys_are_those_of_kept_columns, keys_tie_where_they_are_equal,
-    marks_tie_where_they_are_equal,
+    keys_are_those_of_kept_columns, keys_tie_where_they_are_equal, marks_tie_where_they_are_equal,
 };
 pub use lent::LentKey;
 pub use mark::Mark;
