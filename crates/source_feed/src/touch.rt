@@ -159,6 +159,6 @@ impl<'h> Touch<'h> {
         ensures { IsTrue result ↔ (self.now ≡ other.now) }
     {
         keys_tie_where_they_are_equal();
-        self.key == other.key && are_same(self.put(), other.put())
+        self.key_view() == other.key_view() && are_same(self.put(), other.put())
     }
 }
