@@ -5,5 +5,7 @@ mod ReadingLaws
 mod KeptLaws
 mod RelationLaws
 mod LeastKey
+mod WordLaws
+mod FrontLaws
 pub mod LastpkLaws
 pub mod PartLaws

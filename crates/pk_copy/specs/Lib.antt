@@ -2,6 +2,7 @@ pub mod FaultNumber
 pub mod KeyValue
 pub mod KeyOrder
 pub mod KeyOrderLaws
+pub mod KeyFront
 pub mod PartValue
 pub mod SmallPartValue
 pub mod KeyOf

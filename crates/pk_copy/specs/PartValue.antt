@@ -1,6 +1,7 @@
 -- How a key's parts are seen: where the bytes lie doesn't count.
-use Rattle.std.specs.Prelude.{List, [], ◌∷◌, map, pos, negsuc}
-use Rattle.pk_copy.specs.KeyValue.{Part, number, bytes, KeyValue}
+use Rattle.std.specs.Prelude.{ℕ, ◌<◌, ◌≤◌, ◌-◌, ◌/◌, ◌^◌, List, [], ◌∷◌, map, take, pos, negsuc}
+use Rattle.pk_copy.specs.KeyValue.{Part, number, bytes, KeyValue, AreParts}
+use Rattle.pk_copy.specs.KeyFront.{IsFrontOf}
 use Rattle.pk_copy.specs.declared.part.KeyPart.{KeyPart}
 use Rattle.pk_copy.specs.declared.part.KeyPart.TheVariants.{Number, Bytes}
 use Rattle.pk_copy.specs.declared.view.ViewedKey.{ViewedKey}
@@ -8,7 +9,8 @@ use Rattle.pk_copy.specs.declared.view.ViewedKey.TheVariants.{One, Several}
 use Rattle.pk_copy.specs.declared.owned.OwnedPart.{OwnedPart}
 use Rattle.pk_copy.specs.declared.owned.OwnedPart.TheVariants as owned
 use Rattle.pk_copy.specs.declared.kept.KeptKey.{KeptKey}
-use Rattle.pk_copy.specs.declared.kept.KeptKey.TheVariants as kept
+use Rattle.pk_copy.specs.declared.kept.KeptRest.{KeptRest}
+use Rattle.pk_copy.specs.declared.kept.KeptRest.TheVariants as kept
 
 -- a lent part
 abbrev pub part_value : KeyPart → Part
@@ -25,9 +27,34 @@ abbrev pub owned_value : OwnedPart → Part
 owned_value (owned.Number value) = number value
 owned_value (owned.Bytes text) = bytes text.items
 
+-- the lead of a key as it lies in memory
+abbrev pub kept_lead : KeptRest → ℕ
+kept_lead (kept.Negative lead) = lead
+kept_lead (kept.Natural lead) = lead
+kept_lead (kept.Short count lead text) = lead
+kept_lead (kept.Long lead text) = lead
+kept_lead (kept.Several lead parts) = lead
+
+-- the parts of a key with this head
+abbrev pub kept_parts : ℕ → KeptRest → List Part
+kept_parts head (kept.Negative lead) = number (negsuc (2 ^ 64 - 1 - head)) ∷ []
+kept_parts head (kept.Natural lead) = number (pos head) ∷ []
+kept_parts head (kept.Short count lead text) = bytes (take count text) ∷ []
+kept_parts head (kept.Long lead text) = bytes text.value.items ∷ []
+kept_parts head (kept.Several lead parts) = map owned_value parts.value.items
+
+-- a byte string in place is one of the bytes that there are
+abbrev pub HasRoom : KeptRest → Type 0
+HasRoom (kept.Short count lead text) = count ≤ 12
+HasRoom rest = Unit {0}
+
 -- a key as it lies in memory
 abbrev pub kept_key : KeptKey → KeyValue
-kept_key (kept.Negative table below) = record { table = table; parts = number (negsuc below) ∷ [] }
-kept_key (kept.Natural table value) = record { table = table; parts = number (pos value) ∷ [] }
-kept_key (kept.Text table text) = record { table = table; parts = bytes text.items ∷ [] }
-kept_key (kept.Several table parts) = record { table = table; parts = map owned_value parts.items }
+kept_key kept = record { table = kept_lead kept.rest / 4; parts = kept_parts kept.head kept.rest }
+
+-- its parts are a key's, and it has its front
+pub record IsKept (kept : KeptKey) : Type 0 where
+  pub are_parts : AreParts (kept_parts kept.head kept.rest)
+  pub within : kept_lead kept.rest < 1024
+  pub room : HasRoom kept.rest
+  pub front : IsFrontOf (kept_lead kept.rest) kept.head (kept_key kept)

@@ -1,28 +1,41 @@
 //! A key as it lies in memory of its own.
 
-ghost use Rattle.std.specs.Prelude.{◌≡◌, [], ◌∷◌, IfOk, map};
-ghost use Rattle.pk_copy.specs.KeyValue.{IsPart, AreParts};
-ghost use Rattle.pk_copy.specs.PartValue.{part_value, owned_value, kept_key};
+ghost use Rattle.std.specs.Prelude.{◌≡◌, ◌<◌, ℕ, [], ◌∷◌, IfOk, map};
+ghost use Rattle.pk_copy.specs.KeyValue.{bytes, IsPart, AreParts};
+ghost use Rattle.pk_copy.specs.KeyFront.{head_of};
 ghost use Rattle.pk_copy.specs.KeyOrder.{key_cmp};
+ghost use Rattle.pk_copy.specs.PartValue.{part_value, owned_value, kept_key, kept_lead, kept_parts, HasRoom, IsKept};
+ghost use Rattle.pk_copy.specs.SmallPartValue.{small_value};
 
+use crate::front::{Front, decided};
 use crate::owned::OwnedPart;
 use crate::part::KeyPart;
+use crate::small_part::SmallPart;
 use crate::view::KeyView;
 use arrayvec::ArrayVec;
 use std::alloc::{AllocError, Global};
 use std::cmp::Ordering;
 
-/// The number of a table and the parts of a key of it: a number alone lies in place, without a block.
+/// What a key has behind its head, the lead of its front in the same place in each form.
 #[derive(Debug, Drop)]
-pub(crate) enum KeptKey {
-    /// A number below 0 alone: -1 less this.
-    Negative(u8, u64),
-    /// A number from 0 alone.
-    Natural(u8, u64),
-    /// A byte string alone.
-    Text(u8, Vec<u8>),
+pub(crate) enum KeptRest {
+    /// A number below 0 alone: the head has it.
+    Negative(u16),
+    /// A number from 0 alone: the head has it.
+    Natural(u16),
+    /// A byte string alone of up to 12 bytes: how many, the lead, and the bytes in place.
+    Short(u8, u16, [u8; 12]),
+    /// A longer byte string alone.
+    Long(u16, Box<Vec<u8>>),
     /// None or several parts.
-    Several(u8, Vec<OwnedPart>),
+    Several(u16, Box<Vec<OwnedPart>>),
+}
+
+/// The head of a key's front and what is behind it: a number or a short byte string alone takes no block.
+#[derive(Debug, Drop)]
+pub(crate) struct KeptKey {
+    pub(crate) head: u64,
+    pub(crate) rest: KeptRest,
 }
 
 /// The key of a table with these parts, lent.
@@ -37,74 +50,171 @@ fn view_of(table: u8, owned: &[OwnedPart]) -> KeyView<'_>
     KeyView::new(table, parts)
 }
 
-impl KeptKey {
-    /// The key of a table with this part alone. Takes memory for a byte string; an error is want of it.
-    pub(crate) fn of_one(alloc: Global, table: u8, part: KeyPart<'_>) -> Result<KeptKey, AllocError>
-        requires { IsPart (part_value part) }
-        ensures { IfOk result (λ kept. kept_key kept ≡ record { table = table; parts = part_value part.entry ∷ [] }) }
+/// Copies of these parts.
+fn owned_of(alloc: Global, parts: &[KeyPart<'_>]) -> Result<Vec<OwnedPart>, AllocError>
+    ensures { IfOk result (λ owned. map owned_value owned.items ≡ map part_value parts.now) }
+{
+    let mut owned = Vec::with_capacity(alloc, parts.len())?;
+    for part in parts {
+        owned.push(OwnedPart::from_part(alloc, *part)?)?;
+    }
+    Ok(owned)
+}
+
+impl KeptRest {
+    /// The lead of the key's front.
+    #[inline(always)]
+    fn lead(&self) -> u16
+        ensures { result ≡ kept_lead self.now }
+    {
+        match self {
+            KeptRest::Negative(lead) => *lead,
+            KeptRest::Natural(lead) => *lead,
+            KeptRest::Short(_, lead, _) => *lead,
+            KeptRest::Long(lead, _) => *lead,
+            KeptRest::Several(lead, _) => *lead,
+        }
+    }
+
+    /// A byte string alone.
+    fn of_text(alloc: Global, lead: u16, text: &[u8]) -> Result<KeptRest, AllocError>
+        ensures lead { IfOk result (λ rest. kept_lead rest ≡ lead) }
+        ensures parts { IfOk result (λ rest. (head : ℕ) → kept_parts head rest ≡ bytes text.now ∷ []) }
+        ensures room { IfOk result HasRoom }
+    {
+        if text.len() > 12 {
+            let long = Vec::from_slice(alloc, text)?;
+            return Ok(KeptRest::Long(lead, Box::new(alloc, long)?));
+        }
+        let mut short = [0; 12];
+        short[..text.len()].copy_from_slice(text);
+        Ok(KeptRest::Short(text.len() as u8, lead, short))
+    }
+
+    /// A part alone, of which the front has the head.
+    fn of_part(alloc: Global, front: Front, part: SmallPart<'_>) -> Result<KeptRest, AllocError>
+        requires { front.head ≡ head_of (small_value part ∷ []) }
+        ensures lead { IfOk result (λ rest. kept_lead rest ≡ front.lead) }
+        ensures parts { IfOk result (λ rest. kept_parts front.head rest ≡ small_value part.entry ∷ []) }
+        ensures room { IfOk result HasRoom }
     {
         match part {
-            KeyPart::Number(value) if value < 0 => {
-                Ok(KeptKey::Negative(table, (-1 - value) as u64))
-            }
-            KeyPart::Number(value) => Ok(KeptKey::Natural(table, value as u64)),
-            KeyPart::Bytes(text) => Ok(KeptKey::Text(table, Vec::from_slice(alloc, text)?)),
+            SmallPart::Negative(_) => Ok(KeptRest::Negative(front.lead)),
+            SmallPart::Natural(_) => Ok(KeptRest::Natural(front.lead)),
+            SmallPart::Bytes(text) => KeptRest::of_text(alloc, front.lead, text),
         }
+    }
+}
+
+impl KeptKey {
+    /// The key of a table with this part alone. Takes memory for a byte string of more than 12 bytes; an error is
+    /// want of it.
+    pub(crate) fn of_one(alloc: Global, table: u8, part: KeyPart<'_>) -> Result<KeptKey, AllocError>
+        requires { IsPart (part_value part) }
+        ensures key { IfOk result (λ kept. kept_key kept ≡ record { table = table; parts = part_value part.entry ∷ [] }) }
+        ensures kept { IfOk result IsKept }
+    {
+        let small = SmallPart::from_part(part);
+        let front = Front::of(table, small);
+        let rest = KeptRest::of_part(alloc, front, small)?;
+        Ok(KeptKey {
+            head: front.head,
+            rest,
+        })
+    }
+
+    /// The key of a table with these parts, in memory of their own; an error is want of it.
+    pub(crate) fn of_several(
+        alloc: Global,
+        table: u8,
+        parts: &[KeyPart<'_>],
+    ) -> Result<KeptKey, AllocError>
+        requires { AreParts (map part_value parts.now) }
+        ensures key { IfOk result (λ kept. kept_key kept ≡ record { table = table; parts = map part_value parts.now }) }
+        ensures kept { IfOk result IsKept }
+    {
+        let front = Front::of_parts(table, parts);
+        let owned = Box::new(alloc, owned_of(alloc, parts)?)?;
+        Ok(KeptKey {
+            head: front.head,
+            rest: KeptRest::Several(front.lead, owned),
+        })
     }
 
     /// The number of the key's table.
     pub(crate) fn table(&self) -> u8
+        requires { kept_lead self.now.rest < 1024 }
         ensures { let key = kept_key self.now in result ≡ key.table }
     {
-        match self {
-            KeptKey::Negative(table, _) => *table,
-            KeptKey::Natural(table, _) => *table,
-            KeptKey::Text(table, _) => *table,
-            KeptKey::Several(table, _) => *table,
-        }
+        (self.rest.lead() / 4) as u8
     }
 
     /// The key, lent. Takes no memory.
     pub(crate) fn view(&self) -> KeyView<'_>
-        requires { let key = kept_key self.now in AreParts key.parts }
+        requires { IsKept self.now }
         ensures { result ≡ kept_key self.now }
     {
-        match self {
-            KeptKey::Negative(table, below) => {
-                KeyView::of_one(*table, KeyPart::Number(-1 - i128::from(*below)))
+        let table = self.table();
+        match &self.rest {
+            KeptRest::Negative(_) => {
+                KeyView::of_one(
+                    table,
+                    KeyPart::Number(-1 - i128::from(u64::MAX - self.head)),
+                )
             }
-            KeptKey::Natural(table, value) => {
-                KeyView::of_one(*table, KeyPart::Number(i128::from(*value)))
+            KeptRest::Natural(_) => {
+                KeyView::of_one(table, KeyPart::Number(i128::from(self.head)))
             }
-            KeptKey::Text(table, text) => KeyView::of_one(*table, KeyPart::Bytes(text.as_slice())),
-            KeptKey::Several(table, parts) => view_of(*table, parts),
+            KeptRest::Short(count, _, text) => {
+                KeyView::of_one(table, KeyPart::Bytes(&text[..usize::from(*count)]))
+            }
+            KeptRest::Long(_, text) => KeyView::of_one(table, KeyPart::Bytes(text.as_slice())),
+            KeptRest::Several(_, parts) => view_of(table, parts.as_slice()),
+        }
+    }
+
+    /// The key's front.
+    #[inline(always)]
+    fn front(&self) -> Front
+        ensures { (result.lead ≡ kept_lead self.now.rest) × (result.head ≡ self.now.head) }
+    {
+        Front {
+            lead: self.rest.lead(),
+            head: self.head,
         }
     }
 }
 
-/// The order of two keys by their views. It stands apart, so that keys of one part of one kind don't pay for the room
-/// of eight parts that these views have.
+/// The order of two keys with one front.
 #[inline(never)]
-fn compare_views(one: &KeptKey, other: &KeptKey) -> Ordering
-    requires one { let key = kept_key one.now in AreParts key.parts }
-    requires other { let key = kept_key other.now in AreParts key.parts }
+fn compare_behind(one: &KeptKey, other: &KeptKey) -> Ordering
+    requires one { IsKept one.now }
+    requires other { IsKept other.now }
+    requires lead { kept_lead one.now.rest ≡ kept_lead other.now.rest }
+    requires head { one.now.head ≡ other.now.head }
     ensures { result ≡ key_cmp (kept_key one.now) (kept_key other.now) }
 {
-    one.view().cmp(&other.view())
+    match (&one.rest, &other.rest) {
+        (KeptRest::Natural(_), KeptRest::Natural(_)) => Ordering::Equal,
+        (KeptRest::Negative(_), KeptRest::Negative(_)) => Ordering::Equal,
+        (KeptRest::Short(m, _, x), KeptRest::Short(n, _, y)) => {
+            x[..usize::from(*m)].cmp(&y[..usize::from(*n)])
+        }
+        (KeptRest::Long(_, x), KeptRest::Long(_, y)) => x.as_slice().cmp(y.as_slice()),
+        (KeptRest::Several(_, x), KeptRest::Several(_, y)) => x.as_slice().cmp(y.as_slice()),
+        _ => one.view().cmp(&other.view()),
+    }
 }
 
 /// The order of two keys. Takes no memory.
+#[inline(always)]
 pub(crate) fn compare(one: &KeptKey, other: &KeptKey) -> Ordering
-    requires one { let key = kept_key one.now in AreParts key.parts }
-    requires other { let key = kept_key other.now in AreParts key.parts }
+    requires one { IsKept one.now }
+    requires other { IsKept other.now }
     ensures { result ≡ key_cmp (kept_key one.now) (kept_key other.now) }
 {
-    match (one, other) {
-        (KeptKey::Natural(t, x), KeptKey::Natural(u, y)) => t.cmp(u).then(x.cmp(y)),
-        (KeptKey::Negative(t, x), KeptKey::Negative(u, y)) => t.cmp(u).then(y.cmp(x)),
-        (KeptKey::Text(t, x), KeptKey::Text(u, y)) => {
-            t.cmp(u).then(x.as_slice().cmp(y.as_slice()))
-        }
-        _ => compare_views(one, other),
+    if let Some(order) = decided(one.front(), other.front()) {
+        return order;
     }
+    compare_behind(one, other)
 }

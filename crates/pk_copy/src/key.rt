@@ -7,47 +7,44 @@ ghost use Rattle.pk_copy.specs.KeyOrder.{key_cmp};
 ghost use Rattle.pk_copy.specs.KeyOrderLaws.{key_cmp_total};
 
 use crate::kept::{KeptKey, compare};
-use crate::owned::OwnedPart;
 use crate::view::KeyView;
 use std::alloc::{AllocError, Global};
 use std::cmp::Ordering;
 use std::marker::Model;
+use std::mem::size_of;
 
 /// A row's key in memory of its own: the number of its table in the plan and up to eight parts in key
-/// order. Keys are equal and ordered as their views.
+/// order. A number or a byte string of up to 12 bytes alone lies in place. Keys are equal and ordered as their views.
 #[derive(Debug, Drop)]
 pub struct Key {
     kept: KeptKey,
 }
 
+const _: () = prove!(size_of::<Key>() == 24);
+
 impl Model for Key {
-    ghost use Rattle.pk_copy.specs.KeyValue.{KeyValue, AreParts};
-    ghost use Rattle.pk_copy.specs.PartValue.{kept_key};
+    ghost use Rattle.pk_copy.specs.KeyValue.{KeyValue};
+    ghost use Rattle.pk_copy.specs.PartValue.{kept_key, IsKept};
 
     ghost Value = { KeyValue };
 
     ghost view = { λ k. kept_key k.kept };
 
-    ghost invariant = { λ k. let key = kept_key k.kept in AreParts key.parts };
+    ghost invariant = { λ k. IsKept k.kept };
 }
 
 impl Key {
-    /// A copy of a lent key. Takes no memory for a number alone; an error is want of it.
+    /// A copy of a lent key. Takes no memory for a number or up to 12 bytes alone; an error is want
+    /// of it.
     pub fn from_view(alloc: Global, view: &KeyView<'_>) -> Result<Key, AllocError>
         ensures { IfOk result (λ key. key ≡ view.now) }
     {
         let table = view.table();
-        if let [part] = view.parts() {
-            let kept = KeptKey::of_one(alloc, table, *part)?;
-            return Ok(Key { kept });
-        }
-        let mut parts = Vec::with_capacity(alloc, view.parts().len())?;
-        for part in view.parts() {
-            parts.push(OwnedPart::from_part(alloc, *part)?)?;
-        }
-        Ok(Key {
-            kept: KeptKey::Several(table, parts),
-        })
+        let kept = match view.parts() {
+            [part] => KeptKey::of_one(alloc, table, *part)?,
+            parts => KeptKey::of_several(alloc, table, parts)?,
+        };
+        Ok(Key { kept })
     }
 
     /// The key, lent. Takes no memory.
@@ -57,7 +54,8 @@ impl Key {
         self.kept.view()
     }
 
-    /// A copy of the key. Takes no memory for a number alone; an error is want of it.
+    /// A copy of the key. Takes no memory for a number or up to 12 bytes alone; an error is want
+    /// of it.
     pub fn try_clone(&self, alloc: Global) -> Result<Key, AllocError>
         ensures { IfOk result (λ key. key ≡ self.now) }
     {

@@ -1,78 +1,38 @@
 //! A lent key as it is kept.
 
-ghost use Rattle.std.specs.Prelude.{◌≡◌, [], false, IfOk, map};
+ghost use Rattle.std.specs.Prelude.{◌≡◌, [], false, IfOk};
 ghost use Rattle.std.specs.Ordering.{eq_by_cmp, as_partial_cmp, is_lt};
 ghost use Rattle.std.specs.Cmp.{partial_equiv_from_equiv, eq_by_cmp_equiv, partial_order_from_total};
-ghost use Rattle.pk_copy.specs.KeyValue.{KeyValue, AreParts};
-ghost use Rattle.pk_copy.specs.KeyOrder.{key_cmp, parts_cmp};
+ghost use Rattle.pk_copy.specs.KeyValue.{KeyValue};
+ghost use Rattle.pk_copy.specs.KeyOrder.{key_cmp};
 ghost use Rattle.pk_copy.specs.KeyOrderLaws.{key_cmp_total};
-ghost use Rattle.pk_copy.specs.SmallPartValue.{small_value, kept_parts};
 
-use crate::small_part::SmallPart;
+use crate::lent_kept::{LentKept, compare};
 use crate::view::KeyView;
-use arrayvec::ArrayVec;
 use std::alloc::{AllocError, Global};
 use std::cmp::Ordering;
 use std::marker::Model;
-use std::slice;
+use std::mem::size_of;
 
-/// The parts of a key: one in place, several or none in memory of their own.
-#[derive(Drop)]
-pub(crate) enum Parts<'b> {
-    One(SmallPart<'b>),
-    Several(Vec<SmallPart<'b>>),
-}
-
-impl<'b> Parts<'b> {
-    /// The parts, in key order.
-    fn list(&self) -> &[SmallPart<'b>]
-        ensures { map small_value result.now ≡ kept_parts self.now }
-    {
-        match self {
-            Parts::One(part) => slice::from_ref(part),
-            Parts::Several(parts) => parts.as_slice(),
-        }
-    }
-
-    /// The same parts again. Takes memory for several parts alone.
-    fn try_clone(&self, alloc: Global) -> Result<Parts<'b>, AllocError>
-        ensures { IfOk result (λ copy. kept_parts copy ≡ kept_parts self.now) }
-    {
-        match self {
-            Parts::One(part) => Ok(Parts::One(*part)),
-            Parts::Several(parts) => Ok(Parts::Several(Vec::from_slice(alloc, parts)?)),
-        }
-    }
-}
-
-/// The order of two keys' parts: of two keys of one part each it is that of these parts.
-fn compare(one: &Parts<'_>, other: &Parts<'_>) -> Ordering
-    ensures { result ≡ parts_cmp (kept_parts one.now) (kept_parts other.now) }
-{
-    match (one, other) {
-        (Parts::One(part), Parts::One(beside)) => part.cmp(beside),
-        _ => one.list().cmp(other.list()),
-    }
-}
-
-/// A row's key as it is kept beside the row's buffer, in 40 bytes: the number of its table in the plan and
+/// A row's key as it is kept beside the row's buffer, in 32 bytes: the number of its table in the plan and
 /// up to eight parts in key order, byte strings lent from the row. Several parts lie in memory of their
 /// own. Keys are equal and ordered as their views.
 #[derive(Drop)]
 pub struct LentKey<'b> {
-    table: u8,
-    parts: Parts<'b>,
+    kept: LentKept<'b>,
 }
 
+const _: () = prove!(size_of::<LentKey<'static>>() == 32);
+
 impl<'b> Model for LentKey<'b> {
-    ghost use Rattle.pk_copy.specs.KeyValue.{KeyValue, AreParts};
-    ghost use Rattle.pk_copy.specs.SmallPartValue.{kept_parts};
+    ghost use Rattle.pk_copy.specs.KeyValue.{KeyValue};
+    ghost use Rattle.pk_copy.specs.SmallPartValue.{lent_key, IsLent};
 
     ghost Value = { KeyValue };
 
-    ghost view = { λ k. record { table = k.table; parts = kept_parts k.parts } };
+    ghost view = { λ k. lent_key k.kept };
 
-    ghost invariant = { λ k. AreParts (kept_parts k.parts) };
+    ghost invariant = { λ k. IsLent k.kept };
 }
 
 impl<'b> LentKey<'b> {
@@ -81,18 +41,11 @@ impl<'b> LentKey<'b> {
         ensures { IfOk result (λ key. key ≡ view.now) }
     {
         let table = view.table();
-        if let [part] = view.parts() {
-            let parts = Parts::One(SmallPart::from_part(*part));
-            return Ok(LentKey { table, parts });
-        }
-        let mut parts = Vec::with_capacity(alloc, view.parts().len())?;
-        for part in view.parts() {
-            parts.push(SmallPart::from_part(*part))?;
-        }
-        Ok(LentKey {
-            table,
-            parts: Parts::Several(parts),
-        })
+        let kept = match view.parts() {
+            [part] => LentKept::of_one(table, *part),
+            parts => LentKept::of_several(alloc, table, parts)?,
+        };
+        Ok(LentKey { kept })
     }
 
     /// The least key of a table: it has no parts, and no key of the table comes before it. Takes no memory.
@@ -100,9 +53,9 @@ impl<'b> LentKey<'b> {
         ensures value { result ≡ record { table = table; parts = [] } }
         ensures least { (key : KeyValue) → key.table ≡ table → is_lt (key_cmp key result) ≡ false }
     {
+        let _ = alloc;
         LentKey {
-            table,
-            parts: Parts::Several(Vec::new(alloc)),
+            kept: LentKept::bare(table),
         }
     }
 
@@ -110,39 +63,22 @@ impl<'b> LentKey<'b> {
     pub fn view(&self) -> KeyView<'b>
         ensures { result ≡ self.now }
     {
-        if let [part] = self.parts() {
-            return KeyView::of_one(self.table, part.lent());
-        }
-        let mut parts = ArrayVec::new();
-        for part in self.parts() {
-            parts.push(part.lent());
-        }
-        KeyView::new(self.table, parts)
+        self.kept.view()
     }
 
     /// The same key again. Takes memory for several parts alone; an error is want of it.
     pub fn try_clone(&self, alloc: Global) -> Result<LentKey<'b>, AllocError>
         ensures { IfOk result (λ key. key ≡ self.now) }
     {
-        Ok(LentKey {
-            table: self.table,
-            parts: self.parts.try_clone(alloc)?,
-        })
+        let kept = self.kept.try_clone(alloc)?;
+        Ok(LentKey { kept })
     }
 
     /// The number of the key's table in the plan.
     pub fn table(&self) -> u8
         ensures { result ≡ self.now.table }
     {
-        self.table
-    }
-
-    /// The key's parts, in key order.
-    fn parts(&self) -> &[SmallPart<'b>]
-        ensures parts { map small_value result.now ≡ self.now.parts }
-        ensures within { AreParts self.now.parts }
-    {
-        self.parts.list()
+        self.kept.table()
     }
 }
 
@@ -182,8 +118,6 @@ impl Ord for LentKey<'_> {
     ghost matches_eq = { λ _ _. refl };
 
     fn cmp(&self, other: &Self) -> Ordering {
-        self.table()
-            .cmp(&other.table())
-            .then(compare(&self.parts, &other.parts))
+        compare(&self.kept, &other.kept)
     }
 }

@@ -4,6 +4,7 @@
 
 mod copy_state;
 mod fault;
+mod front;
 mod kept;
 mod kept_row;
 mod key;
@@ -11,6 +12,7 @@ mod lastpk;
 mod lastpk_laws;
 mod laws;
 mod lent;
+mod lent_kept;
 mod mark;
 mod owned;
 mod part;
@@ -26,7 +28,8 @@ pub use key::Key;
 pub use lastpk::key_of_lastpk;
 pub use lastpk_laws::{keys_read_are_table_keys, lastpks_are_read_again};
 pub use laws::{
-    keys_are_those_of_kept_columns, keys_tie_where_they_are_equal, marks_tie_where_they_are_equal,
+    fronts_keep_the_order, keys_are_those_of_kept_columns, keys_tie_where_they_are_equal,
+    marks_tie_where_they_are_equal,
 };
 pub use lent::LentKey;
 pub use mark::Mark;
