@@ -2,6 +2,7 @@
 #![tactic(auto)]
 
 mod fault;
+mod framed;
 mod head;
 mod marks;
 mod names;

@@ -4,20 +4,18 @@ ghost use Rattle.std.specs.Prelude.{◌≡◌, ◌++◌, ℕ, List, [], map, IfO
 ghost use Rattle.std.specs.Option.{option_map_or};
 ghost use Rattle.std.specs.String.{string_bytes};
 ghost use Rattle.source_feed.specs.Image.{lent_row};
-ghost use Rattle.vevent.specs.ContentView.{table_content};
 ghost use Rattle.vevent.specs.WrittenPart.{written_stream_part};
 ghost use Rattle.checkpoint_laws.specs.declared.version.Version.TheVariants.{Two};
 ghost use Rattle.checkpoint_laws.specs.Written.{position_text, stream_part, framed};
 ghost use Rattle.checkpoint_core.specs.Private.Texts.{text_value};
 
+use crate::framed::{SizedTable, put_framed};
 use crate::texts::{TableText, content_of, table_texts};
 use filter_rule::Plan;
 use gtid_set::GtidSet;
 use pk_copy::{CopyState, Key};
-use proto_wire::put_varint;
 use row_view::RowBuf;
 use std::alloc::{AllocError, Global};
-use vevent::{StreamContent, TableContent, stream_part_size, write_stream_part};
 
 /// A position as it is written.
 fn position_text(alloc: Global, position: Option<&GtidSet>) -> Result<String, AllocError>
@@ -29,34 +27,19 @@ fn position_text(alloc: Global, position: Option<&GtidSet>) -> Result<String, Al
     }
 }
 
-/// The same, lent, with the text of the position.
-fn contents_of<'c>(
+/// What is written of tables, lent, with the text of the position, each answer counted.
+fn sized_tables<'c>(
     alloc: Global,
     texts: &'c [TableText<'_>],
     position: &'c str,
-) -> Result<Vec<TableContent<'c>>, AllocError>
-    ensures { IfOk result (λ contents. map table_content contents.items ≡ map (text_value position.now) texts.now) }
+) -> Result<Vec<SizedTable<'c>>, AllocError>
+    ensures { IfOk result (λ tables. tables.items ≡ map (text_value position.now) texts.now) }
 {
-    let mut contents = Vec::new(alloc);
+    let mut tables = Vec::with_capacity(alloc, texts.len())?;
     for text in texts {
-        contents.push(content_of(text, position))?;
+        tables.push(SizedTable::new(content_of(text, position))?)?;
     }
-    Ok(contents)
-}
-
-/// Appends a stream's part behind its length. An error is want of memory.
-fn put_framed<'x>(
-    out: &mut Vec<u8>,
-    shard: &'x str,
-    tables: &'x [TableContent<'x>],
-) -> Result<(), AllocError>
-    ensures { OnOk result (out.new.items ≡ out.old.items ++ framed (written_stream_part (record { shard = shard.now; tables = map table_content tables.now }))) }
-{
-    let part = StreamContent { shard, tables };
-    let size = stream_part_size(&part)?;
-    put_varint(out, size as u64)?;
-    write_stream_part(out, &part)?;
-    Ok(())
+    Ok(tables)
 }
 
 /// Appends a stream's part of a checkpoint of version 2 behind its length: the shard of its plan, and of each
@@ -74,7 +57,7 @@ pub fn put_stream<'x>(
 {
     let gtid = position_text(alloc, position)?;
     let texts = table_texts(alloc, &*plan, &*marks, &*rows)?;
-    let tables = contents_of(alloc, &texts, gtid.as_str())?;
+    let tables = sized_tables(alloc, &texts, gtid.as_str())?;
     put_framed(out, plan.shard(), &tables)?;
     Ok(())
 }

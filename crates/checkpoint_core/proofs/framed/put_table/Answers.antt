@@ -1,0 +1,21 @@
+use Rattle.std.proofs.Common.{◌≡◌, [], ◌∷◌, ◌++◌, sym, ap, ◌∙◌, append_assoc}
+use Rattle.proto_wire.specs.Writing.{written_fields, number_field, text_field, message_field}
+use Rattle.vevent.specs.ContentView.{answer_content}
+use Rattle.vevent.specs.CheckpointPart.{mark_number}
+use Rattle.vevent.specs.WrittenPart.{written_answer}
+use Rattle.vevent.proofs.WritingSteps.{written_more, message_written}
+use Rattle.checkpoint_core.proofs.framed.put_table.Goals as goal
+
+pub returns : goal.returns
+returns c =
+    let part = c.args.content.now in
+    let old = c.args.out.now.items in
+    let answer = written_answer (answer_content part.answer) in
+    let one = number_field 1 (mark_number part.mark) in
+    let two = message_field 2 answer ∷ [] in
+    let mark = rw c.number.ensures at c.in_ok-put_number.ensures.written in
+    let head = c.in_ok-put_bytes_head.ensures.written answer (sym c.requires) in
+    let message = message_written c.put_number.new.out.items c.put_bytes_head.new.out.items c.write_answer.new.out.items answer 2 head c.in_ok-write_answer.ensures.written in
+    let both = written_more old c.put_number.new.out.items c.write_answer.new.out.items one two mark message in
+    let all = written_more old c.write_answer.new.out.items c.put_text.new.out.items (one ++ two) (text_field 3 part.name.now) both c.in_ok-put_text.ensures.written in
+    all ∙ ap (λ fields. old ++ written_fields fields) (append_assoc one two (text_field 3 part.name.now))
