@@ -5,9 +5,10 @@ ghost use Rattle.pk_copy.specs.KeyValue.{bytes, IsPart, AreParts};
 ghost use Rattle.pk_copy.specs.KeyFront.{head_of};
 ghost use Rattle.pk_copy.specs.KeyOrder.{key_cmp};
 ghost use Rattle.pk_copy.specs.PartValue.{part_value, owned_value, kept_key, kept_lead, kept_parts, HasRoom, IsKept};
-ghost use Rattle.pk_copy.specs.SmallPartValue.{small_value};
+ghost use Rattle.pk_copy.specs.SmallPartValue.{small_value, lent_key, lent_lead, lent_parts, IsLent};
 
 use crate::front::{Front, decided};
+use crate::lent_kept::{LentKept, LentRest};
 use crate::owned::OwnedPart;
 use crate::part::KeyPart;
 use crate::small_part::SmallPart;
@@ -61,6 +62,28 @@ fn owned_of(alloc: Global, parts: &[KeyPart<'_>]) -> Result<Vec<OwnedPart>, Allo
     Ok(owned)
 }
 
+/// Copies of the parts of a lent key as they are kept.
+fn owned_of_small(alloc: Global, parts: &[SmallPart<'_>]) -> Result<Vec<OwnedPart>, AllocError>
+    ensures { IfOk result (λ owned. map owned_value owned.items ≡ map small_value parts.now) }
+{
+    let mut owned = Vec::with_capacity(alloc, parts.len())?;
+    for part in parts {
+        owned.push(OwnedPart::from_part(alloc, part.lent())?)?;
+    }
+    Ok(owned)
+}
+
+/// The same parts again, in memory of their own.
+fn copies_of(alloc: Global, parts: &[OwnedPart]) -> Result<Vec<OwnedPart>, AllocError>
+    ensures { IfOk result (λ copies. map owned_value copies.items ≡ map owned_value parts.now) }
+{
+    let mut copies = Vec::with_capacity(alloc, parts.len())?;
+    for part in parts {
+        copies.push(OwnedPart::from_part(alloc, part.lent())?)?;
+    }
+    Ok(copies)
+}
+
 impl KeptRest {
     /// The lead of the key's front.
     #[inline(always)]
@@ -104,6 +127,46 @@ impl KeptRest {
             SmallPart::Bytes(text) => KeptRest::of_text(alloc, front.lead, text),
         }
     }
+
+    /// A copy of what a lent key has behind its head.
+    fn from_lent(alloc: Global, lent: &LentRest<'_>) -> Result<KeptRest, AllocError>
+        ensures lead { IfOk result (λ rest. kept_lead rest ≡ lent_lead lent.now) }
+        ensures parts { IfOk result (λ rest. (head : ℕ) → kept_parts head rest ≡ lent_parts head lent.now) }
+        ensures room { IfOk result HasRoom }
+    {
+        match lent {
+            LentRest::Bare(lead) => Ok(KeptRest::Several(*lead, Box::new(alloc, Vec::new(alloc))?)),
+            LentRest::Negative(lead) => Ok(KeptRest::Negative(*lead)),
+            LentRest::Natural(lead) => Ok(KeptRest::Natural(*lead)),
+            LentRest::Text(lead, text) => KeptRest::of_text(alloc, *lead, text),
+            LentRest::Several(lead, parts) => {
+                let owned = owned_of_small(alloc, parts.as_slice())?;
+                Ok(KeptRest::Several(*lead, Box::new(alloc, owned)?))
+            }
+        }
+    }
+
+    /// The same again.
+    fn try_clone(&self, alloc: Global) -> Result<KeptRest, AllocError>
+        requires { HasRoom self.now }
+        ensures lead { IfOk result (λ copy. kept_lead copy ≡ kept_lead self.now) }
+        ensures parts { IfOk result (λ copy. (head : ℕ) → kept_parts head copy ≡ kept_parts head self.now) }
+        ensures room { IfOk result HasRoom }
+    {
+        match self {
+            KeptRest::Negative(lead) => Ok(KeptRest::Negative(*lead)),
+            KeptRest::Natural(lead) => Ok(KeptRest::Natural(*lead)),
+            KeptRest::Short(count, lead, text) => Ok(KeptRest::Short(*count, *lead, *text)),
+            KeptRest::Long(lead, text) => {
+                let copy = Vec::from_slice(alloc, text.as_slice())?;
+                Ok(KeptRest::Long(*lead, Box::new(alloc, copy)?))
+            }
+            KeptRest::Several(lead, parts) => {
+                let copies = copies_of(alloc, parts.as_slice())?;
+                Ok(KeptRest::Several(*lead, Box::new(alloc, copies)?))
+            }
+        }
+    }
 }
 
 impl KeptKey {
@@ -138,6 +201,32 @@ impl KeptKey {
         Ok(KeptKey {
             head: front.head,
             rest: KeptRest::Several(front.lead, owned),
+        })
+    }
+
+    /// The same key as a lent one, in memory of its own, copied part by part; an error is want of it.
+    pub(crate) fn from_lent(alloc: Global, lent: &LentKept<'_>) -> Result<KeptKey, AllocError>
+        requires { IsLent lent.now }
+        ensures key { IfOk result (λ kept. kept_key kept ≡ lent_key lent.now) }
+        ensures kept { IfOk result IsKept }
+    {
+        let rest = KeptRest::from_lent(alloc, &lent.rest)?;
+        Ok(KeptKey {
+            head: lent.head,
+            rest,
+        })
+    }
+
+    /// The same key again, copied part by part; an error is want of memory.
+    pub(crate) fn try_clone(&self, alloc: Global) -> Result<KeptKey, AllocError>
+        requires { IsKept self.now }
+        ensures key { IfOk result (λ copy. kept_key copy ≡ kept_key self.now) }
+        ensures kept { IfOk result IsKept }
+    {
+        let rest = self.rest.try_clone(alloc)?;
+        Ok(KeptKey {
+            head: self.head,
+            rest,
         })
     }
 

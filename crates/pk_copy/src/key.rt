@@ -7,6 +7,7 @@ ghost use Rattle.pk_copy.specs.KeyOrder.{key_cmp};
 ghost use Rattle.pk_copy.specs.KeyOrderLaws.{key_cmp_total};
 
 use crate::kept::{KeptKey, compare};
+use crate::lent::LentKey;
 use crate::view::KeyView;
 use std::alloc::{AllocError, Global};
 use std::cmp::Ordering;
@@ -47,6 +48,15 @@ impl Key {
         Ok(Key { kept })
     }
 
+    /// A copy of a lent key as it is kept, part by part. Takes no memory for a number or up to 12 bytes alone; an
+    /// error is want of it.
+    pub fn from_lent(alloc: Global, lent: &LentKey<'_>) -> Result<Key, AllocError>
+        ensures { IfOk result (λ key. key ≡ lent.now) }
+    {
+        let kept = lent.to_kept(alloc)?;
+        Ok(Key { kept })
+    }
+
     /// The key, lent. Takes no memory.
     pub fn view(&self) -> KeyView<'_>
         ensures { result ≡ self.now }
@@ -59,7 +69,8 @@ impl Key {
     pub fn try_clone(&self, alloc: Global) -> Result<Key, AllocError>
         ensures { IfOk result (λ key. key ≡ self.now) }
     {
-        Key::from_view(alloc, &self.view())
+        let kept = self.kept.try_clone(alloc)?;
+        Ok(Key { kept })
     }
 
     /// The number of the key's table in the plan.

@@ -6,7 +6,9 @@ ghost use Rattle.std.specs.Cmp.{partial_equiv_from_equiv, eq_by_cmp_equiv, parti
 ghost use Rattle.pk_copy.specs.KeyValue.{KeyValue};
 ghost use Rattle.pk_copy.specs.KeyOrder.{key_cmp};
 ghost use Rattle.pk_copy.specs.KeyOrderLaws.{key_cmp_total};
+ghost use Rattle.pk_copy.specs.PartValue.{kept_key, IsKept};
 
+use crate::kept::KeptKey;
 use crate::lent_kept::{LentKept, compare};
 use crate::view::KeyView;
 use std::alloc::{AllocError, Global};
@@ -72,6 +74,14 @@ impl<'b> LentKey<'b> {
     {
         let kept = self.kept.try_clone(alloc)?;
         Ok(LentKey { kept })
+    }
+
+    /// A copy of the key as a key lies in memory of its own; an error is want of it.
+    pub(crate) fn to_kept(&self, alloc: Global) -> Result<KeptKey, AllocError>
+        ensures key { IfOk result (λ kept. kept_key kept ≡ self.now) }
+        ensures kept { IfOk result IsKept }
+    {
+        KeptKey::from_lent(alloc, &self.kept)
     }
 
     /// The number of the key's table in the plan.
