@@ -67,7 +67,7 @@ fn owned(
     requires { IfSome (option_copied row) (λ row. IsOfTable plan.now key.now row) }
     ensures { IfOk result (λ put. put ≡ (key.now, option_map (kept_of plan.now key.now) (option_copied row.entry))) }
 {
-    let owned_key = Key::from_view(alloc, &key.view())?;
+    let owned_key = Key::from_lent(alloc, key)?;
     let row = match row {
         Some(row) => Some(copy_kept(alloc, plan, key, row)?),
         None => None,
