@@ -1,9 +1,10 @@
 -- The lines of boards that aren't joined (this profile).
-use Rattle.std.specs.Prelude.{ℕ, List, [], ◌∷◌, ◌++◌, codes, decimal}
+use Rattle.std.specs.Prelude.{ℕ, List, [], ◌++◌, codes, decimal}
 use Rattle.filter_rule.specs.PlanTable.{TableValue}
 use Rattle.join_laws.specs.Faults.{number_of}
 use Rattle.join_laws.specs.declared.fault.JoinFault.{JoinFault}
 use Rattle.join_laws.specs.declared.fault.JoinFault.TheVariants.{HistoriesDiffer, OwnedByOther}
+use Rattle.vrepl_main.specs.RefusalLine.{line_of}
 use Rattle.vrepl_main.specs.RefusedText.{clash_text}
 
 -- what stands behind the number
@@ -12,6 +13,6 @@ join_details tables (HistoriesDiffer stream) = codes " stream " ++ decimal strea
 join_details tables (OwnedByOther key owner) = clash_text tables key owner
 join_details tables fault = []
 
--- the line, with its LF
+-- the line
 abbrev pub join_line : List TableValue → JoinFault → List ℕ
-join_line tables fault = codes "refused " ++ decimal (number_of fault) ++ join_details tables fault ++ 10 ∷ []
+join_line tables fault = line_of (number_of fault) (join_details tables fault)

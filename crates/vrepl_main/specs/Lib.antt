@@ -1,5 +1,6 @@
 pub mod HexText
 pub mod Reasons
+pub mod RefusalLine
 pub mod Refusals
 pub mod RefusalOf
 pub mod Printing

@@ -1,5 +1,5 @@
 -- The lines of refusals, as this profile prints them on standard error.
-use Rattle.std.specs.Prelude.{ℕ, List, [], ◌∷◌, ◌++◌, Option, Some, None, codes, decimal, string_bytes}
+use Rattle.std.specs.Prelude.{ℕ, List, [], ◌++◌, Option, Some, None, codes, decimal, string_bytes}
 use Rattle.vevent.specs.declared.fault.EventFault.TheVariants.{BadType}
 use Rattle.filter_rule.specs.Faults as plans
 use Rattle.filter_rule.specs.declared.fault.PlanFault.{PlanFault}
@@ -8,6 +8,7 @@ use Rattle.source_feed.specs.FaultNumber as feed
 use Rattle.source_feed.specs.declared.fault.FeedFault.{FeedFault}
 use Rattle.source_feed.specs.declared.fault.FeedFault.TheVariants.{Event, Diverged}
 use Rattle.vrepl_main.specs.Printing.{named_number}
+use Rattle.vrepl_main.specs.RefusalLine.{line_of}
 use Rattle.vrepl_main.specs.declared.refusal.Refusal.{Refusal}
 use Rattle.vrepl_main.specs.declared.refusal.Refusal.TheVariants.{Memory, Workflow, NoStream, FeedCount, Feed, BadHex, BadScript, BadDump, CannotRead, CannotWrite}
 
@@ -65,6 +66,6 @@ details_of (CannotRead file) = codes " file " ++ file.now
 details_of (CannotWrite file) = codes " file " ++ file.now
 details_of _ = []
 
--- the line, with its LF
+-- the line
 abbrev pub refusal_line : Refusal → List ℕ
-refusal_line refusal = codes "refused " ++ decimal (number_of refusal) ++ details_of refusal ++ 10 ∷ []
+refusal_line refusal = line_of (number_of refusal) (details_of refusal)

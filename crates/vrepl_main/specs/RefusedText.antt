@@ -1,5 +1,5 @@
 -- The replies to steps on a board that are refused, as text (this profile).
-use Rattle.std.specs.Prelude.{ℕ, List, [], ◌∷◌, ◌++◌, Some, codes, decimal}
+use Rattle.std.specs.Prelude.{ℕ, List, [], ◌++◌, Some, codes, decimal}
 use Rattle.filter_rule.specs.PlanTable.{TableValue, name_of_table}
 use Rattle.pk_copy.specs.KeyValue.{KeyValue}
 use Rattle.stream_core.specs.declared.refusal.CoreRefusal.TheVariants.{Gap}
@@ -10,6 +10,7 @@ use Rattle.board_laws.specs.Refusals.{number_of_step}
 use Rattle.board_laws.specs.declared.refusal.Refusal.TheVariants.{Core, OwnedByOther}
 use Rattle.board_laws.specs.declared.step_refusal.StepRefusal.{StepRefusal}
 use Rattle.board_laws.specs.declared.step_refusal.StepRefusal.TheVariants.{Unprepared, Refused}
+use Rattle.vrepl_main.specs.RefusalLine.{line_of}
 use Rattle.vrepl_main.specs.Refusals.{cause_text, feed_details}
 
 -- ---- what stands behind the number
@@ -39,4 +40,4 @@ step_details tables (Refused refusal) = []
 
 -- the line of a refused step
 abbrev pub refused_text : List TableValue → StepRefusal → List ℕ
-refused_text tables refusal = codes "refused " ++ decimal (number_of_step refusal) ++ step_details tables refusal ++ 10 ∷ []
+refused_text tables refusal = line_of (number_of_step refusal) (step_details tables refusal)

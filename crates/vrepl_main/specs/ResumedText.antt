@@ -1,11 +1,12 @@
 -- The lines of checkpoints that aren't resumed (this profile).
-use Rattle.std.specs.Prelude.{ℕ, List, [], ◌∷◌, ◌++◌, codes, decimal}
+use Rattle.std.specs.Prelude.{ℕ, List, [], ◌++◌, codes, decimal}
 use Rattle.filter_rule.specs.PlanTable.{TableValue, name_of_table}
 use Rattle.pk_copy.specs.KeyValue.{KeyValue}
 use Rattle.vdiff_core.specs.KeyText.{key_text}
 use Rattle.checkpoint_laws.specs.Faults.{number_of}
 use Rattle.checkpoint_laws.specs.declared.fault.ResumeFault.{ResumeFault}
 use Rattle.checkpoint_laws.specs.declared.fault.ResumeFault.TheVariants.{PositionUnknown, Unsound, CheckpointDiffers, OwnedByOther}
+use Rattle.vrepl_main.specs.RefusalLine.{line_of}
 use Rattle.vrepl_main.specs.RefusedText.{clash_text, unprepared_text}
 
 -- the rows of a stream differ from its feed's at a key
@@ -20,6 +21,6 @@ resume_details tables (CheckpointDiffers stream key) = differs_text tables strea
 resume_details tables (OwnedByOther key owner) = clash_text tables key owner
 resume_details tables fault = []
 
--- the line, with its LF
+-- the line
 abbrev pub resume_line : List TableValue → ResumeFault → List ℕ
-resume_line tables fault = codes "refused " ++ decimal (number_of fault) ++ resume_details tables fault ++ 10 ∷ []
+resume_line tables fault = line_of (number_of fault) (resume_details tables fault)

@@ -15,7 +15,7 @@ use crate::given::{GivenFeed, given_feeds};
 use crate::opened::Opened;
 use crate::progress::{Progress, tell_feeds};
 use crate::refusal::{Refusal, refuse};
-use crate::resumed_text::refuse_resume;
+use crate::refusal_line::refuse_over;
 use crate::running::{open_streams, refuse_run};
 use crate::stepping::first_plan;
 use apply_core::{Board, ResumeFault, resume as resumed_board, save as checkpoint_of};
@@ -257,7 +257,7 @@ pub fn refuse_unfollowed<E: Out>(err: &mut E, unfollowed: Unfollowed) -> u8
 {
     match unfollowed {
         Unfollowed::Given(refusal) => refuse(err, &refusal),
-        Unfollowed::Checkpoint { plan, fault } => refuse_resume(err, &plan, &fault),
+        Unfollowed::Checkpoint { plan, fault } => refuse_over(err, &plan, &fault),
         Unfollowed::Stream { plan, refusal } => refuse_run(err, &plan, refusal),
     }
 }

@@ -8,10 +8,9 @@ ghost use Rattle.vrepl_main.specs.Opening.{opened, opened_bytes};
 ghost use Rattle.vrepl_main.specs.Printing.{PrintsOrBreaks};
 
 use crate::given::{GivenFeed, given_feeds};
-use crate::joined_text::refuse_join;
 use crate::opened::{Opened, open_workflow};
 use crate::refusal::{Refusal, refuse};
-use crate::resumed_text::refuse_resume;
+use crate::refusal_line::refuse_over;
 use crate::saving::print_bytes;
 use crate::stepping::first_plan;
 use apply_core::{
@@ -98,9 +97,9 @@ fn refuse_unjoined<E: Out>(err: &mut E, unjoined: &Unjoined) -> u8
 {
     match unjoined {
         Unjoined::Given(refusal) => refuse(err, refusal),
-        Unjoined::One { plan, fault } => refuse_resume(err, plan, fault),
-        Unjoined::Other { plan, fault } => refuse_resume(err, plan, fault),
-        Unjoined::Boards { plan, fault } => refuse_join(err, plan, fault),
+        Unjoined::One { plan, fault } => refuse_over(err, plan, fault),
+        Unjoined::Other { plan, fault } => refuse_over(err, plan, fault),
+        Unjoined::Boards { plan, fault } => refuse_over(err, plan, fault),
     }
 }
 

@@ -20,6 +20,7 @@ mod opened;
 mod output;
 mod progress;
 mod refusal;
+mod refusal_line;
 mod refused_text;
 mod resumed_text;
 mod resuming;

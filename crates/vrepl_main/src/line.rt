@@ -8,7 +8,7 @@ ghost use Rattle.vrepl_main.specs.ScriptRun.{AnswersStep, answers, byte_of, repl
 ghost use Rattle.vrepl_main.specs.ScriptPrinting.{Replies, PrintsRows};
 
 use crate::answer_text::print_answer;
-use crate::refused_text::print_refused;
+use crate::refusal_line::print_refused;
 use crate::state_text::print_state;
 use apply_core::{Answer, Board, Refusal, StepRefusal};
 use filter_rule::Plan;

@@ -1,13 +1,14 @@
 //! What the program refuses, and the line that says so.
 
 ghost use Rattle.std.specs.Prelude.{◌≡◌, ◌++◌, codes};
-ghost use Rattle.vrepl_main.specs.Refusals.{cause_text, column_text, details_of, feed_details, feed_place, number_of, refusal_line, rule_text, workflow_details};
+ghost use Rattle.vrepl_main.specs.Refusals.{cause_text, column_text, feed_details, feed_place, number_of, refusal_line, rule_text, workflow_details};
 ghost use Rattle.vrepl_main.specs.Adding.{AddsText, at};
 ghost use Rattle.vrepl_main.specs.Printing.{PrintsOrBreaks};
 
 use crate::hex_text::HexFault;
 use crate::output::{put_all, put_named, put_str};
-use filter_rule::PlanFault;
+use crate::refusal_line::{Telling, refuse_by};
+use filter_rule::{PlanFault, Table};
 use source_feed::FeedFault;
 use std::alloc::AllocError;
 use vdiff_core::{DumpFault, Gathered, Out, OutFailed};
@@ -240,36 +241,36 @@ fn print_file<E: Out>(err: &mut E, text: &mut Gathered, file: &str) -> Result<()
     put_str(err, text, file)
 }
 
-/// Prints what stands behind the number of a refusal.
-fn print_details<E: Out>(
-    err: &mut E,
-    text: &mut Gathered,
-    refusal: &Refusal<'_>,
-) -> Result<(), OutFailed>
-    ensures { AddsText result (at (E.written err.old) text.old) (at (E.written err.new) text.new) (details_of refusal.now) }
-{
-    match refusal {
-        Refusal::CannotRead { file } | Refusal::CannotWrite { file } => print_file(err, text, file),
-        Refusal::Workflow(fault) => print_workflow_details(err, text, fault),
-        Refusal::Feed(fault) => print_feed_details(err, text, fault),
-        Refusal::BadScript { line } | Refusal::BadDump { line } => {
-            put_named(err, text, " line ", *line as u64)
-        }
-        Refusal::Memory | Refusal::NoStream | Refusal::FeedCount | Refusal::BadHex => Ok(()),
-    }
-}
+impl Telling for Refusal<'_> {
+    ghost use Rattle.vrepl_main.specs.Refusals.{details_of, number_of};
 
-/// Adds the line of a refusal.
-fn print_refusal<E: Out>(
-    err: &mut E,
-    text: &mut Gathered,
-    refusal: &Refusal<'_>,
-) -> Result<(), OutFailed>
-    ensures { AddsText result (at (E.written err.old) text.old) (at (E.written err.new) text.new) (refusal_line refusal.now) }
-{
-    put_named(err, text, "refused ", u64::from(refusal.number()))?;
-    print_details(err, text, refusal)?;
-    put_all(err, text, b"\n")
+    ghost told_number = { number_of };
+
+    ghost told_details = { λ _ refusal. details_of refusal };
+
+    fn told_number(&self) -> u8 {
+        self.number()
+    }
+
+    /// A table is named by its name in the workflow's file.
+    fn tell_details<E: Out>(
+        &self,
+        err: &mut E,
+        text: &mut Gathered,
+        _tables: &[Table],
+    ) -> Result<(), OutFailed> {
+        match self {
+            Refusal::CannotRead { file } | Refusal::CannotWrite { file } => {
+                print_file(err, text, file)
+            }
+            Refusal::Workflow(fault) => print_workflow_details(err, text, fault),
+            Refusal::Feed(fault) => print_feed_details(err, text, fault),
+            Refusal::BadScript { line } | Refusal::BadDump { line } => {
+                put_named(err, text, " line ", *line as u64)
+            }
+            Refusal::Memory | Refusal::NoStream | Refusal::FeedCount | Refusal::BadHex => Ok(()),
+        }
+    }
 }
 
 /// Prints the line of a refusal in one piece, whole unless `err` fails, and answers the status 1.
@@ -277,15 +278,5 @@ pub fn refuse<E: Out>(err: &mut E, refusal: &Refusal<'_>) -> u8
     ensures status { result ≡ 1 }
     ensures line { PrintsOrBreaks (E.written err.old) (E.written err.new) (refusal_line refusal.now) }
 {
-    let _printed = print_line(err, refusal);
-    1
-}
-
-/// Prints the line of a refusal.
-fn print_line<E: Out>(err: &mut E, refusal: &Refusal<'_>) -> Result<(), OutFailed>
-    ensures { PrintsOrBreaks (E.written err.old) (E.written err.new) (refusal_line refusal.now) }
-{
-    let mut text = Gathered::new();
-    print_refusal(err, &mut text, refusal)?;
-    text.finish(err)
+    refuse_by(err, &[], refusal)
 }

@@ -1,13 +1,14 @@
-//! The replies to steps on a board that are refused, as text.
+//! What the lines of refused steps on a board tell.
 
 ghost use Rattle.std.specs.Prelude.{◌≡◌};
 ghost use Rattle.filter_rule.specs.PlanTable.{name_of_table};
-ghost use Rattle.vrepl_main.specs.RefusedText.{bad_row_text, clash_text, owner_text, refused_text, step_details, unprepared_text};
+ghost use Rattle.vrepl_main.specs.RefusedText.{bad_row_text, clash_text, owner_text, unprepared_text};
 ghost use Rattle.vrepl_main.specs.Adding.{AddsText, at};
 
 use crate::key_text::print_key;
 use crate::output::{put_all, put_between, put_named, put_str};
 use crate::refusal::{print_cause, print_feed_details};
+use crate::refusal_line::Telling;
 use board_laws::{Refusal, StepRefusal};
 use filter_rule::Table;
 use pk_copy::Key;
@@ -15,39 +16,34 @@ use source_feed::FeedFault;
 use stream_core::CoreRefusal;
 use vdiff_core::{Gathered, Out, OutFailed};
 
-/// Adds the line of a refused step: `refused`, the number, and for some numbers details. Tables are
-/// named by their numbers in the plan. Takes no memory.
-pub fn print_refused<W: Out>(
-    out: &mut W,
-    text: &mut Gathered,
-    tables: &[Table],
-    refusal: &StepRefusal,
-) -> Result<(), OutFailed>
-    ensures { AddsText result (at (W.written out.old) text.old) (at (W.written out.new) text.new) (refused_text tables.now refusal.now) }
-{
-    put_named(out, text, "refused ", u64::from(refusal.number()))?;
-    print_step_details(out, text, tables, refusal)?;
-    put_all(out, text, b"\n")
-}
+impl Telling for StepRefusal {
+    ghost use Rattle.board_laws.specs.Refusals.{number_of_step};
+    ghost use Rattle.vrepl_main.specs.RefusedText.{step_details};
 
-/// Adds what stands behind the number of a refused step.
-fn print_step_details<W: Out>(
-    out: &mut W,
-    text: &mut Gathered,
-    tables: &[Table],
-    refusal: &StepRefusal,
-) -> Result<(), OutFailed>
-    ensures { AddsText result (at (W.written out.old) text.old) (at (W.written out.new) text.new) (step_details tables.now refusal.now) }
-{
-    match refusal {
-        StepRefusal::Unprepared(fault) => print_unprepared(out, text, tables, fault),
-        StepRefusal::Refused(Refusal::OwnedByOther { key, owner }) => {
-            print_clash(out, text, tables, key, *owner)
+    ghost told_number = { number_of_step };
+
+    ghost told_details = { step_details };
+
+    fn told_number(&self) -> u8 {
+        self.number()
+    }
+
+    fn tell_details<W: Out>(
+        &self,
+        out: &mut W,
+        text: &mut Gathered,
+        tables: &[Table],
+    ) -> Result<(), OutFailed> {
+        match self {
+            StepRefusal::Unprepared(fault) => print_unprepared(out, text, tables, fault),
+            StepRefusal::Refused(Refusal::OwnedByOther { key, owner }) => {
+                print_clash(out, text, tables, key, *owner)
+            }
+            StepRefusal::Refused(Refusal::Core(CoreRefusal::Gap { expected })) => {
+                put_named(out, text, " expected ", u64::from(*expected))
+            }
+            StepRefusal::Refused(_) => Ok(()),
         }
-        StepRefusal::Refused(Refusal::Core(CoreRefusal::Gap { expected })) => {
-            put_named(out, text, " expected ", u64::from(*expected))
-        }
-        StepRefusal::Refused(_) => Ok(()),
     }
 }
 

@@ -10,7 +10,7 @@ ghost use Rattle.vrepl_main.specs.ScriptRun.{script_given, given_bytes};
 use crate::given::{GivenFeed, given_feeds};
 use crate::opened::{Opened, open_workflow};
 use crate::refusal::{Refusal, refuse};
-use crate::resumed_text::refuse_resume;
+use crate::refusal_line::refuse_over;
 use crate::stepping::{first_plan, print_taken, steps_of};
 use apply_core::{ResumeFault, resume as resumed_board};
 use filter_rule::Plan;
@@ -68,7 +68,7 @@ pub fn resume<W: Out, E: Out>(
     match print_replies(alloc, hex, checkpoint, workflow, feeds, script, out) {
         Ok(()) => 0,
         Err(ResumeRefusal::Given(refusal)) => refuse(err, &refusal),
-        Err(ResumeRefusal::Checkpoint { plan, fault }) => refuse_resume(err, &plan, &fault),
+        Err(ResumeRefusal::Checkpoint { plan, fault }) => refuse_over(err, &plan, &fault),
     }
 }
 

@@ -22,7 +22,7 @@ use crate::given::{GivenFeed, given_feeds};
 use crate::opened::{Opened, open_workflow};
 use crate::progress::{Progress, tell_feeds};
 use crate::refusal::{Refusal, refuse};
-use crate::refused_text::print_refused;
+use crate::refusal_line::refuse_over;
 use crate::stepping::first_plan;
 use apply_core::Board;
 use board_laws::StepRefusal;
@@ -32,7 +32,7 @@ use std::alloc::Global;
 use std::sync::{Arc, Wait};
 use std::thread::Threads;
 use stream_worker::{Policy, RunRefusal, run_alone, run_parallel};
-use vdiff_core::{Gathered, Out, OutFailed};
+use vdiff_core::Out;
 
 /// Why a run prints no dump.
 #[derive(Drop)]
@@ -100,17 +100,7 @@ pub(crate) fn refuse_run<E: Out>(err: &mut E, plan: &Plan, refusal: RunRefusal) 
     ensures line { PrintsOrBreaks (E.written err.old) (E.written err.new) (refused_text plan.now.tables (as_step refusal)) }
 {
     let refusal = as_step(refusal);
-    let _printed = print_line(err, plan, &refusal);
-    1
-}
-
-/// Prints the line of a refusal.
-fn print_line<E: Out>(err: &mut E, plan: &Plan, refusal: &StepRefusal) -> Result<(), OutFailed>
-    ensures { PrintsOrBreaks (E.written err.old) (E.written err.new) (refused_text plan.now.tables refusal.now) }
-{
-    let mut text = Gathered::new();
-    print_refused(err, &mut text, plan.tables(), refusal)?;
-    text.finish(err)
+    refuse_over(err, plan, &refusal)
 }
 
 /// Prints the dump of a run, or nothing where it is refused.
