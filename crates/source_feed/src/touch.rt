@@ -92,7 +92,7 @@ fn are_same(one: Option<Put<'_>>, other: Option<Put<'_>>) -> bool
     }
 }
 
-/// A touch of a key by a group, in 64 bytes: a row is put there, or nothing is left there. The key and the
+/// A touch of a key by a group, in 56 bytes: a row is put there, or nothing is left there. The key and the
 /// row are lent from the feed's buffer.
 #[derive(Drop)]
 pub struct Touch<'h> {
