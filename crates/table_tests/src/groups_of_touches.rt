@@ -1,6 +1,6 @@
 //! Groups of touches on a map, one after another, and what is staged of them.
 
-use crate::touching::{Group, follow, holds, leaves};
+use crate::touching::{Group, follow, holds, leaves, touch};
 use std::alloc::{AllocError, Global};
 use std::test::*;
 use target_tables::*;
@@ -190,5 +190,60 @@ const STAGED: &[Group<u64, u32>] = &[Group {
 #[test]
 fn staged_touches_wait_for_their_commit(rt: HostRuntime) -> Result<(), Fail> {
     assert!(rt; wait(rt.alloc(), STAGED)?);
+    Ok(())
+}
+
+/// Puts of 300 keys, each the given number of times its place and something more, by rising key.
+fn puts(alloc: Global, by: u64, more: u64) -> Result<Vec<(u64, Option<u32>)>, AllocError> {
+    let mut touches = Vec::new(alloc);
+    for i in 0u64..300 {
+        touches.push((i.wrapping_mul(by).wrapping_add(more), Some(more as u32)))?;
+    }
+    Ok(touches)
+}
+
+/// Whether a map that was built with all touches of a group at once holds what one has that was built touch by
+/// touch.
+fn are_one_by_one(alloc: Global, groups: &[Vec<(u64, Option<u32>)>]) -> Result<bool, AllocError> {
+    let mut at_once = Tables::new(alloc);
+    let mut singly = Tables::new(alloc);
+    for group in groups {
+        if touch(alloc, &mut at_once, 0, group)?.is_some() {
+            return Ok(false);
+        }
+        for one in group {
+            if touch(alloc, &mut singly, 0, &[*one])?.is_some() {
+                return Ok(false);
+            }
+        }
+    }
+    let mut wanted = Vec::new(alloc);
+    for (key, stream, row) in singly.iter() {
+        wanted.push((*key, stream, *row))?;
+    }
+    Ok(holds(&at_once, &wanted) && at_once.pages() > 2)
+}
+
+/// The same keys taken away.
+fn removals(
+    alloc: Global,
+    puts: &[(u64, Option<u32>)],
+) -> Result<Vec<(u64, Option<u32>)>, AllocError> {
+    let mut touches = Vec::new(alloc);
+    for put in puts {
+        touches.push((put.0, None))?;
+    }
+    Ok(touches)
+}
+
+#[test]
+fn places_move_as_pages_split_and_leave(rt: HostRuntime) -> Result<(), Fail> {
+    let alloc = rt.alloc();
+    let thirds = puts(alloc, 3, 0)?;
+    let beside = puts(alloc, 3, 1)?;
+    let ninths = puts(alloc, 9, 4)?;
+    let gone = removals(alloc, &beside)?;
+    let groups = vec![in alloc; thirds, beside, ninths, gone]?;
+    assert!(rt; are_one_by_one(alloc, &groups)?);
     Ok(())
 }
