@@ -1,6 +1,6 @@
 //! The checkpoint of the board behind a script.
 
-use crate::feeds::{ONE, ONE_ROW, feeds_of};
+use crate::feeds::{ONE_ROW, inputs_over};
 use crate::printed::is_done;
 use std::alloc::{AllocError, Global};
 use std::io::Cursor;
@@ -14,13 +14,12 @@ pub const SAVED: &[u8] =
 
 /// `save` prints its 108 bytes: the replies aren't among them.
 fn is_saved(alloc: Global) -> Result<bool, AllocError> {
-    let feeds = feeds_of(alloc, &[ONE_ROW])?;
     let script = b"offer 0 1\nadvance 0\nopen 0 1\ncopy 0 1\nadvance 0\ndump\n";
+    let inputs = inputs_over(alloc, ONE_ROW, script)?;
     let (mut out, mut err) = ([0u8; 128], [0u8; 64]);
     let mut bytes = Writer::new(Cursor::new(&mut out[..]));
     let mut line = Writer::new(Cursor::new(&mut err[..]));
-    let workflow = ONE.as_bytes();
-    let status = save(alloc, true, workflow, &feeds, script, &mut bytes, &mut line);
+    let status = save(alloc, &inputs, &mut bytes, &mut line);
     is_done(status, &out, &err, SAVED)
 }
 

@@ -2,6 +2,7 @@
 //! A feed's group k has position 1-k of its source, and each row stands in one change.
 
 use std::alloc::{AllocError, Global};
+use vrepl_main::Inputs;
 
 /// One stream, every row.
 pub const ONE: &str =
@@ -47,4 +48,17 @@ pub fn feeds_of(alloc: Global, texts: &[&str]) -> Result<Vec<Vec<u8>>, AllocErro
         feeds.push(bytes)?;
     }
     Ok(feeds)
+}
+
+/// Inputs over the workflow of one stream, with a feed in hexadecimal text.
+pub fn inputs_over(alloc: Global, feed: &str, script: &[u8]) -> Result<Inputs, AllocError> {
+    let workflow = Vec::from_slice(alloc, ONE.as_bytes())?;
+    let feeds = feeds_of(alloc, &[feed])?;
+    let script = Vec::from_slice(alloc, script)?;
+    Ok(Inputs {
+        hex: true,
+        workflow,
+        feeds,
+        script,
+    })
 }

@@ -1,13 +1,13 @@
 //! Replies to scripts on boards, fresh and of checkpoints, with room for them and without.
 
 use crate::checkpoints::SAVED;
-use crate::feeds::{LOWER, ONE, ONE_ROW, feeds_of};
+use crate::feeds::{LOWER, ONE_ROW, inputs_over};
 use crate::printed::{is_cut, is_done};
 use std::alloc::{AllocError, Global};
 use std::io::Cursor;
 use std::test::Fail;
 use vdiff_core::Writer;
-use vrepl_main::{resume, step};
+use vrepl_main::{ResumeInputs, resume, step};
 
 /// The status of `step` over one feed, with its replies in `out` and its line on standard error in `err`.
 fn status_of(
@@ -16,19 +16,10 @@ fn status_of(
     out: &mut [u8],
     err: &mut [u8],
 ) -> Result<u8, AllocError> {
-    let feeds = feeds_of(alloc, &[LOWER])?;
+    let inputs = inputs_over(alloc, LOWER, script)?;
     let mut replies = Writer::new(Cursor::new(out));
     let mut line = Writer::new(Cursor::new(err));
-    let workflow = ONE.as_bytes();
-    Ok(step(
-        alloc,
-        true,
-        workflow,
-        &feeds,
-        script,
-        &mut replies,
-        &mut line,
-    ))
+    Ok(step(alloc, &inputs, &mut replies, &mut line))
 }
 
 /// What `step` prints into this room is a beginning of the replies.
@@ -80,25 +71,17 @@ fn output_fails_in_the_middle_of_a_dump(rt: HostRuntime) -> Result<(), Fail> {
 
 /// A script goes on from a checkpoint.
 fn goes_on(alloc: Global) -> Result<bool, AllocError> {
-    let feeds = feeds_of(alloc, &[ONE_ROW])?;
-    let script = b"state 0\ndump\n";
+    let inputs = ResumeInputs {
+        checkpoint: Vec::from_slice(alloc, SAVED)?,
+        step: inputs_over(alloc, ONE_ROW, b"state 0\ndump\n")?,
+    };
     let wanted =
         b"state 0 Running read 1 applied 1 snapshot none done 1 of 1 at 3e11fa47-71ca-11e1-9e33-c80aa9429562:1\n\
         table t\nx31\tx6162\n";
     let (mut out, mut err) = ([0u8; 256], [0u8; 64]);
     let mut replies = Writer::new(Cursor::new(&mut out[..]));
     let mut line = Writer::new(Cursor::new(&mut err[..]));
-    let workflow = ONE.as_bytes();
-    let status = resume(
-        alloc,
-        true,
-        SAVED,
-        workflow,
-        &feeds,
-        script,
-        &mut replies,
-        &mut line,
-    );
+    let status = resume(alloc, &inputs, &mut replies, &mut line);
     is_done(status, &out, &err, wanted)
 }
 

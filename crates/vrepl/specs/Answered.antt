@@ -1,10 +1,11 @@
 -- What the commands leave that print what their inputs make, each by its own words.
-use Rattle.std.specs.Prelude.{ℕ, ◌+◌, ◌∷◌, ◌++◌, [], List, length, map, get_or}
+use Rattle.std.specs.Prelude.{◌≡◌, ◌×◌, ◌∷◌, ◌++◌, [], map}
 use Rattle.vdiff_core.specs.Printing.{Written}
 use Rattle.vrepl_main.specs.Command.{IsGivenText, PrintsRefusal, PrintsWhole}
-use Rattle.vrepl_main.specs.InputList.{checkpoint_input, join_asked, one_of, opened_by, others_of, resume_asked, script_asked}
 use Rattle.vrepl_main.specs.Inputs.{IsUnread, IsUnreadAmong}
+use Rattle.vrepl_main.specs.InputList.{bytes_of}
 use Rattle.vrepl_main.specs.JoinedRun.{PrintsJoin, PrintsJoinRefusal}
+use Rattle.vrepl_main.specs.NamedInputs.{join_asked, opened_asked, script_asked}
 use Rattle.vrepl_main.specs.Replied.{AreFirstReplies, PrintsReplies}
 use Rattle.vrepl_main.specs.ResumedRun.{PrintsResumed, PrintsResumeRefusal}
 use Rattle.vrepl_main.specs.Running.{PrintsDump, PrintsRunRefusal}
@@ -14,6 +15,8 @@ use Rattle.vrepl_main.specs.declared.refusal.Refusal.{Refusal}
 use Rattle.vrepl_words.specs.declared.words.Words.{Words}
 use Rattle.vrepl_words.specs.declared.words.Words.TheVariants as ways
 use Rattle.vrepl.specs.Asked.{text_asked}
+use Rattle.vrepl.specs.declared.answering.Asked.{Asked}
+use Rattle.vrepl.specs.declared.answering.Asked.TheVariants as asked
 
 -- the command prints what its inputs make and does no more
 abbrev pub IsAnswering : Words → Type 0
@@ -25,15 +28,15 @@ IsAnswering (ways.Resume words) = Unit {0}
 IsAnswering (ways.Join words) = Unit {0}
 IsAnswering words = ⊥
 
--- so many inputs it has at least
-abbrev pub inputs_asked : Words → ℕ
-inputs_asked (ways.Show words) = 1
-inputs_asked (ways.Step words) = 2
-inputs_asked (ways.Run words) = 1
-inputs_asked (ways.Save words) = 2
-inputs_asked (ways.Resume words) = 3
-inputs_asked (ways.Join words) = 3 + length words.more.items
-inputs_asked words = 0
+-- the words ask for just this, with what was read of the files that they name
+abbrev pub IsAskedBy : Words → Asked → Type 0
+IsAskedBy (ways.Show words) (asked.Show of feed) = of.now ≡ words
+IsAskedBy (ways.Step words) (asked.Step inputs) = inputs.hex ≡ words.hex
+IsAskedBy (ways.Run words) (asked.Run of inputs) = (of.now ≡ words) × (inputs.hex ≡ words.hex)
+IsAskedBy (ways.Save words) (asked.Save inputs) = inputs.hex ≡ words.hex
+IsAskedBy (ways.Resume words) (asked.Resume inputs) = inputs.step.hex ≡ words.step.hex
+IsAskedBy (ways.Join words) (asked.Join inputs) = inputs.hex ≡ words.hex
+IsAskedBy words other = ⊥
 
 -- the first input that can't be read is named, in the order of its command
 abbrev pub IsUnreadFor : Words → Refusal → Type 0
@@ -46,21 +49,19 @@ IsUnreadFor (ways.Join words) = IsUnreadAmong (File words.workflow ∷ File word
 IsUnreadFor words = λ refusal. ⊥
 
 -- what it prints with status 0
-abbrev pub PrintsAsked : Words → List (List ℕ) → Written → Written → Type 0
-PrintsAsked (ways.Show words) inputs old new = PrintsWhole (text_asked words (get_or inputs 0 [])) old new
-PrintsAsked (ways.Step words) inputs old new = PrintsReplies (script_asked words.hex inputs) old new
-PrintsAsked (ways.Run words) inputs old new = PrintsDump (opened_by words.hex inputs) old new
-PrintsAsked (ways.Save words) inputs old new = PrintsCheckpoint (script_asked words.hex inputs) old new
-PrintsAsked (ways.Resume words) inputs old new = PrintsResumed (resume_asked words.step.hex inputs) (checkpoint_input inputs) old new
-PrintsAsked (ways.Join words) inputs old new = PrintsJoin (join_asked words.hex (1 + length words.more.items) inputs) (one_of inputs) (others_of (1 + length words.more.items) inputs) old new
-PrintsAsked words inputs old new = ⊥
+abbrev pub PrintsAsked : Asked → Written → Written → Type 0
+PrintsAsked (asked.Show words feed) old new = PrintsWhole (text_asked words.now feed.items) old new
+PrintsAsked (asked.Step inputs) old new = PrintsReplies (script_asked inputs) old new
+PrintsAsked (asked.Run words inputs) old new = PrintsDump (opened_asked inputs) old new
+PrintsAsked (asked.Save inputs) old new = PrintsCheckpoint (script_asked inputs) old new
+PrintsAsked (asked.Resume inputs) old new = PrintsResumed (script_asked inputs.step) inputs.checkpoint.items old new
+PrintsAsked (asked.Join inputs) old new = PrintsJoin (join_asked inputs) inputs.one.items (bytes_of inputs.others.items) old new
 
 -- and what it leaves where it is refused
-abbrev pub PrintsRefusalAsked : Words → List (List ℕ) → Written → Written → Written → Written → Type 0
-PrintsRefusalAsked (ways.Show words) inputs old new err_old err_new = PrintsRefusal IsGivenText (text_asked words (get_or inputs 0 [])) old new err_old err_new
-PrintsRefusalAsked (ways.Step words) inputs old new err_old err_new = PrintsRefusal AreFirstReplies (script_asked words.hex inputs) old new err_old err_new
-PrintsRefusalAsked (ways.Run words) inputs old new err_old err_new = PrintsRunRefusal (opened_by words.hex inputs) old new err_old err_new
-PrintsRefusalAsked (ways.Save words) inputs old new err_old err_new = PrintsRefusal IsSavedBehind (script_asked words.hex inputs) old new err_old err_new
-PrintsRefusalAsked (ways.Resume words) inputs old new err_old err_new = PrintsResumeRefusal (resume_asked words.step.hex inputs) (checkpoint_input inputs) old new err_old err_new
-PrintsRefusalAsked (ways.Join words) inputs old new err_old err_new = PrintsJoinRefusal (join_asked words.hex (1 + length words.more.items) inputs) (one_of inputs) (others_of (1 + length words.more.items) inputs) old new err_old err_new
-PrintsRefusalAsked words inputs old new err_old err_new = ⊥
+abbrev pub PrintsRefusalAsked : Asked → Written → Written → Written → Written → Type 0
+PrintsRefusalAsked (asked.Show words feed) old new err_old err_new = PrintsRefusal IsGivenText (text_asked words.now feed.items) old new err_old err_new
+PrintsRefusalAsked (asked.Step inputs) old new err_old err_new = PrintsRefusal AreFirstReplies (script_asked inputs) old new err_old err_new
+PrintsRefusalAsked (asked.Run words inputs) old new err_old err_new = PrintsRunRefusal (opened_asked inputs) old new err_old err_new
+PrintsRefusalAsked (asked.Save inputs) old new err_old err_new = PrintsRefusal IsSavedBehind (script_asked inputs) old new err_old err_new
+PrintsRefusalAsked (asked.Resume inputs) old new err_old err_new = PrintsResumeRefusal (script_asked inputs.step) inputs.checkpoint.items old new err_old err_new
+PrintsRefusalAsked (asked.Join inputs) old new err_old err_new = PrintsJoinRefusal (join_asked inputs) inputs.one.items (bytes_of inputs.others.items) old new err_old err_new

@@ -1,8 +1,7 @@
 //! The commands that print what their inputs make, and do no more.
 
-ghost use Rattle.std.specs.Prelude.{◌≡◌, ◌≤◌, length, IfErr, IfOk};
-ghost use Rattle.vrepl.specs.Answered.{IsAnswering, IsUnreadFor, PrintsAsked, PrintsRefusalAsked, inputs_asked};
-ghost use Rattle.vrepl_main.specs.InputList.{bytes_of};
+ghost use Rattle.std.specs.Prelude.{◌≡◌, ◌≤◌, IfErr, IfOk};
+ghost use Rattle.vrepl.specs.Answered.{IsAnswering, IsAskedBy, IsUnreadFor, PrintsAsked, PrintsRefusalAsked};
 
 use crate::reporting::Reporter;
 use crate::{policy_of, show_feed};
@@ -11,10 +10,27 @@ use std::sync::Wait;
 use std::thread::Threads;
 use vdiff_core::{Out, Writer};
 use vrepl_main::{
-    InputName, Progress, Refusal, Untold, join_inputs, join_on, read_inputs, resume_inputs,
-    resume_on, run_inputs, run_on, save_on, step_inputs, step_on,
+    InputName, Inputs, JoinFiles, JoinInputs, Progress, Refusal, ResumeInputs, RunInputs, Untold,
+    join, read_input, read_join, read_resume, read_run, read_step, resume, run_on, save, step,
 };
-use vrepl_words::words::Words;
+use vrepl_words::words::{Join, Run, Show, Words};
+
+/// What such a command is asked for, with what was read of its inputs.
+#[derive(Drop)]
+pub(crate) enum Asked<'a, 'w> {
+    /// `show` of a feed.
+    Show(&'a Show<'w>, Vec<u8>),
+    /// `step`.
+    Step(Inputs),
+    /// `run`.
+    Run(&'a Run<'w>, RunInputs),
+    /// `save`.
+    Save(Inputs),
+    /// `resume`.
+    Resume(ResumeInputs),
+    /// `join`.
+    Join(JoinInputs),
+}
 
 /// Reads the inputs of such a command, and prints what it makes of them.
 pub(crate) fn run_answering<'w, T: Threads + Wait + Sync>(
@@ -26,10 +42,10 @@ pub(crate) fn run_answering<'w, T: Threads + Wait + Sync>(
     ensures status { IfOk result (λ status. status ≤ 1) }
     ensures unread { IfErr result (IsUnreadFor words.now) }
 {
-    let inputs = read_asked(rt, words)?;
+    let asked = read_asked(rt, words)?;
     match reporter_of(rt, words)? {
-        Some(reporter) => Ok(print_answer(rt, threads, words, &reporter, &inputs)),
-        None => Ok(print_answer(rt, threads, words, &Untold, &inputs)),
+        Some(reporter) => Ok(print_answer(rt, threads, &reporter, &asked)),
+        None => Ok(print_answer(rt, threads, &Untold, &asked)),
     }
 }
 
@@ -44,98 +60,99 @@ fn reporter_of<'r>(
     }
 }
 
-/// What is read of the inputs that the words name, in the order of their command.
-fn read_asked<'w>(rt: &HostRuntime, words: &Words<'w>) -> Result<Vec<Vec<u8>>, Refusal<'w>>
-    ensures some { IfOk result (λ inputs. inputs_asked words.now ≤ length inputs.items) }
-    ensures unread { IfErr result (IsUnreadFor words.now) }
+/// Reads the inputs that the words name, each by its name, in the order of their command.
+fn read_asked<'a, 'w>(rt: &HostRuntime, words: &'a Words<'w>) -> Result<Asked<'a, 'w>, Refusal<'w>>
+    requires answering { IsAnswering words.now }
+    ensures asked { IfOk result (IsAskedBy words.entry.now) }
+    ensures unread { IfErr result (IsUnreadFor words.entry.now) }
 {
-    let alloc = rt.alloc();
-    let inputs = match words {
-        Words::Show(words) => read_inputs(rt, &[InputName::of_word(words.feed)])?,
-        Words::Step(words) | Words::Save(words) => {
-            read_inputs(rt, &step_inputs(alloc, words.workflow, &words.feeds)?)?
+    match words {
+        Words::Show(words) => {
+            let feed = read_input(rt, InputName::of_word(words.feed))?;
+            Ok(Asked::Show(words, feed))
         }
-        Words::Run(words) => { read_inputs(rt, &run_inputs(alloc, words.workflow, &words.feeds)?)? }
+        Words::Step(words) => {
+            let inputs = read_step(rt, words.hex, words.workflow, &words.feeds)?;
+            Ok(Asked::Step(inputs))
+        }
+        Words::Run(words) => {
+            let inputs = read_run(rt, words.hex, words.workflow, &words.feeds)?;
+            Ok(Asked::Run(words, inputs))
+        }
+        Words::Save(words) => {
+            let inputs = read_step(rt, words.hex, words.workflow, &words.feeds)?;
+            Ok(Asked::Save(inputs))
+        }
         Words::Resume(words) => {
             let step = &words.step;
-            let names = resume_inputs(alloc, words.checkpoint, step.workflow, &step.feeds)?;
-            read_inputs(rt, &names)?
+            let checkpoint = words.checkpoint;
+            let inputs = read_resume(rt, step.hex, checkpoint, step.workflow, &step.feeds)?;
+            Ok(Asked::Resume(inputs))
         }
         Words::Join(words) => {
-            let names = join_inputs(
-                alloc,
-                words.workflow,
-                words.one,
-                words.other,
-                &words.more,
-                &words.feeds,
-            )?;
-            read_inputs(rt, &names)?
+            let inputs = read_join(rt, words.hex, &files_of(words))?;
+            Ok(Asked::Join(inputs))
         }
-        _ => Vec::new(alloc),
-    };
-    Ok(inputs)
+        _ => unreachable!(),
+    }
+}
+
+/// The files that the words of `join` name.
+fn files_of<'n, 'w>(words: &'n Join<'w>) -> JoinFiles<'n, 'w>
+    ensures workflow { result.workflow ≡ words.entry.now.workflow }
+    ensures checkpoints { (result.one ≡ words.entry.now.one) × (result.other ≡ words.entry.now.other) × (result.more.now ≡ words.entry.now.more.items) }
+    ensures feeds { result.feeds.now ≡ words.entry.now.feeds.items }
+{
+    JoinFiles {
+        workflow: words.workflow,
+        one: words.one,
+        other: words.other,
+        more: &words.more,
+        feeds: &words.feeds,
+    }
 }
 
 /// Prints on the standard streams what the command makes of its inputs.
 fn print_answer<T: Threads + Wait + Sync, G: Progress + Sync>(
     rt: &HostRuntime,
     threads: &T,
-    words: &Words<'_>,
     gate: &G,
-    inputs: &[Vec<u8>],
+    asked: &Asked<'_, '_>,
 ) -> u8
-    requires answering { IsAnswering words.now }
-    requires many { inputs_asked words.now ≤ length inputs.now }
     ensures status { result ≤ 1 }
 {
     answer(
         threads,
         rt.alloc(),
-        words,
         gate,
-        inputs,
+        asked,
         &mut Writer::new(rt.stdout()),
         &mut Writer::new(rt.stderr()),
     )
 }
 
-/// Prints on `out` what the command of these words makes of its inputs, or a refusal's line on `err`.
+/// Prints on `out` what the command makes of its inputs, or a refusal's line on `err`.
 fn answer<T: Threads + Wait + Sync, G: Progress + Sync, W: Out, E: Out>(
     threads: &T,
     alloc: Global,
-    words: &Words<'_>,
     gate: &G,
-    inputs: &[Vec<u8>],
+    asked: &Asked<'_, '_>,
     out: &mut W,
     err: &mut E,
 ) -> u8
-    requires answering { IsAnswering words.now }
-    requires many { inputs_asked words.now ≤ length inputs.now }
     ensures status { result ≤ 1 }
-    ensures printed { result ≡ 0 → PrintsAsked words.now (bytes_of inputs.now) (W.written out.old) (W.written out.new) }
-    ensures refused { result ≡ 1 → PrintsRefusalAsked words.now (bytes_of inputs.now) (W.written out.old) (W.written out.new) (E.written err.old) (E.written err.new) }
+    ensures printed { result ≡ 0 → PrintsAsked asked.now (W.written out.old) (W.written out.new) }
+    ensures refused { result ≡ 1 → PrintsRefusalAsked asked.now (W.written out.old) (W.written out.new) (E.written err.old) (E.written err.new) }
 {
-    match words {
-        Words::Show(words) => show_feed(alloc, words, &inputs[0], out, err),
-        Words::Step(words) => step_on(alloc, words.hex, inputs, out, err),
-        Words::Save(words) => save_on(alloc, words.hex, inputs, out, err),
-        Words::Resume(words) => resume_on(alloc, words.step.hex, inputs, out, err),
-        Words::Join(words) => { join_on(alloc, words.hex, 1 + words.more.len(), inputs, out, err) }
-        Words::Run(words) => {
+    match asked {
+        Asked::Show(words, feed) => show_feed(alloc, words, feed, out, err),
+        Asked::Step(inputs) => step(alloc, inputs, out, err),
+        Asked::Save(inputs) => save(alloc, inputs, out, err),
+        Asked::Resume(inputs) => resume(alloc, inputs, out, err),
+        Asked::Join(inputs) => join(alloc, inputs, out, err),
+        Asked::Run(words, inputs) => {
             let policy = policy_of(words.portions);
-            run_on(
-                threads,
-                alloc,
-                words.hex,
-                words.alone,
-                &policy,
-                gate,
-                inputs,
-                out,
-                err,
-            )
+            run_on(threads, alloc, words.alone, &policy, gate, inputs, out, err)
         }
-        _ => unreachable!(),
     }
 }

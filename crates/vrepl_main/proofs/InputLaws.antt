@@ -1,6 +1,6 @@
 -- What reads in a row take from an input whose bytes are known.
-use Rattle.std.proofs.Common.{◌≡◌, ◌∙◌, ap, sym, subst, ℕ, ◌*◌, ◌<◌, ◌≤◌, true, false, List, ◌++◌, length, take, arith}
-use Rattle.std.proofs.lemmas.List.{append-nil, get_or_default}
+use Rattle.std.proofs.Common.{◌≡◌, ◌∙◌, ap, sym, subst, ℕ, suc, ◌*◌, ◌<◌, ◌≤◌, true, false, List, [], ◌∷◌, ◌++◌, length, take, arith}
+use Rattle.std.proofs.lemmas.List.{append-nil, get_or_append_left, get_or_default, length-append}
 use Rattle.std.specs.Prelude.{Option, Some, None, IfSome}
 use Rattle.std.specs.Io.KnownBytes.{Consumes, IsAtEnd}
 use Rattle.std.specs.Prelude.{get_or}
@@ -40,3 +40,42 @@ unread_among names i (CannotWrite file) within unread = absurd unread
 pub IsUnreadAmong-one : (names : List InputName) (i : ℕ) (default : InputName) (refusal : Refusal) → i < length names → IsUnread (input_name (get_or names i default)) refusal → IsUnreadAmong names refusal
 IsUnreadAmong-one names i default refusal within unread =
     unread_among names i refusal within (subst (λ name. IsUnread (input_name name) refusal) (get_or_default names i default Standard within) unread)
+
+-- ---- parts of what is read
+
+-- the first can't be read
+pub unread_first : (name : InputName) (others : List InputName) (refusal : Refusal) → IsUnread (input_name name) refusal → IsUnreadAmong (name ∷ others) refusal
+unread_first name others refusal unread = unread_among (name ∷ others) 0 refusal (omega arith) unread
+
+-- one of the others can't
+pub unread_later : (name : InputName) (others : List InputName) (refusal : Refusal) → IsUnreadAmong others refusal → IsUnreadAmong (name ∷ others) refusal
+unread_later name others Memory unread = tt
+unread_later name others (CannotRead file) (i, within, is) = (suc i, omega (arith, within), is)
+unread_later name others (Workflow fault) unread = absurd unread
+unread_later name others NoStream unread = absurd unread
+unread_later name others FeedCount unread = absurd unread
+unread_later name others (Feed fault) unread = absurd unread
+unread_later name others BadHex unread = absurd unread
+unread_later name others (BadScript bad) unread = absurd unread
+unread_later name others (BadDump bad) unread = absurd unread
+unread_later name others (CannotWrite file) unread = absurd unread
+
+-- one of those behind some can't
+pub unread_behind : (some others : List InputName) (refusal : Refusal) → IsUnreadAmong others refusal → IsUnreadAmong (some ++ others) refusal
+unread_behind [] others refusal unread = unread
+unread_behind (name ∷ some) others refusal unread = unread_later name (some ++ others) refusal (unread_behind some others refusal unread)
+
+-- one of those before others can't
+pub unread_before : (some others : List InputName) (refusal : Refusal) → IsUnreadAmong some refusal → IsUnreadAmong (some ++ others) refusal
+unread_before some others Memory unread = tt
+unread_before some others (CannotRead file) (i, within, is) =
+    let least : length some ≤ length (some ++ others) = subst (λ (n : ℕ). length some ≤ n) (sym (length-append some others)) (omega arith) in
+    (i, omega (arith, within, least), is ∙ ap input_name (sym (get_or_append_left some others Standard i within)))
+unread_before some others (Workflow fault) unread = absurd unread
+unread_before some others NoStream unread = absurd unread
+unread_before some others FeedCount unread = absurd unread
+unread_before some others (Feed fault) unread = absurd unread
+unread_before some others BadHex unread = absurd unread
+unread_before some others (BadScript bad) unread = absurd unread
+unread_before some others (BadDump bad) unread = absurd unread
+unread_before some others (CannotWrite file) unread = absurd unread

@@ -59,9 +59,6 @@ given_as feeds view hex workflow script given is =
 pub front_at : {A : Type 0} (f : A → PlanValue) (plans : List A) (plan : A) (value : PlanValue) → slice_get plans 0 ≡ Some plan → value ≡ f plan → slice_get (map f plans) 0 ≡ Some value
 front_at f plans plan value is seen = slice_get-map f plans 0 ∙ ap (option_map f) is ∙ ap Some (sym seen)
 
-pub first_of_all : {A : Type 0} (f : A → PlanValue) (lent plans : List A) (plan value : PlanValue) → lent ≡ plans → slice_get (map f lent) 0 ≡ Some plan → value ≡ plan → slice_get (map f plans) 0 ≡ Some value
-first_of_all {A} f lent plans plan value e is seen = subst (λ (ps : List A). slice_get (map f ps) 0 ≡ Some value) e (is ∙ ap Some (sym seen))
-
 -- ---- other words for what is given
 
 pub printed_as : {Y E : Type 0} (result : Result Y E) (one other : Result ScriptGiven Reason) (old new : Written) → one ≡ other → OnOk result (PrintsReplies other old new) → OnOk result (PrintsReplies one old new)

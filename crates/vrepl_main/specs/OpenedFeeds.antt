@@ -1,11 +1,13 @@
--- A workflow with its feeds, as it is kept, and its feeds tried each by itself.
+-- A workflow with its feeds, and with a script, as they are kept, and its feeds tried each by itself.
 use Rattle.std.specs.Prelude.{◌≡◌, ℕ, List, length, map, Option, None, Some, Result, Ok, Err, slice_get}
 use Rattle.std.specs.Arc.{arc_value}
 use Rattle.filter_rule.specs.PlanValue.{PlanValue}
 use Rattle.source_feed.specs.Planned.{FeedValue}
 use Rattle.vrepl_main.specs.Opening.{OpenedValue, opened_feed}
 use Rattle.vrepl_main.specs.Reasons.{GivesOfInputs}
+use Rattle.vrepl_main.specs.ScriptRun.{ScriptGiven}
 use Rattle.vrepl_main.specs.declared.opened.Opened.{Opened}
+use Rattle.vrepl_main.specs.declared.scripted.Scripted.{Scripted}
 use Rattle.source_feed.specs.declared.fault.FeedFault.{FeedFault}
 use Rattle.vrepl_main.specs.RefusalOf.{refusal_of_feed}
 use Rattle.vrepl_main.specs.declared.refusal.Refusal.{Refusal}
@@ -13,6 +15,9 @@ use Rattle.vrepl_main.specs.declared.refusal.Refusal.TheVariants.{BadHex}
 
 abbrev pub opened_value : Opened → OpenedValue
 opened_value opened = record { plans = map arc_value opened.plans.items; feeds = opened.feeds.items }
+
+abbrev pub scripted_value : Scripted → ScriptGiven
+scripted_value scripted = record { opened = opened_value scripted.opened; steps = scripted.steps.items }
 
 -- what came of opening a feed, none where it should have been hexadecimal text, as the feed or its refusal
 abbrev pub as_opened : Result (Option FeedValue) FeedFault → Result FeedValue Refusal

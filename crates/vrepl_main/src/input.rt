@@ -85,7 +85,7 @@ pub fn read_inputs<'w, R: Files + Input + AllocGlobal>(
 }
 
 /// The bytes of an input.
-fn read_input<'w, R: Files + Input + AllocGlobal>(
+pub fn read_input<'w, R: Files + Input + AllocGlobal>(
     rt: &R,
     name: InputName<'w>,
 ) -> Result<Vec<u8>, Refusal<'w>>

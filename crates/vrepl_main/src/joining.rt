@@ -1,13 +1,16 @@
 //! The subcommand `join`: the checkpoint of the join of two checkpoints' boards.
 
-ghost use Rattle.std.specs.Prelude.{◌≡◌, ◌⊎◌, ◌≤◌, Ok, Some, OnOk, IfErr, IfOk, length, map, slice_get};
+ghost use Rattle.std.specs.Prelude.{◌≡◌, ◌⊎◌, Ok, Some, OnOk, IfErr, IfOk, map, slice_get};
 ghost use Rattle.std.specs.Arc.{arc_value};
-ghost use Rattle.vrepl_main.specs.Given.{given_value};
+ghost use Rattle.filter_rule.specs.WellFormed.{ArePlans};
+ghost use Rattle.vrepl_main.specs.InputList.{bytes_of};
 ghost use Rattle.vrepl_main.specs.JoinedRun.{IsJoinOver, IsSavedJoin, IsUnjoined, PrintsJoin, PrintsJoinRefusal, RefusesJoin, join_refusal_line};
-ghost use Rattle.vrepl_main.specs.Opening.{opened, opened_bytes};
+ghost use Rattle.vrepl_main.specs.NamedInputs.{join_asked};
+ghost use Rattle.vrepl_main.specs.OpenedFeeds.{opened_value};
 ghost use Rattle.vrepl_main.specs.Printing.{PrintsOrBreaks};
 
-use crate::given::{GivenFeed, given_feeds};
+use crate::given::given_feeds;
+use crate::named_inputs::JoinInputs;
 use crate::opened::{Opened, open_workflow};
 use crate::refusal::{Refusal, refuse};
 use crate::refusal_line::refuse_over;
@@ -18,7 +21,6 @@ use apply_core::{
     save as checkpoint,
 };
 use filter_rule::Plan;
-use source_feed::Feed;
 use std::alloc::Global;
 use std::sync::Arc;
 use vdiff_core::Out;
@@ -67,24 +69,14 @@ impl From<Refusal<'static>> for Unjoined {
 /// those of these streams, in whatever order the checkpoints come. Or prints the line of a refusal on `err` and then
 /// nothing on `out`, unless it is `out` that can't be written. The checkpoints are judged behind the workflow and the
 /// feeds, `one` first, and each of the others before its board is joined to those before it: two boards are held at a
-/// time. Where `hex` is set feeds are hexadecimal text, the checkpoints never. Answers the status: 0, or 1 after a
-/// refusal, also of memory.
-pub fn join<W: Out, E: Out>(
-    alloc: Global,
-    hex: bool,
-    workflow: &[u8],
-    one: &[u8],
-    others: &[Vec<u8>],
-    feeds: &[Vec<u8>],
-    out: &mut W,
-    err: &mut E,
-) -> u8
+/// time. Answers the status: 0, or 1 after a refusal, also of memory.
+pub fn join<W: Out, E: Out>(alloc: Global, inputs: &JoinInputs, out: &mut W, err: &mut E) -> u8
     ensures status { (result ≡ 0) ⊎ (result ≡ 1) }
-    ensures printed { result ≡ 0 → PrintsJoin (opened hex workflow.now (map (λ feed. feed.items) feeds.now)) one.now (map (λ other. other.items) others.now) (W.written out.old) (W.written out.new) }
+    ensures printed { result ≡ 0 → PrintsJoin (join_asked inputs.now) inputs.now.one.items (bytes_of inputs.now.others.items) (W.written out.old) (W.written out.new) }
     ensures quiet { result ≡ 0 → err.new ≡ err.old }
-    ensures refused { result ≡ 1 → PrintsJoinRefusal (opened hex workflow.now (map (λ feed. feed.items) feeds.now)) one.now (map (λ other. other.items) others.now) (W.written out.old) (W.written out.new) (E.written err.old) (E.written err.new) }
+    ensures refused { result ≡ 1 → PrintsJoinRefusal (join_asked inputs.now) inputs.now.one.items (bytes_of inputs.now.others.items) (W.written out.old) (W.written out.new) (E.written err.old) (E.written err.new) }
 {
-    match print_joined(alloc, hex, workflow, one, others, feeds, out) {
+    match print_joined(alloc, inputs, out) {
         Ok(()) => 0,
         Err(unjoined) => refuse_unjoined(err, &unjoined),
     }
@@ -104,45 +96,30 @@ fn refuse_unjoined<E: Out>(err: &mut E, unjoined: &Unjoined) -> u8
 }
 
 /// Prints the checkpoint of the join, or nothing where there is none.
-fn print_joined<W: Out>(
-    alloc: Global,
-    hex: bool,
-    workflow: &[u8],
-    one: &[u8],
-    others: &[Vec<u8>],
-    feeds: &[Vec<u8>],
-    out: &mut W,
-) -> Result<(), Unjoined>
-    ensures printed { OnOk result (PrintsJoin (opened hex workflow.now (map (λ feed. feed.items) feeds.now)) one.now (map (λ other. other.items) others.now) (W.written out.old) (W.written out.new)) }
-    ensures refused { IfErr result (λ refusal. RefusesJoin refusal (opened hex workflow.now (map (λ feed. feed.items) feeds.now)) one.now (map (λ other. other.items) others.now) (W.written out.old) (W.written out.new)) }
+fn print_joined<W: Out>(alloc: Global, inputs: &JoinInputs, out: &mut W) -> Result<(), Unjoined>
+    ensures printed { OnOk result (PrintsJoin (join_asked inputs.now) inputs.now.one.items (bytes_of inputs.now.others.items) (W.written out.old) (W.written out.new)) }
+    ensures refused { IfErr result (λ refusal. RefusesJoin refusal (join_asked inputs.now) inputs.now.one.items (bytes_of inputs.now.others.items) (W.written out.old) (W.written out.new)) }
 {
-    let Ok(given) = given_feeds(alloc, hex, feeds) else {
-        return Err(Unjoined::Given(Refusal::Memory));
-    };
-    let bytes = joined_bytes(alloc, workflow, one, others, &given)?;
+    let bytes = joined_bytes(alloc, inputs)?;
     match print_bytes(out, &bytes) {
         Ok(()) => Ok(()),
         Err(_) => Err(Unjoined::Given(Refusal::CannotWrite { file: "-" })),
     }
 }
 
-/// The checkpoint of the join, over the bytes of the feeds.
-fn joined_bytes(
-    alloc: Global,
-    workflow: &[u8],
-    one: &[u8],
-    others: &[Vec<u8>],
-    given: &[GivenFeed<'_>],
-) -> Result<Vec<u8>, Unjoined>
-    ensures saved { IfOk result (λ bytes. IsSavedJoin (opened_bytes workflow.now (map given_value given.now)) one.now (map (λ other. other.items) others.now) bytes.items) }
-    ensures refused { IfErr result (λ refusal. IsUnjoined refusal (opened_bytes workflow.now (map given_value given.now)) one.now (map (λ other. other.items) others.now)) }
+/// The checkpoint of the join.
+fn joined_bytes(alloc: Global, inputs: &JoinInputs) -> Result<Vec<u8>, Unjoined>
+    ensures saved { IfOk result (λ bytes. IsSavedJoin (join_asked inputs.now) inputs.now.one.items (bytes_of inputs.now.others.items) bytes.items) }
+    ensures refused { IfErr result (λ refusal. IsUnjoined refusal (join_asked inputs.now) inputs.now.one.items (bytes_of inputs.now.others.items)) }
 {
-    let opened = open_workflow(alloc, workflow, given)?;
-    let Opened { plans, feeds } = opened;
-    let Ok(plan) = first_plan(&plans) else {
+    let Ok(given) = given_feeds(alloc, inputs.hex, &inputs.feeds) else {
         return Err(Unjoined::Given(Refusal::Memory));
     };
-    let board = join_over(alloc, &plans, &feeds, plan, one, others)?;
+    let opened = open_workflow(alloc, &inputs.workflow, &given)?;
+    let Ok(plan) = first_plan(&opened.plans) else {
+        return Err(Unjoined::Given(Refusal::Memory));
+    };
+    let board = join_over(alloc, &opened, plan, &inputs.one, &inputs.others)?;
     match checkpoint(alloc, &board) {
         Ok(bytes) => Ok(bytes),
         Err(_) => Err(Unjoined::Given(Refusal::Memory)),
@@ -152,18 +129,18 @@ fn joined_bytes(
 /// The join of the boards that checkpoints make over the plans, the first of which is `plan`, and their feeds.
 fn join_over<'h>(
     alloc: Global,
-    plans: &[Arc<Plan>],
-    feeds: &[Feed<'h>],
+    opened: &Opened<'h>,
     plan: Arc<Plan>,
     one: &[u8],
     others: &[Vec<u8>],
 ) -> Result<Board<'h>, Unjoined>
-    requires some { 1 ≤ length plans.now }
-    requires few { length plans.now ≤ 64 }
-    requires first { slice_get (map arc_value plans.now) 0 ≡ Some (arc_value plan) }
-    ensures joined { IfOk result (IsJoinOver (record { plans = map arc_value plans.now; feeds = feeds.now }) one.now (map (λ other. other.items) others.now)) }
-    ensures refused { IfErr result (λ refusal. IsUnjoined refusal (Ok (record { plans = map arc_value plans.now; feeds = feeds.now })) one.now (map (λ other. other.items) others.now)) }
+    requires plans { ArePlans (map arc_value opened.now.plans.items) }
+    requires first { slice_get (map arc_value opened.now.plans.items) 0 ≡ Some (arc_value plan) }
+    ensures joined { IfOk result (IsJoinOver (opened_value opened.now) one.now (bytes_of others.now)) }
+    ensures refused { IfErr result (λ refusal. IsUnjoined refusal (Ok (opened_value opened.now)) one.now (bytes_of others.now)) }
 {
+    let plans = opened.plans.as_slice();
+    let feeds = opened.feeds.as_slice();
     let mut board = match resumed_board(alloc, plans, feeds, one) {
         Ok(board) => board,
         Err(fault) => return Err(Unjoined::One { plan, fault }),

@@ -16,6 +16,7 @@ mod keeping;
 mod key_text;
 mod line;
 mod lines;
+mod named_inputs;
 mod opened;
 mod output;
 mod progress;
@@ -26,6 +27,7 @@ mod resumed_text;
 mod resuming;
 mod running;
 mod saving;
+mod scripted;
 mod showing;
 mod shown;
 mod state_text;
@@ -36,18 +38,19 @@ pub use following::{Course, Followed, Unfollowed, follow, refuse_unfollowed};
 pub use following_only::follow_only;
 pub use given::{GivenFeed, given_feeds};
 pub use hex_text::{HexFault, bytes_of_hex};
-pub use input::{InputFault, InputName, read_inputs, read_whole, read_within};
-pub use input_list::{
-    join_inputs, join_on, resume_inputs, resume_on, run_inputs, run_on, save_on, step_inputs,
-    step_on, vdiff_on,
-};
+pub use input::{InputFault, InputName, read_input, read_inputs, read_whole, read_within};
+pub use input_list::{run_inputs, vdiff_on};
 pub use joining::join;
 pub use keeping::keep_file;
+pub use named_inputs::{
+    Inputs, JoinFiles, JoinInputs, ResumeInputs, RunInputs, read_join, read_resume, read_run,
+    read_step,
+};
 pub use opened::open_workflow;
 pub use progress::{Progress, Untold};
 pub use refusal::{Refusal, refuse};
 pub use resuming::resume;
-pub use running::run;
+pub use running::{run, run_on};
 pub use saving::save;
 pub use showing::show;
 pub use stepping::step;

@@ -10,6 +10,7 @@ ghost use Rattle.stream_worker.specs.RunRefused.{IsRefusedRun};
 ghost use Rattle.vrepl_main.specs.Command.{IsUnwritten};
 ghost use Rattle.vrepl_main.specs.Given.{given_value};
 ghost use Rattle.filter_rule.specs.WellFormed.{ArePlans};
+ghost use Rattle.vrepl_main.specs.NamedInputs.{opened_asked};
 ghost use Rattle.vrepl_main.specs.OpenedFeeds.{opened_value};
 ghost use Rattle.vrepl_main.specs.Opening.{opened, opened_bytes};
 ghost use Rattle.vrepl_main.specs.Reasons.{GivesOfInputs};
@@ -19,6 +20,7 @@ ghost use Rattle.vrepl_main.specs.Running.{IsFilled, IsUnfilled, PrintsDump, Ref
 
 use crate::at_once::open_at_once;
 use crate::given::{GivenFeed, given_feeds};
+use crate::named_inputs::RunInputs;
 use crate::opened::{Opened, open_workflow};
 use crate::progress::{Progress, tell_feeds};
 use crate::refusal::{Refusal, refuse};
@@ -75,6 +77,36 @@ pub fn run<R: Threads + Wait + Sync, G: Progress + Sync, W: Out, E: Out>(
         Err(RunFault::Given(refusal)) => refuse(err, &refusal),
         Err(RunFault::Stream { plan, refusal }) => refuse_run(err, &plan, refusal),
     }
+}
+
+/// The same over inputs by their names.
+pub fn run_on<R: Threads + Wait + Sync, G: Progress + Sync, W: Out, E: Out>(
+    rt: &R,
+    alloc: Global,
+    alone: bool,
+    policy: &Policy,
+    gate: &G,
+    inputs: &RunInputs,
+    out: &mut W,
+    err: &mut E,
+) -> u8
+    ensures status { (result ≡ 0) ⊎ (result ≡ 1) }
+    ensures printed { result ≡ 0 → PrintsDump (opened_asked inputs.now) (W.written out.old) (W.written out.new) }
+    ensures quiet { result ≡ 0 → err.new ≡ err.old }
+    ensures refused { result ≡ 1 → PrintsRunRefusal (opened_asked inputs.now) (W.written out.old) (W.written out.new) (E.written err.old) (E.written err.new) }
+{
+    run(
+        rt,
+        alloc,
+        inputs.hex,
+        alone,
+        policy,
+        gate,
+        &inputs.workflow,
+        &inputs.feeds,
+        out,
+        err,
+    )
 }
 
 /// The refusal of a run, as that of a step.

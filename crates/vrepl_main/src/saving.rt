@@ -4,18 +4,21 @@ ghost use Rattle.std.specs.Prelude.{◌≡◌, ◌⊎◌, ◌≤◌, List, OnOk,
 ghost use Rattle.std.specs.Arc.{arc_value};
 ghost use Rattle.std.specs.List.{AllByRecursion};
 ghost use Rattle.apply_core.specs.Fresh.{fresh_board};
-ghost use Rattle.vrepl_main.specs.ScriptRun.{ScriptReply, answers, IsScriptStep, IsScriptRun, IsFed, IsTold, script_given, given_bytes};
-ghost use Rattle.vrepl_main.specs.Given.{given_value};
+ghost use Rattle.filter_rule.specs.WellFormed.{ArePlans};
+ghost use Rattle.vrepl_main.specs.NamedInputs.{script_asked};
+ghost use Rattle.vrepl_main.specs.OpenedFeeds.{scripted_value};
+ghost use Rattle.vrepl_main.specs.ScriptRun.{ScriptReply, answers, IsScriptStep, IsScriptRun, IsFed, IsTold};
 ghost use Rattle.vdiff_core.specs.Printing.{Prints};
-ghost use Rattle.vrepl_main.specs.SavedBoard.{IsSavedBoard, IsSavedBehind, PrintsCheckpoint};
+ghost use Rattle.vrepl_main.specs.SavedBoard.{IsSavedBehind, PrintsCheckpoint};
 ghost use Rattle.vrepl_main.specs.Command.{PrintsRefusal, RefusesCommand};
-ghost use Rattle.vrepl_main.specs.Reasons.{RefusesInputs};
 
-use crate::given::{GivenFeed, given_feeds};
+use crate::given::given_feeds;
 use crate::line::answer_to;
-use crate::opened::{Opened, open_workflow};
+use crate::named_inputs::Inputs;
+use crate::opened::Opened;
 use crate::refusal::{Refusal, refuse};
-use crate::stepping::{fresh_board, steps_of};
+use crate::scripted::{Scripted, open_scripted};
+use crate::stepping::fresh_board;
 use apply_core::{Answer, Board, StepRefusal, save as checkpoint};
 use filter_rule::Plan;
 use source_feed::Feed;
@@ -31,23 +34,14 @@ const MEMORY: u8 = 72;
 /// each, and prints on `out` the checkpoint of the board that they leave; their replies aren't printed. Or
 /// prints the line of a refusal on `err` and then nothing on `out`, unless it is `out` that can't be written.
 /// A refused step doesn't end the script, unless it is refused for want of memory: the checkpoint would be of
-/// another board then. Where `hex` is set feeds are hexadecimal text. Answers the status:
-/// 0, or 1 after a refusal, also of memory.
-pub fn save<W: Out, E: Out>(
-    alloc: Global,
-    hex: bool,
-    workflow: &[u8],
-    feeds: &[Vec<u8>],
-    script: &[u8],
-    out: &mut W,
-    err: &mut E,
-) -> u8
+/// another board then. Answers the status: 0, or 1 after a refusal, also of memory.
+pub fn save<W: Out, E: Out>(alloc: Global, inputs: &Inputs, out: &mut W, err: &mut E) -> u8
     ensures status { (result ≡ 0) ⊎ (result ≡ 1) }
-    ensures printed { result ≡ 0 → PrintsCheckpoint (script_given hex workflow.now (map (λ feed. feed.items) feeds.now) script.now) (W.written out.old) (W.written out.new) }
+    ensures printed { result ≡ 0 → PrintsCheckpoint (script_asked inputs.now) (W.written out.old) (W.written out.new) }
     ensures quiet { result ≡ 0 → err.new ≡ err.old }
-    ensures refused { result ≡ 1 → PrintsRefusal IsSavedBehind (script_given hex workflow.now (map (λ feed. feed.items) feeds.now) script.now) (W.written out.old) (W.written out.new) (E.written err.old) (E.written err.new) }
+    ensures refused { result ≡ 1 → PrintsRefusal IsSavedBehind (script_asked inputs.now) (W.written out.old) (W.written out.new) (E.written err.old) (E.written err.new) }
 {
-    match print_checkpoint(alloc, hex, workflow, feeds, script, out) {
+    match print_checkpoint(alloc, inputs, out) {
         Ok(()) => 0,
         Err(refusal) => refuse(err, &refusal),
     }
@@ -56,17 +50,15 @@ pub fn save<W: Out, E: Out>(
 /// Prints the checkpoint of the board behind a script, or nothing where there is none.
 fn print_checkpoint<W: Out>(
     alloc: Global,
-    hex: bool,
-    workflow: &[u8],
-    feeds: &[Vec<u8>],
-    script: &[u8],
+    inputs: &Inputs,
     out: &mut W,
 ) -> Result<(), Refusal<'static>>
-    ensures printed { OnOk result (PrintsCheckpoint (script_given hex workflow.now (map (λ feed. feed.items) feeds.now) script.now) (W.written out.old) (W.written out.new)) }
-    ensures refused { IfErr result (λ refusal. RefusesCommand IsSavedBehind refusal (script_given hex workflow.now (map (λ feed. feed.items) feeds.now) script.now) (W.written out.old) (W.written out.new)) }
+    ensures printed { OnOk result (PrintsCheckpoint (script_asked inputs.now) (W.written out.old) (W.written out.new)) }
+    ensures refused { IfErr result (λ refusal. RefusesCommand IsSavedBehind refusal (script_asked inputs.now) (W.written out.old) (W.written out.new)) }
 {
-    let given = given_feeds(alloc, hex, feeds)?;
-    let bytes = saved_bytes(alloc, workflow, &given, script)?;
+    let given = given_feeds(alloc, inputs.hex, &inputs.feeds)?;
+    let scripted = open_scripted(alloc, inputs, &given)?;
+    let bytes = saved_bytes(alloc, scripted)?;
     print_bytes(out, &bytes)?;
     Ok(())
 }
@@ -78,18 +70,12 @@ pub(crate) fn print_bytes<W: Out>(out: &mut W, bytes: &[u8]) -> Result<(), OutFa
     put_all(out, bytes)
 }
 
-/// The checkpoint of the board behind a script, over the bytes of the feeds.
-fn saved_bytes(
-    alloc: Global,
-    workflow: &[u8],
-    given: &[GivenFeed<'_>],
-    script: &[u8],
-) -> Result<Vec<u8>, Refusal<'static>>
-    ensures saved { IfOk result (λ bytes. IsSavedBoard (given_bytes workflow.now (map given_value given.now) script.now) bytes.items) }
-    ensures refused { IfErr result (λ refusal. RefusesInputs refusal (given_bytes workflow.now (map given_value given.now) script.now)) }
+/// The checkpoint of the board behind a script. An error is want of memory.
+fn saved_bytes(alloc: Global, scripted: Scripted<'_>) -> Result<Vec<u8>, AllocError>
+    requires { ArePlans (map arc_value scripted.opened.plans.items) }
+    ensures { IfOk result (λ bytes. IsSavedBehind (scripted_value scripted.entry) bytes.items) }
 {
-    let opened = open_workflow(alloc, workflow, given)?;
-    let steps = steps_of(alloc, script)?;
+    let Scripted { opened, steps } = scripted;
     let Opened { plans, feeds } = opened;
     let board = board_behind(alloc, plans, &feeds, &steps)?;
     let bytes = checkpoint(alloc, &board)?;

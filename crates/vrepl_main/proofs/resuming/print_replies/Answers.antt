@@ -1,12 +1,21 @@
-use Rattle.std.proofs.Common.{sym}
+use Rattle.std.proofs.lemmas.Result.{err_from_is_err_and}
+use Rattle.vrepl_main.specs.ResumedRun.{AreFirstBehind}
+use Rattle.vrepl_main.proofs.CommandLaws.{refuses}
 use Rattle.vrepl_main.proofs.ResumeLaws.{printed_as, refused_as}
-use Rattle.vrepl_main.proofs.StepLaws.{given_as}
 use Rattle.vrepl_main.proofs.resuming.print_replies.Goals as goal
 
-pub returns-in-Ok-clause-printed : goal.returns-in-Ok-clause-printed
-returns-in-Ok-clause-printed g c =
-    printed_as c.args.checkpoint.now _ _ (sym (given_as c.args.feeds.now (λ feed. feed.items) c.args.hex c.args.workflow.now c.args.script.now _ c.in-Ok.ensures)) c.print_script.result _ _ (rw c.deref.ensures.value at c.print_script.ensures.printed)
+pub open_scripted-requires : goal.open_scripted-requires
+open_scripted-requires g c = rw c.deref-2.ensures.value (rw c.deref.ensures.value at c.in-Ok.ensures)
 
-pub returns-in-Ok-clause-refused : goal.returns-in-Ok-clause-refused
-returns-in-Ok-clause-refused g c =
-    refused_as c.args.checkpoint.now _ _ (sym (given_as c.args.feeds.now (λ feed. feed.items) c.args.hex c.args.workflow.now c.args.script.now _ c.in-Ok.ensures)) c.print_script.result _ _ (rw c.deref.ensures.value at c.print_script.ensures.refused)
+pub returns-in_err-scripted-clause-refused : goal.returns-in_err-scripted-clause-refused
+returns-in_err-scripted-clause-refused g c =
+    let p = err_from_is_err_and c.from_residual.result c.from_residual.ensures.1 in
+    rw (p.1, p.2) (refuses (AreFirstBehind c.args.inputs.now.checkpoint.items) _ _ _ c.in_err-scripted.ensures.scripted)
+
+pub returns-clause-printed : goal.returns-clause-printed
+returns-clause-printed g c =
+    printed_as c.args.inputs.now.checkpoint.items _ _ c.in_ok-scripted.ensures.scripted c.print_resumed.result _ _ (rw c.deref-3.ensures.value at c.print_resumed.ensures.printed)
+
+pub returns-clause-refused : goal.returns-clause-refused
+returns-clause-refused g c =
+    refused_as c.args.inputs.now.checkpoint.items _ _ c.in_ok-scripted.ensures.scripted c.print_resumed.result _ _ (rw c.deref-3.ensures.value at c.print_resumed.ensures.refused)

@@ -1,0 +1,169 @@
+//! The inputs of the commands that have several, each by its name, read in the order of their command.
+
+ghost use Rattle.std.specs.Prelude.{◌≡◌, ◌∷◌, ◌++◌, [], length, map, IfErr, IfOk};
+ghost use Rattle.vrepl_main.specs.Inputs.{IsUnreadAmong};
+ghost use Rattle.vrepl_main.specs.declared.input.InputName.TheVariants.{File, Standard};
+
+use crate::input::{InputName, read_input, read_inputs};
+use crate::input_list::{file_names, run_inputs};
+use crate::refusal::Refusal;
+use std::rt::Files;
+
+/// The inputs of `run`.
+#[derive(Drop)]
+pub struct RunInputs {
+    /// Whether the feeds are hexadecimal text.
+    pub hex: bool,
+    /// The workflow's file.
+    pub workflow: Vec<u8>,
+    /// The feeds, one in the order of the streams each.
+    pub feeds: Vec<Vec<u8>>,
+}
+
+/// The inputs of `step` and of `save`.
+#[derive(Drop)]
+pub struct Inputs {
+    /// Whether the feeds are hexadecimal text.
+    pub hex: bool,
+    /// The workflow's file.
+    pub workflow: Vec<u8>,
+    /// The feeds, one in the order of the streams each.
+    pub feeds: Vec<Vec<u8>>,
+    /// The script.
+    pub script: Vec<u8>,
+}
+
+/// The inputs of `resume`.
+#[derive(Drop)]
+pub struct ResumeInputs {
+    /// The checkpoint, never hexadecimal text.
+    pub checkpoint: Vec<u8>,
+    /// The others, which are those of `step`.
+    pub step: Inputs,
+}
+
+/// The inputs of `join`.
+#[derive(Drop)]
+pub struct JoinInputs {
+    /// Whether the feeds are hexadecimal text.
+    pub hex: bool,
+    /// The workflow's file.
+    pub workflow: Vec<u8>,
+    /// The one checkpoint, never hexadecimal text.
+    pub one: Vec<u8>,
+    /// The checkpoints that are joined to it, in this order.
+    pub others: Vec<Vec<u8>>,
+    /// The feeds, one in the order of the streams each.
+    pub feeds: Vec<Vec<u8>>,
+}
+
+/// The files of `join`.
+#[derive(Clone, Copy)]
+pub struct JoinFiles<'n, 'w> {
+    /// The workflow's.
+    pub workflow: &'w str,
+    /// The one checkpoint's.
+    pub one: &'w str,
+    /// The other checkpoint's.
+    pub other: &'w str,
+    /// Those of further checkpoints.
+    pub more: &'n [&'w str],
+    /// The feeds', in the order of the streams.
+    pub feeds: &'n [&'w str],
+}
+
+/// Reads the inputs of `run`: the workflow's file, and the feeds' files. The first that can't be read is refused, and
+/// then no later one is asked for.
+pub fn read_run<'w, R: Files + Input + AllocGlobal>(
+    rt: &R,
+    hex: bool,
+    workflow: &'w str,
+    feeds: &[&'w str],
+) -> Result<RunInputs, Refusal<'w>>
+    ensures hex { IfOk result (λ inputs. inputs.hex ≡ hex) }
+    ensures refused { IfErr result (IsUnreadAmong (File workflow.entry ∷ map File feeds.now)) }
+{
+    let plans = read_input(rt, InputName::File(workflow))?;
+    let texts = read_files(rt, feeds)?;
+    Ok(RunInputs {
+        hex,
+        workflow: plans,
+        feeds: texts,
+    })
+}
+
+/// Reads the inputs of `step` and of `save`: the workflow's file, the feeds' files, and the script from standard
+/// input. The first that can't be read is refused.
+pub fn read_step<'w, R: Files + Input + AllocGlobal>(
+    rt: &R,
+    hex: bool,
+    workflow: &'w str,
+    feeds: &[&'w str],
+) -> Result<Inputs, Refusal<'w>>
+    ensures hex { IfOk result (λ inputs. inputs.hex ≡ hex) }
+    ensures refused { IfErr result (IsUnreadAmong (File workflow.entry ∷ (map File feeds.now ++ Standard ∷ []))) }
+{
+    let plans = read_input(rt, InputName::File(workflow))?;
+    let texts = read_files(rt, feeds)?;
+    let script = read_input(rt, InputName::Standard)?;
+    Ok(Inputs {
+        hex,
+        workflow: plans,
+        feeds: texts,
+        script,
+    })
+}
+
+/// Reads the inputs of `resume`: the checkpoint's file, and then those of `step`.
+pub fn read_resume<'w, R: Files + Input + AllocGlobal>(
+    rt: &R,
+    hex: bool,
+    checkpoint: &'w str,
+    workflow: &'w str,
+    feeds: &[&'w str],
+) -> Result<ResumeInputs, Refusal<'w>>
+    ensures hex { IfOk result (λ inputs. inputs.step.hex ≡ hex) }
+    ensures refused { IfErr result (IsUnreadAmong (File checkpoint.entry ∷ File workflow.entry ∷ (map File feeds.now ++ Standard ∷ []))) }
+{
+    let saved = read_input(rt, InputName::File(checkpoint))?;
+    let step = read_step(rt, hex, workflow, feeds)?;
+    Ok(ResumeInputs {
+        checkpoint: saved,
+        step,
+    })
+}
+
+/// Reads the inputs of `join`: the workflow's file, the checkpoints' files in their order, and the feeds' files.
+pub fn read_join<'w, R: Files + Input + AllocGlobal>(
+    rt: &R,
+    hex: bool,
+    files: &JoinFiles<'_, 'w>,
+) -> Result<JoinInputs, Refusal<'w>>
+    ensures hex { IfOk result (λ inputs. inputs.hex ≡ hex) }
+    ensures refused { IfErr result (IsUnreadAmong (File files.now.workflow ∷ File files.now.one ∷ File files.now.other ∷ (map File files.now.more.now ++ map File files.now.feeds.now))) }
+{
+    let workflow = read_input(rt, InputName::File(files.workflow))?;
+    let one = read_input(rt, InputName::File(files.one))?;
+    let names = run_inputs(rt.alloc(), files.other, files.more)?;
+    let others = read_inputs(rt, &names)?;
+    let feeds = read_files(rt, files.feeds)?;
+    Ok(JoinInputs {
+        hex,
+        workflow,
+        one,
+        others,
+        feeds,
+    })
+}
+
+/// The bytes of files, read one after another, as `read_inputs` reads them.
+fn read_files<'w, R: Files + Input + AllocGlobal>(
+    rt: &R,
+    files: &[&'w str],
+) -> Result<Vec<Vec<u8>>, Refusal<'w>>
+    ensures all { IfOk result (λ read. length read.items ≡ length files.now) }
+    ensures refused { IfErr result (IsUnreadAmong (map File files.now)) }
+{
+    let names = file_names(rt.alloc(), files)?;
+    read_inputs(rt, &names)
+}
