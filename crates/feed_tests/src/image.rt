@@ -276,5 +276,5 @@ fn cleared_image_is_empty(rt: HostRuntime) -> Result<(), Fail> {
 /// A row of an image: its key, its stream's number and its bytes.
 #[test]
 fn image_rows_are_small(rt: HostRuntime) {
-    assert!(rt; size_of::<(LentKey<'static>, (u8, RowBytes<'static>))>() <= 56);
+    assert!(rt; size_of::<(LentKey<'static>, (u8, RowBytes<'static>))>() <= 64);
 }

@@ -352,9 +352,9 @@ fn first_cause_of_a_group(rt: HostRuntime) {
 #[test]
 fn touches_are_small(rt: HostRuntime) {
     assert!(rt;
-        size_of::<LentKey<'static>>() <= 32
+        size_of::<LentKey<'static>>() <= 40
             && size_of::<Put<'static>>() <= 24
-            && size_of::<Touch<'static>>() <= 56
+            && size_of::<Touch<'static>>() <= 64
             && size_of::<Prepared<'static>>() <= 48
     );
 }

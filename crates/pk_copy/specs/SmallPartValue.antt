@@ -28,7 +28,7 @@ lent_parts head (lent.Bare lead) = []
 lent_parts head (lent.Negative lead) = number (negsuc (2 ^ 64 - 1 - head)) ∷ []
 lent_parts head (lent.Natural lead) = number (pos head) ∷ []
 lent_parts head (lent.Text lead text) = bytes text.now ∷ []
-lent_parts head (lent.Several lead parts) = map small_value parts.value.items
+lent_parts head (lent.Several lead parts) = map small_value parts.items
 
 -- a lent key as it is kept
 abbrev pub lent_key : LentKept → KeyValue

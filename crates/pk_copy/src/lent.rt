@@ -16,7 +16,7 @@ use std::cmp::Ordering;
 use std::marker::Model;
 use std::mem::size_of;
 
-/// A row's key as it is kept beside the row's buffer, in 32 bytes: the number of its table in the plan and
+/// A row's key as it is kept beside the row's buffer, in 40 bytes: the number of its table in the plan and
 /// up to eight parts in key order, byte strings lent from the row. Several parts lie in memory of their
 /// own. Keys are equal and ordered as their views.
 #[derive(Drop)]
@@ -24,7 +24,7 @@ pub struct LentKey<'b> {
     kept: LentKept<'b>,
 }
 
-const _: () = prove!(size_of::<LentKey<'static>>() == 32);
+const _: () = prove!(size_of::<LentKey<'static>>() == 40);
 
 impl<'b> Model for LentKey<'b> {
     ghost use Rattle.pk_copy.specs.KeyValue.{KeyValue};

@@ -27,7 +27,7 @@ pub(crate) enum LentRest<'b> {
     /// A byte string alone.
     Text(u16, &'b [u8]),
     /// None or several parts.
-    Several(u16, Box<Vec<SmallPart<'b>>>),
+    Several(u16, Vec<SmallPart<'b>>),
 }
 
 /// The head of a lent key's front and what is behind it: several parts alone take a block.
@@ -101,7 +101,7 @@ impl<'b> LentRest<'b> {
             LentRest::Text(lead, text) => Ok(LentRest::Text(*lead, text)),
             LentRest::Several(lead, parts) => {
                 let copy = Vec::from_slice(alloc, parts.as_slice())?;
-                Ok(LentRest::Several(*lead, Box::new(alloc, copy)?))
+                Ok(LentRest::Several(*lead, copy))
             }
         }
     }
@@ -145,7 +145,7 @@ impl<'b> LentKept<'b> {
         ensures kept { IfOk result IsLent }
     {
         let front = Front::of_parts(table, parts);
-        let kept = Box::new(alloc, small_of(alloc, parts)?)?;
+        let kept = small_of(alloc, parts)?;
         Ok(LentKept {
             head: front.head,
             rest: LentRest::Several(front.lead, kept),

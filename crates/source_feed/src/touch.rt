@@ -92,7 +92,7 @@ fn are_same(one: Option<Put<'_>>, other: Option<Put<'_>>) -> bool
     }
 }
 
-/// A touch of a key by a group, in 56 bytes: a row is put there, or nothing is left there. The key and the
+/// A touch of a key by a group, in 64 bytes: a row is put there, or nothing is left there. The key and the
 /// row are lent from the feed's buffer.
 #[derive(Drop)]
 pub struct Touch<'h> {
@@ -159,6 +159,6 @@ impl<'h> Touch<'h> {
         ensures { IsTrue result ↔ (self.now ≡ other.now) }
     {
         keys_tie_where_they_are_equal();
-        self.key_view() == other.key_view() && are_same(self.put(), other.put())
+        self.key == other.key && are_same(self.put(), other.put())
     }
 }
