@@ -1,5 +1,5 @@
 -- What the commands leave that print what their inputs make, each by its own words.
-use Rattle.std.specs.Prelude.{◌≡◌, ◌×◌, ◌∷◌, ◌++◌, [], map}
+use Rattle.std.specs.Prelude.{◌≡◌, ◌∷◌, ◌++◌, [], map}
 use Rattle.vdiff_core.specs.Printing.{Written}
 use Rattle.vrepl_main.specs.Command.{IsGivenText, PrintsRefusal, PrintsWhole}
 use Rattle.vrepl_main.specs.Inputs.{IsUnread, IsUnreadAmong}
