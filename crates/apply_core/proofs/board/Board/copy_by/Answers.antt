@@ -4,7 +4,7 @@ use Rattle.board_laws.specs.Meaning.{Meaning}
 use Rattle.board_laws.specs.Event.{copy_rows}
 use Rattle.apply_core.proofs.ApplyLaws.{lent-refused, lent-made, lent-made-lawful}
 use Rattle.apply_core.proofs.CopyLaws.{chunk_may, chunk_puts, chunk_moves}
-use Rattle.apply_core.proofs.board.Board.copy_by.Goals.{in-Some+in-Text-1, in-Some+in-Several-1, in-Some+in-Negative-1, in-None-1}
+use Rattle.apply_core.proofs.board.Board.copy_by.Goals.{in-Some+in-Long-1, in-Some+in-Several-1, in-Some+in-Negative-1, in-None-1}
 use Rattle.apply_core.proofs.board.Board.copy_by.Goals as goal
 
 pub copied_on-requires-clause-may : goal.copied_on-requires-clause-may
@@ -26,7 +26,7 @@ returns-in-Err c =
     let refused = lent-refused c.self.inside.streams.items c.self.inside.rows.entries c.apply.new.self.entries c.args.s (copy_rows c.args.c) c.args.chunk.puts.items c.self.invariant tt c.self.inside.streams.items refl
     (chunk_puts _ _ (ap (λ (b : Meaning). b.streams) c.self.view_is) c.args.s c.args.c c.args.chunk c.requires)
     c.steps_keep_boards_lawful.ensures.clashes (λ state. refl) c.in-Err.fault c.in-Err.ensures.refused c.refusal_by.result c.refusal_by.ensures c.in-Err.ensures.unchanged c.args.self.now c.self.view_is in
-    (refused.0, elim c.match-chunk.branch [ in-Some+in-Text-1 w ↦ w.self-is ∙ refused.1 | in-Some+in-Several-1 w ↦ w.self-is ∙ refused.1 | in-Some+in-Negative-1 w ↦ w.self-is ∙ refused.1 | in-None-1 w ↦ w.self-is ∙ refused.1 ])
+    (refused.0, elim c.match-chunk.branch [ in-Some+in-Long-1 w ↦ w.self-is ∙ refused.1 | in-Some+in-Several-1 w ↦ w.self-is ∙ refused.1 | in-Some+in-Negative-1 w ↦ w.self-is ∙ refused.1 | in-None-1 w ↦ w.self-is ∙ refused.1 ])
 
 pub returns-in-Ok : goal.returns-in-Ok
 returns-in-Ok c =
