@@ -1,6 +1,6 @@
 //! Groups of touches on a map, one after another, and what is staged of them.
 
-use crate::touching::{Group, follow, holds, leaves, touch};
+use crate::touching::{Group, follow, holds, leaves};
 use std::alloc::{AllocError, Global};
 use std::test::*;
 use target_tables::*;
@@ -116,21 +116,6 @@ const BESIDE_A_FOREIGN_ROW: &[Group<u64, u32>] = &[
     },
 ];
 
-/// Stages the group, or its touches that were sorted before.
-fn stage(
-    alloc: Global,
-    tables: &mut Tables<u64, u32>,
-    group: &Group<u64, u32>,
-    sorted: bool,
-) -> Result<Staged<u64, u32>, TableFault<u64>> {
-    let touches = group.touches.to_vec(alloc)?;
-    if sorted {
-        let touched = Touched::new(alloc, touches)?;
-        return tables.stage_touched(group.stream, touched);
-    }
-    tables.stage(alloc, group.stream, touches)
-}
-
 /// Whether the group, staged and then committed, is refused as wanted, or waits for its commit; and then leaves
 /// these entries.
 fn waits(
@@ -138,9 +123,8 @@ fn waits(
     tables: &mut Tables<u64, u32>,
     before: &[(u64, u8, u32)],
     group: &Group<u64, u32>,
-    sorted: bool,
 ) -> Result<bool, AllocError> {
-    match stage(alloc, tables, group, sorted) {
+    match tables.stage(alloc, group.stream, group.touches.to_vec(alloc)?) {
         Err(TableFault::Memory) => Err(AllocError),
         Err(TableFault::OwnedByOther { key, owner }) => {
             Ok(group.refused == Some((key, owner)) && holds(tables, group.left))
@@ -153,18 +137,12 @@ fn waits(
     }
 }
 
-/// Whether the groups, each staged and then committed, follow one another as wanted, whether their touches are
-/// sorted when they are staged or before.
+/// Whether the groups, each staged and then committed, follow one another as wanted.
 fn wait(alloc: Global, groups: &[Group<u64, u32>]) -> Result<bool, AllocError> {
-    Ok(wait_by(alloc, groups, false)? && wait_by(alloc, groups, true)?)
-}
-
-/// Whether the groups, each staged in one of both ways and then committed, follow one another as wanted.
-fn wait_by(alloc: Global, groups: &[Group<u64, u32>], sorted: bool) -> Result<bool, AllocError> {
     let mut tables = Tables::new(alloc);
     let mut before: &[(u64, u8, u32)] = &[];
     for group in groups {
-        if !waits(alloc, &mut tables, before, group, sorted)? {
+        if !waits(alloc, &mut tables, before, group)? {
             return Ok(false);
         }
         before = group.left;
@@ -190,60 +168,5 @@ const STAGED: &[Group<u64, u32>] = &[Group {
 #[test]
 fn staged_touches_wait_for_their_commit(rt: HostRuntime) -> Result<(), Fail> {
     assert!(rt; wait(rt.alloc(), STAGED)?);
-    Ok(())
-}
-
-/// Puts of 300 keys, each the given number of times its place and something more, by rising key.
-fn puts(alloc: Global, by: u64, more: u64) -> Result<Vec<(u64, Option<u32>)>, AllocError> {
-    let mut touches = Vec::new(alloc);
-    for i in 0u64..300 {
-        touches.push((i.wrapping_mul(by).wrapping_add(more), Some(more as u32)))?;
-    }
-    Ok(touches)
-}
-
-/// Whether a map that was built with all touches of a group at once holds what one has that was built touch by
-/// touch.
-fn are_one_by_one(alloc: Global, groups: &[Vec<(u64, Option<u32>)>]) -> Result<bool, AllocError> {
-    let mut at_once = Tables::new(alloc);
-    let mut singly = Tables::new(alloc);
-    for group in groups {
-        if touch(alloc, &mut at_once, 0, group)?.is_some() {
-            return Ok(false);
-        }
-        for one in group {
-            if touch(alloc, &mut singly, 0, &[*one])?.is_some() {
-                return Ok(false);
-            }
-        }
-    }
-    let mut wanted = Vec::new(alloc);
-    for (key, stream, row) in singly.iter() {
-        wanted.push((*key, stream, *row))?;
-    }
-    Ok(holds(&at_once, &wanted) && at_once.pages() > 2)
-}
-
-/// The same keys taken away.
-fn removals(
-    alloc: Global,
-    puts: &[(u64, Option<u32>)],
-) -> Result<Vec<(u64, Option<u32>)>, AllocError> {
-    let mut touches = Vec::new(alloc);
-    for put in puts {
-        touches.push((put.0, None))?;
-    }
-    Ok(touches)
-}
-
-#[test]
-fn places_move_as_pages_split_and_leave(rt: HostRuntime) -> Result<(), Fail> {
-    let alloc = rt.alloc();
-    let thirds = puts(alloc, 3, 0)?;
-    let beside = puts(alloc, 3, 1)?;
-    let ninths = puts(alloc, 9, 4)?;
-    let gone = removals(alloc, &beside)?;
-    let groups = vec![in alloc; thirds, beside, ninths, gone]?;
-    assert!(rt; are_one_by_one(alloc, &groups)?);
     Ok(())
 }

@@ -107,19 +107,3 @@ fn last_touches_of_each_key(rt: HostRuntime) -> Result<(), Fail> {
     );
     Ok(())
 }
-
-#[test]
-fn last_touches_of_rising_keys(rt: HostRuntime) -> Result<(), Fail> {
-    assert!(rt;
-        are_last(
-            rt.alloc(),
-            &[(3, Some(1)), (5, None), (7, Some(2))],
-            &[(7, Some(2)), (5, None), (3, Some(1))]
-        )? && are_last(
-            rt.alloc(),
-            &[(3, Some(1)), (5, None), (5, Some(2))],
-            &[(5, Some(2)), (3, Some(1))]
-        )? && are_last(rt.alloc(), &[(3, None)], &[(3, None)])?
-    );
-    Ok(())
-}
