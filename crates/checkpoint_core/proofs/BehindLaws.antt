@@ -5,13 +5,14 @@ use Rattle.std.specs.Ordering.{is_lt}
 use Rattle.std.proofs.lemmas.Option.{slice_get_within, slice_get-get_or}
 use Rattle.std.proofs.lemmas.List.{drop_all}
 use Rattle.std.specs.declared.cmp.Ordering.TheVariants.{Less, Equal, Greater}
+use Rattle.list_laws.proofs.Fronts.{each}
 use Rattle.pk_copy.specs.KeyOrder.{key_cmp}
 use Rattle.pk_copy.specs.KeyOrderLaws.{key_cmp_total}
 use Rattle.pk_copy.specs.KeyValue.{KeyValue}
 use Rattle.source_feed.specs.History.{RowValue}
 use Rattle.source_feed.specs.Image.{ImageRows}
 use Rattle.target_tables.specs.Rising.{IsRising, AreBelow}
-use Rattle.target_tables.proofs.Order.{each, all_join, all_right, before_middle, ordered_with, split_at}
+use Rattle.target_tables.proofs.Order.{all_join, all_right, before_middle, ordered_with, split_at}
 
 -- a row behind the others at a greater key
 pub rising_pushed : (rows : ImageRows) (row : KeyValue × RowValue) → IsRising key_cmp rows → AreBelow key_cmp row.0 rows → IsRising key_cmp (rows ++ row ∷ [])

@@ -1,6 +1,7 @@
 -- What each stream decides.
 use Rattle.std.proofs.Common.{◌≡◌, ℕ, zero, suc, ◌+◌, ◌<◌, ◌≤◌, List, [], ◌∷◌, ◌++◌, length, drop, get_or, map, Some, Result, Ok, Err, refl, sym, ap, subst, ◌∙◌, arith}
 use Rattle.std.specs.Prelude.{slice_get}
+use Rattle.std.proofs.lemmas.Option.{same_Some}
 use Rattle.outcome.specs.Outcome.{◌>>=◌}
 use Rattle.filter_rule.specs.Document.{StreamSaid}
 use Rattle.filter_rule.specs.Faults.{Fault}
@@ -12,7 +13,7 @@ use Rattle.filter_rule.proofs.DecideLaws.{drop_all}
 use Rattle.filter_rule.proofs.EachLaws.{with_front, front_more, append_none, drop_at}
 use Rattle.filter_rule.proofs.FirstRuleLaws.{decisions_by_first}
 use Rattle.filter_rule.proofs.ShapeLaws.{Decided as AreDecided, decisions_decided}
-use Rattle.filter_rule.proofs.StepLaws.{then_ok, same_ok, same_some}
+use Rattle.filter_rule.proofs.StepLaws.{then_ok, same_ok}
 
 -- what a stream of this number decides
 pub record IsDecided (tables : List TableValue) (n : ℕ) (stream : StreamSaid) (one : Decided) : Type 0 where
@@ -37,7 +38,7 @@ decided_step : (tables : List TableValue) (n : ℕ) (s : StreamSaid) (ss : List 
     → ((j : ℕ) (other : Decided) → slice_get rest j ≡ Some other → DecidedAt tables (n + 1) ss j other) → slice_get (first ∷ rest) i ≡ Some one → DecidedAt tables n (s ∷ ss) i one
 decided_step tables n s ss first rest zero one first_is more is =
     let at : n ≡ n + 0 = omega arith in
-    record { stream = s; stands = refl; is = subst (λ k. IsDecided tables k s one) at (subst (IsDecided tables n s) (same_some first one is) (decided_parts tables n s first first_is)) }
+    record { stream = s; stands = refl; is = subst (λ k. IsDecided tables k s one) at (subst (IsDecided tables n s) (same_Some first one is) (decided_parts tables n s first first_is)) }
 decided_step tables n s ss first rest (suc i) one first_is more is =
     let there = more i one is in
     let at : (n + 1) + i ≡ n + suc i = omega arith in

@@ -5,14 +5,12 @@ use Rattle.std.specs.List.{list_any}
 use Rattle.std.specs.Str.{bytes_eq}
 use Rattle.std.proofs.lemmas.List.Folds.{list_any-append}
 use Rattle.std.proofs.lemmas.Slice.Eq.{bytes_eq-Decides}
+use Rattle.std.proofs.lemmas.Option.{same_Some}
+use Rattle.std.proofs.lemmas.Bool.{or_parts}
 use Rattle.filter_rule.specs.Document.{repeats, has_twice, distinct}
 use Rattle.filter_rule.specs.Faults.{shape}
 use Rattle.filter_rule.specs.WellFormed.{AreDistinct}
-use Rattle.filter_rule.proofs.StepLaws.{read_as, same_some}
-
-neither : (b c : Bool) → (b || c) ≡ false → (b ≡ false) × (c ≡ false)
-neither true c h = cc
-neither false c h = (refl, h)
+use Rattle.filter_rule.proofs.StepLaws.{read_as}
 
 -- the texts are distinct, and none is among those before
 record Fresh (before texts : List (List ℕ)) : Type 0 where
@@ -21,8 +19,8 @@ record Fresh (before texts : List (List ℕ)) : Type 0 where
 
 apart_from : (s t : List ℕ) (before : List (List ℕ)) → list_any (λ u. bytes_eq t u) (before ++ s ∷ []) ≡ false → (list_any (λ u. bytes_eq t u) before ≡ false) × (bytes_eq t s ≡ false)
 apart_from s t before h =
-    let both = neither (list_any (λ u. bytes_eq t u) before) (bytes_eq t s || false) (sym (list_any-append (λ u. bytes_eq t u) before (s ∷ [])) ∙ h) in
-    (both.0, (neither (bytes_eq t s) false both.1).0)
+    let both = or_parts (list_any (λ u. bytes_eq t u) before) (bytes_eq t s || false) (sym (list_any-append (λ u. bytes_eq t u) before (s ∷ [])) ∙ h) in
+    (both.0, (or_parts (bytes_eq t s) false both.1).0)
 
 not_itself : (s : List ℕ) → bytes_eq s s ≡ false → ⊥
 not_itself s differs = let yes : bytes_eq s s ≡ true = (bytes_eq-Decides s s).1 refl in cc
@@ -33,19 +31,19 @@ first_apart s ss before j x rest same is =
 
 apart_more : (s : List ℕ) (ss before : List (List ℕ)) → Fresh (before ++ s ∷ []) ss → AreDistinct (s ∷ ss)
 apart_more s ss before rest zero zero x a b = refl
-apart_more s ss before rest zero (suc j) x a b = absurd (first_apart s ss before j x rest (same_some s x a) b)
-apart_more s ss before rest (suc i) zero x a b = absurd (first_apart s ss before i x rest (same_some s x b) a)
+apart_more s ss before rest zero (suc j) x a b = absurd (first_apart s ss before j x rest (same_Some s x a) b)
+apart_more s ss before rest (suc i) zero x a b = absurd (first_apart s ss before i x rest (same_Some s x b) a)
 apart_more s ss before rest (suc i) (suc j) x a b = ap suc (rest.apart i j x a b)
 
 new_more : (s : List ℕ) (ss before : List (List ℕ)) → list_any (λ t. bytes_eq s t) before ≡ false → Fresh (before ++ s ∷ []) ss
     → (i : ℕ) (text : List ℕ) → slice_get (s ∷ ss) i ≡ Some text → list_any (λ t. bytes_eq text t) before ≡ false
-new_more s ss before none rest zero text is = subst (λ x. list_any (λ t. bytes_eq x t) before ≡ false) (same_some s text is) none
+new_more s ss before none rest zero text is = subst (λ x. list_any (λ t. bytes_eq x t) before ≡ false) (same_Some s text is) none
 new_more s ss before none rest (suc i) text is = (apart_from s text before (rest.new i text is)).0
 
 fresh : (before texts : List (List ℕ)) → repeats before texts ≡ false → Fresh before texts
 fresh before [] h = record { apart = λ i j x a b. cc; new = λ i text is. cc }
 fresh before (s ∷ ss) h =
-    let parts = neither (list_any (λ t. bytes_eq s t) before) (repeats (before ++ s ∷ []) ss) h in
+    let parts = or_parts (list_any (λ t. bytes_eq s t) before) (repeats (before ++ s ∷ []) ss) h in
     let rest = fresh (before ++ s ∷ []) ss parts.1 in
     record { apart = apart_more s ss before rest; new = new_more s ss before parts.0 rest }
 

@@ -2,6 +2,7 @@
 use Rattle.std.proofs.Common.{◌≡◌, ℕ, zero, suc, ◌+◌, List, [], ◌∷◌, Bool, true, false, cond, Option, Some, None, Ok, refl, sym, ap, subst, ◌∙◌, codes}
 use Rattle.std.specs.Prelude.{◌||◌}
 use Rattle.std.specs.Str.{bytes_eq}
+use Rattle.std.proofs.lemmas.Option.{same_Some}
 use Rattle.vindex.specs.Bounds.{Bounds}
 use Rattle.vindex.specs.declared.vindexes.Vindex.{Vindex}
 use Rattle.filter_rule.specs.Document.{RuleSaid}
@@ -89,9 +90,6 @@ one_step s n rs r form t NoRule m e formed is after =
 one_step s n rs r form t (EveryRow kept) m e formed is after = subst (λ x. After s (n + 1) rs t x e) (sym (same_ok (EveryRow kept) m is)) after
 one_step s n rs r form t (InRange place vindex range kept) m e formed is after = subst (λ x. After s (n + 1) rs t x e) (sym (same_ok (InRange place vindex range kept) m is)) after
 
-same_some : {A : Type 0} (x y : A) → Some x ≡ Some y → x ≡ y
-same_some x y e = cc
-
 -- ---- all tables
 
 abbrev AllAfter : ℕ → ℕ → List RuleSaid → List TableValue → List Decision → List Decision → Type 0
@@ -131,7 +129,7 @@ all_after s ts n (r ∷ rs) ds es is =
 each_first : (s : ℕ) (rs : List RuleSaid) (ts : List TableValue) (ds : List Decision) → AllAfter s 0 rs ts (undecided ts) ds → AreByFirst s ts rs ds
 each_first s rs [] ds h i t d t_is d_is = cc
 each_first s rs (u ∷ ts) [] h i t d t_is d_is = cc
-each_first s rs (u ∷ ts) (e ∷ ds) h zero t d t_is d_is = subst (λ x. IsByFirst s 0 rs x d) (same_some u t t_is) (subst (IsByFirst s 0 rs u) (same_some e d d_is) h.0)
+each_first s rs (u ∷ ts) (e ∷ ds) h zero t d t_is d_is = subst (λ x. IsByFirst s 0 rs x d) (same_Some u t t_is) (subst (IsByFirst s 0 rs u) (same_Some e d d_is) h.0)
 each_first s rs (u ∷ ts) (e ∷ ds) h (suc i) t d t_is d_is = each_first s rs ts ds h.1 i t d t_is d_is
 
 -- the decisions of a stream's rules

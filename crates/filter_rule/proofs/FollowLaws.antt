@@ -1,7 +1,8 @@
 -- Each stream's plan has the decisions of the first rules that match.
-use Rattle.std.proofs.Common.{◌≡◌, ℕ, ◌+◌, List, map, Bool, true, false, cond, Option, Some, None, Ok, Err, refl, sym, ap, subst, ◌∙◌, zero-add, option_map}
+use Rattle.std.proofs.Common.{◌≡◌, ℕ, ◌+◌, List, map, Bool, true, false, cond, Option, Some, None, Ok, Err, refl, sym, ap, subst, ◌∙◌, zero-add}
 use Rattle.std.specs.Prelude.{slice_get, MatchOption}
-use Rattle.std.proofs.lemmas.Option.{slice_get-map}
+use Rattle.std.proofs.lemmas.Option.{slice_get-map, same_Some}
+use Rattle.list_laws.proofs.Choices.{mapped}
 use Rattle.vindex.specs.Bounds.{Bounds}
 use Rattle.vindex.specs.declared.vindexes.Vindex.{Vindex}
 use Rattle.outcome.specs.Outcome.{◌>>=◌, each}
@@ -19,7 +20,7 @@ use Rattle.filter_rule.specs.declared.decision.Decision.{Decision}
 use Rattle.filter_rule.specs.declared.decision.Decision.TheVariants.{NoRule, EveryRow, InRange}
 use Rattle.filter_rule.proofs.DecidedLaws.{decided_at}
 use Rattle.filter_rule.proofs.KeepingLaws.{closed_at}
-use Rattle.filter_rule.proofs.StepLaws.{then_ok, same_ok, same_some, read_as}
+use Rattle.filter_rule.proofs.StepLaws.{then_ok, same_ok, read_as}
 
 -- ---- a rule decides the same of a table whatever is kept of it
 
@@ -48,10 +49,6 @@ by_first_closed s rs streams tables closed ds h first i t d t_is d_is =
 
 -- ---- all streams
 
-mapped : {A B : Type 0} (f : A → B) (o : Option A) (y : B) → option_map f o ≡ Some y → (x : A) × (o ≡ Some x) × (f x ≡ y)
-mapped f None y h = cc
-mapped f (Some x) y h = (x, refl, same_some (f x) y h)
-
 -- what a mapped list has at a place
 pub mapped_at : {A B : Type 0} (f : A → B) (xs : List A) (i : ℕ) (y : B) → slice_get (map f xs) i ≡ Some y → (x : A) × (slice_get xs i ≡ Some x) × (f x ≡ y)
 mapped_at f xs i y h = mapped f (slice_get xs i) y (sym (slice_get-map f xs i) ∙ h)
@@ -71,7 +68,7 @@ follows_first text plans is d d_is i s p s_is p_is =
     let here : slice_get within.streams i ≡ Some s = ap (λ (x : DocumentSaid). slice_get x.streams i) (sym kept ∙ same) ∙ s_is in
     let one = mapped_at (plan_over within.keyspace closed) decided i p (ap (λ xs. slice_get xs i) (same_ok (map (plan_over within.keyspace closed) decided) plans h7) ∙ p_is) in
     let at = decided_at tables 0 within.streams decided decided_is i one.0 one.1 in
-    let stream : at.stream ≡ s = same_some at.stream s (sym at.stands ∙ here) in
+    let stream : at.stream ≡ s = same_Some at.stream s (sym at.stands ∙ here) in
     subst (λ (q : PlanValue). AreByFirst i q.tables s.rules q.decisions) one.2
     (subst (λ (x : StreamSaid). AreByFirst i closed x.rules one.0.decisions) stream
     (subst (λ n. AreByFirst n closed at.stream.rules one.0.decisions) (zero-add i) (by_first_closed (0 + i) at.stream.rules decided tables closed one.0.decisions closed_is at.is.first)))))))))

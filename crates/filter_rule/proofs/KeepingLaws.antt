@@ -1,10 +1,12 @@
 -- The columns that all streams keep, and the tables that keep them.
 use Rattle.std.proofs.Common.{◌≡◌, ℕ, zero, suc, ◌+◌, List, [], ◌∷◌, length, map, Bool, true, false, cond, Option, Some, None, Ok, Err, refl, sym, ap, subst, ◌∙◌, arith}
-use Rattle.std.specs.Prelude.{◌&&◌, slice_get, slice_index_or, option_and_then}
+use Rattle.std.specs.Prelude.{slice_get, slice_index_or, option_and_then}
 use Rattle.std.specs.List.{list_all}
 use Rattle.std.specs.Option.{option_or, option_map_or}
 use Rattle.std.specs.Str.{bytes_eq, is_utf8}
 use Rattle.std.proofs.lemmas.Slice.Eq.{bytes_eq-Decides}
+use Rattle.std.proofs.lemmas.Option.{same_Some}
+use Rattle.list_laws.proofs.Truths.{not_both}
 use Rattle.filter_rule.specs.Faults.{Fault, columns_differ}
 use Rattle.filter_rule.specs.PlanTable.{TableValue, keeping}
 use Rattle.filter_rule.specs.PlanValue.{kept_under_rule}
@@ -14,7 +16,7 @@ use Rattle.filter_rule.specs.declared.decision.Decision.{Decision}
 use Rattle.filter_rule.specs.declared.decision.Decision.TheVariants.{NoRule, EveryRow, InRange}
 use Rattle.filter_rule.proofs.RefusedSteps.{same_fault, then_err}
 use Rattle.filter_rule.proofs.ShapeLaws.{FitsColumns, Decided as AreDecided, decided_length, decided_fit}
-use Rattle.filter_rule.proofs.StepLaws.{then_ok, read_as, same_ok, same_some, list_all_get}
+use Rattle.filter_rule.proofs.StepLaws.{then_ok, read_as, same_ok, list_all_get}
 
 -- ---- the first stream with a rule for a table
 
@@ -38,7 +40,7 @@ neither (Some x) p h = cc
 
 none_keeps : (t : ℕ) (streams : List Decided) → first_kept t streams ≡ None → (i : ℕ) (stream : Decided) → slice_get streams i ≡ Some stream → kept_in t stream ≡ None
 none_keeps t [] h i stream is = cc
-none_keeps t (s ∷ ss) h zero stream is = subst (λ x. kept_in t x ≡ None) (same_some s stream is) (neither (kept_in t s) (first_kept t ss) h).0
+none_keeps t (s ∷ ss) h zero stream is = subst (λ x. kept_in t x ≡ None) (same_Some s stream is) (neither (kept_in t s) (first_kept t ss) h).0
 none_keeps t (s ∷ ss) h (suc i) stream is = none_keeps t ss (neither (kept_in t s) (first_kept t ss) h).1 i stream is
 
 -- ---- what streams agree on
@@ -50,7 +52,7 @@ pub data Agreement (streams : List Decided) (t : ℕ) (table : TableValue) (kept
 
 these : (o : Option (List ℕ)) (kept other : List ℕ) → option_map_or (λ others. bytes_eq others kept) o true ≡ true → o ≡ Some other → other ≡ kept
 these None kept other h is = cc
-these (Some one) kept other h is = sym (same_some one other is) ∙ (bytes_eq-Decides one kept).0 h
+these (Some one) kept other h is = sym (same_Some one other is) ∙ (bytes_eq-Decides one kept).0 h
 
 if_all : (b : Bool) (kept found : List ℕ) (name : List ℕ) → cond b (read_as kept) (Err (columns_differ name)) ≡ Ok found → (b ≡ true) × (kept ≡ found)
 if_all true kept found name h = (refl, same_ok kept found h)
@@ -59,10 +61,6 @@ if_all false kept found name h = cc
 if_not : (b : Bool) (kept name : List ℕ) (e : Fault) → cond b (read_as kept) (Err (columns_differ name)) ≡ Err e → (b ≡ false) × (columns_differ name ≡ e)
 if_not true kept name e h = cc
 if_not false kept name e h = (refl, same_fault {B = List ℕ} (columns_differ name) e h)
-
-either_one : {P : Type 0} (b c : Bool) → (b && c) ≡ false → (b ≡ false → P) → (c ≡ false → P) → P
-either_one true c h k l = l h
-either_one false c h k l = k refl
 
 agreement : (streams : List Decided) (t : ℕ) (table : TableValue) (o : Option (List ℕ)) (kept : List ℕ) → first_kept t streams ≡ o → agreed streams t table o ≡ Ok kept → Agreement streams t table kept
 agreement streams t table None kept is h = by_none is (sym (same_ok table.kept kept h))
@@ -85,7 +83,7 @@ closed_step : (streams : List Decided) (t : ℕ) (table : TableValue) (tables : 
     → ((j : ℕ) (other : TableValue) → slice_get rest j ≡ Some other → ClosedAt streams tables (t + 1) j other) → slice_get (keeping table kept ∷ rest) i ≡ Some closed → ClosedAt streams (table ∷ tables) t i closed
 closed_step streams t table tables kept rest zero closed agrees more is =
     let at : t ≡ t + 0 = omega arith in
-    record { table = table; stands = refl; kept = kept; agrees = subst (λ n. Agreement streams n table kept) at (agreement streams t table (first_kept t streams) kept refl agrees); is = same_some (keeping table kept) closed is }
+    record { table = table; stands = refl; kept = kept; agrees = subst (λ n. Agreement streams n table kept) at (agreement streams t table (first_kept t streams) kept refl agrees); is = same_Some (keeping table kept) closed is }
 closed_step streams t table tables kept rest (suc i) closed agrees more is =
     let there = more i closed is in
     let at : (t + 1) + i ≡ t + suc i = omega arith in
@@ -127,8 +125,8 @@ decision_at_kept t stream (Some d) kept is h = record { decision = d; stands = i
 
 fit_kept : (table : TableValue) (d : Decision) (kept : List ℕ) → FitsColumns table d → kept_under_rule d ≡ Some kept → AreKept table.columns table.key kept
 fit_kept table NoRule kept fit h = cc
-fit_kept table (EveryRow k) kept fit h = subst (AreKept table.columns table.key) (same_some k kept h) fit
-fit_kept table (InRange place vindex range k) kept fit h = subst (AreKept table.columns table.key) (same_some k kept h) fit.1
+fit_kept table (EveryRow k) kept fit h = subst (AreKept table.columns table.key) (same_Some k kept h) fit
+fit_kept table (InRange place vindex range k) kept fit h = subst (AreKept table.columns table.key) (same_Some k kept h) fit.1
 
 abbrev pub AllFit : List TableValue → List Decided → Type 0
 AllFit tables streams = (i : ℕ) (stream : Decided) → slice_get streams i ≡ Some stream → AreDecided tables stream.decisions
@@ -201,7 +199,7 @@ closed_plan keyspace streams tables closed h fit are key_text i stream there sha
 
 pub index_there : {A : Type 0} (xs : List A) (i : ℕ) (x other : A) → slice_get xs i ≡ Some x → slice_index_or xs i other ≡ x
 index_there [] i x other h = cc
-index_there (y ∷ xs) zero x other h = same_some y x h
+index_there (y ∷ xs) zero x other h = same_Some y x h
 index_there (y ∷ xs) (suc i) x other h = index_there xs i x other h
 
 no_kept : (d : Decision) (kept : List ℕ) → d ≡ NoRule → kept_under_rule d ≡ Some kept → ⊥
@@ -238,7 +236,7 @@ behind t s ss kept by = record { place = suc by.place; stream = by.stream; stand
 some_other : (t : ℕ) (kept : List ℕ) (streams : List Decided) → list_all (keeps_these t kept) streams ≡ false → (other : List ℕ) × (KeptBy t streams other) × (kept ≡ other → ⊥)
 some_other t kept [] h = cc
 some_other t kept (s ∷ ss) h =
-    either_one (keeps_these t kept s) (list_all (keeps_these t kept) ss) h (λ here. not_these t kept s ss (kept_in t s) refl here)
+    not_both (keeps_these t kept s) (list_all (keeps_these t kept) ss) h (λ here. not_these t kept s ss (kept_in t s) refl here)
     (λ later. let there = some_other t kept ss later in (there.0, behind t s ss there.0 there.1, there.2))
 
 differ_at : (streams : List Decided) (t : ℕ) (table : TableValue) (tables : List TableValue) (o : Option (List ℕ)) (e : Fault) → first_kept t streams ≡ o → agreed streams t table o ≡ Err e → Differs streams (table ∷ tables) t e

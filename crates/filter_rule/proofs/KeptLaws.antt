@@ -3,8 +3,9 @@ use Rattle.std.proofs.Common.{◌≡◌, ℕ, zero, suc, ◌<◌, List, [], ◌�
 use Rattle.std.specs.Prelude.{◌||◌, ◌==◌, slice_get, option_map, option_and_then}
 use Rattle.std.specs.Option.{option_map_or}
 use Rattle.std.specs.Str.{bytes_eq}
-use Rattle.std.proofs.lemmas.Option.{slice_get_within, slice_get-map}
+use Rattle.std.proofs.lemmas.Option.{slice_get_within, slice_get-map, same_Some}
 use Rattle.std.proofs.lemmas.Slice.Eq.{bytes_eq-Decides}
+use Rattle.std.proofs.lemmas.Bool.{or_parts}
 use Rattle.outcome.specs.Outcome.{each}
 use Rattle.vindex.specs.Bounds.{Bounds}
 use Rattle.vindex.specs.RangeText.{key_range_of_text}
@@ -21,7 +22,7 @@ use Rattle.filter_rule.specs.Resolving.{all_places, name_at, lists_key, place_in
 use Rattle.filter_rule.specs.Rules.{RuleForm, form_of, or_bad, agreeing, kept_by}
 use Rattle.filter_rule.specs.WellFormed.{AreDistinct, AreColumnPlaces, Holds, AreKept, IsTable}
 use Rattle.filter_rule.proofs.FirstRuleLaws.{found_ok}
-use Rattle.filter_rule.proofs.StepLaws.{then_ok, same_ok, same_some, each_at, list_all_get}
+use Rattle.filter_rule.proofs.StepLaws.{then_ok, same_ok, each_at, list_all_get}
 use Rattle.filter_rule.proofs.RefusedSteps.{each_gives}
 use Rattle.filter_rule.proofs.TableLaws.{place_found, column_found, distinct_places, kept_places}
 
@@ -35,7 +36,7 @@ selected_columns : (table : Option (List ℕ)) (rows : Option RowsSaid) (columns
     → option_and_then (λ t. option_and_then (λ r. Some (selected t columns r)) rows) table ≡ Some said → columns ≡ said.columns
 selected_columns None rows columns said h = cc
 selected_columns (Some t) None columns said h = cc
-selected_columns (Some t) (Some r) columns said h = ap (λ (m : FilterMeaning). m.columns) (same_some (selected t columns r) said h)
+selected_columns (Some t) (Some r) columns said h = ap (λ (m : FilterMeaning). m.columns) (same_Some (selected t columns r) said h)
 
 table_columns : (columns : Option (List (List ℕ))) (ts : List Lexeme) (said : FilterMeaning) → table_rows columns ts ≡ Some said → columns ≡ said.columns
 unfolding table_rows
@@ -68,11 +69,11 @@ selection_apart (Some (t ∷ ts)) said h = behind_apart (all_of ts) ts said (if_
 
 range_apart : (o : Option Bounds) (said : FilterMeaning) → option_map (λ bounds. without_table (in_own_range bounds)) o ≡ Some said → AreApart said.columns
 range_apart None said h = cc
-range_apart (Some bounds) said h = subst AreApart (ap (λ (m : FilterMeaning). m.columns) (same_some (without_table (in_own_range bounds)) said h)) tt
+range_apart (Some bounds) said h = subst AreApart (ap (λ (m : FilterMeaning). m.columns) (same_Some (without_table (in_own_range bounds)) said h)) tt
 
 text_apart : (empty selects : Bool) (text : List ℕ) (said : FilterMeaning)
     → cond empty (Some (without_table every_row)) (cond selects (option_and_then selection_of (tokens_of text)) (option_map (λ bounds. without_table (in_own_range bounds)) (key_range_of_text text))) ≡ Some said → AreApart said.columns
-text_apart true selects text said h = subst AreApart (ap (λ (m : FilterMeaning). m.columns) (same_some (without_table every_row) said h)) tt
+text_apart true selects text said h = subst AreApart (ap (λ (m : FilterMeaning). m.columns) (same_Some (without_table every_row) said h)) tt
 text_apart false true text said h = selection_apart (tokens_of text) said h
 text_apart false false text said h = range_apart (key_range_of_text text) said h
 
@@ -91,25 +92,21 @@ form_apart s n r form is =
 
 -- ---- names of which none stands twice
 
-either : (b c : Bool) → (b || c) ≡ false → (b ≡ false) × (c ≡ false)
-either true c h = cc
-either false c h = (refl, h)
-
 name_there : (name : List ℕ) (names : List (List ℕ)) (i : ℕ) → slice_get names i ≡ Some name → has_column name names ≡ false → ⊥
 name_there name [] i is h = cc
 name_there name (n ∷ names) zero is h =
-    let same : bytes_eq n name ≡ true = (bytes_eq-Decides n name).1 (same_some n name is) in
-    let other : bytes_eq n name ≡ false = (either (bytes_eq n name) (has_column name names) h).0 in cc
-name_there name (n ∷ names) (suc i) is h = name_there name names i is (either (bytes_eq n name) (has_column name names) h).1
+    let same : bytes_eq n name ≡ true = (bytes_eq-Decides n name).1 (same_Some n name is) in
+    let other : bytes_eq n name ≡ false = (or_parts (bytes_eq n name) (has_column name names) h).0 in cc
+name_there name (n ∷ names) (suc i) is h = name_there name names i is (or_parts (bytes_eq n name) (has_column name names) h).1
 
 pub once_apart : (names : List (List ℕ)) → has_twice names ≡ false → AreDistinct names
 once_apart [] h i j x a b = cc
 once_apart (n ∷ names) h zero zero x a b = refl
 once_apart (n ∷ names) h zero (suc j) x a b =
-    absurd (name_there n names j (b ∙ sym a) (either (has_column n names) (has_twice names) h).0)
+    absurd (name_there n names j (b ∙ sym a) (or_parts (has_column n names) (has_twice names) h).0)
 once_apart (n ∷ names) h (suc i) zero x a b =
-    absurd (name_there n names i (a ∙ sym b) (either (has_column n names) (has_twice names) h).0)
-once_apart (n ∷ names) h (suc i) (suc j) x a b = ap suc (once_apart names (either (has_column n names) (has_twice names) h).1 i j x a b)
+    absurd (name_there n names i (a ∙ sym b) (or_parts (has_column n names) (has_twice names) h).0)
+once_apart (n ∷ names) h (suc i) (suc j) x a b = ap suc (once_apart names (or_parts (has_column n names) (has_twice names) h).1 i j x a b)
 
 -- ---- the key
 
@@ -131,7 +128,7 @@ each_there : {A B : Type 0} (f : A → Result B Fault) (xs : List A) (ys : List 
 each_there f [] ys i x y h is gives = cc
 each_there f (z ∷ xs) ys zero x y h is gives =
     then_ok _ (f z) ys h (λ w w_is h2. then_ok _ (each f xs) ys h2 (λ rest rest_is h3.
-    let same : w ≡ y = same_ok w y (sym w_is ∙ ap f (same_some z x is) ∙ gives) in
+    let same : w ≡ y = same_ok w y (sym w_is ∙ ap f (same_Some z x is) ∙ gives) in
     ap (λ zs. slice_get zs 0) (sym (same_ok (w ∷ rest) ys h3)) ∙ ap Some same))
 each_there f (z ∷ xs) ys (suc i) x y h is gives =
     then_ok _ (f z) ys h (λ w w_is h2. then_ok _ (each f xs) ys h2 (λ rest rest_is h3.

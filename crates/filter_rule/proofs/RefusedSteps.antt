@@ -1,18 +1,18 @@
 -- Steps that were refused, and the columns that they name.
 use Rattle.std.proofs.Common.{◌≡◌, ◌≢◌, ℕ, zero, suc, ◌≤◌, List, [], ◌∷◌, length, Bool, true, false, cond, ltb, Option, Some, None, Result, Ok, Err, refl, sym, ap, subst, ◌∙◌, arith}
-use Rattle.std.specs.Prelude.{slice_get, position, find, not}
+use Rattle.std.specs.Prelude.{slice_get, position, find}
 use Rattle.std.specs.List.{position_or_len}
 use Rattle.std.specs.Option.{option_map_or, ok_or}
 use Rattle.std.proofs.lemmas.Bool.Decides.{nat_tests}
 use Rattle.std.proofs.lemmas.List.Folds.{find_at}
-use Rattle.std.proofs.lemmas.Option.{slice_get_past}
+use Rattle.std.proofs.lemmas.Option.{slice_get_past, same_Some}
 use Rattle.std.proofs.lemmas.Slice.Eq.{bytes_eq-Decides}
 use Rattle.outcome.specs.Outcome.{◌>>=◌, each}
 use Rattle.filter_rule.specs.Faults.{Fault, no_such_column}
 use Rattle.row_view.specs.FieldValue.{FieldValue}
 use Rattle.filter_rule.specs.Resolving.{place_in, type_in}
 use Rattle.filter_rule.specs.Standing.{HasNoColumn, HasUnfit}
-use Rattle.filter_rule.proofs.StepLaws.{then_ok, same_some, find_none}
+use Rattle.filter_rule.proofs.StepLaws.{then_ok, find_none}
 use Rattle.filter_rule.proofs.TableLaws.{is_named, place_found, column_found, type_in-is}
 
 abbrev pub failed : {B : Type 0} → Fault → Result B Fault
@@ -45,7 +45,7 @@ each_refused f (x ∷ xs) e h =
 -- each item of a list that was read gave something
 pub each_gives : {A B : Type 0} (f : A → Result B Fault) (xs : List A) (ys : List B) (i : ℕ) (x : A) → each f xs ≡ Ok ys → slice_get xs i ≡ Some x → (y : B) × (f x ≡ Ok y)
 each_gives f [] ys i x h is = cc
-each_gives f (z ∷ xs) ys zero x h is = then_ok _ (f z) ys h (λ y y_is h2. (y, ap f (sym (same_some z x is)) ∙ y_is))
+each_gives f (z ∷ xs) ys zero x h is = then_ok _ (f z) ys h (λ y y_is h2. (y, ap f (sym (same_Some z x is)) ∙ y_is))
 each_gives f (z ∷ xs) ys (suc i) x h is =
     then_ok _ (f z) ys h (λ y y_is h2. then_ok _ (each f xs) ys h2 (λ rest rest_is h3. each_gives f xs rest i x rest_is is))
 
@@ -95,13 +95,9 @@ pub record Found {A : Type 0} (p : A → Bool) (xs : List A) (x : A) : Type 0 wh
   pub passes : p x ≡ true
 
 found_step : {A : Type 0} (p : A → Bool) (y : A) (ys : List A) (x : A) (b : Bool) → p y ≡ b → cond b (Some y) (find p ys) ≡ Some x → (find p ys ≡ Some x → Found p ys x) → Found p (y ∷ ys) x
-found_step p y ys x true is h more = record { place = 0; stands = h; passes = subst (λ z. p z ≡ true) (same_some y x h) is }
+found_step p y ys x true is h more = record { place = 0; stands = h; passes = subst (λ z. p z ≡ true) (same_Some y x h) is }
 found_step p y ys x false is h more = let r = more h in record { place = suc r.place; stands = r.stands; passes = r.passes }
 
 pub found : {A : Type 0} (p : A → Bool) (xs : List A) (x : A) → find p xs ≡ Some x → Found p xs x
 found p [] x h = cc
 found p (y ∷ ys) x h = found_step p y ys x (p y) refl h (found p ys x)
-
-pub not_true : (b : Bool) → not b ≡ true → b ≡ false
-not_true true h = cc
-not_true false h = refl

@@ -1,6 +1,7 @@
 -- The decisions of a stream's rules fit the tables.
 use Rattle.std.proofs.Common.{◌≡◌, ℕ, zero, suc, ◌+◌, List, [], ◌∷◌, length, Bool, true, false, cond, Option, Some, None, Ok, refl, sym, ap, subst}
 use Rattle.std.specs.Prelude.{slice_get}
+use Rattle.std.proofs.lemmas.Option.{same_Some}
 use Rattle.vindex.specs.Bounds.{Bounds}
 use Rattle.vindex.specs.declared.vindexes.Vindex.{Vindex}
 use Rattle.filter_text.specs.FilterText.{RowsSaid, every_row, in_own_range, in_range_of}
@@ -14,7 +15,7 @@ use Rattle.filter_rule.specs.WellFormed.{HasColumn, AreKept, IsTable, AreTables}
 use Rattle.filter_rule.specs.declared.decision.Decision.{Decision}
 use Rattle.filter_rule.specs.declared.decision.Decision.TheVariants.{NoRule, EveryRow, InRange}
 use Rattle.filter_rule.proofs.KeptLaws.{AreApart, form_apart, rule_kept}
-use Rattle.filter_rule.proofs.StepLaws.{then_ok, same_ok, same_some}
+use Rattle.filter_rule.proofs.StepLaws.{then_ok, same_ok}
 use Rattle.filter_rule.proofs.TableLaws.{FitsVindex, named_fits}
 
 -- the column that a decision names is there, and has a type that its vindex can take; the columns that it
@@ -90,5 +91,5 @@ pub decided_fit : (ts : List TableValue) (ds : List Decision) → Decided ts ds 
 decided_fit [] [] h i d t d_is t_is = cc
 decided_fit [] (e ∷ ds) h i d t d_is t_is = absurd h
 decided_fit (u ∷ ts) [] h i d t d_is t_is = absurd h
-decided_fit (u ∷ ts) (e ∷ ds) h zero d t d_is t_is = rw (sym (same_some e d d_is), sym (same_some u t t_is)) h.0
+decided_fit (u ∷ ts) (e ∷ ds) h zero d t d_is t_is = rw (sym (same_Some e d d_is), sym (same_Some u t t_is)) h.0
 decided_fit (u ∷ ts) (e ∷ ds) h (suc i) d t d_is t_is = decided_fit ts ds h.1 i d t d_is t_is

@@ -1,7 +1,9 @@
 -- What stands in a file whose rules are refused.
 use Rattle.std.proofs.Common.{◌≡◌, ℕ, zero, suc, ◌+◌, List, [], ◌∷◌, ◌++◌, length, Bool, true, false, cond, Option, Some, None, Ok, Err, refl, sym, ap, subst, ◌∙◌, append_assoc, length-append, arith}
-use Rattle.std.specs.Prelude.{◌&&◌, slice_get, MatchOption}
+use Rattle.std.specs.Prelude.{slice_get, MatchOption}
 use Rattle.std.specs.Option.{option_map_or}
+use Rattle.std.proofs.lemmas.Option.{same_Some}
+use Rattle.list_laws.proofs.Truths.{not_both}
 use Rattle.filter_text.specs.ColumnList.{has_column}
 use Rattle.vindex.specs.Bounds.{Bounds}
 use Rattle.vindex.specs.declared.vindexes.Vindex.{Vindex}
@@ -25,7 +27,7 @@ use Rattle.filter_rule.proofs.RefusedSteps.{failed, same_fault, then_err, each_r
 use Rattle.filter_rule.proofs.DecidedLaws.{decided_at}
 use Rattle.filter_rule.proofs.KeepingLaws.{KeptBy, decision_at_kept, closed_refused}
 use Rattle.filter_rule.proofs.StandingTables.{StandsIn, refused_type}
-use Rattle.filter_rule.proofs.StepLaws.{then_ok, read_as, same_ok, same_some, each_at}
+use Rattle.filter_rule.proofs.StepLaws.{then_ok, read_as, same_ok, each_at}
 use Rattle.filter_rule.proofs.TableLaws.{place_found, column_found}
 
 -- ---- a rule without a form is refused as such
@@ -104,8 +106,8 @@ AllOpen form ts ds es = (i : ℕ) (t : TableValue) → slice_get ts i ≡ Some t
 
 open_step : (s n : ℕ) (form : RuleForm) (t : TableValue) (ts : List TableValue) (d : Decision) (ds : List Decision) (e : Decision) (es : List Decision) → decide_once s n form t d ≡ Ok e → AllOpen form ts ds es → AllOpen form (t ∷ ts) (d ∷ ds) (e ∷ es)
 open_step s n form t ts d ds e es one rest zero u u_is e_is =
-    let was = one_open s n form t d (one ∙ ap read_as (same_some e NoRule e_is)) in
-    (ap Some was.0, ap (λ (x : TableValue). is_for form.scope x.name) (sym (same_some t u u_is)) ∙ was.1)
+    let was = one_open s n form t d (one ∙ ap read_as (same_Some e NoRule e_is)) in
+    (ap Some was.0, ap (λ (x : TableValue). is_for form.scope x.name) (sym (same_Some t u u_is)) ∙ was.1)
 open_step s n form t ts d ds e es one rest (suc i) u u_is e_is = rest i u u_is e_is
 
 decide_open : (s n : ℕ) (form : RuleForm) (ts : List TableValue) (ds es : List Decision) → decide_each s n form ts ds ≡ Ok es → AllOpen form ts ds es
@@ -188,14 +190,10 @@ record IsResolved (said : TableSaid) (t : TableValue) : Type 0 where
   key : each (place_in said.name said.columns) said.key ≡ Ok t.key
   vindex : t.vindex ≡ None → said.vindex ≡ None
 
-one_not : {P : Type 0} (b c : Bool) → (b && c) ≡ false → (b ≡ false → P) → (c ≡ false → P) → P
-one_not true c h k l = l h
-one_not false c h k l = k refl
-
 -- a key column that isn't listed
 not_listed : (names : List (List ℕ)) (columns : List FieldValue) (key : List ℕ) → lists_key names columns key ≡ false → (i : ℕ) × (place : ℕ) × (slice_get key i ≡ Some place) × (has_column (name_at columns place) names ≡ false)
 not_listed names columns [] h = cc
-not_listed names columns (place ∷ key) h = one_not (has_column (name_at columns place) names) (lists_key names columns key) h
+not_listed names columns (place ∷ key) h = not_both (has_column (name_at columns place) names) (lists_key names columns key) h
     (λ here. (0, place, refl, here)) (λ later. let there = not_listed names columns key later in (suc there.0, there.1, there.2, there.3))
 
 key_refused : (document : DocumentSaid) (s n : ℕ) (said : TableSaid) (form : RuleForm) (names : List (List ℕ)) (t : TableValue) → HasTable document said → IsFirstFor document s n said.name form → form.columns ≡ Some names → IsResolved said t
@@ -314,15 +312,15 @@ streams_stand document ts e tables_are h =
 own_keeps : (s n : ℕ) (form : RuleForm) (range : Bounds) (t : TableValue) (v : Option (ℕ × Vindex)) (d : Decision) (kept : List ℕ) → own_decision s n form.columns t range v ≡ Ok d → kept_under_rule d ≡ Some kept → kept_by s n form.columns t ≡ Ok kept
 own_keeps s n form range t None d kept h keeps = cc
 own_keeps s n form range t (Some v) d kept h keeps =
-    then_ok _ (kept_by s n form.columns t) d h (λ k k_is h2. k_is ∙ ap Ok (same_some k kept (ap kept_under_rule (same_ok (InRange v.0 v.1 range k) d h2) ∙ keeps)))
+    then_ok _ (kept_by s n form.columns t) d h (λ k k_is h2. k_is ∙ ap Ok (same_Some k kept (ap kept_under_rule (same_ok (InRange v.0 v.1 range k) d h2) ∙ keeps)))
 
 decided_keeps : (s n : ℕ) (form : RuleForm) (rows : RowsSaid) (t : TableValue) (d : Decision) (kept : List ℕ) → decide s n form.columns rows t ≡ Ok d → kept_under_rule d ≡ Some kept → kept_by s n form.columns t ≡ Ok kept
 decided_keeps s n form every_row t d kept h keeps =
-    then_ok _ (kept_by s n form.columns t) d h (λ k k_is h2. k_is ∙ ap Ok (same_some k kept (ap kept_under_rule (same_ok (EveryRow k) d h2) ∙ keeps)))
+    then_ok _ (kept_by s n form.columns t) d h (λ k k_is h2. k_is ∙ ap Ok (same_Some k kept (ap kept_under_rule (same_ok (EveryRow k) d h2) ∙ keeps)))
 decided_keeps s n form (in_own_range range) t d kept h keeps = own_keeps s n form range t t.vindex d kept h keeps
 decided_keeps s n form (in_range_of column vindex range) t d kept h keeps =
     then_ok _ (kept_by s n form.columns t) d h (λ k k_is h2. then_ok _ (place_in t.name t.columns column) d h2 (λ place place_is h3. then_ok _ (vindex_type t.name t.columns column vindex) d h3 (λ a a_is h4.
-    k_is ∙ ap Ok (same_some k kept (ap kept_under_rule (same_ok (InRange place vindex range k) d h4) ∙ keeps)))))
+    k_is ∙ ap Ok (same_Some k kept (ap kept_under_rule (same_ok (InRange place vindex range k) d h4) ∙ keeps)))))
 
 first_keeps : (document : DocumentSaid) (s : ℕ) (stream : StreamSaid) (said : TableSaid) (t : TableValue) (o : Option (ℕ × RuleSaid)) (d : Decision) (kept : List ℕ) → slice_get document.streams s ≡ Some stream → HasTable document said → IsResolved said t
     → first_match 0 stream.rules t.name ≡ o → MatchOption o (d ≡ NoRule) (λ p. Decides s p.0 p.1 t d) → kept_under_rule d ≡ Some kept → KeepsOf document t.name kept

@@ -3,6 +3,8 @@ use Rattle.std.proofs.Common.{◌≡◌, inl, inr, ℕ, suc, List, [], ◌∷◌
 use Rattle.std.specs.Prelude.{slice_get, not, nat_le}
 use Rattle.std.specs.List.{list_all}
 use Rattle.std.proofs.lemmas.Bool.Decides.{nat_tests}
+use Rattle.std.proofs.lemmas.Bool.{not-true}
+use Rattle.list_laws.proofs.Truths.{not_both}
 use Rattle.vindex.specs.declared.vindexes.Vindex.{Vindex}
 use Rattle.filter_rule.specs.Document.{TableSaid, DocumentSaid}
 use Rattle.outcome.specs.Outcome.{each}
@@ -10,7 +12,7 @@ use Rattle.filter_rule.specs.Faults.{Fault, json, shape, limit, no_such_column, 
 use Rattle.filter_rule.specs.Limits.{is_up_to, is_table_within, is_within, within_limits}
 use Rattle.filter_rule.specs.Resolving.{is_key_type, is_vindex_type, place_in, type_in, unfit_key, refuse_type, vindex_place, vindex_type, own_vindex_type, resolved}
 use Rattle.filter_rule.specs.Standing.{HasTable, LacksColumn, by_key, by_vindex, HasUnfitColumn, in_key, under_vindex, HasBadRule, KeepDifferent, IsOutside, IsPastLimit, streams_past, tables_past, columns_past, key_past}
-use Rattle.filter_rule.proofs.RefusedSteps.{same_fault, then_err, each_refused, each_gives, absent, unfit_column, found, not_true}
+use Rattle.filter_rule.proofs.RefusedSteps.{same_fault, then_err, each_refused, each_gives, absent, unfit_column, found}
 use Rattle.filter_rule.proofs.StepLaws.{then_ok, read_as}
 
 -- what stands in a document, by the fault
@@ -32,10 +34,6 @@ outside_at most n false high a b h = inl (grind (arith, nat_tests))
 
 outside : (most n : ℕ) → is_up_to most n ≡ false → IsOutside most n
 outside most n h = outside_at most n (nat_le 1 n) (nat_le n most) refl refl h
-
-not_both : {P : Type 0} (b c : Bool) → (b && c) ≡ false → (b ≡ false → P) → (c ≡ false → P) → P
-not_both true c h k l = l h
-not_both false c h k l = k refl
 
 -- a table that is past its limits
 bad_table : (document : DocumentSaid) (ts : List TableSaid) → ((i : ℕ) (t : TableSaid) → slice_get ts i ≡ Some t → HasTable document t) → list_all is_table_within ts ≡ false → IsPastLimit document
@@ -95,7 +93,7 @@ key_unfit document said places (Some name) e there is unfit h =
     let r = found (λ n. not (is_key_type (type_in said.columns n))) said.key name unfit in
     let place = each_gives (place_in said.name said.columns) said.key places r.place name is r.stands in
     subst (StandsIn document) (same_fault {B = Option (List ℕ)} (key_type said.name name) e h)
-    (in_key said there refl (r.place, r.stands) (unfit_column is_key_type said.name said.columns name place.0 place.1 (not_true (is_key_type (type_in said.columns name)) r.passes)))
+    (in_key said there refl (r.place, r.stands) (unfit_column is_key_type said.name said.columns name place.0 place.1 (not-true (is_key_type (type_in said.columns name)) r.passes)))
 
 pub table_stands : (document : DocumentSaid) (said : TableSaid) (e : Fault) → HasTable document said → resolved said ≡ Err e → StandsIn document e
 unfolding resolved

@@ -1,9 +1,10 @@
 -- Steps that gave a value, and lists that were read item by item.
 use Rattle.std.proofs.Common.{◌≡◌, ℕ, zero, suc, List, [], ◌∷◌, length, Bool, true, false, cond, Option, Some, None, Result, Ok, Err, refl, sym, ap, subst, ◌∙◌}
-use Rattle.std.specs.Prelude.{slice_get, not, find}
+use Rattle.std.specs.Prelude.{slice_get, find}
 use Rattle.std.specs.List.{list_all}
 use Rattle.std.specs.Option.{ok_or}
 use Rattle.std.proofs.lemmas.Bool.{and_parts}
+use Rattle.std.proofs.lemmas.Option.{same_Some}
 use Rattle.outcome.specs.Outcome.{◌>>=◌, each}
 use Rattle.filter_rule.specs.Faults.{Fault}
 
@@ -18,16 +19,9 @@ read_as x = Ok x
 pub same_ok : {A : Type 0} (x y : A) → read_as x ≡ Ok y → x ≡ y
 same_ok x y e = cc
 
-pub same_some : {A : Type 0} (x y : A) → Some x ≡ Some y → x ≡ y
-same_some x y e = cc
-
 pub some_from_ok : {A : Type 0} (o : Option A) (fault : Fault) (x : A) → ok_or o fault ≡ Ok x → o ≡ Some x
 some_from_ok None fault x h = cc
 some_from_ok (Some y) fault x h = cc
-
-pub not_false : (b : Bool) → not b ≡ false → b ≡ true
-not_false true h = refl
-not_false false h = cc
 
 -- ---- lists
 
@@ -45,7 +39,7 @@ pub record ReadFrom {A B : Type 0} (f : A → Result B Fault) (xs : List A) (i :
 
 read_from_parts : {A B : Type 0} (f : A → Result B Fault) (x : A) (xs : List A) (z : B) (rest : List B) (i : ℕ) (y : B) → f x ≡ Ok z
     → ((j : ℕ) (w : B) → slice_get rest j ≡ Some w → ReadFrom f xs j w) → slice_get (z ∷ rest) i ≡ Some y → ReadFrom f (x ∷ xs) i y
-read_from_parts f x xs z rest zero y z_is more is = record { item = x; stands = refl; gives = z_is ∙ ap Ok (same_some z y is) }
+read_from_parts f x xs z rest zero y z_is more is = record { item = x; stands = refl; gives = z_is ∙ ap Ok (same_Some z y is) }
 read_from_parts f x xs z rest (suc i) y z_is more is =
     let there = more i y is in record { item = there.item; stands = there.stands; gives = there.gives }
 
@@ -57,7 +51,7 @@ each_at f (x ∷ xs) ys h i y is =
 
 pub list_all_get : {A : Type 0} (p : A → Bool) (xs : List A) (i : ℕ) (x : A) → list_all p xs ≡ true → slice_get xs i ≡ Some x → p x ≡ true
 list_all_get p [] i x all is = cc
-list_all_get p (y ∷ ys) zero x all is = subst (λ z. p z ≡ true) (same_some y x is) (and_parts (p y) (list_all p ys) all).0
+list_all_get p (y ∷ ys) zero x all is = subst (λ z. p z ≡ true) (same_Some y x is) (and_parts (p y) (list_all p ys) all).0
 list_all_get p (y ∷ ys) (suc i) x all is = list_all_get p ys i x (and_parts (p y) (list_all p ys) all).1 is
 
 none_first : {A : Type 0} (b : Bool) (y : A) (rest : Option A) → cond b (Some y) rest ≡ None → (b ≡ false) × (rest ≡ None)
@@ -66,5 +60,5 @@ none_first false y rest h = (refl, h)
 
 pub find_none : {A : Type 0} (p : A → Bool) (xs : List A) (i : ℕ) (x : A) → find p xs ≡ None → slice_get xs i ≡ Some x → p x ≡ false
 find_none p [] i x h is = cc
-find_none p (y ∷ ys) zero x h is = subst (λ z. p z ≡ false) (same_some y x is) (none_first (p y) y (find p ys) h).0
+find_none p (y ∷ ys) zero x h is = subst (λ z. p z ≡ false) (same_Some y x is) (none_first (p y) y (find p ys) h).0
 find_none p (y ∷ ys) (suc i) x h is = find_none p ys i x (none_first (p y) y (find p ys) h).1 is

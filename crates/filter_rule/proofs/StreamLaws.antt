@@ -1,5 +1,6 @@
 -- The rules of a stream, as far as a loop has come.
 use Rattle.std.proofs.Common.{◌≡◌, ℕ, zero, suc, ◌+◌, ◌<◌, ◌≤◌, List, [], ◌∷◌, ◌++◌, length, take, drop, get_or, Result, Ok, Err, refl, sym, ap, ◌∙◌, arith}
+use Rattle.list_laws.proofs.Fronts.{take-own}
 use Rattle.filter_rule.specs.Document.{RuleSaid}
 use Rattle.outcome.specs.Outcome.{◌>>=◌}
 use Rattle.filter_rule.specs.Faults.{Fault}
@@ -9,13 +10,9 @@ use Rattle.filter_rule.specs.declared.decision.Decision.{Decision}
 use Rattle.filter_rule.proofs.EachLaws.{drop_at}
 use Rattle.filter_rule.proofs.DecideLaws.{drop_all}
 
-take_front : {A : Type 0} (front rest : List A) → take (length front) (front ++ rest) ≡ front
-take_front [] rest = refl
-take_front (x ∷ front) rest = ap (λ r. x ∷ r) (take_front front rest)
-
 -- a vector that was written through a slice of all of it
 pub written_back : {A : Type 0} (n : ℕ) (front rest : List A) → n ≡ length front → take n (front ++ rest) ≡ front
-written_back n front rest e = ap (λ m. take m (front ++ rest)) e ∙ take_front front rest
+written_back n front rest e = ap (λ m. take m (front ++ rest)) e ∙ take-own front rest
 
 next_rule : (s n : ℕ) (tables : List TableValue) (r : RuleSaid) (rs : List RuleSaid) (ds es : List Decision) → rule_over s n tables r ds ≡ Ok es → decide_in_turn s tables n (r ∷ rs) ds ≡ decide_in_turn s tables (n + 1) rs es
 unfolding decide_in_turn

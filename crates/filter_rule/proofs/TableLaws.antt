@@ -4,11 +4,11 @@ use Rattle.std.specs.Prelude.{slice_get, position, find, not, IfSome}
 use Rattle.std.specs.List.{list_all, position_or_len, range_with_len}
 use Rattle.std.specs.Option.{option_map_or}
 use Rattle.std.specs.Str.{bytes_eq, is_utf8}
-use Rattle.std.proofs.lemmas.Bool.{and_parts}
+use Rattle.std.proofs.lemmas.Bool.{and_parts, not-false}
 use Rattle.std.proofs.lemmas.Bool.Decides.{nat_tests}
 use Rattle.std.proofs.lemmas.List.Folds.{find_at}
 use Rattle.std.proofs.lemmas.List.Quantifiers.{position-Some}
-use Rattle.std.proofs.lemmas.Option.{slice_get_within, slice_get-get_or}
+use Rattle.std.proofs.lemmas.Option.{slice_get_within, slice_get-get_or, same_Some}
 use Rattle.std.proofs.lemmas.Slice.Eq.{bytes_eq-Decides}
 use Rattle.serde_json.specs.Data.{Data}
 use Rattle.vindex.specs.declared.vindexes.Vindex.{Vindex}
@@ -23,7 +23,7 @@ use Rattle.filter_rule.specs.Resolving.{all_places, is_key_type, is_vindex_type,
 use Rattle.filter_rule.specs.WellFormed.{AreDistinct, AreUpTo, AreColumnPlaces, AreKept, type_at, HasColumn, IsColumnDef, IsTable, AreTables}
 use Rattle.filter_rule.proofs.DistinctNames.{distinct_apart}
 use Rattle.filter_rule.proofs.TextLaws.{text_in_is, name_text, column_def}
-use Rattle.filter_rule.proofs.StepLaws.{then_ok, read_as, same_ok, same_some, some_from_ok, not_false, each_length, each_at, list_all_get, find_none}
+use Rattle.filter_rule.proofs.StepLaws.{then_ok, read_as, same_ok, some_from_ok, each_length, each_at, list_all_get, find_none}
 
 -- ---- what the shape of a document says of names
 
@@ -205,7 +205,7 @@ has_column fits table columns name place place_is fit =
 
 pub range_get : (a n i x : ℕ) → slice_get (range_with_len a n) i ≡ Some x → (x ≡ a + i) × (i < n)
 range_get a zero i x h = cc
-range_get a (suc n) zero x h = let at : a ≡ a + 0 = omega arith in (sym (same_some a x h) ∙ at, omega arith)
+range_get a (suc n) zero x h = let at : a ≡ a + 0 = omega arith in (sym (same_Some a x h) ∙ at, omega arith)
 range_get a (suc n) (suc i) x h =
     let there = range_get (a + 1) n i x h in
     let at : (a + 1) + i ≡ a + suc i = omega arith in
@@ -246,7 +246,7 @@ distinct_places table columns names places apart is i j place a b =
     let second = each_at (place_in table columns) names places is j place b in
     let here = column_found columns first.item place (place_found table columns first.item place first.gives) in
     let there = column_found columns second.item place (place_found table columns second.item place second.gives) in
-    let same : here.column ≡ there.column = same_some here.column there.column (sym here.stands ∙ there.stands) in
+    let same : here.column ≡ there.column = same_Some here.column there.column (sym here.stands ∙ there.stands) in
     let names_same : second.item ≡ first.item = sym there.named ∙ ap (λ (c : FieldValue). c.name) (sym same) ∙ here.named in
     apart i j first.item first.stands (second.stands ∙ ap Some names_same)
 
@@ -259,7 +259,7 @@ key_fits : (table : List ℕ) (columns : List FieldValue) (names : List (List �
 key_fits table columns names places a is fit i place there =
     let from = each_at (place_in table columns) names places is i place there in
     let all = find_none (λ name. not (is_key_type (type_in columns name))) names i from.item (no_refusal table (unfit_key columns names) a fit) from.stands in
-    has_column is_key_type table columns from.item place from.gives (not_false (is_key_type (type_in columns from.item)) all)
+    has_column is_key_type table columns from.item place from.gives (not-false (is_key_type (type_in columns from.item)) all)
 
 -- ---- the vindex
 

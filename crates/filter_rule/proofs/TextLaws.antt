@@ -6,6 +6,7 @@ use Rattle.std.specs.Option.{option_and_then, option_map, ok_or}
 use Rattle.std.specs.Str.{bytes_eq, is_utf8}
 use Rattle.std.proofs.lemmas.Bool.{and_parts}
 use Rattle.std.proofs.lemmas.Bool.Decides.{nat_tests}
+use Rattle.std.proofs.lemmas.Option.{same_Some}
 use Rattle.serde_json.specs.Data.{Data}
 use Rattle.serde_json.specs.Find.{as_str, as_number, as_u64}
 use Rattle.filter_rule.specs.Document.{found, in_utf8, text_of, member_in, text_in, is_name, name_of, in_32_bits, type_by, type_said, pair_of, column_of}
@@ -13,7 +14,7 @@ use Rattle.filter_rule.specs.Faults.{shape}
 use Rattle.row_view.specs.FieldValue.{FieldValue}
 use Rattle.filter_rule.specs.TypeNumbers.{TypeName, type_names, type_of_name}
 use Rattle.filter_rule.specs.WellFormed.{IsColumnDef}
-use Rattle.filter_rule.proofs.StepLaws.{then_ok, read_as, same_ok, same_some, some_from_ok}
+use Rattle.filter_rule.proofs.StepLaws.{then_ok, read_as, same_ok, some_from_ok}
 use Rattle.filter_rule.proofs.Utf8Laws.{utf8_test}
 
 -- ---- texts
@@ -53,7 +54,7 @@ abbrev has_32_bits : ℕ → Bool
 has_32_bits n = nat_lt n (2 ^ 32)
 
 first_found : {A : Type 0} (b : Bool) (q : A → Bool) (y x : A) (rest : Option A) → q y ≡ true → (rest ≡ Some x → q x ≡ true) → cond b (Some y) rest ≡ Some x → q x ≡ true
-first_found true q y x rest here later h = subst (λ z. q z ≡ true) (same_some y x h) here
+first_found true q y x rest here later h = subst (λ z. q z ≡ true) (same_Some y x h) here
 first_found false q y x rest here later h = later h
 
 all_found : {A : Type 0} (p q : A → Bool) (xs : List A) (x : A) → list_all q xs ≡ true → find p xs ≡ Some x → q x ≡ true
@@ -64,14 +65,14 @@ all_found p q (y ∷ ys) x all h =
 
 numbered : (o : Option TypeName) (n : ℕ) → ((t : TypeName) → o ≡ Some t → has_32_bits t.number ≡ true) → option_map (λ t. t.number) o ≡ Some n → has_32_bits n ≡ true
 numbered None n all h = cc
-numbered (Some t) n all h = subst (λ m. has_32_bits m ≡ true) (same_some t.number n h) (all t refl)
+numbered (Some t) n all h = subst (λ m. has_32_bits m ≡ true) (same_Some t.number n h) (all t refl)
 
 named_bits : (name : List ℕ) (n : ℕ) → type_of_name name ≡ Some n → has_32_bits n ≡ true
 named_bits name n h =
     numbered (find (λ t. bytes_eq name t.name) type_names) n (λ t is. all_found (λ t. bytes_eq name t.name) (λ t. has_32_bits t.number) type_names t refl is) h
 
 bit_kept : (b : Bool) (m n : ℕ) → has_32_bits m ≡ b → cond b (Some m) None ≡ Some n → has_32_bits n ≡ true
-bit_kept true m n is h = subst (λ x. has_32_bits x ≡ true) (same_some m n h) is
+bit_kept true m n is h = subst (λ x. has_32_bits x ≡ true) (same_Some m n h) is
 bit_kept false m n is h = cc
 
 bits_kept : (o : Option ℕ) (n : ℕ) → option_and_then in_32_bits o ≡ Some n → has_32_bits n ≡ true

@@ -1,18 +1,15 @@
 -- Bytes of words, marks and blanks are apart from each other and from quotes.
 use Rattle.std.proofs.Common.{ne_eqb, ◌≡◌, ℕ, ◌<◌, ◌≤◌, Bool, true, false, refl, arith}
-use Rattle.std.specs.Prelude.{◌==◌, ◌||◌, ◌&&◌, nat_le}
+use Rattle.std.specs.Prelude.{◌==◌, ◌||◌, nat_le}
 use Rattle.std.specs.Char.{is_ascii_alphanumeric}
 use Rattle.std.specs.Int.{is_in_range}
 use Rattle.std.proofs.lemmas.Bool.Decides.{nat_tests}
+use Rattle.std.proofs.lemmas.Bool.{and_parts}
 use Rattle.filter_text.specs.Lexemes.{is_blank, is_word_byte, is_mark}
 
 pub or_true : {P : Type 0} (a b : Bool) → (a || b) ≡ true → (a ≡ true → P) → (b ≡ true → P) → P
 or_true true b h left right = left refl
 or_true false b h left right = right h
-
-pub and_true : (a b : Bool) → (a && b) ≡ true → (a ≡ true) × (b ≡ true)
-and_true true b h = (refl, h)
-and_true false b h = cc
 
 pub same_byte : (b n : ℕ) → (b == n) ≡ true → b ≡ n
 same_byte b n h = grind (arith, nat_tests)
@@ -57,7 +54,7 @@ word_if b a c d e f g h i j k = record {
 }
 
 between : (low high b : ℕ) → is_in_range low high b ≡ true → (low ≤ b) × (b ≤ high)
-between low high b h = let parts = and_true (nat_le low b) (nat_le b high) h in (at_least low b parts.0, at_least b high parts.1)
+between low high b h = let parts = and_parts (nat_le low b) (nat_le b high) h in (at_least low b parts.0, at_least b high parts.1)
 
 digit_byte : (b : ℕ) → (48 ≤ b) × (b ≤ 57) → IsWordByte b
 digit_byte b h = word_if b (λ e. omega arith) (λ e. omega arith) (λ e. omega arith) (λ e. omega arith) (λ e. omega arith) (λ e. omega arith) (λ e. omega arith) (λ e. omega arith) (λ e. omega arith) (λ e. omega arith)

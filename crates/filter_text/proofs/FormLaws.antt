@@ -4,6 +4,8 @@ use Rattle.std.specs.Prelude.{◌==◌, ◌&&◌, IfOk}
 use Rattle.std.specs.Str.{bytes_eq, str_eq_ignore_ascii_case}
 use Rattle.std.proofs.lemmas.Bool.{and_parts}
 use Rattle.std.proofs.lemmas.Slice.Eq.{bytes_eq-Decides}
+use Rattle.std.proofs.lemmas.Option.{same_Some}
+use Rattle.list_laws.proofs.Choices.{mapped}
 use Rattle.vindex.specs.Bounds.{Bounds}
 use Rattle.vindex.specs.RangeText.{key_range_of_text}
 use Rattle.vindex.specs.KeyspaceId.{vindex_of_name, vindex_name}
@@ -16,7 +18,7 @@ use Rattle.filter_text.specs.ColumnList.{column_of, last_column, with_column, co
 use Rattle.filter_text.specs.Views.{Reads, meaning}
 use Rattle.filter_text.specs.declared.filter.Filter.{Filter}
 use Rattle.filter_text.specs.declared.fault.FilterFault.{FilterFault}
-use Rattle.filter_text.proofs.SpellLaws.{read_of_spelled, spells_of_read, first_word_is, same_some, some_length}
+use Rattle.filter_text.proofs.SpellLaws.{read_of_spelled, spells_of_read, first_word_is, some_length}
 
 -- ---- what is written is read
 
@@ -207,7 +209,7 @@ range_found (Some range) bounds h = (range, refl, h)
 
 own_found : (o : Option Bounds) (rows : RowsSaid) → option_map in_own_range o ≡ Some rows → (bounds : Bounds) × (o ≡ Some bounds) × (in_own_range bounds ≡ rows)
 own_found None rows h = cc
-own_found (Some bounds) rows h = (bounds, refl, same_some (in_own_range bounds) rows h)
+own_found (Some bounds) rows h = (bounds, refl, same_Some (in_own_range bounds) rows h)
 
 own_parts : (r c : Lexeme) (rows : RowsSaid) → rows_of_own_range r c ≡ Some rows → Arguments (r ∷ c ∷ []) rows
 own_parts r c rows h =
@@ -225,10 +227,10 @@ same_text q n h = (bytes_eq-Decides q n).0 h
 
 vindex_at : (x y z w : Bool) (q : List ℕ) (vindex : Vindex) → bytes_eq q (vindex_name Numeric) ≡ x → bytes_eq q (vindex_name ReverseBits) ≡ y → bytes_eq q (vindex_name Binary) ≡ z → bytes_eq q (vindex_name BinaryMd5) ≡ w
     → cond x (Some Numeric) (cond y (Some ReverseBits) (cond z (Some Binary) (cond w (Some BinaryMd5) None))) ≡ Some vindex → q ≡ vindex_name vindex
-vindex_at true y z w q vindex e f g h is = same_text q (vindex_name Numeric) e ∙ ap vindex_name (same_some Numeric vindex is)
-vindex_at false true z w q vindex e f g h is = same_text q (vindex_name ReverseBits) f ∙ ap vindex_name (same_some ReverseBits vindex is)
-vindex_at false false true w q vindex e f g h is = same_text q (vindex_name Binary) g ∙ ap vindex_name (same_some Binary vindex is)
-vindex_at false false false true q vindex e f g h is = same_text q (vindex_name BinaryMd5) h ∙ ap vindex_name (same_some BinaryMd5 vindex is)
+vindex_at true y z w q vindex e f g h is = same_text q (vindex_name Numeric) e ∙ ap vindex_name (same_Some Numeric vindex is)
+vindex_at false true z w q vindex e f g h is = same_text q (vindex_name ReverseBits) f ∙ ap vindex_name (same_Some ReverseBits vindex is)
+vindex_at false false true w q vindex e f g h is = same_text q (vindex_name Binary) g ∙ ap vindex_name (same_Some Binary vindex is)
+vindex_at false false false true q vindex e f g h is = same_text q (vindex_name BinaryMd5) h ∙ ap vindex_name (same_Some BinaryMd5 vindex is)
 vindex_at false false false false q vindex e f g h is = cc
 
 vindex_name_of : (q : List ℕ) (vindex : Vindex) → vindex_of_name q ≡ Some vindex → q ≡ vindex_name vindex
@@ -253,7 +255,7 @@ named_found None v r rows h = cc
 named_found (Some column) None r rows h = cc
 named_found (Some column) (Some vindex) None rows h = cc
 named_found (Some column) (Some vindex) (Some bounds) rows h =
-    record { column = column; vindex = vindex; bounds = bounds; column_is = refl; vindex_is = refl; bounds_is = refl; is = same_some (in_range_of column vindex bounds) rows h }
+    record { column = column; vindex = vindex; bounds = bounds; column_is = refl; vindex_is = refl; bounds_is = refl; is = same_Some (in_range_of column vindex bounds) rows h }
 
 named_parts : (c k v m r e : Lexeme) (rows : RowsSaid) → cond (are_between k m e) (named_rows c v r) None ≡ Some rows → Arguments (c ∷ k ∷ v ∷ m ∷ r ∷ e ∷ []) rows
 named_parts c k v m r e rows h =
@@ -294,7 +296,7 @@ condition_at a b c ts rows h =
 
 rows_parts : (ts : List Lexeme) (rows : RowsSaid) → rows_of ts ≡ Some rows → Condition ts rows
 unfolding rows_of
-rows_parts [] rows h = subst (λ (x : RowsSaid). Condition [] x) (same_some every_row rows h) (record { range = []; writes = tt; fill = tt })
+rows_parts [] rows h = subst (λ (x : RowsSaid). Condition [] x) (same_Some every_row rows h) (record { range = []; writes = tt; fill = tt })
 rows_parts (a ∷ []) rows h = cc
 rows_parts (a ∷ b ∷ []) rows h = cc
 rows_parts (a ∷ b ∷ c ∷ ts) rows h = condition_at a b c ts rows h
@@ -309,7 +311,7 @@ pub record TableFound (t : Option (List ℕ)) (r : Option RowsSaid) (columns : O
 table_found : (t : Option (List ℕ)) (r : Option RowsSaid) (columns : Option (List (List ℕ))) (said : FilterMeaning) → option_and_then (λ table. option_and_then (λ rows. Some (selected table columns rows)) r) t ≡ Some said → TableFound t r columns said
 table_found None r columns said h = cc
 table_found (Some table) None columns said h = cc
-table_found (Some table) (Some rows) columns said h = record { table = table; rows = rows; table_is = refl; rows_is = refl; is = same_some (selected table columns rows) said h }
+table_found (Some table) (Some rows) columns said h = record { table = table; rows = rows; table_is = refl; rows_is = refl; is = same_Some (selected table columns rows) said h }
 
 -- what stands behind `from` is a table and a condition for these rows
 record TableRows (ts : List Lexeme) (columns : Option (List (List ℕ))) (said : FilterMeaning) : Type 0 where
@@ -335,22 +337,18 @@ record ListParts (ts rest : List Lexeme) (columns : List (List ℕ)) : Type 0 wh
   is : columns ≡ first ∷ others
   fill : (places : List Place) → Fill rest places → Fill ts (list_places (first ∷ others) places)
 
-columns_found : {A B : Type 0} (f : A → B) (o : Option A) (y : B) → option_map f o ≡ Some y → (x : A) × (o ≡ Some x) × (f x ≡ y)
-columns_found f None y h = cc
-columns_found f (Some x) y h = (x, refl, same_some (f x) y h)
-
 list_parts_at : (a b : Lexeme) (ts rest : List Lexeme) (columns : List (List ℕ)) (from comma : Bool) (column : Option (List ℕ)) → is_key (codes "from") b ≡ from → is_this_mark 44 b ≡ comma → column_of a ≡ column
     → cond from (option_map (last_column ts) column) (cond comma (option_and_then (λ name. option_map (with_column name) (columns_of ts)) column) None) ≡ Some (columns, rest)
     → ((more : List (List ℕ)) (left : List Lexeme) → columns_of ts ≡ Some (more, left) → ListParts ts left more) → ListParts (a ∷ b ∷ ts) rest columns
 list_parts_at a b ts rest columns true comma None e f g h more = cc
 list_parts_at a b ts rest columns true comma (Some c) e f g h more =
-    let same : last_column ts c ≡ (columns, rest) = same_some (last_column ts c) (columns, rest) h in
+    let same : last_column ts c ≡ (columns, rest) = same_Some (last_column ts c) (columns, rest) h in
     let left : ts ≡ rest = ap (λ (p : List (List ℕ) × List Lexeme). p.1) same in
     record { first = c; others = []; is = sym (ap (λ (p : List (List ℕ) × List Lexeme). p.0) same); fill = λ places fill. (g, (e, subst (λ (xs : List Lexeme). Fill xs places) (sym left) fill)) }
 list_parts_at a b ts rest columns false false column e f g h more = cc
 list_parts_at a b ts rest columns false true None e f g h more = cc
 list_parts_at a b ts rest columns false true (Some c) e f g h more =
-    let found = columns_found (with_column c) (columns_of ts) (columns, rest) h in
+    let found = mapped (with_column c) (columns_of ts) (columns, rest) h in
     let parts = more found.0.0 found.0.1 found.1 in
     let left : found.0.1 ≡ rest = ap (λ (p : List (List ℕ) × List Lexeme). p.1) found.2 in
     record {
@@ -390,7 +388,7 @@ all_found (a ∷ []) rest h places fill = cc
 all_found (a ∷ b ∷ ts) rest h places fill =
     let opened = chosen (opens_all a b) (Some ts) rest h in
     let two = and_parts (is_this_mark 42 a) (is_key (codes "from") b) opened.0 in
-    (two.0, (two.1, subst (λ (xs : List Lexeme). Fill xs places) (sym (same_some ts rest opened.1)) fill))
+    (two.0, (two.1, subst (λ (xs : List Lexeme). Fill xs places) (sym (same_Some ts rest opened.1)) fill))
 
 behind_says : (all : Option (List Lexeme)) (s : Lexeme) (ts : List Lexeme) (text : List ℕ) (said : FilterMeaning) → all_of ts ≡ all → SpellsTokens (s ∷ ts) text → is_key (codes "select") s ≡ true → behind_select ts all ≡ Some said → Says text said
 behind_says None s ts text said is spells opens h = listed_says (columns_of ts) s ts text said refl spells opens h
@@ -411,7 +409,7 @@ tokens_say (Some ts) text said is h = selection_says ts text said (spells_of_rea
 
 range_says : (o : Option Bounds) (text : List ℕ) (said : FilterMeaning) → (text ≡ [] → ⊥) → begins_with_select text ≡ false → key_range_of_text text ≡ o → option_map (λ bounds. without_table (in_own_range bounds)) o ≡ Some said → Says text said
 range_says None text said some other is h = cc
-range_says (Some bounds) text said some other is h = gives_range bounds some other is (sym (same_some (without_table (in_own_range bounds)) said h))
+range_says (Some bounds) text said some other is h = gives_range bounds some other is (sym (same_Some (without_table (in_own_range bounds)) said h))
 
 empty_of_length : (text : List ℕ) → (length text == 0) ≡ true → text ≡ []
 empty_of_length [] h = refl
@@ -423,7 +421,7 @@ not_empty (b ∷ text) h e = cons_apart b text e
 
 says_at : (x y : Bool) (text : List ℕ) (said : FilterMeaning) → (length text == 0) ≡ x → begins_with_select text ≡ y
     → cond x (Some (without_table every_row)) (cond y (option_and_then selection_of (tokens_of text)) (option_map (λ bounds. without_table (in_own_range bounds)) (key_range_of_text text))) ≡ Some said → Says text said
-says_at true y text said empty first h = says_nothing (empty_of_length text empty) (sym (same_some (without_table every_row) said h))
+says_at true y text said empty first h = says_nothing (empty_of_length text empty) (sym (same_Some (without_table every_row) said h))
 says_at false true text said some first h = tokens_say (tokens_of text) text said refl h
 says_at false false text said some first h = range_says (key_range_of_text text) text said (not_empty text some) first refl h
 

@@ -1,6 +1,7 @@
 -- A selection by what was cut off the front of its text.
 use Rattle.std.proofs.Common.{◌≡◌, ℕ, ◌<◌, List, [], ◌∷◌, length, Bool, true, false, cond, Option, Some, None, Result, refl, sym, ap, subst, ◌∙◌, codes, arith, option_map, option_and_then}
 use Rattle.std.specs.Prelude.{◌&&◌, IfSome, IsSome, unwrap_or}
+use Rattle.list_laws.proofs.Truths.{and-false}
 use Rattle.filter_text.specs.ColumnList.{columns_of, list_of, listed_in, has_twice}
 use Rattle.filter_text.specs.Lexemes.{Lexeme, is_key, is_this_mark, named}
 use Rattle.filter_text.specs.FilterText.{◌>>=◌, RowsSaid, FilterMeaning, selected, arguments_of, opens_condition, rows_of, table_rows, opens_all, all_of, listed_rows, behind_select, selection_of}
@@ -99,15 +100,11 @@ none_opened : (o : Option (List Lexeme)) → option_and_then (λ ts. cond false 
 none_opened None = refl
 none_opened (Some ts) = refl
 
-both_ways : (b : Bool) → (b && false) ≡ false
-both_ways true = refl
-both_ways false = refl
-
 pub star_other : (t m : Lexeme) → is_this_mark 42 t ≡ false → opens_all t m ≡ false
 star_other t m h = ap (λ b. b && is_key (codes "from") m) h
 
 pub from_other : (t m : Lexeme) → is_key (codes "from") m ≡ false → opens_all t m ≡ false
-from_other t m h = ap (λ b. is_this_mark 42 t && b) h ∙ both_ways (is_this_mark 42 t)
+from_other t m h = ap (λ b. is_this_mark 42 t && b) h ∙ and-false (is_this_mark 42 t)
 
 pub not_all : (text rest more : List ℕ) (t m : Lexeme) → tokens_of text ≡ with_token t (tokens_of rest) → tokens_of rest ≡ with_token m (tokens_of more) → opens_all t m ≡ false → option_and_then all_of (tokens_of text) ≡ None
 not_all text rest more t m is next opens =

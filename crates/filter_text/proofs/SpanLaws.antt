@@ -1,8 +1,9 @@
 -- How far a kind of bytes goes at the front of a list.
 use Rattle.std.proofs.Common.{◌≡◌, ℕ, suc, ◌+◌, ◌≤◌, List, [], ◌∷◌, length, take, drop, Bool, true, false, cond, Some, None, refl, ap, ◌∙◌, arith}
-use Rattle.std.specs.Prelude.{not, unwrap_or, nat_lt, ◌&&◌}
+use Rattle.std.specs.Prelude.{not, unwrap_or, nat_lt}
 use Rattle.std.specs.List.{list_all, prefix_len}
-use Rattle.std.proofs.lemmas.Bool.Decides.{nat_tests}
+use Rattle.std.proofs.lemmas.Bool.{and_parts}
+use Rattle.list_laws.proofs.Choices.{or_len_at}
 use Rattle.filter_text.specs.Private.Cutting.{front_len}
 
 abbrev pub span_len : (ℕ → Bool) → List ℕ → ℕ
@@ -33,10 +34,6 @@ pub span_within : (p : ℕ → Bool) (xs : List ℕ) → span_len p xs ≤ lengt
 span_within p [] = omega arith
 span_within p (x ∷ xs) = span_within_at (p x) _ _ (span_within p xs)
 
-or_len_at : (n m : ℕ) (b : Bool) → nat_lt n m ≡ b → n ≤ m → unwrap_or (cond b (Some n) None) m ≡ n
-or_len_at n m true e h = refl
-or_len_at n m false e h = grind (arith, nat_tests)
-
 or_len : (n m : ℕ) → n ≤ m → unwrap_or (cond (nat_lt n m) (Some n) None) m ≡ n
 or_len n m h = or_len_at n m (nat_lt n m) refl h
 
@@ -63,9 +60,5 @@ pub span_stops : (p : ℕ → Bool) (xs : List ℕ) → begins p (drop (span_len
 span_stops p [] = refl
 span_stops p (x ∷ xs) = stops_at (p x) p x xs (span_len p xs) refl (span_stops p xs)
 
-and_true : (a b : Bool) → (a && b) ≡ true → (a ≡ true) × (b ≡ true)
-and_true true b h = (refl, h)
-and_true false b h = cc
-
 pub all_parts : (p : ℕ → Bool) (x : ℕ) (xs : List ℕ) → list_all p (x ∷ xs) ≡ true → (p x ≡ true) × (list_all p xs ≡ true)
-all_parts p x xs h = and_true (p x) (list_all p xs) h
+all_parts p x xs h = and_parts (p x) (list_all p xs) h

@@ -4,6 +4,7 @@ use Rattle.std.specs.Prelude.{◌==◌, not}
 use Rattle.std.specs.List.{list_all}
 use Rattle.std.proofs.lemmas.List.{append-nil, length-drop, length-append}
 use Rattle.std.proofs.lemmas.Bool.Decides.{nat_tests}
+use Rattle.std.proofs.lemmas.Option.{same_Some}
 use Rattle.filter_text.specs.Lexemes.{Lexeme, word, name, quoted, mark, is_blank, is_word_byte, is_mark}
 use Rattle.filter_text.specs.Tokens.{tokens_of, until, with_token, with_first_byte, nothing_first, as_name, as_quoted, begins_in_word, after_blanks, word_in_front, first_word, IsTokenText, EndsAt, BeginsWithToken, SpellsTokens}
 use Rattle.filter_text.proofs.ByteLaws.{same_byte, word_apart}
@@ -55,12 +56,9 @@ read_of_spelled (t ∷ ts) text h =
 
 -- ---- what is read is spelled
 
-pub same_some : {A : Type 0} (x y : A) → Some x ≡ Some y → x ≡ y
-same_some x y e = cc
-
 token_spells : (text rest : List ℕ) (t : Lexeme) (ts : List Lexeme) (o : Option (List Lexeme)) → tokens_of rest ≡ o → BeginsWithToken text t rest → ((more : List Lexeme) → tokens_of rest ≡ Some more → SpellsTokens more rest) → with_token t o ≡ Some ts → SpellsTokens ts text
 token_spells text rest t ts None is begins spells e = cc
-token_spells text rest t ts (Some more) is begins spells e = subst (λ (x : List Lexeme). SpellsTokens x text) (same_some (t ∷ more) ts e) (rest, begins, spells more is)
+token_spells text rest t ts (Some more) is begins spells e = subst (λ (x : List Lexeme). SpellsTokens x text) (same_Some (t ∷ more) ts e) (rest, begins, spells more is)
 
 -- a token in front of the tokens of what follows
 front_spells : (text rest : List ℕ) (t : Lexeme) (ts : List Lexeme) → BeginsWithToken text t rest → ((more : List Lexeme) → tokens_of rest ≡ Some more → SpellsTokens more rest) → with_token t (tokens_of rest) ≡ Some ts → SpellsTokens ts text
@@ -120,7 +118,7 @@ some_bytes (x ∷ xs) h e = cc
 name_found : (x : Bool) (n : ℕ) (s : List ℕ) (ts : List Lexeme) (f : List ℕ) (more : List Lexeme) → (length f == 0) ≡ x → IsUntilEnd 96 s f more → length s ≤ n → Below n → cond x None (Some (name f ∷ more)) ≡ Some ts → SpellsTokens ts (96 ∷ s)
 name_found true n s ts f more none u within below e = cc
 name_found false n s ts f more some u within below e =
-    subst (λ (x : List Lexeme). SpellsTokens x (96 ∷ s)) (same_some (name f ∷ more) ts e) (
+    subst (λ (x : List Lexeme). SpellsTokens x (96 ∷ s)) (same_Some (name f ∷ more) ts e) (
       u.rest,
       record {
         blanks = [];
@@ -139,7 +137,7 @@ name_spells n s ts (Some p) is within below e = name_found (length p.0 == 0) n s
 
 quoted_found : (n : ℕ) (s : List ℕ) (ts : List Lexeme) (f : List ℕ) (more : List Lexeme) → IsUntilEnd 39 s f more → length s ≤ n → Below n → Some (quoted f ∷ more) ≡ Some ts → SpellsTokens ts (39 ∷ s)
 quoted_found n s ts f more u within below e =
-    subst (λ (x : List Lexeme). SpellsTokens x (39 ∷ s)) (same_some (quoted f ∷ more) ts e) (
+    subst (λ (x : List Lexeme). SpellsTokens x (39 ∷ s)) (same_Some (quoted f ∷ more) ts e) (
       u.rest,
       record {
         blanks = [];

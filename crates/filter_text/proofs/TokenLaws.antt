@@ -1,5 +1,5 @@
 -- The tokens of a text by the token that it begins with.
-use Rattle.std.proofs.Common.{ne_eqb, ◌≡◌, ℕ, ◌<◌, suc, List, [], ◌∷◌, ◌++◌, length, get_or, Bool, true, false, Option, Some, None, option_map, option_and_then, refl, ap, ◌∙◌, arith}
+use Rattle.std.proofs.Common.{ne_eqb, ◌≡◌, ℕ, ◌<◌, suc, List, [], ◌∷◌, ◌++◌, length, get_or, true, false, Option, Some, None, option_map, option_and_then, refl, ap, ◌∙◌, arith}
 use Rattle.std.specs.Prelude.{not, ◌≢◌, ◌==◌}
 use Rattle.std.specs.Borrow.{Bor}
 use Rattle.std.specs.List.{list_all}
@@ -7,6 +7,7 @@ use Rattle.filter_text.specs.Lexemes.{Lexeme, word, name, quoted, mark, is_blank
 use Rattle.filter_text.specs.Tokens.{tokens_of, until, with_token, with_byte, as_name, as_quoted, with_first_byte, nothing_first, begins_in_word}
 use Rattle.std.proofs.lemmas.Str.Pattern.{IsSplitOnceResult, split_parts}
 use Rattle.std.proofs.lemmas.Bool.Decides.{nat_tests}
+use Rattle.std.proofs.lemmas.Bool.{not-true}
 use Rattle.filter_text.specs.Private.Cutting.{behind, IsUntil}
 use Rattle.filter_text.proofs.ByteLaws.{mark_apart, word_apart}
 use Rattle.filter_text.proofs.SpanLaws.{all_parts}
@@ -81,15 +82,11 @@ pub until_other : (end b : ℕ) (rest : List ℕ) → (b == end) ≡ false → u
 unfolding until
 until_other end b rest h = rw h
 
-not_true : (b : Bool) → not b ≡ true → b ≡ false
-not_true true h = cc
-not_true false h = refl
-
 pub until_cut : (end : ℕ) (front rest : List ℕ) → (end == end) ≡ true → list_all (λ b. not (b == end)) front ≡ true → until end (front ++ end ∷ rest) ≡ option_map (behind front) (tokens_of rest)
 until_cut end [] rest same h = until_end end rest same
 until_cut end (b ∷ front) rest same h =
     let parts = all_parts (λ b. not (b == end)) b front h in
-    until_other end b (front ++ end ∷ rest) (not_true (b == end) parts.0)
+    until_other end b (front ++ end ∷ rest) (not-true (b == end) parts.0)
     ∙ ap (option_map (with_first_byte b)) (until_cut end front rest same parts.1)
     ∙ more_behind b front (tokens_of rest)
 
@@ -98,7 +95,7 @@ unfolding until
 until_none end [] h = refl
 until_none end (b ∷ s) h =
     let parts = all_parts (λ b. not (b == end)) b s h in
-    rw (not_true (b == end) parts.0, until_none end s parts.1)
+    rw (not-true (b == end) parts.0, until_none end s parts.1)
 
 -- ---- `split_once` at a quote
 

@@ -3,9 +3,9 @@ use Rattle.std.proofs.Common.{◌≡◌, inl, inr, ℕ, zero, suc, ◌+◌, ◌<
 use Rattle.std.specs.Prelude.{◌==◌, nat_lt, slice_get, slice_index_or, unwrap_or}
 use Rattle.std.specs.Option.{option_map_or}
 use borrow.Author.Tests.{eqb-true, eqb-false}
-use Rattle.std.proofs.lemmas.Bool.Decides.{nat_tests}
 use Rattle.std.proofs.lemmas.List.Recursion.{is_position_or_len}
-use Rattle.std.proofs.lemmas.Option.{slice_get_cases}
+use Rattle.std.proofs.lemmas.Option.{slice_get_cases, same_Some}
+use Rattle.list_laws.proofs.Choices.{or_len_at}
 use Rattle.row_view.specs.FieldValue.{FieldValue}
 use Rattle.filter_rule.specs.PlanTable.{TableValue}
 use Rattle.filter_rule.specs.PlanValue.{PlanValue, columns_of, key_columns_of, kept_columns_of, column_at}
@@ -30,18 +30,11 @@ where_within : (place : ℕ) (ks : List ℕ) → where_kept place ks ≤ length 
 where_within place [] = omega arith
 where_within place (k ∷ ks) = within_at (k == place) (where_kept place ks) (length ks) (where_within place ks)
 
-or_len_at : (n m : ℕ) (b : Bool) → nat_lt n m ≡ b → n ≤ m → unwrap_or (cond b (Some n) None) m ≡ n
-or_len_at n m true e h = refl
-or_len_at n m false e h = grind (arith, nat_tests)
-
 kept_where : (kept : List ℕ) (place : ℕ) → kept_place kept place ≡ where_kept place kept
 unfolding kept_place
 kept_where kept place =
     ap (λ n. unwrap_or (cond (nat_lt n (length kept)) (Some n) None) (length kept)) (sym (is_position_or_len (where_kept place) (λ k. k == place) refl (λ x xs. refl) kept))
     ∙ or_len_at (where_kept place kept) (length kept) (nat_lt (where_kept place kept) (length kept)) refl (where_within place kept)
-
-same_some : {A : Type 0} (x y : A) → Some x ≡ Some y → x ≡ y
-same_some x y e = cc
 
 -- a place that is kept is found, and what is picked there is what stands at the place
 record IsFound (place : ℕ) (ks : List ℕ) (row : RowValue) : Type 0 where
@@ -66,7 +59,7 @@ no_self place h = eqb-false place place h refl
 found : (place : ℕ) (ks : List ℕ) (row : RowValue) (j : ℕ) → slice_get ks j ≡ Some place → IsFound place ks row
 found place [] row j is = cc
 found place (k ∷ ks) row zero is =
-    found_first (k == place) place k ks row refl (λ other. absurd (no_self place (ap (λ x. x == place) (sym (same_some k place is)) ∙ other)))
+    found_first (k == place) place k ks row refl (λ other. absurd (no_self place (ap (λ x. x == place) (sym (same_Some k place is)) ∙ other)))
 found place (k ∷ ks) row (suc j) is = found_first (k == place) place k ks row refl (λ other. found place ks row j is)
 
 -- ---- a table of a plan

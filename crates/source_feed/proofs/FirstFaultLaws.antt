@@ -3,6 +3,7 @@ use Rattle.std.specs.Option.{option_or}
 use Rattle.std.proofs.Common.{◌≡◌, ℕ, ◌^◌, nat_lt, length, List, [], ◌∷◌, ◌++◌, ◌⊎◌, reverse, None, Some, Result, Ok, Err, IfErr, IfSome, refl, sym, ◌∙◌, ap, inl, inr, append_assoc}
 use Rattle.std.proofs.lemmas.Bool.{cases_Bool, cond-true, cond-false, ltb-true, ltb-false}
 use Rattle.std.proofs.lemmas.List.{reverse-append, reverse-reverse}
+use Rattle.std.proofs.lemmas.Option.{same_Some}
 use mathlib.Core.List.{reverse-cons}
 use Rattle.proto_wire.specs.Reading.{Reading}
 use Rattle.vevent.specs.EventValue.{EventValue}
@@ -17,9 +18,6 @@ use Rattle.source_feed.specs.PastEvents.{PastEvents, is_open}
 use Rattle.source_feed.specs.Groups.{first_fault, fault_at, closed, groups_in, groups_of, groups}
 use Rattle.source_feed.specs.FirstFault.{AtEvent, AtEnd, StandsIn}
 use Rattle.source_feed.proofs.Options.{option_cases}
-
-same_some : {A : Type 0} (x y : A) → Some x ≡ Some y → x ≡ y
-same_some x y e = cc
 
 abbrev refused : FeedFault → Result (List GroupValue) FeedFault
 refused fault = Err fault
@@ -49,7 +47,7 @@ place_of source (event ∷ earlier) fault e =
         here = sym (ap (λ first. option_or first (fault_at source earlier event)) none) ∙ e;
       }
       | inr some ↦
-          let same : some.0 ≡ fault = same_some some.0 fault (sym (ap (λ first. option_or first (fault_at source earlier event)) some.1) ∙ e) in
+          let same : some.0 ≡ fault = same_Some some.0 fault (sym (ap (λ first. option_or first (fault_at source earlier event)) some.1) ∙ e) in
           let p : Place source earlier fault = place_of source earlier fault (some.1 ∙ ap (λ f. Some f) same) in
           record { later = event ∷ p.later; event = p.event; earlier = p.earlier; split = ap (λ h. event ∷ h) p.split; before = p.before; here = p.here }
     ]

@@ -1,6 +1,7 @@
 -- Whole messages in front of other bytes, and the longest of them.
 use Rattle.std.proofs.Common.{◌≡◌, ◌≢◌, ℕ, zero, suc, ◌+◌, ◌-◌, ◌<◌, ◌≤◌, List, [], ◌∷◌, ◌++◌, length, length-append, take, Option, Some, None, Result, Ok, Err, refl, sym, ap, subst, ◌∙◌, arith}
 use Rattle.std.specs.Option.{option_map}
+use Rattle.std.proofs.lemmas.List.{append-nil}
 use Rattle.proto_wire.specs.declared.fault.FrameFault.{FrameFault}
 use Rattle.proto_wire.specs.declared.fault.WireFault.{WireFault}
 use Rattle.proto_wire.specs.Reading.{Reading, Spells, reading_of}
@@ -8,10 +9,6 @@ use Rattle.proto_wire.specs.Field.{sized_at}
 use Rattle.proto_wire.specs.Frame.{IsFrame, NoFrame, located, frame_at, frames_of}
 use Rattle.proto_wire.proofs.ReadingLaws.{IsReader, reading-none, reading-first, spells-reading, only_reading}
 use Rattle.proto_wire.proofs.FieldLaws.{frame_reader}
-
-append-none : {A : Type 0} (xs : List A) → xs ++ [] ≡ xs
-append-none [] = refl
-append-none {A} (x ∷ xs) = ap (λ (ys : List A). x ∷ ys) (append-none xs)
 
 append-twice : {A : Type 0} (xs ys zs : List A) → (xs ++ ys) ++ zs ≡ xs ++ (ys ++ zs)
 append-twice [] ys zs = refl
@@ -132,7 +129,7 @@ pub front_none : (bytes : List ℕ) → (frames_of bytes).fault ≡ None → (fr
 front_none bytes e = by (frames_of bytes).fault (frames_end bytes).end e
   where
     by : (o : Option FrameFault) → Spells IsFrame (NoFrame (length bytes)) (frames_end bytes).rest [] o → o ≡ None → (frames_end bytes).front ≡ bytes
-    by None h e = sym (append-none (frames_end bytes).front) ∙ ap (λ (rest : List ℕ). (frames_end bytes).front ++ rest) (sym h) ∙ sym (frames_end bytes).parts
+    by None h e = sym (append-nil (frames_end bytes).front) ∙ ap (λ (rest : List ℕ). (frames_end bytes).front ++ rest) (sym h) ∙ sym (frames_end bytes).parts
     by (Some f) h e = absurd cc
 
 pub front_at : (bytes : List ℕ) (f : FrameFault) → (frames_of bytes).fault ≡ Some f → (f.place ≤ length bytes) × (take f.place bytes ≡ (frames_end bytes).front)

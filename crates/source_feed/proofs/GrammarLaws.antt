@@ -4,15 +4,14 @@ use Rattle.std.proofs.lemmas.Bool.{cond-true, cond-false}
 use mathlib.Core.List.{reverse_aux, reverse_aux-eq}
 use Rattle.std.specs.List.{AllByRecursion, flat_map}
 use Rattle.std.specs.Option.{option_to_list, option_or}
+use Rattle.std.proofs.lemmas.List.{append-nil}
+use Rattle.list_laws.proofs.Choices.{or_none}
 use Rattle.vevent.specs.EventValue.{EventValue, Gtid, Begin, Commit, Rollback, Row, Field, Vgtid, Ignored}
 use Rattle.source_feed.specs.SourceValue.{SourceValue}
 use Rattle.source_feed.specs.PastEvents.{PastEvents, is_open, last_field, position_of, body_position, body_changes}
 use Rattle.source_feed.specs.Groups.{Block, block_at, block_at_position}
-use Rattle.source_feed.proofs.Options.{option_or-assoc, option_or-none}
+use Rattle.source_feed.proofs.Options.{option_or-assoc}
 use Rattle.source_feed.specs.Grammar.{blocks, is_inner, last_position_in, changes_at, inside, BlockGrammar, changes_columns}
-
-append-nil : {A : Type 0} (xs : List A) → xs ++ [] ≡ xs
-append-nil xs = search rules
 
 -- what an inner event does to an open transaction
 record Inner (source : SourceValue) (earlier : PastEvents) (event : EventValue) : Type 0 where
@@ -69,7 +68,7 @@ block_grammar source = record {
       ap (λ before. before ++ option_to_list (block_at source (inside earlier body) Commit)) (b.same ∙ begun source earlier)
       ∙ ap (λ block. blocks source earlier ++ option_to_list block)
       (cond-true _ _ _ b.opened
-      ∙ ap (λ p. block_at_position p (body_changes source (inside earlier body))) (b.position ∙ option_or-none (last_position_in source body))
+      ∙ ap (λ p. block_at_position p (body_changes source (inside earlier body))) (b.position ∙ or_none (last_position_in source body))
       ∙ ap (block_at_position (last_position_in source body)) b.changes));
   rolled_back = λ earlier body all. (let b : Bodied source (Begin ∷ earlier) body (inside earlier body) = whole source body earlier all in
       ap (λ block. blocks source (inside earlier body) ++ option_to_list block) (cond-true _ _ _ b.opened) ∙ append-nil (blocks source (inside earlier body)) ∙ b.same ∙ begun source earlier);

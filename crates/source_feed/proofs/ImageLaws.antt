@@ -1,5 +1,5 @@
 -- What the touches of a group leave in an image, and the rows that groups leave, one group on.
-use Rattle.std.proofs.Common.{◌≡◌, ◌==◌, ℕ, suc, ◌+◌, ◌<◌, add-one, subst, Bool, true, false, cond, List, [], ◌∷◌, ◌++◌, length, map, take, Option, Some, None, slice_get, refl, sym, ap, ◌∙◌}
+use Rattle.std.proofs.Common.{◌≡◌, ◌==◌, ℕ, suc, ◌+◌, ◌<◌, add-one, subst, Bool, cond, List, [], ◌∷◌, ◌++◌, length, map, take, Option, Some, None, slice_get, refl, sym, ap, ◌∙◌}
 use Rattle.std.specs.Prelude.{IfSome}
 use Rattle.std.specs.declared.cmp.Ordering.TheVariants.{Less}
 use Rattle.std.specs.List.{AllByRecursion}
@@ -9,6 +9,7 @@ use Rattle.std.proofs.lemmas.Grind.{flat_map-append}
 use Rattle.std.proofs.lemmas.List.{take_more}
 use Rattle.std.proofs.lemmas.Option.{slice_get_within, get_or_from_slice_get}
 use Rattle.std.proofs.lemmas.Map.Made.{lookup-map_values}
+use Rattle.list_laws.proofs.Choices.{or_none, or_assoc, map-or, map-cond}
 use Rattle.pk_copy.specs.KeyOrder.{key_cmp}
 use Rattle.pk_copy.specs.KeyValue.{KeyValue}
 use Rattle.target_tables.specs.Contents.{value_at}
@@ -21,29 +22,12 @@ use Rattle.source_feed.specs.Private.ImageEntries.{Entries, rows_of, AreOwn, cha
 
 -- ---- lists of touches
 
-or_assoc : {A : Type 0} (u v w : Option A) → option_or (option_or u v) w ≡ option_or u (option_or v w)
-or_assoc None v w = refl
-or_assoc (Some x) v w = refl
-
-or_none : {A : Type 0} (v : Option A) → option_or v None ≡ v
-or_none None = refl
-or_none (Some x) = refl
-
 pub last_at-append : (a b : List TouchValue) (k : KeyValue) → last_at key_cmp (a ++ b) k ≡ option_or (last_at key_cmp b k) (last_at key_cmp a k)
 last_at-append [] b k = sym (or_none (last_at key_cmp b k))
 last_at-append (t ∷ a) b k =
     let one : Option (Option PutValue) = cond (eq_by_cmp key_cmp k t.0) (Some t.1) None in
     ap (λ (v : Option (Option PutValue)). option_or v one) (last_at-append a b k)
     ∙ or_assoc (last_at key_cmp b k) (last_at key_cmp a k) one
-
--- the last touch, as a change
-map-or : {A B : Type 0} (f : A → B) (u v : Option A) → option_map f (option_or u v) ≡ option_or (option_map f u) (option_map f v)
-map-or f None v = refl
-map-or f (Some x) v = refl
-
-map-cond : {A B : Type 0} (f : A → B) (b : Bool) (x : A) → option_map f (cond b (Some x) None) ≡ cond b (Some (f x)) None
-map-cond f true x = refl
-map-cond f false x = refl
 
 pub last_at-changes : (touches : List TouchValue) (k : KeyValue) → last_at key_cmp (map change_of touches) k ≡ option_map (option_and_then passing) (last_at key_cmp touches k)
 last_at-changes [] k = refl

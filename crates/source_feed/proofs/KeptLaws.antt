@@ -1,9 +1,10 @@
 -- The groups of a history are its kept blocks, block by block.
 use Rattle.std.proofs.Common.{◌≡◌, ℕ, zero, suc, ◌+◌, ◌<◌, ◌≤◌, ◌⊎◌, List, [], ◌∷◌, ◌++◌, length, Option, None, Some, true, false, slice_get, refl, sym, ◌∙◌, ap, arith, inl, inr, rules}
 use Rattle.std.proofs.lemmas.Bool.{cases_Bool, cond-true, cond-false, false≢true}
-use Rattle.std.proofs.lemmas.List.{length-append, take-append-le, take_all}
+use Rattle.std.proofs.lemmas.List.{length-append, take-append-le, take_all, append-nil}
 use Rattle.std.proofs.lemmas.Option.{slice_get_within}
 use Rattle.std.specs.Option.{option_to_list}
+use Rattle.list_laws.proofs.Places.{slice_get-push}
 use Rattle.gtid_set.specs.Position.{union_of, within_of}
 use Rattle.source_feed.specs.GroupValue.{Position, GroupValue}
 use Rattle.source_feed.specs.SourceValue.{SourceValue}
@@ -11,7 +12,6 @@ use Rattle.source_feed.specs.PastEvents.{PastEvents}
 use Rattle.source_feed.specs.Groups.{Block, block_at, with_block, seen, group_of_block, groups_of}
 use Rattle.source_feed.specs.Grammar.{blocks}
 use Rattle.source_feed.specs.KeptBlocks.{union_with, kept_count, union_before, kept_before, group_as, IsKeptBlock, AreKeptBlocks}
-use Rattle.source_feed.proofs.OrderLaws.{slice_get-push}
 
 -- ---- one block more
 
@@ -139,9 +139,6 @@ added all groups seen last k w =
         )
       ];
     }
-
-append-nil : {A : Type 0} (xs : List A) → xs ++ [] ≡ xs
-append-nil xs = search rules
 
 -- the blocks and groups behind an event whose block is this one
 abbrev KeptBy : List Block → List GroupValue → Position → Option Block → Type 0

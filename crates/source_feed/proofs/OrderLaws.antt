@@ -1,7 +1,9 @@
 -- The groups of a feed without a fault are numbered 1, 2, .., and their positions grow.
-use Rattle.std.proofs.Common.{◌≡◌, ℕ, zero, suc, ◌+◌, ◌<◌, ◌⊎◌, List, [], ◌∷◌, ◌++◌, length, Option, None, Some, Result, Ok, Err, true, false, cond, slice_get, refl, sym, ◌∙◌, ap, subst, arith, inl, inr, rules}
+use Rattle.std.proofs.Common.{◌≡◌, ℕ, ◌+◌, List, [], ◌∷◌, ◌++◌, length, Option, None, Some, Result, Ok, Err, true, false, cond, slice_get, refl, sym, ◌∙◌, ap, subst, arith, inl, inr, rules}
 use Rattle.std.proofs.lemmas.Bool.{cases_Bool, cond-true, cond-false, false≢true}
 use Rattle.std.proofs.lemmas.Option.{same_Some}
+use Rattle.std.proofs.lemmas.List.{append-nil}
+use Rattle.list_laws.proofs.Places.{slice_get-push}
 use Rattle.gtid_set.specs.Position.{IsCanonical, IsWithin, union_of, within_of}
 use Rattle.gtid_set.specs.Text.{position_of_text}
 use Rattle.gtid_set.specs.declared.fault.GtidFault.{GtidFault}
@@ -16,18 +18,6 @@ use Rattle.source_feed.specs.Private.SetLaws.{SetLaws}
 use Rattle.source_feed.proofs.Options.{option_cases, option_or-some, option_or-nothing}
 
 -- ---- a list with one element more
-
--- an element is one of the others or the last
-pub slice_get-push : {A : Type 0} (xs : List A) (x y : A) (i : ℕ) → slice_get (xs ++ x ∷ []) i ≡ Some y
-    → ((i < length xs) × (slice_get xs i ≡ Some y)) ⊎ ((i ≡ length xs) × (x ≡ y))
-slice_get-push [] x y zero e = inr (refl, same_Some x y e)
-slice_get-push [] x y (suc i) e = cc
-slice_get-push (z ∷ xs) x y zero e = inl (omega arith, e)
-slice_get-push (z ∷ xs) x y (suc i) e =
-    elim (slice_get-push xs x y i e) [
-      | inl old ↦ inl (omega (arith, old.0), old.1)
-      | inr last ↦ inr (ap suc last.0, last.1)
-    ]
 
 -- ---- one block more
 
@@ -220,11 +210,8 @@ around source earlier position f beyond =
 abbrev GrownBy : List GroupValue → Position → Option Block → Type 0
 GrownBy groups seen block = Grown (groups ++ group_of_block seen (length groups + 1) block) (with_block seen block)
 
-append-nothing : {A : Type 0} (xs : List A) → xs ++ [] ≡ xs
-append-nothing xs = search rules
-
 same_groups : (groups : List GroupValue) (seen now : Position) → seen ≡ now → Grown groups seen → Grown (groups ++ []) now
-same_groups groups seen now e g = rw (append-nothing groups, ← e) g
+same_groups groups seen now e g = rw (append-nil groups, ← e) g
 
 one_block : SetLaws → (source : SourceValue) (earlier : PastEvents) (block : Block) → EndsWell source earlier block → Grown (groups_of source earlier) (seen source earlier)
     → GrownBy (groups_of source earlier) (seen source earlier) (Some block)

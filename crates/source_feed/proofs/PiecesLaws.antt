@@ -3,6 +3,7 @@ use Rattle.std.proofs.Common.{◌≡◌, ◌≢◌, ℕ, zero, suc, ◌+◌, ◌
 use Rattle.std.specs.Option.{option_map}
 use Rattle.std.proofs.lemmas.Bool.{lt-ltb, ltb-true}
 use Rattle.std.proofs.lemmas.List.{length-drop}
+use Rattle.list_laws.proofs.Fronts.{take-own}
 use Rattle.outcome.specs.Outcome.{◌>>=◌, unless, refused_if, Refuses}
 use Rattle.proto_wire.specs.declared.fault.FrameFault.{FrameFault}
 use Rattle.proto_wire.specs.declared.fault.WireFault.{WireFault}
@@ -40,10 +41,6 @@ long-take : {A : Type 0} (n : ℕ) (xs : List A) → n ≤ length xs → length 
 long-take zero xs le = refl
 long-take (suc n) [] le = absurd (omega arith)
 long-take (suc n) (x ∷ xs) le = ap suc (long-take n xs (omega arith))
-
-take-own : {A : Type 0} (xs ys : List A) → take (length xs) (xs ++ ys) ≡ xs
-take-own [] ys = refl
-take-own {A} (x ∷ xs) ys = ap (λ (zs : List A). x ∷ zs) (take-own xs ys)
 
 -- ---- the longest beginning
 

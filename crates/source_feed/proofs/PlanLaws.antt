@@ -1,6 +1,6 @@
 -- What is true of a feed under a plan: where no FIELD differs, each change is one under the plan.
-use Rattle.std.proofs.Common.{◌≡◌, ℕ, zero, suc, ◌+◌, ◌<◌, ◌||◌, List, [], ◌∷◌, ◌++◌, length, reverse, map, Option, None, Some, Ok, Bool, true, false, not, cond, ◌^◌, slice_get, refl, sym, ◌∙◌, ap, subst, arith, inl, inr}
-use Rattle.std.proofs.lemmas.Bool.{cases_Bool, cond-true, cond-false, and_parts}
+use Rattle.std.proofs.Common.{◌≡◌, ℕ, zero, suc, ◌+◌, ◌<◌, ◌||◌, List, [], ◌∷◌, length, reverse, map, Option, None, Some, Ok, Bool, true, false, cond, ◌^◌, slice_get, refl, sym, ◌∙◌, ap, subst, arith, inl, inr}
+use Rattle.std.proofs.lemmas.Bool.{cases_Bool, cond-true, cond-false, and_parts, not-false, or_parts}
 use Rattle.std.proofs.lemmas.List.Quantifiers.{position-Some}
 use Rattle.std.proofs.lemmas.List.Folds.{list_any-append}
 use Rattle.std.proofs.lemmas.Option.{same_Some}
@@ -8,6 +8,7 @@ use Rattle.std.specs.List.{AllByRecursion, list_all, list_any, filter_map, cons_
 use Rattle.std.specs.Option.{option_map}
 use Rattle.std.specs.Str.{bytes_eq}
 use Rattle.std.specs.Cmp.Lexicographic.{as_long, same_text}
+use Rattle.list_laws.proofs.Fronts.{All-append}
 use mathlib.Core.List.{reverse-cons}
 use Rattle.filter_rule.specs.PlanValue.{PlanValue, table_of_name, columns_of}
 use Rattle.filter_rule.specs.WellFormed.{IsPlan}
@@ -29,44 +30,32 @@ use Rattle.source_feed.proofs.DefinedLaws.{Defined, defined}
 
 -- ---- lists
 
-pub All-append : {A : Type 0} (P : A → Type 0) (xs ys : List A) → AllByRecursion P xs → AllByRecursion P ys → AllByRecursion P (xs ++ ys)
-All-append P [] ys a b = b
-All-append P (x ∷ xs) ys a b = (a.0, All-append P xs ys a.1 b)
-
 -- an element has what all have
 each_of : {A : Type 0} (P : A → Type 0) (xs : List A) (i : ℕ) (x : A) → AllByRecursion P xs → slice_get xs i ≡ Some x → P x
 each_of P [] i x all e = cc
 each_of P (y ∷ xs) zero x all e = subst P (same_Some y x e) all.0
 each_of P (y ∷ xs) (suc i) x all e = each_of P xs i x all.1 e
 
-neither : (a b : Bool) → (a || b) ≡ false → (a ≡ false) × (b ≡ false)
-neither false b e = (refl, e)
-neither true b e = cc
-
 list_any-reverse : {A : Type 0} (p : A → Bool) (xs : List A) → list_any p xs ≡ false → list_any p (reverse xs) ≡ false
 list_any-reverse p [] e = refl
 list_any-reverse p (x ∷ xs) e =
-    let n = neither (p x) (list_any p xs) e in
+    let n = or_parts (p x) (list_any p xs) e in
     ap (list_any p) (reverse-cons x xs) ∙ list_any-append p (reverse xs) (x ∷ []) ∙ ap (λ b. b || list_any p (x ∷ [])) (list_any-reverse p xs n.1) ∙ ap (λ b. b || false) n.0
 
 -- ---- the columns of a planned table
-
-not_false : (b : Bool) → not b ≡ false → b ≡ true
-not_false true e = refl
-not_false false e = cc
 
 agrees : (plan : PlanValue) (t : ℕ) (number : Option ℕ) (fields : List FieldValue) → number ≡ Some t → differs_at plan number fields ≡ false → length fields ≡ length (columns_of plan t)
 agrees plan t None fields n e = cc
 agrees plan t (Some u) fields n e =
     let same : u ≡ t = same_Some u t n in
-    sym (as_long same_column (columns_of plan u) fields (not_false _ e)) ∙ ap (λ k. length (columns_of plan k)) same
+    sym (as_long same_column (columns_of plan u) fields (not-false _ e)) ∙ ap (λ k. length (columns_of plan k)) same
 
 -- the last FIELD of a planned table has as many columns as the plan
 field_agrees : (plan : PlanValue) (past : PastEvents) (table : List ℕ) (t : ℕ) (fields : List FieldValue) → list_any (differs plan) past ≡ false → table_of_name plan table ≡ Some t
     → last_field (source_of plan) past table ≡ Some fields → length fields ≡ length (columns_of plan t)
 field_agrees plan [] table t fields d n e = cc
 field_agrees plan (Field name columns ∷ earlier) table t fields d n e =
-    let both = neither (differs plan (Field name columns)) (list_any (differs plan) earlier) d in
+    let both = or_parts (differs plan (Field name columns)) (list_any (differs plan) earlier) d in
     elim (cases_Bool (bytes_eq (table_in_source (source_of plan) name) table)) [
       | inl holds ↦
           let same : table_in_source (source_of plan) name ≡ table = same_text (table_in_source (source_of plan) name) table (sym holds) in
@@ -134,7 +123,7 @@ body_fits plan (Row name changes ∷ earlier) none d =
     ])
 body_fits plan (Field name columns ∷ earlier) none d =
     let n = option_or-nothing (first_fault (source_of plan) earlier) (fault_at (source_of plan) earlier (Field name columns)) none in
-    let both = neither (differs plan (Field name columns)) (list_any (differs plan) earlier) d in
+    let both = or_parts (differs plan (Field name columns)) (list_any (differs plan) earlier) d in
     body_fits plan earlier n.0 both.1
 body_fits plan (event ∷ earlier) none d =
     let n = option_or-nothing (first_fault (source_of plan) earlier) (fault_at (source_of plan) earlier event) none in
@@ -178,7 +167,7 @@ block_changes_fit plan earlier event block body e = outside (position_of (source
         ]
 
 differs_before : (plan : PlanValue) (event : EventValue) (earlier : PastEvents) → list_any (differs plan) (event ∷ earlier) ≡ false → list_any (differs plan) earlier ≡ false
-differs_before plan event earlier d = (neither (differs plan event) (list_any (differs plan) earlier) d).1
+differs_before plan event earlier d = (or_parts (differs plan event) (list_any (differs plan) earlier) d).1
 
 groups_fit : (plan : PlanValue) (past : PastEvents) → first_fault (source_of plan) past ≡ None → list_any (differs plan) past ≡ false → AllByRecursion (GroupFits plan) (groups_of (source_of plan) past)
 groups_fit plan [] none d = tt
@@ -261,7 +250,7 @@ differs-from plan (event ∷ events) = ap (λ b. differs plan event || b) (diffe
 none_differs : (plan : PlanValue) (given : Option PlanValue) (before after : Bool) (events : List EventValue) → given ≡ Some plan → after ≡ false
     → after ≡ (before || list_any (differs_from given) events) → list_any (differs plan) events ≡ false
 none_differs plan given before after events g f e =
-    sym (differs-from plan events) ∙ ap (λ o. list_any (differs_from o) events) (sym g) ∙ (neither before (list_any (differs_from given) events) (sym e ∙ f)).1
+    sym (differs-from plan events) ∙ ap (λ o. list_any (differs_from o) events) (sym g) ∙ (or_parts before (list_any (differs_from given) events) (sym e ∙ f)).1
 
 -- a feed that was opened under its plan, whole
 pub opened_feed : (plan given : PlanValue) (feed : List ℕ) (all : List GroupValue) (under : List PlannedGroupValue) (checked : Option PlanValue) (before after : Bool)

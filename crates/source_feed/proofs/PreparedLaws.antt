@@ -4,6 +4,7 @@ use Rattle.std.proofs.lemmas.Bool.{eqb-true}
 use Rattle.std.proofs.lemmas.Option.{slice_get_within}
 use Rattle.std.specs.Prelude.{slice_get, IfSome, IsTrue}
 use Rattle.std.specs.List.{AllByRecursion, list_any, filter_map}
+use Rattle.list_laws.proofs.Fronts.{All-append}
 use Rattle.outcome.specs.Outcome.{◌>>=◌}
 use Rattle.vindex.specs.FaultNumber as filter
 use Rattle.filter_rule.specs.PlanValue.{PlanValue, columns_of, passes_of}
@@ -20,7 +21,6 @@ use Rattle.source_feed.specs.GroupValue.{Position}
 use Rattle.source_feed.specs.Planned.{FeedValue, PlannedGroupValue, PlannedChangeValue, IsFeed, IsChangeUnder}
 use Rattle.source_feed.specs.Prepared.{IsTouchUnder, IsPrepared}
 use Rattle.source_feed.specs.Touches.{PutValue, TouchValue, group_at, in_group, key_in_group, passes_in, touches_before, touches_after, touches_of_change, touches_of}
-use Rattle.source_feed.proofs.PlanLaws.{All-append}
 
 pub group_at-place : (feed : FeedValue) (number : ℕ) → 0 < number → group_at feed number ≡ slice_get feed.groups (number - 1)
 group_at-place feed zero h = absurd (omega arith)

@@ -3,6 +3,7 @@ use Rattle.std.proofs.Common.{◌≡◌, ◌⊎◌, ℕ, zero, suc, Bool, List, 
 use Rattle.std.proofs.lemmas.Bool.{true≢false}
 use Rattle.std.specs.Prelude.{slice_get, IsOk, is_ok}
 use Rattle.std.specs.List.{AllByRecursion, flat_map}
+use Rattle.std.proofs.lemmas.Option.{same_Some}
 use Rattle.outcome.specs.Outcome.{◌>>=◌}
 use Rattle.vindex.specs.FaultNumber as filter
 use Rattle.vindex.specs.declared.faults.VindexFault.{VindexFault}
@@ -41,9 +42,6 @@ ok-value (Err f) ok = absurd (true≢false (sym ok))
 
 none-is-some : {A : Type 0} (x : A) → None ≡ Some x → ⊥
 none-is-some x e = cc
-
-some-is : {A : Type 0} (x y : A) → Some x ≡ Some y → x ≡ y
-some-is x y e = cc
 
 module _ (plan : PlanValue) (n t : ℕ) where
   has-lacks : (row : Option ChangeRow) (cause : ℕ) → HasKey plan t row → LacksKey plan t row cause → ⊥
@@ -188,8 +186,8 @@ module _ (plan : PlanValue) (n : ℕ) where
         where
           each_part : (i : ℕ) (change : PlannedChangeValue) (part : List TouchValue) → slice_get (c ∷ cs) i ≡ Some change → slice_get (some ∷ rest.parts) i ≡ Some part → AreOfChange plan change part
           each_part zero change part at there =
-              let same : c ≡ change = some-is c change at in
-              let touches : some ≡ part = some-is some part there in
+              let same : c ≡ change = same_Some c change at in
+              let touches : some ≡ part = same_Some some part there in
               subst (λ (p : List TouchValue). AreOfChange plan change p) touches (subst (λ (d : PlannedChangeValue). AreOfChange plan d some) same here.0)
           each_part (suc i) change part at there = rest.each i change part at there
       by (Ok some) (Err fault) here rest = record {

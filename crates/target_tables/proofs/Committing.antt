@@ -7,11 +7,12 @@ use Rattle.std.specs.declared.cmp.Ordering.TheVariants.{Less, Equal, Greater}
 use Rattle.std.specs.Cmp.{IsTotalOrder}
 use Rattle.std.specs.Option.{option_or}
 use Rattle.std.specs.Ordering.{is_eq, eq_by_cmp, flip_args}
+use Rattle.list_laws.proofs.Choices.{or_none}
 use Rattle.target_tables.specs.Rising.{IsRising, AreAbove}
 use Rattle.target_tables.specs.Contents.{value_at}
 use Rattle.target_tables.specs.Touches.{change_at, touched, is_new, new_keys, IsTouched, IsChanged}
 use Rattle.target_tables.proofs.Order.{before_middle, ordered_left}
-use Rattle.target_tables.proofs.Values.{or_none, lookup-append, none_above, isnt_key}
+use Rattle.target_tables.proofs.Values.{lookup-append, none_above, isnt_key}
 
 pub new_keys-push : {K R : Type 0} (cmp : K → K → Ordering) (entries : List (K × (ℕ × R))) (xs : List (K × Option R)) (x : K × Option R)
     → new_keys cmp entries (xs ++ x ∷ []) ≡ new_keys cmp entries xs + cond (is_new x.1 (value_at cmp entries x.0)) 1 0

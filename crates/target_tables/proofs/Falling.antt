@@ -8,10 +8,11 @@ use Rattle.std.proofs.lemmas.Cmp.{alike_right}
 use Rattle.std.specs.declared.cmp.Ordering.TheVariants.{Less, Equal, Greater}
 use Rattle.std.specs.Cmp.{IsTotalOrder}
 use Rattle.std.specs.Ordering.{ordering_reverse, is_gt}
+use Rattle.list_laws.proofs.Fronts.{each}
 use Rattle.target_tables.specs.Rising.{Ordered, IsRising, AreBelow, AreAbove}
 use Rattle.target_tables.specs.Places.{IsAt, IsGap}
 use Rattle.target_tables.specs.Pages.{entries_of, page_at, flat, IsFull, AreFull, begins_past, FallsInto, StandsAt, WouldStandAt}
-use Rattle.target_tables.proofs.Order.{all_join, each, before_middle, ordered_left}
+use Rattle.target_tables.proofs.Order.{all_join, before_middle, ordered_left}
 use Rattle.target_tables.proofs.Paging.{before, behind, parts, read, front, rest, up_to}
 
 ordered_right : {K V : Type 0} (R : K → K → Type 0) (xs ys : List (K × V)) → Ordered R (xs ++ ys) → Ordered R ys

@@ -24,13 +24,6 @@ module _ {K V : Type 0} {cmp : K → K → Ordering} (o : IsTotalOrder cmp) (k :
   first_same (x ∷ page) zero below here = ap is_gt (here x)
   first_same (x ∷ page) (suc p) below here = ap is_gt below.0
 
-  -- before the first place of all
-  pub none_before : (pages : List (List (K × V))) (i p : ℕ) → i ≡ 0 → p ≡ 0 → AreBelow cmp k (take (flat pages i p) (entries_of pages))
-  none_before pages i p first none =
-      let Q : ℕ → Type 0 = λ n. AreBelow cmp k (take (flat pages n p) (entries_of pages)) in
-      let S : ℕ → Type 0 = λ n. AreBelow cmp k (take (flat pages 0 n) (entries_of pages)) in
-      subst Q (sym first) (subst S (sym none) tt)
-
   module _ (pages : List (List (K × V))) (rising : IsRising cmp (entries_of pages)) (i p : ℕ) (inside : i < length pages) where
     below_in : p ≤ length (page_at pages i) → AreBelow cmp k (take (flat pages i p) (entries_of pages)) → AreBelow cmp k (take p (page_at pages i))
     below_in within below =

@@ -12,13 +12,14 @@ use Rattle.std.specs.List.{AllByRecursion}
 use Rattle.std.specs.Option.{option_or}
 use Rattle.std.specs.Prelude.{is_some}
 use Rattle.std.specs.Ordering.{is_eq, eq_by_cmp, flip_args}
+use Rattle.list_laws.proofs.Fronts.{each}
 use Rattle.target_tables.specs.declared.survey.Verdict.TheVariants.{NewKey, Foreign, Free}
 use Rattle.target_tables.specs.Rising.{IsRising, AreAbove}
 use Rattle.target_tables.specs.Contents.{value_at}
 use Rattle.target_tables.specs.Touches.{change_at, owner_in_the_way, is_new, IsLeastClash, NoneInTheWay}
 use Rattle.target_tables.specs.Places.{IsAt}
 use Rattle.target_tables.specs.Kept.{verdict_of, IsFree, IsLastClash}
-use Rattle.target_tables.proofs.Order.{split_at, before_middle, each}
+use Rattle.target_tables.proofs.Order.{split_at, before_middle}
 use Rattle.target_tables.proofs.Placed.{found_there}
 use Rattle.target_tables.proofs.Values.{lookup-append, none_above, same_found}
 

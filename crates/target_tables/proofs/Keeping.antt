@@ -9,11 +9,12 @@ use Rattle.std.specs.Cmp.{IsTotalOrder, Equal-is}
 use Rattle.std.specs.List.{AllByRecursion}
 use Rattle.std.specs.Option.{option_or}
 use Rattle.std.specs.Ordering.{is_eq, is_gt, eq_by_cmp, flip_args}
+use Rattle.list_laws.proofs.Choices.{or_none, or_assoc}
 use Rattle.target_tables.specs.Rising.{IsRising, NeverFalls, AreAbove}
 use Rattle.target_tables.specs.Touches.{last_at, change_at}
 use Rattle.target_tables.specs.Kept.{ends_at}
 use Rattle.target_tables.proofs.Order.{all_left, all_right, all_join, each_two, before_middle, ordered_left, ordered_with}
-use Rattle.target_tables.proofs.Values.{or_none, or_assoc, lookup-append}
+use Rattle.target_tables.proofs.Values.{lookup-append}
 
 -- no touch's key is greater than a key that is kept
 abbrev pub NoneGreater : {K R : Type 0} → (K → K → Ordering) → List (K × Option R) → List (K × Option R) → Type 0

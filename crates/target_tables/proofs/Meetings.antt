@@ -4,11 +4,11 @@ use Rattle.std.proofs.lemmas.Cmp.{tied_itself}
 use Rattle.std.specs.declared.cmp.Ordering.TheVariants.{Less, Equal, Greater}
 use Rattle.std.specs.Cmp.{IsTotalOrder}
 use Rattle.std.specs.Ordering.{ordering_reverse, is_eq}
+use Rattle.list_laws.proofs.Fronts.{each}
 use Rattle.target_tables.specs.Contents.{value_at}
 use Rattle.target_tables.specs.Common.{with_other, common}
 use Rattle.target_tables.specs.Kept.{IsFront}
 use Rattle.target_tables.specs.Rising.{IsRising, AreAbove}
-use Rattle.target_tables.proofs.Order.{each}
 use Rattle.target_tables.proofs.Values.{none_above}
 
 pub rest_rises : {K R : Type 0} (cmp : K → K → Ordering) (es : List (K × (ℕ × R))) → IsRising cmp es → IsRising cmp (drop 1 es)

@@ -6,13 +6,15 @@ use Rattle.std.specs.Cmp.{IsTotalOrder, Equal-is}
 use Rattle.std.specs.List.{AllByRecursion}
 use Rattle.std.specs.Option.{option_or}
 use Rattle.std.specs.Ordering.{ordering_reverse, is_eq, eq_by_cmp}
+use Rattle.list_laws.proofs.Fronts.{each}
+use Rattle.list_laws.proofs.Choices.{or_assoc}
 use Rattle.target_tables.specs.Contents.{value_at}
 use Rattle.target_tables.specs.Pages.{entries_of}
 use Rattle.target_tables.specs.Rising.{IsRising, AreAbove, AreBelow}
 use Rattle.target_tables.specs.Merged.{has_mark, part_of, of_part, AreMerged}
 use Rattle.target_tables.specs.Kept.{IsFirstKey, IsLesser, TakesLesser, AreMixed}
-use Rattle.target_tables.proofs.Order.{each, all_join}
-use Rattle.target_tables.proofs.Values.{or_assoc, lookup-append, none_above}
+use Rattle.target_tables.proofs.Order.{all_join}
+use Rattle.target_tables.proofs.Values.{lookup-append, none_above}
 
 -- ---- the parts
 

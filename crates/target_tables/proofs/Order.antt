@@ -1,7 +1,8 @@
 -- What holds of each pair of a list in order, and of its parts.
-use Rattle.std.proofs.Common.{◌≡◌, ℕ, ◌+◌, ◌<◌, List, [], ◌∷◌, ◌++◌, length, take, drop, get_or, sym, ap, ◌∙◌, suc, add-one, drop-cons}
+use Rattle.std.proofs.Common.{◌≡◌, ℕ, ◌+◌, ◌<◌, List, [], ◌∷◌, ◌++◌, length, take, drop, get_or, sym, ap, ◌∙◌, add-one}
 use Rattle.std.proofs.lemmas.List.{take-append-drop}
 use Rattle.std.specs.List.{AllByRecursion}
+use Rattle.list_laws.proofs.Walks.{at_item}
 use Rattle.target_tables.specs.Rising.{Ordered}
 
 -- ---- each of a list
@@ -19,22 +20,14 @@ module _ {X : Type 0} (P : X → Type 0) where
   all_join [] ys h k = k
   all_join (x ∷ xs) ys h k = (h.0, all_join xs ys h.1 k)
 
-pub each : {X : Type 0} (P Q : X → Type 0) → ((x : X) → P x → Q x) → (xs : List X) → AllByRecursion P xs → AllByRecursion Q xs
-each P Q f [] h = tt
-each P Q f (x ∷ xs) h = (f x h.0, each P Q f xs h.1)
-
 pub each_two : {X : Type 0} (P Q S : X → Type 0) → ((x : X) → P x → Q x → S x) → (xs : List X) → AllByRecursion P xs → AllByRecursion Q xs → AllByRecursion S xs
 each_two P Q S f [] h k = tt
 each_two P Q S f (x ∷ xs) h k = (f x h.0 k.0, each_two P Q S f xs h.1 k.1)
 
--- what stands at a place and behind it
-pub drop_at : {X : Type 0} (xs : List X) (i : ℕ) (x : X) → i < length xs → x ≡ get_or xs i x → drop i xs ≡ x ∷ drop (i + 1) xs
-drop_at {X} xs i x inside is = rw add-one (drop-cons xs i x inside ∙ ap (λ (y : X). y ∷ drop (suc i) xs) (sym is))
-
 -- the list as what stands before a place, there and behind it
 pub split_at : {X : Type 0} (xs : List X) (i : ℕ) (x : X) → i < length xs → x ≡ get_or xs i x → xs ≡ take i xs ++ x ∷ drop (i + 1) xs
 split_at {X} xs i x inside is =
-    sym (take-append-drop i xs) ∙ ap (λ (rest : List X). take i xs ++ rest) (drop_at xs i x inside is)
+    sym (take-append-drop i xs) ∙ ap (λ (rest : List X). take i xs ++ rest) (at_item xs i x inside is)
 
 -- ---- a list in order
 

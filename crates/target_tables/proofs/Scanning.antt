@@ -6,10 +6,12 @@ use Rattle.std.specs.declared.cmp.Ordering.TheVariants.{Less}
 use Rattle.std.specs.Cmp.{IsTotalOrder}
 use Rattle.std.specs.List.{AllByRecursion, filter}
 use Rattle.std.specs.Ordering.{ordering_reverse, is_lt, is_gt}
+use Rattle.list_laws.proofs.Walks.{at_item}
+use Rattle.list_laws.proofs.Fronts.{each}
 use Rattle.target_tables.specs.Rising.{AreBelow, AreAbove}
 use Rattle.target_tables.specs.Places.{IsAt, IsGap}
 use Rattle.target_tables.specs.Contents.{from_key, past_key}
-use Rattle.target_tables.proofs.Order.{all_join, each, drop_at}
+use Rattle.target_tables.proofs.Order.{all_join}
 
 filter_none : {X : Type 0} (p : X → Bool) (xs : List X) → AllByRecursion (λ x. p x ≡ false) xs → filter p xs ≡ []
 filter_none p [] h = refl
@@ -41,7 +43,7 @@ module _ {K R : Type 0} {cmp : K → K → Ordering} (o : IsTotalOrder cmp) (es 
   from_read : IsAt cmp es k i → (d : K × (ℕ × R)) → from_key cmp es k ≡ drop i es
   from_read at d =
       let x : K × (ℕ × R) = get_or es i d in
-      let parts : drop i es ≡ x ∷ drop (i + 1) es = drop_at es i x at.inside (get_or_default es i d x at.inside) in
+      let parts : drop i es ≡ x ∷ drop (i + 1) es = at_item es i x at.inside (get_or_default es i d x at.inside) in
       let P : List (K × (ℕ × R)) → Type 0 = AllByRecursion (λ e. not (is_lt (cmp e.0 k)) ≡ true) in
       from_rest at.below (subst P (sym parts) (ap (λ r. not (is_lt r)) (at.here d), all_past (drop (i + 1) es) at.above))
 

@@ -5,9 +5,11 @@ use Rattle.std.proofs.lemmas.Cmp.{alike_right}
 use Rattle.std.specs.declared.cmp.Ordering.TheVariants.{Less, Equal, Greater}
 use Rattle.std.specs.Cmp.{IsTotalOrder}
 use Rattle.std.specs.Ordering.{ordering_reverse}
+use Rattle.list_laws.proofs.Walks.{at_item}
+use Rattle.list_laws.proofs.Fronts.{each}
 use Rattle.target_tables.specs.Rising.{IsRising, AreBelow, AreAbove}
 use Rattle.target_tables.specs.Places.{IsAt}
-use Rattle.target_tables.proofs.Order.{all_join, each, drop_at, split_at, before_middle, behind_middle}
+use Rattle.target_tables.proofs.Order.{all_join, split_at, before_middle, behind_middle}
 
 module _ {K V : Type 0} {cmp : K → K → Ordering} (o : IsTotalOrder cmp) (es : List (K × V)) (i : ℕ) (x : K × V) (inside : i < length es) (is : x ≡ get_or es i x) (rising : IsRising cmp es) where
   parted : IsRising cmp (take i es ++ x ∷ drop (i + 1) es)
@@ -33,7 +35,7 @@ module _ {K V : Type 0} {cmp : K → K → Ordering} (o : IsTotalOrder cmp) (es 
   above_to k greater =
       let less : cmp k x.0 ≡ Less = o.antisymm k x.0 ∙ ap ordering_reverse greater in
       let back : AreAbove cmp k (drop (i + 1) es) = each (λ e. cmp x.0 e.0 ≡ Less) (λ e. cmp k e.0 ≡ Less) (λ e l. o.trans k x.0 e.0 less l) (drop (i + 1) es) behind in
-      let d : drop i es ≡ x ∷ drop (i + 1) es = drop_at es i x inside is in
+      let d : drop i es ≡ x ∷ drop (i + 1) es = at_item es i x inside is in
       let Q : List (K × V) → Type 0 = AreAbove cmp k in
       subst Q (sym d) (less, back)
 

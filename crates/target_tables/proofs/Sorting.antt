@@ -8,9 +8,9 @@ use Rattle.std.specs.List.{filter}
 use Rattle.std.specs.List.Sorted.{IsSortedByKey, IsStableByKey, ties}
 use Rattle.std.specs.Option.{option_or}
 use Rattle.std.specs.Ordering.{ordering_reverse, is_eq, is_lt, is_gt, eq_by_cmp}
+use Rattle.list_laws.proofs.Choices.{or_none}
 use Rattle.target_tables.specs.Rising.{NeverFalls}
 use Rattle.target_tables.specs.Touches.{last_at}
-use Rattle.target_tables.proofs.Values.{or_none}
 
 module _ {K : Type 0} {cmp : K → K → Ordering} (o : IsTotalOrder cmp) where
   turned : (r : Ordering) → is_lt (ordering_reverse r) ≡ is_gt r

@@ -7,10 +7,11 @@ use Rattle.std.specs.Cmp.{IsTotalOrder}
 use Rattle.std.specs.List.{AllByRecursion}
 use Rattle.std.specs.Option.{option_or}
 use Rattle.std.specs.Ordering.{is_lt, eq_by_cmp, flip_args}
+use Rattle.list_laws.proofs.Fronts.{each}
 use Rattle.target_tables.specs.Rising.{IsRising, AreBelow}
 use Rattle.target_tables.specs.Touches.{last_at, change_at}
 use Rattle.target_tables.proofs.Committing.{taken_apart}
-use Rattle.target_tables.proofs.Order.{all_join, each, before_middle, ordered_with}
+use Rattle.target_tables.proofs.Order.{all_join, before_middle, ordered_with}
 use Rattle.target_tables.proofs.Values.{lookup-append}
 
 pub only_less : (r : Ordering) → is_lt r ≡ true → r ≡ Less

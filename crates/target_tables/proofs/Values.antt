@@ -7,16 +7,8 @@ use Rattle.std.specs.Cmp.{IsTotalOrder}
 use Rattle.std.specs.Map.{lookup}
 use Rattle.std.specs.Option.{option_or}
 use Rattle.std.specs.Ordering.{ordering_reverse, is_eq, eq_by_cmp}
+use Rattle.list_laws.proofs.Fronts.{each}
 use Rattle.target_tables.specs.Rising.{AreBelow, AreAbove}
-use Rattle.target_tables.proofs.Order.{each}
-
-pub or_none : {A : Type 0} (v : Option A) → option_or v None ≡ v
-or_none None = refl
-or_none (Some x) = refl
-
-pub or_assoc : {A : Type 0} (u v w : Option A) → option_or (option_or u v) w ≡ option_or u (option_or v w)
-or_assoc None v w = refl
-or_assoc (Some x) v w = refl
 
 pub lookup-append : {K V : Type 0} (t : K → Bool) (xs ys : List (K × V)) → lookup t (xs ++ ys) ≡ option_or (lookup t xs) (lookup t ys)
 lookup-append t [] ys = refl

@@ -8,11 +8,11 @@ use Rattle.std.proofs.lemmas.Bool.{false_from_ne_true}
 use Rattle.std.proofs.lemmas.Cmp.{tied_itself, tied_back}
 use Rattle.std.proofs.lemmas.List.Sums.{sum_by-cons}
 use Rattle.std.proofs.lemmas.Slice.Eq.{bytes_eq-Decides, slice_eq-Decides}
+use Rattle.list_laws.proofs.Fronts.{each}
 use Rattle.pk_copy.specs.KeyOrder.{key_cmp}
 use Rattle.pk_copy.specs.KeyOrderLaws.{key_cmp_total}
 use Rattle.pk_copy.specs.KeyValue.{KeyValue}
 use Rattle.target_tables.specs.Rising.{IsRising, AreAbove}
-use Rattle.target_tables.proofs.Order.{each}
 use Rattle.target_tables.proofs.Values.{none_above}
 use Rattle.vdiff_core.specs.Report.{column_eq, row_eq, is_matched, is_mismatched, is_missing, count_beside, report_of, IsFirstDifference}
 use Rattle.vdiff_core.specs.declared.report.Report.{Report}

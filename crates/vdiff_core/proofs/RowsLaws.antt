@@ -6,11 +6,12 @@ use Rattle.std.proofs.lemmas.Option.{slice_get_within, slice_get-get_or}
 use Rattle.std.proofs.lemmas.List.{drop_all, take-append-drop}
 use Rattle.std.proofs.lemmas.Cmp.{tied_itself}
 use Rattle.std.specs.declared.cmp.Ordering.TheVariants.{Less, Equal, Greater}
+use Rattle.list_laws.proofs.Fronts.{each}
 use Rattle.pk_copy.specs.KeyOrder.{key_cmp}
 use Rattle.pk_copy.specs.KeyOrderLaws.{key_cmp_total}
 use Rattle.pk_copy.specs.KeyValue.{KeyValue}
 use Rattle.target_tables.specs.Rising.{IsRising, AreBelow}
-use Rattle.target_tables.proofs.Order.{each, all_join, all_right, before_middle, ordered_with, split_at}
+use Rattle.target_tables.proofs.Order.{all_join, all_right, before_middle, ordered_with, split_at}
 use Rattle.target_tables.specs.Places.{IsAt, IsGap}
 use Rattle.target_tables.proofs.Values.{found, absent}
 use Rattle.vdiff_core.specs.RowsValue.{RowValue, RowsValue, row_with_key}

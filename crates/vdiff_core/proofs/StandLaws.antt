@@ -12,13 +12,14 @@ use Rattle.std.proofs.lemmas.List.Elements.{filter-append}
 use Rattle.std.proofs.lemmas.Option.{slice_get-get_or}
 use Rattle.std.specs.Str.{bytes_eq}
 use Rattle.std.proofs.lemmas.Slice.Eq.{bytes_eq-Decides}
+use Rattle.list_laws.proofs.Fronts.{each}
 use Rattle.filter_rule.specs.PlanTable.{TableValue}
 use Rattle.filter_rule.specs.PlanValue.{PlanValue, kept_columns_of, table_name}
 use Rattle.pk_copy.specs.KeyOfKept.{key_of_kept}
 use Rattle.pk_copy.specs.KeyOrder.{key_cmp}
 use Rattle.pk_copy.specs.KeyValue.{KeyValue}
 use Rattle.target_tables.specs.Rising.{AreAbove, AreBelow}
-use Rattle.target_tables.proofs.Order.{all_join, all_right, before_middle, behind_middle, each}
+use Rattle.target_tables.proofs.Order.{all_join, all_right, before_middle, behind_middle}
 use Rattle.vdiff_core.specs.Dump.{row_line, row_lines, rows_of_table, table_line, table_lines}
 use Rattle.vdiff_core.specs.DumpReading.{AreByteValues, FitsPlan, AreRowsOf, IsDump, Behind, BeginsTable, AddsRow, CanStand, Stand, NoLineStands, IsFirstBad, AreReadOnce, at_front, joined_lines}
 use Rattle.vdiff_core.specs.Private.Reading.{row_front, IsReadSoFar, NoRowStands, TakesLine, TakesRow, TakesRowLine}

@@ -11,13 +11,13 @@ use Rattle.std.specs.declared.cmp.Ordering.TheVariants.{Less, Greater}
 use Rattle.std.proofs.lemmas.List.Elements.{filter-append}
 use Rattle.std.proofs.lemmas.Bool.Decides.{nat_tests}
 use Rattle.std.proofs.lemmas.Option.{slice_get_within}
+use Rattle.list_laws.proofs.Fronts.{each}
 use Rattle.filter_rule.specs.PlanTable.{TableValue}
 use Rattle.filter_rule.specs.PlanValue.{PlanValue, kept_columns_of}
 use Rattle.filter_rule.specs.WellFormed.{Holds, IsTable, IsPlan}
 use Rattle.pk_copy.specs.KeyOrder.{key_cmp, parts_cmp}
 use Rattle.pk_copy.specs.KeyValue.{KeyValue}
 use Rattle.target_tables.specs.Rising.{IsRising}
-use Rattle.target_tables.proofs.Order.{each}
 use Rattle.vdiff_core.specs.Dump.{row_line, row_lines, rows_of_table, table_line, table_lines}
 use Rattle.vdiff_core.specs.Private.Tables.{AreFrom, behind_table, IsOtherFirst, IsTakenOf}
 use Rattle.vdiff_core.specs.RowsValue.{RowValue, RowsValue, unowned, all_rows}

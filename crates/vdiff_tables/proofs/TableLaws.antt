@@ -2,11 +2,11 @@
 use Rattle.std.proofs.Common.{◌≡◌, ℕ, zero, suc, ◌+◌, ◌<◌, List, [], ◌∷◌, ◌++◌, length, take, drop, refl, sym, ap, ◌∙◌, arith, append_assoc, get_or}
 use Rattle.std.specs.Prelude.{position}
 use Rattle.std.specs.Option.{unwrap_or}
+use Rattle.list_laws.proofs.Walks.{at_item}
 use Rattle.filter_rule.specs.PlanTable.{TableValue}
 use Rattle.pk_copy.specs.KeyOrder.{key_cmp}
 use Rattle.pk_copy.specs.KeyValue.{KeyValue}
 use Rattle.target_tables.specs.Rising.{IsRising, AreAbove}
-use Rattle.target_tables.proofs.Order.{drop_at}
 use Rattle.vdiff_core.specs.Dump.{rows_of_table}
 use Rattle.vdiff_core.specs.Report.{report_of}
 use Rattle.vdiff_core.specs.Private.Tables.{AreFrom}
@@ -58,7 +58,7 @@ reports_more tables source target t table left right done n m lt is first second
     let front' = front_rows t right m second so_far.right_rises so_far.right_from in
     record {
       whole = so_far.whole
-          ∙ ap (λ (l : List NamedReport). done ++ l) (ap (λ (l : List TableValue). reports_from t l left right) (drop_at tables t table lt is) ∙ first_report t n m table (drop (t + 1) tables) left right front.0 front'.0)
+          ∙ ap (λ (l : List NamedReport). done ++ l) (ap (λ (l : List TableValue). reports_from t l left right) (at_item tables t table lt is) ∙ first_report t n m table (drop (t + 1) tables) left right front.0 front'.0)
           ∙ sym (append_assoc done (record { name = table.name; report = report_of (take n left) (take m right) } ∷ []) (reports_from (t + 1) (drop (t + 1) tables) (drop n left) (drop m right)));
       left_rises = rising_left n left so_far.left_rises;
       right_rises = rising_left m right so_far.right_rises;

@@ -3,11 +3,11 @@ use Rattle.std.proofs.Common.{◌≡◌, ◌∙◌, [], ◌∷◌, cond, refl, s
 use Rattle.std.specs.Ordering.{is_eq, is_lt, ordering_reverse}
 use Rattle.std.specs.declared.cmp.Ordering.TheVariants.{Less, Equal, Greater}
 use Rattle.std.proofs.lemmas.Cmp.{tied_itself}
+use Rattle.list_laws.proofs.Fronts.{each}
 use Rattle.pk_copy.specs.KeyOrder.{key_cmp}
 use Rattle.pk_copy.specs.KeyOrderLaws.{key_cmp_total}
 use Rattle.pk_copy.specs.KeyValue.{KeyValue}
 use Rattle.target_tables.specs.Rising.{IsRising, AreAbove}
-use Rattle.target_tables.proofs.Order.{each}
 use Rattle.vdiff_core.specs.RowsValue.{RowValue, RowsValue, row_with_key}
 use Rattle.vdiff_core.proofs.ReportLaws.{all_above, none_at, tied_none, source_first, target_first, rows_first, first_behind}
 use Rattle.vdiff_tables.specs.Differences.{Difference, rows_past}

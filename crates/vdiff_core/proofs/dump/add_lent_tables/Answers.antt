@@ -1,7 +1,7 @@
 use Rattle.std.proofs.Common.{ℕ, List, ◌+◌, ◌∙◌, ap, drop, append_assoc}
 use Rattle.std.proofs.lemmas.Result.{err_from_is_err_and}
+use Rattle.list_laws.proofs.Walks.{at_item}
 use Rattle.filter_rule.specs.PlanTable.{TableValue}
-use Rattle.target_tables.proofs.Order.{drop_at}
 use Rattle.vdiff_core.specs.Dump.{row_lines, rows_of_table, table_line, table_lines}
 use Rattle.vdiff_core.specs.RowsValue.{RowsValue}
 use Rattle.vdiff_core.proofs.PrintLaws.{adding_starts, added_breaks, added_more, adding_moves, adding_stops}
@@ -18,7 +18,7 @@ returns-in_err-add_table_line g c =
     let rows : RowsValue = c.loop-t.rows in
     let tables : List TableValue = c.args.tables.now in
     let parts =
-    ap (λ (l : List TableValue). table_lines t l rows) (drop_at tables t table c.loop-t-test.true c.index-tables-t.is)
+    ap (λ (l : List TableValue). table_lines t l rows) (at_item tables t table c.loop-t-test.true c.index-tables-t.is)
     ∙ append_assoc (table_line table.name) (row_lines (rows_of_table t rows)) (table_lines (t + 1) (drop (t + 1) tables) rows) in
     let broken = rw c.name.ensures at c.in_err-add_table_line.ensures in
     let p = err_from_is_err_and c.from_residual.result c.from_residual.ensures.1 in
@@ -30,7 +30,7 @@ returns-in_err-add_rows_of g c =
     let table : TableValue = c.index-tables-t.result in
     let rows : RowsValue = c.loop-t.rows in
     let tables : List TableValue = c.args.tables.now in
-    let parts = ap (λ (l : List TableValue). table_lines t l rows) (drop_at tables t table c.loop-t-test.true c.index-tables-t.is)
+    let parts = ap (λ (l : List TableValue). table_lines t l rows) (at_item tables t table c.loop-t-test.true c.index-tables-t.is)
     ∙ table_and_others t table (drop (t + 1) tables) rows c.loop-t.invariant.1 c.loop-t.invariant.2 in
     let line = rw c.name.ensures at c.in_ok-add_table_line.ensures in
     let p = err_from_is_err_and c.from_residual-in_err-add_rows_of.result c.from_residual-in_err-add_rows_of.ensures.1 in
@@ -42,7 +42,7 @@ loop-t-preserved g c =
     let table : TableValue = c.index-tables-t.result in
     let rows : RowsValue = c.loop-t.rows in
     let tables : List TableValue = c.args.tables.now in
-    let parts = ap (λ (l : List TableValue). table_lines t l rows) (drop_at tables t table c.loop-t-test.true c.index-tables-t.is)
+    let parts = ap (λ (l : List TableValue). table_lines t l rows) (at_item tables t table c.loop-t-test.true c.index-tables-t.is)
     ∙ table_and_others t table (drop (t + 1) tables) rows c.loop-t.invariant.1 c.loop-t.invariant.2 in
     let line = rw c.name.ensures at c.in_ok-add_table_line.ensures in
     let behind = behind_rows t rows c.loop-t.invariant.1 c.loop-t.invariant.2 in

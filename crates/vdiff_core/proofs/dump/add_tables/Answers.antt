@@ -1,8 +1,8 @@
 use Rattle.std.proofs.Common.{ℕ, List, ◌+◌, ◌∙◌, ap, drop, take, length, append_assoc}
 use Rattle.std.specs.Option.{unwrap_or}
 use Rattle.std.proofs.lemmas.Result.{err_from_is_err_and}
+use Rattle.list_laws.proofs.Walks.{at_item}
 use Rattle.filter_rule.specs.PlanTable.{TableValue}
-use Rattle.target_tables.proofs.Order.{drop_at}
 use Rattle.vdiff_core.specs.Dump.{row_lines, rows_of_table, table_line, table_lines}
 use Rattle.vdiff_core.specs.RowsValue.{RowsValue}
 use Rattle.vdiff_core.proofs.PrintLaws.{adding_starts, added_breaks, added_more, adding_moves, adding_stops}
@@ -19,7 +19,7 @@ returns-in_err-add_table_line g c =
     let rest : RowsValue = c.loop-t.rest.now in
     let tables : List TableValue = c.args.tables.now in
     let parts =
-    ap (λ (l : List TableValue). table_lines t l rest) (drop_at tables t table c.loop-t-test.true c.index-tables-t.is)
+    ap (λ (l : List TableValue). table_lines t l rest) (at_item tables t table c.loop-t-test.true c.index-tables-t.is)
     ∙ append_assoc (table_line table.name) (row_lines (rows_of_table t rest)) (table_lines (t + 1) (drop (t + 1) tables) rest) in
     let broken = rw c.name.ensures at c.in_err-add_table_line.ensures in
     let p = err_from_is_err_and c.from_residual.result c.from_residual.ensures.1 in
@@ -33,7 +33,7 @@ returns-in_err-add_rows g c =
     let tables : List TableValue = c.args.tables.now in
     let n : ℕ = c.unwrap_or.result in
     let front = front_rows t rest n (c.unwrap_or.ensures ∙ ap (λ place. unwrap_or place (length rest)) c.place_of_other.ensures) c.loop-t.invariant.1 c.loop-t.invariant.2 in
-    let parts = ap (λ (l : List TableValue). table_lines t l rest) (drop_at tables t table c.loop-t-test.true c.index-tables-t.is) ∙ first_table t n table (drop (t + 1) tables) rest front.0 in
+    let parts = ap (λ (l : List TableValue). table_lines t l rest) (at_item tables t table c.loop-t-test.true c.index-tables-t.is) ∙ first_table t n table (drop (t + 1) tables) rest front.0 in
     let line = rw c.name.ensures at c.in_ok-add_table_line.ensures in
     let broken = rw c.split_at.ensures.front at c.in_err-add_rows.ensures in
     let p = err_from_is_err_and c.from_residual-in_err-add_rows.result c.from_residual-in_err-add_rows.ensures.1 in
@@ -47,7 +47,7 @@ loop-t-preserved g c =
     let tables : List TableValue = c.args.tables.now in
     let n : ℕ = c.unwrap_or.result in
     let front = front_rows t rest n (c.unwrap_or.ensures ∙ ap (λ place. unwrap_or place (length rest)) c.place_of_other.ensures) c.loop-t.invariant.1 c.loop-t.invariant.2 in
-    let parts = ap (λ (l : List TableValue). table_lines t l rest) (drop_at tables t table c.loop-t-test.true c.index-tables-t.is) ∙ first_table t n table (drop (t + 1) tables) rest front.0 in
+    let parts = ap (λ (l : List TableValue). table_lines t l rest) (at_item tables t table c.loop-t-test.true c.index-tables-t.is) ∙ first_table t n table (drop (t + 1) tables) rest front.0 in
     let line = rw c.name.ensures at c.in_ok-add_table_line.ensures in
     let lines = rw c.split_at.ensures.front at c.in_ok-add_rows.ensures in
     rw c.split_at.ensures.back (

@@ -1,0 +1,5 @@
+pub mod Truths
+pub mod Choices
+pub mod Places
+pub mod Fronts
+pub mod Walks
