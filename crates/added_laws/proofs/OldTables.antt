@@ -5,6 +5,7 @@ use Rattle.std.proofs.lemmas.List.Elements.{filter-append}
 use Rattle.std.specs.Prelude.{nat_lt, IfSome}
 use Rattle.std.specs.List.{filter}
 use Rattle.std.specs.Option.{option_or, option_and_then}
+use Rattle.list_laws.proofs.Choices.{or_none}
 use Rattle.pk_copy.specs.KeyOrder.{key_cmp}
 use Rattle.pk_copy.specs.KeyValue.{KeyValue}
 use Rattle.pk_copy.specs.Marks.{waiting, copied, Marks, AreMarks, IsOfCurrent, current_mark, covers, is_inside}
@@ -18,10 +19,6 @@ use Rattle.board_laws.proofs.Lookups.{Ties, is_key, same_key}
 
 abbrev pub on : ℕ → List TouchValue → List TouchValue
 on tables touches = filter (is_on tables) touches
-
-or_none : {A : Type 0} (v : Option A) → option_or v None ≡ v
-or_none None = refl
-or_none (Some x) = refl
 
 -- a touch of a further table is none of an old key
 no_touch : (ties : Ties) (tables : ℕ) (touch : TouchValue) (key : KeyValue) → key.table < tables → is_on tables touch ≡ false → is_key key touch.0 ≡ false

@@ -6,6 +6,7 @@ use Rattle.std.proofs.lemmas.Option.{slice_get_within}
 use Rattle.std.specs.Prelude.{IfSome}
 use Rattle.std.specs.Option.{option_map, option_map_or}
 use Rattle.std.specs.Result.{ok_prefix}
+use Rattle.list_laws.proofs.Places.{place_of, slice_get-take, get_in_front}
 use Rattle.filter_rule.specs.Extending.{IsExtended}
 use Rattle.row_view.specs.FieldValue.{FieldValue}
 use Rattle.filter_rule.specs.PlanTable.{TableValue}
@@ -27,7 +28,7 @@ use Rattle.board_laws.specs.Meaning.{State}
 use Rattle.board_laws.specs.Runs.{sound_groups}
 use Rattle.board_laws.proofs.FeedGroups.{last_of, sound-is_read}
 use Rattle.board_laws.proofs.History.{passed_at-take, read-cut}
-use Rattle.board_laws.proofs.Lists.{slice_get-take, take-take}
+use Rattle.board_laws.proofs.Lists.{take-take}
 use Rattle.board_laws.proofs.Lookups.{Ties}
 use Rattle.added_laws.specs.Extended.{marks_of_more, extended_state}
 use Rattle.added_laws.specs.GoingOn.{GoesOn}
@@ -35,13 +36,6 @@ use Rattle.added_laws.specs.Laws.{ExtendedStatesAreSound, PositionsStay, FeedsTh
 use Rattle.added_laws.proofs.OldTables.{on, same_touches, passed_at-on, inside_old}
 
 -- ---- the tables of an extended plan
-
--- an element in a front of a list
-get_in_front : {A : Type 0} (n : ℕ) (xs : List A) (i : ℕ) → i < n → slice_get (take n xs) i ≡ slice_get xs i
-get_in_front zero xs i less = absurd (omega (arith, less))
-get_in_front (suc n) [] i less = refl
-get_in_front (suc n) (x ∷ xs) zero less = refl
-get_in_front (suc n) (x ∷ xs) (suc i) less = get_in_front n xs i (omega (arith, less))
 
 module _ (old new : PlanValue) (more : IsExtended old new) where
   same_table : (t : ℕ) → t < length old.tables → slice_get old.tables t ≡ slice_get new.tables t
@@ -127,11 +121,6 @@ sound-states feed state sound whole more goes = extended-sound feed state sound 
 
 -- ---- where a stream stands
 
-at_inside : {A : Type 0} (xs : List A) (i : ℕ) → i < length xs → (x : A) × (slice_get xs i ≡ Some x)
-at_inside [] i less = absurd (omega (arith, less))
-at_inside (x ∷ xs) zero less = (x, refl)
-at_inside (x ∷ xs) (suc i) less = let rest : suc i < suc (length xs) = less in at_inside xs i (omega (arith, rest))
-
 pub positions-stay : PositionsStay
 positions-stay feed state within goes = ap last_position (take-take state.applied (sound_groups feed)) ∙ by state.applied within goes.sound goes.same
   where
@@ -140,8 +129,8 @@ positions-stay feed state within goes = ap last_position (take-take state.applie
         → last_position (take n (sound_groups feed)) ≡ last_position (take n state.list)
     by zero within fits same = refl
     by (suc i) within fits same =
-        let old : (group : PreparedValue) × (slice_get state.list i ≡ Some group) = at_inside state.list i (omega (arith, within)) in
-        let new : (group : PreparedValue) × (slice_get (sound_groups feed) i ≡ Some group) = at_inside (sound_groups feed) i (omega (arith, fits)) in
+        let old : (group : PreparedValue) × (slice_get state.list i ≡ Some group) = place_of state.list i (omega (arith, within)) in
+        let new : (group : PreparedValue) × (slice_get (sound_groups feed) i ≡ Some group) = place_of (sound_groups feed) i (omega (arith, fits)) in
         last_of (sound_groups feed) i new.0 new.1
         ∙ sym (same i old.0 new.0 (omega arith) old.1 new.1).position
         ∙ sym (last_of state.list i old.0 old.1)

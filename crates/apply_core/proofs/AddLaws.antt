@@ -5,6 +5,7 @@ use Rattle.std.proofs.lemmas.List.{length-map, length-take-le, take_all}
 use Rattle.std.proofs.lemmas.Option.{same_Some, none-some, slice_get-map, slice_get_within}
 use Rattle.std.specs.Prelude.{IsTrue, IfSome, IfErr, nat_lt}
 use Rattle.std.specs.Option.{option_map}
+use Rattle.list_laws.proofs.Places.{slice_get-take}
 use Rattle.filter_rule.specs.Extending.{IsExtended}
 use Rattle.filter_rule.specs.PlanValue.{PlanValue}
 use Rattle.pk_copy.specs.KeyValue.{KeyValue}
@@ -20,7 +21,6 @@ use Rattle.source_feed.specs.Touches.{PreparedValue, prepared, prepared_at}
 use Rattle.board_laws.specs.Lawful.{IsSoundState}
 use Rattle.board_laws.specs.Meaning.{State, TargetRows, Meaning}
 use Rattle.board_laws.specs.Runs.{sound_groups}
-use Rattle.board_laws.proofs.Lists.{slice_get-take}
 use Rattle.added_laws.specs.declared.fault.AddFault.{AddFault}
 use Rattle.added_laws.specs.declared.fault.AddFault.TheVariants.{FeedCount, PlanNotExtended, WrongPlan, HistoriesDiffer, Unsound, Memory}
 use Rattle.added_laws.specs.Extended.{marks_of_more, extended_state, extended_states, extended_board, MayExtend}

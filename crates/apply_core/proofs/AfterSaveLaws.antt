@@ -1,16 +1,16 @@
 -- Feeds that make a board of what a checkpoint says are refused for nothing, and a board that is saved comes back.
-use Rattle.std.proofs.Common.{◌≡◌, ◌≢◌, ◌==◌, ℕ, zero, suc, ◌+◌, ◌^◌, ◌<◌, ◌≤◌, Bool, true, false, cond, List, [], ◌∷◌, length, take, Option, Some, None, Result, Ok, Err, IfOk, IfErr, slice_get, refl, sym, ap, subst, ◌∙◌, arith}
-use Rattle.std.proofs.lemmas.Bool.{eqb-false}
+use Rattle.std.proofs.Common.{◌≡◌, ◌≢◌, ℕ, zero, suc, ◌+◌, ◌^◌, ◌<◌, ◌≤◌, List, [], ◌∷◌, length, take, Some, None, Result, Ok, Err, IfOk, IfErr, slice_get, refl, sym, ap, subst, ◌∙◌, arith}
 use Rattle.std.proofs.lemmas.List.{length-map}
 use Rattle.std.proofs.lemmas.Option.{same_Some, none-some, slice_get-map}
 use Rattle.std.specs.List.{AllByRecursion}
 use Rattle.std.specs.Option.{option_map}
+use Rattle.join_laws.proofs.Feeds.{in_the_way}
+use Rattle.list_laws.proofs.Places.{slice_get-take}
 use Rattle.filter_rule.specs.PlanValue.{PlanValue}
 use Rattle.filter_rule.specs.WellFormed.{IsPlan}
 use Rattle.pk_copy.specs.KeyOrder.{key_cmp}
 use Rattle.pk_copy.specs.KeyValue.{KeyValue}
 use Rattle.target_tables.specs.Contents.{value_at}
-use Rattle.target_tables.specs.Touches.{owner_in_the_way}
 use Rattle.source_feed.specs.History.{RowValue}
 use Rattle.source_feed.specs.Planned.{FeedValue, IsFeed}
 use Rattle.board_laws.specs.Cut.{cut_of}
@@ -37,23 +37,6 @@ use Rattle.apply_core.specs.Resuming.{IsResumed, IsRefusedResume, GivesBoard, Is
 
 -- ---- streams that are apart don't clash
 
-slice_get-front : {A : Type 0} (n : ℕ) (xs : List A) (i : ℕ) (x : A) → slice_get (take n xs) i ≡ Some x → slice_get xs i ≡ Some x
-slice_get-front zero xs i x e = cc
-slice_get-front (suc n) [] i x e = cc
-slice_get-front (suc n) (y ∷ xs) zero x e = e
-slice_get-front (suc n) (y ∷ xs) (suc i) x e = slice_get-front n xs i x e
-
--- a row in the way of one that is due
-in_the_way : (s : ℕ) (due : Option RowValue) (there : Option (ℕ × RowValue)) (owner : ℕ) → owner_in_the_way s (option_map Some due) there ≡ Some owner
-    → (due ≢ None) × ((other : ℕ × RowValue) × (there ≡ Some other) × (other.0 ≢ s))
-in_the_way s None there owner h = absurd (none-some owner h)
-in_the_way s (Some row) None owner h = absurd (none-some owner h)
-in_the_way s (Some row) (Some x) owner h = (λ n. none-some row (sym n), (x, refl, by (x.0 == s) refl h))
-  where
-    by : (b : Bool) → (x.0 == s) ≡ b → cond b None (Some x.0) ≡ Some owner → x.0 ≢ s
-    by true e h = absurd (none-some owner h)
-    by false e h = eqb-false x.0 s e
-
 not_apart : (ties : Ties) (states : List State) (key : KeyValue) (owner : ℕ) → IsFirstClash states key owner → AreApart states → ⊥
 not_apart ties states key owner clash apart =
     let front : List State = take clash.stream states in
@@ -61,7 +44,7 @@ not_apart ties states key owner clash apart =
     = in_the_way clash.stream (cut_of clash.state key) (value_at key_cmp (rows_from 0 front) key) owner clash.least.here in
     let of : IsRowOf 0 front key way.1.0 = whose 0 front key way.1.0 (sym (value_from ties 0 front key) ∙ way.1.1) in
     let place : of.place ≡ clash.stream
-    = apart of.place clash.stream of.state clash.state key (slice_get-front clash.stream states of.place of.state of.here) clash.here (λ n. none-some way.1.0.1 (sym n ∙ of.cut)) way.0 in
+    = apart of.place clash.stream of.state clash.state key (slice_get-take clash.stream states of.place of.state of.here) clash.here (λ n. none-some way.1.0.1 (sym n ∙ of.cut)) way.0 in
     let number : way.1.0.0 ≡ 0 + of.place = of.number in
     way.1.2 (omega (arith, number, place))
 

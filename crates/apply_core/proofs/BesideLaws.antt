@@ -2,13 +2,13 @@
 use Rattle.std.proofs.Common.{◌≡◌, ℕ, zero, suc, ◌+◌, ◌<◌, ◌≤◌, ◌⊎◌, inl, inr, ◌↔◌, Bool, List, [], ◌∷◌, length, take, Some, None, slice_get, IsTrue, refl, sym, ap, subst, ◌∙◌, arith, lt_irrefl}
 use Rattle.std.proofs.Math.Nat.{eq-or-lt_of_le}
 use Rattle.std.proofs.lemmas.Option.{same_Some, slice_get_within}
+use Rattle.list_laws.proofs.Places.{slice_get-take}
 use Rattle.filter_rule.specs.PlanValue.{PlanValue}
 use Rattle.source_feed.specs.GroupValue.{Position}
 use Rattle.source_feed.specs.Prepared.{IsSameGroup}
 use Rattle.source_feed.specs.Touches.{TouchValue, PreparedValue}
 use Rattle.board_laws.specs.Meaning.{State}
 use Rattle.board_laws.specs.Lawful.{IsSoundState}
-use Rattle.board_laws.proofs.Lists.{slice_get-take}
 use Rattle.join_laws.specs.Compatible.{IsBeginning}
 use Rattle.apply_core.specs.Private.Beside.{AreSameGroups, AreSameFirst}
 

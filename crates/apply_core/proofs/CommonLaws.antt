@@ -4,6 +4,7 @@ use Rattle.std.proofs.lemmas.Option.{same_Some, none-some}
 use Rattle.std.specs.declared.cmp.Ordering.TheVariants.{Less, Greater}
 use Rattle.std.specs.List.{AllByRecursion}
 use Rattle.std.specs.Ordering.{ordering_reverse, is_eq}
+use Rattle.list_laws.proofs.Fronts.{each}
 use Rattle.pk_copy.specs.KeyOrder.{key_cmp}
 use Rattle.pk_copy.specs.KeyOrderLaws.{key_cmp_total}
 use Rattle.pk_copy.specs.KeyValue.{KeyValue}
@@ -12,7 +13,7 @@ use Rattle.target_tables.specs.Common.{with_other, common}
 use Rattle.target_tables.specs.Rising.{IsRising}
 use Rattle.source_feed.specs.History.{RowValue}
 use Rattle.board_laws.specs.Meaning.{TargetRows}
-use Rattle.board_laws.proofs.Lookups.{Ties, is_key, is_itself, same_key, each}
+use Rattle.board_laws.proofs.Lookups.{Ties, is_key, is_itself, same_key}
 use Rattle.apply_core.specs.Private.Meeting.{Met}
 
 -- ---- what the keys that both have are

@@ -2,8 +2,8 @@
 use Rattle.std.proofs.Common.{◌≡◌, ◌≢◌, ℕ, ◌+◌, ◌<◌, ◌≤◌, ◌⊎◌, inl, inr, Bool, true, false, List, [], ◌∷◌, ◌++◌, Option, Some, None, MatchOption, refl, sym, ap, subst, ◌∙◌, arith}
 use Rattle.std.proofs.lemmas.Bool.{true≢false}
 use Rattle.std.specs.List.{AllByRecursion}
+use Rattle.list_laws.proofs.Fronts.{each}
 use Rattle.pk_copy.specs.KeyValue.{KeyValue}
-use Rattle.board_laws.proofs.Lookups.{each}
 use Rattle.apply_core.specs.Private.Meeting.{Met, clashes, AreOrdered, IsNoneBefore, IsNoneUpTo, NoneClash, IsFirstMet}
 
 -- ---- one key more

@@ -5,6 +5,7 @@ use Rattle.std.proofs.lemmas.Bool.{cases_lt}
 use Rattle.std.proofs.lemmas.List.{length-map, length-take-le, length-set, take_all}
 use Rattle.std.proofs.lemmas.Option.{same_Some, slice_get_read}
 use Rattle.std.specs.Ordering.{is_lt}
+use Rattle.list_laws.proofs.Places.{place_of, slice_get-set_same, slice_get-set_other}
 use Rattle.filter_rule.specs.PlanValue.{PlanValue}
 use Rattle.pk_copy.specs.KeyOrder.{key_cmp}
 use Rattle.pk_copy.specs.KeyValue.{KeyValue}
@@ -14,7 +15,6 @@ use Rattle.board_laws.specs.Meaning.{State, TargetRows, Meaning}
 use Rattle.board_laws.specs.Lawful.{IsLawful}
 use Rattle.board_laws.specs.Step.{due_at}
 use Rattle.board_laws.proofs.Lookups.{Ties}
-use Rattle.board_laws.proofs.Lists.{slice_get-set_same, slice_get-set_other}
 use Rattle.join_laws.specs.declared.fault.JoinFault.{JoinFault}
 use Rattle.join_laws.specs.declared.fault.JoinFault.TheVariants.{WrongPlan, HistoriesDiffer, OwnedByOther, Memory}
 use Rattle.join_laws.specs.Order.{state_cmp}
@@ -27,11 +27,6 @@ use Rattle.apply_core.specs.Private.Beside.{plans_in}
 use Rattle.apply_core.specs.Private.Together.{AreTogether, ArePutsOfCut, IsNotPut, AreNotTogether}
 
 -- ---- places
-
-pub place_of : {A : Type 0} (xs : List A) (i : ℕ) → i < length xs → (x : A) × (slice_get xs i ≡ Some x)
-place_of [] i less = absurd (omega arith)
-place_of (x ∷ xs) zero less = (x, refl)
-place_of (x ∷ xs) (suc i) less = place_of xs i (omega arith)
 
 take_next : {A : Type 0} (xs : List A) (s : ℕ) (x : A) → slice_get xs s ≡ Some x → take (suc s) xs ≡ take s xs ++ x ∷ []
 take_next [] s x e = cc

@@ -1,17 +1,13 @@
 -- A resumed board reads its feeds.
-use Rattle.std.proofs.Common.{◌≡◌, ℕ, zero, suc, ◌<◌, List, [], ◌∷◌, length, Some, slice_get, refl, ap, arith}
+use Rattle.std.proofs.Common.{◌≡◌, ℕ, ◌<◌, List, [], length, Some, slice_get, ap, arith}
 use Rattle.std.proofs.lemmas.Option.{slice_get_within}
+use Rattle.list_laws.proofs.Places.{place_of}
 use Rattle.source_feed.specs.Planned.{FeedValue}
 use Rattle.board_laws.specs.Meaning.{State, Meaning}
 use Rattle.board_laws.specs.Reading.{AllReadTheirFeeds}
 use Rattle.checkpoint_laws.specs.Laws.{AreFeeds}
 use Rattle.checkpoint_laws.specs.Resumed.{IsResumedAt, IsResumedBoard}
 use Rattle.checkpoint_laws.specs.Saved.{SavedStream}
-
-place_of : {A : Type 0} (xs : List A) (i : ℕ) → i < length xs → (x : A) × (slice_get xs i ≡ Some x)
-place_of [] i less = absurd (omega arith)
-place_of (x ∷ xs) zero less = (x, refl)
-place_of (x ∷ xs) (suc i) less = place_of xs i (omega arith)
 
 pub resumed-reads : (feeds : List FeedValue) (saved : List SavedStream) (board : Meaning) → AreFeeds feeds → IsResumedBoard feeds saved board → AllReadTheirFeeds feeds board
 resumed-reads feeds saved board are made s state here =

@@ -10,6 +10,7 @@ use Rattle.std.specs.List.{AllByRecursion, filter}
 use Rattle.std.specs.Prelude.{IfSome}
 use Rattle.std.specs.Option.{option_or, option_map}
 use Rattle.std.specs.Ordering.{eq_by_cmp, is_le}
+use Rattle.list_laws.proofs.Places.{place_of, slice_get-push}
 use Rattle.filter_rule.specs.PlanValue.{PlanValue}
 use Rattle.pk_copy.specs.KeyOrder.{key_cmp}
 use Rattle.pk_copy.specs.KeyValue.{KeyValue}
@@ -34,7 +35,6 @@ use Rattle.board_laws.specs.Lawful.{IsSoundState}
 use Rattle.board_laws.specs.Meaning.{State, TargetRows}
 use Rattle.board_laws.specs.Runs.{sound_groups}
 use Rattle.board_laws.specs.Step.{due_at}
-use Rattle.board_laws.proofs.Lists.{slice_get-push}
 use Rattle.board_laws.proofs.Lookups.{Ties, none_above}
 use Rattle.join_laws.specs.Joined.{cut_rows, rows_from}
 use Rattle.join_laws.specs.Refused.{IsFirstClash}
@@ -46,7 +46,7 @@ use Rattle.board_laws.specs.Sources.{IsNumberAt}
 use Rattle.checkpoint_laws.specs.Resumed.{IsKnown, IsResumedAt, AgreesWith, AtEachPlace}
 use Rattle.checkpoint_laws.specs.Refused.{plans_of_feeds, IsFirstOff, IsLeastDifference, IsRefusedSaved}
 use Rattle.checkpoint_laws.proofs.OwnRows.{cut-at, cut-rising}
-use Rattle.checkpoint_laws.proofs.ResumedLaws.{at_same_place, at_inside, resumed-sound}
+use Rattle.checkpoint_laws.proofs.ResumedLaws.{at_same_place, resumed-sound}
 use Rattle.checkpoint_laws.proofs.RestartedLaws.{one_number}
 use Rattle.checkpoint_core.specs.Groups.{AreFirst, StopsBefore}
 use Rattle.apply_core.specs.Feeds.{AreWholeFeeds}
@@ -96,12 +96,12 @@ no_number feeds saved n numbers feed one here there none h = record {
   here = here;
   there = there;
   fails = λ known. none known.0 known.1;
-  before = λ t x y less p q. let number = at_inside numbers t (subst (λ m. t < m) (sym h.count) less) in (number.0, h.each_stream t x y number.0 p q number.1);
+  before = λ t x y less p q. let number = place_of numbers t (subst (λ m. t < m) (sym h.count) less) in (number.0, h.each_stream t x y number.0 p q number.1);
 }
 
 all_known : (feeds : List FeedValue) (saved : List SavedStream) (numbers : List ℕ) → AreNumbers feeds saved (length feeds) numbers → AtEachPlace IsKnown feeds saved
 all_known feeds saved numbers h s x y p q =
-    let number = at_inside numbers s (subst (λ m. s < m) (sym h.count) (slice_get_within feeds s x p)) in
+    let number = place_of numbers s (subst (λ m. s < m) (sym h.count) (slice_get_within feeds s x p)) in
     (number.0, h.each_stream s x y number.0 p q number.1)
 
 -- a number at a position is that of a group, or none
@@ -178,7 +178,7 @@ stops_at feeds saved n numbers states feed one whole known here there h (Unsound
     there = there;
     fails = unsound.0;
     before = λ t x y less p q number at.
-        let state = at_inside states t (subst (λ m. t < m) (sym h.count) less) in
+        let state = place_of states t (subst (λ m. t < m) (sym h.count) less) in
         let stands : IsResumedAt x y state.0 = h.each_stream t x y state.0 p q state.1 in
         let same : number ≡ stands.number = one_number x (whole t x p) y.position number stands.number at stands.known in
         subst (λ m. m ≤ length (sound_groups x)) (sym same) stands.sound;

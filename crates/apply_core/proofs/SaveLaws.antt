@@ -1,20 +1,13 @@
 -- A checkpoint as it is written, one stream after another.
-use Rattle.std.proofs.Common.{◌≡◌, ℕ, ◌+◌, ◌<◌, ◌≤◌, List, [], ◌∷◌, ◌++◌, length, map, drop, get_or, append_assoc, append-nil, refl, sym, ap, ◌∙◌}
-use Rattle.std.proofs.lemmas.List.{drop_all, drop_more}
+use Rattle.std.proofs.Common.{◌≡◌, ℕ, ◌+◌, ◌<◌, ◌≤◌, List, [], ◌∷◌, ◌++◌, length, map, drop, append-nil, refl, sym, ap, ◌∙◌}
+use Rattle.std.proofs.lemmas.List.{drop_all}
+use Rattle.list_laws.proofs.Walks.{turn}
 use Rattle.vevent.specs.WrittenPart.{written_stream_part}
 use Rattle.board_laws.specs.Meaning.{State, TargetRows}
 use Rattle.checkpoint_laws.specs.declared.version.Version.TheVariants.{Two}
 use Rattle.checkpoint_laws.specs.Saved.{saved_stream, saved_from}
 use Rattle.checkpoint_laws.specs.Written.{stream_part, stream_parts, framed, written_parts}
 use Rattle.apply_core.specs.Private.Saving.{parts_from}
-
--- what is made so far, and what the others make, is all: one item further
-pub turn : {A : Type 0} (made more whole front rest : List A) → made ++ rest ≡ whole → rest ≡ front ++ more → (made ++ front) ++ more ≡ whole
-turn {A} made more whole front rest is parts = append_assoc made front more ∙ ap (λ (xs : List A). made ++ xs) (sym parts) ∙ is
-
--- an item and what comes behind it
-pub at_item : {A : Type 0} (xs : List A) (i : ℕ) (x : A) → i < length xs → x ≡ get_or xs i x → drop i xs ≡ x ∷ drop (i + 1) xs
-at_item {A} xs i x less is = drop_more xs i x less ∙ ap (λ (y : A). y ∷ drop (i + 1) xs) (sym is)
 
 -- ---- the parts of streams
 

@@ -7,6 +7,7 @@ use Rattle.std.specs.declared.cmp.Ordering.TheVariants.{Equal}
 use Rattle.std.specs.Cmp.{Equal-is}
 use Rattle.std.specs.Option.{option_or, option_map}
 use Rattle.std.specs.Ordering.{eq_by_cmp}
+use Rattle.list_laws.proofs.Places.{slice_get-push}
 use Rattle.pk_copy.specs.KeyOrder.{key_cmp}
 use Rattle.pk_copy.specs.KeyOrderLaws.{key_cmp_total}
 use Rattle.pk_copy.specs.KeyValue.{KeyValue}
@@ -18,7 +19,6 @@ use Rattle.source_feed.specs.History.{RowValue}
 use Rattle.board_laws.specs.Meaning.{State, TargetRows}
 use Rattle.board_laws.specs.Cut.{cut_of, own_row}
 use Rattle.board_laws.specs.Step.{due_at}
-use Rattle.board_laws.proofs.Lists.{slice_get-push}
 use Rattle.board_laws.proofs.Lookups.{Ties, same_rows}
 use Rattle.board_laws.proofs.OwnPart.{only}
 use Rattle.join_laws.specs.Joined.{rows_from}

@@ -4,6 +4,7 @@ use Rattle.std.proofs.lemmas.List.{length-take-le}
 use Rattle.std.proofs.lemmas.Option.{same_Some, none-some, slice_get-map, slice_get_within}
 use Rattle.std.specs.Option.{option_map, option_map_or}
 use Rattle.std.specs.Result.{result_ok, ok_prefix}
+use Rattle.list_laws.proofs.Places.{no_place}
 use Rattle.outcome.specs.Outcome.{◌>>=◌}
 use Rattle.gtid_set.specs.Position.{IsCanonical}
 use Rattle.filter_rule.specs.PlanValue.{PlanValue}
@@ -16,9 +17,6 @@ use Rattle.source_feed.proofs.PreparedLaws.{group_whole}
 use Rattle.board_laws.specs.Allowed.{last_position}
 use Rattle.board_laws.specs.Lawful.{IsReadList}
 use Rattle.board_laws.specs.Runs.{sound_groups}
-
-no_place : {A P : Type 0} (i : ℕ) (x : A) → slice_get [] i ≡ Some x → P
-no_place i x e = cc
 
 -- the position of the last of the first groups
 last_place : (groups : List PreparedValue) (i : ℕ) (group : PreparedValue) → slice_get groups i ≡ Some group → slice_get (take (suc i) groups) (length (take (suc i) groups) - 1) ≡ Some group

@@ -8,7 +8,9 @@ use borrow.Author.Tests.{eqb-true, eq-eqb, leb-false}
 use Rattle.std.specs.Prelude.{MatchOption, nat_le}
 use Rattle.std.specs.List.{AllByRecursion}
 use Rattle.std.specs.Option.{option_or, option_map, option_and_then}
-use Rattle.std.specs.Result.{result_ok, ok_prefix}
+use Rattle.std.specs.Result.{result_ok}
+use Rattle.list_laws.proofs.Fronts.{front_of}
+use Rattle.list_laws.proofs.Places.{one_longer}
 use Rattle.outcome.specs.Outcome.{◌>>=◌}
 use Rattle.filter_rule.specs.PlanValue.{PlanValue}
 use Rattle.pk_copy.specs.KeyOrder.{key_cmp}
@@ -46,32 +48,6 @@ use Rattle.board_laws.proofs.Making.{plan-after}
 use Rattle.board_laws.proofs.Following.{refused_by, answered, unchanged, answered_by, one-lawful}
 
 -- ---- beginnings of lists
-
--- a front of a front is a front
-front_of : {A : Type 0} (m n : ℕ) (xs : List A) → (k : ℕ) × (take m (take n xs) ≡ take k xs)
-front_of zero n xs = (0, refl)
-front_of (suc m) zero xs = (0, refl)
-front_of (suc m) (suc n) [] = (0, refl)
-front_of {A} (suc m) (suc n) (x ∷ xs) =
-    let rest : (k : ℕ) × (take m (take n xs) ≡ take k xs) = front_of m n xs in
-    (suc rest.0, ap (λ (ys : List A). x ∷ ys) rest.1)
-
-no_place : {A P : Type 0} (i : ℕ) (x : A) → slice_get [] i ≡ Some x → P
-no_place i x e = cc
-
-no_error : {A E P : Type 0} (r : Result A E) (g : A) → Some r ≡ Some (Ok g) → result_ok r ≡ None → P
-no_error r g h none = absurd (none-some g (sym none ∙ ap result_ok (same_Some r (Ok g) h)))
-
-same_good : {A E : Type 0} (r : Result A E) (x g : A) → Some r ≡ Some (Ok g) → result_ok r ≡ Some x → x ≡ g
-same_good r x g h is = same_Some x g (sym is ∙ ap result_ok (same_Some r (Ok g) h))
-
--- what stands behind a front of the results before the first error, if it is one more result, is the next of them
-one_longer : {A E : Type 0} (xs : List (Result A E)) (n : ℕ) (g : A) → slice_get xs (length (take n (ok_prefix xs))) ≡ Some (Ok g) → take n (ok_prefix xs) ++ g ∷ [] ≡ take (suc n) (ok_prefix xs)
-one_longer [] n g h = no_place 0 (Ok g) h
-one_longer (Err e ∷ xs) zero g h = no_error (Err e) g h refl
-one_longer (Err e ∷ xs) (suc n) g h = no_error (Err e) g h refl
-one_longer {A} {E} (Ok x ∷ xs) zero g h = ap (λ (y : A). y ∷ []) (sym (same_good (Ok x) x g h refl))
-one_longer {A} {E} (Ok x ∷ xs) (suc n) g h = ap (λ (ys : List A). x ∷ ys) (one_longer xs n g h)
 
 -- ---- an offered group of a feed
 
@@ -233,7 +209,7 @@ run-reads feeds old new (step ∷ steps) (reply ∷ replies) run all = run-reads
 -- ---- keys of feeds
 
 -- a key that a front of groups touches the groups touch
-touched_front : (k : ℕ) (groups : List PreparedValue) (key : KeyValue) → IsTouchedIn (take k groups) key → IsTouchedIn groups key
+pub touched_front : (k : ℕ) (groups : List PreparedValue) (key : KeyValue) → IsTouchedIn (take k groups) key → IsTouchedIn groups key
 touched_front k groups key touched =
     λ none.
     touched

@@ -6,6 +6,8 @@ use borrow.Author.Tests.{eqb-true, eq-eqb}
 use Rattle.std.specs.Prelude.{MatchOption}
 use Rattle.std.specs.List.{cons_option, filter_map}
 use Rattle.std.specs.Option.{option_and_then}
+use Rattle.list_laws.proofs.Truths.{and-false}
+use Rattle.list_laws.proofs.Places.{slice_get-set_same, slice_get-set_other}
 use Rattle.pk_copy.specs.KeyOrder.{key_cmp}
 use Rattle.pk_copy.specs.KeyValue.{KeyValue}
 use Rattle.stream_core.specs.declared.step.Step.{Step}
@@ -25,7 +27,6 @@ use Rattle.board_laws.specs.StateAfter.{state_after}
 use Rattle.board_laws.specs.Step.{IsMade}
 use Rattle.board_laws.specs.Runs.{event_of_step, state_behind, taken, own}
 use Rattle.board_laws.specs.Schedule.{Reply, IsEventStep, IsRefusedStep, IsReplyBy, IsReply, IsRun}
-use Rattle.board_laws.proofs.Lists.{slice_get-set_same, slice_get-set_other}
 use Rattle.board_laws.proofs.Lookups.{Ties, same_rows}
 
 -- ---- one step
@@ -84,10 +85,6 @@ own-goes_on old new t s event answer state made same here =
     ∙ ap (λ (x : State). Some (state_after x event)) is
 
 -- ---- all steps
-
-and-false : (b : Bool) → (b && false) ≡ false
-and-false true = refl
-and-false false = refl
 
 -- a refused step isn't among one's own
 own-refused : (s : ℕ) (step : ℕ × Step) (steps : List (ℕ × Step)) (refusal : StepRefusal) (replies : List Reply) → own s (step ∷ steps) (Err refusal ∷ replies) ≡ own s steps replies

@@ -6,6 +6,7 @@ use Rattle.std.proofs.lemmas.Option.{slice_get-map, same_Some, none-some}
 use Rattle.std.specs.Prelude.{nat_lt, nat_le}
 use Rattle.std.specs.List.{filter}
 use Rattle.std.specs.Option.{option_map, option_and_then}
+use Rattle.list_laws.proofs.Places.{no_place}
 use Rattle.filter_rule.specs.PlanValue.{PlanValue}
 use Rattle.pk_copy.specs.KeyValue.{KeyValue}
 use Rattle.pk_copy.specs.Marks.{is_inside, is_beyond, is_past}
@@ -19,18 +20,15 @@ use Rattle.board_laws.specs.Lawful.{start_of, IsReadList, IsSoundState, IsLawful
 use Rattle.board_laws.specs.Chunk.{rows_left, takes_all}
 use Rattle.board_laws.proofs.History.{passed_at-alike}
 
-nothing : {A P : Type 0} (i : ℕ) (x : A) → slice_get [] i ≡ Some x → P
-nothing i x e = cc
-
 start-read : (plan : PlanValue) → IsReadList plan []
 start-read plan = record {
-  prepared = λ i g e. nothing i g e;
-  planned = λ i g e. nothing i g e;
+  prepared = λ i g e. no_place i g e;
+  planned = λ i g e. no_place i g e;
   order = record {
-    numbered = λ i g e. nothing i g e;
-    canonical = λ i g e. nothing i g e;
-    from_empty = λ i g e. nothing i g e;
-    growing = λ i j earlier later less e f. nothing i earlier e;
+    numbered = λ i g e. no_place i g e;
+    canonical = λ i g e. no_place i g e;
+    from_empty = λ i g e. no_place i g e;
+    growing = λ i j earlier later less e f. no_place i earlier e;
   };
 }
 

@@ -2,11 +2,12 @@
 use Rattle.std.proofs.Common.{◌≡◌, ℕ, ◌+◌, ◌-◌, ◌^◌, ◌<◌, ◌≤◌, ◌⊎◌, inl, inr, Bool, true, false, cond, List, [], ◌∷◌, ◌++◌, length, take, Option, Some, None, slice_get, refl, sym, ap, subst, ◌∙◌, arith}
 use Rattle.std.proofs.lemmas.Bool.{false≢true}
 use Rattle.std.proofs.lemmas.Grind.{flat_map-append}
-use Rattle.std.proofs.lemmas.List.{append-nil, take_more, take-append-le}
-use Rattle.std.proofs.lemmas.Option.{same_Some, slice_get_within, get_or_from_slice_get}
+use Rattle.std.proofs.lemmas.List.{append-nil, take-append-le}
+use Rattle.std.proofs.lemmas.Option.{same_Some, slice_get_within}
 use Rattle.std.specs.Prelude.{unwrap_or}
-use Rattle.std.specs.Option.{option_or, option_map, option_and_then, option_map_or}
-use Rattle.std.specs.Ordering.{eq_by_cmp}
+use Rattle.std.specs.Option.{option_map, option_and_then, option_map_or}
+use Rattle.source_feed.proofs.ImageLaws.{last_at-append, kept-or, take-next}
+use Rattle.list_laws.proofs.Places.{slice_get-push, slice_get-take}
 use Rattle.gtid_set.specs.Position.{IsCanonical, IsWithin}
 use Rattle.filter_rule.specs.PlanValue.{PlanValue}
 use Rattle.pk_copy.specs.KeyOrder.{key_cmp}
@@ -19,38 +20,13 @@ use Rattle.source_feed.specs.History.{RowValue, touches_in, passing, passed_at}
 use Rattle.source_feed.specs.Image.{kept_after}
 use Rattle.board_laws.specs.Lawful.{IsReadList}
 use Rattle.board_laws.specs.Allowed.{last_position, IsNext}
-use Rattle.board_laws.proofs.Lists.{slice_get-push, slice_get-take, take-take, empty_without_last}
+use Rattle.board_laws.proofs.Lists.{take-take, empty_without_last}
 
 -- ---- what one group more keeps
-
-or_assoc : {A : Type 0} (u v w : Option A) → option_or (option_or u v) w ≡ option_or u (option_or v w)
-or_assoc None v w = refl
-or_assoc (Some x) v w = refl
-
-or_none : {A : Type 0} (v : Option A) → option_or v None ≡ v
-or_none None = refl
-or_none (Some x) = refl
-
-last_at-append : (a b : List TouchValue) (k : KeyValue) → last_at key_cmp (a ++ b) k ≡ option_or (last_at key_cmp b k) (last_at key_cmp a k)
-last_at-append [] b k = sym (or_none (last_at key_cmp b k))
-last_at-append (t ∷ a) b k =
-    let one : Option (Option PutValue) = cond (eq_by_cmp key_cmp k t.0) (Some t.1) None in
-    ap (λ (v : Option (Option PutValue)). option_or v one) (last_at-append a b k)
-    ∙ or_assoc (last_at key_cmp b k) (last_at key_cmp a k) one
 
 touches_in-more : (groups : List PreparedValue) (group : PreparedValue) → touches_in (groups ++ group ∷ []) ≡ touches_in groups ++ group.touches
 touches_in-more groups group =
     flat_map-append (λ (g : PreparedValue). g.touches) groups (group ∷ []) ∙ ap (λ (ts : List TouchValue). touches_in groups ++ ts) (append-nil group.touches)
-
-kept-or : (t earlier : Option (Option PutValue))
-    → option_and_then passing (option_and_then (λ put. put) (option_or t earlier)) ≡ kept_after t (option_and_then passing (option_and_then (λ put. put) earlier))
-kept-or None earlier = refl
-kept-or (Some put) earlier = refl
-
-take-next : (history : List PreparedValue) (n : ℕ) (group : PreparedValue) → slice_get history n ≡ Some group → take (n + 1) history ≡ take n history ++ group ∷ []
-take-next history n group e =
-    let within : n < length history = slice_get_within history n group e in
-    take_more history n group within ∙ ap (λ (g : PreparedValue). take n history ++ g ∷ []) (get_or_from_slice_get history n group group e)
 
 -- one group more keeps at a key what its last touch leaves there, and else what was kept
 pub passed_at-next : (history : List PreparedValue) (n : ℕ) (group : PreparedValue) (key : KeyValue) → slice_get history n ≡ Some group

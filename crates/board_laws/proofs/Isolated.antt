@@ -5,6 +5,8 @@ use Rattle.std.proofs.lemmas.List.{length-set}
 use borrow.Author.Tests.{eqb-true}
 use Rattle.std.specs.Prelude.{MatchOption}
 use Rattle.std.specs.Option.{option_and_then}
+use Rattle.board_laws.proofs.Chunks.{and-left}
+use Rattle.list_laws.proofs.Places.{slice_get-set_same, slice_get-set_other}
 use Rattle.filter_rule.specs.PlanValue.{PlanValue}
 use Rattle.pk_copy.specs.KeyOrder.{key_cmp}
 use Rattle.pk_copy.specs.KeyValue.{KeyValue}
@@ -25,7 +27,7 @@ use Rattle.board_laws.specs.StateAfter.{state_after}
 use Rattle.board_laws.specs.Step.{due_at, IsMade, IsRefusedFor, IsRefusedOn}
 use Rattle.board_laws.specs.Schedule.{Reply, IsEventStep, IsRefusedStep, IsReplyBy, IsReply, IsRun}
 use Rattle.board_laws.specs.Lone.{is_hindered, is_lone, lone_steps, lone_replies, IsAloneAs}
-use Rattle.board_laws.proofs.Lists.{slice_get-set, slice_get-set_same, slice_get-set_other}
+use Rattle.board_laws.proofs.Lists.{slice_get-set}
 use Rattle.board_laws.proofs.Making.{plan-after, same-or-other}
 use Rattle.board_laws.proofs.OwnPart.{own_part, only, rising_part, value_in_part, own-only, other-only, none-in_the_way}
 use Rattle.board_laws.proofs.Following.{refused_by, answered, unchanged, answered_by}
@@ -157,10 +159,6 @@ lone_step feeds old between alone step (Err refusal) h free is = (
 )
 
 -- ---- all steps
-
-and-left : (a b : Bool) → (a && b) ≡ true → a ≡ true
-and-left true b h = refl
-and-left false b h = absurd (true≢false (sym h))
 
 and-free : (a b : Bool) → (a && not b) ≡ true → b ≡ false
 and-free true true h = absurd (true≢false (sym h))

@@ -7,6 +7,7 @@ use Rattle.std.specs.List.{AllByRecursion, cons_option, filter_map, list_any}
 use Rattle.std.specs.Map.{lookup}
 use Rattle.std.specs.Option.{option_or, option_map, option_and_then}
 use Rattle.std.specs.Ordering.{ordering_reverse, is_eq, match_ordering}
+use Rattle.list_laws.proofs.Fronts.{each}
 use Rattle.pk_copy.specs.KeyOrder.{key_cmp}
 use Rattle.pk_copy.specs.KeyOrderLaws.{key_cmp_total}
 use Rattle.pk_copy.specs.KeyValue.{KeyValue}
@@ -16,7 +17,7 @@ use Rattle.source_feed.specs.History.{RowValue, touches_in, passed_at, passing, 
 use Rattle.source_feed.specs.Image.{ImageRows}
 use Rattle.source_feed.specs.Touches.{PutValue, TouchValue, PreparedValue}
 use Rattle.board_laws.specs.KeptRows.{with_key, touched_keys, passed_rows}
-use Rattle.board_laws.proofs.Lookups.{Ties, is_key, same_key, each, same_rows}
+use Rattle.board_laws.proofs.Lookups.{Ties, is_key, same_key, same_rows}
 
 -- ---- rising keys
 

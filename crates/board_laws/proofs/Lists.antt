@@ -1,20 +1,8 @@
 -- Places of a list behind a push, a write and a cut.
-use Rattle.std.proofs.Common.{◌≡◌, ◌≢◌, ℕ, zero, suc, ◌-◌, ◌<◌, ◌≤◌, ◌⊎◌, inl, inr, List, [], ◌∷◌, ◌++◌, length, take, Some, None, slice_get, set, refl, sym, ap, ◌∙◌, arith}
+use Rattle.std.proofs.Common.{◌≡◌, ◌≢◌, ℕ, zero, suc, ◌-◌, ◌≤◌, ◌⊎◌, inl, inr, List, [], ◌∷◌, ◌++◌, length, take, Some, None, slice_get, set, refl, sym, ap, ◌∙◌, arith}
 use Rattle.std.proofs.lemmas.Option.{same_Some}
 
 -- ---- a push
-
--- an element is one of the others or the last
-pub slice_get-push : {A : Type 0} (xs : List A) (x y : A) (i : ℕ) → slice_get (xs ++ x ∷ []) i ≡ Some y
-    → ((i < length xs) × (slice_get xs i ≡ Some y)) ⊎ ((i ≡ length xs) × (x ≡ y))
-slice_get-push [] x y zero e = inr (refl, same_Some x y e)
-slice_get-push [] x y (suc i) e = cc
-slice_get-push (z ∷ xs) x y zero e = inl (omega arith, e)
-slice_get-push (z ∷ xs) x y (suc i) e =
-    elim (slice_get-push xs x y i e) [
-      | inl old ↦ inl (omega (arith, old.0), old.1)
-      | inr last ↦ inr (ap suc last.0, last.1)
-    ]
 
 -- ---- a write
 
@@ -30,26 +18,7 @@ slice_get-set (z ∷ xs) (suc s) x y (suc i) e =
       | inr other ↦ inr (let ne : i ≢ s = other.0 in omega arith, other.1)
     ]
 
-pub slice_get-set_same : {A : Type 0} (xs : List A) (s : ℕ) (x y : A) → slice_get xs s ≡ Some y → slice_get (set xs s x) s ≡ Some x
-slice_get-set_same [] s x y e = cc
-slice_get-set_same (z ∷ xs) zero x y e = refl
-slice_get-set_same (z ∷ xs) (suc s) x y e = slice_get-set_same xs s x y e
-
-pub slice_get-set_other : {A : Type 0} (xs : List A) (s : ℕ) (x : A) (i : ℕ) → i ≢ s → slice_get (set xs s x) i ≡ slice_get xs i
-slice_get-set_other [] s x i ne = refl
-slice_get-set_other (z ∷ xs) zero x zero ne = absurd (ne refl)
-slice_get-set_other (z ∷ xs) zero x (suc i) ne = refl
-slice_get-set_other (z ∷ xs) (suc s) x zero ne = refl
-slice_get-set_other (z ∷ xs) (suc s) x (suc i) ne = slice_get-set_other xs s x i (λ e. ne (ap suc e))
-
 -- ---- a cut
-
--- an element of a front is one of the list
-pub slice_get-take : {A : Type 0} (n : ℕ) (xs : List A) (i : ℕ) (x : A) → slice_get (take n xs) i ≡ Some x → slice_get xs i ≡ Some x
-slice_get-take zero xs i x e = cc
-slice_get-take (suc n) [] i x e = cc
-slice_get-take (suc n) (y ∷ xs) zero x e = e
-slice_get-take (suc n) (y ∷ xs) (suc i) x e = slice_get-take n xs i x e
 
 -- a front of a front
 pub take-take : {A : Type 0} (n : ℕ) (xs : List A) → take n (take n xs) ≡ take n xs

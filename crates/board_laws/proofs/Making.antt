@@ -5,6 +5,7 @@ use Rattle.std.proofs.lemmas.List.{length-set}
 use borrow.Author.Tests.{eqb-true}
 use Rattle.std.specs.Prelude.{nat_le, unwrap_or}
 use Rattle.std.specs.Option.{option_map, option_and_then}
+use Rattle.list_laws.proofs.Places.{slice_get-set_same, slice_get-set_other}
 use Rattle.filter_rule.specs.PlanValue.{PlanValue}
 use Rattle.pk_copy.specs.KeyOrder.{key_cmp}
 use Rattle.pk_copy.specs.KeyValue.{KeyValue}
@@ -24,7 +25,7 @@ use Rattle.board_laws.specs.StateAfter.{answer_to, state_after}
 use Rattle.board_laws.specs.Touching.{touch_of}
 use Rattle.board_laws.specs.Allowed.{IsAllowed}
 use Rattle.board_laws.specs.Step.{due_at, IsMade, IsClash}
-use Rattle.board_laws.proofs.Lists.{slice_get-set, slice_get-set_same, slice_get-set_other}
+use Rattle.board_laws.proofs.Lists.{slice_get-set}
 use Rattle.board_laws.proofs.Lookups.{Ties}
 use Rattle.board_laws.proofs.Owning.{own-touched, other-touched, same-owner}
 use Rattle.board_laws.proofs.Sound.{sound-after}

@@ -5,6 +5,7 @@ use Rattle.std.proofs.lemmas.Option.{same_Some, none-some, slice_get-map}
 use borrow.Author.Tests.{eq-eqb, eqb-true}
 use Rattle.std.specs.Prelude.{◌↔◌}
 use Rattle.std.specs.Option.{option_map, option_and_then}
+use Rattle.list_laws.proofs.Places.{slice_get-set_same, slice_get-set_other}
 use Rattle.filter_rule.specs.PlanValue.{PlanValue}
 use Rattle.pk_copy.specs.KeyOrder.{key_cmp}
 use Rattle.pk_copy.specs.KeyValue.{KeyValue}
@@ -17,7 +18,7 @@ use Rattle.board_laws.specs.Lawful.{start_of, IsSoundState, IsLawful}
 use Rattle.board_laws.specs.Lone.{IsAloneAs}
 use Rattle.board_laws.specs.Reading.{IsReplayed}
 use Rattle.board_laws.proofs.Fresh.{start-sound, start-cut}
-use Rattle.board_laws.proofs.Lists.{slice_get-set, slice_get-set_same, slice_get-set_other}
+use Rattle.board_laws.proofs.Lists.{slice_get-set}
 use Rattle.board_laws.proofs.Making.{same-or-other}
 use Rattle.board_laws.proofs.OwnPart.{own_part, only, rising_part, value_in_part, own-only, other-only}
 

@@ -6,6 +6,7 @@ use borrow.Author.Tests.{eqb-true, ltb-false, leb-false}
 use Rattle.std.specs.Prelude.{nat_lt, nat_le, IfSome, IsOk}
 use Rattle.std.specs.List.{AllByRecursion}
 use Rattle.std.specs.Option.{option_map_or}
+use Rattle.list_laws.proofs.Places.{slice_get-take}
 use Rattle.stream_core.specs.Standing.{Standing, IsSound, IsOpenAt, is_open_at}
 use Rattle.stream_core.specs.Rows.{first_standing, NoneStands}
 use Rattle.stream_core.specs.StepTable.{row_of, decided}
@@ -22,7 +23,6 @@ use Rattle.board_laws.specs.KeptRows.{passed_rows}
 use Rattle.board_laws.specs.Chunk.{rows_left, rows_taken, takes_all, marks_behind, copied_state}
 use Rattle.board_laws.specs.StateAfter.{state_after}
 use Rattle.board_laws.specs.Allowed.{IsAllowed, IsNext}
-use Rattle.board_laws.proofs.Lists.{slice_get-take}
 use Rattle.board_laws.proofs.Lookups.{Ties, all-filter, all-at}
 use Rattle.board_laws.proofs.RowsUnder.{IsRowUnder, key-under, passed-under}
 use Rattle.board_laws.proofs.History.{read-next, read-cut}

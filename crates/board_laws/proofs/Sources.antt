@@ -1,9 +1,10 @@
 -- A lawful board whose streams read their feeds shows their sources.
-use Rattle.std.proofs.Common.{◌≡◌, ℕ, zero, suc, ◌<◌, ◌≤◌, inl, inr, List, [], ◌∷◌, length, take, min, Option, Some, None, slice_get, IsTrue, refl, sym, ap, subst, ◌∙◌, arith}
+use Rattle.std.proofs.Common.{◌≡◌, ℕ, zero, suc, ◌≤◌, inl, inr, List, [], ◌∷◌, length, take, min, Option, Some, None, slice_get, IsTrue, refl, sym, ap, subst, ◌∙◌, arith}
 use Rattle.std.proofs.lemmas.List.{length-take, length-take-le}
 use Rattle.std.proofs.lemmas.Option.{same_Some}
 use Rattle.std.specs.Prelude.{◌↔◌}
 use Rattle.std.specs.Option.{option_map, option_and_then}
+use Rattle.list_laws.proofs.Places.{place_of}
 use Rattle.filter_rule.specs.PlanValue.{PlanValue}
 use Rattle.pk_copy.specs.KeyOrder.{key_cmp}
 use Rattle.pk_copy.specs.KeyValue.{KeyValue}
@@ -21,11 +22,6 @@ use Rattle.board_laws.specs.Runs.{sound_groups}
 use Rattle.board_laws.specs.Sources.{IsNumberAt, ShowsSource, ShowsItsSource, AllShowTheirSources}
 use Rattle.board_laws.proofs.FeedGroups.{IsGroupOf, group_of, last_of}
 use Rattle.board_laws.proofs.Replays.{replayed}
-
-place_of : {A : Type 0} (xs : List A) (i : ℕ) → i < length xs → (x : A) × (slice_get xs i ≡ Some x)
-place_of [] i less = absurd (omega arith)
-place_of (x ∷ xs) zero less = (x, refl)
-place_of (x ∷ xs) (suc i) less = place_of xs i (omega arith)
 
 -- the first ones of a front that has them are those of the whole
 take_of_front : {A : Type 0} (n m : ℕ) (xs : List A) → n ≤ length (take m xs) → take n (take m xs) ≡ take n xs

@@ -1,10 +1,11 @@
 -- Rows by rising key, and one more behind them.
-use Rattle.std.proofs.Common.{◌≡◌, ℕ, ◌+◌, ◌-◌, ◌<◌, [], ◌∷◌, ◌++◌, length, take, drop, get_or, append-nil, sym, ap, ◌∙◌, subst, arith, Some, Ordering}
+use Rattle.std.proofs.Common.{◌≡◌, ℕ, ◌+◌, ◌-◌, ◌<◌, [], ◌∷◌, ◌++◌, length, take, drop, get_or, append-nil, sym, ap, ◌∙◌, subst, arith, Some}
 use Rattle.std.specs.Prelude.{slice_get, IsTrue}
 use Rattle.std.specs.Ordering.{is_lt}
 use Rattle.std.proofs.lemmas.Option.{slice_get_within, slice_get-get_or}
 use Rattle.std.proofs.lemmas.List.{drop_all}
-use Rattle.std.specs.declared.cmp.Ordering.TheVariants.{Less, Equal, Greater}
+use Rattle.std.specs.declared.cmp.Ordering.TheVariants.{Less}
+use Rattle.list_laws.proofs.Truths.{is_less, less_is}
 use Rattle.list_laws.proofs.Fronts.{each}
 use Rattle.pk_copy.specs.KeyOrder.{key_cmp}
 use Rattle.pk_copy.specs.KeyOrderLaws.{key_cmp_total}
@@ -39,14 +40,6 @@ last_parts rows last e =
     let is : last ≡ get_or rows n last = cc in
     let nothing : drop (n + 1) rows ≡ [] = drop_all (n + 1) rows (omega (arith, inside)) in
     split_at rows n last inside is ∙ ap (λ (rest : ImageRows). take n rows ++ last ∷ rest) nothing
-
-is_less : (o : Ordering) → IsTrue (is_lt o) → o ≡ Less
-is_less Less h = search
-is_less Equal h = cc
-is_less Greater h = cc
-
-less_is : (o : Ordering) → o ≡ Less → IsTrue (is_lt o)
-less_is o e = rw e (search)
 
 -- the last key tells whether another one is behind all
 pub behind_last : (rows : ImageRows) (last : KeyValue × RowValue) (key : KeyValue) → IsRising key_cmp rows → Some last ≡ slice_get rows (length rows - 1)

@@ -1,6 +1,6 @@
 -- How far tables are copied, by the parts of a checkpoint.
 use Rattle.std.proofs.Common.{◌≡◌, ◌≢◌, ◌==◌, ◌&&◌, ℕ, ◌+◌, ◌<◌, ◌≤◌, ◌⊎◌, inl, inr, cond, List, length, Option, Some, None, slice_get, refl, sym, ap, subst, ◌∙◌, arith}
-use Rattle.std.proofs.lemmas.Bool.{ne_eqb, cases_lt, lt-ltb, le-ltb}
+use Rattle.std.proofs.lemmas.Bool.{ne_eqb, cases_lt, le-ltb}
 use Rattle.std.proofs.lemmas.Option.{same_Some, none-some}
 use borrow.Author.Tests.{eq-eqb}
 use Rattle.std.specs.Prelude.{IfSome}
@@ -12,7 +12,8 @@ use Rattle.vevent.specs.declared.checkpoint_part.TableMark.TheVariants as kinds
 use Rattle.vevent.specs.CheckpointPart.{TablePartValue, mark_of_number}
 use Rattle.checkpoint_laws.specs.Written.{number_of_mark}
 use Rattle.std.proofs.lemmas.Option.{slice_get_within}
-use Rattle.checkpoint_laws.proofs.ResumedLaws.{at_inside}
+use Rattle.checkpoint_laws.proofs.OneThing.{done_at}
+use Rattle.list_laws.proofs.Places.{place_of}
 use Rattle.checkpoint_core.specs.declared.marks.MarkRead.{MarkRead}
 use Rattle.checkpoint_core.specs.declared.marks.MarkRead.TheVariants.{Waiting, Upto, Done}
 use Rattle.checkpoint_core.specs.Private.Reading.{mark_read, IsOfPlan, IsMarked, SaysMark, IsOpenAt, IsMarkedMore, AreMarksBefore, AreMarksOf}
@@ -28,9 +29,6 @@ no_number n (up_to key) none e = none-some kinds.Upto (none ∙ ap mark_of_numbe
 no_number n copied none e = none-some kinds.Done (none ∙ ap mark_of_number e)
 
 -- ---- marks of tables
-
-done_at : (m : Marks) (t : ℕ) → t < m.done → mark_of m t ≡ copied
-done_at m t less = ap (λ b. cond b copied (cond (t == m.done) (current_mark m.upto) waiting)) (lt-ltb t m.done less)
 
 current_at : (m : Marks) (t : ℕ) → t ≡ m.done → mark_of m t ≡ current_mark m.upto
 current_at m t is =
@@ -133,7 +131,7 @@ same_waiting plan t copied other part marked h k = λ e. let n : 2 ≡ 0 = sym h
 at_before : {A : Type 0} (xs : List A) (t i : ℕ) (x : A) → slice_get xs t ≡ Some x → i < t → (y : A) × (slice_get xs i ≡ Some y)
 at_before xs t i x there less =
     let inside : t < length xs = slice_get_within xs t x there in
-    at_inside xs i (omega (arith, less, inside))
+    place_of xs i (omega (arith, less, inside))
 
 pub out_of_order : (plan : PlanValue) (tables : List TablePartValue) (t : ℕ) (part : TablePartValue) (mark : MarkValue) (old : Marks) → slice_get tables t ≡ Some part → SaysMark plan t mark part → mark ≢ waiting
     → AreMarksBefore plan tables t old → old.done < t → (other : Marks) → AreMarksOf plan tables other → ⊥

@@ -4,6 +4,7 @@ use Rattle.std.proofs.lemmas.List.{append_cancel_left, map-append, length-map, l
 use Rattle.std.proofs.lemmas.Option.{same_Some, none-some, slice_get_within}
 use Rattle.std.specs.Prelude.{IfOk, IfErr}
 use Rattle.std.specs.Result.{result_ok, is_err}
+use Rattle.list_laws.proofs.Places.{place_of, slice_get-push}
 use Rattle.filter_rule.specs.PlanValue.{PlanValue}
 use Rattle.proto_wire.specs.declared.fault.FrameFault.{FrameFault}
 use Rattle.proto_wire.specs.Frame.{frames_of}
@@ -11,14 +12,12 @@ use Rattle.proto_wire.specs.Reading.{Reading}
 use Rattle.source_feed.specs.GroupValue.{Position}
 use Rattle.vevent.specs.declared.fault.EventFault.{EventFault}
 use Rattle.vevent.specs.CheckpointPart.{TablePartValue, StreamPartValue, stream_part_at}
-use Rattle.board_laws.proofs.Lists.{slice_get-push}
 use Rattle.checkpoint_laws.specs.declared.version.Version.{Version}
 use Rattle.checkpoint_laws.specs.declared.version.Version.TheVariants.{One, Two}
 use Rattle.checkpoint_laws.specs.Saved.{SavedStream}
 use Rattle.checkpoint_laws.specs.Said.{AreStreamParts, IsNamed, SaysTable, AreSoMany, SaysStream, HaveAsMany, IsCheckpoint}
 use Rattle.checkpoint_laws.specs.Written.{opening}
 use Rattle.checkpoint_laws.proofs.OneThing.{one_version, same_parts}
-use Rattle.checkpoint_laws.proofs.ResumedLaws.{at_inside}
 use Rattle.checkpoint_core.specs.Fault.{IsNothing}
 use Rattle.checkpoint_core.specs.declared.fault.ReadFault.{ReadFault}
 use Rattle.checkpoint_core.specs.declared.fault.ReadFault.TheVariants.{Broken}
@@ -208,7 +207,7 @@ module _ (version : Version) (plan : PlanValue) (tables : List TablePartValue) (
   -- it is the position of the first table
   pub position_same : (position : Position) → 1 ≤ length tables → ((part : TablePartValue) → slice_get tables 0 ≡ Some part → IsAtPosition position 0 part) → saved.position ≡ position
   position_same position some first =
-      let there : (part : TablePartValue) × (slice_get tables 0 ≡ Some part) = at_inside tables 0 some in
+      let there : (part : TablePartValue) × (slice_get tables 0 ≡ Some part) = place_of tables 0 some in
       same_Some saved.position position (ap result_ok (sym (position_of 0 there.0 there.1) ∙ first there.0 there.1))
 
   -- so all tables have that one
@@ -267,7 +266,7 @@ pub not_one : (version : Version) (plans : List PlanValue) (parts : List StreamP
 not_one version plans parts s plan part here at none saved says =
     let inside : s < length plans = slice_get_within plans s plan here in
     let long : length saved ≡ length plans = says.count in
-    let there : (one : SavedStream) × (slice_get saved s ≡ Some one) = at_inside saved s (omega (arith, inside, long)) in
+    let there : (one : SavedStream) × (slice_get saved s ≡ Some one) = place_of saved s (omega (arith, inside, long)) in
     none there.0 (says.each_stream s plan there.0 part here there.1 at)
 
 -- ---- the checkpoint

@@ -10,6 +10,7 @@ use Rattle.std.specs.Cmp.{nat_cmp_is}
 use Rattle.std.specs.List.{AllByRecursion, filter}
 use Rattle.std.specs.Ordering.{ordering_then, ordering_index}
 use Rattle.std.specs.Result.{result_ok}
+use Rattle.list_laws.proofs.Places.{place_of}
 use Rattle.filter_rule.specs.PlanValue.{PlanValue}
 use Rattle.pk_copy.specs.KeyOfKept.{key_of_kept}
 use Rattle.pk_copy.specs.KeyOrder.{key_cmp, parts_cmp}
@@ -21,7 +22,6 @@ use Rattle.checkpoint_core.proofs.BehindLaws.{rising_pushed}
 use Rattle.vevent.specs.CheckpointPart.{TablePartValue}
 use Rattle.checkpoint_laws.specs.Written.{saved_rows_of_table}
 use Rattle.checkpoint_laws.specs.Said.{IsKeyed}
-use Rattle.checkpoint_laws.proofs.ResumedLaws.{at_inside}
 use Rattle.checkpoint_core.specs.declared.fault.ReadFault.{ReadFault}
 use Rattle.checkpoint_core.specs.Fault.{IsNothing}
 use Rattle.checkpoint_core.specs.Private.Reading.{IsRowOf, IsNextRow, AreRows, of_table, rows_in, rows_from}
@@ -361,7 +361,7 @@ rows_only plan parts rows bare rising keyed says = record {
     each : (t : ℕ) → of t (map of_table rows) ≡ of t (rows_from 0 parts)
     each t = elim (cases_lt t (length parts)) [
       | inl less ↦ (
-          let there : (part : TablePartValue) × (slice_get parts t ≡ Some part) = at_inside parts t less in
+          let there : (part : TablePartValue) × (slice_get parts t ≡ Some part) = place_of parts t less in
           same_values t (of t (map of_table rows)) (of t (rows_from 0 parts)) (all-of t (map of_table rows)) (all-of t (rows_from 0 parts))
           (ap values (of-rows t rows) ∙ values-rows (saved_rows_of_table t rows) ∙ sym (says t there.0 there.1) ∙ sym (of-part_at t parts there.0 there.1)))
       | inr most ↦ none_of_rows (length parts) t rows most bare ∙ sym (none_from 0 t parts (omega (arith, most)))

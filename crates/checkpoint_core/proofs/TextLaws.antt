@@ -1,7 +1,8 @@
 -- A table's part as it is written, one item after another.
-use Rattle.std.proofs.Common.{◌≡◌, ◌==◌, ℕ, suc, ◌+◌, ◌<◌, Bool, true, false, cond, List, [], ◌∷◌, ◌++◌, length, map, drop, get_or, append_assoc, sym, ap, ◌∙◌, arith}
+use Rattle.std.proofs.Common.{◌≡◌, ◌==◌, ℕ, suc, ◌+◌, Bool, true, false, cond, List, [], ◌∷◌, ◌++◌, map, drop, sym, ap, ◌∙◌, arith}
 use Rattle.std.proofs.lemmas.Bool.{ne_eqb}
-use Rattle.std.proofs.lemmas.List.{drop_more, map-append}
+use Rattle.std.proofs.lemmas.List.{map-append}
+use Rattle.list_laws.proofs.Walks.{turn}
 use borrow.Author.Tests.{eq-eqb}
 use Rattle.filter_rule.specs.PlanValue.{PlanValue}
 use Rattle.pk_copy.specs.KeyValue.{KeyValue}
@@ -12,14 +13,6 @@ use Rattle.source_feed.specs.Image.{ImageRows, lent_row}
 use Rattle.checkpoint_laws.specs.Written.{saved_rows_of_table, numbers_below}
 use Rattle.checkpoint_core.specs.Private.Texts.{part_of_table, parts_of_tables}
 use denote.Ref.{Bor}
-
--- what is made so far, and what the others make, is all: one item further
-pub turn : {A : Type 0} (made more whole front rest : List A) → made ++ rest ≡ whole → rest ≡ front ++ more → (made ++ front) ++ more ≡ whole
-turn {A} made more whole front rest is parts = append_assoc made front more ∙ ap (λ (xs : List A). made ++ xs) (sym parts) ∙ is
-
--- an item and what comes behind it
-pub at_item : {A : Type 0} (xs : List A) (i : ℕ) (x : A) → i < length xs → x ≡ get_or xs i x → drop i xs ≡ x ∷ drop (i + 1) xs
-at_item {A} xs i x less is = drop_more xs i x less ∙ ap (λ (y : A). y ∷ drop (i + 1) xs) (sym is)
 
 -- ---- the rows of a table
 

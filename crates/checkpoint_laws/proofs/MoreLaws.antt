@@ -3,6 +3,7 @@ use Rattle.std.proofs.Common.{◌≡◌, ℕ, zero, suc, ◌+◌, ◌<◌, ◌�
 use Rattle.std.proofs.lemmas.List.{length-map}
 use Rattle.std.proofs.lemmas.Option.{same_Some, none-some, slice_get-map}
 use Rattle.std.specs.Option.{option_map}
+use Rattle.list_laws.proofs.Places.{place_of}
 use Rattle.filter_rule.specs.PlanValue.{PlanValue}
 use Rattle.source_feed.specs.GroupValue.{Position}
 use Rattle.source_feed.specs.Planned.{PlannedGroupValue, FeedValue}
@@ -27,7 +28,7 @@ use Rattle.checkpoint_laws.specs.Refused.{plans_of_feeds}
 use Rattle.checkpoint_laws.specs.Resumed.{IsResumedAt, AreResumed, IsResumedBoard}
 use Rattle.checkpoint_laws.specs.Saved.{SavedStream, own_rows, saved_stream, saved_from, saved_of}
 use Rattle.checkpoint_laws.proofs.RestartedLaws.{saved_at, saved_long, one_number, restarted_boards}
-use Rattle.checkpoint_laws.proofs.ResumedLaws.{at_same_place, at_inside}
+use Rattle.checkpoint_laws.proofs.ResumedLaws.{at_same_place}
 
 -- ---- what is kept of the board to which tables are added
 
@@ -108,8 +109,8 @@ known_position feed state within history = by state.applied within history.enoug
         → IsNumberAt feed (last_position (take n state.list)) n
     by zero within enough same = inl (refl, refl)
     by (suc i) within enough same =
-        let old : (group : PreparedValue) × (slice_get state.list i ≡ Some group) = at_inside state.list i (omega (arith, within)) in
-        let new : (group : PlannedGroupValue) × (slice_get feed.groups i ≡ Some group) = at_inside feed.groups i (omega (arith, enough)) in
+        let old : (group : PreparedValue) × (slice_get state.list i ≡ Some group) = place_of state.list i (omega (arith, within)) in
+        let new : (group : PlannedGroupValue) × (slice_get feed.groups i ≡ Some group) = place_of feed.groups i (omega (arith, enough)) in
         inr (record { group = new.0; there = new.1; at = same i old.0 new.0 (omega arith) old.1 new.1 ∙ sym (last_of state.list i old.0 old.1) })
 
 -- what is kept of a stream under its new plan stands at the stream's position

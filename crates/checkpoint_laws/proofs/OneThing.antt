@@ -6,6 +6,7 @@ use Rattle.std.proofs.lemmas.List.{append_cancel_left}
 use Rattle.std.proofs.lemmas.Option.{same_Some, none-some}
 use Rattle.std.specs.List.{AllByRecursion}
 use Rattle.std.specs.Result.{result_ok}
+use Rattle.list_laws.proofs.Places.{place_of}
 use Rattle.filter_rule.specs.PlanValue.{PlanValue}
 use Rattle.filter_rule.specs.WellFormed.{IsPlan}
 use Rattle.pk_copy.specs.KeyOfKept.{key_of_kept}
@@ -26,7 +27,7 @@ use Rattle.checkpoint_laws.specs.Saved.{SavedStream}
 use Rattle.checkpoint_laws.specs.Written.{number_of_mark, saved_rows_of_table, opening}
 use Rattle.checkpoint_laws.specs.Said.{AreStreamParts, SaysLast, SaysTable, IsKeyed, AreSoMany, SaysStream}
 use Rattle.checkpoint_laws.specs.Laws.{CheckpointsSayOneThing}
-use Rattle.checkpoint_laws.proofs.ResumedLaws.{at_same_place, at_inside}
+use Rattle.checkpoint_laws.proofs.ResumedLaws.{at_same_place}
 use Rattle.checkpoint_laws.proofs.RestartedLaws.{same_at_places}
 
 -- ---- one list of parts
@@ -77,7 +78,7 @@ same_parts version bytes xs ys p q =
 
 -- ---- marks
 
-done_at : (m : Marks) (t : ℕ) → t < m.done → mark_of m t ≡ copied
+pub done_at : (m : Marks) (t : ℕ) → t < m.done → mark_of m t ≡ copied
 done_at m t less = ap (λ b. cond b copied (cond (t == m.done) (current_mark m.upto) waiting)) (lt-ltb t m.done less)
 
 current_at : (m : Marks) → mark_of m m.done ≡ current_mark m.upto
@@ -171,7 +172,7 @@ module _ (ties : Ties) (version : Version) (plan : PlanValue) (some : 1 ≤ leng
 
   table_at : (t : ℕ) → t < length part.tables → Table t
   table_at t less =
-      let there : (table : TablePartValue) × (slice_get part.tables t ≡ Some table) = at_inside part.tables t less in
+      let there : (table : TablePartValue) × (slice_get part.tables t ≡ Some table) = place_of part.tables t less in
       record { value = there.0; one = p.each_table t there.0 there.1; other = q.each_table t there.0 there.1 }
 
   same_number : (t : ℕ) → number_of_mark (mark_of x.marks t) ≡ number_of_mark (mark_of y.marks t)

@@ -5,6 +5,7 @@ use Rattle.std.proofs.lemmas.List.{length-map, length-take, length-take-le}
 use Rattle.std.proofs.lemmas.Option.{same_Some, none-some, slice_get-map}
 use Rattle.std.specs.List.{filter, filter_map}
 use Rattle.std.specs.Option.{option_map, option_and_then}
+use Rattle.list_laws.proofs.Places.{no_place}
 use Rattle.gtid_set.specs.Position.{IsWithin}
 use Rattle.pk_copy.specs.KeyOrder.{key_cmp}
 use Rattle.pk_copy.specs.KeyValue.{KeyValue}
@@ -36,9 +37,6 @@ use Rattle.checkpoint_laws.specs.Resumed.{resumed_state, IsResumedAt, AreResumed
 use Rattle.checkpoint_laws.specs.Laws.{AreFeeds, restarted, BeginsWithApplied, BeginWithApplied, RestartedBoardsAreResumed}
 use Rattle.checkpoint_laws.proofs.OwnRows.{own-is_cut}
 use Rattle.checkpoint_laws.proofs.ResumedLaws.{at_same_place}
-
-no_place : {A P : Type 0} (i : ℕ) (x : A) → slice_get [] i ≡ Some x → P
-no_place i x e = cc
 
 -- ---- a restart
 

@@ -1,7 +1,8 @@
 -- A board that a checkpoint and feeds make is lawful, and says what the checkpoint says.
-use Rattle.std.proofs.Common.{◌≡◌, ℕ, zero, suc, ◌+◌, ◌<◌, ◌≤◌, inl, inr, List, [], ◌∷◌, length, take, Option, Some, None, slice_get, refl, sym, ap, subst, ◌∙◌, arith}
+use Rattle.std.proofs.Common.{◌≡◌, ℕ, zero, suc, ◌+◌, ◌≤◌, inl, inr, List, [], ◌∷◌, length, take, Option, Some, None, slice_get, refl, sym, ap, subst, ◌∙◌, arith}
 use Rattle.std.proofs.lemmas.List.{length-take-le}
 use Rattle.std.proofs.lemmas.Option.{same_Some, none-some, slice_get-map}
+use Rattle.list_laws.proofs.Places.{no_place, place_of}
 use Rattle.filter_rule.specs.PlanValue.{PlanValue}
 use Rattle.source_feed.specs.Planned.{PlannedGroupValue, FeedValue, IsFeed}
 use Rattle.source_feed.specs.Touches.{PreparedValue}
@@ -23,21 +24,12 @@ use Rattle.checkpoint_laws.specs.Laws.{AreFeeds, ResumedBoardsAreLawful}
 use Rattle.board_laws.proofs.FeedGroups.{IsGroupOf, group_of, last_of, sound-is_read}
 use Rattle.checkpoint_laws.proofs.OwnRows.{own-is_cut}
 
-no_place : {A P : Type 0} (i : ℕ) (x : A) → slice_get [] i ≡ Some x → P
-no_place i x e = cc
-
 -- a value at the same place of a list that is as long
 pub at_same_place : {A B : Type 0} (xs : List A) (ys : List B) (i : ℕ) (x : A) → length xs ≡ length ys → slice_get xs i ≡ Some x → (y : B) × (slice_get ys i ≡ Some y)
 at_same_place [] ys i x long e = no_place i x e
 at_same_place (a ∷ xs) [] i x long e = let clash : length (a ∷ xs) ≡ 0 = long in absurd (omega (arith, clash))
 at_same_place (a ∷ xs) (b ∷ ys) zero x long e = (b, refl)
 at_same_place (a ∷ xs) (b ∷ ys) (suc i) x long e = let rest : suc (length xs) ≡ suc (length ys) = long in at_same_place xs ys i x (omega (arith, rest)) e
-
--- a value of a list at a place inside it
-pub at_inside : {A : Type 0} (xs : List A) (i : ℕ) → i < length xs → (x : A) × (slice_get xs i ≡ Some x)
-at_inside [] i less = absurd (omega (arith, less))
-at_inside (x ∷ xs) zero less = (x, refl)
-at_inside (x ∷ xs) (suc i) less = let rest : suc i < suc (length xs) = less in at_inside xs i (omega (arith, rest))
 
 -- ---- one stream
 
@@ -59,7 +51,7 @@ module _ (feed : FeedValue) (whole : IsFeed feed) (saved : SavedStream) (sound :
   position_at number fits (inl none) = ap (λ n. last_position (take n (take n (sound_groups feed)))) none.1 ∙ sym none.0
   position_at zero fits (inr has) = let clash : None ≡ Some has.group = has.there in absurd (none-some has.group clash)
   position_at (suc i) fits (inr has) =
-      let there : (group : PreparedValue) × (slice_get (sound_groups feed) i ≡ Some group) = at_inside (sound_groups feed) i (omega (arith, fits)) in
+      let there : (group : PreparedValue) × (slice_get (sound_groups feed) i ≡ Some group) = place_of (sound_groups feed) i (omega (arith, fits)) in
       let of : IsGroupOf feed i there.0 = group_of feed i there.0 there.1 in
       let planned : of.planned ≡ has.group = same_Some of.planned has.group (sym of.there ∙ has.there) in
       ap last_position (take-take (suc i) (sound_groups feed))

@@ -6,6 +6,8 @@ use Rattle.std.proofs.lemmas.Option.{same_Some, none-some, slice_get-map, slice_
 use Rattle.std.specs.Prelude.{IfSome, nat_lt, slice_index_or}
 use Rattle.std.specs.List.{AllByRecursion, filter_map}
 use Rattle.std.specs.Option.{option_map, option_map_or}
+use Rattle.list_laws.proofs.Fronts.{each}
+use Rattle.list_laws.proofs.Places.{slice_get-push, get_in_front}
 use Rattle.filter_rule.specs.Extending.{IsExtended}
 use Rattle.row_view.specs.FieldValue.{FieldValue}
 use Rattle.filter_rule.specs.PlanTable.{TableValue}
@@ -31,8 +33,7 @@ use Rattle.board_laws.specs.KeptRows.{passed_rows, kept_row, kept_rows}
 use Rattle.board_laws.specs.Lawful.{IsReadList, IsSoundState, IsLawful}
 use Rattle.board_laws.specs.Meaning.{State, Meaning}
 use Rattle.board_laws.proofs.History.{read-cut}
-use Rattle.board_laws.proofs.Lists.{slice_get-push}
-use Rattle.board_laws.proofs.Lookups.{Ties, each, all-at, all-filter}
+use Rattle.board_laws.proofs.Lookups.{Ties, all-at, all-filter}
 use Rattle.board_laws.proofs.RowsUnder.{IsRowUnder, passed-under}
 use Rattle.added_laws.specs.Extended.{marks_of_more}
 use Rattle.join_laws.specs.Compatible.{plans_of_board}
@@ -168,13 +169,6 @@ says_last plan t (up_to key) h =
       length-map key.parts (λ (part : Part). Some (part_text part)) ∙ of.count ∙ ap (λ (n : ℕ). length (key_columns_of plan n)) h.1,
       subst (λ (n : ℕ). key_of_lastpk plan n (lastpk_of key) ≡ Ok key) h.1 of.read,
     )
-
--- an element in a front of a list
-get_in_front : {A : Type 0} (n : ℕ) (xs : List A) (i : ℕ) → i < n → slice_get (take n xs) i ≡ slice_get xs i
-get_in_front zero xs i less = absurd (omega (arith, less))
-get_in_front (suc n) [] i less = refl
-get_in_front (suc n) (x ∷ xs) zero less = refl
-get_in_front (suc n) (x ∷ xs) (suc i) less = get_in_front n xs i (omega (arith, less))
 
 -- the tables of one plan stand in front of those of another
 pub record IsFront (old new : PlanValue) : Type 0 where

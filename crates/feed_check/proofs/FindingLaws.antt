@@ -2,6 +2,7 @@
 use Rattle.std.proofs.Common.{◌≡◌, ◌↔◌, List, [], ◌∷◌, ◌++◌, Bool, true, false, cond, Option, Some, None, refl, ap, sym, ◌∙◌}
 use Rattle.std.specs.Prelude.{IfSome}
 use Rattle.std.specs.Option.{option_and_then, option_to_list}
+use Rattle.vdiff_core.proofs.ReportLaws.{row_eq-Decides}
 use Rattle.pk_copy.specs.KeyValue.{KeyValue}
 use Rattle.vdiff_core.specs.Report.{row_eq}
 use Rattle.source_feed.specs.History.{RowValue}
@@ -10,7 +11,6 @@ use Rattle.feed_check.specs.Replay.{row_left}
 use Rattle.feed_check.specs.Findings.{FindingValue, has_key, why_before, why_after, told, found_before, found_after, findings_in, IsTrueOf, AreTrue}
 use Rattle.feed_check.specs.declared.finding.Doubt.{Doubt}
 use Rattle.feed_check.specs.declared.finding.Doubt.TheVariants.{NoRow, OtherRow, RowThere}
-use Rattle.feed_check.proofs.RowLaws.{row_eq-Decides}
 
 -- ---- lists and options that are empty
 

@@ -1,8 +1,8 @@
 -- Loops over changes and groups, one on.
-use Rattle.std.proofs.Common.{◌≡◌, ◌<◌, ℕ, suc, ◌+◌, map, get_or, List, [], ◌∷◌, ◌++◌, true, false, length, take, min, reverse, Option, Some, None, Result, Ok, Err, refl, ap, sym, ◌∙◌, subst, add-one, arith}
+use Rattle.std.proofs.Common.{◌≡◌, ◌<◌, ℕ, suc, ◌+◌, map, get_or, List, [], ◌∷◌, ◌++◌, true, false, length, reverse, Option, Some, None, Result, Ok, Err, refl, ap, sym, ◌∙◌, subst, add-one, arith}
 use Rattle.std.specs.Prelude.{slice_get}
 use Rattle.std.specs.List.{flat_map, sum_by}
-use Rattle.std.proofs.lemmas.List.{append_assoc, append-nil, drop_all, get_or-map, length-map, take_min, take_more, flat_map_more}
+use Rattle.std.proofs.lemmas.List.{append_assoc, append-nil, drop_all, get_or-map, length-map, take_more, flat_map_more}
 use Rattle.std.proofs.lemmas.Option.{slice_get-get_or}
 use Rattle.outcome.specs.Outcome.{◌>>=◌, each}
 use Rattle.source_feed.specs.GroupValue.{GroupValue}
@@ -44,12 +44,6 @@ pub ends : {A F : Type 0} (front : List A) (whole : Result (List A) F) → whole
 ends front whole e = e ∙ ap Ok (append-nil front)
 
 -- ---- the front of a list
-
--- the front within a list's length
-pub front_within : {A : Type 0} (n : ℕ) (xs : List A) → take (min (length xs) n) xs ≡ take n xs
-front_within n xs =
-    let same : min (length xs) n ≡ min n (length xs) = omega arith in
-    ap (λ k. take k xs) same ∙ take_min n xs
 
 -- ---- counts
 

@@ -5,27 +5,15 @@ use Rattle.std.specs.Bool.{Decides}
 use Rattle.std.specs.Option.{option_map}
 use Rattle.std.specs.Ordering.{eq_by_cmp}
 use Rattle.std.proofs.lemmas.Map.Made.{lookup-map_values}
-use Rattle.std.proofs.lemmas.Slice.Eq.{bytes_eq-Decides, slice_eq-Decides}
+use Rattle.vdiff_core.proofs.ReportLaws.{row_eq-Decides}
 use Rattle.pk_copy.specs.KeyOrder.{key_cmp}
 use Rattle.pk_copy.specs.KeyValue.{KeyValue}
 use Rattle.target_tables.specs.Contents.{value_at}
 use Rattle.target_tables.specs.Touches.{last_at, touched, IsTouched}
-use Rattle.vdiff_core.specs.Report.{column_eq, row_eq}
+use Rattle.vdiff_core.specs.Report.{row_eq}
 use Rattle.source_feed.specs.History.{RowValue}
 use Rattle.feed_check.specs.Replay.{left_at}
 use Rattle.feed_check.specs.Private.Replayed.{Entries, rows_of, AreOwn, row_in}
-
-column_eq-Decides : (a b : Option (List ℕ)) → Decides (column_eq a b) (a ≡ b)
-column_eq-Decides None None = (λ e. refl, λ e. refl)
-column_eq-Decides None (Some b) = (λ e. cc, λ e. cc)
-column_eq-Decides (Some a) None = (λ e. cc, λ e. cc)
-column_eq-Decides (Some a) (Some b) =
-    let d = bytes_eq-Decides a b in
-    (λ e. ap Some (d.0 e), λ e. let same : a ≡ b = cc in d.1 same)
-
--- the test of rows decides whether they are equal
-pub row_eq-Decides : (a b : RowValue) → Decides (row_eq a b) (a ≡ b)
-row_eq-Decides a b = slice_eq-Decides column_eq-Decides a b (row_eq a b) refl
 
 both : {P : Type 0} (r q : Bool) → (IsTrue r ↔ P) → Decides q P → r ≡ q
 both true true h d = refl

@@ -10,6 +10,7 @@ use Rattle.std.proofs.lemmas.Bool.{true≢false}
 use Rattle.std.proofs.lemmas.Cmp.{tied_itself}
 use Rattle.std.proofs.lemmas.List.{append_assoc, append-nil, drop_more, take_more}
 use Rattle.std.proofs.lemmas.Option.{same_Some, none-some}
+use Rattle.list_laws.proofs.Choices.{map-or, map-cond}
 use Rattle.board_laws.specs.Runs.{IsTouchedIn}
 use Rattle.pk_copy.specs.KeyOrder.{key_cmp}
 use Rattle.pk_copy.specs.KeyOrderLaws.{key_cmp_total}
@@ -39,14 +40,6 @@ among-same one other i best (touch ∷ later) same =
     ∙ among-same one other i (lesser best (shared_at other i touch.0)) later same
 
 -- ---- owners
-
-map-or : {A B : Type 0} (f : A → B) (u v : Option A) → option_map f (option_or u v) ≡ option_or (option_map f u) (option_map f v)
-map-or f None v = refl
-map-or f (Some x) v = refl
-
-map-cond : {A B : Type 0} (f : A → B) (b : Bool) (x : A) → option_map f (cond b (Some x) None) ≡ cond b (Some (f x)) None
-map-cond f true x = refl
-map-cond f false x = refl
 
 last_at-touched : (i : ℕ) (touches : List TouchValue) (k : KeyValue) → last_at key_cmp (map (touched_by i) touches) k ≡ option_map (λ _. Some i) (last_at key_cmp touches k)
 last_at-touched i [] k = refl

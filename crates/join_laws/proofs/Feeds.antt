@@ -1,11 +1,12 @@
 -- Boards that read the same feeds, which share no key; and that no board that can be joined is refused.
-use Rattle.std.proofs.Common.{◌≡◌, ◌≢◌, ◌==◌, ℕ, zero, suc, ◌+◌, ◌≤◌, inl, inr, Bool, true, false, cond, le_of_lt, List, [], ◌∷◌, length, take, drop, min, Option, Some, None, slice_get, refl, sym, ap, subst, ◌∙◌, arith}
+use Rattle.std.proofs.Common.{◌≡◌, ◌≢◌, ◌==◌, ℕ, ◌+◌, ◌≤◌, inl, inr, Bool, true, false, cond, le_of_lt, List, [], length, take, min, Option, Some, None, slice_get, refl, sym, ap, subst, ◌∙◌, arith}
 use Rattle.std.proofs.lemmas.Bool.{eqb-false}
 use Rattle.std.proofs.lemmas.Bool.{cases_lt}
-use Rattle.std.proofs.lemmas.Grind.{flat_map-append}
-use Rattle.std.proofs.lemmas.List.{take-append-drop, take-take, take_min, length-take}
+use Rattle.std.proofs.lemmas.List.{take-take, take_min, length-take}
 use Rattle.std.proofs.lemmas.Option.{same_Some, none-some}
 use Rattle.std.specs.Option.{option_or, option_map, option_and_then}
+use Rattle.board_laws.proofs.FeedLaws.{touched_front}
+use Rattle.list_laws.proofs.Places.{slice_get-take}
 use Rattle.pk_copy.specs.KeyOrder.{key_cmp}
 use Rattle.pk_copy.specs.KeyValue.{KeyValue}
 use Rattle.pk_copy.specs.Marks.{is_inside}
@@ -13,8 +14,7 @@ use Rattle.target_tables.specs.Contents.{value_at}
 use Rattle.target_tables.specs.Touches.{last_at, owner_in_the_way}
 use Rattle.source_feed.specs.History.{RowValue, touches_in, passing, kept_of, kept_at}
 use Rattle.source_feed.specs.Planned.{FeedValue}
-use Rattle.source_feed.specs.Touches.{PutValue, TouchValue, PreparedValue}
-use Rattle.source_feed.proofs.ImageLaws.{last_at-append}
+use Rattle.source_feed.specs.Touches.{PutValue, PreparedValue}
 use Rattle.board_laws.specs.Meaning.{State, Meaning}
 use Rattle.board_laws.specs.Cut.{cut_of}
 use Rattle.board_laws.specs.Reading.{HasFeed, AllReadTheirFeeds}
@@ -35,23 +35,12 @@ right_none : (x y : Option (Option PutValue)) → option_or x y ≡ None → y �
 right_none None y e = e
 right_none (Some x) y e = absurd (none-some x (sym e))
 
--- a key that a front of groups touches the groups touch
-front-touches : (n : ℕ) (groups : List PreparedValue) (key : KeyValue) → IsTouchedIn (take n groups) key → IsTouchedIn groups key
-front-touches n groups key touched =
-    λ none.
-    touched
-    (right_none (last_at key_cmp (touches_in (drop n groups)) key) (last_at key_cmp (touches_in (take n groups)) key)
-    (sym (last_at-append (touches_in (take n groups)) (touches_in (drop n groups)) key)
-    ∙ ap (λ (ts : List TouchValue). last_at key_cmp ts key) (sym (flat_map-append (λ (g : PreparedValue). g.touches) (take n groups) (drop n groups)))
-    ∙ ap (λ (gs : List PreparedValue). last_at key_cmp (touches_in gs) key) (take-append-drop n groups)
-    ∙ none))
-
 -- a key with a row in a stream's cut is one that its feed touches
 row-touched : (feeds : List FeedValue) (s : ℕ) (state : State) (has : HasFeed feeds s state) (key : KeyValue) → cut_of state key ≢ None → IsTouchedIn (sound_groups has.feed) key
 row-touched feeds s state has key row =
-    front-touches has.reads.length_read (sound_groups has.feed) key
+    touched_front has.reads.length_read (sound_groups has.feed) key
     (subst (λ (groups : List PreparedValue). IsTouchedIn groups key) has.reads.list
-    (front-touches state.applied state.list key (λ untouched. row (by (is_inside state.marks key) untouched))))
+    (touched_front state.applied state.list key (λ untouched. row (by (is_inside state.marks key) untouched))))
   where
     by : (b : Bool) → last_at key_cmp (touches_in (take state.applied state.list)) key ≡ None → cond b (kept_at state.plan state.list state.applied key) None ≡ None
     by true untouched = ap (λ (t : Option (Option PutValue)). option_map (kept_of state.plan key) (option_and_then passing (option_and_then (λ put. put) t))) untouched
@@ -95,14 +84,8 @@ feeds_joined feeds a b reads_a reads_b disjoint plans = record {
 not_both : (P : State → State → Type 0) (xs ys : List State) (s : ℕ) → IsFirstNot P xs ys s → OfEachStream P xs ys → ⊥
 not_both P xs ys s first all = first.fails (all s first.one first.other first.here first.there)
 
-slice_get-front : {A : Type 0} (n : ℕ) (xs : List A) (i : ℕ) (x : A) → slice_get (take n xs) i ≡ Some x → slice_get xs i ≡ Some x
-slice_get-front zero xs i x e = cc
-slice_get-front (suc n) [] i x e = cc
-slice_get-front (suc n) (y ∷ xs) zero x e = e
-slice_get-front (suc n) (y ∷ xs) (suc i) x e = slice_get-front n xs i x e
-
 -- a row in the way of one that is due
-in_the_way : (s : ℕ) (due : Option RowValue) (there : Option (ℕ × RowValue)) (owner : ℕ) → owner_in_the_way s (option_map Some due) there ≡ Some owner
+pub in_the_way : (s : ℕ) (due : Option RowValue) (there : Option (ℕ × RowValue)) (owner : ℕ) → owner_in_the_way s (option_map Some due) there ≡ Some owner
     → (due ≢ None) × ((other : ℕ × RowValue) × (there ≡ Some other) × (other.0 ≢ s))
 in_the_way s None there owner h = absurd (none-some owner h)
 in_the_way s (Some row) None owner h = absurd (none-some owner h)
@@ -119,7 +102,7 @@ not_apart ties states key owner clash apart =
     = in_the_way clash.stream (cut_of clash.state key) (value_at key_cmp (rows_from 0 front) key) owner clash.least.here in
     let of : IsRowOf 0 front key way.1.0 = whose 0 front key way.1.0 (sym (value_from ties 0 front key) ∙ way.1.1) in
     let place : of.place ≡ clash.stream
-    = apart of.place clash.stream of.state clash.state key (slice_get-front clash.stream states of.place of.state of.here) clash.here (λ n. none-some way.1.0.1 (sym n ∙ of.cut)) way.0 in
+    = apart of.place clash.stream of.state clash.state key (slice_get-take clash.stream states of.place of.state of.here) clash.here (λ n. none-some way.1.0.1 (sym n ∙ of.cut)) way.0 in
     let number : way.1.0.0 ≡ 0 + of.place = of.number in
     way.1.2 (omega (arith, number, place))
 

@@ -2,6 +2,7 @@
 use Rattle.std.proofs.Common.{◌≡◌, ℕ, zero, suc, ◌⊎◌, inl, inr, List, [], ◌∷◌, map, Some, None, slice_get, refl, sym, ap, ◌∙◌}
 use Rattle.std.proofs.lemmas.Option.{same_Some, none-some}
 use Rattle.std.specs.declared.cmp.Ordering.TheVariants.{Equal}
+use Rattle.list_laws.proofs.Places.{no_place}
 use Rattle.filter_rule.specs.PlanValue.{PlanValue}
 use Rattle.board_laws.specs.Meaning.{State}
 use Rattle.join_laws.specs.Order.{state_cmp}
@@ -9,9 +10,6 @@ use Rattle.join_laws.specs.Chosen.{chosen, all_chosen}
 use Rattle.join_laws.specs.Compatible.{OfEachStream}
 use Rattle.join_laws.proofs.Choosing.{greater-is, greater_comm, greater_itself, greater_assoc, two_of}
 use Rattle.join_laws.proofs.States.{states_total}
-
-no_place : {A P : Type 0} (i : ℕ) (x : A) → slice_get [] i ≡ Some x → P
-no_place i x e = cc
 
 pub chosen-is : (x y : State) → (chosen x y ≡ x) ⊎ (chosen x y ≡ y)
 chosen-is x y = greater-is state_cmp states_total x y

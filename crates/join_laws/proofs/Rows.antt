@@ -8,6 +8,8 @@ use Rattle.std.specs.Cmp.{Equal-is}
 use Rattle.std.specs.List.{AllByRecursion}
 use Rattle.std.specs.Option.{option_or, option_map, option_and_then}
 use Rattle.std.specs.Ordering.{ordering_reverse, is_le, match_ordering}
+use Rattle.list_laws.proofs.Fronts.{each}
+use Rattle.list_laws.proofs.Choices.{or_none}
 use Rattle.pk_copy.specs.KeyOrder.{key_cmp}
 use Rattle.pk_copy.specs.KeyOrderLaws.{key_cmp_total}
 use Rattle.pk_copy.specs.KeyValue.{KeyValue}
@@ -21,7 +23,7 @@ use Rattle.board_laws.specs.KeptRows.{kept_rows}
 use Rattle.board_laws.specs.Cut.{cut_of, cut_in, own_row}
 use Rattle.board_laws.specs.Lawful.{IsSoundState, IsLawful}
 use Rattle.board_laws.proofs.KeptRowList.{list-kept}
-use Rattle.board_laws.proofs.Lookups.{Ties, is_key, is_itself, same_key, each, lookup-filter, none_above}
+use Rattle.board_laws.proofs.Lookups.{Ties, is_key, is_itself, same_key, lookup-filter, none_above}
 use Rattle.join_laws.specs.Joined.{cut_rows, with_row, with_rows, rows_from, board_of}
 use Rattle.join_laws.specs.Compatible.{AreApart}
 
@@ -53,10 +55,6 @@ rising_with row (first ∷ rows) h = by (rising_with row rows h.1) (key_cmp row.
 
 abbrev here_if : Bool → ℕ × RowValue → Option (ℕ × RowValue)
 here_if b value = cond b (Some value) None
-
-or_none : {V : Type 0} (v : Option V) → option_or v None ≡ v
-or_none None = refl
-or_none (Some x) = refl
 
 -- the new row stands where none stood
 value_with : (ties : Ties) (row : Entry) (rows : TargetRows) (k : KeyValue) → IsRising key_cmp rows → value_at key_cmp (with_row row rows) k ≡ option_or (value_at key_cmp rows k) (here_if (is_key k row.0) row.1)

@@ -83,7 +83,7 @@ touches_in-more groups group = flat_map-append (λ (g : PreparedValue). g.touche
     none (t ∷ ts) = ap (λ (r : List TouchValue). t ∷ r) (none ts)
 
 -- the row that a touch leaves, and else the earlier one
-kept-or : (t earlier : Option (Option PutValue))
+pub kept-or : (t earlier : Option (Option PutValue))
     → option_and_then passing (option_and_then (λ put. put) (option_or t earlier)) ≡ kept_after t (option_and_then passing (option_and_then (λ put. put) earlier))
 kept-or None earlier = refl
 kept-or (Some put) earlier = refl

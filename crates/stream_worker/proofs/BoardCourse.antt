@@ -4,6 +4,7 @@ use Rattle.std.proofs.lemmas.List.{length-set}
 use Rattle.std.proofs.lemmas.Option.{same_Some, none-some, MatchOption-at_some}
 use borrow.Author.Tests.{eq-eqb}
 use Rattle.std.specs.Option.{option_and_then}
+use Rattle.list_laws.proofs.Places.{slice_get-set_same, slice_get-set_other}
 use Rattle.pk_copy.specs.KeyOrder.{key_cmp}
 use Rattle.pk_copy.specs.KeyValue.{KeyValue}
 use Rattle.stream_core.specs.declared.step.Step.{Step}
@@ -26,7 +27,6 @@ use Rattle.board_laws.specs.Reading.{HasFeed}
 use Rattle.board_laws.specs.Runs.{sound_groups, IsTouchedIn}
 use Rattle.board_laws.specs.Schedule.{Reply, IsEventStep, IsUnprepared, IsReplyBy, IsReply}
 use Rattle.board_laws.proofs.Lookups.{Ties}
-use Rattle.board_laws.proofs.Lists.{slice_get-set_other, slice_get-set_same}
 use Rattle.board_laws.proofs.FeedLaws.{run-reads}
 use Rattle.stream_worker.specs.Ended.{IsFedBoard}
 use Rattle.stream_worker.specs.RunRefused.{HasUnsound, TouchesKey, BothTouch}

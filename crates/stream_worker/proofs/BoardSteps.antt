@@ -5,6 +5,7 @@ use Rattle.std.proofs.lemmas.Option.{same_Some}
 use Rattle.std.specs.Option.{option_map, option_and_then}
 use Rattle.std.specs.Arc.{arc_value}
 use Rattle.std.specs.Prelude.{IsOk, IfSome}
+use Rattle.list_laws.proofs.Places.{slice_get-set_same, slice_get-set_other}
 use borrow.Author.Tests.{eqb-true, eq-eqb}
 use Rattle.pk_copy.specs.KeyOrder.{key_cmp}
 use Rattle.pk_copy.specs.KeyValue.{KeyValue}
@@ -67,18 +68,6 @@ goes_on_step state restart within = record { plan = refl; applied = omega arith;
 
 -- ---- a board
 
-set_other : {A : Type 0} (xs : List A) (s : ℕ) (x : A) (i : ℕ) → i ≢ s → slice_get (set xs s x) i ≡ slice_get xs i
-set_other [] s x i ne = refl
-set_other (z ∷ xs) zero x zero ne = absurd (ne refl)
-set_other (z ∷ xs) zero x (suc i) ne = refl
-set_other (z ∷ xs) (suc s) x zero ne = refl
-set_other (z ∷ xs) (suc s) x (suc i) ne = set_other xs s x i (λ e. ne (ap suc e))
-
-set_same : {A : Type 0} (xs : List A) (s : ℕ) (x y : A) → slice_get xs s ≡ Some y → slice_get (set xs s x) s ≡ Some x
-set_same [] s x y e = cc
-set_same (z ∷ xs) zero x y e = refl
-set_same (z ∷ xs) (suc s) x y e = set_same xs s x y e
-
 -- a board with another state of one stream, which goes on
 with_one : (board : List State) (s : ℕ) (state next : State) → slice_get board s ≡ Some state → StateGoesOn state next → AllGoOn board (set board s next)
 with_one board s state next here on t other e = by (t == s) refl
@@ -87,9 +76,9 @@ with_one board s state next here on t other e = by (t == s) refl
     by true same =
         let at : t ≡ s = eqb-true t s same in
         let is : state ≡ other = same_Some state other (sym here ∙ ap (slice_get board) (sym at) ∙ e) in
-        let there : slice_get (set board s next) t ≡ Some next = ap (slice_get (set board s next)) at ∙ set_same board s next state here in
+        let there : slice_get (set board s next) t ≡ Some next = ap (slice_get (set board s next)) at ∙ slice_get-set_same board s next state here in
         subst (λ (o : Option State). IsSomeAnd o (StateGoesOn other)) (sym there) (subst (λ (one : State). StateGoesOn one next) is on)
-    by false ne = same_goes_on (slice_get (set board s next) t) other (set_other board s next t (eqb-false t s ne) ∙ e)
+    by false ne = same_goes_on (slice_get (set board s next) t) other (slice_get-set_other board s next t (eqb-false t s ne) ∙ e)
 
 not_named : (s t : ℕ) → names (s ∷ []) t ≡ false → t ≢ s
 not_named s t e same = true≢false (sym (or_left (s == t) false (eq-eqb s t (sym same))) ∙ e)
@@ -104,7 +93,7 @@ step_changes taken left s event (Ok answer) h =
     let within = (h.lawful.sound s made.state made.stream).standing.applied in
     let streams : left.board ≡ set taken.board s next = made.streams in
     record {
-      others = λ t ne. ap (λ (board : List State). slice_get board t) streams ∙ set_other taken.board s next t (not_named s t ne);
+      others = λ t ne. ap (λ (board : List State). slice_get board t) streams ∙ slice_get-set_other taken.board s next t (not_named s t ne);
       every = subst (λ (board : List State). AllGoOn taken.board board) (sym streams) (with_one taken.board s made.state next made.stream (goes_on_step made.state event within));
       long = ap length streams ∙ length-set taken.board s next;
     }
@@ -139,7 +128,7 @@ step_leaves taken left s event (Ok answer) state h e =
     let is : made.state ≡ state = same_Some made.state state (sym made.stream ∙ e) in
     let streams : left.board ≡ set taken.board s (state_after made.state event) = made.streams in
     ap (λ (board : List State). slice_get board s) streams
-    ∙ set_same taken.board s (state_after made.state event) made.state made.stream
+    ∙ slice_get-set_same taken.board s (state_after made.state event) made.state made.stream
     ∙ ap (λ (one : State). Some (state_after one event)) is
 step_leaves taken left s event (Err refusal) state h e =
     let same : left.board ≡ taken.board = ap (λ (board : Meaning). board.streams) h.step.1 in
@@ -180,7 +169,7 @@ puts_here old now given s next is lawful here =
 
 -- what stands behind an advance: the stream, and the group at its new number
 applied_state : (old new : Meaning) (s : ℕ) (answer : Answer) (made : IsMade old s advance answer new) → slice_get new.streams s ≡ Some (state_after made.state advance)
-applied_state old new s answer made = ap (λ (board : List State). slice_get board s) made.streams ∙ set_same old.streams s (state_after made.state advance) made.state made.stream
+applied_state old new s answer made = ap (λ (board : List State). slice_get board s) made.streams ∙ slice_get-set_same old.streams s (state_after made.state advance) made.state made.stream
 
 applied_within : (old new : Meaning) (s : ℕ) (answer : Answer) (made : IsMade old s advance answer new) → made.state.applied + 1 ≤ length made.state.list
 applied_within old new s answer made = (made.lawful.sound s (state_after made.state advance) (applied_state old new s answer made)).standing.applied

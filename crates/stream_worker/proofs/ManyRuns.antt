@@ -6,6 +6,7 @@ use Rattle.std.specs.Prelude.{IsSomeAnd, MatchOption}
 use Rattle.std.specs.Option.{option_or, option_map}
 use Rattle.source_feed.specs.Planned.{FeedValue, IsFeed}
 use Rattle.std.specs.Result.{ok_prefix}
+use Rattle.list_laws.proofs.Places.{place_of}
 use Rattle.source_feed.specs.Touches.{PreparedValue, prepared}
 use Rattle.board_laws.specs.Meaning.{State, Meaning}
 use Rattle.board_laws.specs.Lawful.{IsLawful}
@@ -26,7 +27,6 @@ use Rattle.stream_worker.specs.Private.SeatRuns.{IsSeated, IsRan, AreSeated, Are
 use Rattle.stream_worker.proofs.EndLaws.{seat_saw}
 use Rattle.stream_worker.proofs.OneStep.{the-one}
 use Rattle.stream_worker.proofs.Touched.{cut_front, read_touched}
-use Rattle.stream_worker.proofs.UnionLaws.{there_is}
 
 -- ---- the first refusal
 
@@ -113,7 +113,7 @@ pub opened-seated : (feeds : List FeedValue) (board : Meaning) (fed : IsFedBoard
     → AreSeated shared feeds seats
 opened-seated feeds board fed shared seats opened k seat at =
     let less : k < length seats = slice_get_within seats k seat at in
-    let here : (state : State) × (slice_get board.streams k ≡ Some state) = there_is board.streams k (omega (arith, less, opened.count)) in
+    let here : (state : State) × (slice_get board.streams k ≡ Some state) = place_of board.streams k (omega (arith, less, opened.count)) in
     let has : HasFeed feeds k here.0 = fed.reads k here.0 here.1 in
     let own : IsSeatOf shared seat × (seat.stream ≡ k) = opened.each k seat at in
     let state : seat_state seat ≡ Some here.0 = sym (opened.states k seat at) ∙ ap (slice_get board.streams) own.1 ∙ here.1 in
@@ -153,14 +153,14 @@ module _ (feeds : List FeedValue) (old : Meaning) (fed : IsFedBoard feeds old) (
   whole : (k : ℕ) (feed : FeedValue) → slice_get feeds k ≡ Some feed → IsFeed feed
   whole k feed at =
       let less : k < length feeds = slice_get_within feeds k feed at in
-      let here : (state : State) × (slice_get old.streams k ≡ Some state) = there_is old.streams k (omega (arith, less, fed.count)) in
+      let here : (state : State) × (slice_get old.streams k ≡ Some state) = place_of old.streams k (omega (arith, less, fed.count)) in
       let has : HasFeed feeds k here.0 = fed.reads k here.0 here.1 in
       subst IsFeed (same_Some has.feed feed (sym has.fed ∙ at)) has.whole
 
   -- the board has a stream for each feed
   streams-count : length board.streams ≡ length feeds
   streams-count =
-      let first : (r : Ran) × (slice_get rans 0 ≡ Some r) = there_is rans 0 (let some : 1 ≤ length old.streams = fed.lawful.some in omega (arith, some, fed.count, count)) in
+      let first : (r : Ran) × (slice_get rans 0 ≡ Some r) = place_of rans 0 (let some : 1 ≤ length old.streams = fed.lawful.some in omega (arith, some, fed.count, count)) in
       by first.0 first.1 (known first.0.seat).seen refl (seat_saw first.0.seat)
     where
       by : (r : Ran) → slice_get rans 0 ≡ Some r → (o : Option Laid) → (known r.seat).seen ≡ o → IsSome o → length board.streams ≡ length feeds
@@ -176,7 +176,7 @@ module _ (feeds : List FeedValue) (old : Meaning) (fed : IsFedBoard feeds old) (
   sits : (s : ℕ) (state : State) → slice_get board.streams s ≡ Some state → Sits s state
   sits s state at =
       let less : s < length board.streams = slice_get_within board.streams s state at in
-      let one : (r : Ran) × (slice_get rans s ≡ Some r) = there_is rans s (omega (arith, less, streams-count, count)) in
+      let one : (r : Ran) × (slice_get rans s ≡ Some r) = place_of rans s (omega (arith, less, streams-count, count)) in
       record {
         one = one.0;
         there = one.1;
@@ -263,7 +263,7 @@ module _ (feeds : List FeedValue) (old : Meaning) (fed : IsFedBoard feeds old) (
       let place : first.ran.seat.stream ≡ first.place = (ran first.place first.ran first.there).stream in
       let within : first.place < length rans = slice_get_within rans first.place first.ran first.there in
       let before : t < first.place = omega (arith, less, is, place) in
-      let one : (r : Ran) × (slice_get rans t ≡ Some r) = there_is rans t (omega (arith, before, within)) in
+      let one : (r : Ran) × (slice_get rans t ≡ Some r) = place_of rans t (omega (arith, before, within)) in
       let here : IsRan shared feeds t one.0 = ran t one.0 one.1 in
       let same : here.seated.feed ≡ feed = same_Some here.seated.feed feed (sym here.seated.fed ∙ ap (slice_get feeds) here.stream ∙ at) in
       subst (λ (f : FeedValue). length (sound_groups f) ≡ length f.groups) same (come-sound t one.0 one.1 (first.before t one.0 before one.1))

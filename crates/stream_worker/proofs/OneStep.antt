@@ -5,6 +5,7 @@ use Rattle.std.proofs.Math.Nat.{eq-or-lt_of_le}
 use Rattle.std.proofs.lemmas.Bool.Decides.{eqb_tells}
 use Rattle.std.proofs.lemmas.Option.{same_Some, none-some, slice_get_within}
 use Rattle.std.specs.Prelude.{IsSomeAnd}
+use Rattle.list_laws.proofs.Places.{place_of}
 use Rattle.stream_core.specs.declared.step.Step.{Step}
 use Rattle.stream_core.specs.Standing.{Standing, IsSound}
 use Rattle.source_feed.specs.Planned.{FeedValue}
@@ -21,19 +22,18 @@ use Rattle.stream_worker.specs.Private.AllowedSteps.{EndsStream}
 use Rattle.stream_worker.proofs.Progress.{read-most}
 use Rattle.stream_worker.proofs.StepsOn.{ended-at}
 use Rattle.stream_worker.proofs.BoardCourse.{ends-step, step-fed, step-others, step-nearer}
-use Rattle.stream_worker.proofs.UnionLaws.{there_is}
 
 -- a feed has a stream
 pub stream-there : (feeds : List FeedValue) (old : Meaning) (fed : IsFedBoard feeds old) (s : ℕ) → s < length feeds → slice_get old.streams s ≡ None → ⊥
 stream-there feeds old fed s less none =
-    let there : (x : State) × (slice_get old.streams s ≡ Some x) = there_is old.streams s (omega (arith, less, fed.count)) in
+    let there : (x : State) × (slice_get old.streams s ≡ Some x) = place_of old.streams s (omega (arith, less, fed.count)) in
     none-some there.0 (sym none ∙ there.1)
 
 -- which is whole
 pub feed-few : (feeds : List FeedValue) (old : Meaning) (fed : IsFedBoard feeds old) (s : ℕ) (feed : FeedValue) → slice_get feeds s ≡ Some feed → length feed.groups < 2 ^ 31
 feed-few feeds old fed s feed at =
     let within : s < length feeds = slice_get_within feeds s feed at in
-    let there : (x : State) × (slice_get old.streams s ≡ Some x) = there_is old.streams s (omega (arith, within, fed.count)) in
+    let there : (x : State) × (slice_get old.streams s ≡ Some x) = place_of old.streams s (omega (arith, within, fed.count)) in
     let has : HasFeed feeds s there.0 = fed.reads s there.0 there.1 in
     subst (λ (f : FeedValue). length f.groups < 2 ^ 31) (same_Some has.feed feed (sym has.fed ∙ at)) has.whole.few
 

@@ -3,6 +3,7 @@ use Rattle.std.proofs.Common.{◌≡◌, ℕ, zero, suc, Bool, true, false, List
 use Rattle.std.proofs.lemmas.Option.{same_Some}
 use Rattle.std.specs.Arc.{arc_value}
 use Rattle.std.specs.Option.{option_map, option_and_then}
+use Rattle.list_laws.proofs.Fronts.{take-own}
 use Rattle.pk_copy.specs.KeyOrder.{key_cmp}
 use Rattle.pk_copy.specs.KeyValue.{KeyValue}
 use Rattle.pk_copy.specs.Marks.{Marks}
@@ -87,10 +88,6 @@ still_outlined before holding after s taken left event result standing outline p
 
 -- ---- an offer, and a restart
 
-front_all : {A : Type 0} (xs ys : List A) → take (length xs) (xs ++ ys) ≡ xs
-front_all [] ys = refl
-front_all {A} (x ∷ xs) ys = ap (λ (zs : List A). x ∷ zs) (front_all xs ys)
-
 all : {A : Type 0} (xs : List A) → take (length xs) xs ≡ xs
 all [] = refl
 all {A} (x ∷ xs) = ap (λ (zs : List A). x ∷ zs) (all xs)
@@ -105,11 +102,11 @@ abbrev KeepsRead : State → List PreparedValue → State → Type 0
 KeepsRead state list next = (take (length next.list) list ≡ next.list) × (next.marks ≡ state.marks)
 
 offer_keeps : (state : State) (group : PreparedValue) (result : Result Answer Refusal) → KeepsRead state (state.list ++ group ∷ []) (behind state (offer group) result)
-offer_keeps state group (Err refusal) = (front_all state.list (group ∷ []), refl)
+offer_keeps state group (Err refusal) = (take-own state.list (group ∷ []), refl)
 offer_keeps state group (Ok answer) = by (nat_le group.number (length state.list)) refl
   where
     by : (b : Bool) → nat_le group.number (length state.list) ≡ b → KeepsRead state (state.list ++ group ∷ []) (state_after state (offer group))
-    by true e = rw e (front_all state.list (group ∷ []), refl)
+    by true e = rw e (take-own state.list (group ∷ []), refl)
     by false e = rw e (all (state.list ++ group ∷ []), refl)
 
 restart_keeps : (state : State) (result : Result Answer Refusal) → KeepsRead state state.list (behind state restart result)

@@ -13,6 +13,8 @@ use Rattle.std.specs.List.{filter, list_any}
 use Rattle.std.specs.Option.{option_or, option_and_then, option_map_or}
 use Rattle.std.specs.Ordering.{is_le, is_gt}
 use Rattle.std.specs.Result.{ok_prefix}
+use Rattle.list_laws.proofs.Fronts.{front_of}
+use Rattle.list_laws.proofs.Choices.{or_none}
 use Rattle.pk_copy.specs.KeyOrder.{key_cmp}
 use Rattle.pk_copy.specs.KeyOrderLaws.{key_cmp_total}
 use Rattle.pk_copy.specs.KeyValue.{KeyValue}
@@ -79,10 +81,6 @@ any-front f (x ∷ xs) ys e = by (f x) e (λ rest. any-front f xs ys rest)
 
 -- ---- touched keys
 
-or_none : {A : Type 0} (v : Option A) → option_or v None ≡ v
-or_none None = refl
-or_none (Some x) = refl
-
 has_touch : (touches : List TouchValue) (key : KeyValue) (x : Option PutValue) → last_at key_cmp touches key ≡ Some x → list_any (λ touch. is_key key touch.0) touches ≡ true
 has_touch [] key x e = absurd (none-some x e)
 has_touch (touch ∷ later) key x e = by (is_key key touch.0) e (λ rest. has_touch later key x rest)
@@ -91,15 +89,6 @@ has_touch (touch ∷ later) key x e = by (is_key key touch.0) e (λ rest. has_to
         → (b || list_any (λ t. is_key key t.0) later) ≡ true
     by true e rest = refl
     by false e rest = rest (sym (or_none (last_at key_cmp later key)) ∙ e)
-
--- a front of a front is a front
-front_of : {A : Type 0} (m n : ℕ) (xs : List A) → (k : ℕ) × (take m (take n xs) ≡ take k xs)
-front_of zero n xs = (0, refl)
-front_of (suc m) zero xs = (0, refl)
-front_of (suc m) (suc n) [] = (0, refl)
-front_of {A} (suc m) (suc n) (x ∷ xs) =
-    let rest : (k : ℕ) × (take m (take n xs) ≡ take k xs) = front_of m n xs in
-    (suc rest.0, ap (λ (ys : List A). x ∷ ys) rest.1)
 
 -- a key at which a stream's applied groups keep a row is one that its feed touches
 kept-touched : (feed : FeedValue) (state : State) → ReadsFeed feed state → (key : KeyValue) (row : RowValue) → passed_at state.list state.applied key ≡ Some row

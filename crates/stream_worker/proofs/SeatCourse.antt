@@ -4,6 +4,7 @@ use Rattle.std.proofs.lemmas.Option.{same_Some, none-some, MatchOption-at_some}
 use borrow.Author.Tests.{eq-eqb}
 use Rattle.std.specs.Prelude.{IsSomeAnd, MatchOption}
 use Rattle.std.specs.Option.{option_map, option_and_then}
+use Rattle.list_laws.proofs.Places.{slice_get-set_same}
 use Rattle.pk_copy.specs.KeyOrder.{key_cmp}
 use Rattle.pk_copy.specs.KeyValue.{KeyValue}
 use Rattle.stream_core.specs.declared.step.Step.{Step}
@@ -25,7 +26,6 @@ use Rattle.board_laws.specs.Step.{IsMade, IsRefusedFor, IsClash}
 use Rattle.board_laws.specs.Reading.{ReadsFeed}
 use Rattle.board_laws.specs.Runs.{sound_groups, IsTouchedIn}
 use Rattle.board_laws.specs.Schedule.{Reply, IsUnprepared}
-use Rattle.board_laws.proofs.Lists.{slice_get-set_same}
 use Rattle.stream_worker.specs.Knowing.{Laid, Knows, SawStreams, state_seen}
 use Rattle.stream_worker.specs.Rule.{IsSaid}
 use Rattle.stream_worker.specs.RunRefused.{IsFirstUnsoundGroup}

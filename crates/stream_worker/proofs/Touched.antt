@@ -1,12 +1,11 @@
 -- Streams that still read their feeds behind a step, and the keys that they touch.
-use Rattle.std.proofs.Common.{◌≡◌, ◌≢◌, ◌==◌, ℕ, zero, suc, Bool, true, false, cond, List, [], ◌∷◌, ◌++◌, length, map, take, drop, Option, Some, None, Result, Ok, Err, slice_get, refl, sym, ap, subst, ◌∙◌}
+use Rattle.std.proofs.Common.{◌≡◌, ◌≢◌, ◌==◌, ℕ, suc, Bool, true, false, cond, List, [], ◌∷◌, ◌++◌, length, map, take, Option, Some, None, Result, Ok, slice_get, refl, sym, ap, subst, ◌∙◌}
 use Rattle.std.proofs.lemmas.Bool.{eqb-false}
-use Rattle.std.proofs.lemmas.Grind.{flat_map-append}
-use Rattle.std.proofs.lemmas.List.{take-append-drop}
 use Rattle.std.proofs.lemmas.Option.{same_Some, none-some, slice_get-map}
 use Rattle.std.specs.Prelude.{nat_le}
-use Rattle.std.specs.Option.{option_or, option_map, option_and_then}
-use Rattle.std.specs.Result.{result_ok, ok_prefix}
+use Rattle.std.specs.Option.{option_map, option_and_then}
+use Rattle.board_laws.proofs.FeedLaws.{touched_front}
+use Rattle.list_laws.proofs.Places.{one_longer}
 use Rattle.pk_copy.specs.KeyOrder.{key_cmp}
 use Rattle.pk_copy.specs.KeyValue.{KeyValue}
 use Rattle.pk_copy.specs.Marks.{is_inside, next_table}
@@ -16,8 +15,7 @@ use Rattle.target_tables.specs.Touches.{last_at, owner_in_the_way}
 use Rattle.source_feed.specs.declared.fault.FeedFault.{FeedFault}
 use Rattle.source_feed.specs.History.{RowValue, touches_in, passing, kept_of, kept_at}
 use Rattle.source_feed.specs.Planned.{PlannedGroupValue, FeedValue}
-use Rattle.source_feed.specs.Touches.{PutValue, TouchValue, PreparedValue, prepared, prepared_at}
-use Rattle.source_feed.proofs.ImageLaws.{last_at-append}
+use Rattle.source_feed.specs.Touches.{PutValue, PreparedValue, prepared, prepared_at}
 use Rattle.board_laws.specs.Meaning.{State}
 use Rattle.board_laws.specs.Cut.{cut_of}
 use Rattle.board_laws.specs.Lawful.{standing_of}
@@ -31,23 +29,6 @@ use Rattle.stream_worker.specs.Private.Courses.{LeadsOn}
 use Rattle.stream_worker.proofs.StepsOn.{plus_one, at_number, of_offer}
 
 -- ---- a stream still reads its feed
-
-no_place : {A P : Type 0} (i : ℕ) (x : A) → slice_get [] i ≡ Some x → P
-no_place i x e = cc
-
-no_error : {A E P : Type 0} (r : Result A E) (g : A) → Some r ≡ Some (Ok g) → result_ok r ≡ None → P
-no_error r g h none = absurd (none-some g (sym none ∙ ap result_ok (same_Some r (Ok g) h)))
-
-same_good : {A E : Type 0} (r : Result A E) (x g : A) → Some r ≡ Some (Ok g) → result_ok r ≡ Some x → x ≡ g
-same_good r x g h is = same_Some x g (sym is ∙ ap result_ok (same_Some r (Ok g) h))
-
--- what stands behind a front of the results before the first error, if it is one more result, is the next of them
-one_longer : {A E : Type 0} (xs : List (Result A E)) (n : ℕ) (g : A) → slice_get xs (length (take n (ok_prefix xs))) ≡ Some (Ok g) → take n (ok_prefix xs) ++ g ∷ [] ≡ take (suc n) (ok_prefix xs)
-one_longer [] n g h = no_place 0 (Ok g) h
-one_longer (Err e ∷ xs) zero g h = no_error (Err e) g h refl
-one_longer (Err e ∷ xs) (suc n) g h = no_error (Err e) g h refl
-one_longer {A} {E} (Ok x ∷ xs) zero g h = ap (λ (y : A). y ∷ []) (sym (same_good (Ok x) x g h refl))
-one_longer {A} {E} (Ok x ∷ xs) (suc n) g h = ap (λ (ys : List A). x ∷ ys) (one_longer xs n g h)
 
 module _ (feed : FeedValue) (state : State) (reads : ReadsFeed feed state) (was is : ℕ) where
   still : (after : State) → after.plan ≡ state.plan → after.list ≡ state.list → ReadsFeed feed after
@@ -90,21 +71,6 @@ module _ (feed : FeedValue) (state : State) (reads : ReadsFeed feed state) (was 
   reads-on Restart event leads h = absurd leads
 
 -- ---- keys of a cut
-
--- a key that a front of groups touches the groups touch
-pub touched_front : (k : ℕ) (groups : List PreparedValue) (key : KeyValue) → IsTouchedIn (take k groups) key → IsTouchedIn groups key
-touched_front k groups key touched =
-    λ none.
-    touched
-    (right_none (last_at key_cmp (touches_in (drop k groups)) key) (last_at key_cmp (touches_in (take k groups)) key)
-    (sym (last_at-append (touches_in (take k groups)) (touches_in (drop k groups)) key)
-    ∙ ap (λ (ts : List TouchValue). last_at key_cmp ts key) (sym (flat_map-append (λ (g : PreparedValue). g.touches) (take k groups) (drop k groups)))
-    ∙ ap (λ (gs : List PreparedValue). last_at key_cmp (touches_in gs) key) (take-append-drop k groups)
-    ∙ none))
-  where
-    right_none : (a b : Option (Option PutValue)) → option_or a b ≡ None → b ≡ None
-    right_none None b e = e
-    right_none (Some x) b e = absurd (none-some x (sym e))
 
 -- a key with a row in a stream's cut is one that its applied groups touch
 pub cut_front : (state : State) (key : KeyValue) (row : RowValue) → cut_of state key ≡ Some row → IsTouchedIn (take state.applied state.list) key

@@ -1,5 +1,5 @@
 -- Boards whose streams have ended: their rows are those that the feeds keep.
-use Rattle.std.proofs.Common.{◌≡◌, ◌≢◌, ◌==◌, ℕ, zero, suc, ◌<◌, ◌≤◌, Bool, true, false, cond, List, [], ◌∷◌, ◌++◌, length, take, Option, Some, None, slice_get, refl, sym, ap, subst, ◌∙◌, arith}
+use Rattle.std.proofs.Common.{◌≡◌, ◌≢◌, ◌==◌, ℕ, zero, suc, ◌<◌, ◌≤◌, Bool, true, false, cond, List, [], ◌∷◌, length, take, Option, Some, None, slice_get, refl, sym, ap, subst, ◌∙◌, arith}
 use Rattle.std.proofs.lemmas.Bool.{ne_eqb}
 use Rattle.std.proofs.lemmas.Option.{same_Some, none-some, slice_get_within}
 use borrow.Author.Tests.{eqb-true, eq-eqb, ltb-false}
@@ -7,6 +7,8 @@ use Rattle.std.specs.Prelude.{nat_lt, IfSome}
 use Rattle.std.specs.List.{AllByRecursion}
 use Rattle.std.specs.Option.{option_or, option_map, option_and_then}
 use Rattle.std.specs.declared.cmp.Ordering.TheVariants.{Less}
+use Rattle.list_laws.proofs.Fronts.{All-append}
+use Rattle.list_laws.proofs.Places.{place_of, slice_get-take}
 use Rattle.filter_rule.specs.PlanValue.{PlanValue}
 use Rattle.pk_copy.specs.KeyOrder.{key_cmp}
 use Rattle.pk_copy.specs.KeyValue.{KeyValue}
@@ -24,7 +26,7 @@ use Rattle.board_laws.specs.Cut.{cut_of, own_row}
 use Rattle.board_laws.specs.Lawful.{standing_of, IsSoundState}
 use Rattle.board_laws.specs.Reading.{ReadsFeed, HasFeed}
 use Rattle.board_laws.specs.Runs.{sound_groups}
-use Rattle.board_laws.proofs.Lists.{slice_get-take, take-fewer}
+use Rattle.board_laws.proofs.Lists.{take-fewer}
 use Rattle.board_laws.proofs.Lookups.{Ties, is_key, same_key, same_rows}
 use Rattle.board_laws.proofs.History.{passed_at-alike}
 use Rattle.apply_core.specs.Shown.{all_rows}
@@ -37,17 +39,13 @@ use Rattle.stream_worker.specs.Ended.{HasEnded, IsFedBoard, AllHaveEnded, kept_o
 abbrev IsOfTable : ℕ → TouchValue → Type 0
 IsOfTable tables touch = touch.0.table < tables
 
-both : {X : Type 0} (P : X → Type 0) (xs ys : List X) → AllByRecursion P xs → AllByRecursion P ys → AllByRecursion P (xs ++ ys)
-both P [] ys h k = k
-both P (x ∷ xs) ys h k = (h.0, both P xs ys h.1 k)
-
 tables_of : (plan : PlanValue) (n : ℕ) → length plan.tables ≡ n → (touches : List TouchValue) → AllByRecursion (IsTouchUnder plan) touches → AllByRecursion (IsOfTable n) touches
 tables_of plan n e [] h = tt
 tables_of plan n e (touch ∷ later) h = (subst (λ m. touch.0.table < m) e h.0.table, tables_of plan n e later h.1)
 
 all_touches : (n : ℕ) (groups : List PreparedValue) → ((i : ℕ) (group : PreparedValue) → slice_get groups i ≡ Some group → AllByRecursion (IsOfTable n) group.touches) → AllByRecursion (IsOfTable n) (touches_in groups)
 all_touches n [] h = tt
-all_touches n (group ∷ later) h = both (IsOfTable n) group.touches (touches_in later) (h 0 group refl) (all_touches n later (λ i g e. h (suc i) g e))
+all_touches n (group ∷ later) h = All-append (IsOfTable n) group.touches (touches_in later) (h 0 group refl) (all_touches n later (λ i g e. h (suc i) g e))
 
 -- a key of another table isn't touched
 untouched : (ties : Ties) (n : ℕ) (touches : List TouchValue) (key : KeyValue) → AllByRecursion (IsOfTable n) touches → n ≤ key.table → last_at key_cmp touches key ≡ None
@@ -137,17 +135,12 @@ rising-unowned : (rows : TargetRows) → IsRising key_cmp rows → IsRising key_
 rising-unowned [] h = tt
 rising-unowned (entry ∷ rows) h = (all-unowned (λ k. key_cmp entry.0 k ≡ Less) rows h.0, rising-unowned rows h.1)
 
-pub there_is : {A : Type 0} (xs : List A) (i : ℕ) → i < length xs → (x : A) × (slice_get xs i ≡ Some x)
-there_is [] i h = absurd (omega (arith, h))
-there_is (x ∷ xs) zero h = (x, refl)
-there_is (x ∷ xs) (suc i) h = there_is xs i (omega (arith, h))
-
 module _ (ties : Ties) (feeds : List FeedValue) (board : Meaning) (fed : IsFedBoard feeds board) (ended : AllHaveEnded feeds board) where
   -- a feed has a stream, whose row at a key is what the feed keeps there
   own-kept : (s : ℕ) (feed : FeedValue) → slice_get feeds s ≡ Some feed → (key : KeyValue) → own_row s (value_at key_cmp board.rows key) ≡ kept_of_feed feed key
   own-kept s feed at key =
       let within : s < length board.streams = (let less : s < length feeds = slice_get_within feeds s feed at in omega (arith, less, fed.count)) in
-      let here : (state : State) × (slice_get board.streams s ≡ Some state) = there_is board.streams s within in
+      let here : (state : State) × (slice_get board.streams s ≡ Some state) = place_of board.streams s within in
       let has : HasFeed feeds s here.0 = fed.reads s here.0 here.1 in
       let same : has.feed ≡ feed = same_Some has.feed feed (sym has.fed ∙ at) in
       fed.lawful.cuts s key

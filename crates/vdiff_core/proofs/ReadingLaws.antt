@@ -8,6 +8,7 @@ use Rattle.std.proofs.lemmas.List.Concat.{flat_map-cons}
 use Rattle.row_view.specs.Row.{row_of_message}
 use Rattle.row_view.specs.WrittenRow.{IsWithinLimits}
 use Rattle.std.proofs.lemmas.Bool.Decides.{nat_tests}
+use Rattle.std.proofs.lemmas.Option.{same_Some}
 use Rattle.hex.specs.Hex.{encode_lower, encode_with, lower_digits}
 use Rattle.vdiff_core.specs.Cells.{cell, cells}
 use Rattle.vdiff_core.specs.Dump.{row_line}
@@ -143,9 +144,6 @@ bytes_there (b ∷ v) s r all stop =
 
 -- ---- cells
 
-pub some_pair : {X : Type 0} (p q : X) → Some p ≡ Some q → p ≡ q
-some_pair p q e = cc
-
 cell_there : (c : Option (List ℕ)) (s : ℕ) (r : List ℕ) → IfSome c AreAllBytes → digit_of s ≡ None → cell_front (cell c ++ s ∷ r) ≡ Some (c, s ∷ r)
 cell_there None s r all stop = refl
 cell_there (Some v) s r all stop = ap (λ (p : List ℕ × List ℕ). Some (Some p.0, p.1)) (bytes_there v s r all stop)
@@ -161,12 +159,12 @@ cell_is (first ∷ t) p e = by (first == 78) (first == 120) refl refl
     by true value a b =
         let n : first ≡ 78 = grind (arith, nat_tests, a) in
         let some : Some (None, t) ≡ Some p = rw a at e in
-        subst (IsCell (first ∷ t)) (some_pair (None, t) p some) (ap (λ (x : ℕ). x ∷ t) n, tt)
+        subst (IsCell (first ∷ t)) (same_Some (None, t) p some) (ap (λ (x : ℕ). x ∷ t) n, tt)
     by false true a b =
         let n : first ≡ 120 = grind (arith, nat_tests, b) in
         let some : Some (Some (bytes_front t).0, (bytes_front t).1) ≡ Some p = rw (a, b) at e in
         let are = bytes_are t in
-        subst (IsCell (first ∷ t)) (some_pair (Some (bytes_front t).0, (bytes_front t).1) p some) (ap (λ (x : ℕ). x ∷ t) n ∙ ap (λ (l : List ℕ). 120 ∷ l) are.0, are.1)
+        subst (IsCell (first ∷ t)) (same_Some (Some (bytes_front t).0, (bytes_front t).1) p some) (ap (λ (x : ℕ). x ∷ t) n ∙ ap (λ (l : List ℕ). 120 ∷ l) are.0, are.1)
     by false false a b = let none : None ≡ Some p = rw (a, b) at e in cc
 
 byte_is : (byte : ℕ) (text rest : List ℕ) → behind_byte byte text ≡ Some rest → text ≡ byte ∷ rest
@@ -216,7 +214,7 @@ cells_behind : (n : ℕ) (text t u : List ℕ) (c : Option (List ℕ)) (p : RowV
     → with_column c o ≡ Some p → AreCells (suc n) text p
 cells_behind n text t u c p None tab first others e = cc
 cells_behind n text t u c p (Some q) tab first others e =
-    subst (AreCells (suc n) text) (some_pair (c ∷ q.0, q.1) p e) (cells_more n text t u q.1 c q.0 tab first (others q refl))
+    subst (AreCells (suc n) text) (same_Some (c ∷ q.0, q.1) p e) (cells_more n text t u q.1 c q.0 tab first (others q refl))
 
 cell_behind : (n : ℕ) (text t : List ℕ) (p : RowValue × List ℕ) (o : Option (Option (List ℕ) × List ℕ)) → text ≡ 9 ∷ t → cell_front t ≡ o → ((u : List ℕ) (q : RowValue × List ℕ) → cells_front n u ≡ Some q → AreCells n u q)
     → option_and_then (λ first. with_column first.0 (cells_front n first.1)) o ≡ Some p → AreCells (suc n) text p
@@ -229,7 +227,7 @@ tab_behind n text p None is others e = cc
 tab_behind n text p (Some t) is others e = cell_behind n text t p (cell_front t) (byte_is 9 text t is) refl others e
 
 cells_are : (n : ℕ) (text : List ℕ) (p : RowValue × List ℕ) → cells_front n text ≡ Some p → AreCells n text p
-cells_are zero text p e = subst (AreCells zero text) (some_pair ([], text) p e) (refl, refl, tt)
+cells_are zero text p e = subst (AreCells zero text) (same_Some ([], text) p e) (refl, refl, tt)
 cells_are (suc n) text p e = tab_behind n text p (behind_byte 9 text) refl (cells_are n) e
 
 -- ---- rows
@@ -270,7 +268,7 @@ front_more (high ∷ low ∷ rest) p e = by (digit_of high) (digit_of low) e
     by None None e = cc
     by None (Some y) e = cc
     by (Some x) None e = cc
-    by (Some x) (Some y) e = ap (λ (q : ℕ × List ℕ). (q.0 ∷ (bytes_front q.1).0, (bytes_front q.1).1)) (some_pair (x * 16 + y, rest) p e)
+    by (Some x) (Some y) e = ap (λ (q : ℕ × List ℕ). (q.0 ∷ (bytes_front q.1).0, (bytes_front q.1).1)) (same_Some (x * 16 + y, rest) p e)
 
 -- a byte more
 pub bytes_more : (whole : List ℕ × List ℕ) (old text rest : List ℕ) (byte : ℕ) → whole ≡ (old ++ (bytes_front text).0, (bytes_front text).1) → pair_front text ≡ Some (byte, rest)
@@ -389,7 +387,7 @@ map_more {A} {B} {C} g f xs ys i x d so_far same lt =
 end_behind : (n : ℕ) (text t u : List ℕ) (c : Option (List ℕ)) (cs : RowValue) (p : RowValue × List ℕ) (o : Option (List ℕ)) → cell_front text ≡ Some (c, t) → cells_front n t ≡ Some (cs, u) → behind_byte 10 u ≡ o
     → option_map (λ rest. (c ∷ cs, rest)) o ≡ Some p → IsRowLine (suc n) text p
 end_behind n text t u c cs p None first others is e = cc
-end_behind n text t u c cs p (Some rest) first others is e = subst (IsRowLine (suc n) text) (some_pair (c ∷ cs, rest) p e) (row_is n text t u rest c cs first others is)
+end_behind n text t u c cs p (Some rest) first others is e = subst (IsRowLine (suc n) text) (same_Some (c ∷ cs, rest) p e) (row_is n text t u rest c cs first others is)
 
 others_behind : (n : ℕ) (text t : List ℕ) (c : Option (List ℕ)) (p : RowValue × List ℕ) (o : Option (RowValue × List ℕ)) → cell_front text ≡ Some (c, t) → cells_front n t ≡ o
     → option_and_then (λ others. option_map (λ rest. (c ∷ others.0, rest)) (behind_byte 10 others.1)) o ≡ Some p → IsRowLine (suc n) text p
@@ -442,4 +440,4 @@ none_of_none n text none row rest e limits = let both : None ≡ Some (row, rest
 
 pub none_of_limits : (n : ℕ) (text : List ℕ) (columns : RowValue) (behind : List ℕ) → row_front n text ≡ Some (columns, behind) → (IsWithinLimits columns → ⊥) → (row : RowValue) (rest : List ℕ) → row_front n text ≡ Some (row, rest) → IsWithinLimits row → ⊥
 none_of_limits n text columns behind there beyond row rest e limits =
-    beyond (subst IsWithinLimits (ap (λ (p : RowValue × List ℕ). p.0) (some_pair (row, rest) (columns, behind) (sym e ∙ there))) limits)
+    beyond (subst IsWithinLimits (ap (λ (p : RowValue × List ℕ). p.0) (same_Some (row, rest) (columns, behind) (sym e ∙ there))) limits)

@@ -18,7 +18,7 @@ use Rattle.vdiff_core.specs.Report.{column_eq, row_eq, is_matched, is_mismatched
 use Rattle.vdiff_core.specs.declared.report.Report.{Report}
 use Rattle.vdiff_core.specs.RowsValue.{RowValue, RowsValue, row_with_key}
 
-column_eq-Decides : (a b : Option (List ℕ)) → Decides (column_eq a b) (a ≡ b)
+pub column_eq-Decides : (a b : Option (List ℕ)) → Decides (column_eq a b) (a ≡ b)
 column_eq-Decides None None = (λ e. refl, λ e. refl)
 column_eq-Decides None (Some b) = (λ e. cc, λ e. cc)
 column_eq-Decides (Some a) None = (λ e. cc, λ e. cc)
@@ -62,7 +62,7 @@ pub all_above : (key : KeyValue) (first : KeyValue × RowValue) (rows : RowsValu
 all_above key first rows rising less = (less, each (λ later. key_cmp first.0 later.0 ≡ Less) (λ later. key_cmp key later.0 ≡ Less) (λ later l. key_cmp_total.trans key first.0 later.0 less l) rows rising.0)
 
 -- the key itself is found at once
-here : (key : KeyValue) (row : RowValue) (others : RowsValue) → row_with_key ((key, row) ∷ others) key ≡ Some row
+pub here : (key : KeyValue) (row : RowValue) (others : RowsValue) → row_with_key ((key, row) ∷ others) key ≡ Some row
 here key row others = ap (λ o. cond (is_eq o) (Some row) (row_with_key others key)) (tied_itself key_cmp_total key)
 
 -- ---- one step of the walk

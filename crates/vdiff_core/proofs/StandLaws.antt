@@ -9,7 +9,7 @@ use Rattle.std.proofs.lemmas.Bool.Decides.{nat_tests}
 use Rattle.std.proofs.lemmas.List.{take_more, take_all, length-take-le, length-append, append_cancel_left, take-append-drop, take-append-le}
 use Rattle.std.proofs.lemmas.List.Concat.{flat_map-cons, flat_map-append}
 use Rattle.std.proofs.lemmas.List.Elements.{filter-append}
-use Rattle.std.proofs.lemmas.Option.{slice_get-get_or}
+use Rattle.std.proofs.lemmas.Option.{slice_get-get_or, same_Some}
 use Rattle.std.specs.Str.{bytes_eq}
 use Rattle.std.proofs.lemmas.Slice.Eq.{bytes_eq-Decides}
 use Rattle.list_laws.proofs.Fronts.{each}
@@ -24,7 +24,7 @@ use Rattle.vdiff_core.specs.Dump.{row_line, row_lines, rows_of_table, table_line
 use Rattle.vdiff_core.specs.DumpReading.{AreByteValues, FitsPlan, AreRowsOf, IsDump, Behind, BeginsTable, AddsRow, CanStand, Stand, NoLineStands, IsFirstBad, AreReadOnce, at_front, joined_lines}
 use Rattle.vdiff_core.specs.Private.Reading.{row_front, IsReadSoFar, NoRowStands, TakesLine, TakesRow, TakesRowLine}
 use Rattle.vdiff_core.specs.RowsValue.{RowValue, RowsValue}
-use Rattle.vdiff_core.proofs.ReadingLaws.{row_there, some_pair}
+use Rattle.vdiff_core.proofs.ReadingLaws.{row_there}
 use Rattle.vdiff_core.proofs.RowsLaws.{rising_pushed}
 use Rattle.vdiff_core.proofs.TableLaws.{table_of_less}
 
@@ -44,7 +44,7 @@ same_columns (c ∷ cs) [] r q w p s e = absurd (omega arith)
 same_columns (c ∷ cs) (d ∷ ds) r q w p s e =
     let a = row_there (length cs) (c ∷ cs) r refl p in
     let b = row_there (length cs) (d ∷ ds) q (sym w) s in
-    let both = some_pair (c ∷ cs, r) (d ∷ ds, q) (sym a ∙ ap (row_front (length cs)) e ∙ b) in
+    let both = same_Some (c ∷ cs, r) (d ∷ ds, q) (sym a ∙ ap (row_front (length cs)) e ∙ b) in
     (ap (λ (pair : RowValue × List ℕ). pair.0) both, ap (λ (pair : RowValue × List ℕ). pair.1) both)
 
 ok_same : {X E : Type 0} (x y : X) → ◌≡◌ {A = Result X E} (Ok x) (Ok y) → x ≡ y

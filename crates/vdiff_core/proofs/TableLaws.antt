@@ -1,5 +1,5 @@
 -- Rows by rising key, table after table.
-use Rattle.std.proofs.Common.{◌≡◌, ℕ, zero, suc, ◌+◌, ◌<◌, ◌≤◌, List, [], ◌∷◌, ◌++◌, length, take, drop, cond, true, false, not, refl, sym, ap, ◌∙◌, arith, Bool, ◌⊎◌, inl, inr, Option, Some, None, slice_get, subst, take-append-drop}
+use Rattle.std.proofs.Common.{◌≡◌, ℕ, zero, suc, ◌+◌, ◌<◌, ◌≤◌, List, [], ◌∷◌, ◌++◌, length, take, drop, cond, true, false, not, refl, sym, ap, ◌∙◌, arith, Bool, ◌⊎◌, inl, inr, Option, Some, slice_get, subst, take-append-drop}
 use Rattle.std.specs.Prelude.{◌==◌, nat_lt, position}
 use Rattle.std.specs.Option.{option_map_or, unwrap_or}
 use Rattle.std.specs.List.{AllByRecursion, position_or_len}
@@ -11,6 +11,8 @@ use Rattle.std.specs.declared.cmp.Ordering.TheVariants.{Less, Greater}
 use Rattle.std.proofs.lemmas.List.Elements.{filter-append}
 use Rattle.std.proofs.lemmas.Bool.Decides.{nat_tests}
 use Rattle.std.proofs.lemmas.Option.{slice_get_within}
+use Rattle.list_laws.proofs.Places.{place_of}
+use Rattle.list_laws.proofs.Choices.{or_len_at}
 use Rattle.list_laws.proofs.Fronts.{each}
 use Rattle.filter_rule.specs.PlanTable.{TableValue}
 use Rattle.filter_rule.specs.PlanValue.{PlanValue, kept_columns_of}
@@ -65,13 +67,8 @@ in_front : (t : ℕ) (rows : RowsValue) → IsRising key_cmp rows → AreFrom t 
 in_front t [] rising from = (refl, tt)
 in_front t (row ∷ rows) rising from = front_first t row rows (row.0.table == t) refl rising from (in_front t rows rising.1 from.1)
 
--- the place of the first other row, or all
-place_at : (k n : ℕ) (b : Bool) → nat_lt k n ≡ b → k ≤ n → unwrap_or (cond b (Some k) None) n ≡ k
-place_at k n true e le = refl
-place_at k n false e le = grind (arith, nat_tests, e, le)
-
 place_or_all : (p : KeyValue × RowValue → Bool) (rows : RowsValue) → unwrap_or (position p rows) (length rows) ≡ position_or_len p rows
-place_or_all p rows = place_at (position_or_len p rows) (length rows) (nat_lt (position_or_len p rows) (length rows)) refl (prefix_len-le-length (λ row. not (p row)) rows)
+place_or_all p rows = or_len_at (position_or_len p rows) (length rows) (nat_lt (position_or_len p rows) (length rows)) refl (prefix_len-le-length (λ row. not (p row)) rows)
 
 pub front_rows : (t : ℕ) (rows : RowsValue) (n : ℕ) → n ≡ unwrap_or (position (other t) rows) (length rows) → IsRising key_cmp rows → AreFrom t rows → (rows_of_table t rows ≡ take n rows) × AreFrom (t + 1) (drop n rows)
 front_rows t rows n is rising from = rw (is ∙ place_or_all (other t) rows) (in_front t rows rising from)
@@ -173,11 +170,6 @@ from_none [] = tt
 from_none (row ∷ rows) = (omega arith, from_none rows)
 
 -- ---- columns
-
-place_of : {A : Type 0} (xs : List A) (i : ℕ) → i < length xs → (x : A) × (slice_get xs i ≡ Some x)
-place_of [] i less = absurd (omega arith)
-place_of (x ∷ xs) zero less = (x, refl)
-place_of (x ∷ xs) (suc i) less = place_of xs i (omega arith)
 
 -- of each table of a plan a column is kept, since its key is
 pub kept_some : (plan : PlanValue) (t : ℕ) → t < length plan.tables → IsPlan plan → 1 ≤ length (kept_columns_of plan t)

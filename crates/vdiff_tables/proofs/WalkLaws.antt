@@ -9,7 +9,7 @@ use Rattle.pk_copy.specs.KeyOrderLaws.{key_cmp_total}
 use Rattle.pk_copy.specs.KeyValue.{KeyValue}
 use Rattle.target_tables.specs.Rising.{IsRising, AreAbove}
 use Rattle.vdiff_core.specs.RowsValue.{RowValue, RowsValue, row_with_key}
-use Rattle.vdiff_core.proofs.ReportLaws.{all_above, none_at, tied_none, source_first, target_first, rows_first, first_behind}
+use Rattle.vdiff_core.proofs.ReportLaws.{all_above, none_at, tied_none, source_first, target_first, rows_first, first_behind, here}
 use Rattle.vdiff_tables.specs.Differences.{Difference, rows_past}
 use Rattle.vdiff_tables.specs.Found.{IsNextDifference}
 use Rattle.vdiff_tables.specs.Private.Same.{Differ, IsBehindSame}
@@ -24,10 +24,6 @@ behind_all key (row ∷ rows) above = rw above.0 (ap (λ (l : RowsValue). row �
 -- the row at the key itself isn't among them
 pub behind_itself : (key : KeyValue) (row : RowValue) (rows : RowsValue) → AreAbove key_cmp key rows → rows_past key ((key, row) ∷ rows) ≡ rows
 behind_itself key row rows above = rw (tied_itself key_cmp_total key) (behind_all key rows above)
-
--- the row at the key itself
-here : (key : KeyValue) (row : RowValue) (others : RowsValue) → row_with_key ((key, row) ∷ others) key ≡ Some row
-here key row others = ap (λ o. cond (is_eq o) (Some row) (row_with_key others key)) (tied_itself key_cmp_total key)
 
 -- a lesser key than the first is less than all
 pub above_of_greater : (x y : KeyValue × RowValue) (lefts : RowsValue) → IsRising key_cmp (x ∷ lefts) → key_cmp x.0 y.0 ≡ Greater → AreAbove key_cmp y.0 (x ∷ lefts)

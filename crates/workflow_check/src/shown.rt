@@ -32,7 +32,7 @@ fn push_shown(bytes: &[u8], text: &mut String) -> Result<(), AllocError>
 }
 
 /// At most so many of the first bytes.
-#[tactic(auto, using(crate::proofs::ListLaws::front_within))]
+#[tactic(auto, using(list_laws::proofs::Fronts::front_within))]
 fn front(bytes: &[u8], most: usize) -> &[u8]
     ensures { result.now ≡ take most bytes.now }
 {

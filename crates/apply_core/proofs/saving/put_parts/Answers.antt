@@ -1,4 +1,5 @@
-use Rattle.apply_core.proofs.SaveLaws.{at_item, parts_turn, parts_end}
+use Rattle.list_laws.proofs.Walks.{at_item}
+use Rattle.apply_core.proofs.SaveLaws.{parts_turn, parts_end}
 use Rattle.apply_core.proofs.saving.put_parts.Goals as goal
 
 pub loop-s-preserved : goal.loop-s-preserved

@@ -1,9 +1,9 @@
 use Rattle.std.proofs.Common.{◌≡◌, ◌∙◌, ◌++◌, List, ℕ, map, ap, subst}
 use Rattle.std.proofs.lemmas.Result.{err_from_is_err_and}
+use Rattle.list_laws.proofs.Walks.{at_item}
 use Rattle.checkpoint_core.specs.Fault.{IsNothing}
 use Rattle.checkpoint_core.specs.Private.Reading.{AreRows, of_table, rows_in, rows_from}
 use Rattle.checkpoint_core.proofs.RowLaws.{table_turn, table_stop, table_end}
-use Rattle.checkpoint_core.proofs.TextLaws.{at_item}
 use Rattle.source_feed.specs.History.{RowValue}
 use Rattle.checkpoint_core.proofs.rows.read_rows.Goals as goal
 

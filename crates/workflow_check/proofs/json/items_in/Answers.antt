@@ -1,9 +1,9 @@
 use Rattle.std.proofs.Common.{List, Option, map, sym, ap, ◌∙◌, []}
 use Rattle.std.specs.Option.{option_map_or}
+use Rattle.filter_rule.proofs.JsonLaws.{listed_items}
 use Rattle.serde_json.specs.Data.{Data, Items}
 use Rattle.serde_json.specs.View.{view}
 use Rattle.filter_rule.specs.Document.{listed}
-use Rattle.workflow_check.proofs.ListLaws.{listed_items}
 use Rattle.workflow_check.proofs.json.items_in.Goals as goal
 
 pub returns-in-Some : goal.returns-in-Some
