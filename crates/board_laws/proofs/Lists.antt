@@ -1,5 +1,5 @@
 -- Places of a list behind a push, a write and a cut.
-use Rattle.std.proofs.Common.{◌≡◌, ◌≢◌, ℕ, zero, suc, ◌-◌, ◌≤◌, ◌⊎◌, inl, inr, List, [], ◌∷◌, ◌++◌, length, take, Some, None, slice_get, set, refl, sym, ap, ◌∙◌, arith}
+use Rattle.std.proofs.Common.{◌≡◌, ◌≢◌, ℕ, zero, suc, ◌-◌, ◌⊎◌, inl, inr, List, [], ◌∷◌, ◌++◌, length, take, Some, None, slice_get, set, refl, sym, ap, ◌∙◌, arith}
 use Rattle.std.proofs.lemmas.Option.{same_Some}
 
 -- ---- a push
@@ -25,13 +25,6 @@ pub take-take : {A : Type 0} (n : ℕ) (xs : List A) → take n (take n xs) ≡ 
 take-take zero xs = refl
 take-take (suc n) [] = refl
 take-take {A} (suc n) (x ∷ xs) = ap (λ (ys : List A). x ∷ ys) (take-take n xs)
-
--- fewer of a front
-pub take-fewer : {A : Type 0} (m n : ℕ) (xs : List A) → m ≤ n → take m (take n xs) ≡ take m xs
-take-fewer zero n xs h = refl
-take-fewer (suc m) zero xs h = absurd (omega arith)
-take-fewer (suc m) (suc n) [] h = refl
-take-fewer {A} (suc m) (suc n) (x ∷ xs) h = ap (λ (ys : List A). x ∷ ys) (take-fewer m n xs (omega arith))
 
 -- ---- the last element
 

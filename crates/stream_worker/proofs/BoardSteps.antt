@@ -5,6 +5,7 @@ use Rattle.std.proofs.lemmas.Option.{same_Some}
 use Rattle.std.specs.Option.{option_map, option_and_then}
 use Rattle.std.specs.Arc.{arc_value}
 use Rattle.std.specs.Prelude.{IsOk, IfSome}
+use Rattle.std.proofs.lemmas.List.{take-take}
 use Rattle.list_laws.proofs.Places.{slice_get-set_same, slice_get-set_other}
 use borrow.Author.Tests.{eqb-true, eq-eqb}
 use Rattle.pk_copy.specs.KeyOrder.{key_cmp}
@@ -37,7 +38,7 @@ use Rattle.stream_worker.specs.Rule.{StateGoesOn, AllGoOn, IsOwnChange}
 use Rattle.stream_worker.specs.Outlines.{IsNextOf}
 use Rattle.stream_worker.specs.declared.outline.Next.{Next}
 use Rattle.stream_worker.specs.Seats.{IsBoardStep, IsReceiptOf, own_cut}
-use Rattle.stream_worker.proofs.States.{take-fewer, goes_on-refl, same_goes_on, all_go_on-same}
+use Rattle.stream_worker.proofs.States.{goes_on-refl, same_goes_on, all_go_on-same}
 
 -- ---- one stream
 
@@ -64,7 +65,7 @@ goes_on_step state advance within = record { plan = refl; applied = omega arith;
 goes_on_step state (open_at m) within = record { plan = refl; applied = omega arith; groups = refl }
 goes_on_step state (copy_rows c) within = goes_on_copy state c
 goes_on_step state close within = record { plan = refl; applied = omega arith; groups = refl }
-goes_on_step state restart within = record { plan = refl; applied = omega arith; groups = take-fewer state.applied state.applied state.list (omega arith) }
+goes_on_step state restart within = record { plan = refl; applied = omega arith; groups = take-take state.applied state.applied state.list (omega arith) }
 
 -- ---- a board
 

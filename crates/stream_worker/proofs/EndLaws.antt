@@ -3,6 +3,7 @@ use Rattle.std.proofs.Common.{◌≡◌, ◌≢◌, ◌⊎◌, ◌==◌, ℕ, ze
 use Rattle.std.proofs.lemmas.Bool.{or_left, or_from, eqb-false}
 use Rattle.std.proofs.lemmas.Option.{same_Some}
 use Rattle.std.specs.Option.{option_map, option_and_then}
+use Rattle.std.proofs.lemmas.List.{take-take}
 use borrow.Author.Tests.{eqb-true, eq-eqb, ne_eqb}
 use Rattle.crossbeam_channel.specs.Claims.{view}
 use Rattle.board_laws.specs.Meaning.{State}
@@ -14,7 +15,7 @@ use Rattle.stream_worker.specs.Rule.{IsSaid, IsBoardTaken}
 use Rattle.stream_worker.specs.SeatOf.{known, seat_state, IsSeatOf, AreSeatsOf, AreApartSeats, AreStatesOf, AreAllKnown, AllGoOnFromSeen, SawAsMany}
 use Rattle.stream_worker.proofs.Passes.{named_before, named_behind}
 use Rattle.stream_worker.proofs.ToldLaws.{among_before, among_behind, saw_among, told_among, from_boards}
-use Rattle.stream_worker.proofs.States.{take-fewer, joined_theirs, joined_ours}
+use Rattle.stream_worker.proofs.States.{joined_theirs, joined_ours}
 
 -- ---- one seat
 
@@ -211,6 +212,6 @@ next_popped shared all items rest m n x v each front split more long all_known =
     let cut : items ≡ take (suc n) all = front ∙ ap (λ (k : ℕ). take k all) is in
     let there : slice_get all n ≡ Some x = sym (front-get n all) ∙ ap (λ (l : List Seat). slice_get l n) (sym cut ∙ split) ∙ last-get rest x n long in (
       each.each n x there,
-      sym (front-of rest x n long) ∙ ap (take n) (sym split ∙ cut) ∙ take-fewer n (suc n) all (omega arith),
+      sym (front-of rest x n long) ∙ ap (take n) (sym split ∙ cut) ∙ take-take n (suc n) all (omega arith),
       joined_known shared all n v x each (subst (λ (k : ℕ). AreAllKnown all k v) more all_known) there,
     )

@@ -1,17 +1,11 @@
 -- Streams that go on; states that are joined.
-use Rattle.std.proofs.Common.{◌≡◌, ℕ, zero, suc, ◌+◌, ◌≤◌, Bool, true, false, true≢false, List, [], ◌∷◌, length, take, Option, Some, None, IsSomeAnd, slice_get, refl, sym, ap, ◌∙◌, subst, arith, if◌then◌else◌}
+use Rattle.std.proofs.Common.{◌≡◌, ℕ, zero, suc, ◌+◌, Bool, true, false, true≢false, List, [], ◌∷◌, length, take, Option, Some, None, IsSomeAnd, slice_get, refl, sym, ap, ◌∙◌, subst, arith, if◌then◌else◌}
+use Rattle.std.proofs.lemmas.List.{take-take}
 use Rattle.board_laws.specs.Meaning.{State}
 use Rattle.stream_worker.specs.Knowing.{names, states_joined}
 use Rattle.stream_worker.specs.Rule.{StateGoesOn, AllGoOn}
 
 -- ---- streams that go on
-
--- fewer of a front
-pub take-fewer : {A : Type 0} (m n : ℕ) (xs : List A) → m ≤ n → take m (take n xs) ≡ take m xs
-take-fewer zero n xs h = refl
-take-fewer (suc m) zero xs h = absurd (omega arith)
-take-fewer (suc m) (suc n) [] h = refl
-take-fewer {A} (suc m) (suc n) (x ∷ xs) h = ap (λ (ys : List A). x ∷ ys) (take-fewer m n xs (omega arith))
 
 pub goes_on-refl : (state : State) → StateGoesOn state state
 goes_on-refl state = record { plan = refl; applied = omega arith; groups = refl }
@@ -22,9 +16,9 @@ goes_on-trans a b c one two =
       plan = two.plan ∙ one.plan;
       applied = let x = one.applied in let y = two.applied in omega arith;
       groups =
-          sym (take-fewer a.applied b.applied c.list one.applied)
+          sym (take-take a.applied b.applied c.list one.applied)
           ∙ ap (take a.applied) two.groups
-          ∙ take-fewer a.applied b.applied b.list one.applied
+          ∙ take-take a.applied b.applied b.list one.applied
           ∙ one.groups;
     }
 

@@ -7,6 +7,7 @@ use Rattle.std.specs.Prelude.{nat_lt, IfSome}
 use Rattle.std.specs.List.{AllByRecursion}
 use Rattle.std.specs.Option.{option_or, option_map, option_and_then}
 use Rattle.std.specs.declared.cmp.Ordering.TheVariants.{Less}
+use Rattle.std.proofs.lemmas.List.{take-take}
 use Rattle.list_laws.proofs.Fronts.{All-append}
 use Rattle.list_laws.proofs.Places.{place_of, slice_get-take}
 use Rattle.filter_rule.specs.PlanValue.{PlanValue}
@@ -26,7 +27,6 @@ use Rattle.board_laws.specs.Cut.{cut_of, own_row}
 use Rattle.board_laws.specs.Lawful.{standing_of, IsSoundState}
 use Rattle.board_laws.specs.Reading.{ReadsFeed, HasFeed}
 use Rattle.board_laws.specs.Runs.{sound_groups}
-use Rattle.board_laws.proofs.Lists.{take-fewer}
 use Rattle.board_laws.proofs.Lookups.{Ties, is_key, same_key, same_rows}
 use Rattle.board_laws.proofs.History.{passed_at-alike}
 use Rattle.apply_core.specs.Shown.{all_rows}
@@ -87,7 +87,7 @@ module _ (ties : Ties) (feed : FeedValue) (state : State) (sound : IsSoundState 
       ap (λ n. kept_at state.plan state.list n key) ended.applied
       ∙ ap (option_map (kept_of state.plan key))
       (passed_at-alike state.list (sound_groups feed) (length feed.groups) key
-      (ap (λ (xs : List PreparedValue). take (length feed.groups) xs) reads.list ∙ take-fewer (length feed.groups) reads.length_read (sound_groups feed) enough))
+      (ap (λ (xs : List PreparedValue). take (length feed.groups) xs) reads.list ∙ take-take (length feed.groups) reads.length_read (sound_groups feed) enough))
       ∙ ap (λ (plan : PlanValue). kept_at plan (sound_groups feed) (length feed.groups) key) reads.plan
 
   touched-tables : AllByRecursion (IsOfTable state.marks.tables) (touches_in (take state.applied state.list))

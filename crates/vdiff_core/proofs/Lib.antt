@@ -1,6 +1,7 @@
 pub mod DigitPairs
 mod RowsLaws
 pub mod PrintLaws
+pub mod KeyTextLaws
 pub mod TableLaws
 pub mod ReportLaws
 mod TogetherLaws

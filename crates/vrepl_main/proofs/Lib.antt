@@ -3,12 +3,11 @@ pub mod InputLaws
 pub mod AddLaws
 mod NumberLaws
 pub mod CommandLaws
-mod KeyTextLaws
 mod OpenLaws
 mod ScriptRunLaws
 mod SourceLaws
 mod StepLaws
-mod VdiffLaws
+pub mod VdiffLaws
 mod SaveLaws
 mod ResumeLaws
 mod JoinedLaws

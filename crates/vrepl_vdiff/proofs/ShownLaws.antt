@@ -1,36 +1,14 @@
 -- What is shown of two sets of rows.
-use Rattle.std.proofs.Common.{◌≡◌, ◌++◌, ap, sym, subst, List, ℕ, Bool, true, false, Option, None, Some, Err}
-use Rattle.std.specs.Prelude.{MatchOption, option_map, unwrap_or, ◌≢◌}
-use Rattle.pk_copy.specs.KeyValue.{KeyValue}
-use Rattle.vdiff_core.specs.Report.{report_of, IsFirstDifference}
-use Rattle.vdiff_core.specs.RowsValue.{RowsValue, row_with_key}
-use Rattle.vdiff_core.specs.declared.report.Report.{Report}
+use Rattle.std.proofs.Common.{◌≡◌, sym, subst, List, ℕ, Bool, true, false, Err}
+use Rattle.std.specs.Prelude.{unwrap_or}
 use Rattle.vdiff_core.specs.Printing.{Written, BreaksOff}
 use Rattle.vdiff_tables.specs.Reports.{NamedReport}
 use Rattle.vrepl_main.specs.Command.{IsUnwritten}
 use Rattle.vrepl_main.specs.declared.refusal.Refusal.{Refusal}
 use Rattle.vrepl_main.specs.declared.refusal.Refusal.TheVariants.{Memory, Workflow, NoStream, FeedCount, Feed, BadHex, BadScript, BadDump, CannotRead, CannotWrite}
-use Rattle.vrepl_main.specs.Comparison.{Compared, IsComparison, report_text, first_text}
+use Rattle.vrepl_main.specs.Comparison.{Compared}
 use Rattle.vrepl_vdiff.specs.Shown.{IsJsonOf, IsShown, IsTextOf, PrintsShown, by_json, reports_asked}
 use Rattle.vrepl_vdiff.specs.declared.options.Options.{Options}
-
--- the least difference, by what its key is seen as
-least_is : {R : Type 0} (first : Option R) (now : R → KeyValue) (same : Type 0) (differ : KeyValue → Type 0) → MatchOption first same (λ key. differ (now key)) → MatchOption (option_map now first) same differ
-least_is None now same differ is = is
-least_is (Some key) now same differ is = is
-
-pub comparison_is : {R : Type 0} (first : Option R) (now : R → KeyValue) (compared : Compared) (report : Report) → report ≡ report_of compared.source compared.target
-    → MatchOption first (compared.source ≡ compared.target) (λ key. IsFirstDifference compared.source compared.target (now key))
-    → IsComparison compared (report_text report ++ first_text compared.plan.tables (option_map now first))
-comparison_is first now compared report is least = record {
-  first = option_map now first;
-  least = least_is first now (compared.source ≡ compared.target) (IsFirstDifference compared.source compared.target) least;
-  is_text = ap (λ (r : Report). report_text r ++ first_text compared.plan.tables (option_map now first)) is;
-}
-
--- rows that differ at a key aren't the same
-pub differ_at : (source target : RowsValue) (key : KeyValue) → IsFirstDifference source target key → source ≢ target
-differ_at source target key is same = is.differ (ap (λ (rows : RowsValue). row_with_key rows key) same)
 
 -- ---- by the options
 

@@ -1,5 +1,5 @@
 -- Why `vdiff` is refused, and what is told of it.
-use Rattle.std.proofs.Common.{◌≡◌, ◌∙◌, ap, sym, subst, ℕ, ◌≤◌, List, [], ◌∷◌, ◌⊎◌, ◌++◌, length, drop, get_or, map, refl, inl, inr, arith, Bool, true, false, Result, Ok, Err}
+use Rattle.std.proofs.Common.{◌≡◌, ◌∙◌, ap, sym, subst, ℕ, List, [], ◌∷◌, ◌⊎◌, ◌++◌, refl, inl, inr, arith, Bool, true, false, Result, Ok, Err}
 use Rattle.filter_rule.specs.Faults as plans
 use Rattle.filter_rule.specs.PlanValue.{PlanValue}
 use Rattle.filter_rule.specs.Reading.{plans_of}
@@ -23,12 +23,6 @@ use Rattle.vrepl_vdiff.specs.Told.{IsTold, NamesBad, RefusesShown, error_of}
 use Rattle.vrepl_vdiff.specs.ToldValue.{IsToldOf}
 use Rattle.vrepl_vdiff.specs.declared.options.Options.{Options}
 use Rattle.vrepl_vdiff.specs.declared.told.Told.{Told}
-
--- the first of a workflow's plans, and the others
-pub first_plan : {A : Type 0} (f : A → PlanValue) (reading : Result (List PlanValue) plans.Fault) (all : List A) (plan : A) → reading ≡ Ok (map f all) → 1 ≤ length all → plan ≡ get_or all 0 plan
-    → reading ≡ Ok (f plan ∷ map f (drop 1 all))
-first_plan f reading [] plan is some first = absurd (omega (arith, some))
-first_plan {A} f reading (x ∷ all) plan is some first = is ∙ ap (λ (y : A). Ok (f y ∷ map f all)) (sym first)
 
 -- the workflow's fault
 refuses_workflow : (options : Options) (fault : PlanFault) (workflow : List ℕ) (source target : NamedDump) (now : Written) → plans.Fails {Y = List PlanValue} fault (plans_of workflow) → RefusesShown options workflow source target (refusal_of_workflow fault) now now

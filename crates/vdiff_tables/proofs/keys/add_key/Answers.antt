@@ -1,11 +1,12 @@
 use Rattle.std.proofs.Common.{◌∙◌, ap, sym}
 use Rattle.std.specs.Prelude.{pos}
 use Rattle.std.proofs.lemmas.Result.{err_from_is_err_and}
+use Rattle.vdiff_core.proofs.KeyTextLaws.{parts_split}
 use Rattle.pk_copy.specs.KeyValue.{KeyValue}
 use Rattle.pk_copy.specs.declared.part.KeyPart.TheVariants.{Number}
 use Rattle.vdiff_core.proofs.PrintLaws.{adding_breaks, then_adds}
 use Rattle.vdiff_core.specs.KeyText.{parts_text}
-use Rattle.vdiff_tables.proofs.TextLaws.{adds_as, breaks_as, parts_split}
+use Rattle.vdiff_tables.proofs.TextLaws.{adds_as, breaks_as}
 use Rattle.vdiff_tables.proofs.keys.add_key.Goals as goal
 
 pub returns-in_err-add_part-in-len1-up : goal.returns-in_err-add_part-in-len1-up

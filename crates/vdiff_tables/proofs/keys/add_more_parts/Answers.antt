@@ -1,11 +1,11 @@
 use Rattle.std.proofs.Common.{get_or}
 use Rattle.std.specs.Prelude.{codes, pos}
 use Rattle.std.proofs.lemmas.Result.{err_from_is_err_and}
+use Rattle.vdiff_core.proofs.KeyTextLaws.{first_part}
 use Rattle.pk_copy.specs.PartValue.{part_value}
 use Rattle.pk_copy.specs.declared.part.KeyPart.TheVariants.{Number}
 use Rattle.vdiff_core.proofs.PrintLaws.{adding_breaks, added_breaks, added_more, adding_moves, adding_stops}
 use Rattle.vdiff_core.specs.KeyText.{part_cell}
-use Rattle.vdiff_tables.proofs.TextLaws.{first_part}
 use Rattle.vdiff_tables.proofs.keys.add_more_parts.Goals as goal
 
 pub returns-in_err-put_str : goal.returns-in_err-put_str

@@ -1,10 +1,10 @@
 use Rattle.std.proofs.Common.{◌∙◌, ap, sym, subst}
 use Rattle.std.proofs.lemmas.Result.{err_from_is_err_and}
+use Rattle.vdiff_core.proofs.KeyTextLaws.{parts_split}
 use Rattle.pk_copy.specs.KeyValue.{KeyValue}
 use Rattle.vdiff_core.specs.KeyText.{parts_text}
 use Rattle.vrepl_main.specs.Adding.{IsBegun, AddsText}
 use Rattle.vrepl_main.proofs.AddLaws.{first_stops, then_prints}
-use Rattle.vrepl_main.proofs.KeyTextLaws.{parts_split}
 use Rattle.vrepl_main.proofs.key_text.print_key.Goals as goal
 
 pub returns-in_err-print_part-in-len1-up : goal.returns-in_err-print_part-in-len1-up

@@ -2,9 +2,10 @@ use Rattle.std.proofs.Common.{ℕ, ◌≤◌, drop, map, refl, subst}
 use Rattle.std.proofs.lemmas.List.{length-map}
 use Rattle.std.proofs.lemmas.Result.{err_from_is_err_and}
 use Rattle.std.specs.Arc.{arc_value}
+use Rattle.vrepl_main.proofs.VdiffLaws.{first_plan}
 use Rattle.filter_rule.specs.Reading.{plans_of}
 use Rattle.vrepl_main.specs.Comparison.{AreDumps, Compared}
-use Rattle.vrepl_vdiff.proofs.ToldLaws.{first_plan, told_workflow, told_source, told_target, told_shown}
+use Rattle.vrepl_vdiff.proofs.ToldLaws.{told_workflow, told_source, told_target, told_shown}
 use Rattle.vrepl_vdiff.proofs.vdiff.show_vdiff.Goals as goal
 
 pub returns-in-Err-clause-refused : goal.returns-in-Err-clause-refused
