@@ -18,37 +18,39 @@ impl OfFeed for Brand {
     ghost feed = { record { plan = record { keyspace = []; shard = []; tables = []; decisions = [] }; groups = [] } };
 }
 
-/// What a pass of the channel is for. It exists in proofs alone: no value of it is made.
+/// What a pass of the channel is for, and what was sent by it last. It exists in proofs alone: no value of it is made.
 #[derive(Drop)]
 pub struct Side {
     nothing: (),
 }
 
 impl Model for Side {
+    ghost use Rattle.std.specs.Prelude.{None};
     ghost use Rattle.feed_readers.specs.ReaderRule.{SideOf, Reads};
 
     ghost Value = { SideOf };
 
-    ghost view = { λ s. Reads };
+    ghost view = { λ s. Reads None };
 }
 
 /// The rule: each message is the prepared group, of the number that it names, of this feed under its plan. Two kinds
-/// of step keep it: the reader sends at the back, and the worker receives at the front.
+/// of step keep it: the reader sends at the back, each group behind the one that it sent last, and the worker receives
+/// at the front.
 pub struct ReaderRule<F: OfFeed> {
     feed: PhantomData<F>,
 }
 
 impl<'h, F: OfFeed> Protocol<Arc<Prepared<'h>>, Side> for ReaderRule<F> {
-    ghost use Rattle.std.specs.Prelude.{map};
+    ghost use Rattle.std.specs.Prelude.{None, map};
     ghost use Rattle.std.specs.Arc.{arc_value};
     ghost use Rattle.feed_readers.specs.ReaderRule.{ArePreparedOf, Reads};
 
     ghost holds = { λ items views. ArePreparedOf F.feed (map arc_value items) };
 
-    ghost first = { Reads };
+    ghost first = { Reads None };
 }
 
-/// A group is sent by the reader.
+/// A group is sent by the reader, the one behind the last.
 pub struct Sent<F: OfFeed> {
     feed: PhantomData<F>,
 }

@@ -1,11 +1,12 @@
 //! The two ends of a reader's channel.
 
-ghost use Rattle.std.specs.Prelude.{◌≡◌, Ok};
+ghost use Rattle.std.specs.Prelude.{◌≡◌, Ok, Some, None, IfOk};
+ghost use Rattle.std.specs.Bool.{OnTrue};
 ghost use Rattle.std.specs.Arc.{arc_value};
 ghost use Rattle.crossbeam_channel.specs.Claims.{view, IsSeatAt};
 ghost use Rattle.crossbeam_channel.specs.Ends.{sends_on, receives_on};
 ghost use Rattle.source_feed.specs.Touches.{prepared_at};
-ghost use Rattle.feed_readers.specs.ReaderRule.{Reads, Works};
+ghost use Rattle.feed_readers.specs.ReaderRule.{Reads, Works, last_sent, MaySend};
 
 use crate::ahead::Ahead;
 use crate::channel::{OfFeed, ReaderRule, Received, Sent, Side, Sides};
@@ -26,13 +27,13 @@ const SPINS: u32 = 4_000;
 /// How many microseconds a thread sleeps whose channel is full: what it holds takes longer.
 const NAP: u64 = 100;
 
-/// The end of the thread that prepares a feed's groups.
+/// The end of the thread that prepares a feed's groups, which are sent by it in order. Its pass knows the last.
 #[derive(Drop)]
 pub struct ReaderEnd<'h, F: OfFeed> {
     sender: RuledSender<Arc<Prepared<'h>>, Side, ReaderRule<F>>,
     pass: Pass<Arc<Prepared<'h>>, Side>,
     ghost at: { IsSeatAt (sends_on sender) pass },
-    ghost side: { view pass ≡ Reads },
+    ghost side: { view pass ≡ Reads (last_sent (view pass)) },
 }
 
 /// The end of the thread that needs them. Dropped, it lets the other end's thread end.
@@ -44,11 +45,13 @@ pub struct WorkerEnd<'h, F: OfFeed> {
     ghost side: { view pass ≡ Works },
 }
 
-/// The two ends of a new channel for the groups of the feed, which holds 64 of them at most. An error is want of
-/// memory.
+/// The two ends of a new channel for the groups of the feed, which holds 64 of them at most. None was sent yet. An
+/// error is want of memory.
 pub fn reader_ends<'h, F: OfFeed>(
     alloc: Global,
-) -> Result<(ReaderEnd<'h, F>, WorkerEnd<'h, F>), AllocError> {
+) -> Result<(ReaderEnd<'h, F>, WorkerEnd<'h, F>), AllocError>
+    ensures { IfOk result (λ ends. last_sent (view ends.0.pass) ≡ None) }
+{
     let (sender, receiver, mut pass) = bounded_with::<
         Arc<Prepared<'h>>,
         Side,
@@ -66,10 +69,13 @@ pub fn reader_ends<'h, F: OfFeed>(
 }
 
 impl<'h, F: OfFeed> ReaderEnd<'h, F> {
-    /// Sends a group, once there is room for it: whether the other end is still there. Where there is none the thread
-    /// sleeps for a while, so that nobody has to wake it for each group that is received.
+    /// Sends the group behind the last that was sent, once there is room for it: whether the other end is still there.
+    /// Where there is none the thread sleeps for a while, so that nobody has to wake it for each group that is
+    /// received.
     pub(crate) fn send<R: Wait>(&mut self, rt: &R, mut group: Arc<Prepared<'h>>) -> bool
-        requires { prepared_at F.feed (arc_value group).number ≡ Ok (arc_value group) }
+        requires next { MaySend (view self.old.pass) (arc_value group).number }
+        requires prepared { prepared_at F.feed (arc_value group).number ≡ Ok (arc_value group) }
+        ensures { OnTrue result (last_sent (view self.new.pass) ≡ Some (arc_value group.entry).number) }
     {
         let parker = Parker::new();
         for _ in rt.forever() {

@@ -1,6 +1,8 @@
 //! The thread that prepares a feed's groups.
 
-ghost use Rattle.std.specs.Prelude.{◌≡◌};
+ghost use Rattle.std.specs.Prelude.{◌≡◌, None};
+ghost use Rattle.crossbeam_channel.specs.Claims.{view};
+ghost use Rattle.feed_readers.specs.ReaderRule.{last_sent};
 
 use crate::channel::OfFeed;
 use crate::ends::ReaderEnd;
@@ -47,8 +49,9 @@ pub struct Reading<'a, 'h, F: OfFeed, R> {
     pub feed: Named<'a, 'h, F>,
     /// how many groups are read before it begins
     pub read: u32,
-    /// where its groups go
+    /// where its groups go, of which none was sent yet
     pub end: ReaderEnd<'h, F>,
+    pub ghost none: { last_sent (view end.pass) ≡ None },
 }
 
 /// Prepares the feed's groups in order, behind those that are read, and sends each, up to the feed's end, the first
