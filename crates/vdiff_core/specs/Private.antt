@@ -3,3 +3,4 @@ pub mod Progress
 pub mod Tables
 pub mod Reading
 pub mod Spans
+pub mod Lent

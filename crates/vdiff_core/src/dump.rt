@@ -1,6 +1,6 @@
 //! The dump of rows: all tables of a plan as text.
 
-ghost use Rattle.std.specs.Prelude.{◌≡◌, ◌∷◌, ◌==◌, not, position, OnOk};
+ghost use Rattle.std.specs.Prelude.{◌≡◌, OnOk};
 ghost use Rattle.pk_copy.specs.KeyOrder.{key_cmp};
 ghost use Rattle.target_tables.specs.Rising.{IsRising};
 ghost use Rattle.vdiff_core.specs.Dump.{row_line, row_lines, rows_of_table, table_line, table_lines, dump_of};
@@ -10,7 +10,7 @@ ghost use Rattle.vdiff_core.specs.RowsValue.{all_rows};
 
 use crate::cells::{add_cell, add_cells};
 use crate::gathered::Gathered;
-use crate::lent_rows::LentRows;
+use crate::lent_rows::{Later, LentRows};
 use crate::rows::Rows;
 use crate::writer::{Out, OutFailed};
 use filter_rule::{Plan, Table};
@@ -25,9 +25,8 @@ use target_tables::Tables;
 pub fn write_dump<O: Out>(out: &mut O, plan: &Plan, rows: &Rows) -> Result<(), OutFailed>
     ensures { Prints result (O.written out.old) (O.written out.new) (dump_of plan.now rows.now) }
 {
-    let mut text = Gathered::new();
-    add_tables(out, &mut text, plan.tables(), rows.as_slice())?;
-    text.finish(out)
+    let lent = LentRows::new(Later::Own(rows.as_slice()));
+    write_lent(out, plan, lent)
 }
 
 /// The same of all rows of a target, whoever owns them, as they lie there: none is copied.
@@ -38,14 +37,22 @@ pub fn write_target_dump<O: Out>(
 ) -> Result<(), OutFailed>
     ensures { Prints result (O.written out.old) (O.written out.new) (dump_of plan.now (all_rows target.now.entries)) }
 {
+    let lent = LentRows::new(Later::Target(target.iter()));
+    write_lent(out, plan, lent)
+}
+
+/// The same of rows that are lent.
+fn write_lent<O: Out>(out: &mut O, plan: &Plan, rows: LentRows<'_>) -> Result<(), OutFailed>
+    requires { IsRising key_cmp rows }
+    ensures { Prints result (O.written out.old) (O.written out.new) (dump_of plan.now rows.entry) }
+{
     let mut text = Gathered::new();
-    let rows = LentRows::new(target.iter());
-    add_lent_tables(out, &mut text, plan.tables(), rows)?;
+    add_tables(out, &mut text, plan.tables(), rows)?;
     text.finish(out)
 }
 
-/// Adds the tables, each with its rows, which are lent.
-fn add_lent_tables<O: Out>(
+/// Adds the tables, each with its rows.
+fn add_tables<O: Out>(
     out: &mut O,
     text: &mut Gathered,
     tables: &[Table],
@@ -79,33 +86,6 @@ fn add_rows_of<O: Out>(
     Ok(())
 }
 
-/// Adds the tables, each with its rows.
-fn add_tables<O: Out>(
-    out: &mut O,
-    text: &mut Gathered,
-    tables: &[Table],
-    rows: &[(Key, RowBuf)],
-) -> Result<(), OutFailed>
-    requires { IsRising key_cmp rows.now }
-    ensures { Adds result (O.written out.old) text.old (O.written out.new) text.new (table_lines 0 tables.now rows.now) }
-{
-    let mut rest = rows;
-    for t in 0..tables.len() {
-        add_table_line(out, text, tables[t].name())?;
-        let (here, behind) = rest.split_at(place_of_other(rest, t).unwrap_or(rest.len()));
-        add_rows(out, text, here)?;
-        rest = behind;
-    }
-    Ok(())
-}
-
-/// The place of the first row that isn't of table `t`. Takes no memory.
-pub fn place_of_other(rows: &[(Key, RowBuf)], t: usize) -> Option<usize>
-    ensures { result ≡ position (λ row. not (row.0.table == t)) rows.now }
-{
-    rows.iter().position(|row| usize::from(row.0.table()) != t)
-}
-
 /// Adds the line of a table's name.
 fn add_table_line<O: Out>(out: &mut O, text: &mut Gathered, name: &str) -> Result<(), OutFailed>
     ensures { Adds result (O.written out.old) text.old (O.written out.new) text.new (table_line name.now) }
@@ -113,20 +93,6 @@ fn add_table_line<O: Out>(out: &mut O, text: &mut Gathered, name: &str) -> Resul
     text.put(out, b"table ")?;
     text.put(out, name.as_bytes())?;
     text.put(out, b"\n")
-}
-
-/// Adds the lines of rows.
-fn add_rows<O: Out>(
-    out: &mut O,
-    text: &mut Gathered,
-    rows: &[(Key, RowBuf)],
-) -> Result<(), OutFailed>
-    ensures { Adds result (O.written out.old) text.old (O.written out.new) text.new (row_lines rows.now) }
-{
-    for pair in rows {
-        add_row(out, text, pair.1.columns())?;
-    }
-    Ok(())
 }
 
 /// Adds the line of a row.

@@ -15,8 +15,9 @@ mod rows;
 mod writer;
 
 pub use cells::{add_cell, add_cells};
-pub use dump::{place_of_other, write_dump, write_target_dump};
+pub use dump::{write_dump, write_target_dump};
 pub use gathered::Gathered;
+pub use places::place_of_other;
 pub use put::put_all;
 pub use reading::{DumpFault, read_dump, texts_are_read_once};
 pub use report::{Report, compare, compare_rows, first_difference};

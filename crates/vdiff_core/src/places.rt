@@ -1,6 +1,6 @@
-//! Where a key stands among rows by rising key.
+//! Where a key, and a table, stands among rows by rising key.
 
-ghost use Rattle.std.specs.Prelude.{◌≡◌, MatchResult};
+ghost use Rattle.std.specs.Prelude.{◌≡◌, ◌==◌, MatchResult, not, position};
 ghost use Rattle.pk_copy.specs.KeyOrder.{key_cmp};
 ghost use Rattle.target_tables.specs.Places.{IsAt, IsGap};
 ghost use Rattle.target_tables.specs.Rising.{IsRising};
@@ -25,4 +25,11 @@ pub(crate) fn place_of(pairs: &[(Key, RowBuf)], key: &KeyView<'_>) -> Result<usi
         }
     }
     Err(low)
+}
+
+/// The place of the first row that isn't of table `t`. Takes no memory.
+pub fn place_of_other(rows: &[(Key, RowBuf)], t: usize) -> Option<usize>
+    ensures { result ≡ position (λ row. not (row.0.table == t)) rows.now }
+{
+    rows.iter().position(|row| usize::from(row.0.table()) != t)
 }

@@ -9,5 +9,5 @@ use Rattle.vdiff_core.proofs.dump.add_tables.Given as goal
 -- the lines that are added and those that are left are the whole; the rows that are left are of the tables that are left
 abbrev pub invariant-loop-t : goal.invariant-loop-t
 invariant-loop-t g l =
-    IsAddedTo (g.O.Out.written l.fn.out) l.fn.text (g.O.Out.written l.out) l.text (table_lines 0 l.fn.tables l.fn.rows) (table_lines l.t (drop l.t l.tables) l.rest)
-    × IsRising key_cmp l.rest × AreFrom l.t l.rest
+    IsAddedTo (g.O.Out.written l.fn.out) l.fn.text (g.O.Out.written l.out) l.text (table_lines 0 l.fn.tables l.fn.rows) (table_lines l.t (drop l.t l.tables) l.rows)
+    × IsRising key_cmp l.rows × AreFrom l.t l.rows

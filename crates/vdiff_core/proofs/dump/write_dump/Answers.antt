@@ -1,9 +1,10 @@
-use Rattle.std.proofs.Common.{[]}
-use Rattle.vdiff_core.specs.Dump.{dump_of}
-use Rattle.vdiff_core.proofs.PrintLaws.{adds_then_prints}
+use Rattle.std.proofs.Common.{subst, sym, ◌∙◌}
+use Rattle.pk_copy.specs.KeyOrder.{key_cmp}
+use Rattle.target_tables.specs.Rising.{IsRising}
 use Rattle.vdiff_core.proofs.dump.write_dump.Goals as goal
 
+pub write_lent-requires : goal.write_lent-requires
+write_lent-requires g c = subst (IsRising key_cmp) (sym (c.new-lent.ensures ∙ c.as_slice.ensures.rows)) c.as_slice.ensures.rising
+
 pub returns : goal.returns
-returns g c =
-    let added = rw (c.new-text.ensures, c.tables.ensures.tables, c.as_slice.ensures.rows) at c.in_ok-add_tables.ensures in
-    adds_then_prints c.finish.result _ [] _ c.add_tables.new.text _ (dump_of c.args.plan.now c.args.rows.now) added c.finish.ensures.printed
+returns g c = rw (c.new-lent.ensures, c.as_slice.ensures.rows) at c.write_lent.ensures

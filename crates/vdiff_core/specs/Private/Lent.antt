@@ -1,0 +1,15 @@
+-- Rows that are lent one after another, as plain values.
+use denote.Ref.{Bor}
+use Rattle.pk_copy.specs.KeyValue.{KeyValue}
+use Rattle.vdiff_core.specs.RowsValue.{RowValue, RowsValue, all_rows}
+use Rattle.vdiff_core.specs.declared.lent_rows.Later.{Later}
+use Rattle.vdiff_core.specs.declared.lent_rows.Later.TheVariants.{Target, Own}
+
+-- a row with its key
+abbrev pub lent : Bor KeyValue × Bor RowValue → KeyValue × RowValue
+lent pair = (pair.0.now, pair.1.now)
+
+-- all that are still to come
+abbrev pub later_rows : Later → RowsValue
+later_rows (Target rows) = all_rows rows
+later_rows (Own rows) = rows.now
