@@ -17,6 +17,7 @@ pub mod CommonLaws
 pub mod MeetingLaws
 pub mod FurtherLaws
 pub mod ResumeLaws
+pub mod FirstRowsLaws
 pub mod ReadLaws
 pub mod AfterSaveLaws
 pub mod AfterAddingLaws

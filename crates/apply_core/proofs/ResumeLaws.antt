@@ -316,7 +316,7 @@ puts_of_saved ties saved state puts rising agree is key =
     ∙ ap (λ (rows : ImageRows). option_map Some (row_in rows key)) agree
     ∙ ap (option_map Some) (cut-at ties state key)
 
-take_next : {A : Type 0} (xs : List A) (s : ℕ) (x : A) → slice_get xs s ≡ Some x → take (suc s) xs ≡ take s xs ++ x ∷ []
+pub take_next : {A : Type 0} (xs : List A) (s : ℕ) (x : A) → slice_get xs s ≡ Some x → take (suc s) xs ≡ take s xs ++ x ∷ []
 take_next [] s x e = absurd (none-some x e)
 take_next {A} (y ∷ xs) zero x e = ap (λ (z : A). z ∷ []) (same_Some y x e)
 take_next {A} (y ∷ xs) (suc s) x e = ap (λ (zs : List A). y ∷ zs) (take_next xs s x e)

@@ -11,6 +11,7 @@ mod clashing;
 mod cloning;
 mod copying;
 mod fresh;
+mod inside;
 mod join_rows;
 mod joining;
 mod kept;

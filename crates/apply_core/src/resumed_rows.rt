@@ -11,9 +11,10 @@ ghost use Rattle.checkpoint_laws.specs.Resumed.{AgreesWith, AtEachPlace};
 ghost use Rattle.checkpoint_laws.specs.Refused.{IsLeastDifference};
 ghost use Rattle.apply_core.specs.Private.Changes.{IsOfTable, found_row, put_row};
 ghost use Rattle.apply_core.specs.Private.Resuming.{AreOthers, HaveClash, AllRise};
-ghost use Rattle.apply_core.specs.Private.Together.{AreTogether};
+ghost use Rattle.apply_core.specs.Private.Together.{AreTogether, of_first, first_rows};
 
 use crate::bringing::bring;
+use crate::inside::is_inside;
 use crate::kept::is_kept;
 use crate::stream::Stream;
 use crate::together::put_stream;
@@ -41,7 +42,7 @@ fn rows_inside<'i, 'h>(
     let mut rows = Vec::new(alloc);
     for i in 0..all.len() {
         let row = &all[i];
-        if marks.inside(&row.0.view()) {
+        if is_inside(marks, row.0) {
             rows.push((row.0, row.1))?;
         }
     }
@@ -69,7 +70,7 @@ fn first_difference(
         }
         match order_of(&saved[i].0, found[i].0) {
             Ordering::Less => return Ok(Some(saved[i].0.try_clone(alloc)?)),
-            Ordering::Greater => return Ok(Some(Key::from_view(alloc, &found[i].0.view())?)),
+            Ordering::Greater => return Ok(Some(Key::from_lent(alloc, found[i].0)?)),
             Ordering::Equal => {
                 if !is_kept(plan, found[i].0, found[i].1, &saved[i].1) {
                     return Ok(Some(saved[i].0.try_clone(alloc)?));
@@ -78,7 +79,7 @@ fn first_difference(
         }
     }
     if saved.len() < found.len() {
-        return Ok(Some(Key::from_view(alloc, &found[saved.len()].0.view())?));
+        return Ok(Some(Key::from_lent(alloc, found[saved.len()].0)?));
     }
     Ok(None)
 }
@@ -184,6 +185,36 @@ fn put_saved(
     }
 }
 
+/// Rows of the first stream, put one behind another into a target of their own, copied. An error is want of
+/// memory.
+fn pushed_rows(
+    alloc: Global,
+    rows: &[(Key, RowBytes<'_>)],
+) -> Result<Tables<Key, RowBuf>, AllocError>
+    requires { IsRising key_cmp rows.now }
+    ensures { IfOk result (λ pushed. pushed.entries ≡ map of_first rows.now) }
+{
+    let mut pushed = Tables::new(alloc);
+    for (key, row) in rows {
+        let owned = key.try_clone(alloc)?;
+        let copy = RowBuf::from_bytes(alloc, row)?;
+        pushed.push(owned, 0, copy)?;
+    }
+    Ok(pushed)
+}
+
+/// The rows that a checkpoint says of the first stream, if there is one: nothing can be in their way. An error is
+/// want of memory.
+fn first_rows(alloc: Global, saved: &[ReadStream<'_>]) -> Result<Tables<Key, RowBuf>, AllocError>
+    requires { AllRise saved.now }
+    ensures { IfOk result (λ rows. rows.entries ≡ first_rows saved.now) }
+{
+    match saved.first() {
+        None => Ok(Tables::new(alloc)),
+        Some(one) => pushed_rows(alloc, one.rows()),
+    }
+}
+
 /// The rows that a checkpoint says of the streams, put together in order. Refused 71 where two streams have a
 /// row at one key: for the first stream that meets a lower one, with its least such key and the lower stream.
 /// Any other error is want of memory.
@@ -199,8 +230,8 @@ pub(crate) fn rows_together(
     ensures ok { IfOk result (λ rows. AreTogether streams.now rows.entries) }
     ensures err { IfErr result (HaveClash streams.now) }
 {
-    let mut rows = Tables::new(alloc);
-    for s in 0..saved.len() {
+    let mut rows = first_rows(alloc, saved)?;
+    for s in 1..saved.len() {
         put_saved(alloc, &mut rows, streams, saved, s as u8)?;
     }
     Ok(rows)

@@ -1,5 +1,6 @@
 -- Streams that are put together over one target, in order.
-use Rattle.std.specs.Prelude.{◌≡◌, List, Option, length}
+use Rattle.std.specs.Prelude.{◌≡◌, ℕ, List, [], Option, length, map, slice_get}
+use Rattle.std.specs.Option.{option_map_or}
 use Rattle.pk_copy.specs.KeyOrder.{key_cmp}
 use Rattle.pk_copy.specs.KeyValue.{KeyValue}
 use Rattle.target_tables.specs.Touches.{last_at, IsLeastClash}
@@ -12,6 +13,7 @@ use Rattle.join_laws.specs.Chosen.{all_chosen}
 use Rattle.join_laws.specs.Joined.{rows_from}
 use Rattle.join_laws.specs.Compatible.{AreApart, AreCompatible}
 use Rattle.join_laws.specs.Refused.{IsFirstClash}
+use Rattle.checkpoint_laws.specs.Saved.{SavedStream}
 use Rattle.apply_core.specs.Private.Meeting.{AreFurtherMarks}
 use Rattle.apply_core.specs.declared.joining.Source.{Source}
 use Rattle.apply_core.specs.declared.joining.Source.TheVariants.{First, Second, Both}
@@ -20,6 +22,14 @@ use Rattle.apply_core.specs.declared.joining.Source.TheVariants.{First, Second, 
 pub record AreTogether (states : List State) (rows : TargetRows) : Type 0 where
   pub apart : AreApart states
   pub target : rows ≡ rows_from 0 states
+
+-- a row of the first stream
+abbrev pub of_first : KeyValue × RowValue → KeyValue × (ℕ × RowValue)
+of_first row = (row.0, (0, row.1))
+
+-- the rows that a checkpoint says of the first stream, if there is one
+abbrev pub first_rows : List SavedStream → TargetRows
+first_rows saved = option_map_or (λ one. map of_first one.rows) (slice_get saved 0) []
 
 -- puts are the rows of a stream's cut
 abbrev pub ArePutsOfCut : State → List (KeyValue × Option RowValue) → Type 0

@@ -34,7 +34,7 @@ returns-in-Greater c =
     let there = item_at (found_row c.args.plan.now) c.args.found.now c.loop-i.i c.index-found-i.result (found_row c.args.plan.now c.index-found-i.result) inside c.index-found-i.is refl in
     let again = item_at (found_row c.args.plan.now) c.args.found.now c.loop-i.i c.index-found-i-in-Greater.result (found_row c.args.plan.now c.index-found-i-in-Greater.result) inside c.index-found-i-in-Greater.is refl in
     subst (IsFirstDifference c.args.saved.now (map (found_row c.args.plan.now) c.args.found.now))
-    (same_read (λ (row : KeyValue × RowValue). row.0) (map (found_row c.args.plan.now) c.args.found.now) c.loop-i.i (found_row c.args.plan.now c.index-found-i.result) (found_row c.args.plan.now c.index-found-i-in-Greater.result) there again ∙ ap (λ (row : LentRow). row.0.now) c.index-found-i-in-Greater.is ∙ sym (c.in_ok-from_view-in-Greater.ensures ∙ c.view.ensures))
+    (same_read (λ (row : KeyValue × RowValue). row.0) (map (found_row c.args.plan.now) c.args.found.now) c.loop-i.i (found_row c.args.plan.now c.index-found-i.result) (found_row c.args.plan.now c.index-found-i-in-Greater.result) there again ∙ ap (λ (row : LentRow). row.0.now) c.index-found-i-in-Greater.is ∙ sym c.in_ok-from_lent-in-Greater.ensures)
     (differs_greater c.args.saved.now (map (found_row c.args.plan.now) c.args.found.now) c.loop-i.i c.loop-i.invariant c.index-saved-i-in-loop-i.result (found_row c.args.plan.now c.index-found-i.result) here there (ap₂ key_cmp (ap (λ (row : KeyValue × RowValue). row.0) c.index-saved-i-in-loop-i.is) (ap (λ (row : LentRow). row.0.now) c.index-found-i.is) ∙ sym c.order_of.ensures ∙ c.in-Greater.is))
 
 pub is_kept-requires : goal.is_kept-requires
@@ -98,5 +98,5 @@ returns-then-saved-found c =
     let y = c.index-found-saved.result in
     let end : c.loop-i.i ≡ length c.args.saved.now = omega (arith, c.loop-i-test.false, c.loop-i.auto.i-end) in
     let there = item_at (found_row c.args.plan.now) c.args.found.now (length c.args.saved.now) y (found_row c.args.plan.now y) c.if-saved-found.true c.index-found-saved.is refl in
-    subst (IsFirstDifference c.args.saved.now target) (ap (λ (row : LentRow). row.0.now) c.index-found-saved.is ∙ sym (c.in_ok-from_view.ensures ∙ c.view-then-saved-found.ensures))
+    subst (IsFirstDifference c.args.saved.now target) (ap (λ (row : LentRow). row.0.now) c.index-found-saved.is ∙ sym c.in_ok-from_lent.ensures)
     (target_longer c.args.saved.now target c.loop-i.i c.loop-i.invariant (found_row c.args.plan.now y) (subst (λ n. slice_get target n ≡ Some (found_row c.args.plan.now y)) (sym end) there) c.loop-i-test.false)
