@@ -22,3 +22,4 @@ pub mod SeatGoesOn
 pub mod JobLaws
 pub mod ManyRuns
 pub mod BoardRuns
+pub mod TurnLaws

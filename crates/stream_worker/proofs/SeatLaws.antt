@@ -23,7 +23,7 @@ pub may_put : (before holding : Knows) (s : ℕ) (taken left : Laid) (event : Ev
 may_put before holding s taken left event result own h step =
     may_put_change before holding taken left h (subst (λ (l : List ℕ). IsOwnChange l taken left) (sym own) (step_changes taken left s event result step)) (inl step.given)
 
-named_itself : (s : ℕ) → names (s ∷ []) s ≡ true
+pub named_itself : (s : ℕ) → names (s ∷ []) s ≡ true
 named_itself s = or_left (s == s) false (eq-eqb s s refl)
 
 -- the seat's own stream is as the seat knew it

@@ -4,3 +4,4 @@ pub mod AllowedSteps
 pub mod FoundGroups
 pub mod SeatSteps
 pub mod SeatRuns
+pub mod Turns

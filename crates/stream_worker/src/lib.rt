@@ -14,12 +14,14 @@ mod opening;
 mod outline;
 mod parallel;
 mod policy;
+mod ready;
 mod receipt;
 mod run_laws;
 mod run_refusal;
 mod seat;
 mod seat_run;
 mod shared;
+mod turn;
 mod working;
 
 pub use alone::{run_alone, run_board_alone, run_streams_alone};

@@ -15,7 +15,18 @@ use std::marker::Model;
 use std::sync::Wait;
 
 /// How often a receive is tried before the thread sleeps, where up to four streams share the board: some 0.2 ms.
-const SPINS: usize = 4_000;
+const TRIES: usize = 250;
+
+/// How many spins lie between two tries, so that the threads that wait leave the channel to the one that puts the board
+/// back.
+const PAUSE: usize = 16;
+
+/// Spins for a while.
+fn pause() {
+    for _ in 0..PAUSE {
+        spin_loop();
+    }
+}
 
 /// What a pass knows: the numbers of its streams, whether it holds the board, and the board as its last
 /// step left it. It exists in proofs alone: no value of it is made.
@@ -100,7 +111,7 @@ pub type LockPass<'h> = Pass<Deal<'h>, Known>;
 #[derive(Drop)]
 pub struct Lock<'h> {
     /// how often a receive is tried before the thread sleeps
-    spins: usize,
+    tries: usize,
     sender: RuledSender<Deal<'h>, Known, LockRule>,
     receiver: RuledReceiver<Deal<'h>, Known, LockRule>,
     ghost one: { receives_on receiver ≡ sends_on sender },
@@ -113,14 +124,14 @@ impl<'h> Lock<'h> {
         ensures { IfOk result (λ r. IsSeatAt (sends_on r.0.sender) r.1 × (view r.1 ≡ first_view)) }
     {
         let (sender, receiver, pass) = bounded_with::<Deal<'h>, Known, LockRule, Global>(alloc, 1)?;
-        let spins = if streams > 4 {
-            4 * SPINS / streams
+        let tries = if streams > 4 {
+            4 * TRIES / streams
         } else {
-            SPINS
+            TRIES
         };
         Ok((
             Lock {
-                spins,
+                tries,
                 sender,
                 receiver,
             },
@@ -137,12 +148,12 @@ impl<'h> Lock<'h> {
     {
         let mut tries = 0;
         for _ in rt.forever() {
-            if tries < self.spins {
+            if tries < self.tries {
                 if let Ok(deal) = self.receiver.try_recv_as::<Take, R>(rt, pass) {
                     return deal;
                 }
+                pause();
                 tries += 1;
-                spin_loop();
             } else if let Ok(deal) = self.receiver.recv_as::<Take, R>(rt, pass) {
                 return deal;
             }

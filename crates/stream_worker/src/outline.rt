@@ -6,8 +6,10 @@ ghost use Rattle.std.specs.Arc.{arc_value};
 ghost use Rattle.std.specs.Option.{option_map};
 ghost use Rattle.stream_worker.specs.Outlines.{outline_of, IsNextIn};
 ghost use Rattle.stream_worker.specs.Private.FoundGroups.{IsFound};
+ghost use Rattle.stream_worker.specs.Private.Turns.{IsBuilt, groups_of};
 
 use crate::found::Found;
+use crate::ready::Ready;
 use apply_core::{Board, Puts};
 use pk_copy::CopyState;
 use source_feed::Prepared;
@@ -53,6 +55,20 @@ fn shared_groups<'h>(
     Ok(groups)
 }
 
+/// Groups that stand ready are added to a list. An error is want of memory; some may be added then.
+fn push_groups<'h>(
+    list: &mut Vec<Arc<Prepared<'h>>>,
+    readies: &[Ready<'h>],
+) -> Result<(), AllocError>
+    ensures pushed { OnOk result (map arc_value list.new.items ≡ map arc_value list.old.items ++ groups_of readies.now) }
+    ensures behind { take (length list.old.items) list.new.items ≡ list.old.items }
+{
+    for ready in readies {
+        list.push(Arc::clone(&ready.group)?)?;
+    }
+    Ok(())
+}
+
 impl<'h> Outline<'h> {
     /// The outline of a stream of a board. An error is want of memory.
     fn of(alloc: Global, board: &Board<'h>, s: u8) -> Result<Outline<'h>, AllocError>
@@ -87,6 +103,24 @@ impl<'h> Outline<'h> {
         }
     }
 
+    /// A group stands ready: what applying it puts is built. An error is want of memory.
+    pub(crate) fn ready(
+        &self,
+        alloc: Global,
+        group: Arc<Prepared<'h>>,
+    ) -> Result<Ready<'h>, AllocError>
+        ensures group { IfOk result (λ ready. arc_value ready.group ≡ arc_value group.entry) }
+        ensures built { IfOk result (IsBuilt self.now.marks) }
+    {
+        let puts = Puts::of_group(alloc, &self.marks, &group)?;
+        let again = Arc::clone(&group)?;
+        let next = Next {
+            group: Some(again),
+            puts,
+        };
+        Ok(Ready { group, next })
+    }
+
     /// How an offered group stands to the one of its number, where that number is read. Takes no memory, and
     /// time in the bytes of both.
     pub(crate) fn find(&self, group: &Prepared<'_>) -> Option<Found>
@@ -108,6 +142,19 @@ impl<'h> Outline<'h> {
         let group = Arc::clone(group)?;
         self.list.push(group)?;
         Ok(())
+    }
+
+    /// Groups that stand ready are added behind those that are read, all or none. An error is want of memory.
+    pub(crate) fn push_all(&mut self, readies: &[Ready<'h>]) -> Result<(), AllocError>
+        ensures pushed { OnOk result (self.new ≡ record self.old { list = self.old.list ++ groups_of readies.now }) }
+        ensures unchanged { OnErr result (self.new ≡ self.old) }
+    {
+        let read = self.list.len();
+        let pushed = push_groups(&mut self.list, readies);
+        if pushed.is_err() {
+            self.list.truncate(read);
+        }
+        pushed
     }
 
     /// Only the first groups are kept, as many as are read. Takes no memory.

@@ -1,16 +1,18 @@
 //! The stream of one seat works to its feed's end, beside others.
 
-ghost use Rattle.std.specs.Prelude.{◌≡◌, ℕ, false, Ok, IfSome, IfNone, IfErr};
+ghost use Rattle.std.specs.Prelude.{◌≡◌, ◌+◌, ◌≤◌, ℕ, true, false, Ok, Err, IfOk, IfSome, IfNone, IfErr, length};
 ghost use Rattle.stream_core.specs.declared.step.Step as steps;
 ghost use Rattle.stream_core.specs.Standing.{IsSound};
 ghost use Rattle.stream_worker.specs.Knowing.{SawStreams};
 ghost use Rattle.stream_worker.specs.SeatOf.{known, IsSeatOf};
 ghost use Rattle.stream_worker.specs.Worked.{Follows, HasCome, EndsSeat, AreReceipts};
 ghost use Rattle.stream_worker.specs.Private.SeatSteps.{IsSeatReply, AreBehind, EndsSeatStep};
+ghost use Rattle.stream_worker.specs.Private.Turns.{IsReady, AreReady, IsNextOffer};
 
 use crate::course::Course;
 use crate::gate::Gate;
 use crate::policy::Policy;
+use crate::ready::Ready;
 use crate::receipt::Receipt;
 use crate::run_refusal::RunRefusal;
 use crate::seat::Seat;
@@ -21,6 +23,9 @@ use source_feed::{Feed, FeedFault};
 use std::alloc::Global;
 use std::sync::Wait;
 use stream_core::{Cursor, Step};
+
+/// How many groups are offered and applied in one hold of the board at most.
+const TURN: u32 = 16;
 
 /// What the worker of a stream has, beside its seat and what stands ready of its feed.
 #[derive(Drop)]
@@ -56,6 +61,133 @@ fn offer_of<'a, 'h, R: Wait, G: Gate, A: Ahead<'h>>(
     match bench.shared.offer(bench.rt, bench.alloc, seat, group) {
         Ok(offered) => Ok(Answer::Offered(offered)),
         Err(refusal) => Err(StepRefusal::Refused(refusal)),
+    }
+}
+
+/// Group `number` of the feed stands ready: it is taken of those that do, or prepared, the gate is told of it, and what
+/// applying it puts is built.
+fn ready_group<'a, 'h, R: Wait, G: Gate, A: Ahead<'h>>(
+    bench: &Bench<'a, 'h, R, G>,
+    seat: &Seat<'h>,
+    ahead: &mut A,
+    number: u32,
+) -> Result<Ready<'h>, StepRefusal>
+    requires feed { A.feed ahead.old ≡ bench.now.feed.now }
+    requires within { number ≤ length bench.now.feed.now.groups }
+    ensures feed { A.feed ahead.new ≡ bench.now.feed.now }
+    ensures ready { IfOk result (IsReady bench.now.feed.now seat.now.outline.marks number) }
+    ensures refused { IfErr result (λ refusal. IsSeatReply bench.now.feed.now (known seat.now) seat.now.stream (steps.Step.Offer number) (Err refusal) (known seat.now)) }
+{
+    let group = match group_of(bench.rt, bench.alloc, bench.feed, number, ahead) {
+        Ok(group) => group,
+        Err(FeedFault::Memory) => return Err(StepRefusal::Refused(Refusal::Memory)),
+        Err(fault) => return Err(StepRefusal::Unprepared(fault)),
+    };
+    bench.gate.passed(bench.rt, seat.stream, number);
+    match seat.outline.ready(bench.alloc, group) {
+        Ok(ready) => Ok(ready),
+        Err(_) => Err(StepRefusal::Refused(Refusal::Memory)),
+    }
+}
+
+/// The number behind the last group of a turn that begins with group `number` of a feed.
+fn turn_end(feed: &Feed<'_>, number: u32) -> u32
+    requires { number ≤ length feed.now.groups }
+    ensures { result ≤ length feed.now.groups + 1 }
+{
+    let _plan = feed.plan();
+    let behind = feed.len() as u32 + 1;
+    if behind - number < TURN {
+        behind
+    } else {
+        number + TURN
+    }
+}
+
+/// The groups of the feed from `number` on stand ready, as many as a turn takes, up to the feed's end or the first that
+/// can't be prepared. Refused where that is the first of all.
+fn ready_groups<'a, 'h, R: Wait, G: Gate, A: Ahead<'h>>(
+    bench: &Bench<'a, 'h, R, G>,
+    seat: &Seat<'h>,
+    ahead: &mut A,
+    number: u32,
+) -> Result<Vec<Ready<'h>>, StepRefusal>
+    requires feed { A.feed ahead.old ≡ bench.now.feed.now }
+    requires from { 1 ≤ number }
+    requires within { number ≤ length bench.now.feed.now.groups }
+    ensures feed { A.feed ahead.new ≡ bench.now.feed.now }
+    ensures ready { IfOk result (λ readies. AreReady bench.now.feed.now seat.now.outline.marks number readies.items) }
+    ensures refused { IfErr result (λ refusal. IsSeatReply bench.now.feed.now (known seat.now) seat.now.stream (steps.Step.Offer number) (Err refusal) (known seat.now)) }
+{
+    let Ok(mut readies) = Vec::with_capacity(bench.alloc, TURN as usize) else {
+        return Err(StepRefusal::Refused(Refusal::Memory));
+    };
+    let end = turn_end(bench.feed, number);
+    let mut next = number;
+    while next < end {
+        match ready_group(bench, seat, ahead, next) {
+            Ok(ready) => {
+                let Ok(()) = readies.push(ready) else {
+                    return Err(StepRefusal::Refused(Refusal::Memory));
+                };
+            }
+            Err(refusal) => {
+                if next == number {
+                    return Err(refusal);
+                }
+                break;
+            }
+        }
+        next += 1;
+    }
+    Ok(readies)
+}
+
+/// The number of the group that a turn begins with, where the step offers a group to a stream that has copied all its
+/// tables and applied all that it read.
+fn turn_at(step: Step, at: &Cursor) -> Option<u32>
+    ensures { IfSome result (λ number. (step ≡ steps.Step.Offer number) × (at.now.applied ≡ at.now.read)) }
+{
+    match step {
+        Step::Offer(number) if at.done() == at.tables() && at.applied() == at.read() => Some(
+            number,
+        ),
+        _ => None,
+    }
+}
+
+/// The groups of the feed from `number` on, as many as a turn takes, are offered and applied in one hold of the board:
+/// true, since the course goes on.
+fn take_in<'a, 'h, R: Wait, G: Gate, A: Ahead<'h>>(
+    bench: &Bench<'a, 'h, R, G>,
+    seat: &mut Seat<'h>,
+    ahead: &mut A,
+    receipts: &mut Vec<Receipt<'h>>,
+    number: u32,
+) -> Result<bool, RunRefusal>
+    requires seat { IsSeatOf bench.now.shared.now seat.old }
+    requires feed { A.feed ahead.old ≡ bench.now.feed.now }
+    requires applied { seat.old.cursor.applied ≡ seat.old.cursor.read }
+    requires leads { IsNextOffer seat.old.cursor (length bench.now.feed.now.groups) number }
+    ensures seat { IsSeatOf bench.now.shared.now seat.new × (seat.new.stream ≡ seat.old.stream) }
+    ensures feed { A.feed ahead.new ≡ bench.now.feed.now }
+    ensures many { (n : ℕ) → SawStreams (known seat.old) n → SawStreams (known seat.new) n }
+    ensures receipts { (first : ℕ) → AreReceipts first seat.old receipts.old.items → AreReceipts first seat.new receipts.new.items }
+    ensures follows { Follows bench.now.feed.now seat.old → Follows bench.now.feed.now seat.new }
+    ensures goes { IfOk result (λ went. went ≡ true) }
+    ensures refused { Follows bench.now.feed.now seat.old → IfErr result (EndsSeat bench.now.feed.now seat.new) }
+{
+    let _plan = bench.feed.plan();
+    let readies = match ready_groups(bench, seat, ahead, number) {
+        Ok(readies) => readies,
+        Err(refusal) => return Err(ended_by(bench.feed, seat, refusal)),
+    };
+    match bench
+        .shared
+        .take_in(bench.rt, bench.alloc, bench.feed, seat, readies, receipts)
+    {
+        Ok(()) => Ok(true),
+        Err(refusal) => Err(ended_by(bench.feed, seat, StepRefusal::Refused(refusal))),
     }
 }
 
@@ -149,7 +281,7 @@ fn is_sound(at: &Cursor)
     let _ = &at.read;
 }
 
-/// The next step of a seat's stream on its course is taken: whether there was one. Refused 111 where the stream has
+/// The next step of a seat's stream on its course is taken, or a turn of them: whether there was one. Refused 111 where the stream has
 /// read more groups than the feed has.
 fn go_on<'a, 'h, R: Wait, G: Gate, A: Ahead<'h>>(
     bench: &Bench<'a, 'h, R, G>,
@@ -177,6 +309,9 @@ fn go_on<'a, 'h, R: Wait, G: Gate, A: Ahead<'h>>(
     let Some(step) = course.next(bench.policy, &seat.cursor, groups) else {
         return Ok(false);
     };
+    if let Some(number) = turn_at(step, &seat.cursor) {
+        return take_in(bench, seat, ahead, receipts, number);
+    }
     match seat_step(bench, seat, ahead, receipts, step) {
         Ok(_) => Ok(true),
         Err(refusal) => Err(ended_by(bench.feed, seat, refusal)),

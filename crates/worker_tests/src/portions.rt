@@ -47,13 +47,16 @@ const BEFORE_AN_UNSOUND_GROUP: &[Course] = &[
     ([1, 5, 1], (90, 4, 0, 0, None, 4_010), 0),
 ];
 
-/// Four groups of a row each, the last of them at a key of the other stream: the chunk that it is in isn't copied.
+/// Four groups of a row each, the last of them at a key of the other stream: the chunk that it is in isn't copied, nor
+/// is the group applied.
 const BEFORE_A_FOREIGN_ROW: &[Course] = &[
     ([1, 4, 4], (71, 4, 4, 0, Some(4), 4_010), 3),
     ([2, 4, 4], (71, 4, 4, 0, Some(4), 4_010), 2),
     ([3, 4, 4], (71, 4, 4, 0, Some(4), 4_010), 3),
     ([4, 4, 4], (71, 4, 4, 0, Some(4), 4_010), 0),
     ([3, 4, 1], (71, 4, 4, 0, Some(4), 4_010), 3),
+    // all is copied at the first group; the others are offered and applied in one turn, up to the last
+    ([4, 1, 4], (71, 4, 3, 1, None, 4_010), 3),
 ];
 
 /// Where a seat's stream stands when its worker has ended, with nothing ready.

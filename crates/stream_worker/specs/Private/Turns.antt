@@ -1,0 +1,112 @@
+-- Groups that stand ready, and a turn of a stream, in which they are offered and applied while its seat holds the board.
+use Rattle.std.specs.Prelude.{◌≡◌, ◌⊎◌, ℕ, suc, ◌+◌, ◌<◌, ◌≤◌, List, [], ◌∷◌, ◌++◌, length, map, take, Option, Some, None, Ok, Err, IsSomeAnd, slice_get}
+use Rattle.std.specs.Arc.{arc_value}
+use Rattle.std.specs.Option.{option_map}
+use Rattle.pk_copy.specs.KeyOrder.{key_cmp}
+use Rattle.pk_copy.specs.KeyValue.{KeyValue}
+use Rattle.pk_copy.specs.Marks.{Marks}
+use Rattle.target_tables.specs.Touches.{last_at}
+use Rattle.source_feed.specs.Planned.{FeedValue}
+use Rattle.source_feed.specs.Touches.{PreparedValue, prepared_at}
+use Rattle.stream_core.specs.Standing.{Standing}
+use Rattle.board_laws.specs.declared.answer.Answer.{Answer}
+use Rattle.board_laws.specs.declared.answer.Answer.TheVariants.{Applied}
+use Rattle.board_laws.specs.declared.refusal.Refusal.{Refusal}
+use Rattle.board_laws.specs.Meaning.{State}
+use Rattle.board_laws.specs.Event.{offer, advance}
+use Rattle.board_laws.specs.Reading.{ReadsFeed}
+use Rattle.board_laws.specs.Touching.{left_by}
+use Rattle.stream_worker.specs.declared.ready.Ready.{Ready}
+use Rattle.stream_worker.specs.declared.receipt.Receipt.{Receipt}
+use Rattle.stream_worker.specs.Knowing.{Laid, Knows, without_board}
+use Rattle.stream_worker.specs.Outlines.{Outlined}
+use Rattle.stream_worker.specs.Rule.{IsOwnChange}
+use Rattle.stream_worker.specs.Seats.{IsBoardStep}
+use Rattle.stream_worker.specs.Worked.{AreReceiptsSince}
+
+-- ---- groups that stand ready
+
+-- what applying the group puts is built, under these marks
+pub record IsBuilt (marks : Marks) (ready : Ready) : Type 0 where
+  pub next : option_map arc_value ready.next.group ≡ Some (arc_value ready.group)
+  pub puts : (key : KeyValue) → last_at key_cmp ready.next.puts.changes.items key ≡ left_by marks (arc_value ready.group) key
+
+-- it is the n-th group of a feed
+pub record IsReady (feed : FeedValue) (marks : Marks) (n : ℕ) (ready : Ready) : Type 0 where
+  pub within : n ≤ length feed.groups
+  pub prepared : prepared_at feed n ≡ Ok (arc_value ready.group)
+  pub number : (arc_value ready.group).number ≡ n
+  pub built : IsBuilt marks ready
+
+-- they are those from the n-th on, in order
+abbrev pub AreReady : FeedValue → Marks → ℕ → List Ready → Type 0
+AreReady feed marks n [] = Unit {0}
+AreReady feed marks n (ready ∷ later) = IsReady feed marks n ready × AreReady feed marks (suc n) later
+
+abbrev pub groups_of : List Ready → List PreparedValue
+groups_of readies = map (λ (ready : Ready). arc_value ready.group) readies
+
+-- a stream that applied all that it read, with no snapshot open, behind whose groups these stand ready
+pub record IsCaughtUp (feed : FeedValue) (readies : List Ready) (state : State) : Type 0 where
+  pub applied : state.applied ≡ length state.list
+  pub closed : state.snapshot ≡ None
+  pub ready : AreReady feed state.marks (suc (length state.list)) readies
+
+-- a stream that stands so, with no snapshot open, reads the n-th of so many groups next
+pub record IsNextOffer (at : Standing) (groups n : ℕ) : Type 0 where
+  pub number : n ≡ at.read + 1
+  pub within : at.read < groups
+  pub closed : at.snapshot ≡ None
+
+-- ---- one of them
+
+-- a stream that applied all that it read, and reads this group next
+pub record IsNextReady (ready : Ready) (state : State) : Type 0 where
+  pub applied : state.applied ≡ length state.list
+  pub number : (arc_value ready.group).number ≡ suc (length state.list)
+  pub built : IsBuilt state.marks ready
+
+-- the group was offered to stream s, and applied
+pub record IsTakenIn (taken : Laid) (s : ℕ) (group : PreparedValue) (left : Laid) : Type 0 where
+  pub between : Laid
+  pub answer : Answer
+  pub number : ℕ
+  pub offered : IsBoardStep taken s (offer group) (Ok answer) between
+  pub applied : IsBoardStep between s advance (Ok (Applied number)) left
+
+-- it was offered, and its advance was refused
+pub record IsOfferedAlone (taken : Laid) (s : ℕ) (group : PreparedValue) (refusal : Refusal) (left : Laid) : Type 0 where
+  pub between : Laid
+  pub answer : Answer
+  pub offered : IsBoardStep taken s (offer group) (Ok answer) between
+  pub refused : IsBoardStep between s advance (Err refusal) left
+
+-- its offer or its advance was refused
+abbrev pub IsNotTakenIn : Laid → ℕ → PreparedValue → Refusal → Laid → Type 0
+IsNotTakenIn taken s group refusal left = IsBoardStep taken s (offer group) (Err refusal) left ⊎ IsOfferedAlone taken s group refusal left
+
+-- ---- all of them
+
+-- what a seat of stream s would know, had it put this board back
+abbrev pub knows_left : ℕ → Laid → Knows
+knows_left s laid = without_board (s ∷ []) laid
+
+-- a turn of stream s changed its own stream alone, which still reads the feed that it read
+pub record IsTurn (feed : FeedValue) (s : ℕ) (taken left : Laid) : Type 0 where
+  pub own : IsOwnChange (s ∷ []) taken left
+  pub given : left.given ≡ taken.given
+  pub follows : IsSomeAnd (slice_get taken.board s) (ReadsFeed feed) → IsSomeAnd (slice_get left.board s) (ReadsFeed feed)
+
+-- receipts of stream s of a board, since so many were applied
+abbrev pub AreReceiptsOn : ℕ → ℕ → Laid → List Receipt → Type 0
+AreReceiptsOn first s laid receipts = IsSomeAnd (slice_get laid.board s) (λ state. AreReceiptsSince first s state receipts)
+
+-- an outline has the groups that a stream has read, and behind them those that stand ready
+pub record IsAhead (outline : Outlined) (readies : List Ready) (state : State) : Type 0 where
+  pub list : outline.list ≡ state.list ++ groups_of readies
+  pub marks : outline.marks ≡ state.marks
+
+-- an outline begins with the groups that a stream has read
+pub record BeginsWith (outline : Outlined) (state : State) : Type 0 where
+  pub list : take (length state.list) outline.list ≡ state.list
+  pub marks : outline.marks ≡ state.marks
