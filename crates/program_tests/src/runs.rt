@@ -9,7 +9,7 @@ use std::test::*;
 use std::thread::Threads;
 use stream_worker::Policy;
 use vdiff_core::Writer;
-use vrepl_main::{Untold, run};
+use vrepl_main::{Course, RunInputs, Untold, run};
 
 /// The run was refused with this beginning of a line, and has printed nothing; an error where memory was wanting.
 fn is_refused(status: u8, out: &[u8], err: &[u8], line: &[u8]) -> Result<bool, AllocError> {
@@ -29,14 +29,16 @@ fn meets_a_foreign_row<R: Threads + Wait + Sync>(
     let Some(policy) = Policy::new(1_000, 100, 4) else {
         return Ok(false);
     };
-    let feeds = feeds_of(alloc, &[LOWER, SAME_KEY])?;
+    let inputs = RunInputs {
+        course: Course { alone, policy },
+        hex: true,
+        workflow: Vec::from_slice(alloc, TWO.as_bytes())?,
+        feeds: feeds_of(alloc, &[LOWER, SAME_KEY])?,
+    };
     let (mut out, mut err) = ([0u8; 64], [0u8; 64]);
     let mut dump = Writer::new(Cursor::new(&mut out[..]));
     let mut said = Writer::new(Cursor::new(&mut err[..]));
-    let workflow = TWO.as_bytes();
-    let status = run(
-        rt, alloc, true, alone, &policy, &Untold, workflow, &feeds, &mut dump, &mut said,
-    );
+    let status = run(rt, alloc, &inputs, &Untold, &mut dump, &mut said);
     is_refused(status, &out, &err, line)
 }
 

@@ -11,7 +11,9 @@ use Rattle.vrepl_main.specs.ResumedRun.{PrintsResumed, PrintsResumeRefusal}
 use Rattle.vrepl_main.specs.Running.{PrintsDump, PrintsRunRefusal}
 use Rattle.vrepl_main.specs.SavedBoard.{IsSavedBehind, PrintsCheckpoint}
 use Rattle.vrepl_main.specs.declared.input.InputName.TheVariants.{File, Standard}
+use Rattle.vrepl_main.specs.declared.named_inputs.Course.{Course}
 use Rattle.vrepl_main.specs.declared.refusal.Refusal.{Refusal}
+use Rattle.vrepl_words.specs.declared.words.Run.{Run}
 use Rattle.vrepl_words.specs.declared.words.Words.{Words}
 use Rattle.vrepl_words.specs.declared.words.Words.TheVariants as ways
 use Rattle.vrepl.specs.Asked.{text_asked}
@@ -28,11 +30,16 @@ IsAnswering (ways.Resume words) = Unit {0}
 IsAnswering (ways.Join words) = Unit {0}
 IsAnswering words = ⊥
 
+-- the streams are run as the words ask for it: one after another or in threads, and in these portions
+abbrev pub IsCourseOf : Run → Course → Type 0
+IsCourseOf words course =
+    (course.alone ≡ words.alone) × (course.policy.rows ≡ words.portions.rows) × (course.policy.ahead ≡ words.portions.ahead) × (course.policy.chunks ≡ words.portions.chunks)
+
 -- the words ask for just this, with what was read of the files that they name
 abbrev pub IsAskedBy : Words → Asked → Type 0
 IsAskedBy (ways.Show words) (asked.Show of feed) = of.now ≡ words
 IsAskedBy (ways.Step words) (asked.Step inputs) = inputs.hex ≡ words.hex
-IsAskedBy (ways.Run words) (asked.Run of inputs) = (of.now ≡ words) × (inputs.hex ≡ words.hex)
+IsAskedBy (ways.Run words) (asked.Run inputs) = IsCourseOf words inputs.course × (inputs.hex ≡ words.hex)
 IsAskedBy (ways.Save words) (asked.Save inputs) = inputs.hex ≡ words.hex
 IsAskedBy (ways.Resume words) (asked.Resume inputs) = inputs.step.hex ≡ words.step.hex
 IsAskedBy (ways.Join words) (asked.Join inputs) = inputs.hex ≡ words.hex
@@ -52,7 +59,7 @@ IsUnreadFor words = λ refusal. ⊥
 abbrev pub PrintsAsked : Asked → Written → Written → Type 0
 PrintsAsked (asked.Show words feed) old new = PrintsWhole (text_asked words.now feed.items) old new
 PrintsAsked (asked.Step inputs) old new = PrintsReplies (script_asked inputs) old new
-PrintsAsked (asked.Run words inputs) old new = PrintsDump (opened_asked inputs) old new
+PrintsAsked (asked.Run inputs) old new = PrintsDump (opened_asked inputs) old new
 PrintsAsked (asked.Save inputs) old new = PrintsCheckpoint (script_asked inputs) old new
 PrintsAsked (asked.Resume inputs) old new = PrintsResumed (script_asked inputs.step) inputs.checkpoint.items old new
 PrintsAsked (asked.Join inputs) old new = PrintsJoin (join_asked inputs) inputs.one.items (bytes_of inputs.others.items) old new
@@ -61,7 +68,7 @@ PrintsAsked (asked.Join inputs) old new = PrintsJoin (join_asked inputs) inputs.
 abbrev pub PrintsRefusalAsked : Asked → Written → Written → Written → Written → Type 0
 PrintsRefusalAsked (asked.Show words feed) old new err_old err_new = PrintsRefusal IsGivenText (text_asked words.now feed.items) old new err_old err_new
 PrintsRefusalAsked (asked.Step inputs) old new err_old err_new = PrintsRefusal AreFirstReplies (script_asked inputs) old new err_old err_new
-PrintsRefusalAsked (asked.Run words inputs) old new err_old err_new = PrintsRunRefusal (opened_asked inputs) old new err_old err_new
+PrintsRefusalAsked (asked.Run inputs) old new err_old err_new = PrintsRunRefusal (opened_asked inputs) old new err_old err_new
 PrintsRefusalAsked (asked.Save inputs) old new err_old err_new = PrintsRefusal IsSavedBehind (script_asked inputs) old new err_old err_new
 PrintsRefusalAsked (asked.Resume inputs) old new err_old err_new = PrintsResumeRefusal (script_asked inputs.step) inputs.checkpoint.items old new err_old err_new
 PrintsRefusalAsked (asked.Join inputs) old new err_old err_new = PrintsJoinRefusal (join_asked inputs) inputs.one.items (bytes_of inputs.others.items) old new err_old err_new

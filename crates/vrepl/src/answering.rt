@@ -4,16 +4,16 @@ ghost use Rattle.std.specs.Prelude.{◌≡◌, ◌≤◌, IfErr, IfOk};
 ghost use Rattle.vrepl.specs.Answered.{IsAnswering, IsAskedBy, IsUnreadFor, PrintsAsked, PrintsRefusalAsked};
 
 use crate::reporting::Reporter;
-use crate::{policy_of, show_feed};
+use crate::{course_of, show_feed};
 use std::alloc::{AllocError, Global};
 use std::sync::Wait;
 use std::thread::Threads;
 use vdiff_core::{Out, Writer};
 use vrepl_main::{
     InputName, Inputs, JoinFiles, JoinInputs, Progress, Refusal, ResumeInputs, RunInputs, Untold,
-    join, read_input, read_join, read_resume, read_run, read_step, resume, run_on, save, step,
+    join, read_input, read_join, read_resume, read_run, read_step, resume, run, save, step,
 };
-use vrepl_words::words::{Join, Run, Show, Words};
+use vrepl_words::words::{Join, Show, Words};
 
 /// What such a command is asked for, with what was read of its inputs.
 #[derive(Drop)]
@@ -23,7 +23,7 @@ pub(crate) enum Asked<'a, 'w> {
     /// `step`.
     Step(Inputs),
     /// `run`.
-    Run(&'a Run<'w>, RunInputs),
+    Run(RunInputs),
     /// `save`.
     Save(Inputs),
     /// `resume`.
@@ -76,8 +76,9 @@ fn read_asked<'a, 'w>(rt: &HostRuntime, words: &'a Words<'w>) -> Result<Asked<'a
             Ok(Asked::Step(inputs))
         }
         Words::Run(words) => {
-            let inputs = read_run(rt, words.hex, words.workflow, &words.feeds)?;
-            Ok(Asked::Run(words, inputs))
+            let course = course_of(words);
+            let inputs = read_run(rt, course, words.hex, words.workflow, &words.feeds)?;
+            Ok(Asked::Run(inputs))
         }
         Words::Save(words) => {
             let inputs = read_step(rt, words.hex, words.workflow, &words.feeds)?;
@@ -147,12 +148,9 @@ fn answer<T: Threads + Wait + Sync, G: Progress + Sync, W: Out, E: Out>(
     match asked {
         Asked::Show(words, feed) => show_feed(alloc, words, feed, out, err),
         Asked::Step(inputs) => step(alloc, inputs, out, err),
+        Asked::Run(inputs) => run(threads, alloc, inputs, gate, out, err),
         Asked::Save(inputs) => save(alloc, inputs, out, err),
         Asked::Resume(inputs) => resume(alloc, inputs, out, err),
         Asked::Join(inputs) => join(alloc, inputs, out, err),
-        Asked::Run(words, inputs) => {
-            let policy = policy_of(words.portions);
-            run_on(threads, alloc, words.alone, &policy, gate, inputs, out, err)
-        }
     }
 }

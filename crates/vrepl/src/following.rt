@@ -1,16 +1,16 @@
 //! The subcommand `follow` over files.
 
-ghost use Rattle.std.specs.Prelude.{◌≤◌, length, IfOk};
+ghost use Rattle.std.specs.Prelude.{◌≤◌, IfOk};
 
+use crate::course_of;
 use crate::reporting::Reporter;
 use std::alloc::Global;
 use std::sync::Wait;
 use std::thread::Threads;
-use stream_worker::Policy;
-use vdiff_core::{Writer, write_dump};
+use vdiff_core::Writer;
 use vrepl_main::{
-    Course, Followed, InputName, Progress, Refusal, Unfollowed, Untold, follow, follow_only,
-    keep_file, read_inputs, refuse_unfollowed, run_inputs,
+    FollowInputs, Followed, InputName, Progress, Refusal, Unfollowed, Untold, follow, follow_only,
+    given_feeds, keep_file, read_input, read_run, refuse_unfollowed,
 };
 use vrepl_words::words::Follow;
 
@@ -21,15 +21,14 @@ pub(crate) fn run_follow<'w, T: Threads + Wait + Sync>(
     rt: &HostRuntime,
     threads: &T,
     words: &Follow<'w>,
-    policy: &Policy,
 ) -> Result<u8, Refusal<'w>>
     ensures status { IfOk result (λ status. status ≤ 1) }
 {
     if words.run.progress {
         let reporter = Reporter::new(rt, words.run.feeds.len())?;
-        follow_read(rt, threads, words, policy, &reporter)
+        follow_read(rt, threads, words, &reporter)
     } else {
-        follow_read(rt, threads, words, policy, &Untold)
+        follow_read(rt, threads, words, &Untold)
     }
 }
 
@@ -38,97 +37,62 @@ fn follow_read<'w, T: Threads + Wait + Sync, G: Progress + Sync>(
     rt: &HostRuntime,
     threads: &T,
     words: &Follow<'w>,
-    policy: &Policy,
     gate: &G,
-) -> Result<u8, Refusal<'w>>
-    ensures status { IfOk result (λ status. status ≤ 1) }
-{
-    match words.checkpoint {
-        None => follow_from(rt, threads, words, policy, gate, None),
-        Some(name) => {
-            let read = read_inputs(rt, &[InputName::File(name)])?;
-            follow_from(rt, threads, words, policy, gate, Some(&read[0]))
-        }
-    }
-}
-
-/// The same from the bytes of a checkpoint, or from the beginning.
-fn follow_from<'w, T: Threads + Wait + Sync, G: Progress + Sync>(
-    rt: &HostRuntime,
-    threads: &T,
-    words: &Follow<'w>,
-    policy: &Policy,
-    gate: &G,
-    checkpoint: Option<&[u8]>,
 ) -> Result<u8, Refusal<'w>>
     ensures status { IfOk result (λ status. status ≤ 1) }
 {
     let run = &words.run;
-    let names = run_inputs(rt.alloc(), run.workflow, &run.feeds)?;
-    let inputs = read_inputs(rt, &names)?;
-    match moved_on(
-        threads,
-        rt.alloc(),
-        words,
-        policy,
-        gate,
-        checkpoint,
-        &inputs,
-    ) {
-        Ok(followed) => keep(rt, words.save_to, &followed),
+    let saved = read_saved(rt, words.checkpoint)?;
+    let inputs = read_run(rt, course_of(run), run.hex, run.workflow, &run.feeds)?;
+    let given = given_feeds(rt.alloc(), inputs.hex, &inputs.feeds)?;
+    let inputs = FollowInputs {
+        course: inputs.course,
+        checkpoint: saved.as_deref(),
+        workflow: &inputs.workflow,
+        feeds: &given,
+    };
+    match moved_on(threads, rt.alloc(), words, &inputs, gate) {
+        Ok(followed) => keep(rt, words, &followed),
         Err(unfollowed) => Ok(refuse_unfollowed(&mut Writer::new(rt.stderr()), unfollowed)),
     }
 }
 
-/// The checkpoint moved on over the inputs, the workflow first: all its streams, or those alone that are named.
-fn moved_on<T: Threads + Wait + Sync, G: Progress + Sync>(
-    threads: &T,
-    alloc: Global,
-    words: &Follow<'_>,
-    policy: &Policy,
-    gate: &G,
-    checkpoint: Option<&[u8]>,
-    inputs: &[Vec<u8>],
-) -> Result<Followed, Unfollowed>
-    requires { 1 ≤ length inputs.now }
-{
-    let course = Course {
-        alone: words.run.alone,
-        policy,
-    };
-    match &words.only {
-        None => follow(
-            threads,
-            alloc,
-            words.run.hex,
-            course,
-            gate,
-            words.dump,
-            checkpoint,
-            &inputs[0],
-            &inputs[1..],
-        ),
-        Some(only) => follow_only(
-            threads,
-            alloc,
-            words.run.hex,
-            course,
-            words.dump,
-            only,
-            checkpoint,
-            &inputs[0],
-            &inputs[1..],
-        ),
+/// The bytes of the checkpoint of this name, where there is one.
+fn read_saved<'w>(rt: &HostRuntime, name: Option<&'w str>) -> Result<Option<Vec<u8>>, Refusal<'w>> {
+    match name {
+        None => Ok(None),
+        Some(name) => {
+            let bytes = read_input(rt, InputName::File(name))?;
+            Ok(Some(bytes))
+        }
     }
 }
 
-/// Puts the new checkpoint into its file, and prints the rows where there are some.
-fn keep<'w>(rt: &HostRuntime, file: &'w str, followed: &Followed) -> Result<u8, Refusal<'w>>
+/// The checkpoint moved on over the inputs: all its streams, or those alone that are named.
+fn moved_on<'h, T: Threads + Wait + Sync, G: Progress + Sync>(
+    threads: &T,
+    alloc: Global,
+    words: &Follow<'_>,
+    inputs: &FollowInputs<'h, '_>,
+    gate: &G,
+) -> Result<Followed<'h>, Unfollowed> {
+    match &words.only {
+        None => follow(threads, alloc, inputs, gate),
+        Some(only) => follow_only(threads, alloc, inputs, only),
+    }
+}
+
+/// Puts the new checkpoint into the file that the words name, and prints the rows where they ask for them.
+fn keep<'w>(
+    rt: &HostRuntime,
+    words: &Follow<'w>,
+    followed: &Followed<'_>,
+) -> Result<u8, Refusal<'w>>
     ensures status { IfOk result (λ status. status ≤ 1) }
 {
-    keep_file(rt, file, &followed.checkpoint)?;
-    if let Some(rows) = &followed.rows {
-        write_dump(&mut Writer::new(rt.stdout()), &followed.plan, rows)?;
+    keep_file(rt, words.save_to, &followed.checkpoint)?;
+    if words.dump {
+        followed.write_dump(&mut Writer::new(rt.stdout()))?;
     }
     Ok(0)
 }

@@ -1,6 +1,6 @@
 -- What the command `follow` makes, by what its inputs say.
-use Rattle.std.proofs.Common.{◌≡◌, ◌∙◌, ap, sym, subst, arith, ℕ, ◌<◌, Bool, List, length, Option, Some, Result, Ok}
-use Rattle.std.specs.Prelude.{slice_get, nat_lt, true, IfSome, IsSome}
+use Rattle.std.proofs.Common.{◌≡◌, ◌∙◌, ap, sym, subst, arith, ℕ, ◌<◌, List, length, Option, Some, Result, Ok}
+use Rattle.std.specs.Prelude.{slice_get, nat_lt, true}
 use Rattle.std.proofs.lemmas.Bool.{ltb-true}
 use Rattle.std.proofs.lemmas.List.{length-map}
 use Rattle.filter_rule.proofs.StepLaws.{list_all_get}
@@ -15,7 +15,6 @@ use Rattle.stream_worker.specs.RunRefused.{EndsRun, IsRefusedRun}
 use Rattle.stream_worker.specs.declared.run_refusal.RunRefusal.{RunRefusal}
 use Rattle.stream_worker.specs.declared.run_refusal.RunRefusal.TheVariants.{FeedCount, WrongPlan, Unsound, OwnedByOther, Memory}
 use Rattle.board_laws.specs.Meaning.{Meaning}
-use Rattle.apply_core.specs.Shown.{all_rows}
 use Rattle.checkpoint_laws.specs.Written.{checkpoint_of}
 use Rattle.vrepl_main.specs.Followed.{FollowedValue, IsAtFeedsEnds, IsFollowed, IsTakenUp}
 use Rattle.vrepl_main.specs.OnlyFollowed.{IsMovedOn, IsOnlyFollowed, IsStart, have_streams}
@@ -24,20 +23,17 @@ use Rattle.vrepl_main.specs.Reasons.{Reason}
 use Rattle.vrepl_main.proofs.SourceLaws.{fed_shows}
 
 -- the checkpoint of a board at the feeds' ends, whose streams show their sources
-pub followed_by : (reading : Result OpenedValue Reason) (given : OpenedValue) (checkpoint : Option (List ℕ)) (asked : Bool) (followed : FollowedValue) (board : Meaning)
-    → reading ≡ Ok given → slice_get given.plans 0 ≡ Some followed.plan → IsTakenUp given checkpoint → IsAtFeedsEnds given.feeds board → followed.checkpoint ≡ checkpoint_of board
-    → IfSome followed.rows (λ rows. rows ≡ all_rows board.rows) → (asked ≡ true → IsSome followed.rows) → IsFollowed reading checkpoint asked followed
-followed_by reading given checkpoint asked followed board is first up ends saved rows given_rows =
-    subst (λ (r : Result OpenedValue Reason). IsFollowed r checkpoint asked followed) (sym is)
+pub followed_by : (reading : Result OpenedValue Reason) (given : OpenedValue) (checkpoint : Option (List ℕ)) (followed : FollowedValue)
+    → reading ≡ Ok given → slice_get given.plans 0 ≡ Some followed.plan → IsTakenUp given checkpoint → IsAtFeedsEnds given.feeds followed.board
+    → followed.checkpoint ≡ checkpoint_of followed.board → IsFollowed reading checkpoint followed
+followed_by reading given checkpoint followed is first up ends saved =
+    subst (λ (r : Result OpenedValue Reason). IsFollowed r checkpoint followed) (sym is)
     (record {
       first = first;
       taken_up = up;
-      board = board;
       ends = ends;
-      sources = fed_shows given.feeds board (record { lawful = ends.fed.lawful; reads = ends.fed.reads });
+      sources = fed_shows given.feeds followed.board (record { lawful = ends.fed.lawful; reads = ends.fed.reads });
       is_checkpoint = saved;
-      are_rows = rows;
-      given_rows = given_rows;
     })
 
 -- ---- some streams alone
@@ -65,19 +61,16 @@ refused_run plans feeds (OwnedByOther stream key owner) fed ends = (fed, ends)
 refused_run plans feeds Memory fed ends = (fed, ends)
 
 -- the checkpoint of a board on which these streams have moved on
-pub only_followed_by : (reading : Result OpenedValue Reason) (given : OpenedValue) (only : List ℕ) (checkpoint : Option (List ℕ)) (asked : Bool) (followed : FollowedValue) (board : Meaning)
-    → reading ≡ Ok given → slice_get given.plans 0 ≡ Some followed.plan → (start : Meaning) × IsStart given checkpoint start × IsMovedOn given.feeds only start board → followed.checkpoint ≡ checkpoint_of board
-    → IfSome followed.rows (λ rows. rows ≡ all_rows board.rows) → (asked ≡ true → IsSome followed.rows) → IsOnlyFollowed reading only checkpoint asked followed
-only_followed_by reading given only checkpoint asked followed board is first (start, starts, moved) saved rows given_rows =
-    subst (λ (r : Result OpenedValue Reason). IsOnlyFollowed r only checkpoint asked followed) (sym is)
+pub only_followed_by : (reading : Result OpenedValue Reason) (given : OpenedValue) (only : List ℕ) (checkpoint : Option (List ℕ)) (followed : FollowedValue)
+    → reading ≡ Ok given → slice_get given.plans 0 ≡ Some followed.plan → (start : Meaning) × IsStart given checkpoint start × IsMovedOn given.feeds only start followed.board
+    → followed.checkpoint ≡ checkpoint_of followed.board → IsOnlyFollowed reading only checkpoint followed
+only_followed_by reading given only checkpoint followed is first (start, starts, moved) saved =
+    subst (λ (r : Result OpenedValue Reason). IsOnlyFollowed r only checkpoint followed) (sym is)
     (record {
       first = first;
       start = start;
       starts = starts;
-      board = board;
       moved = moved;
-      sources = fed_shows given.feeds board (record { lawful = moved.fed.lawful; reads = moved.fed.reads });
+      sources = fed_shows given.feeds followed.board (record { lawful = moved.fed.lawful; reads = moved.fed.reads });
       is_checkpoint = saved;
-      are_rows = rows;
-      given_rows = given_rows;
     })

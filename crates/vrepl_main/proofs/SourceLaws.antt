@@ -9,9 +9,10 @@ use Rattle.board_laws.specs.Sources.{AllShowTheirSources}
 use Rattle.board_laws.proofs.Following.{run-lawful}
 use Rattle.board_laws.proofs.FeedLaws.{run-reads}
 use Rattle.board_laws.proofs.Sources.{all_show}
+use Rattle.apply_core.specs.Shown.{all_rows}
 use Rattle.step_script.specs.declared.script.ScriptStep.{ScriptStep}
 use Rattle.step_script.specs.declared.script.ScriptStep.TheVariants as script
-use Rattle.vrepl_main.specs.ScriptRun.{ScriptReply, answers, stands, shows, byte_of, standing_in, standing_reply, AnswersStep, ShowsRows, IsScriptStep, IsScriptRun, IsFed, ShowsSources, IsTold}
+use Rattle.vrepl_main.specs.ScriptRun.{ScriptReply, answers, stands, shows, byte_of, standing_in, standing_reply, AnswersStep, IsScriptStep, IsScriptRun, IsFed, ShowsSources, IsTold}
 
 -- ---- one line
 
@@ -32,17 +33,15 @@ stands_shows : (feeds : List FeedValue) (stream : ℕ) (o : Option State) → Sh
 stands_shows feeds stream None = tt
 stands_shows feeds stream (Some state) = tt
 
-dump_shows : (feeds : List FeedValue) (board : Meaning) (reply : ScriptReply) → IsFed feeds board → ShowsRows board reply → ShowsSources feeds reply
-dump_shows feeds board (shows rows) fed is = (board, is, fed_shows feeds board fed)
-dump_shows feeds board (answers reply) fed is = tt
-dump_shows feeds board (stands stream state) fed is = tt
+dump_shows : (feeds : List FeedValue) (board : Meaning) → IsFed feeds board → ShowsSources feeds (shows (all_rows board.rows))
+dump_shows feeds board fed = (board, refl, fed_shows feeds board fed)
 
 one_line : (feeds : List FeedValue) (old new : Meaning) (step : ScriptStep) (reply : ScriptReply) → IsScriptStep feeds old step reply new → IsFed feeds old → IsFed feeds new × ShowsSources feeds reply
 one_line feeds old new (script.Take stream step) reply (answer, is, same) fed =
     (answer_keeps feeds old new (byte_of stream) step answer is fed, subst (ShowsSources feeds) (sym same) tt)
 one_line feeds old new (script.State stream) reply (still, same) fed =
     (subst (IsFed feeds) (sym still) fed, subst (ShowsSources feeds) (sym same) (stands_shows feeds stream (standing_in old stream)))
-one_line feeds old new script.Dump reply (still, rows) fed = (subst (IsFed feeds) (sym still) fed, dump_shows feeds old reply fed rows)
+one_line feeds old new script.Dump reply (still, same) fed = (subst (IsFed feeds) (sym still) fed, subst (ShowsSources feeds) (sym same) (dump_shows feeds old fed))
 
 -- ---- a script
 

@@ -1,8 +1,7 @@
 -- What `follow` makes of a workflow with its feeds, from a checkpoint or from nothing, and why it refuses (this profile).
-use Rattle.std.specs.Prelude.{◌≡◌, ℕ, Bool, true, List, Option, Some, None, IfSome, IsSome, Result, Ok, Err, slice_get}
+use Rattle.std.specs.Prelude.{◌≡◌, ℕ, List, Option, Some, None, Result, Ok, Err, slice_get}
 use Rattle.std.specs.Arc.{arc_value}
 use Rattle.filter_rule.specs.PlanValue.{PlanValue}
-use Rattle.vdiff_core.specs.RowsValue.{RowsValue}
 use Rattle.source_feed.specs.Planned.{FeedValue}
 use Rattle.board_laws.specs.Meaning.{Meaning}
 use Rattle.board_laws.specs.Sources.{AllShowTheirSources}
@@ -39,26 +38,23 @@ pub record IsAtFeedsEnds (feeds : List FeedValue) (board : Meaning) : Type 0 whe
 
 -- ---- the checkpoint
 
--- the bytes of a checkpoint, and, where they were asked for, the target's rows with the plan whose tables they are of
+-- a board and the bytes of its checkpoint, with the plan whose tables its rows are of
 pub record FollowedValue : Type 0 where
   pub plan : PlanValue
   pub checkpoint : List ℕ
-  pub rows : Option RowsValue
+  pub board : Meaning
 
--- the checkpoint of the board at the feeds' ends, and that board's rows
-pub record IsFollowedBy (given : OpenedValue) (checkpoint : Option (List ℕ)) (asked : Bool) (followed : FollowedValue) : Type 0 where
+-- the board at the feeds' ends, and its checkpoint
+pub record IsFollowedBy (given : OpenedValue) (checkpoint : Option (List ℕ)) (followed : FollowedValue) : Type 0 where
   pub first : slice_get given.plans 0 ≡ Some followed.plan
   pub taken_up : IsTakenUp given checkpoint
-  pub board : Meaning
-  pub ends : IsAtFeedsEnds given.feeds board
-  pub sources : AllShowTheirSources given.feeds board
-  pub is_checkpoint : followed.checkpoint ≡ checkpoint_of board
-  pub are_rows : IfSome followed.rows (λ rows. rows ≡ all_rows board.rows)
-  pub given_rows : asked ≡ true → IsSome followed.rows
+  pub ends : IsAtFeedsEnds given.feeds followed.board
+  pub sources : AllShowTheirSources given.feeds followed.board
+  pub is_checkpoint : followed.checkpoint ≡ checkpoint_of followed.board
 
 -- there is something to follow, and this is the checkpoint
-abbrev pub IsFollowed : Result OpenedValue Reason → Option (List ℕ) → Bool → FollowedValue → Type 0
-IsFollowed reading checkpoint asked followed = IsOpenedAnd reading (λ given. IsFollowedBy given checkpoint asked followed)
+abbrev pub IsFollowed : Result OpenedValue Reason → Option (List ℕ) → FollowedValue → Type 0
+IsFollowed reading checkpoint followed = IsOpenedAnd reading (λ given. IsFollowedBy given checkpoint followed)
 
 -- ---- refusals
 

@@ -1,5 +1,5 @@
 -- What `follow` makes where streams are named that are to run alone (this profile).
-use Rattle.std.specs.Prelude.{◌≡◌, ℕ, nat_lt, Bool, not, true, List, length, Option, Some, None, IfSome, IsSome, Result, Ok, slice_get}
+use Rattle.std.specs.Prelude.{◌≡◌, ℕ, nat_lt, Bool, not, List, length, Option, Some, None, Result, Ok, slice_get}
 use Rattle.std.specs.List.{list_all}
 use Rattle.outcome.specs.Outcome.{◌>>=◌, refused_if}
 use Rattle.filter_rule.specs.PlanValue.{PlanValue}
@@ -10,7 +10,6 @@ use Rattle.board_laws.specs.Sources.{AllShowTheirSources}
 use Rattle.checkpoint_laws.specs.Written.{checkpoint_of}
 use Rattle.apply_core.specs.Fresh.{fresh_board}
 use Rattle.apply_core.specs.Resuming.{IsResumed}
-use Rattle.apply_core.specs.Shown.{all_rows}
 use Rattle.stream_worker.specs.Ended.{IsFedBoard, HaveEnded, AreAsBefore}
 use Rattle.vrepl_main.specs.Followed.{FollowedValue}
 use Rattle.vrepl_main.specs.HexText.{feed_bytes}
@@ -47,18 +46,15 @@ pub record IsMovedOn (feeds : List FeedValue) (only : List ℕ) (start board : M
 
 -- ---- the checkpoint
 
--- the checkpoint of the board on which these streams have moved on, and that board's rows
-pub record IsOnlyFollowedBy (given : OpenedValue) (only : List ℕ) (checkpoint : Option (List ℕ)) (asked : Bool) (followed : FollowedValue) : Type 0 where
+-- the board on which these streams have moved on, and its checkpoint
+pub record IsOnlyFollowedBy (given : OpenedValue) (only : List ℕ) (checkpoint : Option (List ℕ)) (followed : FollowedValue) : Type 0 where
   pub first : slice_get given.plans 0 ≡ Some followed.plan
   pub start : Meaning
   pub starts : IsStart given checkpoint start
-  pub board : Meaning
-  pub moved : IsMovedOn given.feeds only start board
-  pub sources : AllShowTheirSources given.feeds board
-  pub is_checkpoint : followed.checkpoint ≡ checkpoint_of board
-  pub are_rows : IfSome followed.rows (λ rows. rows ≡ all_rows board.rows)
-  pub given_rows : asked ≡ true → IsSome followed.rows
+  pub moved : IsMovedOn given.feeds only start followed.board
+  pub sources : AllShowTheirSources given.feeds followed.board
+  pub is_checkpoint : followed.checkpoint ≡ checkpoint_of followed.board
 
 -- there is something to follow, and this is the checkpoint
-abbrev pub IsOnlyFollowed : Result OpenedValue Reason → List ℕ → Option (List ℕ) → Bool → FollowedValue → Type 0
-IsOnlyFollowed reading only checkpoint asked followed = IsOpenedAnd reading (λ given. IsOnlyFollowedBy given only checkpoint asked followed)
+abbrev pub IsOnlyFollowed : Result OpenedValue Reason → List ℕ → Option (List ℕ) → FollowedValue → Type 0
+IsOnlyFollowed reading only checkpoint followed = IsOpenedAnd reading (λ given. IsOnlyFollowedBy given only checkpoint followed)

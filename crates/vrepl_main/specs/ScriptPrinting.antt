@@ -6,15 +6,11 @@ use Rattle.board_laws.specs.Meaning.{Meaning}
 use Rattle.vdiff_core.specs.Printing.{Written, IsWritten, BreaksOff}
 use Rattle.step_script.specs.declared.script.ScriptStep.{ScriptStep}
 use Rattle.vrepl_main.specs.Adding.{WriterPlace, IsTextPut, AddsText}
-use Rattle.vrepl_main.specs.ScriptRun.{ScriptReply, IsScriptStep, IsScriptRun, ShowsRows, reply_text, replies_text}
+use Rattle.vrepl_main.specs.ScriptRun.{ScriptReply, IsScriptStep, IsScriptRun, reply_text, replies_text}
 
 -- a line's reply was added
 abbrev pub Replies : {X E : Type 0} → Result X E → List FeedValue → PlanValue → Meaning → ScriptStep → Meaning → WriterPlace → WriterPlace → Type 0
 Replies result feeds plan old step new before after = (reply : ScriptReply) × IsScriptStep feeds old step reply new × AddsText result before after (reply_text plan reply)
-
--- all rows were added, or that memory ran out
-abbrev pub PrintsRows : {X E : Type 0} → Result X E → PlanValue → Meaning → WriterPlace → WriterPlace → Type 0
-PrintsRows result plan board before after = (reply : ScriptReply) × ShowsRows board reply × AddsText result before after (reply_text plan reply)
 
 -- the replies to steps were added
 pub record RepliesOf {X E : Type 0} (result : Result X E) (feeds : List FeedValue) (plan : PlanValue) (old : Meaning) (steps : List ScriptStep) (new : Meaning) (before after : WriterPlace) : Type 0 where

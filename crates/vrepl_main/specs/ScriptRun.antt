@@ -53,17 +53,11 @@ abbrev pub AnswersStep : List FeedValue → Meaning → Option ℕ → Step → 
 AnswersStep feeds old None step reply new = (reply ≡ Err (Refused NoStream)) × (new ≡ old)
 AnswersStep feeds old (Some s) step reply new = IsReply feeds old (s, step) reply new
 
--- all rows of the target, unless memory ran out
-abbrev pub ShowsRows : Meaning → ScriptReply → Type 0
-ShowsRows board (shows rows) = rows ≡ all_rows board.rows
-ShowsRows board (answers reply) = reply ≡ Err (Refused Memory)
-ShowsRows board (stands stream state) = ⊥
-
 -- what a line replies and leaves
 abbrev pub IsScriptStep : List FeedValue → Meaning → ScriptStep → ScriptReply → Meaning → Type 0
 IsScriptStep feeds old (script.Take stream step) reply new = (answer : Reply) × AnswersStep feeds old (byte_of stream) step answer new × (reply ≡ answers answer)
 IsScriptStep feeds old (script.State stream) reply new = (new ≡ old) × (reply ≡ standing_reply stream (standing_in old stream))
-IsScriptStep feeds old script.Dump reply new = (new ≡ old) × ShowsRows old reply
+IsScriptStep feeds old script.Dump reply new = (new ≡ old) × (reply ≡ shows (all_rows old.rows))
 
 -- ---- a script
 

@@ -1,22 +1,22 @@
 //! The subcommand `follow`: a checkpoint moved on to the feeds' ends.
 
-ghost use Rattle.std.specs.Prelude.{◌≡◌, ◌≤◌, true, Ok, Some, IfOk, IfErr, IfSome, IsSome, length, map, slice_get};
+ghost use Rattle.std.specs.Prelude.{◌≡◌, ◌≤◌, Ok, IfOk, IfErr, length, map};
 ghost use Rattle.std.specs.Arc.{arc_value};
-ghost use Rattle.std.specs.Option.{option_map};
+ghost use Rattle.vdiff_core.specs.Dump.{dump_of};
+ghost use Rattle.vdiff_core.specs.Printing.{Prints};
 ghost use Rattle.apply_core.specs.Shown.{all_rows};
 ghost use Rattle.stream_worker.specs.Ended.{IsFedBoard};
-ghost use Rattle.stream_worker.specs.RunRefused.{EndsRun, IsRefusedRun};
+ghost use Rattle.stream_worker.specs.RunRefused.{EndsRun};
 ghost use Rattle.vrepl_main.specs.Followed.{IsAtFeedsEnds, IsFollowed, IsTakenUp, RefusesFollow, follow_refusal_line};
-ghost use Rattle.vrepl_main.specs.Given.{given_value};
-ghost use Rattle.vrepl_main.specs.Opening.{opened, opened_bytes};
+ghost use Rattle.vrepl_main.specs.NamedInputs.{follow_asked, saved_asked};
 ghost use Rattle.vrepl_main.specs.Printing.{PrintsOrBreaks};
 
-use crate::given::{GivenFeed, given_feeds};
+use crate::named_inputs::{Course, FollowInputs};
 use crate::opened::Opened;
 use crate::progress::{Progress, tell_feeds};
 use crate::refusal::{Refusal, refuse};
 use crate::refusal_line::refuse_over;
-use crate::running::{open_streams, refuse_run};
+use crate::running::{open_streams, refuse_run, run_streams};
 use crate::stepping::first_plan;
 use apply_core::{Board, ResumeFault, resume as resumed_board, save as checkpoint_of};
 use filter_rule::Plan;
@@ -25,38 +25,37 @@ use std::alloc::{AllocError, Global};
 use std::marker::Model;
 use std::sync::{Arc, Wait};
 use std::thread::Threads;
-use stream_worker::{
-    Policy, RunRefusal, run_alone, run_board_alone, run_board_parallel, run_parallel,
-};
-use vdiff_core::{Out, Rows};
-
-/// How streams are run.
-#[derive(Clone, Copy)]
-pub struct Course<'p> {
-    /// Whether they run one after another, and not in threads.
-    pub alone: bool,
-    /// In what portions.
-    pub policy: &'p Policy,
-}
+use stream_worker::{RunRefusal, run_board_alone, run_board_parallel};
+use vdiff_core::{Out, OutFailed};
 
 /// A checkpoint that was moved on to the feeds' ends.
 #[derive(Drop)]
-pub struct Followed {
+pub struct Followed<'h> {
     /// The plan of the first stream, which has the tables of all.
     pub plan: Arc<Plan>,
     /// The new checkpoint.
     pub checkpoint: Vec<u8>,
-    /// The target's rows, where they were asked for.
-    pub rows: Option<Rows>,
+    /// The board that it is of.
+    pub board: Board<'h>,
 }
 
-impl Model for Followed {
+impl<'h> Model for Followed<'h> {
     ghost use Rattle.std.specs.Arc.{arc_value};
     ghost use Rattle.vrepl_main.specs.Followed.{FollowedValue};
 
     ghost Value = { FollowedValue };
 
-    ghost view = { λ f. record { plan = arc_value f.plan; checkpoint = f.checkpoint.items; rows = f.rows } };
+    ghost view = { λ f. record { plan = arc_value f.plan; checkpoint = f.checkpoint.items; board = f.board } };
+}
+
+impl<'h> Followed<'h> {
+    /// Writes the dump of the target's rows, as they lie in the board: none is copied. After a fault, which comes only
+    /// of a write that failed in this call, what was written is a beginning of the dump. Takes no memory.
+    pub fn write_dump<W: Out>(&self, out: &mut W) -> Result<(), OutFailed>
+        ensures { Prints result (W.written out.old) (W.written out.new) (dump_of self.now.plan (all_rows self.now.board.rows)) }
+    {
+        self.board.write_dump(out, &self.plan)
+    }
 }
 
 /// Why no checkpoint is moved on.
@@ -105,94 +104,55 @@ impl From<AllocError> for Unfollowed {
 
 /// Moves a checkpoint on, over a workflow and its feeds, one in the order of the streams each: from the board that it
 /// makes with them, or from the beginning where there is none, all streams run to their feeds' ends. The answer is the
-/// checkpoint of the board there, and the target's rows where `rows` is set. Where `hex` is set feeds are hexadecimal
-/// text, the checkpoint never. In threads the gate is told of each group on its way.
+/// board there and its checkpoint. In threads the gate is told of each group on its way.
 ///
 /// Refused as `resume` refuses the workflow, the feeds and the checkpoint, in this order, and then as `run` refuses the
 /// streams. Any other error is want of memory.
-pub fn follow<R: Threads + Wait + Sync, G: Progress + Sync>(
+pub fn follow<'h, R: Threads + Wait + Sync, G: Progress + Sync>(
     rt: &R,
     alloc: Global,
-    hex: bool,
-    course: Course<'_>,
+    inputs: &FollowInputs<'h, '_>,
     gate: &G,
-    rows: bool,
-    checkpoint: Option<&[u8]>,
-    workflow: &[u8],
-    feeds: &[Vec<u8>],
-) -> Result<Followed, Unfollowed>
-    ensures followed { IfOk result (IsFollowed (opened hex workflow.now (map (λ feed. feed.items) feeds.now)) (option_map (λ bytes. bytes.now) checkpoint.entry) rows) }
-    ensures refused { IfErr result (λ refusal. RefusesFollow refusal (opened hex workflow.now (map (λ feed. feed.items) feeds.now)) (option_map (λ bytes. bytes.now) checkpoint.entry)) }
+) -> Result<Followed<'h>, Unfollowed>
+    ensures followed { IfOk result (IsFollowed (follow_asked inputs.now) (saved_asked inputs.now)) }
+    ensures refused { IfErr result (λ refusal. RefusesFollow refusal (follow_asked inputs.now) (saved_asked inputs.now)) }
 {
-    let given = given_feeds(alloc, hex, feeds)?;
-    follow_given(rt, alloc, course, gate, rows, checkpoint, workflow, &given)
-}
-
-/// The same over the bytes of the feeds.
-fn follow_given<R: Threads + Wait + Sync, G: Progress + Sync>(
-    rt: &R,
-    alloc: Global,
-    course: Course<'_>,
-    gate: &G,
-    rows: bool,
-    checkpoint: Option<&[u8]>,
-    workflow: &[u8],
-    given: &[GivenFeed<'_>],
-) -> Result<Followed, Unfollowed>
-    ensures followed { IfOk result (IsFollowed (opened_bytes workflow.now (map given_value given.now)) (option_map (λ bytes. bytes.now) checkpoint.entry) rows) }
-    ensures refused { IfErr result (λ refusal. RefusesFollow refusal (opened_bytes workflow.now (map given_value given.now)) (option_map (λ bytes. bytes.now) checkpoint.entry)) }
-{
-    let opened = open_streams(rt, alloc, course.alone, workflow, given)?;
+    let opened = open_streams(
+        rt,
+        alloc,
+        inputs.course.alone,
+        inputs.workflow,
+        inputs.feeds,
+    )?;
     let Opened { plans, feeds } = opened;
     let plan = first_plan(&plans)?;
-    let named = Arc::clone(&plan)?;
-    let board = board_at_ends(rt, alloc, course, gate, checkpoint, plans, &feeds, named)?;
+    let board = board_at_ends(rt, alloc, inputs, gate, plans, &feeds)?;
     let checkpoint = checkpoint_of(alloc, &board)?;
-    let rows = rows_where(alloc, rows, &board)?;
     Ok(Followed {
         plan,
         checkpoint,
-        rows,
+        board,
     })
-}
-
-/// The rows of a board, where they are asked for. An error is want of memory.
-pub(crate) fn rows_where(
-    alloc: Global,
-    asked: bool,
-    board: &Board<'_>,
-) -> Result<Option<Rows>, AllocError>
-    ensures rows { IfOk result (λ found. IfSome found (λ rows. rows ≡ all_rows board.now.rows)) }
-    ensures asked { IfOk result (λ found. asked ≡ true → IsSome found) }
-{
-    if asked {
-        let rows = board.rows(alloc)?;
-        Ok(Some(rows))
-    } else {
-        Ok(None)
-    }
 }
 
 /// The board at the feeds' ends, from that of the checkpoint or from the beginning.
 fn board_at_ends<'h, R: Threads + Wait + Sync, G: Progress + Sync>(
     rt: &R,
     alloc: Global,
-    course: Course<'_>,
+    inputs: &FollowInputs<'_, '_>,
     gate: &G,
-    checkpoint: Option<&[u8]>,
     plans: Vec<Arc<Plan>>,
     feeds: &[Feed<'h>],
-    plan: Arc<Plan>,
 ) -> Result<Board<'h>, Unfollowed>
     requires some { 1 ≤ length plans.items }
     requires few { length plans.items ≤ 64 }
-    requires first { slice_get (map arc_value plans.items) 0 ≡ Some (arc_value plan) }
-    ensures taken_up { IfOk result (λ _. IsTakenUp (record { plans = map arc_value plans.items; feeds = feeds.now }) (option_map (λ bytes. bytes.now) checkpoint.entry)) }
+    ensures taken_up { IfOk result (λ _. IsTakenUp (record { plans = map arc_value plans.items; feeds = feeds.now }) (saved_asked inputs.now)) }
     ensures ends { IfOk result (IsAtFeedsEnds feeds.now) }
-    ensures refused { IfErr result (λ refusal. RefusesFollow refusal (Ok (record { plans = map arc_value plans.items; feeds = feeds.now })) (option_map (λ bytes. bytes.now) checkpoint.entry)) }
+    ensures refused { IfErr result (λ refusal. RefusesFollow refusal (Ok (record { plans = map arc_value plans.items; feeds = feeds.now })) (saved_asked inputs.now)) }
 {
-    let Some(bytes) = checkpoint else {
-        return match run_anew(rt, alloc, course, gate, plans, feeds) {
+    let plan = first_plan(&plans)?;
+    let Some(bytes) = inputs.checkpoint else {
+        return match run_streams(rt, alloc, inputs.course, gate, plans, feeds) {
             Ok(board) => Ok(board),
             Err(refusal) => Err(Unfollowed::Stream { plan, refusal }),
         };
@@ -201,39 +161,17 @@ fn board_at_ends<'h, R: Threads + Wait + Sync, G: Progress + Sync>(
         Ok(board) => board,
         Err(fault) => return Err(Unfollowed::Checkpoint { plan, fault }),
     };
-    match run_on_from(rt, alloc, course, gate, board, feeds) {
+    match run_on_from(rt, alloc, inputs.course, gate, board, feeds) {
         Ok(board) => Ok(board),
         Err(refusal) => Err(Unfollowed::Stream { plan, refusal }),
     }
 }
 
-/// All streams run to their feeds' ends, from a board of which nothing is read.
-fn run_anew<'h, R: Threads + Wait + Sync, G: Progress + Sync>(
-    rt: &R,
-    alloc: Global,
-    course: Course<'_>,
-    gate: &G,
-    plans: Vec<Arc<Plan>>,
-    feeds: &[Feed<'h>],
-) -> Result<Board<'h>, RunRefusal>
-    requires some { 1 ≤ length plans.items }
-    requires few { length plans.items ≤ 64 }
-    ensures ends { IfOk result (IsAtFeedsEnds feeds.now) }
-    ensures refused { IfErr result (IsRefusedRun (map arc_value plans.items) feeds.now) }
-{
-    if course.alone {
-        run_alone(alloc, plans, feeds, course.policy)
-    } else {
-        tell_feeds(gate, feeds);
-        run_parallel(rt, alloc, plans, feeds, course.policy, gate)
-    }
-}
-
-/// The same from a board that stands anywhere.
+/// The board behind a run of all streams to their feeds' ends, from one that stands anywhere.
 fn run_on_from<'h, R: Threads + Wait + Sync, G: Progress + Sync>(
     rt: &R,
     alloc: Global,
-    course: Course<'_>,
+    course: Course,
     gate: &G,
     board: Board<'h>,
     feeds: &[Feed<'h>],
@@ -243,10 +181,10 @@ fn run_on_from<'h, R: Threads + Wait + Sync, G: Progress + Sync>(
     ensures refused { IfErr result (EndsRun feeds.now) }
 {
     if course.alone {
-        run_board_alone(alloc, board, feeds, course.policy)
+        run_board_alone(alloc, board, feeds, &course.policy)
     } else {
         tell_feeds(gate, feeds);
-        run_board_parallel(rt, alloc, board, feeds, course.policy, gate)
+        run_board_parallel(rt, alloc, board, feeds, &course.policy, gate)
     }
 }
 

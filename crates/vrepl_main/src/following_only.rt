@@ -1,9 +1,8 @@
 //! The subcommand `follow` where streams are named that are to run alone.
 
-ghost use Rattle.std.specs.Prelude.{◌≡◌, ◌<◌, ◌≤◌, ℕ, nat_lt, true, Ok, Some, IfOk, IfErr, length, map, slice_get};
+ghost use Rattle.std.specs.Prelude.{◌≡◌, ◌<◌, ◌≤◌, ℕ, nat_lt, true, Ok, IfOk, IfErr, length, map};
 ghost use Rattle.std.specs.Arc.{arc_value};
 ghost use Rattle.std.specs.List.{list_all};
-ghost use Rattle.std.specs.Option.{option_map};
 ghost use Rattle.board_laws.specs.Meaning.{Meaning};
 ghost use Rattle.filter_rule.specs.WellFormed.{ArePlans};
 ghost use Rattle.apply_core.specs.Feeds.{AreFed};
@@ -13,15 +12,16 @@ ghost use Rattle.stream_worker.specs.RunRefused.{EndsRun};
 ghost use Rattle.stream_worker.specs.declared.run_refusal.RunRefusal.{RunRefusal};
 ghost use Rattle.vrepl_main.specs.Followed.{RefusesFollow};
 ghost use Rattle.vrepl_main.specs.Given.{given_value};
-ghost use Rattle.vrepl_main.specs.HexText.{feed_bytes};
+ghost use Rattle.vrepl_main.specs.NamedInputs.{only_asked, saved_asked};
 ghost use Rattle.vrepl_main.specs.OnlyFollowed.{IsMovedOn, IsOnlyFollowed, IsStart, have_streams, named_plans, opened_for};
 ghost use Rattle.vrepl_main.specs.OpenedFeeds.{opened_value};
 ghost use Rattle.vrepl_main.specs.Reasons.{GivesOfInputs};
 ghost use Rattle.vrepl_main.specs.declared.following.Unfollowed.TheVariants.{Stream};
 
 use crate::at_once::open_feeds_at_once;
-use crate::following::{Course, Followed, Unfollowed, rows_where};
-use crate::given::{GivenFeed, given_feeds};
+use crate::following::{Followed, Unfollowed};
+use crate::given::GivenFeed;
+use crate::named_inputs::FollowInputs;
 use crate::opened::{Opened, open_feeds};
 use crate::refusal::Refusal;
 use crate::stepping::first_plan;
@@ -39,50 +39,25 @@ use stream_worker::{Policy, run_streams_alone};
 /// have any feed, so that an empty one serves for each that isn't named.
 ///
 /// Refused 115 behind the workflow and before the feeds where a stream isn't there, and else as `follow` refuses.
-pub fn follow_only<R: Threads + Sync>(
+pub fn follow_only<'h, R: Threads + Sync>(
     rt: &R,
     alloc: Global,
-    hex: bool,
-    course: Course<'_>,
-    rows: bool,
+    inputs: &FollowInputs<'h, '_>,
     only: &[u8],
-    checkpoint: Option<&[u8]>,
-    workflow: &[u8],
-    feeds: &[Vec<u8>],
-) -> Result<Followed, Unfollowed>
-    ensures followed { IfOk result (IsOnlyFollowed (opened_for only.now workflow.now (map (feed_bytes hex) (map (λ feed. feed.items) feeds.now))) only.now (option_map (λ bytes. bytes.now) checkpoint.entry) rows) }
-    ensures refused { IfErr result (λ refusal. RefusesFollow refusal (opened_for only.now workflow.now (map (feed_bytes hex) (map (λ feed. feed.items) feeds.now))) (option_map (λ bytes. bytes.now) checkpoint.entry)) }
+) -> Result<Followed<'h>, Unfollowed>
+    ensures followed { IfOk result (IsOnlyFollowed (only_asked only.now inputs.now) only.now (saved_asked inputs.now)) }
+    ensures refused { IfErr result (λ refusal. RefusesFollow refusal (only_asked only.now inputs.now) (saved_asked inputs.now)) }
 {
-    let given = given_feeds(alloc, hex, feeds)?;
-    follow_given(rt, alloc, course, rows, only, checkpoint, workflow, &given)
-}
-
-/// The same over the bytes of the feeds.
-fn follow_given<R: Threads + Sync>(
-    rt: &R,
-    alloc: Global,
-    course: Course<'_>,
-    rows: bool,
-    only: &[u8],
-    checkpoint: Option<&[u8]>,
-    workflow: &[u8],
-    given: &[GivenFeed<'_>],
-) -> Result<Followed, Unfollowed>
-    ensures followed { IfOk result (IsOnlyFollowed (opened_for only.now workflow.now (map given_value given.now)) only.now (option_map (λ bytes. bytes.now) checkpoint.entry) rows) }
-    ensures refused { IfErr result (λ refusal. RefusesFollow refusal (opened_for only.now workflow.now (map given_value given.now)) (option_map (λ bytes. bytes.now) checkpoint.entry)) }
-{
-    let opened = open_for(rt, alloc, course.alone, only, workflow, given)?;
+    let course = inputs.course;
+    let opened = open_for(rt, alloc, course.alone, only, inputs.workflow, inputs.feeds)?;
     let Opened { plans, feeds } = opened;
     let plan = first_plan(&plans)?;
-    let named = Arc::clone(&plan)?;
-    let policy = course.policy;
-    let board = board_moved_on(alloc, policy, only, checkpoint, plans, &feeds, named)?;
+    let board = board_moved_on(alloc, inputs, only, plans, &feeds)?;
     let checkpoint = checkpoint_of(alloc, &board)?;
-    let rows = rows_where(alloc, rows, &board)?;
     Ok(Followed {
         plan,
         checkpoint,
-        rows,
+        board,
     })
 }
 
@@ -152,21 +127,20 @@ fn is_below(count: usize, number: u8) -> bool
 /// The board on which these streams have moved on, from that of the checkpoint or from the beginning.
 fn board_moved_on<'h>(
     alloc: Global,
-    policy: &Policy,
+    inputs: &FollowInputs<'_, '_>,
     only: &[u8],
-    checkpoint: Option<&[u8]>,
     plans: Vec<Arc<Plan>>,
     feeds: &[Feed<'h>],
-    plan: Arc<Plan>,
 ) -> Result<Board<'h>, Unfollowed>
     requires some { 1 ≤ length plans.items }
     requires few { length plans.items ≤ 64 }
-    requires first { slice_get (map arc_value plans.items) 0 ≡ Some (arc_value plan) }
     requires there { have_streams only.now (map arc_value plans.items) ≡ true }
-    ensures moved { IfOk result (λ board. (start : Meaning) × IsStart (record { plans = map arc_value plans.items; feeds = feeds.now }) (option_map (λ bytes. bytes.now) checkpoint.entry) start × IsMovedOn feeds.now only.now start board) }
-    ensures refused { IfErr result (λ refusal. RefusesFollow refusal (Ok (record { plans = map arc_value plans.items; feeds = feeds.now })) (option_map (λ bytes. bytes.now) checkpoint.entry)) }
+    ensures moved { IfOk result (λ board. (start : Meaning) × IsStart (record { plans = map arc_value plans.items; feeds = feeds.now }) (saved_asked inputs.now) start × IsMovedOn feeds.now only.now start board) }
+    ensures refused { IfErr result (λ refusal. RefusesFollow refusal (Ok (record { plans = map arc_value plans.items; feeds = feeds.now })) (saved_asked inputs.now)) }
 {
-    let Some(bytes) = checkpoint else {
+    let plan = first_plan(&plans)?;
+    let policy = &inputs.course.policy;
+    let Some(bytes) = inputs.checkpoint else {
         let board = fresh_board(alloc, plans, feeds)?;
         return move_on(alloc, policy, only, board, feeds, plan);
     };

@@ -34,7 +34,7 @@ mod state_text;
 mod stepping;
 
 pub use comparing::vdiff;
-pub use following::{Course, Followed, Unfollowed, follow, refuse_unfollowed};
+pub use following::{Followed, Unfollowed, follow, refuse_unfollowed};
 pub use following_only::follow_only;
 pub use given::{GivenFeed, given_feeds};
 pub use hex_text::{HexFault, bytes_of_hex};
@@ -43,14 +43,14 @@ pub use input_list::{run_inputs, vdiff_on};
 pub use joining::join;
 pub use keeping::keep_file;
 pub use named_inputs::{
-    Inputs, JoinFiles, JoinInputs, ResumeInputs, RunInputs, read_join, read_resume, read_run,
-    read_step,
+    Course, FollowInputs, Inputs, JoinFiles, JoinInputs, ResumeInputs, RunInputs, read_join,
+    read_resume, read_run, read_step,
 };
 pub use opened::open_workflow;
 pub use progress::{Progress, Untold};
 pub use refusal::{Refusal, refuse};
 pub use resuming::resume;
-pub use running::{run, run_on};
+pub use running::run;
 pub use saving::save;
 pub use showing::show;
 pub use stepping::step;

@@ -3,9 +3,10 @@
 ghost use Rattle.std.specs.Prelude.{◌≡◌, [], option_map};
 ghost use Rattle.std.specs.Option.{option_map_or};
 ghost use Rattle.vdiff_core.specs.Dump.{dump_of};
+ghost use Rattle.apply_core.specs.Shown.{all_rows};
 ghost use Rattle.vrepl_main.specs.Adding.{AddsText, at};
 ghost use Rattle.vrepl_main.specs.ScriptRun.{AnswersStep, answers, byte_of, reply_text, standing_in, standing_reply, where_of};
-ghost use Rattle.vrepl_main.specs.ScriptPrinting.{Replies, PrintsRows};
+ghost use Rattle.vrepl_main.specs.ScriptPrinting.{Replies};
 
 use crate::answer_text::print_answer;
 use crate::refusal_line::print_refused;
@@ -17,7 +18,7 @@ use source_feed::Feed;
 use std::alloc::Global;
 use step_script::ScriptStep;
 use stream_core::{Cursor, Step};
-use vdiff_core::{Gathered, Out, OutFailed, Rows, write_dump};
+use vdiff_core::{Gathered, Out, OutFailed};
 
 /// Takes what a line of a script says on a board, and adds its reply.
 pub(crate) fn take_line<'h, W: Out>(
@@ -37,7 +38,7 @@ pub(crate) fn take_line<'h, W: Out>(
             print_answer_or_refusal(out, text, plan, &answer)
         }
         ScriptStep::State { stream } => print_standing(out, text, plan, board, stream),
-        ScriptStep::Dump => print_rows(alloc, out, text, plan, board),
+        ScriptStep::Dump => print_rows(out, text, plan, board),
     }
 }
 
@@ -118,36 +119,15 @@ fn print_standing<W: Out>(
     }
 }
 
-/// Adds all rows of the target, or the line of want of memory.
+/// Adds all rows of the target, as they lie in the board: none is copied.
 fn print_rows<W: Out>(
-    alloc: Global,
     out: &mut W,
     text: &mut Gathered,
     plan: &Plan,
     board: &Board<'_>,
 ) -> Result<(), OutFailed>
-    ensures { PrintsRows result plan.now board.now (at (W.written out.old) text.old) (at (W.written out.new) text.new) }
-{
-    match board.rows(alloc) {
-        Ok(rows) => print_dump(out, text, plan, &rows),
-        Err(_) => print_refused(
-            out,
-            text,
-            plan.tables(),
-            &StepRefusal::Refused(Refusal::Memory),
-        ),
-    }
-}
-
-/// Adds the dump of rows.
-fn print_dump<W: Out>(
-    out: &mut W,
-    text: &mut Gathered,
-    plan: &Plan,
-    rows: &Rows,
-) -> Result<(), OutFailed>
-    ensures { AddsText result (at (W.written out.old) text.old) (at (W.written out.new) text.new) (dump_of plan.now rows.now) }
+    ensures { AddsText result (at (W.written out.old) text.old) (at (W.written out.new) text.new) (dump_of plan.now (all_rows board.now.rows)) }
 {
     text.finish(out)?;
-    write_dump(out, plan, rows)
+    board.write_dump(out, plan)
 }

@@ -4,14 +4,27 @@ ghost use Rattle.std.specs.Prelude.{◌≡◌, ◌∷◌, ◌++◌, [], length, 
 ghost use Rattle.vrepl_main.specs.Inputs.{IsUnreadAmong};
 ghost use Rattle.vrepl_main.specs.declared.input.InputName.TheVariants.{File, Standard};
 
+use crate::given::GivenFeed;
 use crate::input::{InputName, read_input, read_inputs};
 use crate::input_list::{file_names, run_inputs};
 use crate::refusal::Refusal;
 use std::rt::Files;
+use stream_worker::Policy;
+
+/// How streams are run.
+#[derive(Clone, Copy)]
+pub struct Course {
+    /// Whether they run one after another, and not in threads.
+    pub alone: bool,
+    /// In what portions.
+    pub policy: Policy,
+}
 
 /// The inputs of `run`.
 #[derive(Drop)]
 pub struct RunInputs {
+    /// How the streams are run.
+    pub course: Course,
     /// Whether the feeds are hexadecimal text.
     pub hex: bool,
     /// The workflow's file.
@@ -40,6 +53,19 @@ pub struct ResumeInputs {
     pub checkpoint: Vec<u8>,
     /// The others, which are those of `step`.
     pub step: Inputs,
+}
+
+/// The inputs of `follow`, of whose feeds the bytes are given, since the board behind them lies over these.
+#[derive(Clone, Copy)]
+pub struct FollowInputs<'h, 'f> {
+    /// How the streams are run.
+    pub course: Course,
+    /// The checkpoint that is moved on, never hexadecimal text; none for one from the beginning.
+    pub checkpoint: Option<&'h [u8]>,
+    /// The workflow's file.
+    pub workflow: &'h [u8],
+    /// The bytes of the feeds, one in the order of the streams each.
+    pub feeds: &'h [GivenFeed<'f>],
 }
 
 /// The inputs of `join`.
@@ -76,16 +102,19 @@ pub struct JoinFiles<'n, 'w> {
 /// then no later one is asked for.
 pub fn read_run<'w, R: Files + Input + AllocGlobal>(
     rt: &R,
+    course: Course,
     hex: bool,
     workflow: &'w str,
     feeds: &[&'w str],
 ) -> Result<RunInputs, Refusal<'w>>
+    ensures course { IfOk result (λ inputs. inputs.course ≡ course) }
     ensures hex { IfOk result (λ inputs. inputs.hex ≡ hex) }
     ensures refused { IfErr result (IsUnreadAmong (File workflow.entry ∷ map File feeds.now)) }
 {
     let plans = read_input(rt, InputName::File(workflow))?;
     let texts = read_files(rt, feeds)?;
     Ok(RunInputs {
+        course,
         hex,
         workflow: plans,
         feeds: texts,

@@ -5,14 +5,14 @@ ghost use Rattle.std.specs.Arc.{arc_value};
 ghost use Rattle.vdiff_core.specs.Dump.{dump_of};
 ghost use Rattle.vdiff_core.specs.Printing.{Prints};
 ghost use Rattle.apply_core.specs.Shown.{all_rows};
-ghost use Rattle.stream_worker.specs.Ended.{IsRowsUnion};
 ghost use Rattle.stream_worker.specs.RunRefused.{IsRefusedRun};
 ghost use Rattle.vrepl_main.specs.Command.{IsUnwritten};
+ghost use Rattle.vrepl_main.specs.Followed.{IsAtFeedsEnds};
 ghost use Rattle.vrepl_main.specs.Given.{given_value};
 ghost use Rattle.filter_rule.specs.WellFormed.{ArePlans};
 ghost use Rattle.vrepl_main.specs.NamedInputs.{opened_asked};
 ghost use Rattle.vrepl_main.specs.OpenedFeeds.{opened_value};
-ghost use Rattle.vrepl_main.specs.Opening.{opened, opened_bytes};
+ghost use Rattle.vrepl_main.specs.Opening.{opened_bytes};
 ghost use Rattle.vrepl_main.specs.Reasons.{GivesOfInputs};
 ghost use Rattle.vrepl_main.specs.Printing.{PrintsOrBreaks};
 ghost use Rattle.vrepl_main.specs.RefusedText.{refused_text};
@@ -20,7 +20,7 @@ ghost use Rattle.vrepl_main.specs.Running.{IsFilled, IsUnfilled, PrintsDump, Ref
 
 use crate::at_once::open_at_once;
 use crate::given::{GivenFeed, given_feeds};
-use crate::named_inputs::RunInputs;
+use crate::named_inputs::{Course, RunInputs};
 use crate::opened::{Opened, open_workflow};
 use crate::progress::{Progress, tell_feeds};
 use crate::refusal::{Refusal, refuse};
@@ -33,7 +33,7 @@ use source_feed::Feed;
 use std::alloc::Global;
 use std::sync::{Arc, Wait};
 use std::thread::Threads;
-use stream_worker::{Policy, RunRefusal, run_alone, run_parallel};
+use stream_worker::{RunRefusal, run_alone, run_parallel};
 use vdiff_core::Out;
 
 /// Why a run prints no dump.
@@ -52,41 +52,14 @@ pub enum RunFault {
 
 /// Runs all streams of a workflow over its feeds, one in the order of the streams each, to their ends, and prints
 /// the dump of the target's rows on `out`; or prints the line of a refusal on `err` and then nothing on `out`, unless it
-/// is `out` that can't be written. The streams run one after another where `alone` is set, and else each in a thread of
-/// its own, and then the gate is told of each group on its way. Where `hex` is set feeds are hexadecimal text. Answers the
-/// status: 0, or 1 after a refusal, also of memory.
+/// is `out` that can't be written. The streams run one after another where the course is `alone`, and else each in a
+/// thread of its own, and then the gate is told of each group on its way. Answers the status: 0, or 1 after a refusal,
+/// also of memory.
 pub fn run<R: Threads + Wait + Sync, G: Progress + Sync, W: Out, E: Out>(
     rt: &R,
     alloc: Global,
-    hex: bool,
-    alone: bool,
-    policy: &Policy,
-    gate: &G,
-    workflow: &[u8],
-    feeds: &[Vec<u8>],
-    out: &mut W,
-    err: &mut E,
-) -> u8
-    ensures status { (result ≡ 0) ⊎ (result ≡ 1) }
-    ensures printed { result ≡ 0 → PrintsDump (opened hex workflow.now (map (λ feed. feed.items) feeds.now)) (W.written out.old) (W.written out.new) }
-    ensures quiet { result ≡ 0 → err.new ≡ err.old }
-    ensures refused { result ≡ 1 → PrintsRunRefusal (opened hex workflow.now (map (λ feed. feed.items) feeds.now)) (W.written out.old) (W.written out.new) (E.written err.old) (E.written err.new) }
-{
-    match print_run(rt, alloc, hex, alone, policy, gate, workflow, feeds, out) {
-        Ok(()) => 0,
-        Err(RunFault::Given(refusal)) => refuse(err, &refusal),
-        Err(RunFault::Stream { plan, refusal }) => refuse_run(err, &plan, refusal),
-    }
-}
-
-/// The same over inputs by their names.
-pub fn run_on<R: Threads + Wait + Sync, G: Progress + Sync, W: Out, E: Out>(
-    rt: &R,
-    alloc: Global,
-    alone: bool,
-    policy: &Policy,
-    gate: &G,
     inputs: &RunInputs,
+    gate: &G,
     out: &mut W,
     err: &mut E,
 ) -> u8
@@ -95,18 +68,11 @@ pub fn run_on<R: Threads + Wait + Sync, G: Progress + Sync, W: Out, E: Out>(
     ensures quiet { result ≡ 0 → err.new ≡ err.old }
     ensures refused { result ≡ 1 → PrintsRunRefusal (opened_asked inputs.now) (W.written out.old) (W.written out.new) (E.written err.old) (E.written err.new) }
 {
-    run(
-        rt,
-        alloc,
-        inputs.hex,
-        alone,
-        policy,
-        gate,
-        &inputs.workflow,
-        &inputs.feeds,
-        out,
-        err,
-    )
+    match print_run(rt, alloc, inputs, gate, out) {
+        Ok(()) => 0,
+        Err(RunFault::Given(refusal)) => refuse(err, &refusal),
+        Err(RunFault::Stream { plan, refusal }) => refuse_run(err, &plan, refusal),
+    }
 }
 
 /// The refusal of a run, as that of a step.
@@ -139,21 +105,17 @@ pub(crate) fn refuse_run<E: Out>(err: &mut E, plan: &Plan, refusal: RunRefusal) 
 fn print_run<R: Threads + Wait + Sync, G: Progress + Sync, W: Out>(
     rt: &R,
     alloc: Global,
-    hex: bool,
-    alone: bool,
-    policy: &Policy,
+    inputs: &RunInputs,
     gate: &G,
-    workflow: &[u8],
-    feeds: &[Vec<u8>],
     out: &mut W,
 ) -> Result<(), RunFault>
-    ensures printed { OnOk result (PrintsDump (opened hex workflow.now (map (λ feed. feed.items) feeds.now)) (W.written out.old) (W.written out.new)) }
-    ensures refused { IfErr result (λ fault. RefusesRun fault (opened hex workflow.now (map (λ feed. feed.items) feeds.now)) (W.written out.old) (W.written out.new)) }
+    ensures printed { OnOk result (PrintsDump (opened_asked inputs.now) (W.written out.old) (W.written out.new)) }
+    ensures refused { IfErr result (λ fault. RefusesRun fault (opened_asked inputs.now) (W.written out.old) (W.written out.new)) }
 {
-    let Ok(given) = given_feeds(alloc, hex, feeds) else {
+    let Ok(given) = given_feeds(alloc, inputs.hex, &inputs.feeds) else {
         return Err(RunFault::Given(Refusal::Memory));
     };
-    let (plan, board) = filled_board(rt, alloc, alone, policy, gate, workflow, &given)?;
+    let (plan, board) = filled_board(rt, alloc, inputs, gate, &given)?;
     match print_rows(out, &plan, &board) {
         Ok(()) => Ok(()),
         Err(refusal) => Err(RunFault::Given(refusal)),
@@ -173,16 +135,15 @@ fn print_rows<W: Out>(out: &mut W, plan: &Plan, board: &Board<'_>) -> Result<(),
 fn filled_board<'h, R: Threads + Wait + Sync, G: Progress + Sync>(
     rt: &R,
     alloc: Global,
-    alone: bool,
-    policy: &Policy,
+    inputs: &RunInputs,
     gate: &G,
-    workflow: &[u8],
     given: &'h [GivenFeed<'_>],
 ) -> Result<(Arc<Plan>, Board<'h>), RunFault>
-    ensures filled { IfOk result (λ filled. IsFilled (opened_bytes workflow.now (map given_value given.entry.now)) (record { plan = arc_value filled.0; rows = all_rows filled.1.rows })) }
-    ensures refused { IfErr result (λ fault. IsUnfilled fault (opened_bytes workflow.now (map given_value given.entry.now))) }
+    ensures filled { IfOk result (λ filled. IsFilled (opened_bytes inputs.now.workflow.items (map given_value given.entry.now)) (record { plan = arc_value filled.0; rows = all_rows filled.1.rows })) }
+    ensures refused { IfErr result (λ fault. IsUnfilled fault (opened_bytes inputs.now.workflow.items (map given_value given.entry.now))) }
 {
-    let opened = match open_streams(rt, alloc, alone, workflow, given) {
+    let course = inputs.course;
+    let opened = match open_streams(rt, alloc, course.alone, &inputs.workflow, given) {
         Ok(opened) => opened,
         Err(refusal) => return Err(RunFault::Given(refusal)),
     };
@@ -190,7 +151,7 @@ fn filled_board<'h, R: Threads + Wait + Sync, G: Progress + Sync>(
     let Ok(plan) = first_plan(&plans) else {
         return Err(RunFault::Given(Refusal::Memory));
     };
-    match run_streams(rt, alloc, alone, plans, &feeds, policy, gate) {
+    match run_streams(rt, alloc, course, gate, plans, &feeds) {
         Err(refusal) => Err(RunFault::Stream { plan, refusal }),
         Ok(board) => Ok((plan, board)),
     }
@@ -214,25 +175,24 @@ pub(crate) fn open_streams<'h, R: Threads + Sync>(
     }
 }
 
-/// The board behind a run of all streams.
-fn run_streams<'h, R: Threads + Wait + Sync, G: Progress + Sync>(
+/// The board behind a run of all streams to their feeds' ends, from one of which nothing is read.
+pub(crate) fn run_streams<'h, R: Threads + Wait + Sync, G: Progress + Sync>(
     rt: &R,
     alloc: Global,
-    alone: bool,
+    course: Course,
+    gate: &G,
     plans: Vec<Arc<Plan>>,
     feeds: &[Feed<'h>],
-    policy: &Policy,
-    gate: &G,
 ) -> Result<Board<'h>, RunRefusal>
     requires some { 1 ≤ length plans.items }
     requires few { length plans.items ≤ 64 }
-    ensures rows { IfOk result (λ board. IsRowsUnion feeds.now (all_rows board.rows)) }
+    ensures ends { IfOk result (IsAtFeedsEnds feeds.now) }
     ensures refused { IfErr result (IsRefusedRun (map arc_value plans.items) feeds.now) }
 {
-    if alone {
-        run_alone(alloc, plans, feeds, policy)
+    if course.alone {
+        run_alone(alloc, plans, feeds, &course.policy)
     } else {
         tell_feeds(gate, feeds);
-        run_parallel(rt, alloc, plans, feeds, policy, gate)
+        run_parallel(rt, alloc, plans, feeds, &course.policy, gate)
     }
 }

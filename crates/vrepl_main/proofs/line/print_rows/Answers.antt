@@ -1,20 +1,22 @@
-use Rattle.std.proofs.Common.{◌≡◌, refl, subst, List, Result, Err}
-use Rattle.filter_rule.specs.PlanTable.{TableValue}
-use Rattle.filter_rule.specs.PlanValue.{PlanValue}
-use Rattle.vrepl_main.specs.Adding.{WriterPlace, AddsText}
-use Rattle.vrepl_main.specs.RefusedText.{refused_text}
-use Rattle.board_laws.specs.declared.refusal.Refusal.TheVariants.{Memory}
-use Rattle.board_laws.specs.declared.step_refusal.StepRefusal.TheVariants.{Refused}
-use Rattle.vrepl_main.specs.ScriptRun.{answers, shows, reply_text}
+use Rattle.std.proofs.Common.{[], Err}
+use Rattle.std.proofs.lemmas.Result.{err_from_is_err_and}
+use Rattle.apply_core.specs.Shown.{all_rows}
+use Rattle.vdiff_core.specs.Dump.{dump_of}
+use Rattle.vdiff_core.proofs.PrintLaws.{adds_none_written, first_breaks, prints_adds, then_adds}
+use Rattle.vrepl_main.proofs.AddLaws.{added}
 use Rattle.vrepl_main.proofs.line.print_rows.Goals as goal
 
--- want of memory, said by the plan's tables
-told : {X E : Type 0} (result : Result X E) (plan : PlanValue) (tables : List TableValue) (before after : WriterPlace) → tables ≡ plan.tables → AddsText result before after (refused_text tables (Refused Memory))
-    → AddsText result before after (reply_text plan (answers (Err (Refused Memory))))
-told result plan tables before after is added = subst (λ (ts : List TableValue). AddsText result before after (refused_text ts (Refused Memory))) is added
+pub returns-in_err-finish : goal.returns-in_err-finish
+returns-in_err-finish g c =
+    let text = dump_of c.args.plan.now (all_rows c.args.board.now.rows) in
+    let p = err_from_is_err_and c.from_residual.result c.from_residual.ensures.1 in
+    rw p.1 (added {X = Unit {0}} (Err p.0) _ c.args.text.now _ _ text (first_breaks _ _ c.args.text.now text c.in_err-finish.ensures.printed))
 
-pub returns-in-Ok : goal.returns-in-Ok
-returns-in-Ok g c = (shows _, c.in-Ok.ensures, c.print_dump.ensures)
-
-pub returns-in-Err : goal.returns-in-Err
-returns-in-Err g c = (answers (Err (Refused Memory)), refl, told c.print_refused.result c.args.plan.now _ _ _ c.tables.ensures.tables c.print_refused.ensures)
+pub returns : goal.returns
+returns g c =
+    let text = dump_of c.args.plan.now (all_rows c.args.board.now.rows) in
+    rw c.in_ok-finish.ensures.empty
+    (added c.write_dump.result _ c.args.text.now _ [] text
+    (then_adds c.write_dump.result _ c.args.text.now _ [] _ [] [] text
+    (adds_none_written _ _ c.args.text.now c.in_ok-finish.ensures.printed)
+    (prints_adds c.write_dump.result _ _ text c.write_dump.ensures)))
