@@ -1,11 +1,12 @@
 -- What the words that were read ask for of the inputs.
-use Rattle.std.specs.Prelude.{ℕ, List, Result, Bool, false, codes, if◌then◌else◌}
+use Rattle.std.specs.Prelude.{◌≡◌, ℕ, List, Result, Bool, false, codes, if◌then◌else◌}
 use Rattle.std.specs.Str.{bytes_eq}
 use Rattle.vrepl_main.specs.Reasons.{Reason}
 use Rattle.vrepl_main.specs.Show.{shown_feed}
-use Rattle.vrepl_main.specs.InputList.{source_input, target_of}
-use Rattle.vrepl_vdiff.specs.NamedDump.{NamedDump}
+use Rattle.vrepl_check.specs.declared.inputs.CheckInputs.{CheckInputs}
+use Rattle.vrepl_vdiff.specs.declared.inputs.VdiffInputs.{VdiffInputs}
 use Rattle.vrepl_vdiff.specs.declared.options.Options.{Options}
+use Rattle.vrepl_words.specs.declared.words.Check.{Check}
 use Rattle.vrepl_words.specs.declared.words.Show.{Show}
 use Rattle.vrepl_words.specs.declared.words.Vdiff.{Vdiff}
 
@@ -21,9 +22,10 @@ is_other source target = if bytes_eq source (codes "-") then false else bytes_eq
 abbrev pub options_asked : Vdiff → Options
 options_asked words = record { tables = words.tables; first = words.first; json = words.json }
 
--- the dumps that they name, among the inputs
-abbrev pub source_named : Vdiff → List (List ℕ) → NamedDump
-source_named words inputs = record { name = words.source.now; text = source_input inputs }
+-- the inputs are those that these words ask for, by the names that they give the dumps
+abbrev pub IsVdiffAsked : Vdiff → VdiffInputs → Type 0
+IsVdiffAsked words inputs = (inputs.options ≡ options_asked words) × (inputs.source.name ≡ words.source.now) × (inputs.target.name ≡ words.target.now)
 
-abbrev pub target_named : Vdiff → List (List ℕ) → NamedDump
-target_named words inputs = record { name = words.target.now; text = target_of inputs }
+-- the same of the words of `check`, by the names of the feeds' files
+abbrev pub IsCheckAsked : Check → CheckInputs → Type 0
+IsCheckAsked words inputs = (inputs.json ≡ words.json) × (inputs.hex ≡ words.step.hex) × (inputs.files.now ≡ words.step.feeds.items)

@@ -1,7 +1,7 @@
 -- A report on feeds, by what opening and checking them give.
-use Rattle.std.proofs.Common.{arith, ◌≡◌, ◌∙◌, ◌-◌, ◌≤◌, ℕ, Bool, List, [], drop, get_or, length, refl, sym, take, ap, subst, map, Option, Some, None, Result, Ok, Err}
-use Rattle.std.specs.Prelude.{MatchOption, IfSome}
-use Rattle.std.proofs.lemmas.List.{drop-map, get_or-map, length-drop, take_all}
+use Rattle.std.proofs.Common.{◌≡◌, ◌∙◌, ℕ, Bool, List, [], sym, ap, subst, map, Option, Some, None, Result, Ok, Err}
+use Rattle.std.specs.Global.{Vec}
+use Rattle.std.specs.Prelude.{MatchOption}
 use Rattle.outcome.specs.Outcome as outcome
 use Rattle.outcome.specs.Outcome.{◌>>=◌}
 use Rattle.source_feed.specs.FaultNumber as feed
@@ -11,14 +11,14 @@ use Rattle.feed_check.specs.Checked.{CheckedValue, checked_feeds}
 use Rattle.feed_check.specs.Report.{ReportValue}
 use Rattle.check_said.specs.Said.{said_of}
 use Rattle.vrepl_main.specs.HexText.{feed_bytes}
-use Rattle.vrepl_main.specs.InputList.{workflow_of}
 use Rattle.vrepl_main.specs.Opening.{OpenedValue}
 use Rattle.vrepl_main.specs.Reasons.{Reason, reason_of, RefusesInputs}
 use Rattle.vrepl_main.specs.RefusalOf.{refusal_of_feed}
 use Rattle.vrepl_main.specs.declared.refusal.Refusal.{Refusal}
 use Rattle.vrepl_main.specs.declared.refusal.Refusal.TheVariants.{Memory, Workflow, FeedCount, Feed, BadHex, BadScript, BadDump, CannotRead, CannotWrite}
 use Rattle.std.proofs.lemmas.Simd.{map-map}
-use Rattle.vrepl_check.specs.Checking.{IsWarned, bytes_or_none, said_checks, report_with, report_given, report_asked, report_bytes}
+use Rattle.vrepl_check.specs.Checking.{IsWarned, bytes_or_none, said_checks, report_with, report_asked, report_of_feeds}
+use Rattle.vrepl_check.specs.declared.inputs.CheckInputs.{CheckInputs}
 
 -- what refuses a step refuses what is made of it
 behind : {X Y : Type 0} (o : Option Reason) (reading : Result X Reason) (f : X → Result Y Reason) → MatchOption o ⊥ (λ reason. reading ≡ Err reason) → MatchOption o ⊥ (λ reason. (reading >>= f) ≡ Err reason)
@@ -39,10 +39,8 @@ refuses_checks json files workflow fault.Memory reading is = tt
 refuses_checks json files workflow other reading is = ap (λ (r : Result (List CheckedValue) FeedFault). said_checks r >>= λ checks. gives (said_of json workflow files checks)) is
 
 -- feeds as they are given
-pub given_as : {A : Type 0} (feeds : List A) (view : A → List ℕ) (json hex : Bool) (files : List (List ℕ)) (workflow : List ℕ) (given : List (Option (List ℕ))) → given ≡ map (λ feed. feed_bytes hex (view feed)) feeds
-    → report_bytes json files workflow given ≡ report_given json hex files workflow (map view feeds)
-given_as feeds view json hex files workflow given is =
-    ap (λ (bytes : List (Option (List ℕ))). report_bytes json files workflow bytes) (is ∙ sym (map-map (feed_bytes hex) view feeds))
+pub given_as : (inputs : CheckInputs) (given : List (Option (List ℕ))) → given ≡ map (λ (feed : Vec ℕ). feed_bytes inputs.hex feed.items) inputs.feeds.items → report_of_feeds inputs given ≡ report_asked inputs
+given_as inputs given is = ap (report_of_feeds inputs) (is ∙ sym (map-map (feed_bytes inputs.hex) (λ (feed : Vec ℕ). feed.items) inputs.feeds.items))
 
 -- the same of feeds that were opened
 pub refused_checks : (json : Bool) (files : List (List ℕ)) (workflow : List ℕ) (given : List (Option (List ℕ))) (reading : Result OpenedValue Reason) (opened : OpenedValue) (fault : FeedFault) → reading ≡ Ok opened
@@ -61,13 +59,3 @@ report_is json files workflow given reading opened checks report is checked made
 -- whether it warns
 pub warned_as : (reading : Result ReportValue Reason) (report : ReportValue) (warned : Bool) → reading ≡ Ok report → warned ≡ report.warned → IsWarned warned reading
 warned_as reading report warned is says = subst (λ (r : Result ReportValue Reason). IsWarned warned r) (sym is) (sym says)
-
--- what stands first in the inputs, and the feeds behind it
-pub asked_is : {X : Type 0} (f : X → List ℕ) (json hex : Bool) (files : List (List ℕ)) (inputs : List X) (first : X) (workflow : List ℕ) → 1 ≤ length inputs
-    → first ≡ get_or inputs 0 first → workflow ≡ f first → report_given json hex files workflow (map f (take (length inputs - 1) (drop 1 inputs))) ≡ report_asked json hex files (map f inputs)
-asked_is {X} f json hex files inputs first workflow some at_front front =
-    let all : take (length inputs - 1) (drop 1 inputs) ≡ drop 1 inputs = take_all (length inputs - 1) (drop 1 inputs) (omega (arith, length-drop 1 inputs)) in
-    let place : workflow ≡ workflow_of (map f inputs) = front ∙ ap f at_front ∙ sym (get_or-map f inputs 0 first [] (omega (arith, some))) in
-    ap (λ (l : List X). report_given json hex files workflow (map f l)) all
-    ∙ ap (λ x. report_given json hex files x (map f (drop 1 inputs))) place
-    ∙ ap (report_given json hex files (workflow_of (map f inputs))) (sym (drop-map f 1 inputs))

@@ -1,14 +1,15 @@
 -- What the command `check` prints of a workflow and its feeds, and its verdict (this profile).
-use Rattle.std.specs.Prelude.{◌≡◌, ℕ, Bool, List, [], map, drop, Option, None, Some, Result, Ok, Err}
+use Rattle.std.specs.Prelude.{◌≡◌, ℕ, Bool, List, [], map, Option, None, Some, Result, Ok, Err}
 use Rattle.outcome.specs.Outcome.{◌>>=◌}
 use Rattle.source_feed.specs.declared.fault.FeedFault.{FeedFault}
 use Rattle.feed_check.specs.Checked.{CheckedValue, checked_feeds}
 use Rattle.feed_check.specs.Report.{ReportValue}
 use Rattle.check_said.specs.Said.{said_of}
 use Rattle.vrepl_main.specs.HexText.{feed_bytes}
-use Rattle.vrepl_main.specs.InputList.{workflow_of}
+use Rattle.vrepl_main.specs.InputList.{bytes_of}
 use Rattle.vrepl_main.specs.Opening.{OpenedValue, opened_bytes}
 use Rattle.vrepl_main.specs.Reasons.{Reason, bad_feed}
+use Rattle.vrepl_check.specs.declared.inputs.CheckInputs.{CheckInputs}
 
 -- the bytes of a feed; a workflow isn't opened over what has none
 abbrev pub bytes_or_none : Option (List ℕ) → List ℕ
@@ -24,18 +25,17 @@ said_checks (Err fault) = Err (bad_feed fault)
 abbrev pub report_with : Bool → List (List ℕ) → List ℕ → List (Option (List ℕ)) → OpenedValue → Result ReportValue Reason
 report_with json files workflow given opened = said_checks (checked_feeds (map bytes_or_none given) opened.feeds) >>= λ checks. Ok (said_of json workflow files checks)
 
--- the report on a workflow and its feeds, whose files have these names, as JSON where that is asked for; the faults of
--- opening them come first
-abbrev pub report_bytes : Bool → List (List ℕ) → List ℕ → List (Option (List ℕ)) → Result ReportValue Reason
-report_bytes json files workflow given = opened_bytes workflow given >>= report_with json files workflow given
+-- the names of the feeds' files
+abbrev pub names_of : CheckInputs → List (List ℕ)
+names_of inputs = map (λ file. file.now) inputs.files.now
 
--- the same of feeds that may be given as hexadecimal text
-abbrev pub report_given : Bool → Bool → List (List ℕ) → List ℕ → List (List ℕ) → Result ReportValue Reason
-report_given json hex files workflow feeds = report_bytes json files workflow (map (feed_bytes hex) feeds)
+-- the report on a workflow with feeds of these bytes, as JSON where that is asked for; the faults of opening them come first
+abbrev pub report_of_feeds : CheckInputs → List (Option (List ℕ)) → Result ReportValue Reason
+report_of_feeds inputs given = opened_bytes inputs.workflow.items given >>= report_with inputs.json (names_of inputs) inputs.workflow.items given
 
--- the workflow stands first, and the feeds behind it
-abbrev pub report_asked : Bool → Bool → List (List ℕ) → List (List ℕ) → Result ReportValue Reason
-report_asked json hex files inputs = report_given json hex files (workflow_of inputs) (drop 1 inputs)
+-- the report on a workflow with its feeds, which may be given as hexadecimal text
+abbrev pub report_asked : CheckInputs → Result ReportValue Reason
+report_asked inputs = report_of_feeds inputs (map (feed_bytes inputs.hex) (bytes_of inputs.feeds.items))
 
 -- the text of a report
 abbrev pub text_of_report : Result ReportValue Reason → Result (List ℕ) Reason

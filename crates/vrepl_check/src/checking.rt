@@ -1,40 +1,17 @@
 //! The subcommand `check`: what stands in feeds, and warnings of what can't be so.
 
-ghost use Rattle.std.specs.Prelude.{◌≡◌, ◌≢◌, ◌≤◌, ◌⊎◌, false, true, IfOk, IfErr, length, map};
+ghost use Rattle.std.specs.Prelude.{◌≡◌, ◌≢◌, ◌⊎◌, false, true, IfOk, IfErr, map};
 ghost use Rattle.vrepl_main.specs.Command.{IsGivenText, PrintsWhole, PrintsRefusal, RefusesCommand};
 ghost use Rattle.vrepl_main.specs.Given.{given_value};
-ghost use Rattle.vrepl_main.specs.InputList.{bytes_of};
 ghost use Rattle.vrepl_main.specs.Reasons.{GivesOfInputs};
-ghost use Rattle.vrepl_check.specs.Checking.{bytes_or_none, report_bytes, report_given, report_asked, text_of_report, IsWarned};
+ghost use Rattle.vrepl_check.specs.Checking.{bytes_or_none, report_of_feeds, report_asked, text_of_report, IsWarned};
 
+use crate::inputs::CheckInputs;
 use check_said::Said;
 use feed_check::check_feeds;
 use std::alloc::{AllocError, Global};
 use vdiff_core::{Out, put_all};
 use vrepl_main::{GivenFeed, Refusal, given_feeds, open_workflow, refuse};
-
-/// Checks the feeds of the workflow, which is the first input; they stand behind it, and their files have these
-/// names. Else as `check`.
-pub fn check_on<W: Out, E: Out>(
-    alloc: Global,
-    json: bool,
-    hex: bool,
-    files: &[&str],
-    inputs: &[Vec<u8>],
-    out: &mut W,
-    err: &mut E,
-) -> u8
-    requires { 1 ≤ length inputs.now }
-    ensures status { (result ≡ 0) ⊎ (result ≡ 1) ⊎ (result ≡ 3) }
-    ensures sound { result ≡ 0 → IsWarned false (report_asked json hex (map (λ file. file.now) files.now) (bytes_of inputs.now)) }
-    ensures warned { result ≡ 3 → IsWarned true (report_asked json hex (map (λ file. file.now) files.now) (bytes_of inputs.now)) }
-    ensures printed { result ≢ 1 → PrintsWhole (text_of_report (report_asked json hex (map (λ file. file.now) files.now) (bytes_of inputs.now))) (W.written out.old) (W.written out.new) }
-    ensures quiet { result ≢ 1 → err.new ≡ err.old }
-    ensures refused { result ≡ 1 → PrintsRefusal IsGivenText (text_of_report (report_asked json hex (map (λ file. file.now) files.now) (bytes_of inputs.now))) (W.written out.old) (W.written out.new) (E.written err.old) (E.written err.new) }
-{
-    let feeds = &inputs[1..];
-    check(alloc, json, hex, files, &inputs[0], feeds, out, err)
-}
 
 /// Checks a workflow with its feeds, one in the order of the streams each, and prints on `out` a line for each
 /// table of each stream with the rows that the stream passes, then a line for each stream and a line for each of
@@ -43,27 +20,22 @@ pub fn check_on<W: Out, E: Out>(
 /// them leave, with the first ten of each kind, and of what the workflow's file says in vain. Or prints the line of a
 /// refusal on `err` and then nothing on `out`, unless it is `out` that can't be written. The faults are found
 /// in this order: those of opening the workflow with its feeds, as `run` finds them; then of each feed the
-/// first group that isn't sound. Where `hex` is set feeds are hexadecimal text; where `json` is set all is one
-/// line of JSON, which has every thing that is told and not the first ten of a kind. Answers the status: 0 where
-/// nothing is warned of, 3 where something is, 1 after a refusal, also of memory.
+/// first group that isn't sound. As JSON all is one line, which has every thing that is told and not the first ten of
+/// a kind. Answers the status: 0 where nothing is warned of, 3 where something is, 1 after a refusal, also of memory.
 pub fn check<W: Out, E: Out>(
     alloc: Global,
-    json: bool,
-    hex: bool,
-    files: &[&str],
-    workflow: &[u8],
-    feeds: &[Vec<u8>],
+    inputs: &CheckInputs<'_, '_>,
     out: &mut W,
     err: &mut E,
 ) -> u8
     ensures status { (result ≡ 0) ⊎ (result ≡ 1) ⊎ (result ≡ 3) }
-    ensures sound { result ≡ 0 → IsWarned false (report_given json hex (map (λ file. file.now) files.now) workflow.now (map (λ feed. feed.items) feeds.now)) }
-    ensures warned { result ≡ 3 → IsWarned true (report_given json hex (map (λ file. file.now) files.now) workflow.now (map (λ feed. feed.items) feeds.now)) }
-    ensures printed { result ≢ 1 → PrintsWhole (text_of_report (report_given json hex (map (λ file. file.now) files.now) workflow.now (map (λ feed. feed.items) feeds.now))) (W.written out.old) (W.written out.new) }
+    ensures sound { result ≡ 0 → IsWarned false (report_asked inputs.now) }
+    ensures warned { result ≡ 3 → IsWarned true (report_asked inputs.now) }
+    ensures printed { result ≢ 1 → PrintsWhole (text_of_report (report_asked inputs.now)) (W.written out.old) (W.written out.new) }
     ensures quiet { result ≢ 1 → err.new ≡ err.old }
-    ensures refused { result ≡ 1 → PrintsRefusal IsGivenText (text_of_report (report_given json hex (map (λ file. file.now) files.now) workflow.now (map (λ feed. feed.items) feeds.now))) (W.written out.old) (W.written out.new) (E.written err.old) (E.written err.new) }
+    ensures refused { result ≡ 1 → PrintsRefusal IsGivenText (text_of_report (report_asked inputs.now)) (W.written out.old) (W.written out.new) (E.written err.old) (E.written err.new) }
 {
-    match print_check(alloc, json, hex, files, workflow, feeds, out) {
+    match print_check(alloc, inputs, out) {
         Ok(false) => 0,
         Ok(true) => 3,
         Err(refusal) => refuse(err, &refusal),
@@ -74,52 +46,39 @@ pub fn check<W: Out, E: Out>(
 /// where there is none.
 fn print_check<W: Out>(
     alloc: Global,
-    json: bool,
-    hex: bool,
-    files: &[&str],
-    workflow: &[u8],
-    feeds: &[Vec<u8>],
+    inputs: &CheckInputs<'_, '_>,
     out: &mut W,
 ) -> Result<bool, Refusal<'static>>
-    ensures warned { IfOk result (λ warned. IsWarned warned (report_given json hex (map (λ file. file.now) files.now) workflow.now (map (λ feed. feed.items) feeds.now))) }
-    ensures printed { IfOk result (λ _. PrintsWhole (text_of_report (report_given json hex (map (λ file. file.now) files.now) workflow.now (map (λ feed. feed.items) feeds.now))) (W.written out.old) (W.written out.new)) }
-    ensures refused { IfErr result (λ refusal. RefusesCommand IsGivenText refusal (text_of_report (report_given json hex (map (λ file. file.now) files.now) workflow.now (map (λ feed. feed.items) feeds.now))) (W.written out.old) (W.written out.new)) }
+    ensures warned { IfOk result (λ warned. IsWarned warned (report_asked inputs.now)) }
+    ensures printed { IfOk result (λ _. PrintsWhole (text_of_report (report_asked inputs.now)) (W.written out.old) (W.written out.new)) }
+    ensures refused { IfErr result (λ refusal. RefusesCommand IsGivenText refusal (text_of_report (report_asked inputs.now)) (W.written out.old) (W.written out.new)) }
 {
-    let report = report_on(alloc, json, hex, files, workflow, feeds)?;
+    let report = report_on(alloc, inputs)?;
     put_all(out, report.text().as_bytes())?;
     Ok(report.warned())
 }
 
 /// The report on a workflow and its feeds, which may be given as hexadecimal text, and what is told of the
 /// workflow's file.
-fn report_on(
-    alloc: Global,
-    json: bool,
-    hex: bool,
-    files: &[&str],
-    workflow: &[u8],
-    feeds: &[Vec<u8>],
-) -> Result<Said, Refusal<'static>>
-    ensures { GivesOfInputs (λ report. report) result (report_given json hex (map (λ file. file.now) files.now) workflow.now (map (λ feed. feed.items) feeds.now)) }
+fn report_on(alloc: Global, inputs: &CheckInputs<'_, '_>) -> Result<Said, Refusal<'static>>
+    ensures { GivesOfInputs (λ report. report) result (report_asked inputs.now) }
 {
-    let given = given_feeds(alloc, hex, feeds)?;
-    report_of(alloc, json, files, workflow, &given)
+    let given = given_feeds(alloc, inputs.hex, &inputs.feeds)?;
+    report_of(alloc, inputs, &given)
 }
 
-/// The report on a workflow and its feeds.
+/// The report on a workflow and its feeds, whose bytes are given.
 fn report_of(
     alloc: Global,
-    json: bool,
-    files: &[&str],
-    workflow: &[u8],
+    inputs: &CheckInputs<'_, '_>,
     given: &[GivenFeed<'_>],
 ) -> Result<Said, Refusal<'static>>
-    ensures { GivesOfInputs (λ report. report) result (report_bytes json (map (λ file. file.now) files.now) workflow.now (map given_value given.now)) }
+    ensures { GivesOfInputs (λ report. report) result (report_of_feeds inputs.now (map given_value given.now)) }
 {
-    let opened = open_workflow(alloc, workflow, given)?;
+    let opened = open_workflow(alloc, &inputs.workflow, given)?;
     let bytes = bytes_given(alloc, given)?;
     let checks = check_feeds(alloc, &bytes, &opened.feeds)?;
-    let said = Said::of(alloc, json, workflow, files, &checks)?;
+    let said = Said::of(alloc, inputs.json, &inputs.workflow, inputs.files, &checks)?;
     Ok(said)
 }
 

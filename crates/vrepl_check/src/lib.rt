@@ -2,7 +2,9 @@
 #![tactic(auto)]
 
 mod checking;
+mod inputs;
 mod placing;
 
-pub use checking::{check, check_on};
-pub use placing::place_on;
+pub use checking::check;
+pub use inputs::CheckInputs;
+pub use placing::print_place;

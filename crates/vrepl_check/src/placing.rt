@@ -1,5 +1,6 @@
 //! Where the fault stands for which `check` refuses a workflow with its feeds.
 
+use crate::inputs::CheckInputs;
 use feed_places::place_of;
 use filter_rule::{Plan, PlanFault};
 use source_feed::{Feed, FeedFault};
@@ -65,35 +66,25 @@ fn feeds_place(
 }
 
 /// The place of the fault for which a workflow with its feeds is refused, if it has one.
-fn place_text(
-    alloc: Global,
-    hex: bool,
-    files: &[&str],
-    workflow: &[u8],
-    feeds: &[Vec<u8>],
-) -> Result<Option<String>, AllocError> {
-    let plans = match Plan::read_all(alloc, workflow) {
+fn place_text(alloc: Global, inputs: &CheckInputs<'_, '_>) -> Result<Option<String>, AllocError> {
+    let plans = match Plan::read_all(alloc, &inputs.workflow) {
         Ok(plans) => plans,
-        Err(PlanFault::Shape | PlanFault::Limit) => return fault_text(alloc, workflow),
+        Err(PlanFault::Shape | PlanFault::Limit) => return fault_text(alloc, &inputs.workflow),
         Err(_) => return Ok(None),
     };
-    if plans.len() != feeds.len() {
+    if plans.len() != inputs.feeds.len() {
         return Ok(None);
     }
-    let given = given_feeds(alloc, hex, feeds)?;
-    feeds_place(alloc, files, &plans, &given)
+    let given = given_feeds(alloc, inputs.hex, &inputs.feeds)?;
+    feeds_place(alloc, inputs.files, &plans, &given)
 }
 
 /// Tells on `err`, behind the line of a refusal, where the fault stands, in a line that begins with `place `: of
 /// a workflow file that hasn't its shape or is past a limit the path and what was expected; of a feed with a
 /// broken message, an event that isn't read or a FIELD that differs the stream, its file, the message, its first
-/// byte, and how many whole groups stand before it. Tells nothing else, and nothing where memory is wanting. The
-/// workflow is the first input, and the feeds stand behind it.
-pub fn place_on<E: Out>(alloc: Global, hex: bool, files: &[&str], inputs: &[Vec<u8>], err: &mut E) {
-    let [workflow, feeds @ ..] = inputs else {
-        return;
-    };
-    let Ok(Some(place)) = place_text(alloc, hex, files, workflow, feeds) else {
+/// byte, and how many whole groups stand before it. Tells nothing else, and nothing where memory is wanting.
+pub fn print_place<E: Out>(alloc: Global, inputs: &CheckInputs<'_, '_>, err: &mut E) {
+    let Ok(Some(place)) = place_text(alloc, inputs) else {
         return;
     };
     if let Ok(line) = format!(in alloc; "place {place}\n") {

@@ -11,7 +11,6 @@ pub mod VdiffLaws
 mod SaveLaws
 mod ResumeLaws
 mod JoinedLaws
-mod InputListLaws
 mod RunLaws
 mod AtOnceLaws
 mod FollowLaws

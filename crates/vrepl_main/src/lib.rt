@@ -39,7 +39,7 @@ pub use following_only::follow_only;
 pub use given::{GivenFeed, given_feeds};
 pub use hex_text::{HexFault, bytes_of_hex};
 pub use input::{InputFault, InputName, read_input, read_inputs, read_whole, read_within};
-pub use input_list::{run_inputs, vdiff_on};
+pub use input_list::run_inputs;
 pub use joining::join;
 pub use keeping::keep_file;
 pub use named_inputs::{

@@ -20,25 +20,33 @@ use step_script::ScriptStep;
 use stream_core::{Cursor, Step};
 use vdiff_core::{Gathered, Out, OutFailed};
 
+/// What the steps of a script are taken by, beside the board.
+#[derive(Drop)]
+pub(crate) struct Basis<'s, 'h> {
+    /// The feeds that the board's streams read.
+    pub(crate) feeds: &'s [Feed<'h>],
+    /// The plan by which replies name tables, and rows are printed.
+    pub(crate) plan: &'s Plan,
+}
+
 /// Takes what a line of a script says on a board, and adds its reply.
 pub(crate) fn take_line<'h, W: Out>(
     alloc: Global,
+    basis: &Basis<'_, 'h>,
     board: &mut Board<'h>,
-    feeds: &[Feed<'h>],
-    plan: &Plan,
     step: ScriptStep,
     out: &mut W,
     text: &mut Gathered,
 ) -> Result<(), OutFailed>
-    ensures { Replies result feeds.now plan.now board.old step board.new (at (W.written out.old) text.old) (at (W.written out.new) text.new) }
+    ensures { Replies result basis.now.feeds.now basis.now.plan.now board.old step board.new (at (W.written out.old) text.old) (at (W.written out.new) text.new) }
 {
     match step {
         ScriptStep::Take { stream, step } => {
-            let answer = answer_to(alloc, board, feeds, stream, step);
-            print_answer_or_refusal(out, text, plan, &answer)
+            let answer = answer_to(alloc, board, basis.feeds, stream, step);
+            print_answer_or_refusal(out, text, basis.plan, &answer)
         }
-        ScriptStep::State { stream } => print_standing(out, text, plan, board, stream),
-        ScriptStep::Dump => print_rows(out, text, plan, board),
+        ScriptStep::State { stream } => print_standing(out, text, basis.plan, board, stream),
+        ScriptStep::Dump => print_rows(out, text, basis.plan, board),
     }
 }
 

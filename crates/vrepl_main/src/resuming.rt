@@ -8,6 +8,7 @@ ghost use Rattle.vrepl_main.specs.OpenedFeeds.{scripted_value};
 ghost use Rattle.vrepl_main.specs.ResumedRun.{PrintsResumed, PrintsResumeRefusal, RefusesResume};
 
 use crate::given::given_feeds;
+use crate::line::Basis;
 use crate::named_inputs::ResumeInputs;
 use crate::opened::Opened;
 use crate::refusal::{Refusal, refuse};
@@ -99,7 +100,11 @@ fn print_resumed<W: Out>(
         Ok(board) => board,
         Err(fault) => return Err(ResumeRefusal::Checkpoint { plan, fault }),
     };
-    match print_taken(alloc, &mut board, &feeds, &plan, &steps, out) {
+    let basis = Basis {
+        feeds: &feeds,
+        plan: &plan,
+    };
+    match print_taken(alloc, &basis, &mut board, &steps, out) {
         Ok(()) => Ok(()),
         Err(_) => Err(ResumeRefusal::Given(Refusal::CannotWrite { file: "-" })),
     }

@@ -12,6 +12,7 @@ ghost use Rattle.vrepl_main.specs.ScriptPrinting.{PrintsRun};
 ghost use Rattle.vrepl_main.specs.Command.{PrintsRefusal, RefusesCommand};
 
 use crate::given::given_feeds;
+use crate::line::Basis;
 use crate::lines::take_lines;
 use crate::named_inputs::Inputs;
 use crate::opened::Opened;
@@ -102,22 +103,25 @@ fn print_run<W: Out>(
     let Opened { plans, feeds } = opened;
     let plan = first_plan(&plans)?;
     let mut board = fresh_board(alloc, plans, &feeds)?;
-    print_taken(alloc, &mut board, &feeds, &plan, &steps, out)?;
+    let basis = Basis {
+        feeds: &feeds,
+        plan: &plan,
+    };
+    print_taken(alloc, &basis, &mut board, &steps, out)?;
     Ok(())
 }
 
 /// Takes the steps on a board, and prints their replies.
 pub(crate) fn print_taken<'h, W: Out>(
     alloc: Global,
+    basis: &Basis<'_, 'h>,
     board: &mut Board<'h>,
-    feeds: &[Feed<'h>],
-    plan: &Plan,
     steps: &[ScriptStep],
     out: &mut W,
 ) -> Result<(), OutFailed>
-    ensures { PrintsRun result feeds.now plan.now board.old steps.now (W.written out.old) (W.written out.new) }
+    ensures { PrintsRun result basis.now.feeds.now basis.now.plan.now board.old steps.now (W.written out.old) (W.written out.new) }
 {
     let mut text = Gathered::new();
-    take_lines(alloc, board, feeds, plan, steps, out, &mut text)?;
+    take_lines(alloc, basis, board, steps, out, &mut text)?;
     text.finish(out)
 }

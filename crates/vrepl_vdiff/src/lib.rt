@@ -1,12 +1,14 @@
 //! The subcommand `vdiff` with options: tables, differences and JSON.
 #![tactic(auto)]
 
+mod inputs;
 mod options;
 mod showing;
 mod text;
 mod told;
 mod vdiff;
 
-pub use options::{Dump, Options};
+pub use inputs::{Dump, VdiffInputs};
+pub use options::Options;
 pub use showing::Verdict;
 pub use vdiff::vdiff_with;

@@ -8,33 +8,30 @@ ghost use Rattle.vrepl_vdiff.specs.Reading.{IsNamedBad};
 ghost use Rattle.vdiff_core.specs.DumpReading.{IsDump};
 ghost use Rattle.vrepl_vdiff.specs.declared.showing.Verdict.TheVariants.{Same, Differ};
 
-use crate::options::{Dump, Options};
+use crate::inputs::{Dump, VdiffInputs};
 use crate::showing::{Verdict, print_shown, verdict_of};
 use crate::told::{Told, refuse_told, told_of, told_of_workflow};
 use filter_rule::Plan;
 use std::alloc::Global;
 use vdiff_core::{Out, Rows, read_dump};
 
-/// Compares two dumps of a workflow's tables as `vdiff` does, and prints on `out` what the options show: the line of each
+/// Compares two dumps of a workflow's tables as `vdiff` does, and prints on `out` what its options show: the line of each
 /// table above the five counts, and the first differences below them, or all of it as one object of JSON; or it prints the
 /// line of a refusal on `err`, and with JSON behind that of a bad dump an object that names it. Faults are found in the
 /// same order, and the status is the same.
 pub fn vdiff_with<W: Out, E: Out>(
     alloc: Global,
-    options: &Options,
-    workflow: &[u8],
-    source: &Dump<'_>,
-    target: &Dump<'_>,
+    inputs: &VdiffInputs<'_>,
     out: &mut W,
     err: &mut E,
 ) -> u8
     ensures status { (result ≡ 0) ⊎ (result ≡ 1) ⊎ (result ≡ 3) }
-    ensures same { result ≡ 0 → IsShownAs options.now Same workflow.now source.now target.now (W.written out.old) (W.written out.new) }
-    ensures differ { result ≡ 3 → IsShownAs options.now Differ workflow.now source.now target.now (W.written out.old) (W.written out.new) }
+    ensures same { result ≡ 0 → IsShownAs inputs.now.options Same inputs.now.workflow.items inputs.now.source inputs.now.target (W.written out.old) (W.written out.new) }
+    ensures differ { result ≡ 3 → IsShownAs inputs.now.options Differ inputs.now.workflow.items inputs.now.source inputs.now.target (W.written out.old) (W.written out.new) }
     ensures quiet { result ≢ 1 → err.new ≡ err.old }
-    ensures refused { result ≡ 1 → PrintsTold options.now workflow.now source.now target.now (W.written out.old) (W.written out.new) (E.written err.old) (E.written err.new) }
+    ensures refused { result ≡ 1 → PrintsTold inputs.now.options inputs.now.workflow.items inputs.now.source inputs.now.target (W.written out.old) (W.written out.new) (E.written err.old) (E.written err.new) }
 {
-    match show_vdiff(alloc, options, workflow, source, target, out) {
+    match show_vdiff(alloc, inputs, out) {
         Ok(Verdict::Same) => 0,
         Ok(Verdict::Differ) => 3,
         Err(told) => refuse_told(err, &told),
@@ -42,25 +39,18 @@ pub fn vdiff_with<W: Out, E: Out>(
 }
 
 /// Prints what is shown of two dumps, or nothing where one of the files is refused.
-fn show_vdiff<W: Out>(
-    alloc: Global,
-    options: &Options,
-    workflow: &[u8],
-    source: &Dump<'_>,
-    target: &Dump<'_>,
-    out: &mut W,
-) -> Result<Verdict, Told>
-    ensures shown { IfOk result (λ verdict. IsShownAs options.now verdict workflow.now source.now target.now (W.written out.old) (W.written out.new)) }
-    ensures refused { IfErr result (λ told. IsTold options.now workflow.now source.now target.now told.refusal (error_text told.error) (W.written out.old) (W.written out.new)) }
+fn show_vdiff<W: Out>(alloc: Global, inputs: &VdiffInputs<'_>, out: &mut W) -> Result<Verdict, Told>
+    ensures shown { IfOk result (λ verdict. IsShownAs inputs.now.options verdict inputs.now.workflow.items inputs.now.source inputs.now.target (W.written out.old) (W.written out.new)) }
+    ensures refused { IfErr result (λ told. IsTold inputs.now.options inputs.now.workflow.items inputs.now.source inputs.now.target told.refusal (error_text told.error) (W.written out.old) (W.written out.new)) }
 {
-    let plans = match Plan::read_all(alloc, workflow) {
+    let plans = match Plan::read_all(alloc, &inputs.workflow) {
         Ok(plans) => plans,
         Err(fault) => return Err(told_of_workflow(fault)),
     };
     let plan = &plans[0];
-    let ours = read_named(alloc, options.json, plan, source)?;
-    let theirs = read_named(alloc, options.json, plan, target)?;
-    print_shown(alloc, options, plan, &ours, &theirs, out)?;
+    let ours = read_named(alloc, inputs.options.json, plan, &inputs.source)?;
+    let theirs = read_named(alloc, inputs.options.json, plan, &inputs.target)?;
+    print_shown(alloc, &inputs.options, plan, &ours, &theirs, out)?;
     Ok(verdict_of(&ours, &theirs))
 }
 
@@ -69,7 +59,7 @@ fn read_named(alloc: Global, json: bool, plan: &Plan, dump: &Dump<'_>) -> Result
     ensures read { IfOk result (λ rows. IsDump plan.now rows dump.now.text) }
     ensures refused { IfErr result (λ told. IsNamedBad json plan.now dump.now told) }
 {
-    match read_dump(alloc, plan, dump.text) {
+    match read_dump(alloc, plan, &dump.text) {
         Ok(rows) => Ok(rows),
         Err(fault) => Err(told_of(alloc, json, dump.name, fault)),
     }
