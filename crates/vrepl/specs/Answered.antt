@@ -1,5 +1,5 @@
 -- What the commands leave that print what their inputs make, each by its own words.
-use Rattle.std.specs.Prelude.{◌≡◌, ◌∷◌, ◌++◌, [], map}
+use Rattle.std.specs.Prelude.{◌≡◌, ◌∷◌, ◌++◌, [], false, true, map}
 use Rattle.vdiff_core.specs.Printing.{Written}
 use Rattle.vrepl_main.specs.Command.{IsGivenText, PrintsRefusal, PrintsWhole}
 use Rattle.vrepl_main.specs.Inputs.{IsUnread, IsUnreadAmong}
@@ -16,7 +16,9 @@ use Rattle.vrepl_main.specs.declared.refusal.Refusal.{Refusal}
 use Rattle.vrepl_words.specs.declared.words.Run.{Run}
 use Rattle.vrepl_words.specs.declared.words.Words.{Words}
 use Rattle.vrepl_words.specs.declared.words.Words.TheVariants as ways
-use Rattle.vrepl.specs.Asked.{text_asked}
+use Rattle.vrepl.specs.Asked.{IsCheckAsked, IsVdiffAsked, text_asked}
+use Rattle.vrepl.specs.Checked.{PrintsReport, PrintsUnchecked}
+use Rattle.vrepl.specs.Compared.{PrintsDiffering, PrintsSame, PrintsUncompared, asks_more}
 use Rattle.vrepl.specs.declared.answering.Asked.{Asked}
 use Rattle.vrepl.specs.declared.answering.Asked.TheVariants as asked
 
@@ -28,6 +30,8 @@ IsAnswering (ways.Run words) = Unit {0}
 IsAnswering (ways.Save words) = Unit {0}
 IsAnswering (ways.Resume words) = Unit {0}
 IsAnswering (ways.Join words) = Unit {0}
+IsAnswering (ways.Vdiff words) = Unit {0}
+IsAnswering (ways.Check words) = Unit {0}
 IsAnswering words = ⊥
 
 -- the streams are run as the words ask for it: one after another or in threads, and in these portions
@@ -43,6 +47,8 @@ IsAskedBy (ways.Run words) (asked.Run inputs) = IsCourseOf words inputs.course �
 IsAskedBy (ways.Save words) (asked.Save inputs) = inputs.hex ≡ words.hex
 IsAskedBy (ways.Resume words) (asked.Resume inputs) = inputs.step.hex ≡ words.step.hex
 IsAskedBy (ways.Join words) (asked.Join inputs) = inputs.hex ≡ words.hex
+IsAskedBy (ways.Vdiff words) (asked.Vdiff inputs) = IsVdiffAsked words inputs
+IsAskedBy (ways.Check words) (asked.Check inputs) = IsCheckAsked words inputs
 IsAskedBy words other = ⊥
 
 -- the first input that can't be read is named, in the order of its command
@@ -53,6 +59,8 @@ IsUnreadFor (ways.Run words) = IsUnreadAmong (File words.workflow ∷ map File w
 IsUnreadFor (ways.Save words) = IsUnreadAmong (File words.workflow ∷ (map File words.feeds.items ++ Standard ∷ []))
 IsUnreadFor (ways.Resume words) = IsUnreadAmong (File words.checkpoint ∷ File words.step.workflow ∷ (map File words.step.feeds.items ++ Standard ∷ []))
 IsUnreadFor (ways.Join words) = IsUnreadAmong (File words.workflow ∷ File words.one ∷ File words.other ∷ (map File words.more.items ++ map File words.feeds.items))
+IsUnreadFor (ways.Vdiff words) = IsUnreadAmong (File words.workflow ∷ File words.source ∷ File words.target ∷ [])
+IsUnreadFor (ways.Check words) = IsUnreadAmong (File words.step.workflow ∷ map File words.step.feeds.items)
 IsUnreadFor words = λ refusal. ⊥
 
 -- what it prints with status 0
@@ -63,6 +71,14 @@ PrintsAsked (asked.Run inputs) old new = PrintsDump (opened_asked inputs) old ne
 PrintsAsked (asked.Save inputs) old new = PrintsCheckpoint (script_asked inputs) old new
 PrintsAsked (asked.Resume inputs) old new = PrintsResumed (script_asked inputs.step) inputs.checkpoint.items old new
 PrintsAsked (asked.Join inputs) old new = PrintsJoin (join_asked inputs) inputs.one.items (bytes_of inputs.others.items) old new
+PrintsAsked (asked.Vdiff inputs) old new = PrintsSame (asks_more inputs.options) inputs old new
+PrintsAsked (asked.Check inputs) old new = PrintsReport false inputs old new
+
+-- with status 3: dumps differ, or feeds are warned of; no other command has it
+abbrev pub PrintsFound : Asked → Written → Written → Type 0
+PrintsFound (asked.Vdiff inputs) old new = PrintsDiffering (asks_more inputs.options) inputs old new
+PrintsFound (asked.Check inputs) old new = PrintsReport true inputs old new
+PrintsFound other old new = ⊥
 
 -- and what it leaves where it is refused
 abbrev pub PrintsRefusalAsked : Asked → Written → Written → Written → Written → Type 0
@@ -72,3 +88,5 @@ PrintsRefusalAsked (asked.Run inputs) old new err_old err_new = PrintsRunRefusal
 PrintsRefusalAsked (asked.Save inputs) old new err_old err_new = PrintsRefusal IsSavedBehind (script_asked inputs) old new err_old err_new
 PrintsRefusalAsked (asked.Resume inputs) old new err_old err_new = PrintsResumeRefusal (script_asked inputs.step) inputs.checkpoint.items old new err_old err_new
 PrintsRefusalAsked (asked.Join inputs) old new err_old err_new = PrintsJoinRefusal (join_asked inputs) inputs.one.items (bytes_of inputs.others.items) old new err_old err_new
+PrintsRefusalAsked (asked.Vdiff inputs) old new err_old err_new = PrintsUncompared (asks_more inputs.options) inputs old new err_old err_new
+PrintsRefusalAsked (asked.Check inputs) old new err_old err_new = PrintsUnchecked inputs old new err_old

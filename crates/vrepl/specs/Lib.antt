@@ -1,2 +1,4 @@
 pub mod Answered
 pub mod Asked
+pub mod Checked
+pub mod Compared

@@ -1,18 +1,22 @@
 //! The commands that print what their inputs make, and do no more.
 
-ghost use Rattle.std.specs.Prelude.{◌≡◌, ◌≤◌, IfErr, IfOk};
-ghost use Rattle.vrepl.specs.Answered.{IsAnswering, IsAskedBy, IsUnreadFor, PrintsAsked, PrintsRefusalAsked};
+ghost use Rattle.std.specs.Prelude.{◌≡◌, ◌≤◌, ◌⊎◌, IfErr, IfOk};
+ghost use Rattle.vrepl.specs.Answered.{IsAnswering, IsAskedBy, IsUnreadFor, PrintsAsked, PrintsFound, PrintsRefusalAsked};
 
+use crate::checking::{read_check, report};
+use crate::comparing::{compare, read_vdiff};
 use crate::reporting::Reporter;
 use crate::{course_of, show_feed};
 use std::alloc::{AllocError, Global};
 use std::sync::Wait;
 use std::thread::Threads;
 use vdiff_core::{Out, Writer};
+use vrepl_check::CheckInputs;
 use vrepl_main::{
     InputName, Inputs, JoinFiles, JoinInputs, Progress, Refusal, ResumeInputs, RunInputs, Untold,
     join, read_input, read_join, read_resume, read_run, read_step, resume, run, save, step,
 };
+use vrepl_vdiff::VdiffInputs;
 use vrepl_words::words::{Join, Show, Words};
 
 /// What such a command is asked for, with what was read of its inputs.
@@ -30,6 +34,10 @@ pub(crate) enum Asked<'a, 'w> {
     Resume(ResumeInputs),
     /// `join`.
     Join(JoinInputs),
+    /// `vdiff`.
+    Vdiff(VdiffInputs<'w>),
+    /// `check`.
+    Check(CheckInputs<'a, 'w>),
 }
 
 /// Reads the inputs of such a command, and prints what it makes of them.
@@ -39,7 +47,7 @@ pub(crate) fn run_answering<'w, T: Threads + Wait + Sync>(
     words: &Words<'w>,
 ) -> Result<u8, Refusal<'w>>
     requires answering { IsAnswering words.now }
-    ensures status { IfOk result (λ status. status ≤ 1) }
+    ensures status { IfOk result (λ status. (status ≤ 1) ⊎ (status ≡ 3)) }
     ensures unread { IfErr result (IsUnreadFor words.now) }
 {
     let asked = read_asked(rt, words)?;
@@ -94,6 +102,8 @@ fn read_asked<'a, 'w>(rt: &HostRuntime, words: &'a Words<'w>) -> Result<Asked<'a
             let inputs = read_join(rt, words.hex, &files_of(words))?;
             Ok(Asked::Join(inputs))
         }
+        Words::Vdiff(words) => Ok(Asked::Vdiff(read_vdiff(rt, words)?)),
+        Words::Check(words) => Ok(Asked::Check(read_check(rt, words)?)),
         _ => unreachable!(),
     }
 }
@@ -120,7 +130,7 @@ fn print_answer<T: Threads + Wait + Sync, G: Progress + Sync>(
     gate: &G,
     asked: &Asked<'_, '_>,
 ) -> u8
-    ensures status { result ≤ 1 }
+    ensures status { (result ≤ 1) ⊎ (result ≡ 3) }
 {
     answer(
         threads,
@@ -141,8 +151,9 @@ fn answer<T: Threads + Wait + Sync, G: Progress + Sync, W: Out, E: Out>(
     out: &mut W,
     err: &mut E,
 ) -> u8
-    ensures status { result ≤ 1 }
+    ensures status { (result ≤ 1) ⊎ (result ≡ 3) }
     ensures printed { result ≡ 0 → PrintsAsked asked.now (W.written out.old) (W.written out.new) }
+    ensures found { result ≡ 3 → PrintsFound asked.now (W.written out.old) (W.written out.new) }
     ensures refused { result ≡ 1 → PrintsRefusalAsked asked.now (W.written out.old) (W.written out.new) (E.written err.old) (E.written err.new) }
 {
     match asked {
@@ -152,5 +163,7 @@ fn answer<T: Threads + Wait + Sync, G: Progress + Sync, W: Out, E: Out>(
         Asked::Save(inputs) => save(alloc, inputs, out, err),
         Asked::Resume(inputs) => resume(alloc, inputs, out, err),
         Asked::Join(inputs) => join(alloc, inputs, out, err),
+        Asked::Vdiff(inputs) => compare(alloc, inputs, out, err),
+        Asked::Check(inputs) => report(alloc, inputs, out, err),
     }
 }

@@ -1,31 +1,19 @@
-//! The subcommand `check` over files.
+//! The inputs of `check`, and the report on them.
 
-ghost use Rattle.std.specs.Prelude.{◌≡◌, ◌⊎◌, ◌∷◌, map, IfErr, IfOk};
+ghost use Rattle.std.specs.Prelude.{◌≡◌, ◌⊎◌, ◌∷◌, false, true, map, IfErr, IfOk};
 ghost use Rattle.vrepl.specs.Asked.{IsCheckAsked};
+ghost use Rattle.vrepl.specs.Checked.{PrintsReport, PrintsUnchecked};
 ghost use Rattle.vrepl_main.specs.Inputs.{IsUnreadAmong};
 ghost use Rattle.vrepl_main.specs.declared.input.InputName.TheVariants.{File};
 
-use vdiff_core::Writer;
+use std::alloc::Global;
+use vdiff_core::Out;
 use vrepl_check::{CheckInputs, check, print_place};
 use vrepl_main::{Refusal, RunInputs, read_run};
 use vrepl_words::words::Check;
 
-/// Runs `check` over the files of a workflow and its feeds.
-pub(crate) fn run_check<'w>(rt: &HostRuntime, words: &Check<'w>) -> Result<u8, Refusal<'w>>
-    ensures status { IfOk result (λ status. (status ≡ 0) ⊎ (status ≡ 1) ⊎ (status ≡ 3)) }
-    ensures unread { IfErr result (IsUnreadAmong (File words.now.step.workflow ∷ map File words.now.step.feeds.items)) }
-{
-    let inputs = read_check(rt, words)?;
-    let mut err = Writer::new(rt.stderr());
-    let status = check(rt.alloc(), &inputs, &mut Writer::new(rt.stdout()), &mut err);
-    if status == 1 {
-        print_place(rt.alloc(), &inputs, &mut err);
-    }
-    Ok(status)
-}
-
 /// Reads the inputs that the words name: the workflow's file, and the feeds' files in the order of the streams.
-fn read_check<'n, 'w>(
+pub(crate) fn read_check<'n, 'w>(
     rt: &HostRuntime,
     words: &'n Check<'w>,
 ) -> Result<CheckInputs<'n, 'w>, Refusal<'w>>
@@ -46,4 +34,24 @@ fn read_check<'n, 'w>(
         files: &step.feeds,
         feeds,
     })
+}
+
+/// Prints on `out` the report on the inputs; or the line of a refusal on `err`, and behind it where the fault stands, if
+/// that can be said.
+pub(crate) fn report<W: Out, E: Out>(
+    alloc: Global,
+    inputs: &CheckInputs<'_, '_>,
+    out: &mut W,
+    err: &mut E,
+) -> u8
+    ensures status { (result ≡ 0) ⊎ (result ≡ 1) ⊎ (result ≡ 3) }
+    ensures sound { result ≡ 0 → PrintsReport false inputs.now (W.written out.old) (W.written out.new) }
+    ensures warned { result ≡ 3 → PrintsReport true inputs.now (W.written out.old) (W.written out.new) }
+    ensures refused { result ≡ 1 → PrintsUnchecked inputs.now (W.written out.old) (W.written out.new) (E.written err.old) }
+{
+    let status = check(alloc, inputs, out, err);
+    if status == 1 {
+        print_place(alloc, inputs, err);
+    }
+    status
 }

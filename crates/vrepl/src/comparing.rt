@@ -1,33 +1,23 @@
-//! The subcommand `vdiff` over files.
+//! The inputs of `vdiff`, and their comparison.
 
-ghost use Rattle.std.specs.Prelude.{◌≡◌, ◌⊎◌, ◌∷◌, [], IfErr, IfOk};
+ghost use Rattle.std.specs.Prelude.{◌≡◌, ◌⊎◌, ◌∷◌, [], false, IfErr, IfOk};
 ghost use Rattle.vrepl.specs.Asked.{IsVdiffAsked, is_other, options_asked};
+ghost use Rattle.vrepl.specs.Compared.{PrintsDiffering, PrintsSame, PrintsUncompared, asks_more};
 ghost use Rattle.vrepl_main.specs.Inputs.{IsUnreadAmong, is_standard, input_name};
 ghost use Rattle.vrepl_main.specs.declared.input.InputName.TheVariants.{File};
 
 use std::alloc::Global;
-use vdiff_core::{Out, Writer};
+use vdiff_core::Out;
 use vrepl_main::{InputName, Refusal, read_input, vdiff};
 use vrepl_vdiff::{Dump, Options, VdiffInputs, vdiff_with};
 use vrepl_words::words::Vdiff;
 
-/// Runs `vdiff` over the files of a workflow and two dumps, one of which may be standard input.
-pub(crate) fn run_vdiff<'w>(rt: &HostRuntime, words: &Vdiff<'w>) -> Result<u8, Refusal<'w>>
-    ensures status { IfOk result (λ status. (status ≡ 0) ⊎ (status ≡ 1) ⊎ (status ≡ 3)) }
-    ensures unread { IfErr result (IsUnreadAmong (File words.now.workflow ∷ File words.now.source ∷ File words.now.target ∷ [])) }
-{
-    let inputs = read_vdiff(rt, words)?;
-    Ok(compare(
-        rt.alloc(),
-        &inputs,
-        &mut Writer::new(rt.stdout()),
-        &mut Writer::new(rt.stderr()),
-    ))
-}
-
 /// Reads the inputs that the words name: the workflow's file, and the dumps, of which standard input is the first that
 /// is `-`.
-fn read_vdiff<'w>(rt: &HostRuntime, words: &Vdiff<'w>) -> Result<VdiffInputs<'w>, Refusal<'w>>
+pub(crate) fn read_vdiff<'w>(
+    rt: &HostRuntime,
+    words: &Vdiff<'w>,
+) -> Result<VdiffInputs<'w>, Refusal<'w>>
     ensures asked { IfOk result (IsVdiffAsked words.now) }
     ensures unread { IfErr result (IsUnreadAmong (File words.now.workflow ∷ File words.now.source ∷ File words.now.target ∷ [])) }
 {
@@ -72,17 +62,49 @@ fn options_of(words: &Vdiff<'_>) -> Options
 }
 
 /// Compares the dumps, by the options where they ask for more than the comparison as it is.
-fn compare<W: Out, E: Out>(alloc: Global, inputs: &VdiffInputs<'_>, out: &mut W, err: &mut E) -> u8
-    ensures { (result ≡ 0) ⊎ (result ≡ 1) ⊎ (result ≡ 3) }
+pub(crate) fn compare<W: Out, E: Out>(
+    alloc: Global,
+    inputs: &VdiffInputs<'_>,
+    out: &mut W,
+    err: &mut E,
+) -> u8
+    ensures status { (result ≡ 0) ⊎ (result ≡ 1) ⊎ (result ≡ 3) }
+    ensures same { result ≡ 0 → PrintsSame (asks_more inputs.now.options) inputs.now (W.written out.old) (W.written out.new) }
+    ensures differ { result ≡ 3 → PrintsDiffering (asks_more inputs.now.options) inputs.now (W.written out.old) (W.written out.new) }
+    ensures refused { result ≡ 1 → PrintsUncompared (asks_more inputs.now.options) inputs.now (W.written out.old) (W.written out.new) (E.written err.old) (E.written err.new) }
 {
     if asks_more(&inputs.options) {
         return vdiff_with(alloc, inputs, out, err);
     }
-    let (source, target) = (&inputs.source.text, &inputs.target.text);
-    vdiff(alloc, &inputs.workflow, source, target, out, err)
+    compare_plainly(alloc, inputs, out, err)
+}
+
+/// The comparison as it is.
+fn compare_plainly<W: Out, E: Out>(
+    alloc: Global,
+    inputs: &VdiffInputs<'_>,
+    out: &mut W,
+    err: &mut E,
+) -> u8
+    ensures status { (result ≡ 0) ⊎ (result ≡ 1) ⊎ (result ≡ 3) }
+    ensures same { result ≡ 0 → PrintsSame false inputs.now (W.written out.old) (W.written out.new) }
+    ensures differ { result ≡ 3 → PrintsDiffering false inputs.now (W.written out.old) (W.written out.new) }
+    ensures refused { result ≡ 1 → PrintsUncompared false inputs.now (W.written out.old) (W.written out.new) (E.written err.old) (E.written err.new) }
+{
+    let (source, target) = (&inputs.source, &inputs.target);
+    vdiff(
+        alloc,
+        &inputs.workflow,
+        &source.text,
+        &target.text,
+        out,
+        err,
+    )
 }
 
 /// Whether more is asked for than the comparison as it is.
-fn asks_more(options: &Options) -> bool {
+fn asks_more(options: &Options) -> bool
+    ensures { result ≡ asks_more options.now }
+{
     options.tables || options.json || options.first.is_some()
 }
