@@ -1,6 +1,6 @@
 //! Keys as text.
 
-ghost use Rattle.std.specs.Prelude.{◌≡◌, map};
+ghost use Rattle.std.specs.Prelude.{map};
 ghost use Rattle.pk_copy.specs.PartValue.{part_value};
 ghost use Rattle.vdiff_core.specs.KeyText.{part_cell, more_parts, key_text};
 ghost use Rattle.vrepl_main.specs.Adding.{AddsText, at};

@@ -1,6 +1,5 @@
 //! What the lines of checkpoints that aren't resumed tell.
 
-ghost use Rattle.std.specs.Prelude.{◌≡◌};
 ghost use Rattle.vrepl_main.specs.Adding.{AddsText, at};
 ghost use Rattle.vrepl_main.specs.ResumedText.{differs_text};
 

@@ -1,6 +1,6 @@
 //! The comparison of two sets of rows, printed by options.
 
-ghost use Rattle.std.specs.Prelude.{◌≡◌, IfErr, IfOk, List, ℕ, OnOk, map};
+ghost use Rattle.std.specs.Prelude.{◌≡◌, IfOk, map};
 ghost use Rattle.vdiff_tables.specs.NamedReports.{named_report};
 ghost use Rattle.vrepl_vdiff.specs.Shown.{IsVerdict, PrintsShown, reports_asked};
 
