@@ -9,7 +9,7 @@ ghost use Rattle.vrepl_main.specs.declared.input.InputName.TheVariants.{File};
 use std::alloc::Global;
 use vdiff_core::Out;
 use vrepl_check::{CheckInputs, check, print_place};
-use vrepl_main::{Refusal, RunInputs, read_run};
+use vrepl_main::{Refusal, read_inputs, run_inputs};
 use vrepl_words::words::Check;
 
 /// Reads the inputs that the words name: the workflow's file, and the feeds' files in the order of the streams.
@@ -21,15 +21,12 @@ pub(crate) fn read_check<'n, 'w>(
     ensures unread { IfErr result (IsUnreadAmong (File words.entry.now.step.workflow ∷ map File words.entry.now.step.feeds.items)) }
 {
     let step = &words.step;
-    let inputs = read_run(rt, step.hex, step.workflow, &step.feeds)?;
-    let RunInputs {
-        hex,
-        workflow,
-        feeds,
-    } = inputs;
+    let names = run_inputs(rt.alloc(), step.workflow, &step.feeds)?;
+    let mut feeds = read_inputs(rt, &names)?;
+    let workflow = feeds.remove(0);
     Ok(CheckInputs {
         json: words.json,
-        hex,
+        hex: step.hex,
         workflow,
         files: &step.feeds,
         feeds,
