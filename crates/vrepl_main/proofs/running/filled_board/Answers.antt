@@ -13,8 +13,8 @@ returns-in-Err-run_streams-clause-refused g c =
     (rw c.deref.ensures.value at c.in-Ok.ensures.opened) (rw c.deref-2.ensures.value at c.in-Ok-first_plan.ensures)
     c.in-Err-run_streams.refusal (rw c.deref-3.ensures.value at c.in-Err-run_streams.ensures.refused)
 
-pub returns-in-Ok-run_streams-clause-filled : goal.returns-in-Ok-run_streams-clause-filled
-returns-in-Ok-run_streams-clause-filled g c =
+pub returns-clause-filled : goal.returns-clause-filled
+returns-clause-filled g c =
     let ends = rw c.deref-3.ensures.value at c.in-Ok-run_streams.ensures.ends in
     filled_run (opened_bytes c.args.inputs.now.workflow.items (map given_value c.args.given.now)) (opened_value c.in-Ok.opened) (arc_value c.in-Ok-first_plan.plan)
     (rw c.deref.ensures.value at c.in-Ok.ensures.opened) (rw c.deref-2.ensures.value at c.in-Ok-first_plan.ensures)
