@@ -24,7 +24,7 @@ PARTS = [
     ("the board's steps", [f"apply_core::board::Board::{it}" for it in ("advance_by", "offer", "next_chunk", "copy_by")] + ["apply_core::bringing::bring"]),
     ("... seeking places", ["target_tables::spots::spot_of", "target_tables::hints::spot_by"]),
     ("taking the board and putting it back", ["stream_worker::lock::Lock::take", "stream_worker::lock::Lock::put_back"]),
-    ("the dump", ["vdiff_core::dump::write_dump", "vrepl_main::running::print_rows"]),
+    ("the dump", ["apply_core::board::Board::write_dump"]),
     ("malloc and free, wherever called", ["rattle_alloc", "rattle_realloc", "rattle_dealloc"]),
 ]
 LINE = re.compile(r"\s*([\d,]+) \([ \d.]+%\)\s+([*>])\s+(\S*?:)?(\S.*?)(?: \([\d,]+x\))?(?: \[.*)?$")
