@@ -18,3 +18,4 @@ pub mod ChunkLaws
 pub mod FrameLaws
 pub mod PiecesLaws
 pub mod TableLaws
+pub mod OneMoreLaws

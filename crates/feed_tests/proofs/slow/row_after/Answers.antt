@@ -8,7 +8,7 @@ use Rattle.pk_copy.specs.KeyOrder.{key_cmp}
 use Rattle.target_tables.specs.Touches.{last_at}
 use Rattle.source_feed.specs.History.{passing}
 use Rattle.source_feed.specs.Image.{kept_after}
-use Rattle.feed_tests.proofs.SlowLaws.{touch_more}
+use Rattle.source_feed.proofs.OneMoreLaws.{touch_more}
 use Rattle.feed_tests.proofs.slow.row_after.Goals as goal
 use Rattle.feed_tests.proofs.slow.row_after.Goals.{then-eq, else-eq}
 

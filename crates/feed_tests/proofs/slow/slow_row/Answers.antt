@@ -8,7 +8,7 @@ use Rattle.target_tables.specs.Touches.{last_at}
 use Rattle.source_feed.specs.History.{RowValue, passed_at}
 use Rattle.source_feed.specs.Image.{kept_after}
 use Rattle.source_feed.specs.Touches.{TouchValue}
-use Rattle.feed_tests.proofs.SlowLaws.{group_more}
+use Rattle.source_feed.proofs.OneMoreLaws.{group_more}
 use Rattle.feed_tests.proofs.slow.slow_row.Goals as goal
 
 pub loop-group-preserved : goal.loop-group-preserved
