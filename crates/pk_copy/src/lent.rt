@@ -1,15 +1,16 @@
 //! A lent key as it is kept.
 
-ghost use Rattle.std.specs.Prelude.{◌≡◌, [], false, IfOk};
+ghost use Rattle.std.specs.Prelude.{◌≡◌, [], ◌∷◌, false, IfOk};
 ghost use Rattle.std.specs.Ordering.{eq_by_cmp, as_partial_cmp, is_lt};
 ghost use Rattle.std.specs.Cmp.{partial_equiv_from_equiv, eq_by_cmp_equiv, partial_order_from_total};
-ghost use Rattle.pk_copy.specs.KeyValue.{KeyValue};
+ghost use Rattle.pk_copy.specs.KeyValue.{KeyValue, IsPart};
 ghost use Rattle.pk_copy.specs.KeyOrder.{key_cmp};
 ghost use Rattle.pk_copy.specs.KeyOrderLaws.{key_cmp_total};
-ghost use Rattle.pk_copy.specs.PartValue.{kept_key, IsKept};
+ghost use Rattle.pk_copy.specs.PartValue.{part_value, kept_key, IsKept};
 
 use crate::kept::KeptKey;
 use crate::lent_kept::{LentKept, compare};
+use crate::part::KeyPart;
 use crate::view::KeyView;
 use std::alloc::{AllocError, Global};
 use std::cmp::Ordering;
@@ -48,6 +49,16 @@ impl<'b> LentKey<'b> {
             parts => LentKept::of_several(alloc, table, parts)?,
         };
         Ok(LentKey { kept })
+    }
+
+    /// The key of a table with this part alone. Takes no memory.
+    pub(crate) fn of_one(table: u8, part: KeyPart<'b>) -> LentKey<'b>
+        requires { IsPart (part_value part) }
+        ensures { result ≡ record { table = table; parts = part_value part.entry ∷ [] } }
+    {
+        LentKey {
+            kept: LentKept::of_one(table, part),
+        }
     }
 
     /// The least key of a table: it has no parts, and no key of the table comes before it. Takes no memory.

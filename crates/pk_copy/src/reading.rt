@@ -2,18 +2,20 @@
 
 ghost use Rattle.std.specs.Prelude.{◌≡◌, ◌↔◌, ◌≤◌, ◌<◌, false, length, map, Some, None, Ok, Err, IfSome, IfOk};
 ghost use Rattle.std.specs.Option.{option_map};
-ghost use Rattle.filter_rule.specs.PlanValue.{columns_of};
+ghost use Rattle.filter_rule.specs.PlanValue.{columns_of, key_columns_of};
 ghost use Rattle.filter_rule.specs.WellFormed.{AreColumnPlaces};
 ghost use Rattle.pk_copy.specs.KeyValue.{KeyValue, IsPart};
 ghost use Rattle.pk_copy.specs.KeyOf.{part_of_text, key_part_of, is_null, cell_at, key_cells, key_in, key_of, HoldsNull, LacksPart, IsKeyOf};
 ghost use Rattle.pk_copy.specs.PartValue.{part_value};
 
 use crate::fault::KeyFault;
+use crate::lent::LentKey;
 use crate::part::KeyPart;
 use crate::view::KeyView;
 use arrayvec::ArrayVec;
 use filter_rule::{ColumnDef, Plan, is_whole_number};
 use row_view::{Column, RowBytes, RowView};
+use std::alloc::{AllocError, Global};
 use vindex::number_of;
 
 /// The key of a row of table `t`: the table's number and the values of its key columns in key order,
@@ -51,8 +53,66 @@ pub fn key_of_bytes<'b>(plan: &Plan, t: u8, row: &RowBytes<'b>) -> Result<KeyVie
     ensures bad { let cells = key_cells plan.now t row.now in
         (result ≡ Err KeyFault.BadKey) ↔ ((¬ HoldsNull cells) × LacksPart cells) }
 {
+    let (columns, places) = key_columns(plan, t);
+    key_at(t, columns, places, row)
+}
+
+impl<'b> LentKey<'b> {
+    /// The key of a row of table `t` as it is kept, of the row's bytes: a key or its refusal as `key_of_bytes`
+    /// answers them, and no view of a key of one column is made. Takes memory for several parts alone; an error
+    /// is want of it. That `t` is a table of the plan and that the row has as many columns as that table is the
+    /// caller's.
+    pub fn of_bytes(
+        alloc: Global,
+        plan: &Plan,
+        t: u8,
+        row: &RowBytes<'b>,
+    ) -> Result<Result<LentKey<'b>, KeyFault>, AllocError>
+        requires table { t < length plan.now.tables }
+        requires columns { length row.now ≡ length (columns_of plan.now t) }
+        ensures { IfOk result (λ answer. answer ≡ key_of plan.now t row.now) }
+    {
+        let (columns, places) = key_columns(plan, t);
+        lent_at(alloc, t, columns, places, row)
+    }
+}
+
+/// The columns of a table of the plan, and the places of its key columns in key order.
+#[inline(always)]
+fn key_columns(plan: &Plan, t: u8) -> (&[ColumnDef], &[u8])
+    requires { t < length plan.now.tables }
+    ensures columns { result.0.now ≡ columns_of plan.now t }
+    ensures places { result.1.now ≡ key_columns_of plan.now t }
+    ensures few { length result.1.now ≤ 8 }
+    ensures within { AreColumnPlaces result.0.now result.1.now }
+{
     let table = &plan.tables()[usize::from(t)];
-    key_at(t, table.columns(), table.key(), row)
+    (table.columns(), table.key())
+}
+
+/// The key of a row of table `t` as it is kept, of what stands at these places.
+fn lent_at<'b>(
+    alloc: Global,
+    t: u8,
+    columns: &[ColumnDef],
+    places: &[u8],
+    row: &RowBytes<'b>,
+) -> Result<Result<LentKey<'b>, KeyFault>, AllocError>
+    requires few { length places.now ≤ 8 }
+    requires places { AreColumnPlaces columns.now places.now }
+    requires width { length row.now ≡ length columns.now }
+    ensures { IfOk result (λ answer. answer ≡ key_in t (map (cell_at columns.now row.now) places.now)) }
+{
+    if let [place] = places {
+        return match part_at(columns, row, *place) {
+            Ok(part) => Ok(Ok(LentKey::of_one(t, part))),
+            Err(fault) => Ok(Err(fault)),
+        };
+    }
+    match key_at(t, columns, places, row) {
+        Ok(key) => Ok(Ok(LentKey::from_view(alloc, &key)?)),
+        Err(fault) => Ok(Err(fault)),
+    }
 }
 
 /// The key of a row of table `t`, of what stands at these places.

@@ -10,6 +10,7 @@ pub mod OrderLaws
 pub mod DefinedLaws
 pub mod KeptLaws
 pub mod PlanLaws
+pub mod PlannedLaws
 pub mod PreparedLaws
 pub mod SoundLaws
 pub mod JudgedLaws

@@ -47,8 +47,9 @@ fn judge_change(plan: &Plan, group: u32, change: &PlannedChange<'_>) -> Result<(
 {
     let table = change.table();
     let place = Place { plan, group, table };
-    place.judge_before(change.before_bytes())?;
-    place.judge_after(change.after_bytes())?;
+    let (before, after) = change.images();
+    place.judge_before(before)?;
+    place.judge_after(after)?;
     Ok(())
 }
 

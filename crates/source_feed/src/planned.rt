@@ -5,6 +5,7 @@ ghost use Rattle.std.specs.Arc.{arc_value};
 ghost use Rattle.std.specs.List.{filter_map};
 ghost use Rattle.source_feed.specs.declared.fault.FeedFault.TheVariants.{Memory};
 ghost use Rattle.source_feed.specs.Planned.{planned_change, planned_group};
+ghost use Rattle.source_feed.specs.Private.KeptChanges.{listed};
 ghost use Rattle.source_feed.specs.Private.RowCounts.{rows_in_change};
 
 use crate::changes::Changes;
@@ -42,25 +43,21 @@ impl<'h> PlannedChange<'h> {
         self.table
     }
 
-    /// The bytes of the row before the change, or `None` for an insert. Reads no row.
-    pub(crate) fn before_bytes(&self) -> Option<RowBytes<'h>>
-        ensures { result ≡ self.now.before }
+    /// The bytes of the rows before and after the change, found by one walk over it: `None` before an insert
+    /// and after a delete. Reads no row.
+    pub(crate) fn images(&self) -> (Option<RowBytes<'h>>, Option<RowBytes<'h>>)
+        ensures before { result.0 ≡ self.now.before }
+        ensures after { result.1 ≡ self.now.after }
     {
-        self.rows.before_bytes()
-    }
-
-    /// The bytes of the row after the change, or `None` for a delete. Reads no row.
-    pub(crate) fn after_bytes(&self) -> Option<RowBytes<'h>>
-        ensures { result ≡ self.now.after }
-    {
-        self.rows.after_bytes()
+        self.rows.images()
     }
 
     /// How many rows the change has. Reads no row.
     pub(crate) fn row_count(&self) -> usize
         ensures { result ≡ rows_in_change self.now }
     {
-        usize::from(self.rows.has_before()) + usize::from(self.rows.has_after())
+        let (before, after) = self.images();
+        usize::from(before.is_some()) + usize::from(after.is_some())
     }
 }
 
@@ -122,18 +119,42 @@ fn planned<'h>(plan: &Plan, change: Change<'h>) -> Option<PlannedChange<'h>>
     Some(PlannedChange { table, rows })
 }
 
-/// The changes of the plan's tables.
-fn planned_changes<'h>(
+/// The changes of the plan's tables, in a block with room for all changes.
+fn planned_list<'h>(
     alloc: Global,
     plan: &Plan,
     changes: Vec<Change<'h>>,
 ) -> Result<Vec<PlannedChange<'h>>, AllocError>
     ensures { IfOk result (λ under. under.items ≡ filter_map (planned_change plan.now) changes.entry.items) }
 {
-    changes
-        .into_iter()
-        .filter_map(|change| planned(plan, change))
-        .collect(alloc)
+    let mut under = Vec::with_capacity(alloc, changes.len())?;
+    for change in changes {
+        if let Some(change) = planned(plan, change) {
+            under.push(change)?;
+        }
+    }
+    Ok(under)
+}
+
+/// The changes of the plan's tables as a group keeps them. Of a single change none takes a block.
+fn planned_changes<'h>(
+    alloc: Global,
+    plan: &Plan,
+    changes: Vec<Change<'h>>,
+) -> Result<Changes<'h>, AllocError>
+    ensures { IfOk result (λ under. listed under ≡ filter_map (planned_change plan.now) changes.entry.items) }
+{
+    if changes.len() > 1 {
+        return Ok(Changes::from_vec(planned_list(alloc, plan, changes)?));
+    }
+    let mut changes = changes;
+    let Some(only) = changes.pop() else {
+        return Ok(Changes::Many(Vec::new(alloc)));
+    };
+    match planned(plan, only) {
+        Some(only) => Ok(Changes::One(only)),
+        None => Ok(Changes::Many(Vec::new(alloc))),
+    }
 }
 
 /// The group under the plan.
@@ -153,7 +174,7 @@ fn planned_of<'h>(
     Ok(PlannedGroup {
         number,
         position: Arc::new(alloc, position)?,
-        changes: Changes::from_vec(planned_changes(alloc, plan, changes)?),
+        changes: planned_changes(alloc, plan, changes)?,
     })
 }
 

@@ -44,8 +44,8 @@ impl Place<'_> {
         requires columns { length row.now ≡ length (columns_of self.now.plan.now self.now.table) }
         ensures { GivesUnless meant_of (λ key. key) result (key_in_group self.now.plan.now self.now.group self.now.table row.now) }
     {
-        match key_of_bytes(self.plan, self.table, row) {
-            Ok(key) => Ok(LentKey::from_view(alloc, &key)?),
+        match LentKey::of_bytes(alloc, self.plan, self.table, row)? {
+            Ok(key) => Ok(key),
             Err(fault) => Err(self.refused(fault.number())),
         }
     }
@@ -143,8 +143,9 @@ fn put_change<'h>(
 {
     let table = change.table();
     let place = Place { plan, group, table };
-    place.put_before(alloc, change.before_bytes(), touches)?;
-    place.put_after(alloc, change.after_bytes(), touches)?;
+    let (before, after) = change.images();
+    place.put_before(alloc, before, touches)?;
+    place.put_after(alloc, after, touches)?;
     Ok(())
 }
 

@@ -1,6 +1,6 @@
 //! The open transaction of a feed.
 
-ghost use Rattle.std.specs.Prelude.{◌≡◌, ℕ, Option, ◌++◌, None, Some, OnOk, IfErr};
+ghost use Rattle.std.specs.Prelude.{◌≡◌, ℕ, Option, ◌++◌, None, Some, OnOk, IfErr, length, min};
 ghost use Rattle.std.specs.Option.{option_map};
 ghost use Rattle.std.specs.List.{list_all};
 ghost use Rattle.outcome.specs.Outcome.{IsFault};
@@ -15,6 +15,7 @@ use crate::fault::FeedFault;
 use crate::group::Change;
 use gtid_set::GtidSet;
 use row_view::RowView;
+use std::alloc::AllocError;
 use vevent::{RowChange, RowChanges, RowEvent};
 
 /// What the open transaction has so far.
@@ -68,14 +69,38 @@ fn push_change<'h>(
     ensures pushed { OnOk result (changes.new.items ≡ changes.old.items ++ change_in table.now rows.entry) }
     ensures err { IfErr result (λ fault. fault ≡ Memory) }
 {
-    if rows.has_after() || rows.has_before() {
-        if changes.len() < 2 {
-            // most transactions change one row or two; behind them the room doubles
-            changes.reserve_exact(1)?;
-        }
+    let (before, after) = rows.images();
+    if before.is_some() || after.is_some() {
         changes.push(Change { table, rows })?;
     }
     Ok(())
+}
+
+/// For how many row changes room is taken at once: for all, up to 256. Reads no row.
+fn room_for(rows: RowChanges<'_>) -> usize
+    ensures { result ≡ min (length rows.entry) 256 }
+{
+    let mut room: usize = 0;
+    for _change in rows {
+        if room == 256 {
+            return room;
+        }
+        room += 1;
+    }
+    room
+}
+
+/// Takes room for row changes behind others.
+fn take_room(changes: &mut Vec<Change<'_>>, rows: RowChanges<'_>) -> Result<(), AllocError>
+    ensures { changes.new.items ≡ changes.old.items }
+{
+    let room = room_for(rows);
+    if changes.len() < 2 {
+        // most transactions have one ROW event, or two of one change; behind them the room doubles
+        changes.reserve_exact(room)
+    } else {
+        changes.reserve(room)
+    }
 }
 
 /// Puts row changes behind others.
@@ -91,6 +116,19 @@ fn push_changes<'h>(
         push_change(changes, table, change)?;
     }
     Ok(())
+}
+
+/// Puts the changes of a ROW event behind others, in room that is taken at once.
+fn put_changes<'h>(
+    changes: &mut Vec<Change<'h>>,
+    table: &'h str,
+    row: &RowEvent<'h>,
+) -> Result<(), FeedFault>
+    ensures pushed { OnOk result (changes.new.items ≡ changes.old.items ++ changes_in table.now row.now.changes) }
+    ensures err { IfErr result (λ fault. fault ≡ Memory) }
+{
+    take_room(changes, row.changes())?;
+    push_changes(changes, table, row.changes())
 }
 
 impl<'h> Transaction<'h> {
@@ -113,6 +151,6 @@ impl<'h> Transaction<'h> {
         if !rows_fit(row, width) {
             return Err(FeedFault::ColumnCount);
         }
-        push_changes(&mut self.changes, table, row.changes())
+        put_changes(&mut self.changes, table, row)
     }
 }

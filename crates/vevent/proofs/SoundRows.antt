@@ -1,13 +1,13 @@
 -- The row that stands alone in a row change can be read, where none of its rows is at fault.
 use Rattle.std.proofs.Common.{◌≡◌, ℕ, Bool, true, false, cond, eqb, List, [], ◌∷◌, Option, Some, None, Result, Ok, Err, refl, sym, subst, ◌⊎◌, inl, inr}
-use Rattle.std.specs.Prelude.{option_and_then, IsOk}
+use Rattle.std.specs.Prelude.{option_and_then, IsOk, IfSome}
 use Rattle.std.specs.List.{cons_option, filter_map}
 use Rattle.std.specs.Result.{result_err}
 use Rattle.std.proofs.lemmas.Bool.{eqb-true}
-use Rattle.proto_wire.specs.Field.{WireField}
+use Rattle.proto_wire.specs.Field.{WireField, fields_of}
 use Rattle.row_view.specs.Row.{row_of_message}
-use Rattle.proto_wire.specs.Parts.{bytes_in, part_in, first_of}
-use Rattle.vevent.specs.Fault.{first_in, in_change}
+use Rattle.proto_wire.specs.Parts.{bytes_in, part_in, first_of, single}
+use Rattle.vevent.specs.Fault.{first_in, in_change, change_fault}
 use Rattle.vevent.proofs.FirstFault.{none_first, none_second}
 
 sound_row : (number : ℕ) (row : List ℕ) → (number ≡ 1) ⊎ (number ≡ 2) → in_change number row ≡ None → result_err (row_of_message row) ≡ None
@@ -35,3 +35,8 @@ single_is_sound number (f ∷ fs) row which sound h =
 pub ok_without_fault : {A F : Type 0} (r : Result A F) → result_err r ≡ None → IsOk r
 ok_without_fault (Ok x) h = refl
 ok_without_fault (Err f) h = absurd cc
+
+-- so can what is found under a row's number, if anything is
+pub found_is_sound : (number : ℕ) (change : List ℕ) (found : Option (List ℕ)) → (number ≡ 1) ⊎ (number ≡ 2) → change_fault change ≡ None → found ≡ single number change → IfSome found (λ row. IsOk (row_of_message row))
+found_is_sound number change None which sound is = tt
+found_is_sound number change (Some row) which sound is = ok_without_fault (row_of_message row) (single_is_sound number (fields_of change).items row which sound (sym is))

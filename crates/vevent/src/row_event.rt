@@ -1,16 +1,17 @@
 //! Row events: changes of one table's rows.
 
-ghost use Rattle.std.specs.Prelude.{◌≡◌, ◌⊎◌, None, option_map, is_some};
+ghost use Rattle.std.specs.Prelude.{◌≡◌, ◌⊎◌, None, IfSome, IsOk, option_copied, option_map, is_some};
 ghost use Rattle.std.specs.Iterator.{YieldsFirstBy, item_count};
 ghost use Rattle.std.specs.List.{list_all};
 ghost use Rattle.proto_wire.specs.Parts.{parts, single};
+ghost use Rattle.row_view.specs.Row.{row_of_message};
 ghost use Rattle.vevent.specs.Fault.{change_fault, first_row_fault};
 ghost use Rattle.vevent.specs.Message.{image_of, changes_of};
 ghost use Rattle.vevent.specs.Columns.{have_columns};
 ghost use Rattle.vevent.specs.Private.ColumnCount.{IsCountOf};
 
 use crate::column_count::ColumnCount;
-use proto_wire::{Parts, single_of};
+use proto_wire::{Fields, Parts, single_of};
 use row_view::{RowBytes, RowView};
 use std::marker::Model;
 
@@ -163,6 +164,16 @@ impl<'b> RowChange<'b> {
         row_under(self.message, 2)
     }
 
+    /// The bytes of the rows before and after the change, as `before_bytes` and `after_bytes` answer them, in
+    /// one walk over the change. Reads no row.
+    pub fn images(&self) -> (Option<RowBytes<'b>>, Option<RowBytes<'b>>)
+        ensures before { result.0 ≡ self.now.before }
+        ensures after { result.1 ≡ self.now.after }
+    {
+        let (before, after) = rows_in(self.message);
+        (row_found(before), row_found(after))
+    }
+
     /// The row before the change, or `None` for an insert. Reads its lengths once more, and takes no
     /// memory.
     pub fn before(&self) -> Option<RowView<'b>>
@@ -191,4 +202,29 @@ fn row_under(change: &[u8], number: u32) -> Option<RowBytes<'_>>
 {
     let row = single_of(change, number)?;
     Some(RowBytes::of_row(row))
+}
+
+/// What a row change holds under the two numbers of rows, the first of several.
+#[inline(always)]
+fn rows_in(change: &[u8]) -> (Option<&[u8]>, Option<&[u8]>)
+    ensures before { option_copied result.0 ≡ single 1 change.now }
+    ensures after { option_copied result.1 ≡ single 2 change.now }
+{
+    let mut before: Option<&[u8]> = None;
+    let mut after: Option<&[u8]> = None;
+    let mut fields = Fields::new(change);
+    while let Ok(Some(field)) = fields.next_field() {
+        before = before.or(field.part(1));
+        after = after.or(field.part(2));
+    }
+    (before, after)
+}
+
+/// The bytes of a row that was found in a row change.
+#[inline(always)]
+fn row_found(row: Option<&[u8]>) -> Option<RowBytes<'_>>
+    requires { IfSome (option_copied row) (λ found. IsOk (row_of_message found)) }
+    ensures { result ≡ option_map image_of (option_copied row.entry) }
+{
+    Some(RowBytes::of_row(row?))
 }
