@@ -9,6 +9,7 @@ use Rattle.filter_rule.specs.PlanValue.{PlanValue}
 use Rattle.pk_copy.specs.KeyOrder.{key_cmp}
 use Rattle.pk_copy.specs.KeyValue.{KeyValue}
 use Rattle.pk_copy.specs.Marks.{Marks, is_past, moved_to, next_table}
+use Rattle.stream_core.specs.Standing.{Standing}
 use Rattle.target_tables.specs.Rising.{IsRising}
 use Rattle.target_tables.specs.Touches.{last_at}
 use Rattle.source_feed.specs.History.{RowValue, kept_of}
@@ -29,10 +30,10 @@ use Rattle.board_laws.proofs.Chunks.{left-rising, last-past}
 use Rattle.board_laws.proofs.RowsUnder.{IsRowUnder, passed-under}
 use Rattle.apply_core.specs.Chunks.{last_key_of, IsMoveOf, IsTakenChunk, IsChunkFor}
 use Rattle.apply_core.specs.Private.Changes.{IsOfTable}
-use Rattle.apply_core.specs.Private.StreamState.{IsStream}
+use Rattle.apply_core.specs.Private.StreamState.{IsStream, IsStreamAt}
 use Rattle.apply_core.specs.Private.StreamStep.{MayMake, ArePutsOf}
 use Rattle.apply_core.specs.declared.taking.Chunk.{Chunk}
-use Rattle.apply_core.specs.declared.taking.Move.{Move}
+use Rattle.apply_core.specs.declared.taking.MarkMove.{MarkMove}
 use denote.Ref.{Bor}
 
 abbrev pub LentRows : Type 0
@@ -134,13 +135,13 @@ is-taken ties tells state c found e rows first second cut one two puts put all o
 -- ---- behind a chunk
 
 -- what is said of the stream, if there is one, is said of the one that may make the step
-pub move_here : (streams : List State) (s : ℕ) (c : ℕ) (step : Move) (d : State) → MayMake streams s (copy_rows c) → IfSome (slice_get streams s) (λ state. IsMoveOf state c step)
+pub move_here : (streams : List State) (s : ℕ) (c : ℕ) (step : MarkMove) (d : State) → MayMake streams s (copy_rows c) → IfSome (slice_get streams s) (λ state. IsMoveOf state c step)
     → IsMoveOf (get_or streams s d) c step
 move_here streams s c step d may moves =
     subst (λ (state : State). IsMoveOf state c step) (sym (get_or_from_slice_get streams s may.state d may.stream))
     (subst (λ (o : Option State). IfSome o (λ state. IsMoveOf state c step)) may.stream moves)
 
-module _ (old now : State) (is : old ≡ now) (c : ℕ) (step : Move) (moves : IsMoveOf now c step) (key : KeyValue) (last : step.last ≡ Some key) where
+module _ (old now : State) (is : old ≡ now) (c : ℕ) (step : MarkMove) (moves : IsMoveOf now c step) (key : KeyValue) (last : step.last ≡ Some key) where
   -- the row that the mark moves to
   last_row : (row : KeyValue × RowValue) × (slice_get (rows_taken now c) (length (rows_taken now c) - 1) ≡ Some row) × (key ≡ row.0)
   last_row = by (slice_get (rows_taken now c) (length (rows_taken now c) - 1)) refl (sym last ∙ moves.last)
@@ -177,12 +178,18 @@ module _ (old now : State) (is : old ≡ now) (c : ℕ) (step : Move) (moves : I
         ∙ sym (ap (λ b. cond b (record { plan = now.plan; list = now.list; applied = now.applied; marks = next_table now.marks; snapshot = None })
         (record { plan = now.plan; list = now.list; applied = now.applied; marks = marks_behind (rows_taken now c) now.marks; snapshot = now.snapshot })) more_left)
 
-    pub moved-stream : StatesStaySound → IsAllowed now (copy_rows c) → (imaged : ℕ) (image : ImageRows) → IsStream old imaged image → IsStream after imaged image
-    moved-stream sound allowed imaged image inv = record {
+    moved_stream : StatesStaySound → IsAllowed now (copy_rows c) → (imaged : ℕ) (image : ImageRows) → IsStream old imaged image → IsStream after imaged image
+    moved_stream sound allowed imaged image inv = record {
       sound = subst (λ (s : State). IsSoundState s) (sym moved-value) (sound now (copy_rows c) (subst (λ (s : State). IsSoundState s) is inv.sound) allowed tt);
       kept = inv.kept;
       within = inv.within;
       opened = inv.opened;
+    }
+
+    pub moved-stream : StatesStaySound → IsAllowed now (copy_rows c) → (cursor : Standing) (imaged : ℕ) (image : ImageRows) → IsStreamAt old cursor imaged image → IsStreamAt after cursor imaged image
+    moved-stream sound allowed cursor imaged image inv = record {
+      stands = inv.stands ∙ ap (λ (m : Marks). record { read = length old.list; applied = old.applied; tables = m.tables; done = m.done; snapshot = old.snapshot }) (sym moved);
+      stream = moved_stream sound allowed imaged image inv.stream;
     }
 
 -- ---- a chunk that was taken before

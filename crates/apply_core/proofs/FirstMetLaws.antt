@@ -4,6 +4,7 @@ use Rattle.std.proofs.lemmas.Bool.{true≢false}
 use Rattle.std.specs.List.{AllByRecursion}
 use Rattle.list_laws.proofs.Fronts.{each}
 use Rattle.pk_copy.specs.KeyValue.{KeyValue}
+use Rattle.target_tables.specs.declared.merge_side.MergeSide.{MergeSide}
 use Rattle.apply_core.specs.Private.Meeting.{Met, clashes, AreOrdered, IsNoneBefore, IsNoneUpTo, NoneClash, IsFirstMet}
 
 -- ---- one key more
@@ -19,11 +20,11 @@ append_assoc {X} (x ∷ xs) ys zs = ap (λ (l : List X). x ∷ l) (append_assoc 
 pub never : {P : Type 0} (b : Bool) → b ≡ false → b ≡ true → P
 never b e f = absurd (true≢false (sym f ∙ e))
 
-module _ (marks : List Bool) (seen : List Met) (met : Met) where
-  pub none_more : NoneClash marks seen → clashes marks met.1.0 met.1.1 ≡ false → NoneClash marks (seen ++ met ∷ [])
-  none_more none e = all_join (λ (m : Met). clashes marks m.1.0 m.1.1 ≡ false) seen (met ∷ []) none (e, tt)
+module _ (sides : List MergeSide) (seen : List Met) (met : Met) where
+  pub none_more : NoneClash sides seen → clashes sides met.1.0 met.1.1 ≡ false → NoneClash sides (seen ++ met ∷ [])
+  none_more none e = all_join (λ (m : Met). clashes sides m.1.0 m.1.1 ≡ false) seen (met ∷ []) none (e, tt)
 
-  pub first_is : (later lower : ℕ) → NoneClash marks seen → clashes marks met.1.0 met.1.1 ≡ true → AreOrdered met.1.0 met.1.1 later lower → IsFirstMet marks (seen ++ met ∷ []) met.0 later lower
+  pub first_is : (later lower : ℕ) → NoneClash sides seen → clashes sides met.1.0 met.1.1 ≡ true → AreOrdered met.1.0 met.1.1 later lower → IsFirstMet sides (seen ++ met ∷ []) met.0 later lower
   first_is later lower none clash order = record {
     front = seen;
     met = met;
@@ -32,12 +33,12 @@ module _ (marks : List Bool) (seen : List Met) (met : Met) where
     is = refl;
     clash = clash;
     order = order;
-    before = each (λ (m : Met). clashes marks m.1.0 m.1.1 ≡ false) (IsNoneUpTo marks later) (λ m e. never (clashes marks m.1.0 m.1.1) e) seen none;
+    before = each (λ (m : Met). clashes sides m.1.0 m.1.1 ≡ false) (IsNoneUpTo sides later) (λ m e. never (clashes sides m.1.0 m.1.1) e) seen none;
     behind = tt;
   }
 
-  module _ (key : KeyValue) (least own : ℕ) (h : IsFirstMet marks seen key least own) where
-    pub first_stays : (clashes marks met.1.0 met.1.1 ≡ true → (least ≤ met.1.0) ⊎ (least ≤ met.1.1)) → IsFirstMet marks (seen ++ met ∷ []) key least own
+  module _ (key : KeyValue) (least own : ℕ) (h : IsFirstMet sides seen key least own) where
+    pub first_stays : (clashes sides met.1.0 met.1.1 ≡ true → (least ≤ met.1.0) ⊎ (least ≤ met.1.1)) → IsFirstMet sides (seen ++ met ∷ []) key least own
     first_stays late = record {
       front = h.front;
       met = h.met;
@@ -47,10 +48,10 @@ module _ (marks : List Bool) (seen : List Met) (met : Met) where
       clash = h.clash;
       order = h.order;
       before = h.before;
-      behind = all_join (IsNoneBefore marks least) h.back (met ∷ []) h.behind (late, tt);
+      behind = all_join (IsNoneBefore sides least) h.back (met ∷ []) h.behind (late, tt);
     }
 
-    pub first_sooner : (later lower : ℕ) → clashes marks met.1.0 met.1.1 ≡ true → AreOrdered met.1.0 met.1.1 later lower → later < least → IsFirstMet marks (seen ++ met ∷ []) met.0 later lower
+    pub first_sooner : (later lower : ℕ) → clashes sides met.1.0 met.1.1 ≡ true → AreOrdered met.1.0 met.1.1 later lower → later < least → IsFirstMet sides (seen ++ met ∷ []) met.0 later lower
     first_sooner later lower clash order less = record {
       front = seen;
       met = met;
@@ -59,11 +60,11 @@ module _ (marks : List Bool) (seen : List Met) (met : Met) where
       is = refl;
       clash = clash;
       order = order;
-      before = subst (AllByRecursion (IsNoneUpTo marks later)) (sym h.parts)
-          (all_join (IsNoneUpTo marks later) h.front (h.met ∷ h.back)
-          (each (IsNoneUpTo marks least) (IsNoneUpTo marks later) (λ m f c. elim (f c) [ inl l ↦ inl (omega (arith, l, less)) | inr l ↦ inr (omega (arith, l, less)) ]) h.front h.before) (
+      before = subst (AllByRecursion (IsNoneUpTo sides later)) (sym h.parts)
+          (all_join (IsNoneUpTo sides later) h.front (h.met ∷ h.back)
+          (each (IsNoneUpTo sides least) (IsNoneUpTo sides later) (λ m f c. elim (f c) [ inl l ↦ inl (omega (arith, l, less)) | inr l ↦ inr (omega (arith, l, less)) ]) h.front h.before) (
             (λ _. (elim h.order [ inl o ↦ inl (let e : least ≡ h.met.1.0 = o.0 in omega (arith, e, less)) | inr o ↦ inr (let e : least ≡ h.met.1.1 = o.0 in omega (arith, e, less)) ])),
-            each (IsNoneBefore marks least) (IsNoneUpTo marks later) (λ m f c. elim (f c) [ inl l ↦ inl (omega (arith, l, less)) | inr l ↦ inr (omega (arith, l, less)) ]) h.back h.behind,
+            each (IsNoneBefore sides least) (IsNoneUpTo sides later) (λ m f c. elim (f c) [ inl l ↦ inl (omega (arith, l, less)) | inr l ↦ inr (omega (arith, l, less)) ]) h.back h.behind,
           ));
       behind = tt;
     }

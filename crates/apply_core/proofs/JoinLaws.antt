@@ -1,22 +1,15 @@
 -- The streams of two boards that are joined: which states are chosen, and the streams that are left.
-use Rattle.std.proofs.Common.{◌≡◌, ◌≢◌, ℕ, zero, suc, ◌+◌, ◌<◌, ◌≤◌, ◌⊎◌, inl, inr, true, false, cond, List, [], ◌∷◌, ◌++◌, length, take, get_or, set, Option, Some, None, Result, Ok, Err, OnOk, IfErr, slice_get, refl, sym, ap, subst, ◌∙◌, arith}
+use Rattle.std.proofs.Common.{◌≡◌, ◌≢◌, ℕ, zero, suc, ◌+◌, ◌<◌, ◌≤◌, ◌⊎◌, inl, inr, true, false, cond, List, [], ◌∷◌, length, get_or, set, Some, None, slice_get, refl, sym, ap, subst, ◌∙◌, arith}
 use Rattle.std.proofs.Math.Nat.{eq-or-lt_of_le}
 use Rattle.std.proofs.lemmas.Bool.{cases_lt}
-use Rattle.std.proofs.lemmas.List.{length-map, length-take-le, length-set, take_all}
+use Rattle.std.proofs.lemmas.List.{length-map, length-set}
 use Rattle.std.proofs.lemmas.Option.{same_Some, slice_get_read}
 use Rattle.std.specs.Ordering.{is_lt}
 use Rattle.list_laws.proofs.Places.{place_of, slice_get-set_same, slice_get-set_other}
 use Rattle.filter_rule.specs.PlanValue.{PlanValue}
-use Rattle.pk_copy.specs.KeyOrder.{key_cmp}
-use Rattle.pk_copy.specs.KeyValue.{KeyValue}
-use Rattle.target_tables.specs.Touches.{IsLeastClash}
-use Rattle.source_feed.specs.History.{RowValue}
 use Rattle.board_laws.specs.Meaning.{State, TargetRows, Meaning}
 use Rattle.board_laws.specs.Lawful.{IsLawful}
-use Rattle.board_laws.specs.Step.{due_at}
 use Rattle.board_laws.proofs.Lookups.{Ties}
-use Rattle.join_laws.specs.declared.fault.JoinFault.{JoinFault}
-use Rattle.join_laws.specs.declared.fault.JoinFault.TheVariants.{WrongPlan, HistoriesDiffer, OwnedByOther, Memory}
 use Rattle.join_laws.specs.Order.{state_cmp}
 use Rattle.join_laws.specs.Chosen.{chosen, all_chosen}
 use Rattle.join_laws.specs.Joined.{rows_from, board_of, joined}
@@ -24,14 +17,8 @@ use Rattle.join_laws.specs.Compatible.{OfEachStream, AreAlike, AreApart, AreComp
 use Rattle.join_laws.proofs.States.{states_tie}
 use Rattle.join_laws.proofs.Pairs.{same_plan, chosen_plans, chosen_comm, at_chosen}
 use Rattle.apply_core.specs.Private.Beside.{plans_in}
-use Rattle.apply_core.specs.Private.Together.{AreTogether, ArePutsOfCut, IsNotPut, AreNotTogether}
 
 -- ---- places
-
-take_next : {A : Type 0} (xs : List A) (s : ℕ) (x : A) → slice_get xs s ≡ Some x → take (suc s) xs ≡ take s xs ++ x ∷ []
-take_next [] s x e = cc
-take_next {A} (y ∷ xs) zero x e = ap (λ (z : A). z ∷ []) (same_Some y x e)
-take_next {A} (y ∷ xs) (suc s) x e = ap (λ (zs : List A). y ∷ zs) (take_next xs s x e)
 
 -- lists that have the same at every place are the same
 same_places : {A : Type 0} (xs ys : List A) → ((i : ℕ) → slice_get xs i ≡ slice_get ys i) → xs ≡ ys
@@ -71,53 +58,6 @@ module _ (xs ys : List State) (s : ℕ) (x y : State) (here : slice_get xs s ≡
 
   pub chosen_first : is_lt (state_cmp x y) ≡ false → slice_get (all_chosen xs ys) s ≡ slice_get xs s
   chosen_first e = at_chosen xs ys s x y here there ∙ ap (λ b. Some (cond b y x)) e ∙ sym here
-
--- ---- one stream more
-
-on_ok : {A E P Q : Type 0} (r : Result A E) → (P → Q) → OnOk r P → OnOk r Q
-on_ok (Ok x) f h = f h
-on_ok (Err x) f h = h
-
-if_err : {A E : Type 0} {P Q : E → Type 0} (r : Result A E) → ((e : E) → P e → Q e) → IfErr r P → IfErr r Q
-if_err (Ok x) f h = h
-if_err (Err x) f h = f x h
-
-module _ (all : List State) (s : ℕ) (inside : s < length all) (old new : TargetRows) (puts : List (KeyValue × Option RowValue)) (lower : AreTogether (take s all) old)
-    (due : (state : State) → slice_get all s ≡ Some state → ArePutsOfCut state puts) where
-  next : (state : State) × (slice_get all s ≡ Some state)
-  next = place_of all s inside
-
-  front_long : length (take s all) ≡ s
-  front_long = length-take-le s all (omega (arith, inside))
-
-  pub stream_more : {A E : Type 0} (r : Result A E) → OnOk r ((front : List State) (state : State) → length front ≡ s → AreTogether front old → ArePutsOfCut state puts → AreTogether (front ++ state ∷ []) new)
-      → OnOk r (AreTogether (take (s + 1) all) new)
-  stream_more r h =
-      on_ok r
-      (λ f.
-      let number : suc s ≡ s + 1 = omega arith in
-      subst (λ (states : List State). AreTogether states new) (sym (take_next all s next.0 next.1) ∙ ap (λ n. take n all) number) (f (take s all) next.0 front_long lower (due next.0 next.1)))
-      h
-
-  pub stream_refused : {A : Type 0} (r : Result A JoinFault) → IfErr r (λ fault. (front : List State) (state : State) → length front ≡ s → AreTogether front old → ArePutsOfCut state puts → IsNotPut front state fault)
-      → IfErr r (AreNotTogether all)
-  stream_refused r h = if_err r (λ fault f. by fault (f (take s all) next.0 front_long lower (due next.0 next.1))) h
-    where
-      by : (fault : JoinFault) → IsNotPut (take s all) next.0 fault → AreNotTogether all fault
-      by (OwnedByOther key owner) clash = record {
-        stream = s;
-        state = next.0;
-        here = next.1;
-        lower = lower.apart;
-        least = subst (λ n. IsLeastClash key_cmp (rows_from 0 (take s all)) n (due_at next.0) key owner) front_long clash;
-      }
-      by Memory none = tt
-      by WrongPlan none = none
-      by (HistoriesDiffer t) none = none
-
-pub all_together : (xs ys : List State) (n : ℕ) (rows : TargetRows) → plans_in xs ≡ plans_in ys → length xs ≤ n → AreTogether (take n (all_chosen xs ys)) rows → AreTogether (all_chosen xs ys) rows
-all_together xs ys n rows plans most h =
-    subst (λ (states : List State). AreTogether states rows) (take_all n (all_chosen xs ys) (subst (λ m. m ≤ n) (sym (chosen_long xs ys plans)) most)) h
 
 -- ---- the streams that are left
 

@@ -14,7 +14,9 @@ use Rattle.pk_copy.specs.KeyOrderLaws.{key_cmp_total}
 use Rattle.pk_copy.specs.KeyValue.{KeyValue}
 use Rattle.target_tables.specs.Contents.{value_at}
 use Rattle.target_tables.specs.Common.{common}
-use Rattle.target_tables.specs.Merged.{has_mark, is_true, of_part, AreMerged}
+use Rattle.target_tables.specs.declared.merge_side.MergeSide.{MergeSide}
+use Rattle.target_tables.specs.declared.merge_side.MergeSide.TheVariants.{First, Second}
+use Rattle.target_tables.specs.Merged.{comes_from, is_second, of_part, AreMerged}
 use Rattle.target_tables.specs.Rising.{IsRising}
 use Rattle.target_tables.specs.Touches.{owner_in_the_way}
 use Rattle.source_feed.specs.History.{RowValue}
@@ -31,7 +33,7 @@ use Rattle.join_laws.specs.Refused.{IsFirstClash}
 use Rattle.join_laws.proofs.Pairs.{partner, IsChosenOf, chosen_at}
 use Rattle.join_laws.proofs.Rows.{row_of_one, rising_from, value_from, IsRowOf, whose, some_row}
 use Rattle.apply_core.specs.Private.Beside.{plans_in}
-use Rattle.apply_core.specs.Private.Meeting.{AreFurtherMarks, Met, clashes, IsNoneBefore, IsNoneUpTo, NoneClash, IsFirstMet}
+use Rattle.apply_core.specs.Private.Meeting.{side_by, AreFurtherSides, Met, clashes, IsNoneBefore, IsNoneUpTo, NoneClash, IsFirstMet}
 use Rattle.apply_core.proofs.JoinLaws.{chosen_first, chosen_second}
 use Rattle.apply_core.proofs.FirstMetLaws.{all_join, never}
 use Rattle.apply_core.proofs.CommonLaws.{Stands, all_stand, rising_common, of_common}
@@ -61,6 +63,10 @@ not_is : (b : Bool) → not b ≡ true → b ≡ false
 not_is true e = sym e
 not_is false e = refl
 
+second_side : (b : Bool) → is_second (Some (side_by b)) ≡ b
+second_side true = refl
+second_side false = refl
+
 has_a_cut : (board : Meaning) → IsLawful board → (k : KeyValue) (v : ℕ × RowValue) → value_at key_cmp board.rows k ≡ Some v → HasCut board.streams v.0 k v.1
 has_a_cut board lawful k v e = by (slice_get board.streams v.0) refl
   where
@@ -75,7 +81,7 @@ row_of_cut : (board : Meaning) → IsLawful board → (s : ℕ) (x : State) (k :
 row_of_cut board lawful s x k row here cut =
     own_of s (value_at key_cmp board.rows k) row (lawful.cuts s k ∙ ap (λ (o : Option State). option_and_then (λ state. cut_of state k) o) here ∙ cut)
 
-module _ (ties : Ties) (a b : Meaning) (marks : List Bool) (la : IsLawful a) (lb : IsLawful b) (plans : plans_in a.streams ≡ plans_in b.streams) (are : AreFurtherMarks a.streams b.streams marks) where
+module _ (ties : Ties) (a b : Meaning) (sides : List MergeSide) (la : IsLawful a) (lb : IsLawful b) (plans : plans_in a.streams ≡ plans_in b.streams) (are : AreFurtherSides a.streams b.streams sides) where
   abbrev all : List State
   all = all_chosen a.streams b.streams
 
@@ -83,23 +89,23 @@ module _ (ties : Ties) (a b : Meaning) (marks : List Bool) (la : IsLawful a) (lb
   met = common key_cmp a.rows b.rows
 
   -- a row of a stream that comes from its board is that of the chosen state's cut
-  stays_first : (k : KeyValue) (v : ℕ × RowValue) → value_at key_cmp a.rows k ≡ Some v → has_mark marks false v.0 ≡ true → HasCut all v.0 k v.1
-  stays_first k v e mark =
+  stays_first : (k : KeyValue) (v : ℕ × RowValue) → value_at key_cmp a.rows k ≡ Some v → comes_from sides First v.0 ≡ true → HasCut all v.0 k v.1
+  stays_first k v e from =
       let cut : HasCut a.streams v.0 k v.1 = has_a_cut a la k v e in
       let other : (y : State) × (slice_get b.streams v.0 ≡ Some y) = partner a.streams b.streams plans v.0 cut.state cut.here in
-      let less : is_lt (state_cmp cut.state other.0) ≡ false = not_is (is_lt (state_cmp cut.state other.0)) (sym (ap (λ (o : Option Bool). not (is_true o)) (are v.0 cut.state other.0 cut.here other.1)) ∙ mark) in
+      let less : is_lt (state_cmp cut.state other.0) ≡ false = not_is (is_lt (state_cmp cut.state other.0)) (ap not (sym (second_side (is_lt (state_cmp cut.state other.0)))) ∙ sym (ap (λ (o : Option MergeSide). not (is_second o)) (are v.0 cut.state other.0 cut.here other.1)) ∙ from) in
       record { state = cut.state; here = chosen_first a.streams b.streams v.0 cut.state other.0 cut.here other.1 less ∙ cut.here; cut = cut.cut }
 
-  stays_second : (k : KeyValue) (v : ℕ × RowValue) → value_at key_cmp b.rows k ≡ Some v → has_mark marks true v.0 ≡ true → HasCut all v.0 k v.1
-  stays_second k v e mark =
+  stays_second : (k : KeyValue) (v : ℕ × RowValue) → value_at key_cmp b.rows k ≡ Some v → comes_from sides Second v.0 ≡ true → HasCut all v.0 k v.1
+  stays_second k v e from =
       let cut : HasCut b.streams v.0 k v.1 = has_a_cut b lb k v e in
       let other : (x : State) × (slice_get a.streams v.0 ≡ Some x) = partner b.streams a.streams (sym plans) v.0 cut.state cut.here in
-      let less : is_lt (state_cmp other.0 cut.state) ≡ true = sym (ap is_true (are v.0 other.0 cut.state other.1 cut.here)) ∙ mark in
+      let less : is_lt (state_cmp other.0 cut.state) ≡ true = sym (second_side (is_lt (state_cmp other.0 cut.state))) ∙ sym (ap is_second (are v.0 other.0 cut.state other.1 cut.here)) ∙ from in
       record { state = cut.state; here = chosen_second a.streams b.streams v.0 other.0 cut.state other.1 cut.here less ∙ cut.here; cut = cut.cut }
 
   -- from which board a row of a chosen state's cut comes
   abbrev ComesFrom : ℕ → KeyValue → RowValue → Type 0
-  ComesFrom s k row = ((has_mark marks false s ≡ true) × (value_at key_cmp a.rows k ≡ Some (s, row))) ⊎ ((has_mark marks true s ≡ true) × (value_at key_cmp b.rows k ≡ Some (s, row)))
+  ComesFrom s k row = ((comes_from sides First s ≡ true) × (value_at key_cmp a.rows k ≡ Some (s, row))) ⊎ ((comes_from sides Second s ≡ true) × (value_at key_cmp b.rows k ≡ Some (s, row)))
 
   comes : (s : ℕ) (z : State) (k : KeyValue) (row : RowValue) → slice_get all s ≡ Some z → cut_of z k ≡ Some row → ComesFrom s k row
   comes s z k row e cut = by (is_lt (state_cmp of.one of.other)) refl
@@ -107,36 +113,36 @@ module _ (ties : Ties) (a b : Meaning) (marks : List Bool) (la : IsLawful a) (lb
       of : IsChosenOf a.streams b.streams s z
       of = chosen_at a.streams b.streams s z e
 
-      mark : slice_get marks s ≡ Some (is_lt (state_cmp of.one of.other))
-      mark = are s of.one of.other of.here of.there
+      side : slice_get sides s ≡ Some (side_by (is_lt (state_cmp of.one of.other)))
+      side = are s of.one of.other of.here of.there
 
       by : (r : Bool) → is_lt (state_cmp of.one of.other) ≡ r → ComesFrom s k row
       by true q =
           let is : z ≡ of.other = of.is ∙ ap (λ (b : Bool). cond b of.other of.one) q in
-          inr (ap is_true mark ∙ q, row_of_cut b lb s of.other k row of.there (sym (ap (λ (x : State). cut_of x k) is) ∙ cut))
+          inr (ap is_second side ∙ second_side (is_lt (state_cmp of.one of.other)) ∙ q, row_of_cut b lb s of.other k row of.there (sym (ap (λ (x : State). cut_of x k) is) ∙ cut))
       by false q =
           let is : z ≡ of.one = of.is ∙ ap (λ (b : Bool). cond b of.other of.one) q in
-          inl (ap (λ (o : Option Bool). not (is_true o)) mark ∙ ap not q, row_of_cut a la s of.one k row of.here (sym (ap (λ (x : State). cut_of x k) is) ∙ cut))
+          inl (ap (λ (o : Option MergeSide). not (is_second o)) side ∙ ap not (second_side (is_lt (state_cmp of.one of.other)) ∙ q), row_of_cut a la s of.one k row of.here (sym (ap (λ (x : State). cut_of x k) is) ∙ cut))
 
-  both_true : (s t : ℕ) → has_mark marks false s ≡ true → has_mark marks true t ≡ true → clashes marks s t ≡ true
-  both_true s t p q = ap (λ (b : Bool). cond b (has_mark marks true t) false) p ∙ q
+  both_true : (s t : ℕ) → comes_from sides First s ≡ true → comes_from sides Second t ≡ true → clashes sides s t ≡ true
+  both_true s t p q = ap (λ (b : Bool). cond b (comes_from sides Second t) false) p ∙ q
 
-  parted : (s t : ℕ) → clashes marks s t ≡ true → (has_mark marks false s ≡ true) × (has_mark marks true t ≡ true)
-  parted s t = by (has_mark marks false s)
+  parted : (s t : ℕ) → clashes sides s t ≡ true → (comes_from sides First s ≡ true) × (comes_from sides Second t ≡ true)
+  parted s t = by (comes_from sides First s)
     where
-      by : (b : Bool) → cond b (has_mark marks true t) false ≡ true → (b ≡ true) × (has_mark marks true t ≡ true)
+      by : (b : Bool) → cond b (comes_from sides Second t) false ≡ true → (b ≡ true) × (comes_from sides Second t ≡ true)
       by true e = (refl, e)
       by false e = absurd (false≢true e)
 
-  other_streams : (s : ℕ) → has_mark marks false s ≡ true → has_mark marks true s ≡ true → ⊥
-  other_streams s p q = true≢false (sym q ∙ not_is (has_mark marks true s) p)
+  other_streams : (s : ℕ) → comes_from sides First s ≡ true → comes_from sides Second s ≡ true → ⊥
+  other_streams s p q = true≢false (sym q ∙ not_is (comes_from sides Second s) p)
 
   same_stream : (s t : ℕ) (r q : RowValue) (o : Option (ℕ × RowValue)) → o ≡ Some (s, r) → o ≡ Some (t, q) → s ≡ t
   same_stream s t r q o e f = ap (λ (v : ℕ × RowValue). v.0) (same_Some (s, r) (t, q) (sym e ∙ f))
 
   -- two streams with rows at one key are one, or their rows clash
   module _ (P : Met → Type 0) (each_met : AllByRecursion P met) where
-    two : (s t : ℕ) (k : KeyValue) (r q : RowValue) → ComesFrom s k r → ComesFrom t k q → (s ≡ t) ⊎ ((P (k, (s, t)) × (clashes marks s t ≡ true)) ⊎ (P (k, (t, s)) × (clashes marks t s ≡ true)))
+    two : (s t : ℕ) (k : KeyValue) (r q : RowValue) → ComesFrom s k r → ComesFrom t k q → (s ≡ t) ⊎ ((P (k, (s, t)) × (clashes sides s t ≡ true)) ⊎ (P (k, (t, s)) × (clashes sides t s ≡ true)))
     two s t k r q (inl x) (inl y) = inl (same_stream s t r q (value_at key_cmp a.rows k) x.1 y.1)
     two s t k r q (inr x) (inr y) = inl (same_stream s t r q (value_at key_cmp b.rows k) x.1 y.1)
     two s t k r q (inl x) (inr y) = inr (inl (of_common ties P a.rows b.rows k (s, r) (t, q) x.1 y.1 each_met, both_true s t x.0 y.0))
@@ -147,22 +153,22 @@ module _ (ties : Ties) (a b : Meaning) (marks : List Bool) (la : IsLawful a) (lb
   a_row (Some row) h = (row, refl)
 
   -- where no rows clash no key has rows in two cuts
-  pub none_apart : NoneClash marks met → AreApart all
+  pub none_apart : NoneClash sides met → AreApart all
   none_apart none s t x y k p q c d =
       let r : (row : RowValue) × (cut_of x k ≡ Some row) = a_row (cut_of x k) c in
       let u : (row : RowValue) × (cut_of y k ≡ Some row) = a_row (cut_of y k) d in
-      elim (two (λ (m : Met). clashes marks m.1.0 m.1.1 ≡ false) none s t k r.0 u.0 (comes s x k r.0 p r.1) (comes t y k u.0 q u.1)) [
+      elim (two (λ (m : Met). clashes sides m.1.0 m.1.1 ≡ false) none s t k r.0 u.0 (comes s x k r.0 p r.1) (comes t y k u.0 q u.1)) [
         | inl same ↦ same
-        | inr clash ↦ elim clash [ inl l ↦ never (clashes marks s t) l.0 l.1 | inr l ↦ never (clashes marks t s) l.0 l.1 ]
+        | inr clash ↦ elim clash [ inl l ↦ never (clashes sides s t) l.0 l.1 | inr l ↦ never (clashes sides t s) l.0 l.1 ]
       ]
 
   -- ---- the first rows that clash
 
-  module _ (key : KeyValue) (later lower : ℕ) (h : IsFirstMet marks met key later lower) where
+  module _ (key : KeyValue) (later lower : ℕ) (h : IsFirstMet sides met key later lower) where
     abbrev here : Met
     here = h.met
 
-    marked : (has_mark marks false here.1.0 ≡ true) × (has_mark marks true here.1.1 ≡ true)
+    marked : (comes_from sides First here.1.0 ≡ true) × (comes_from sides Second here.1.1 ≡ true)
     marked = parted here.1.0 here.1.1 h.clash
 
     stands : Stands a.rows b.rows here
@@ -172,13 +178,13 @@ module _ (ties : Ties) (a b : Meaning) (marks : List Bool) (la : IsLawful a) (lb
     cut_here =
         subst (λ (n : ℕ). HasCut all n key stands.first.1) (sym stands.stream)
         (subst (λ (k : KeyValue). HasCut all stands.first.0 k stands.first.1) (sym h.is)
-        (stays_first here.0 stands.first stands.here (sym (ap (has_mark marks false) stands.stream) ∙ marked.0)))
+        (stays_first here.0 stands.first stands.here (sym (ap (comes_from sides First) stands.stream) ∙ marked.0)))
 
     cut_there : HasCut all here.1.1 key stands.second.1
     cut_there =
         subst (λ (n : ℕ). HasCut all n key stands.second.1) (sym stands.beside)
         (subst (λ (k : KeyValue). HasCut all stands.second.0 k stands.second.1) (sym h.is)
-        (stays_second here.0 stands.second stands.there (sym (ap (has_mark marks true) stands.beside) ∙ marked.1)))
+        (stays_second here.0 stands.second stands.there (sym (ap (comes_from sides Second) stands.beside) ∙ marked.1)))
 
     -- the later stream's cut, and the lower one's
     pub record Both : Type 0 where
@@ -189,7 +195,7 @@ module _ (ties : Ties) (a b : Meaning) (marks : List Bool) (la : IsLawful a) (lb
       pub less : lower < later
 
     differ : here.1.0 ≢ here.1.1
-    differ e = other_streams here.1.0 marked.0 (ap (has_mark marks true) e ∙ marked.1)
+    differ e = other_streams here.1.0 marked.0 (ap (comes_from sides Second) e ∙ marked.1)
 
     both : Both
     both = elim h.order [
@@ -213,22 +219,22 @@ module _ (ties : Ties) (a b : Meaning) (marks : List Bool) (la : IsLawful a) (lb
         apart_less s t n m p q le ne = elim (eq-or-lt_of_le le) [ inl e ↦ absurd (ne e) | inr l ↦ omega (arith, p, q, l) ]
 
     -- no rows of two streams below the later one clash
-    none_below : AllByRecursion (IsNoneBefore marks later) met
+    none_below : AllByRecursion (IsNoneBefore sides later) met
     none_below =
-        subst (AllByRecursion (IsNoneBefore marks later)) (sym h.parts)
-        (all_join (IsNoneBefore marks later) h.front (h.met ∷ h.back)
-        (each (IsNoneUpTo marks later) (IsNoneBefore marks later) (λ m f c. elim (f c) [ inl l ↦ inl (omega (arith, l)) | inr l ↦ inr (omega (arith, l)) ]) h.front h.before)
+        subst (AllByRecursion (IsNoneBefore sides later)) (sym h.parts)
+        (all_join (IsNoneBefore sides later) h.front (h.met ∷ h.back)
+        (each (IsNoneUpTo sides later) (IsNoneBefore sides later) (λ m f c. elim (f c) [ inl l ↦ inl (omega (arith, l)) | inr l ↦ inr (omega (arith, l)) ]) h.front h.before)
         ((λ _. (elim h.order [ inl o ↦ inl (let e : later ≡ h.met.1.0 = o.0 in omega (arith, e)) | inr o ↦ inr (let e : later ≡ h.met.1.1 = o.0 in omega (arith, e)) ])), h.behind))
 
     -- nor does a row at a lesser key with one of the later stream
     abbrev IsNoneAtLesser : Met → Type 0
-    IsNoneAtLesser m = key_cmp m.0 key ≡ Less → IsNoneUpTo marks later m
+    IsNoneAtLesser m = key_cmp m.0 key ≡ Less → IsNoneUpTo sides later m
 
     none_lesser : AllByRecursion IsNoneAtLesser met
     none_lesser =
         subst (AllByRecursion IsNoneAtLesser) (sym h.parts)
         (all_join IsNoneAtLesser h.front (h.met ∷ h.back)
-        (each (IsNoneUpTo marks later) IsNoneAtLesser (λ m f _. f) h.front h.before) (
+        (each (IsNoneUpTo sides later) IsNoneAtLesser (λ m f _. f) h.front h.before) (
           (λ less. absurd (not_itself (ap (λ (k : KeyValue). key_cmp k key) h.is ∙ less))),
           each (λ (m : Met). key_cmp h.met.0 m.0 ≡ Less) IsNoneAtLesser (λ m up less. absurd (not_both m up less)) h.back behind,
         ))
@@ -277,7 +283,7 @@ module _ (ties : Ties) (a b : Meaning) (marks : List Bool) (la : IsLawful a) (lb
         let u : (row : RowValue) × (cut_of y k ≡ Some row) = a_row (cut_of y k) d in
         let f : (s < later) × (slice_get all s ≡ Some x) = from_take later s all x p in
         let g : (t < later) × (slice_get all t ≡ Some y) = from_take later t all y q in
-        elim (two (IsNoneBefore marks later) none_below s t k r.0 u.0 (comes s x k r.0 f.1 r.1) (comes t y k u.0 g.1 u.1)) [
+        elim (two (IsNoneBefore sides later) none_below s t k r.0 u.0 (comes s x k r.0 f.1 r.1) (comes t y k u.0 g.1 u.1)) [
           | inl same ↦ same
           | inr clash ↦ elim clash [ inl l ↦ absurd (too_low s t f.0 g.0 (l.0 l.1)) | inr l ↦ absurd (too_low t s g.0 f.0 (l.0 l.1)) ]
         ]
@@ -348,8 +354,8 @@ module _ (ties : Ties) (a b : Meaning) (marks : List Bool) (la : IsLawful a) (lb
 
   -- ---- the rows of both together
 
-  -- what is made of the two boards' rows by their marks is the rows of the chosen states
-  pub rows_of_both : (merged : TargetRows) → AreApart all → AreMerged key_cmp marks a.rows b.rows merged → merged ≡ rows_from 0 all
+  -- what is made of the two boards' rows by the sides of the streams is the rows of the chosen states
+  pub rows_of_both : (merged : TargetRows) → AreApart all → AreMerged key_cmp sides a.rows b.rows merged → merged ≡ rows_from 0 all
   rows_of_both merged apart h = same_rows ties merged (rows_from 0 all) h.rising (rising_from 0 all) (λ k. h.values k ∙ by k (row_of_one 0 all k) refl ∙ sym (value_from ties 0 all k))
     where
       none_of : (v : Option (ℕ × RowValue)) (test : ℕ → Bool) → ((w : ℕ × RowValue) → v ≡ Some w → test w.0 ≡ true → ⊥) → of_part test v ≡ None
@@ -364,16 +370,16 @@ module _ (ties : Ties) (a b : Meaning) (marks : List Bool) (la : IsLawful a) (lb
       is_of v test w e t = ap (of_part test) e ∙ ap (λ (b : Bool). cond b (Some w) None) t
 
       first : KeyValue → Option (ℕ × RowValue)
-      first k = of_part (has_mark marks false) (value_at key_cmp a.rows k)
+      first k = of_part (comes_from sides First) (value_at key_cmp a.rows k)
 
       second : KeyValue → Option (ℕ × RowValue)
-      second k = of_part (has_mark marks true) (value_at key_cmp b.rows k)
+      second k = of_part (comes_from sides Second) (value_at key_cmp b.rows k)
 
       by : (k : KeyValue) (o : Option (ℕ × RowValue)) → row_of_one 0 all k ≡ o → option_or (first k) (second k) ≡ row_of_one 0 all k
       by k None e =
           let no : (s : ℕ) (row : RowValue) → HasCut all s k row → ⊥ = λ s row cut. some_row 0 all k s cut.state cut.here (λ n. none-some row (sym n ∙ cut.cut)) e in
-          ap (λ (v : Option (ℕ × RowValue)). option_or v (second k)) (none_of (value_at key_cmp a.rows k) (has_mark marks false) (λ w p t. no w.0 w.1 (stays_first k w p t)))
-          ∙ none_of (value_at key_cmp b.rows k) (has_mark marks true) (λ w p t. no w.0 w.1 (stays_second k w p t))
+          ap (λ (v : Option (ℕ × RowValue)). option_or v (second k)) (none_of (value_at key_cmp a.rows k) (comes_from sides First) (λ w p t. no w.0 w.1 (stays_first k w p t)))
+          ∙ none_of (value_at key_cmp b.rows k) (comes_from sides Second) (λ w p t. no w.0 w.1 (stays_second k w p t))
           ∙ sym e
       by k (Some v) e = found (comes of.place of.state k v.1 of.here of.cut) ∙ sym e
         where
@@ -384,13 +390,13 @@ module _ (ties : Ties) (a b : Meaning) (marks : List Bool) (la : IsLawful a) (lb
           is = let number : v.0 ≡ 0 + of.place = of.number in ap (λ (n : ℕ). Some (n, v.1)) (let n : of.place ≡ v.0 = omega (arith, number) in n)
 
           found : ComesFrom of.place k v.1 → option_or (first k) (second k) ≡ Some v
-          found (inl x) = ap (λ (w : Option (ℕ × RowValue)). option_or w (second k)) (is_of (value_at key_cmp a.rows k) (has_mark marks false) (of.place, v.1) x.1 x.0) ∙ is
+          found (inl x) = ap (λ (w : Option (ℕ × RowValue)). option_or w (second k)) (is_of (value_at key_cmp a.rows k) (comes_from sides First) (of.place, v.1) x.1 x.0) ∙ is
           found (inr x) =
               ap (λ (w : Option (ℕ × RowValue)). option_or w (second k))
-              (none_of (value_at key_cmp a.rows k) (has_mark marks false)
+              (none_of (value_at key_cmp a.rows k) (comes_from sides First)
               (λ w p t.
               let cut : HasCut all w.0 k w.1 = stays_first k w p t in
               let same : w.0 ≡ of.place = apart w.0 of.place cut.state of.state k cut.here of.here (λ n. none-some w.1 (sym n ∙ cut.cut)) (λ n. none-some v.1 (sym n ∙ of.cut)) in
-              other_streams of.place (sym (ap (has_mark marks false) same) ∙ t) x.0))
-              ∙ is_of (value_at key_cmp b.rows k) (has_mark marks true) (of.place, v.1) x.1 x.0
+              other_streams of.place (sym (ap (comes_from sides First) same) ∙ t) x.0))
+              ∙ is_of (value_at key_cmp b.rows k) (comes_from sides Second) (of.place, v.1) x.1 x.0
               ∙ is

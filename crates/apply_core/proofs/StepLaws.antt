@@ -1,9 +1,12 @@
 -- Steps on streams, put together from the stream's own.
-use Rattle.std.proofs.Common.{◌≡◌, ℕ, ◌+◌, ◌<◌, ◌⊎◌, Bool, true, false, cond, List, [], ◌∷◌, ◌++◌, inl, inr, length, get_or, set, Option, Some, slice_get, refl, sym, ap, subst, ◌∙◌}
+use Rattle.std.proofs.Common.{◌≡◌, ℕ, ◌+◌, ◌<◌, ◌⊎◌, true, cond, List, inl, inr, length, get_or, set, Option, Some, Result, Ok, Err, slice_get, refl, sym, ap, subst, ◌∙◌}
 use Rattle.std.proofs.lemmas.Bool.{eq-eqb, le-leb}
 use Rattle.std.proofs.lemmas.List.{set-get_or}
 use Rattle.std.proofs.lemmas.Option.{slice_get-get_or, get_or_from_slice_get}
-use Rattle.std.specs.Prelude.{nat_le, MatchOption}
+use Rattle.std.specs.Prelude.{IfSome, MatchOption}
+use Rattle.stream_core.specs.declared.step.Move.{Move}
+use Rattle.stream_core.specs.declared.step.Step.{Step}
+use Rattle.stream_core.specs.StepTable.{row_of}
 use Rattle.board_laws.specs.declared.answer.Answer.{Answer}
 use Rattle.board_laws.specs.declared.answer.Answer.TheVariants.{Offered}
 use Rattle.board_laws.specs.declared.answer.Offered.{Offered as OfferAnswer}
@@ -12,21 +15,22 @@ use Rattle.board_laws.specs.declared.refusal.Refusal.{Refusal}
 use Rattle.board_laws.specs.declared.refusal.Refusal.TheVariants.{NoStream}
 use Rattle.source_feed.specs.Touches.{PreparedValue}
 use Rattle.board_laws.specs.Meaning.{State}
+use Rattle.board_laws.specs.Lawful.{standing_of}
 use Rattle.board_laws.specs.Event.{Event, offer}
 use Rattle.board_laws.specs.StateAfter.{answer_to, state_after}
 use Rattle.board_laws.specs.Allowed.{IsRead, IsNext, IsAllowed}
 use Rattle.board_laws.specs.Step.{takes_memory, IsRefusedFor}
-use Rattle.apply_core.specs.Private.StreamStep.{MayMake, MakesStep, IsRefusedAlone, RefusesByItself}
+use Rattle.apply_core.specs.Private.StreamStep.{MayMake, MakesStep, IsRefusedAlone, IsStreamStep, IsMoveFor, IsOwnStep, RefusesByItself}
 
 module _ (streams : List State) (s : ℕ) (d : State) (inside : s < length streams) where
   abbrev x : State
   x = get_or streams s d
 
-  pub here : slice_get streams s ≡ Some x
+  here : slice_get streams s ≡ Some x
   here = slice_get-get_or streams s d inside
 
   -- the stream is changed as the step says
-  pub makes : (event : Event) (answer : Answer) (new : State) → IsAllowed x event → answer ≡ answer_to x event → new ≡ state_after x event → MakesStep streams s event answer (set streams s new)
+  makes : (event : Event) (answer : Answer) (new : State) → IsAllowed x event → answer ≡ answer_to x event → new ≡ state_after x event → MakesStep streams s event answer (set streams s new)
   makes event answer new allowed answered left = record {
     may = record { state = x; stream = here; allowed = allowed };
     answered = answered;
@@ -34,18 +38,23 @@ module _ (streams : List State) (s : ℕ) (d : State) (inside : s < length strea
   }
 
   -- the stream is refused by itself, and stays as it was
-  pub refuses : (event : Event) (refusal : Refusal) (new : State) → RefusesByItself x event refusal → new ≡ x → IsRefusedAlone streams s event refusal × (set streams s new ≡ streams)
+  refuses : (event : Event) (refusal : Refusal) (new : State) → RefusesByItself x event refusal → new ≡ x → IsRefusedAlone streams s event refusal × (set streams s new ≡ streams)
   refuses event refusal new by_itself same = (
     λ rows. subst (λ (o : Option State). MatchOption o (refusal ≡ NoStream) (λ state. IsRefusedFor (record { streams = streams; rows = rows }) s state event refusal)) (sym here) (by_itself (record { streams = streams; rows = rows }) s),
     ap (set streams s) same ∙ set-get_or streams s d,
   )
+
+  -- the stream's own step is a step on the streams
+  pub own-step : (event : Event) (result : Result Answer Refusal) (new : State) → IsOwnStep x event result new → IsStreamStep streams s event result (set streams s new)
+  own-step event (Ok answer) new h = makes event answer new h.allowed h.answered h.left
+  own-step event (Err refusal) new h = refuses event refusal new h.0 h.1
 
 module _ (streams : List State) (s : ℕ) (state : State) (inside : s < length streams) (is : state ≡ get_or streams s state) where
   there : slice_get streams s ≡ Some state
   there = slice_get-get_or streams s state inside ∙ ap (λ (x : State). Some x) (sym is)
 
   -- a step that is made, and leaves the stream as it was
-  pub makes-still : (event : Event) (answer : Answer) → IsAllowed state event → answer ≡ answer_to state event → state ≡ state_after state event → MakesStep streams s event answer streams
+  makes-still : (event : Event) (answer : Answer) → IsAllowed state event → answer ≡ answer_to state event → state ≡ state_after state event → MakesStep streams s event answer streams
   makes-still event answer allowed answered left = record {
     may = record { state = state; stream = there; allowed = allowed };
     answered = answered;
@@ -53,19 +62,14 @@ module _ (streams : List State) (s : ℕ) (state : State) (inside : s < length s
   }
 
   -- the stream is refused by itself
-  pub refuses-still : (event : Event) (refusal : Refusal) → RefusesByItself state event refusal → IsRefusedAlone streams s event refusal
+  refuses-still : (event : Event) (refusal : Refusal) → RefusesByItself state event refusal → IsRefusedAlone streams s event refusal
   refuses-still event refusal by_itself =
       λ rows. subst (λ (o : Option State). MatchOption o (refusal ≡ NoStream) (λ state. IsRefusedFor (record { streams = streams; rows = rows }) s state event refusal)) (sym there) (by_itself (record { streams = streams; rows = rows }) s)
 
--- an offer that answers a repeat leaves the state
-pub repeat-leaves : (state : State) (group : PreparedValue) (number : ℕ) → ◌≡◌ {A = Answer} (Offered (Repeat number)) (answer_to state (offer group)) → state ≡ state_after state (offer group)
-repeat-leaves state group number e = by (nat_le group.number (length state.list)) refl
-  where
-    by : (b : Bool) → nat_le group.number (length state.list) ≡ b → state ≡ state_after state (offer group)
-    by true h = sym (ap (λ b. cond b state (record { plan = state.plan; list = state.list ++ group ∷ []; applied = state.applied; marks = state.marks; snapshot = state.snapshot })) h)
-    by false h =
-        let clash : ◌≡◌ {A = Answer} (Offered (Repeat number)) (Offered (Read group.number)) = e ∙ ap (λ b. Offered (cond b (Repeat group.number) (Read group.number))) h in
-        cc
+  -- the stream's own step that leaves it as it was
+  pub own-step-still : (event : Event) (result : Result Answer Refusal) → IsOwnStep state event result state → IsStreamStep streams s event result streams
+  own-step-still event (Ok answer) h = makes-still event answer h.allowed h.answered h.left
+  own-step-still event (Err refusal) h = (refuses-still event refusal h.0, refl)
 
 -- an offer that is to be read takes memory
 pub read-takes : (state : State) (group : PreparedValue) (number : ℕ) → IsAllowed state (offer group) → ◌≡◌ {A = Answer} (Offered (Read number)) (answer_to state (offer group)) → takes_memory state (offer group) ≡ true
@@ -95,3 +99,10 @@ makes-where streams s event may d answer new answered left =
       answered = answered ∙ ap (λ (x : State). answer_to x event) e;
       streams = ap (set streams s) (left ∙ ap (λ (x : State). state_after x event) e);
     }
+
+-- what the step table makes of the step on the stream, if there is one, it makes of it on the one that may make the step
+pub move-here : (streams : List State) (s : ℕ) (event : Event) (step : Step) (made : Move) (d : State) → MayMake streams s event → IsMoveFor streams s step made
+    → made ≡ (row_of (standing_of (get_or streams s d)) step).otherwise
+move-here streams s event step made d may h =
+    subst (λ (state : State). made ≡ (row_of (standing_of state) step).otherwise) (sym (get_or_from_slice_get streams s may.state d may.stream))
+    (subst (λ (o : Option State). IfSome o (λ state. made ≡ (row_of (standing_of state) step).otherwise)) may.stream h)

@@ -11,6 +11,9 @@ use Rattle.list_laws.proofs.Places.{slice_get-push}
 use Rattle.pk_copy.specs.KeyOrder.{key_cmp}
 use Rattle.pk_copy.specs.KeyOrderLaws.{key_cmp_total}
 use Rattle.pk_copy.specs.KeyValue.{KeyValue}
+use Rattle.target_tables.specs.declared.fault.TableFault.{TableFault}
+use Rattle.target_tables.specs.declared.fault.TableFault.TheVariants as table
+use Rattle.target_tables.specs.Clashes.{IsRefusal}
 use Rattle.target_tables.specs.Contents.{value_at}
 use Rattle.target_tables.specs.Rising.{IsRising}
 use Rattle.target_tables.specs.Touches.{last_at, touched, owner_in_the_way, NoneInTheWay, IsLeastClash, IsTouched}
@@ -24,7 +27,7 @@ use Rattle.board_laws.proofs.OwnPart.{only}
 use Rattle.join_laws.specs.Joined.{rows_from}
 use Rattle.join_laws.specs.Compatible.{AreApart}
 use Rattle.join_laws.proofs.Rows.{row_of_one, rising_from, value_from, IsRowOf, whose, some_row}
-use Rattle.apply_core.specs.Private.Together.{AreTogether, ArePutsOfCut}
+use Rattle.apply_core.specs.Private.Together.{AreTogether, ArePutsOfCut, IsNotPut}
 
 -- ---- the rows of one stream as puts
 
@@ -141,7 +144,7 @@ module _ (ties : Ties) (lower : List State) (state : State) where
           ∙ sym (one_more 0 lower state k)
 
   -- who is in the way of the puts is in the way of the rows that are due
-  pub not-together : (s : ℕ) (old : TargetRows) (puts : List (KeyValue × Option RowValue)) (key : KeyValue) (owner : ℕ) → length lower ≡ s → AreTogether lower old → ArePutsOfCut state puts
+  not-together : (s : ℕ) (old : TargetRows) (puts : List (KeyValue × Option RowValue)) (key : KeyValue) (owner : ℕ) → length lower ≡ s → AreTogether lower old → ArePutsOfCut state puts
       → IsLeastClash key_cmp old s (last_at key_cmp puts) key owner → IsLeastClash key_cmp (rows_from 0 lower) (length lower) (due_at state) key owner
   not-together s old puts key owner long together due clash = record {
     here = sym (same key) ∙ clash.here;
@@ -153,5 +156,10 @@ module _ (ties : Ties) (lower : List State) (state : State) where
           ap (λ (n : ℕ). owner_in_the_way n (last_at key_cmp puts k) (value_at key_cmp old k)) (sym long)
           ∙ ap (λ (rows : TargetRows). owner_in_the_way (length lower) (last_at key_cmp puts k) (value_at key_cmp rows k)) together.target
           ∙ ap (λ (o : Option (Option RowValue)). owner_in_the_way (length lower) o (value_at key_cmp (rows_from 0 lower) k)) (due k)
+
+  pub not_put : (s : ℕ) (old : TargetRows) (puts : List (KeyValue × Option RowValue)) (fault : TableFault KeyValue) → length lower ≡ s → AreTogether lower old → ArePutsOfCut state puts
+      → IsRefusal key_cmp old s (last_at key_cmp puts) fault → IsNotPut lower state fault
+  not_put s old puts (table.OwnedByOther key owner) long together due clash = not-together s old puts key owner long together due clash
+  not_put s old puts table.Memory long together due none = tt
 
 -- ---- what is gone over

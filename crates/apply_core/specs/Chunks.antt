@@ -8,7 +8,7 @@ use Rattle.board_laws.specs.Event.{copy_rows}
 use Rattle.board_laws.specs.Chunk.{rows_taken, takes_all}
 use Rattle.board_laws.specs.Allowed.{IsAllowed}
 use Rattle.apply_core.specs.Putting.{DoAsStep}
-use Rattle.apply_core.specs.declared.taking.Move.{Move}
+use Rattle.apply_core.specs.declared.taking.MarkMove.{MarkMove}
 use Rattle.apply_core.specs.declared.taking.Chunk.{Chunk}
 
 -- the key of the last row, if there is one
@@ -16,7 +16,7 @@ abbrev pub last_key_of : ImageRows → Option KeyValue
 last_key_of rows = option_map (λ row. row.0) (slice_get rows (length rows - 1))
 
 -- the mark moves as the state's next chunk of up to c rows says
-pub record IsMoveOf (state : State) (c : ℕ) (step : Move) : Type 0 where
+pub record IsMoveOf (state : State) (c : ℕ) (step : MarkMove) : Type 0 where
   pub copied : step.copied ≡ record { rows = length (rows_taken state c); done = takes_all state c }
   pub last : step.last ≡ last_key_of (rows_taken state c)
 

@@ -1,6 +1,5 @@
 -- What serves the crate's own code alone.
 pub mod Changes
-pub mod Place
 pub mod StreamState
 pub mod StreamStep
 pub mod Beside

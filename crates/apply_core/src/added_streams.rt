@@ -7,7 +7,7 @@ ghost use Rattle.added_laws.specs.declared.fault.AddFault.TheVariants.{Memory};
 ghost use Rattle.added_laws.specs.Extended.{marks_of_more};
 ghost use Rattle.apply_core.specs.Private.Adding.{fault_of_feed, IsGroupAgain, IsNotAgain, AreAgain, IsStoppedBy, IsExtendedBy, FeedsExtend, AreExtendedUpTo, AreStopped};
 
-use crate::stream::Stream;
+use crate::stream::{Stream, cursor_behind};
 use added_laws::{AddFault, extended_streams_are_sound};
 use pk_copy::{CopyState, Mark};
 use source_feed::{Feed, FeedFault, Image, Prepared};
@@ -48,7 +48,7 @@ fn marks_with(alloc: Global, stream: &Stream<'_>, tables: u8) -> Result<CopyStat
 fn applied_of(stream: &Stream<'_>) -> u32
     ensures { result ≡ stream.now.applied }
 {
-    stream.applied
+    stream.cursor().applied()
 }
 
 /// How many tables a stream has.
@@ -165,13 +165,12 @@ fn extended_stream<'h>(
     let list = groups_again(alloc, stream, feed, s)?;
     let plan = Arc::clone(feed.plan())?;
     let marks = marks_with(alloc, stream, tables_under(feed))?;
-    let applied = applied_of(stream);
+    let cursor = cursor_behind(applied_of(stream), &marks);
     Ok(Stream {
         plan,
         list,
-        applied,
+        cursor,
         marks,
-        snapshot: None,
         image: Image::new(alloc),
         imaged: 0,
     })

@@ -1,17 +1,20 @@
 //! Applying the next group.
 
 ghost use Rattle.std.specs.Prelude.{◌≡◌, ◌+◌, IfOk, IfErr, IfSome, OnOk, slice_get};
+ghost use Rattle.stream_core.specs.declared.step.Step.TheVariants.{Advance};
+ghost use Rattle.stream_core.specs.StepTable.{row_of};
 ghost use Rattle.pk_copy.specs.KeyOrder.{key_cmp};
 ghost use Rattle.pk_copy.specs.KeyValue.{KeyValue};
 ghost use Rattle.target_tables.specs.Touches.{last_at};
 ghost use Rattle.board_laws.specs.declared.answer.Answer as answers;
+ghost use Rattle.board_laws.specs.Lawful.{standing_of};
 ghost use Rattle.board_laws.specs.Event.{advance};
 ghost use Rattle.board_laws.specs.StateAfter.{state_after};
 ghost use Rattle.board_laws.specs.Touching.{touch_of};
 ghost use Rattle.board_laws.specs.Allowed.{IsAllowed};
 ghost use Rattle.board_laws.specs.Step.{answered, IsStep};
 ghost use Rattle.apply_core.specs.Putting.{DoAsStep};
-ghost use Rattle.apply_core.specs.Private.StreamStep.{MayMake, MakesStep, IsRefusedAlone, ArePutsOf};
+ghost use Rattle.apply_core.specs.Private.StreamStep.{MayMake, MakesStep, IsMoveFor, IsRefusedAlone, ArePutsOf};
 
 use crate::board::Board;
 use crate::clashing::refusal_by;
@@ -21,7 +24,7 @@ use board_laws::{Refusal, steps_keep_boards_lawful};
 use pk_copy::Key;
 use row_view::RowBuf;
 use std::alloc::{AllocError, Global};
-use stream_core::Step;
+use stream_core::{Move, Step};
 use target_tables::Freed;
 
 impl<'h> Stream<'h> {
@@ -31,20 +34,21 @@ impl<'h> Stream<'h> {
         ensures { IfOk result (λ puts. (key : KeyValue) → last_at key_cmp puts.changes.items key ≡ touch_of self.now advance key) }
     {
         steps_keep_boards_lawful();
-        let group = &self.list[self.applied as usize];
+        let group = &self.list[self.cursor.applied() as usize];
         let puts = Puts::of_group(alloc, &self.marks, group)?;
         Ok(puts)
     }
 
-    /// The next group counts as applied.
-    fn advance(&mut self) -> u32
-        requires { IsAllowed self.old advance }
+    /// The next group counts as applied, as the step table says.
+    fn advance(&mut self, made: Move) -> u32
+        requires allowed { IsAllowed self.old advance }
+        requires made { made ≡ (row_of (standing_of self.old) Advance).otherwise }
         ensures number { result ≡ self.old.applied + 1 }
         ensures state { self.new ≡ state_after self.old advance }
     {
         steps_keep_boards_lawful();
-        self.applied += 1;
-        self.applied
+        self.cursor = made.cursor;
+        made.cursor.applied()
     }
 }
 
@@ -62,25 +66,29 @@ fn puts_of_next_on(alloc: Global, streams: &[Stream<'_>], s: u8) -> Result<Puts,
     Ok(puts)
 }
 
-/// Whether nothing that stream `s` has itself is against applying its next group. Takes no memory.
-fn may_advance(streams: &[Stream<'_>], s: u8) -> Result<(), Refusal>
+/// What the step table makes of applying the next group of stream `s`, if nothing that the stream has itself is
+/// against it. Takes no memory.
+fn judge_advance(streams: &[Stream<'_>], s: u8) -> Result<Move, Refusal>
     ensures may { OnOk result (MayMake streams.now s advance) }
+    ensures made { IfOk result (IsMoveFor streams.now s Advance) }
     ensures refused { IfErr result (IsRefusedAlone streams.now s advance) }
 {
     if s as usize >= streams.len() {
         return Err(Refusal::NoStream);
     }
-    streams[s as usize].judge(Step::Advance)?;
-    Ok(())
+    let made = streams[s as usize].judge(Step::Advance)?;
+    Ok(made)
 }
 
-/// The next group of stream `s` counts as applied. That it may is the caller's. Takes no memory.
-fn advance_on(streams: &mut [Stream<'_>], s: u8) -> u32
-    requires { MayMake streams.old s advance }
+/// The next group of stream `s` counts as applied, as the step table says. That it may is the caller's. Takes no
+/// memory.
+fn advance_on(streams: &mut [Stream<'_>], s: u8, made: Move) -> u32
+    requires may { MayMake streams.old s advance }
+    requires made { IsMoveFor streams.old s Advance made }
     ensures { MakesStep streams.old s advance (answers.Answer.Applied result) streams.new }
 {
     let stream = &mut streams[s as usize];
-    stream.advance()
+    stream.advance(made)
 }
 
 impl<'h> Board<'h> {
@@ -111,10 +119,10 @@ impl<'h> Board<'h> {
         ensures { IsStep self.old s advance (answered (λ made. answers.Answer.Applied made.0) result) self.new }
     {
         steps_keep_boards_lawful();
-        may_advance(&self.streams, s)?;
+        let made = judge_advance(&self.streams, s)?;
         match self.rows.apply(alloc, s, puts.changes) {
             Err(fault) => Err(refusal_by(fault)),
-            Ok(freed) => Ok((advance_on(&mut self.streams, s), freed)),
+            Ok(freed) => Ok((advance_on(&mut self.streams, s, made), freed)),
         }
     }
 }

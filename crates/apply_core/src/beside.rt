@@ -58,9 +58,10 @@ impl<'h> Stream<'h> {
         other.is_sound();
         let copied = self.marks.further(&other.marks);
         let read = self.list.len().cmp(&other.list.len());
-        let open = self.snapshot.cmp(&other.snapshot);
-        self.applied
-            .cmp(&other.applied)
+        let open = self.cursor.snapshot().cmp(&other.cursor.snapshot());
+        self.cursor
+            .applied()
+            .cmp(&other.cursor.applied())
             .then(copied.then(read.then(open)))
     }
 

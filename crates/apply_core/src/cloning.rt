@@ -52,15 +52,14 @@ impl<'h> Stream<'h> {
         let marks = self.marks.try_clone(alloc)?;
         let mut image = Image::new(alloc);
         let mut imaged = 0;
-        if let Some(group) = self.snapshot {
+        if let Some(group) = self.cursor.snapshot() {
             bring(alloc, &mut image, &mut imaged, &list, group)?;
         }
         Ok(Stream {
             plan,
             list,
-            applied: self.applied,
+            cursor: self.cursor,
             marks,
-            snapshot: self.snapshot,
             image,
             imaged,
         })

@@ -1,6 +1,6 @@
 //! Copying rows.
 
-ghost use Rattle.std.specs.Prelude.{◌≡◌, None, IfOk, IfErr, IfSome, IsSomeAnd, slice_get};
+ghost use Rattle.std.specs.Prelude.{◌≡◌, ◌+◌, ◌<◌, None, IfOk, IfErr, IfSome, IsSomeAnd, slice_get};
 ghost use Rattle.board_laws.specs.declared.answer.Answer as answers;
 ghost use Rattle.board_laws.specs.Event.{copy_rows};
 ghost use Rattle.board_laws.specs.StateAfter.{state_after};
@@ -13,28 +13,43 @@ ghost use Rattle.apply_core.specs.Private.StreamStep.{MayMake, MakesStep, IsRefu
 use crate::board::Board;
 use crate::clashing::refusal_by;
 use crate::stream::Stream;
-use crate::taking::{Chunk, Move};
+use crate::taking::{Chunk, MarkMove};
 use board_laws::{Copied, Refusal, steps_keep_boards_lawful};
 use pk_copy::{CopyState, Key, keys_tie_where_they_are_equal};
 use row_view::RowBuf;
 use std::alloc::{AllocError, Global};
-use stream_core::Step;
+use stream_core::{Cursor, Step};
 use target_tables::Freed;
 
-impl Move {
+impl MarkMove {
     /// The same move, in memory of its own. An error is want of memory.
-    fn try_clone(&self, alloc: Global) -> Result<Move, AllocError>
+    fn try_clone(&self, alloc: Global) -> Result<MarkMove, AllocError>
         ensures { IfOk result (λ copy. copy ≡ self.now) }
     {
         let last = match &self.last {
             None => None,
             Some(last) => Some(last.try_clone(alloc)?),
         };
-        Ok(Move {
+        Ok(MarkMove {
             copied: self.copied,
             last,
         })
     }
+}
+
+/// Where a stream stands when the table that is copied is done, which closes its snapshot. That a table is left to
+/// copy is the caller's.
+fn with_table_done(cursor: Cursor) -> Cursor
+    requires { cursor.done < cursor.tables }
+    ensures { result ≡ record cursor { done = cursor.done + 1; snapshot = None } }
+{
+    Cursor::new(
+        cursor.read,
+        cursor.applied,
+        cursor.tables,
+        cursor.done + 1,
+        None,
+    )
 }
 
 impl<'h> Stream<'h> {
@@ -50,7 +65,7 @@ impl<'h> Stream<'h> {
     }
 
     /// The marks as a chunk moves them, in memory of their own.
-    fn marks_behind(&self, alloc: Global, _c: u32, step: Move) -> Result<CopyState, AllocError>
+    fn marks_behind(&self, alloc: Global, _c: u32, step: MarkMove) -> Result<CopyState, AllocError>
         requires allowed { IsAllowed self.now (copy_rows _c) }
         requires moves { IsMoveOf self.now _c step }
         ensures { IfOk result (λ marks. marks ≡ (state_after self.now (copy_rows _c)).marks) }
@@ -58,7 +73,7 @@ impl<'h> Stream<'h> {
         steps_keep_boards_lawful();
         keys_tie_where_they_are_equal();
         let mut marks = self.marks.try_clone(alloc)?;
-        let Move { copied, last } = step;
+        let MarkMove { copied, last } = step;
         if copied.done {
             marks.finish_table();
         } else if let Some(key) = last {
@@ -69,17 +84,17 @@ impl<'h> Stream<'h> {
 
     /// The mark of the table that is copied moves as a chunk says; where the table is done the snapshot is
     /// closed.
-    fn copied(&mut self, _c: u32, step: Move)
+    fn copied(&mut self, _c: u32, step: MarkMove)
         requires allowed { IsAllowed self.old (copy_rows _c) }
         requires moves { IsMoveOf self.old _c step }
         ensures { self.new ≡ state_after self.old (copy_rows _c) }
     {
         steps_keep_boards_lawful();
         keys_tie_where_they_are_equal();
-        let Move { copied, last } = step;
+        let MarkMove { copied, last } = step;
         if copied.done {
             self.marks.finish_table();
-            self.snapshot = None;
+            self.cursor = with_table_done(self.cursor);
             self.drop_unused_image();
         } else if let Some(key) = last {
             self.marks.move_to(key);
@@ -102,7 +117,7 @@ fn chunk_on(alloc: Global, streams: &[Stream<'_>], s: u8, c: u32) -> Result<Chun
 }
 
 /// The chunk of stream `s` counts as copied. That it may is the caller's. Takes no memory.
-fn copied_on(streams: &mut [Stream<'_>], s: u8, c: u32, step: Move) -> Copied
+fn copied_on(streams: &mut [Stream<'_>], s: u8, c: u32, step: MarkMove) -> Copied
     requires may { MayMake streams.old s (copy_rows c) }
     requires moves { IfSome (slice_get streams.old s) (λ state. IsMoveOf state c step) }
     ensures { MakesStep streams.old s (copy_rows c) (answers.Answer.Copied result) streams.new }

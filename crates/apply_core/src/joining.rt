@@ -7,13 +7,13 @@ ghost use Rattle.join_laws.specs.Joined.{joined};
 ghost use Rattle.join_laws.specs.Laws.{JoinsCommute, JoinsWithItself, JoinsAssociate, RunningJoinsByWhatIsRead, DisjointFeedsCanBeJoined};
 ghost use Rattle.join_laws.specs.Refused.{IsFirstNot, IsRefusedJoin};
 ghost use Rattle.apply_core.specs.Private.Beside.{plans_in, Premise, Passes};
-ghost use Rattle.apply_core.specs.Private.Meeting.{AreFurtherMarks};
-ghost use Rattle.apply_core.specs.Private.Together.{IsSource};
+ghost use Rattle.apply_core.specs.Private.Meeting.{AreFurtherSides};
+ghost use Rattle.apply_core.specs.Private.Together.{IsJoinSource};
 ghost use Rattle.join_laws.specs.declared.fault.JoinFault.TheVariants.{Memory};
 
 use crate::beside::{Test, first_not};
 use crate::board::Board;
-use crate::join_rows::mark_further;
+use crate::join_rows::choose_sides;
 use crate::stream::Stream;
 use join_laws::{
     JoinFault, boards_can_be_joined, joined_boards_are_lawful, joins_are_a_greatest_board,
@@ -21,7 +21,7 @@ use join_laws::{
 use pk_copy::keys_tie_where_they_are_equal;
 use std::alloc::Global;
 use std::mem::swap;
-use target_tables::merge;
+use target_tables::{MergeSide, merge};
 
 /// Two boards that aren't joined, as they were, and why.
 #[derive(Drop)]
@@ -33,13 +33,13 @@ pub struct JoinRefusal<'h> {
 
 /// Where the streams of a join come from.
 #[derive(Drop)]
-pub(crate) enum Source {
+pub(crate) enum JoinSource {
     /// All from the first board.
     First,
     /// All from the second board.
     Second,
-    /// From both: of each stream whether it is further on in the second.
-    Both(Vec<bool>),
+    /// From both: each stream from the board in which it is further on.
+    Both(Vec<MergeSide>),
 }
 
 /// The first stream whose states on the two boards don't pass a test, if any. Takes no memory.
@@ -92,8 +92,8 @@ fn holds_all(a: &Board<'_>, b: &Board<'_>) -> bool
 
 /// Where the streams of a join come from, or why the boards aren't joined.
 #[tactic(auto, using(crate::proofs::JoinLaws::turned))]
-fn find_source(alloc: Global, a: &Board<'_>, b: &Board<'_>) -> Result<Source, JoinFault>
-    ensures ok { IfOk result (IsSource a.now b.now) }
+fn find_source(alloc: Global, a: &Board<'_>, b: &Board<'_>) -> Result<JoinSource, JoinFault>
+    ensures ok { IfOk result (IsJoinSource a.now b.now) }
     ensures err { IfErr result (IsRefusedJoin a.now b.now) }
 {
     keys_tie_where_they_are_equal();
@@ -104,14 +104,14 @@ fn find_source(alloc: Global, a: &Board<'_>, b: &Board<'_>) -> Result<Source, Jo
         Err(fault) => Err(fault),
         Ok(()) => {
             if holds_all(a, b) {
-                return Ok(Source::First);
+                return Ok(JoinSource::First);
             }
             if holds_all(b, a) {
-                return Ok(Source::Second);
+                return Ok(JoinSource::Second);
             }
-            match mark_further(alloc, a, b) {
+            match choose_sides(alloc, a, b) {
                 Err(fault) => Err(fault),
-                Ok(marks) => Ok(Source::Both(marks)),
+                Ok(sides) => Ok(JoinSource::Both(sides)),
             }
         }
     }
@@ -145,10 +145,10 @@ fn join_both<'h>(
     alloc: Global,
     a: Board<'h>,
     b: Board<'h>,
-    marks: &[bool],
+    sides: &[MergeSide],
 ) -> Result<Board<'h>, JoinRefusal<'h>>
     requires compatible { AreCompatible a b }
-    requires marks { AreFurtherMarks a.streams b.streams marks.now }
+    requires sides { AreFurtherSides a.streams b.streams sides.now }
     ensures joined { IfOk result (λ board. board ≡ joined a.entry b.entry) }
     ensures refused { IfErr result (λ refusal. refusal.why ≡ Memory) }
     ensures handed_back { IfErr result (λ refusal. (refusal.a ≡ a.entry) × (refusal.b ≡ b.entry)) }
@@ -157,7 +157,7 @@ fn join_both<'h>(
     joined_boards_are_lawful();
     a.is_lawful();
     b.is_lawful();
-    match merge(alloc, a.rows, b.rows, marks) {
+    match merge(alloc, a.rows, b.rows, sides) {
         Err((rows, others)) => Err(JoinRefusal {
             why: JoinFault::Memory,
             a: Board {
@@ -194,9 +194,9 @@ fn join_by_source<'h>(
     b.is_lawful();
     match find_source(alloc, &a, &b) {
         Err(why) => Err(JoinRefusal { why, a, b }),
-        Ok(Source::First) => Ok(a),
-        Ok(Source::Second) => Ok(b),
-        Ok(Source::Both(marks)) => join_both(alloc, a, b, &marks),
+        Ok(JoinSource::First) => Ok(a),
+        Ok(JoinSource::Second) => Ok(b),
+        Ok(JoinSource::Both(sides)) => join_both(alloc, a, b, &sides),
     }
 }
 

@@ -15,6 +15,7 @@ ghost use Rattle.board_laws.specs.KeptRows.{kept_row};
 ghost use Rattle.board_laws.specs.Touching.{left_by, put_by};
 ghost use Rattle.apply_core.specs.Private.Changes.{IsOfTable, AreOfTables, kept_change, change_of, lent_change, put_row};
 
+use crate::inside::is_inside;
 use crate::kept::copy_kept;
 use filter_rule::Plan;
 use pk_copy::{CopyState, Key, LentKey, keys_tie_where_they_are_equal};
@@ -85,7 +86,18 @@ fn passing_row<'h>(touch: &Touch<'h>) -> Option<RowBytes<'h>>
     }
 }
 
-/// The touches of copied keys as changes of the target, in order, lent.
+/// Room for so many changes, taken with the first one. An error is want of memory.
+fn room_with_first<T: Drop>(changes: &mut Vec<T>, count: usize) -> Result<(), AllocError>
+    ensures { changes.new.items ≡ changes.old.items }
+{
+    if changes.is_empty() {
+        changes.reserve_exact(count)?;
+    }
+    Ok(())
+}
+
+/// The touches of copied keys as changes of the target, in order, lent. Takes memory once, where there is such
+/// a touch.
 fn lent_changes<'g, 'h>(
     alloc: Global,
     marks: &CopyState,
@@ -95,7 +107,8 @@ fn lent_changes<'g, 'h>(
 {
     let mut changes = Vec::new(alloc);
     for touch in touches {
-        if marks.inside(&touch.key_view()) {
+        if is_inside(marks, touch.key()) {
+            room_with_first(&mut changes, touches.len())?;
             changes.push((touch.key(), passing_row(touch)))?;
         }
     }

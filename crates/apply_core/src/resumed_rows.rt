@@ -22,13 +22,12 @@ use board_laws::kept_rows_are_one_list;
 use checkpoint_core::ReadStream;
 use checkpoint_laws::ResumeFault;
 use filter_rule::Plan;
-use join_laws::JoinFault;
 use pk_copy::{CopyState, Key, LentKey, keys_tie_where_they_are_equal};
 use row_view::{RowBuf, RowBytes};
 use source_feed::Image;
 use std::alloc::{AllocError, Global};
 use std::cmp::Ordering;
-use target_tables::Tables;
+use target_tables::{TableFault, Tables};
 
 /// The rows of an image whose keys are copied, by rising key. An error is want of memory.
 fn rows_inside<'i, 'h>(
@@ -55,7 +54,7 @@ fn rows_inside<'i, 'h>(
 fn first_difference(
     alloc: Global,
     plan: &Plan,
-    saved: &[(Key, RowBytes<'_>)],
+    saved: &[(LentKey<'_>, RowBytes<'_>)],
     found: &[(&LentKey<'_>, &RowBytes<'_>)],
 ) -> Result<Option<Key>, AllocError>
     requires saved { IsRising key_cmp saved.now }
@@ -66,14 +65,14 @@ fn first_difference(
     keys_tie_where_they_are_equal();
     for i in 0..saved.len() {
         if i >= found.len() {
-            return Ok(Some(saved[i].0.try_clone(alloc)?));
+            return Ok(Some(Key::from_lent(alloc, &saved[i].0)?));
         }
-        match order_of(&saved[i].0, found[i].0) {
-            Ordering::Less => return Ok(Some(saved[i].0.try_clone(alloc)?)),
+        match saved[i].0.cmp(found[i].0) {
+            Ordering::Less => return Ok(Some(Key::from_lent(alloc, &saved[i].0)?)),
             Ordering::Greater => return Ok(Some(Key::from_lent(alloc, found[i].0)?)),
             Ordering::Equal => {
                 if !is_kept(plan, found[i].0, found[i].1, &saved[i].1) {
-                    return Ok(Some(saved[i].0.try_clone(alloc)?));
+                    return Ok(Some(Key::from_lent(alloc, &saved[i].0)?));
                 }
             }
         }
@@ -82,13 +81,6 @@ fn first_difference(
         return Ok(Some(Key::from_lent(alloc, found[saved.len()].0)?));
     }
     Ok(None)
-}
-
-/// How two keys are ordered. Takes no memory.
-fn order_of(ours: &Key, theirs: &LentKey<'_>) -> Ordering
-    ensures { result ≡ key_cmp ours.now theirs.now }
-{
-    ours.view().cmp(&theirs.view())
 }
 
 /// The least key at which the rows that a checkpoint says of a stream aren't the kept columns of those that
@@ -111,7 +103,7 @@ fn difference(
         &mut image,
         &mut imaged,
         stream.list(),
-        stream.applied,
+        stream.cursor().applied(),
     )?;
     let rows = rows_inside(alloc, &image, &stream.marks)?;
     first_difference(alloc, &stream.plan, saved.rows(), &rows)
@@ -146,13 +138,16 @@ pub(crate) fn compare_rows(
 /// Rows as they are put, copied. An error is want of memory.
 fn puts_of(
     alloc: Global,
-    rows: &[(Key, RowBytes<'_>)],
+    rows: &[(LentKey<'_>, RowBytes<'_>)],
 ) -> Result<Vec<(Key, Option<RowBuf>)>, AllocError>
     ensures { IfOk result (λ puts. puts.items ≡ map put_row rows.now) }
 {
     let mut puts = Vec::with_capacity(alloc, rows.len())?;
     for (key, row) in rows {
-        puts.push((key.try_clone(alloc)?, Some(RowBuf::from_bytes(alloc, row)?)))?;
+        puts.push((
+            Key::from_lent(alloc, key)?,
+            Some(RowBuf::from_bytes(alloc, row)?),
+        ))?;
     }
     Ok(puts)
 }
@@ -177,11 +172,11 @@ fn put_saved(
     let puts = puts_of(alloc, saved[s as usize].rows())?;
     match put_stream(alloc, rows, s, puts) {
         Ok(()) => Ok(()),
-        Err(JoinFault::OwnedByOther { key, owner }) => Err(ResumeFault::OwnedByOther {
+        Err(TableFault::OwnedByOther { key, owner }) => Err(ResumeFault::OwnedByOther {
             key,
             owner,
         }),
-        Err(_) => Err(ResumeFault::Memory),
+        Err(TableFault::Memory) => Err(ResumeFault::Memory),
     }
 }
 
@@ -189,14 +184,14 @@ fn put_saved(
 /// memory.
 fn pushed_rows(
     alloc: Global,
-    rows: &[(Key, RowBytes<'_>)],
+    rows: &[(LentKey<'_>, RowBytes<'_>)],
 ) -> Result<Tables<Key, RowBuf>, AllocError>
     requires { IsRising key_cmp rows.now }
     ensures { IfOk result (λ pushed. pushed.entries ≡ map of_first rows.now) }
 {
     let mut pushed = Tables::new(alloc);
     for (key, row) in rows {
-        let owned = key.try_clone(alloc)?;
+        let owned = Key::from_lent(alloc, key)?;
         let copy = RowBuf::from_bytes(alloc, row)?;
         pushed.push(owned, 0, copy)?;
     }

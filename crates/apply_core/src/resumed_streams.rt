@@ -9,7 +9,7 @@ ghost use Rattle.checkpoint_laws.specs.Refused.{IsRefusedSaved};
 ghost use Rattle.apply_core.specs.Feeds.{AreWholeFeeds};
 ghost use Rattle.apply_core.specs.Private.Resuming.{AreNumbers, AreSaid, IsUnsoundAt, refusal_of_feed};
 
-use crate::stream::Stream;
+use crate::stream::{Stream, cursor_behind};
 use checkpoint_core::{ReadStream, groups_up_to, number_at};
 use checkpoint_laws::ResumeFault;
 use source_feed::{Feed, FeedFault, Image};
@@ -78,12 +78,12 @@ fn stream_at<'h>(
         Ok(list) => list,
         Err(fault) => return Err(refusal_of(fault)),
     };
+    let cursor = cursor_behind(number, &marks);
     Ok(Stream {
         plan,
         list,
-        applied: number,
+        cursor,
         marks,
-        snapshot: None,
         image: Image::new(alloc),
         imaged: 0,
     })

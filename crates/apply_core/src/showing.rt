@@ -52,10 +52,11 @@ impl<'h> Stream<'h> {
         ensures { option_map_or (λ set. set.now) result [] ≡ applied_position self.now }
     {
         self.is_sound();
-        if self.applied == 0 {
+        let applied = self.cursor.applied();
+        if applied == 0 {
             return None;
         }
-        Some(self.list[(self.applied - 1) as usize].position())
+        Some(self.list[(applied - 1) as usize].position())
     }
 
     /// The mark of table `t`.

@@ -20,12 +20,12 @@ pub struct Chunk {
     /// the rows as they are put
     pub puts: Vec<(Key, Option<RowBuf>)>,
     /// how the mark moves
-    pub step: Move,
+    pub step: MarkMove,
 }
 
 /// How a chunk moves the mark of its table.
 #[derive(Drop)]
-pub struct Move {
+pub struct MarkMove {
     /// how many rows the chunk has, and whether the table is then done
     pub copied: Copied,
     /// the last row's key
@@ -52,7 +52,7 @@ fn last_key(
     match rows.last() {
         None => Ok(None),
         Some((key, _)) => {
-            let key = Key::from_view(alloc, &key.view())?;
+            let key = Key::from_lent(alloc, key)?;
             Ok(Some(key))
         }
     }
@@ -98,7 +98,7 @@ impl<'h> Stream<'h> {
         };
         Ok(Chunk {
             puts,
-            step: Move { copied, last },
+            step: MarkMove { copied, last },
         })
     }
 }

@@ -4,7 +4,6 @@ ghost use Rattle.std.specs.Prelude.{◌≡◌, ◌∷◌, [], ◌++◌, List, le
 ghost use Rattle.board_laws.specs.Meaning.{State};
 ghost use Rattle.apply_core.specs.Private.Together.{AreTogether, ArePutsOfCut, IsNotPut};
 
-use join_laws::JoinFault;
 use pk_copy::{Key, keys_tie_where_they_are_equal};
 use row_view::RowBuf;
 use std::alloc::Global;
@@ -17,16 +16,13 @@ pub(crate) fn put_stream(
     rows: &mut Tables<Key, RowBuf>,
     s: u8,
     puts: Vec<(Key, Option<RowBuf>)>,
-) -> Result<(), JoinFault>
+) -> Result<(), TableFault<Key>>
     ensures ok { OnOk result ((lower : List State) (state : State) → length lower ≡ s → AreTogether lower rows.old.entries → ArePutsOfCut state puts.items → AreTogether (lower ++ state ∷ []) rows.new.entries) }
     ensures err { IfErr result (λ fault. (lower : List State) (state : State) → length lower ≡ s → AreTogether lower rows.old.entries → ArePutsOfCut state puts.items → IsNotPut lower state fault) }
 {
     keys_tie_where_they_are_equal();
     match rows.apply(alloc, s, puts) {
         Ok(_) => Ok(()),
-        Err(TableFault::Memory) => Err(JoinFault::Memory),
-        Err(TableFault::OwnedByOther { key, owner }) => {
-            Err(JoinFault::OwnedByOther { key, owner })
-        }
+        Err(fault) => Err(fault),
     }
 }

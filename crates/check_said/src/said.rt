@@ -5,7 +5,7 @@ ghost use Rattle.feed_check.specs.Report.{check_report_of};
 ghost use Rattle.check_said.specs.Said.{is_empty, said_of, with_file};
 
 use crate::line::check_line;
-use feed_check::{Checked, Report};
+use feed_check::{CheckReport, Checked};
 use std::alloc::{AllocError, Global};
 use std::marker::Model;
 use workflow_check::{Note, note_lines, notes_of, rules_of};
@@ -34,7 +34,7 @@ fn is_empty(notes: &[Note]) -> bool
 }
 
 /// A report, behind what the workflow's file says of the tables, and before what is told of the file.
-fn with_file(alloc: Global, workflow: &[u8], report: &Report) -> Result<Said, AllocError>
+fn with_file(alloc: Global, workflow: &[u8], report: &CheckReport) -> Result<Said, AllocError>
     ensures { IfOk result (λ said. said ≡ with_file workflow.now report.now) }
 {
     let notes = notes_of(alloc, workflow)?;
@@ -57,7 +57,7 @@ fn said_in_lines(
 ) -> Result<Said, AllocError>
     ensures { IfOk result (λ said. said ≡ with_file workflow.now (check_report_of (map (λ file. file.now) files.now) checks.now)) }
 {
-    let report = Report::of(alloc, files, checks)?;
+    let report = CheckReport::of(alloc, files, checks)?;
     with_file(alloc, workflow, &report)
 }
 

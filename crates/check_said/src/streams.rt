@@ -10,7 +10,7 @@ ghost use Rattle.check_said.specs.Json.{counts_data, list_data, name_data, neare
 
 use crate::changes::{events_value, findings_value};
 use crate::json::{key_value, list_of, position_value};
-use feed_check::{Checked, Shared, behind_dot, file_name, name_of_table, rows_of_table};
+use feed_check::{Checked, SharedKey, behind_dot, file_name, name_of_table, rows_of_table};
 use filter_rule::{Plan, Table};
 use pk_copy::LentKey;
 use row_view::RowBytes;
@@ -224,7 +224,7 @@ pub(crate) fn streams_value(
 fn touched_value(
     alloc: Global,
     tables: &[Table],
-    shared: &Shared<'_, '_>,
+    shared: &SharedKey<'_, '_>,
 ) -> Result<Value, AllocError>
     ensures { IfOk result (λ made. view made ≡ shared_data tables.now shared.now) }
 {
@@ -239,7 +239,7 @@ fn touched_value(
 pub(crate) fn shared_value(
     alloc: Global,
     tables: &[Table],
-    shared: Option<&Shared<'_, '_>>,
+    shared: Option<&SharedKey<'_, '_>>,
 ) -> Result<Value, AllocError>
     ensures { IfOk result (λ made. view made ≡ shared_if tables.now (option_copied shared.entry)) }
 {

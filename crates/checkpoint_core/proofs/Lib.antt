@@ -1,5 +1,6 @@
 pub mod Items
-pub mod TextLaws
+pub mod WrittenTableLaws
+pub mod FramedLaws
 pub mod MarkLaws
 pub mod BehindLaws
 pub mod RowLaws

@@ -1,3 +1,3 @@
 -- What serves the crate's own code alone.
-pub mod Texts
+pub mod WrittenTables
 pub mod Reading

@@ -7,7 +7,7 @@ ghost use Rattle.vevent.specs.ColumnView.{field_value};
 ghost use Rattle.checkpoint_laws.specs.Written.{fields_of_table, key_fields_of};
 ghost use Rattle.checkpoint_core.specs.Private.Reading.{OfEachTable, HasHead};
 
-use crate::texts::fields_at;
+use crate::written_tables::fields_at;
 use filter_rule::Plan;
 use gtid_set::{GtidFault, GtidSet, same_set_is_equality};
 use std::alloc::{AllocError, Global};

@@ -3,19 +3,19 @@
 
 mod fault;
 mod framed;
+mod groups;
 mod head;
 mod marks;
 mod names;
-mod numbers;
 mod parts;
 mod reading;
 mod rows;
 mod saved;
-mod texts;
 mod writing;
+mod written_tables;
 
 pub use fault::ReadFault;
-pub use numbers::{groups_up_to, number_at};
+pub use groups::{groups_up_to, number_at};
 pub use reading::read_checkpoint;
 pub use saved::ReadStream;
 pub use writing::put_stream;

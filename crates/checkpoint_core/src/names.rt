@@ -5,7 +5,7 @@ ghost use Rattle.checkpoint_laws.specs.declared.version.Version.TheVariants.{Two
 ghost use Rattle.checkpoint_laws.specs.Said.{IsNamed, AreSoMany, HaveAsMany};
 ghost use Rattle.checkpoint_core.specs.Private.Reading.{OfEachTable};
 
-use crate::texts::name_of;
+use crate::written_tables::name_of;
 use checkpoint_laws::Version;
 use filter_rule::Plan;
 use vevent::{StreamPart, TablePart};

@@ -15,7 +15,7 @@ use vevent::StreamPart;
 
 /// The parts of a checkpoint of a version.
 #[derive(Drop)]
-pub(crate) struct Parts<'b> {
+pub(crate) struct CheckpointParts<'b> {
     pub(crate) version: Version,
     pub(crate) streams: Vec<StreamPart<'b>>,
 }
@@ -128,14 +128,14 @@ pub(crate) fn read_parts<'b>(
     alloc: Global,
     bytes: &'b [u8],
     count: usize,
-) -> Result<Parts<'b>, ReadFault>
+) -> Result<CheckpointParts<'b>, ReadFault>
     ensures ok { IfOk result (λ parts. AreSoManyParts parts.version bytes.now count parts.streams.items) }
     ensures err { IfErr result (IsNothing (λ (found : Version × List StreamPartValue). AreSoManyParts found.0 bytes.now count found.1)) }
     ensures memory { result ≡ Err ReadFault.Memory → HasParts bytes.now count }
 {
     let opened = behind_opening(bytes)?;
     let streams = framed_parts(alloc, opened.rest, count)?;
-    Ok(Parts {
+    Ok(CheckpointParts {
         version: opened.version,
         streams,
     })

@@ -135,17 +135,16 @@ fn read_streams<'b>(
 }
 
 /// Reads a checkpoint of streams under these plans, of version 1 or 2: of each its position, how far its tables
-/// are copied, and its rows by rising key, lent from the bytes. A version 2 may have parts of the first tables
-/// alone, as many in each stream; the others wait and have no rows. Fields come in any order, and others are
-/// skipped.
+/// are copied, and its keys and rows by rising key, lent from the bytes. A version 2 may have parts of the first
+/// tables alone, as many in each stream; the others wait and have no rows. Fields come in any order, and others
+/// are skipped.
 ///
 /// `Broken` where the bytes are no checkpoint for these plans: other first bytes, a broken frame or message,
 /// bytes after the end, another number of parts; of a stream another shard, in version 1 another number of tables,
 /// in version 2 none, more than there are, another number than in the first stream or another name; other columns, a position that can't be read or that differs between its tables, another mark or marks out of
 /// order, a last key that isn't one of its table or stands without its mark, rows of another width, without a
 /// key or whose keys don't rise. Any other error is want of memory; bytes that aren't as many messages as there are
-/// plans are `Broken` whatever memory there is. Takes memory for the keys and some words a
-/// row.
+/// plans are `Broken` whatever memory there is. Takes some words a row, and memory for keys of several parts.
 pub fn read_checkpoint<'b>(
     alloc: Global,
     plans: &[Arc<Plan>],

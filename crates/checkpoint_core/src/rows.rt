@@ -10,13 +10,18 @@ ghost use Rattle.checkpoint_core.specs.Private.Reading.{IsRowOf, IsNextRow, AreR
 
 use crate::fault::ReadFault;
 use filter_rule::Plan;
-use pk_copy::{Key, key_of_kept};
+use pk_copy::{LentKey, key_of_kept};
 use row_view::RowBytes;
 use std::alloc::Global;
 use vevent::{AnswerRows, TablePart};
 
-/// The key at which a row of table `t` stands.
-fn key_for(alloc: Global, plan: &Plan, t: u8, row: &RowBytes<'_>) -> Result<Key, ReadFault>
+/// The key at which a row of table `t` stands, lent from the row.
+fn key_for<'b>(
+    alloc: Global,
+    plan: &Plan,
+    t: u8,
+    row: &RowBytes<'b>,
+) -> Result<LentKey<'b>, ReadFault>
     requires { t < length plan.now.tables }
     ensures ok { IfOk result (IsRowOf plan.now t row.now) }
     ensures err { IfErr result (IsNothing (IsRowOf plan.now t row.now)) }
@@ -27,12 +32,12 @@ fn key_for(alloc: Global, plan: &Plan, t: u8, row: &RowBytes<'_>) -> Result<Key,
     }
     match key_of_kept(plan, t, &view) {
         Err(_) => Err(ReadFault::Broken),
-        Ok(key) => Ok(Key::from_view(alloc, &key)?),
+        Ok(key) => Ok(LentKey::from_view(alloc, &key)?),
     }
 }
 
 /// Whether a key is greater than that of every row. Looks at the last row alone and takes no memory.
-fn is_behind(rows: &[(Key, RowBytes<'_>)], key: &Key) -> bool
+fn is_behind(rows: &[(LentKey<'_>, RowBytes<'_>)], key: &LentKey<'_>) -> bool
     requires { IsRising key_cmp rows.now }
     ensures { IsTrue result ↔ AreBelow key_cmp key.now rows.now }
 {
@@ -48,7 +53,7 @@ fn put_row<'b>(
     plan: &Plan,
     t: u8,
     row: RowBytes<'b>,
-    rows: &mut Vec<(Key, RowBytes<'b>)>,
+    rows: &mut Vec<(LentKey<'b>, RowBytes<'b>)>,
 ) -> Result<(), ReadFault>
     requires table { t < length plan.now.tables }
     requires rising { IsRising key_cmp rows.old.items }
@@ -71,7 +76,7 @@ fn put_rows<'b>(
     plan: &Plan,
     t: u8,
     found: AnswerRows<'b>,
-    rows: &mut Vec<(Key, RowBytes<'b>)>,
+    rows: &mut Vec<(LentKey<'b>, RowBytes<'b>)>,
 ) -> Result<(), ReadFault>
     requires table { t < length plan.now.tables }
     requires rows { AreRows plan.now (map of_table rows.old.items) rows.old.items }
@@ -89,7 +94,7 @@ pub(crate) fn read_rows<'b>(
     alloc: Global,
     plan: &Plan,
     tables: &[TablePart<'b>],
-) -> Result<Vec<(Key, RowBytes<'b>)>, ReadFault>
+) -> Result<Vec<(LentKey<'b>, RowBytes<'b>)>, ReadFault>
     requires { length tables.now ≤ length plan.now.tables }
     ensures ok { IfOk result (λ rows. AreRows plan.now (rows_from 0 tables.now) rows.items) }
     ensures err { IfErr result (IsNothing (AreRows plan.now (rows_from 0 tables.now))) }

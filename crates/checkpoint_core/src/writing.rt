@@ -4,18 +4,20 @@ ghost use Rattle.std.specs.Prelude.{◌≡◌, ◌++◌, ℕ, List, [], map, IfO
 ghost use Rattle.std.specs.Option.{option_map_or};
 ghost use Rattle.std.specs.String.{string_bytes};
 ghost use Rattle.source_feed.specs.Image.{lent_row};
+ghost use Rattle.vevent.specs.ContentView.{table_content};
 ghost use Rattle.vevent.specs.WrittenPart.{written_stream_part};
 ghost use Rattle.checkpoint_laws.specs.declared.version.Version.TheVariants.{Two};
 ghost use Rattle.checkpoint_laws.specs.Written.{position_text, stream_part, framed};
-ghost use Rattle.checkpoint_core.specs.Private.Texts.{text_value};
+ghost use Rattle.checkpoint_core.specs.Private.WrittenTables.{written_value};
 
-use crate::framed::{SizedTable, put_framed};
-use crate::texts::{TableText, content_of, table_texts};
+use crate::framed::put_framed;
+use crate::written_tables::{WrittenTable, content_of, written_tables};
 use filter_rule::Plan;
 use gtid_set::GtidSet;
 use pk_copy::{CopyState, Key};
 use row_view::RowBuf;
 use std::alloc::{AllocError, Global};
+use vevent::TableContent;
 
 /// A position as it is written.
 fn position_text(alloc: Global, position: Option<&GtidSet>) -> Result<String, AllocError>
@@ -27,19 +29,19 @@ fn position_text(alloc: Global, position: Option<&GtidSet>) -> Result<String, Al
     }
 }
 
-/// What is written of tables, lent, with the text of the position, each answer counted.
-fn sized_tables<'c>(
+/// What is written of tables, lent, with the text of the position.
+fn contents_of<'c>(
     alloc: Global,
-    texts: &'c [TableText<'_>],
+    written: &'c [WrittenTable<'_>],
     position: &'c str,
-) -> Result<Vec<SizedTable<'c>>, AllocError>
-    ensures { IfOk result (λ tables. tables.items ≡ map (text_value position.now) texts.now) }
+) -> Result<Vec<TableContent<'c>>, AllocError>
+    ensures { IfOk result (λ contents. map table_content contents.items ≡ map (written_value position.now) written.now) }
 {
-    let mut tables = Vec::with_capacity(alloc, texts.len())?;
-    for text in texts {
-        tables.push(SizedTable::new(content_of(text, position))?)?;
+    let mut contents = Vec::with_capacity(alloc, written.len())?;
+    for table in written {
+        contents.push(content_of(table, position))?;
     }
-    Ok(tables)
+    Ok(contents)
 }
 
 /// Appends a stream's part of a checkpoint of version 2 behind its length: the shard of its plan, and of each
@@ -56,8 +58,8 @@ pub fn put_stream<'x>(
     ensures { OnOk result (out.new.items ≡ out.old.items ++ framed (written_stream_part (stream_part Two plan.now (record { position = option_map_or (λ set. set.now) position.entry []; marks = marks.now; rows = map lent_row rows.now })))) }
 {
     let gtid = position_text(alloc, position)?;
-    let texts = table_texts(alloc, &*plan, &*marks, &*rows)?;
-    let tables = sized_tables(alloc, &texts, gtid.as_str())?;
-    put_framed(out, plan.shard(), &tables)?;
+    let written = written_tables(alloc, &*plan, &*marks, &*rows)?;
+    let tables = contents_of(alloc, &written, gtid.as_str())?;
+    put_framed(alloc, out, plan.shard(), &tables)?;
     Ok(())
 }

@@ -7,8 +7,8 @@ ghost use Rattle.feed_check.specs.Private.Replayed.{IsReplayed};
 
 use crate::finding::Finding;
 use crate::keyed::{KeyedChange, keyed_group};
+use crate::keyed_rows::KeyedRows;
 use crate::replay::Replay;
-use crate::rows::Rows;
 use filter_rule::Plan;
 use source_feed::Group;
 use std::alloc::{AllocError, Global};
@@ -39,7 +39,7 @@ pub fn findings_of<'h>(
     ensures { IfOk result (λ found. found.items ≡ told.findings_of (keyed_changes plan.now groups.now)) }
 {
     let mut replay = Replay {
-        rows: Rows::new(alloc),
+        rows: KeyedRows::new(alloc),
         findings: Vec::new(alloc),
     };
     for group in groups {

@@ -10,7 +10,7 @@ ghost use Rattle.feed_check.specs.Private.Replayed.{row_in, IsReplayed};
 
 use crate::finding::{Doubt, Finding};
 use crate::keyed::{KeyedChange, KeyedRow};
-use crate::rows::Rows;
+use crate::keyed_rows::KeyedRows;
 use pk_copy::LentKey;
 use row_view::RowBytes;
 use std::alloc::{AllocError, Global};
@@ -18,7 +18,7 @@ use std::alloc::{AllocError, Global};
 /// The rows that stand behind some changes of a feed, and what was told of these.
 #[derive(Drop)]
 pub(crate) struct Replay<'h> {
-    pub(crate) rows: Rows<'h, RowBytes<'h>>,
+    pub(crate) rows: KeyedRows<'h, RowBytes<'h>>,
     pub(crate) findings: Vec<Finding<'h>>,
 }
 
@@ -68,7 +68,7 @@ fn why_after(own: bool, there: Option<&RowBytes<'_>>) -> Option<Doubt>
 /// What is told of a change's row before.
 fn found_before<'h>(
     alloc: Global,
-    rows: &Rows<'h, RowBytes<'h>>,
+    rows: &KeyedRows<'h, RowBytes<'h>>,
     change: &KeyedChange<'h>,
 ) -> Result<Option<Finding<'h>>, AllocError>
     ensures { IfOk result (λ found. found ≡ found_before change.now (row_in rows.now)) }
@@ -85,7 +85,7 @@ fn found_before<'h>(
 /// What is told of a change's row after.
 fn found_after<'h>(
     alloc: Global,
-    rows: &Rows<'h, RowBytes<'h>>,
+    rows: &KeyedRows<'h, RowBytes<'h>>,
     change: &KeyedChange<'h>,
 ) -> Result<Option<Finding<'h>>, AllocError>
     ensures { IfOk result (λ found. found ≡ found_after change.now (row_in rows.now)) }

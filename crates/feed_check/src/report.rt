@@ -16,12 +16,12 @@ use std::marker::Model;
 
 /// What a check says: a line a stream and a line a table, and behind them the lines of its warnings.
 #[derive(Drop)]
-pub struct Report {
+pub struct CheckReport {
     text: String,
     warned: bool,
 }
 
-impl Model for Report {
+impl Model for CheckReport {
     ghost use Rattle.std.specs.String.{string_bytes};
     ghost use Rattle.feed_check.specs.Report.{ReportValue};
 
@@ -30,16 +30,20 @@ impl Model for Report {
     ghost view = { λ r. record { text = string_bytes r.text; warned = r.warned } };
 }
 
-impl Report {
+impl CheckReport {
     /// What checks of a workflow's streams say, in their order; their files have these names. An error is
     /// want of memory.
-    pub fn of(alloc: Global, files: &[&str], checks: &[Checked<'_>]) -> Result<Report, AllocError>
+    pub fn of(
+        alloc: Global,
+        files: &[&str],
+        checks: &[Checked<'_>],
+    ) -> Result<CheckReport, AllocError>
         ensures { IfOk result (λ report. report ≡ check_report_of (map (λ file. file.now) files.now) checks.now) }
     {
         let mut text = all_lines(alloc, files, checks)?;
         let warnings = all_warnings(alloc, checks)?;
         text.push_str(&warnings)?;
-        Ok(Report {
+        Ok(CheckReport {
             text,
             warned: has_some(&warnings),
         })

@@ -10,7 +10,7 @@ ghost use Rattle.feed_check.specs.Shared as told;
 ghost use Rattle.feed_check.specs.Shared.{shared_among, touches_key};
 
 use crate::checked::Checked;
-use crate::rows::Rows;
+use crate::keyed_rows::KeyedRows;
 use pk_copy::LentKey;
 use source_feed::{Prepared, Touch};
 use std::alloc::{AllocError, Global};
@@ -19,13 +19,13 @@ use std::sync::Arc;
 
 /// A key that two feeds touch, and the numbers of their streams, the lower one first.
 #[derive(Drop)]
-pub struct Shared<'c, 'h> {
+pub struct SharedKey<'c, 'h> {
     key: &'c LentKey<'h>,
     one: usize,
     other: usize,
 }
 
-impl<'c, 'h> Model for Shared<'c, 'h> {
+impl<'c, 'h> Model for SharedKey<'c, 'h> {
     ghost use Rattle.feed_check.specs.Shared.{SharedValue};
 
     ghost Value = { SharedValue };
@@ -33,7 +33,7 @@ impl<'c, 'h> Model for Shared<'c, 'h> {
     ghost view = { λ s. record { key = s.key.now; one = s.one; other = s.other } };
 }
 
-impl<'c, 'h> Shared<'c, 'h> {
+impl<'c, 'h> SharedKey<'c, 'h> {
     /// The key.
     pub fn key(&self) -> &'c LentKey<'h>
         ensures { result.now ≡ self.now.key }
@@ -58,9 +58,9 @@ impl<'c, 'h> Shared<'c, 'h> {
 
 /// The one with the lesser key; of one key the second.
 fn lesser<'c, 'h>(
-    best: Option<Shared<'c, 'h>>,
-    found: Option<Shared<'c, 'h>>,
-) -> Option<Shared<'c, 'h>>
+    best: Option<SharedKey<'c, 'h>>,
+    found: Option<SharedKey<'c, 'h>>,
+) -> Option<SharedKey<'c, 'h>>
     ensures { result ≡ told.lesser best.entry found.entry }
 {
     match (best, found) {
@@ -78,15 +78,15 @@ fn lesser<'c, 'h>(
 
 /// A key that stream `i`'s feed touches, where another stream stands for it.
 fn shared_at<'c, 'h>(
-    others: &Rows<'h, usize>,
+    others: &KeyedRows<'h, usize>,
     i: usize,
     key: &'c LentKey<'h>,
-) -> Option<Shared<'c, 'h>>
+) -> Option<SharedKey<'c, 'h>>
     ensures { result ≡ told.shared_at (row_in others.now) i key.entry.now }
 {
     match others.at(key) {
         None => None,
-        Some(other) => Some(Shared {
+        Some(other) => Some(SharedKey {
             key,
             one: i,
             other: *other,
@@ -96,11 +96,11 @@ fn shared_at<'c, 'h>(
 
 /// The least of one and those of touches.
 fn least_among<'c, 'h>(
-    others: &Rows<'h, usize>,
+    others: &KeyedRows<'h, usize>,
     i: usize,
-    best: Option<Shared<'c, 'h>>,
+    best: Option<SharedKey<'c, 'h>>,
     touches: &'c [Touch<'h>],
-) -> Option<Shared<'c, 'h>>
+) -> Option<SharedKey<'c, 'h>>
     ensures { result ≡ shared_among (row_in others.now) i best.entry touches.entry.now }
 {
     let mut best = best;
@@ -112,11 +112,11 @@ fn least_among<'c, 'h>(
 
 /// The least of one and those of groups.
 fn least_of_groups<'c, 'h>(
-    others: &Rows<'h, usize>,
+    others: &KeyedRows<'h, usize>,
     i: usize,
-    best: Option<Shared<'c, 'h>>,
+    best: Option<SharedKey<'c, 'h>>,
     groups: &'c [Arc<Prepared<'h>>],
-) -> Option<Shared<'c, 'h>>
+) -> Option<SharedKey<'c, 'h>>
     ensures { result ≡ shared_among (row_in others.now) i best.entry (touches_in (map arc_value groups.entry.now)) }
 {
     let mut best = best;
@@ -147,7 +147,7 @@ fn put_owner<'h>(
     alloc: Global,
     i: usize,
     groups: &[Arc<Prepared<'h>>],
-    owners: &mut Rows<'h, usize>,
+    owners: &mut KeyedRows<'h, usize>,
 ) -> Result<(), AllocError>
     ensures { OnOk result ((key : KeyValue) → row_in owners.new key ≡ owner_after i (touches_key (map arc_value groups.now) key) (row_in owners.old key)) }
 {
@@ -163,10 +163,10 @@ fn put_owner<'h>(
 pub fn shared_of<'c, 'h>(
     alloc: Global,
     checks: &'c [Checked<'h>],
-) -> Result<Option<Shared<'c, 'h>>, AllocError>
+) -> Result<Option<SharedKey<'c, 'h>>, AllocError>
     ensures { IfOk result (λ shared. shared ≡ told.shared_of checks.entry.now) }
 {
-    let mut owners = Rows::new(alloc);
+    let mut owners = KeyedRows::new(alloc);
     let mut best = None;
     let mut i = checks.len();
     while i > 0 {

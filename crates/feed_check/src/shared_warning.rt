@@ -6,13 +6,13 @@ ghost use Rattle.std.specs.String.{string_bytes};
 ghost use Rattle.feed_check.specs.Report.{ended, shared_head, shared_text, shared_warning};
 
 use crate::key_text::key_text;
-use crate::shared::Shared;
+use crate::shared::SharedKey;
 use crate::warnings::name_of_table;
 use filter_rule::Table;
 use std::alloc::{AllocError, Global};
 
 /// The two streams.
-fn shared_head(alloc: Global, shared: &Shared<'_, '_>) -> Result<String, AllocError>
+fn shared_head(alloc: Global, shared: &SharedKey<'_, '_>) -> Result<String, AllocError>
     ensures { IfOk result (λ text. string_bytes text ≡ shared_head shared.now) }
 {
     let one = shared.one();
@@ -25,7 +25,7 @@ fn shared_head(alloc: Global, shared: &Shared<'_, '_>) -> Result<String, AllocEr
 fn shared_text(
     alloc: Global,
     tables: &[Table],
-    shared: &Shared<'_, '_>,
+    shared: &SharedKey<'_, '_>,
 ) -> Result<String, AllocError>
     ensures { IfOk result (λ text. string_bytes text ≡ shared_text tables.now shared.now) }
 {
@@ -48,7 +48,7 @@ fn ended(alloc: Global, text: &str) -> Result<String, AllocError>
 pub(crate) fn push_shared_warning(
     alloc: Global,
     tables: &[Table],
-    shared: Option<&Shared<'_, '_>>,
+    shared: Option<&SharedKey<'_, '_>>,
     text: &mut String,
 ) -> Result<(), AllocError>
     ensures { OnOk result (string_bytes text.new ≡ string_bytes text.old ++ shared_warning tables.now (option_copied shared.entry)) }

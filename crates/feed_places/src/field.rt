@@ -18,7 +18,7 @@ use vevent::{ColumnField, ColumnFields, Event, FieldEvent, Response};
 /// A column in which a FIELD event differs: the table by its number, the column's place, from 0, and what the
 /// feed has there, nothing where it has fewer columns.
 #[derive(Clone, Copy)]
-pub struct Differing<'h> {
+pub(crate) struct Differing<'h> {
     pub table: u8,
     pub place: usize,
     pub said: Option<ColumnField<'h>>,

@@ -29,6 +29,10 @@ pub record IsFedBoard (feeds : List FeedValue) (board : Meaning) : Type 0 where
   pub count : length board.streams ≡ length feeds
   pub reads : AllReadTheirFeeds feeds board
 
+-- stream s of a board has ended
+abbrev pub StreamHasEnded : List FeedValue → ℕ → Meaning → Type 0
+StreamHasEnded feeds s board = (feed : FeedValue) (state : State) → slice_get feeds s ≡ Some feed → slice_get board.streams s ≡ Some state → HasEnded feed state
+
 -- each stream of a board has ended
 abbrev pub AllHaveEnded : List FeedValue → Meaning → Type 0
 AllHaveEnded feeds board = (s : ℕ) (feed : FeedValue) (state : State) → slice_get feeds s ≡ Some feed → slice_get board.streams s ≡ Some state → HasEnded feed state
@@ -47,6 +51,10 @@ HaveEnded streams feeds board =
 -- each stream but these is as it was
 abbrev pub AreAsBefore : List ℕ → Meaning → Meaning → Type 0
 AreAsBefore streams old new = (s : ℕ) → ¬ (IsNamedStream streams s) → slice_get new.streams s ≡ slice_get old.streams s
+
+-- each stream but the one of this number is as it was
+abbrev pub OthersStay : ℕ → Meaning → Meaning → Type 0
+OthersStay s old new = (t : ℕ) → t ≢ s → slice_get new.streams t ≡ slice_get old.streams t
 
 -- ---- the rows of whole feeds
 

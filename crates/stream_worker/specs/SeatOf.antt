@@ -1,12 +1,16 @@
 -- What a seat knows, and the shared board that it is of (this profile).
-use Rattle.std.specs.Prelude.{◌≡◌, ℕ, ◌≤◌, true, false, List, length, Option, Some, IsSome, slice_get}
+use Rattle.std.specs.Prelude.{◌≡◌, ℕ, ◌≤◌, true, false, List, length, Option, Some, IsSome, Result, slice_get}
 use Rattle.crossbeam_channel.specs.Claims.{view, IsSeatAt}
 use Rattle.crossbeam_channel.specs.Ends.{sends_on}
+use Rattle.board_laws.specs.declared.answer.Answer.{Answer}
+use Rattle.board_laws.specs.declared.refusal.Refusal.{Refusal}
+use Rattle.board_laws.specs.Event.{Event}
 use Rattle.board_laws.specs.Meaning.{State}
 use Rattle.stream_worker.specs.declared.seat.Seat.{Seat}
 use Rattle.stream_worker.specs.declared.shared.Shared.{Shared}
-use Rattle.stream_worker.specs.Knowing.{Laid, Knows, IsAmong, names, boards_of, state_seen}
+use Rattle.stream_worker.specs.Knowing.{Laid, Knows, SawStreams, IsAmong, names, boards_of, state_seen}
 use Rattle.stream_worker.specs.Rule.{AllGoOn}
+use Rattle.stream_worker.specs.Seats.{IsSeatStep}
 
 -- what a seat knows of the board
 abbrev pub known : Seat → Knows
@@ -20,9 +24,21 @@ seat_state seat = state_seen (known seat) seat.stream
 abbrev pub IsSeatOf : Shared → Seat → Type 0
 IsSeatOf shared seat = IsSeatAt (sends_on shared.lock.sender) seat.pass
 
+-- it is one of this shared board's, and its stream is s
+abbrev pub IsSeatFor : Shared → ℕ → Seat → Type 0
+IsSeatFor shared s seat = IsSeatOf shared seat × (seat.stream ≡ s)
+
+-- a call of a seat is one step on its stream, on the state that it knew
+abbrev pub MakesStep : Seat → Event → Result Answer Refusal → Seat → Type 0
+MakesStep before event result after = IsSeatStep (known before) before.stream event result (known after)
+
+-- what a seat saw later has as many streams as what it saw before
+abbrev pub SawNoOther : Seat → Seat → Type 0
+SawNoOther before after = (n : ℕ) → SawStreams (known before) n → SawStreams (known after) n
+
 -- seats of a shared board, one a stream, in the order of the streams
 abbrev pub AreSeatsOf : Shared → List Seat → Type 0
-AreSeatsOf shared seats = (k : ℕ) (seat : Seat) → slice_get seats k ≡ Some seat → IsSeatOf shared seat × (seat.stream ≡ k)
+AreSeatsOf shared seats = (k : ℕ) (seat : Seat) → slice_get seats k ≡ Some seat → IsSeatFor shared k seat
 
 -- seats of a shared board in any order, no two of one stream
 pub record AreApartSeats (shared : Shared) (seats : List Seat) : Type 0 where

@@ -15,7 +15,8 @@ use Rattle.stream_worker.specs.declared.run_refusal.RunRefusal.TheVariants.{Feed
 use Rattle.stream_worker.specs.Ended.{HasEnded}
 use Rattle.stream_worker.specs.Knowing.{Laid, Knows}
 use Rattle.stream_worker.specs.RunRefused.{IsFirstUnsoundGroup}
-use Rattle.stream_worker.specs.SeatOf.{known, seat_state}
+use Rattle.stream_worker.specs.SeatOf.{known, seat_state, SawNoOther}
+use Rattle.stream_worker.specs.Seats.{IsReceiptOf}
 
 -- ---- a seat's stream and its feed
 
@@ -51,6 +52,10 @@ EndsSeat feed seat Memory = Unit {0}
 
 -- ---- its receipts
 
+-- a receipt of the group that the seat's stream applied last
+abbrev pub IsLastReceipt : Seat → Receipt → Type 0
+IsLastReceipt seat receipt = IsSomeAnd (seat_state seat) (λ state. IsReceiptOf seat.stream state receipt.stream receipt.number (arc_value receipt.group))
+
 -- a receipt of stream s for the group behind so many: it names the stream and that group's number, and has the group
 -- that stands there
 pub record IsReceiptBehind (s before : ℕ) (state : State) (receipt : Receipt) : Type 0 where
@@ -66,3 +71,13 @@ pub record AreReceiptsSince (first s : ℕ) (state : State) (receipts : List Rec
 -- the same of a seat's stream
 abbrev pub AreReceipts : ℕ → Seat → List Receipt → Type 0
 AreReceipts first seat receipts = IsSomeAnd (seat_state seat) (λ state. AreReceiptsSince first seat.stream state receipts)
+
+-- ---- what a worker keeps
+
+-- A seat goes on along a feed: it saw boards of as many streams; with a receipt for each group that it had applied since
+-- some number, it has one for each; and where its stream read the feed, it still does. Its receipts are told before and
+-- after.
+pub record GoesOn (feed : FeedValue) (before : Seat) (had : List Receipt) (after : Seat) (has : List Receipt) : Type 0 where
+  pub many : SawNoOther before after
+  pub receipts : (first : ℕ) → AreReceipts first before had → AreReceipts first after has
+  pub follows : Follows feed before → Follows feed after

@@ -1,13 +1,10 @@
 //! All streams run to their feeds' ends, one after another.
 
-ghost use Rattle.std.specs.Prelude.{◌≡◌, ◌≢◌, ℕ, ◌<◌, ◌≤◌, IsTrue, false, length, map, slice_get, None, IfOk, IfErr, OnOk};
+ghost use Rattle.std.specs.Prelude.{◌≡◌, ℕ, ◌<◌, ◌≤◌, IsTrue, false, length, map, slice_get, None, IfOk, IfErr, OnOk};
 ghost use Rattle.std.specs.Arc.{arc_value};
-ghost use Rattle.board_laws.specs.Lawful.{IsLawful};
-ghost use Rattle.board_laws.specs.Meaning.{State};
 ghost use Rattle.apply_core.specs.Feeds.{AreFed};
 ghost use Rattle.apply_core.specs.Shown.{all_rows};
-ghost use Rattle.source_feed.specs.Planned.{FeedValue};
-ghost use Rattle.stream_worker.specs.Ended.{HasEnded, IsNamedStream, HaveEnded, IsFedBoard, AllHaveEnded, AreAsBefore, IsRowsUnion};
+ghost use Rattle.stream_worker.specs.Ended.{StreamHasEnded, OthersStay, IsNamedStream, HaveEnded, IsFedBoard, AllHaveEnded, AreAsBefore, IsRowsUnion};
 ghost use Rattle.stream_worker.specs.RunRefused.{EndsRun, IsRefusedRun, refused_stream};
 ghost use Rattle.stream_worker.specs.Private.Courses.{left_on};
 ghost use Rattle.stream_worker.specs.Private.AllowedSteps.{EndsStream};
@@ -16,7 +13,7 @@ use crate::course::Course;
 use crate::policy::Policy;
 use crate::run_laws::ended_boards_have_the_union;
 use crate::run_refusal::RunRefusal;
-use apply_core::{Board, Refusal, StepRefusal, run_schedule};
+use apply_core::{Board, Refusal, StepRefusal, fed_board};
 use filter_rule::Plan;
 use pk_copy::keys_tie_where_they_are_equal;
 use source_feed::Feed;
@@ -53,9 +50,9 @@ fn go_on<'h>(
     requires fed { IsFedBoard feeds.now board.old }
     requires there { s < length feeds.now }
     ensures fed { OnOk result (IsFedBoard feeds.now board.new) }
-    ensures others { OnOk result ((t : ℕ) → t ≢ s → slice_get board.new.streams t ≡ slice_get board.old.streams t) }
+    ensures others { OnOk result (OthersStay s board.old board.new) }
     ensures nearer { IfOk result (λ went. IsTrue went → left_on feeds.now board.new s course.new.to_copy < left_on feeds.now board.old s course.old.to_copy) }
-    ensures ended { IfOk result (λ went. went ≡ false → (feed : FeedValue) (state : State) → slice_get feeds.now s ≡ Some feed → slice_get board.new.streams s ≡ Some state → HasEnded feed state) }
+    ensures ended { IfOk result (λ went. went ≡ false → StreamHasEnded feeds.now s board.new) }
     ensures refused { IfErr result (EndsRun feeds.now) }
 {
     keys_tie_where_they_are_equal();
@@ -83,8 +80,8 @@ fn run_stream<'h>(
     requires fed { IsFedBoard feeds.now board.old }
     requires there { s < length feeds.now }
     ensures fed { OnOk result (IsFedBoard feeds.now board.new) }
-    ensures others { OnOk result ((t : ℕ) → t ≢ s → slice_get board.new.streams t ≡ slice_get board.old.streams t) }
-    ensures ended { OnOk result ((feed : FeedValue) (state : State) → slice_get feeds.now s ≡ Some feed → slice_get board.new.streams s ≡ Some state → HasEnded feed state) }
+    ensures others { OnOk result (OthersStay s board.old board.new) }
+    ensures ended { OnOk result (StreamHasEnded feeds.now s board.new) }
     ensures refused { IfErr result (EndsRun feeds.now) }
 {
     let mut course = Course::new(policy);
@@ -104,8 +101,11 @@ pub(crate) fn board_over<'h>(
     ensures refused { IfErr result (IsRefusedRun (map arc_value plans.items) feeds.now) }
     ensures of_none { IfErr result (λ refusal. refused_stream refusal ≡ None) }
 {
-    match run_schedule(alloc, plans, feeds, &[]) {
-        Ok((board, _)) => Ok(board),
+    match fed_board(alloc, plans, feeds) {
+        Ok(board) => {
+            board.is_lawful();
+            Ok(board)
+        },
         Err(Refusal::FeedCount) => Err(RunRefusal::FeedCount),
         Err(Refusal::WrongPlan) => Err(RunRefusal::WrongPlan),
         Err(Refusal::Memory) => Err(RunRefusal::Memory),

@@ -7,7 +7,7 @@ ghost use Rattle.stream_worker.specs.Private.SeatRuns.{IsLeft};
 use crate::gate::Gate;
 use crate::run_refusal::RunRefusal;
 use crate::seat::Seat;
-use crate::seat_run::{Ran, Run};
+use crate::seat_run::{Ran, RunContext};
 use crate::working::work;
 use feed_readers::{Named, OfFeed, Reading, WorkerEnd, read_ahead, reader_ends};
 use source_feed::Feed;
@@ -18,7 +18,7 @@ use std::thread::Threads;
 /// What the worker of a stream has, and its end of the channel in which its groups come.
 #[derive(Drop)]
 struct Working<'a, 'h, F: OfFeed, R, G> {
-    run: &'a Run<'a, 'h, R, G>,
+    run: &'a RunContext<'a, 'h, R, G>,
     seat: Seat<'h>,
     feed: Named<'a, 'h, F>,
     end: WorkerEnd<'h, F>,
@@ -73,7 +73,7 @@ pub(crate) fn beside_reader<
     F: OfFeed + Send + Sync + 'h,
     R: Threads + Wait + Sync,
     G: Gate + Sync,
->(run: &'a Run<'a, 'h, R, G>, seat: Seat<'h>, feed: &'a Feed<'h>) -> Ran<'h>
+>(run: &'a RunContext<'a, 'h, R, G>, seat: Seat<'h>, feed: &'a Feed<'h>) -> Ran<'h>
     requires feed { feed.now ≡ F.feed }
     requires seat { IsSeatOf run.now.shared.now seat }
     ensures { IsLeft run.now.shared.now feed.now seat.entry result }

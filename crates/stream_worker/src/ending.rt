@@ -1,6 +1,6 @@
 //! Taking a board out of its lock.
 
-ghost use Rattle.std.specs.Prelude.{◌≡◌, ◌<◌, length, vec_len};
+ghost use Rattle.std.specs.Prelude.{◌<◌, length, vec_len};
 ghost use Rattle.crossbeam_channel.specs.Claims.{view, IsSeatAt};
 ghost use Rattle.crossbeam_channel.specs.Ends.{sends_on};
 

@@ -3,6 +3,7 @@
 
 mod alone;
 mod beside;
+mod board_calls;
 mod course;
 mod deal;
 mod ending;

@@ -35,7 +35,7 @@ impl OpenRefusal<'_> {
 }
 
 impl<'h> Shared<'h> {
-    ghost use Rattle.stream_worker.specs.SeatOf.{known, seat_state, IsSeatOf, AreSeatsOf, AreStatesSeen, SawAsMany, IsOpened};
+    ghost use Rattle.stream_worker.specs.SeatOf.{known, seat_state, IsSeatFor, AreSeatsOf, AreStatesSeen, SawAsMany, IsOpened};
 
     /// The seat of stream `k`, where `k` seats are given out: the count of seats is looked at, and the seat
     /// is claimed by counting it.
@@ -51,7 +51,7 @@ impl<'h> Shared<'h> {
         requires outlined { option_map outline_of (state_seen (view opener.old) k) ≡ Some outline }
         requires few { k < 64 }
         ensures opener { IsSeatAt (sends_on self.now.lock.sender) opener.new × (view opener.new ≡ view opener.old) }
-        ensures seat { IsSeatOf self.now result × (result.stream ≡ k) }
+        ensures seat { IsSeatFor self.now k result }
         ensures state { seat_state result ≡ state_seen (view opener.old) k }
         ensures many { (n : ℕ) → SawStreams (view opener.old) n → SawStreams (known result) n }
     {

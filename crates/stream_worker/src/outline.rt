@@ -1,7 +1,7 @@
 //! What a seat has of its stream in memory of its own, so that what an advance puts is built before the
 //! board is taken.
 
-ghost use Rattle.std.specs.Prelude.{◌≡◌, ◌<◌, ◌∷◌, ◌++◌, [], ℕ, take, map, Some, IsSome, IfSome, IfOk, OnOk, OnErr, length, slice_get};
+ghost use Rattle.std.specs.Prelude.{◌≡◌, ◌<◌, ◌∷◌, ◌++◌, [], take, map, Some, IsSome, IfSome, IfOk, OnOk, OnErr, length, slice_get};
 ghost use Rattle.std.specs.Arc.{arc_value};
 ghost use Rattle.std.specs.Option.{option_map};
 ghost use Rattle.stream_worker.specs.Outlines.{outline_of, IsNextIn};

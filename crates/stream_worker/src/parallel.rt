@@ -14,7 +14,7 @@ use crate::policy::Policy;
 use crate::run_laws::ended_boards_have_the_union;
 use crate::run_refusal::RunRefusal;
 use crate::seat::Seat;
-use crate::seat_run::{Job, Ran, Run, run_seat};
+use crate::seat_run::{Job, Ran, RunContext, run_seat};
 use crate::shared::Shared;
 use apply_core::Board;
 use filter_rule::Plan;
@@ -26,7 +26,7 @@ use std::thread::Threads;
 
 /// What each seat's thread works with. An error is want of memory.
 fn jobs_of<'a, 'h, R, G>(
-    run: &Run<'a, 'h, R, G>,
+    run: &RunContext<'a, 'h, R, G>,
     seats: Vec<Seat<'h>>,
 ) -> Result<Vec<Job<'a, 'h, R, G>>, AllocError>
     ensures seats { IfOk result (λ jobs. map (λ job. job.seat) jobs.items ≡ seats.entry.items) }
@@ -34,7 +34,7 @@ fn jobs_of<'a, 'h, R, G>(
 {
     let mut jobs = Vec::with_capacity(run.alloc, seats.len())?;
     for seat in seats {
-        let run = Run {
+        let run = RunContext {
             alloc: run.alloc,
             rt: run.rt,
             shared: run.shared,
@@ -50,7 +50,7 @@ fn jobs_of<'a, 'h, R, G>(
 /// The seats' streams run to their feeds' ends, each in a thread of its own where one can be made. An error is want
 /// of memory.
 fn run_seats<'a, 'h, R: Threads + Wait + Sync, G: Gate + Sync>(
-    run: &Run<'a, 'h, R, G>,
+    run: &RunContext<'a, 'h, R, G>,
     seats: Vec<Seat<'h>>,
 ) -> Result<Vec<Ran<'h>>, AllocError>
     requires { AreSeated run.now.shared.now run.now.feeds.now seats.items }
@@ -104,7 +104,7 @@ fn run_shared<'h, R: Threads + Wait + Sync, G: Gate + Sync>(
     let Ok((shared, seats)) = Shared::open(rt, alloc, board) else {
         return Err(AllocError);
     };
-    let run = Run {
+    let run = RunContext {
         alloc,
         rt,
         shared: &shared,

@@ -1,6 +1,6 @@
 //! Seats: what a thread holds of a shared board.
 
-ghost use Rattle.std.specs.Prelude.{◌≡◌, [], ◌∷◌, true, false, Some, MatchOption, IsSomeAnd, length};
+ghost use Rattle.std.specs.Prelude.{◌≡◌, [], ◌∷◌, false, Some, IsSomeAnd, length};
 ghost use Rattle.std.specs.Option.{option_map};
 ghost use Rattle.crossbeam_channel.specs.Claims.{view};
 ghost use Rattle.board_laws.specs.Lawful.{standing_of};

@@ -1,6 +1,5 @@
 //! The stream of one seat runs to its feed's end, beside others.
 
-ghost use Rattle.std.specs.Prelude.{◌≡◌};
 ghost use Rattle.stream_worker.specs.Private.SeatRuns.{IsSeated, IsRan};
 
 use crate::beside::beside_reader;
@@ -17,7 +16,7 @@ use std::thread::Threads;
 
 /// What all streams of a run have. The feeds stand in the order of the streams.
 #[derive(Drop)]
-pub(crate) struct Run<'a, 'h, R, G> {
+pub(crate) struct RunContext<'a, 'h, R, G> {
     pub(crate) alloc: Global,
     pub(crate) rt: &'a R,
     pub(crate) shared: &'a Shared<'h>,
@@ -29,7 +28,7 @@ pub(crate) struct Run<'a, 'h, R, G> {
 /// What the thread of a stream works with.
 #[derive(Drop)]
 pub(crate) struct Job<'a, 'h, R, G> {
-    pub(crate) run: Run<'a, 'h, R, G>,
+    pub(crate) run: RunContext<'a, 'h, R, G>,
     pub(crate) seat: Seat<'h>,
 }
 

@@ -7,8 +7,8 @@ ghost use Rattle.board_laws.specs.Cut.{cut_of};
 ghost use Rattle.board_laws.specs.Event.{offer, advance, open_at, copy_rows, close, restart};
 ghost use Rattle.board_laws.specs.Step.{answered};
 ghost use Rattle.stream_worker.specs.Private.FoundGroups.{IsFound};
-ghost use Rattle.stream_worker.specs.Seats.{IsSeatStep, IsReceiptOf};
 
+use crate::board_calls::{Advance, Close, CopyRows, Offer, OpenAt, Restart};
 use crate::found::Found;
 use crate::lock::Lock;
 use crate::receipt::Receipt;
@@ -28,7 +28,8 @@ pub struct Shared<'h> {
 }
 
 impl<'h> Shared<'h> {
-    ghost use Rattle.stream_worker.specs.SeatOf.{known, seat_state, IsSeatOf};
+    ghost use Rattle.stream_worker.specs.SeatOf.{seat_state, IsSeatOf, IsSeatFor, MakesStep};
+    ghost use Rattle.stream_worker.specs.Worked.{IsLastReceipt};
 
     /// An offer of a group whose number is read is answered by what was found of it before the board was taken.
     fn answer_found<R: Wait>(
@@ -38,10 +39,10 @@ impl<'h> Shared<'h> {
         group: &Arc<Prepared<'h>>,
         found: Found,
     ) -> Result<Offered, Refusal>
-        requires seat { IsSeatOf self.now seat.old }
+        requires is_at { IsSeatOf self.now seat.old }
         requires found { IsFound seat.old.outline.list (arc_value group.now) found }
-        ensures seat { IsSeatOf self.now seat.new × (seat.new.stream ≡ seat.old.stream) }
-        ensures step { IsSeatStep (known seat.old) seat.old.stream (offer (arc_value group.now)) (answered answers.Answer.Offered result) (known seat.new) }
+        ensures is_at { IsSeatFor self.now seat.old.stream seat.new }
+        ensures step { MakesStep seat.old (offer (arc_value group.now)) (answered answers.Answer.Offered result) seat.new }
     {
         let deal = self.lock.take(rt, &mut seat.pass);
         let result = deal.answer_found(seat.stream, group, found);
@@ -58,8 +59,8 @@ impl<'h> Shared<'h> {
         group: &Arc<Prepared<'h>>,
     ) -> Result<Offered, Refusal>
         requires { IsSeatOf self.now seat.old }
-        ensures seat { IsSeatOf self.now seat.new × (seat.new.stream ≡ seat.old.stream) }
-        ensures step { IsSeatStep (known seat.old) seat.old.stream (offer (arc_value group.now)) (answered answers.Answer.Offered result) (known seat.new) }
+        ensures is_at { IsSeatFor self.now seat.old.stream seat.new }
+        ensures step { MakesStep seat.old (offer (arc_value group.now)) (answered answers.Answer.Offered result) seat.new }
     {
         let deal = self.lock.take(rt, &mut seat.pass);
         let result = deal.judge_offer(seat.stream, group);
@@ -70,8 +71,8 @@ impl<'h> Shared<'h> {
     /// An advance that found no memory before the board was taken: the board is asked what it finds without.
     fn judge_advance<R: Wait>(&self, rt: &R, seat: &mut Seat<'h>) -> Refusal
         requires { IsSeatOf self.now seat.old }
-        ensures seat { IsSeatOf self.now seat.new × (seat.new.stream ≡ seat.old.stream) }
-        ensures step { IsSeatStep (known seat.old) seat.old.stream advance (Err result) (known seat.new) }
+        ensures is_at { IsSeatFor self.now seat.old.stream seat.new }
+        ensures step { MakesStep seat.old advance (Err result) seat.new }
     {
         let deal = self.lock.take(rt, &mut seat.pass);
         let refusal = deal.judge_advance(seat.stream);
@@ -90,8 +91,8 @@ impl<'h> Shared<'h> {
         group: Arc<Prepared<'h>>,
     ) -> Result<Offered, Refusal>
         requires { IsSeatOf self.now seat.old }
-        ensures seat { IsSeatOf self.now seat.new × (seat.new.stream ≡ seat.old.stream) }
-        ensures step { IsSeatStep (known seat.old) seat.old.stream (offer (arc_value group.entry)) (answered answers.Answer.Offered result) (known seat.new) }
+        ensures is_at { IsSeatFor self.now seat.old.stream seat.new }
+        ensures step { MakesStep seat.old (offer (arc_value group.entry)) (answered answers.Answer.Offered result) seat.new }
     {
         if let Some(found) = seat.outline.find(&group) {
             return self.answer_found(rt, seat, &group, found);
@@ -100,7 +101,7 @@ impl<'h> Shared<'h> {
             return self.judge_offer(rt, seat, &group);
         };
         let mut deal = self.lock.take(rt, &mut seat.pass);
-        let result = deal.offer(alloc, seat.stream, group);
+        let result = deal.call(seat.stream, Offer { alloc, group });
         seat.cursor = deal.cursor(seat.stream);
         self.lock.put_back(rt, &mut seat.pass, deal);
         seat.outline.keep(seat.cursor.read());
@@ -117,15 +118,15 @@ impl<'h> Shared<'h> {
         seat: &mut Seat<'h>,
     ) -> Result<Receipt<'h>, Refusal>
         requires { IsSeatOf self.now seat.old }
-        ensures seat { IsSeatOf self.now seat.new × (seat.new.stream ≡ seat.old.stream) }
-        ensures step { IsSeatStep (known seat.old) seat.old.stream advance (answered (λ receipt. answers.Answer.Applied receipt.number) result) (known seat.new) }
-        ensures receipt { IfOk result (λ receipt. IsSomeAnd (seat_state seat.new) (λ state. IsReceiptOf seat.new.stream state receipt.stream receipt.number (arc_value receipt.group))) }
+        ensures is_at { IsSeatFor self.now seat.old.stream seat.new }
+        ensures step { MakesStep seat.old advance (answered (λ receipt. answers.Answer.Applied receipt.number) result) seat.new }
+        ensures receipt { IfOk result (IsLastReceipt seat.new) }
     {
         let Ok(next) = seat.outline.next(alloc, seat.cursor.applied()) else {
             return Err(self.judge_advance(rt, seat));
         };
         let mut deal = self.lock.take(rt, &mut seat.pass);
-        let result = deal.advance(alloc, seat.stream, next);
+        let result = deal.call(seat.stream, Advance { alloc, next });
         seat.cursor = deal.cursor(seat.stream);
         self.lock.put_back(rt, &mut seat.pass, deal);
         match result {
@@ -147,7 +148,7 @@ impl<'h> Shared<'h> {
         key: &Key,
     ) -> Result<(u32, Option<RowBuf>), AllocError>
         requires { IsSeatOf self.now seat.old }
-        ensures seat { IsSeatOf self.now seat.new × (seat.new.stream ≡ seat.old.stream) }
+        ensures is_at { IsSeatFor self.now seat.old.stream seat.new }
         ensures state { seat_state seat.new ≡ seat_state seat.old }
         ensures row { IfOk result (λ found. IsSomeAnd (seat_state seat.new) (λ state. (found.0 ≡ state.applied) × (found.1 ≡ cut_of state key.now))) }
     {
@@ -168,11 +169,11 @@ impl<'h> Shared<'h> {
         group: u32,
     ) -> Result<(), Refusal>
         requires { IsSeatOf self.now seat.old }
-        ensures seat { IsSeatOf self.now seat.new × (seat.new.stream ≡ seat.old.stream) }
-        ensures step { IsSeatStep (known seat.old) seat.old.stream (open_at group) (answered (λ _. answers.Answer.Opened group) result) (known seat.new) }
+        ensures is_at { IsSeatFor self.now seat.old.stream seat.new }
+        ensures step { MakesStep seat.old (open_at group) (answered (λ _. answers.Answer.Opened group) result) seat.new }
     {
         let mut deal = self.lock.take(rt, &mut seat.pass);
-        let result = deal.open_snapshot(alloc, seat.stream, group);
+        let result = deal.call(seat.stream, OpenAt { alloc, group });
         seat.cursor = deal.cursor(seat.stream);
         self.lock.put_back(rt, &mut seat.pass, deal);
         result
@@ -188,11 +189,11 @@ impl<'h> Shared<'h> {
         c: u32,
     ) -> Result<Copied, Refusal>
         requires { IsSeatOf self.now seat.old }
-        ensures seat { IsSeatOf self.now seat.new × (seat.new.stream ≡ seat.old.stream) }
-        ensures step { IsSeatStep (known seat.old) seat.old.stream (copy_rows c) (answered answers.Answer.Copied result) (known seat.new) }
+        ensures is_at { IsSeatFor self.now seat.old.stream seat.new }
+        ensures step { MakesStep seat.old (copy_rows c) (answered answers.Answer.Copied result) seat.new }
     {
         let mut deal = self.lock.take(rt, &mut seat.pass);
-        let result = deal.copy_chunk(alloc, seat.stream, c);
+        let result = deal.call(seat.stream, CopyRows { alloc, rows: c });
         seat.cursor = deal.cursor(seat.stream);
         self.lock.put_back(rt, &mut seat.pass, deal);
         match result {
@@ -208,11 +209,11 @@ impl<'h> Shared<'h> {
     /// The snapshot of the seat's stream is closed. Refused 108, on the seat's own state. Takes no memory.
     pub fn close_snapshot<R: Wait>(&self, rt: &R, seat: &mut Seat<'h>) -> Result<(), Refusal>
         requires { IsSeatOf self.now seat.old }
-        ensures seat { IsSeatOf self.now seat.new × (seat.new.stream ≡ seat.old.stream) }
-        ensures step { IsSeatStep (known seat.old) seat.old.stream close (answered (λ _. answers.Answer.Closed) result) (known seat.new) }
+        ensures is_at { IsSeatFor self.now seat.old.stream seat.new }
+        ensures step { MakesStep seat.old close (answered (λ _. answers.Answer.Closed) result) seat.new }
     {
         let mut deal = self.lock.take(rt, &mut seat.pass);
-        let result = deal.close_snapshot(seat.stream);
+        let result = deal.call(seat.stream, Close);
         seat.cursor = deal.cursor(seat.stream);
         self.lock.put_back(rt, &mut seat.pass, deal);
         result
@@ -221,11 +222,11 @@ impl<'h> Shared<'h> {
     /// The seat's stream starts again behind its applied group, whose number is the answer. Takes no memory.
     pub fn restart<R: Wait>(&self, rt: &R, seat: &mut Seat<'h>) -> Result<u32, Refusal>
         requires { IsSeatOf self.now seat.old }
-        ensures seat { IsSeatOf self.now seat.new × (seat.new.stream ≡ seat.old.stream) }
-        ensures step { IsSeatStep (known seat.old) seat.old.stream restart (answered answers.Answer.Restarted result) (known seat.new) }
+        ensures is_at { IsSeatFor self.now seat.old.stream seat.new }
+        ensures step { MakesStep seat.old restart (answered answers.Answer.Restarted result) seat.new }
     {
         let mut deal = self.lock.take(rt, &mut seat.pass);
-        let result = deal.restart(seat.stream);
+        let result = deal.call(seat.stream, Restart);
         seat.cursor = deal.cursor(seat.stream);
         self.lock.put_back(rt, &mut seat.pass, deal);
         seat.outline.keep(seat.cursor.read());

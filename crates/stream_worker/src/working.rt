@@ -1,11 +1,10 @@
 //! The stream of one seat works to its feed's end, beside others.
 
-ghost use Rattle.std.specs.Prelude.{◌≡◌, ◌+◌, ◌≤◌, ℕ, true, false, Ok, Err, IfOk, IfSome, IfNone, IfErr, length};
+ghost use Rattle.std.specs.Prelude.{◌≡◌, ◌+◌, ◌≤◌, true, false, Ok, Err, IfOk, IfSome, IfNone, IfErr, length};
 ghost use Rattle.stream_core.specs.declared.step.Step as steps;
 ghost use Rattle.stream_core.specs.Standing.{IsSound};
-ghost use Rattle.stream_worker.specs.Knowing.{SawStreams};
-ghost use Rattle.stream_worker.specs.SeatOf.{known, IsSeatOf};
-ghost use Rattle.stream_worker.specs.Worked.{Follows, HasCome, EndsSeat, AreReceipts};
+ghost use Rattle.stream_worker.specs.SeatOf.{known, IsSeatOf, IsSeatFor, SawNoOther};
+ghost use Rattle.stream_worker.specs.Worked.{Follows, HasCome, EndsSeat, AreReceipts, GoesOn};
 ghost use Rattle.stream_worker.specs.Private.SeatSteps.{IsSeatReply, AreBehind, EndsSeatStep};
 ghost use Rattle.stream_worker.specs.Private.Turns.{IsReady, AreReady, IsNextOffer};
 
@@ -46,9 +45,9 @@ fn offer_of<'a, 'h, R: Wait, G: Gate, A: Ahead<'h>>(
     ahead: &mut A,
     number: u32,
 ) -> Result<Answer, StepRefusal>
-    requires seat { IsSeatOf bench.now.shared.now seat.old }
+    requires is_at { IsSeatOf bench.now.shared.now seat.old }
     requires feed { A.feed ahead.old ≡ bench.now.feed.now }
-    ensures seat { IsSeatOf bench.now.shared.now seat.new × (seat.new.stream ≡ seat.old.stream) }
+    ensures is_at { IsSeatFor bench.now.shared.now seat.old.stream seat.new }
     ensures feed { A.feed ahead.new ≡ bench.now.feed.now }
     ensures step { IsSeatReply bench.now.feed.now (known seat.old) seat.old.stream (steps.Step.Offer number) result (known seat.new) }
 {
@@ -165,15 +164,13 @@ fn take_in<'a, 'h, R: Wait, G: Gate, A: Ahead<'h>>(
     receipts: &mut Vec<Receipt<'h>>,
     number: u32,
 ) -> Result<bool, RunRefusal>
-    requires seat { IsSeatOf bench.now.shared.now seat.old }
+    requires is_at { IsSeatOf bench.now.shared.now seat.old }
     requires feed { A.feed ahead.old ≡ bench.now.feed.now }
     requires applied { seat.old.cursor.applied ≡ seat.old.cursor.read }
     requires leads { IsNextOffer seat.old.cursor (length bench.now.feed.now.groups) number }
-    ensures seat { IsSeatOf bench.now.shared.now seat.new × (seat.new.stream ≡ seat.old.stream) }
+    ensures is_at { IsSeatFor bench.now.shared.now seat.old.stream seat.new }
     ensures feed { A.feed ahead.new ≡ bench.now.feed.now }
-    ensures many { (n : ℕ) → SawStreams (known seat.old) n → SawStreams (known seat.new) n }
-    ensures receipts { (first : ℕ) → AreReceipts first seat.old receipts.old.items → AreReceipts first seat.new receipts.new.items }
-    ensures follows { Follows bench.now.feed.now seat.old → Follows bench.now.feed.now seat.new }
+    ensures goes_on { GoesOn bench.now.feed.now seat.old receipts.old.items seat.new receipts.new.items }
     ensures goes { IfOk result (λ went. went ≡ true) }
     ensures refused { Follows bench.now.feed.now seat.old → IfErr result (EndsSeat bench.now.feed.now seat.new) }
 {
@@ -198,7 +195,7 @@ fn advance_of<'a, 'h, R: Wait, G>(
     receipts: &mut Vec<Receipt<'h>>,
 ) -> Result<Answer, StepRefusal>
     requires { IsSeatOf bench.now.shared.now seat.old }
-    ensures seat { IsSeatOf bench.now.shared.now seat.new × (seat.new.stream ≡ seat.old.stream) }
+    ensures is_at { IsSeatFor bench.now.shared.now seat.old.stream seat.new }
     ensures step { IsSeatReply bench.now.feed.now (known seat.old) seat.old.stream steps.Step.Advance result (known seat.new) }
     ensures receipts { AreBehind steps.Step.Advance result seat.new receipts.old.items receipts.new.items }
 {
@@ -223,9 +220,9 @@ fn seat_step<'a, 'h, R: Wait, G: Gate, A: Ahead<'h>>(
     receipts: &mut Vec<Receipt<'h>>,
     step: Step,
 ) -> Result<Answer, StepRefusal>
-    requires seat { IsSeatOf bench.now.shared.now seat.old }
+    requires is_at { IsSeatOf bench.now.shared.now seat.old }
     requires feed { A.feed ahead.old ≡ bench.now.feed.now }
-    ensures seat { IsSeatOf bench.now.shared.now seat.new × (seat.new.stream ≡ seat.old.stream) }
+    ensures is_at { IsSeatFor bench.now.shared.now seat.old.stream seat.new }
     ensures feed { A.feed ahead.new ≡ bench.now.feed.now }
     ensures step { IsSeatReply bench.now.feed.now (known seat.old) seat.old.stream step result (known seat.new) }
     ensures receipts { AreBehind step result seat.new receipts.old.items receipts.new.items }
@@ -290,13 +287,11 @@ fn go_on<'a, 'h, R: Wait, G: Gate, A: Ahead<'h>>(
     receipts: &mut Vec<Receipt<'h>>,
     course: &mut Course,
 ) -> Result<bool, RunRefusal>
-    requires seat { IsSeatOf bench.now.shared.now seat.old }
+    requires is_at { IsSeatOf bench.now.shared.now seat.old }
     requires feed { A.feed ahead.old ≡ bench.now.feed.now }
-    ensures seat { IsSeatOf bench.now.shared.now seat.new × (seat.new.stream ≡ seat.old.stream) }
+    ensures is_at { IsSeatFor bench.now.shared.now seat.old.stream seat.new }
     ensures feed { A.feed ahead.new ≡ bench.now.feed.now }
-    ensures many { (n : ℕ) → SawStreams (known seat.old) n → SawStreams (known seat.new) n }
-    ensures receipts { (first : ℕ) → AreReceipts first seat.old receipts.old.items → AreReceipts first seat.new receipts.new.items }
-    ensures follows { Follows bench.now.feed.now seat.old → Follows bench.now.feed.now seat.new }
+    ensures goes_on { GoesOn bench.now.feed.now seat.old receipts.old.items seat.new receipts.new.items }
     ensures ended { Follows bench.now.feed.now seat.old → result ≡ Ok false → HasCome bench.now.feed.now seat.new }
     ensures refused { Follows bench.now.feed.now seat.old → IfErr result (EndsSeat bench.now.feed.now seat.new) }
 {
@@ -336,10 +331,10 @@ pub fn work<'h, R: Wait, G: Gate, A: Ahead<'h>>(
     gate: &G,
     ahead: &mut A,
 ) -> (Vec<Receipt<'h>>, Option<RunRefusal>)
-    requires seat { IsSeatOf shared.now seat.old }
+    requires is_at { IsSeatOf shared.now seat.old }
     requires feed { A.feed ahead.old ≡ feed.now }
-    ensures seat { IsSeatOf shared.now seat.new × (seat.new.stream ≡ seat.old.stream) }
-    ensures many { (n : ℕ) → SawStreams (known seat.old) n → SawStreams (known seat.new) n }
+    ensures is_at { IsSeatFor shared.now seat.old.stream seat.new }
+    ensures many { SawNoOther seat.old seat.new }
     // A receipt for each group that was applied, in order.
     ensures receipts { AreReceipts seat.old.cursor.applied seat.new result.0.items }
     // A stream that reads the feed still does.

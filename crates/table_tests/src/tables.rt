@@ -310,7 +310,7 @@ fn is_merged(
     other: Tables<u64, u32>,
 ) -> Result<bool, AllocError> {
     let met = met_by_0_and_1(&one, &other);
-    match merge(alloc, one, other, &[false, true]) {
+    match merge(alloc, one, other, &[MergeSide::First, MergeSide::Second]) {
         Err(_) => Err(AllocError),
         Ok(both) => Ok(
             met == 11 && both.get(&339).is_some() && both.get(&500).is_none() && both.len() == 339,

@@ -13,7 +13,7 @@ use Rattle.std.specs.Option.{option_or}
 use Rattle.std.specs.Prelude.{is_some}
 use Rattle.std.specs.Ordering.{is_eq, eq_by_cmp, flip_args}
 use Rattle.list_laws.proofs.Fronts.{each}
-use Rattle.target_tables.specs.declared.survey.Verdict.TheVariants.{NewKey, Foreign, Free}
+use Rattle.target_tables.specs.declared.survey.ChangeVerdict.TheVariants.{NewKey, Foreign, Free}
 use Rattle.target_tables.specs.Rising.{IsRising, AreAbove}
 use Rattle.target_tables.specs.Contents.{value_at}
 use Rattle.target_tables.specs.Touches.{change_at, owner_in_the_way, is_new, IsLeastClash, NoneInTheWay}

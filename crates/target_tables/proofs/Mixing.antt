@@ -11,7 +11,9 @@ use Rattle.list_laws.proofs.Choices.{or_assoc}
 use Rattle.target_tables.specs.Contents.{value_at}
 use Rattle.target_tables.specs.Pages.{entries_of}
 use Rattle.target_tables.specs.Rising.{IsRising, AreAbove, AreBelow}
-use Rattle.target_tables.specs.Merged.{has_mark, part_of, of_part, AreMerged}
+use Rattle.target_tables.specs.declared.merge_side.MergeSide.{MergeSide}
+use Rattle.target_tables.specs.declared.merge_side.MergeSide.TheVariants.{First, Second}
+use Rattle.target_tables.specs.Merged.{comes_from, part_of, of_part, AreMerged}
 use Rattle.target_tables.specs.Kept.{IsFirstKey, IsLesser, TakesLesser, AreMixed}
 use Rattle.target_tables.proofs.Order.{all_join}
 use Rattle.target_tables.proofs.Values.{lookup-append, none_above}
@@ -234,16 +236,16 @@ module _ {K R : Type 0} {cmp : K → K → Ordering} (o : IsTotalOrder cmp) wher
         ∙ h.values k;
   }
 
-  pub merged_parts : (marks : List Bool) (one other parts other_parts merged : List (K × (ℕ × R))) → IsRising cmp one → IsRising cmp other
-      → parts ≡ part_of (has_mark marks false) one → other_parts ≡ part_of (has_mark marks true) other → AreMixed cmp parts other_parts merged → AreMerged cmp marks one other merged
-  merged_parts marks one other parts other_parts merged rising also are others h = record {
+  pub merged_parts : (sides : List MergeSide) (one other parts other_parts merged : List (K × (ℕ × R))) → IsRising cmp one → IsRising cmp other
+      → parts ≡ part_of (comes_from sides First) one → other_parts ≡ part_of (comes_from sides Second) other → AreMixed cmp parts other_parts merged → AreMerged cmp sides one other merged
+  merged_parts sides one other parts other_parts merged rising also are others h = record {
     rising = h.rising;
     values = λ k.
         h.values k
         ∙ ap (λ (es : List (K × (ℕ × R))). option_or (value_at cmp es k) (value_at cmp other_parts k)) are
-        ∙ ap (λ (es : List (K × (ℕ × R))). option_or (value_at cmp (part_of (has_mark marks false) one) k) (value_at cmp es k)) others
-        ∙ ap (λ (v : Option (ℕ × R)). option_or v (value_at cmp (part_of (has_mark marks true) other) k)) (value_in_part o (has_mark marks false) one k rising)
-        ∙ ap (option_or (of_part (has_mark marks false) (value_at cmp one k))) (value_in_part o (has_mark marks true) other k also);
+        ∙ ap (λ (es : List (K × (ℕ × R))). option_or (value_at cmp (part_of (comes_from sides First) one) k) (value_at cmp es k)) others
+        ∙ ap (λ (v : Option (ℕ × R)). option_or v (value_at cmp (part_of (comes_from sides Second) other) k)) (value_in_part o (comes_from sides First) one k rising)
+        ∙ ap (option_or (of_part (comes_from sides First) (value_at cmp one k))) (value_in_part o (comes_from sides Second) other k also);
   }
 
 -- ---- entries that are taken out of pages

@@ -4,8 +4,8 @@ use Rattle.std.specs.declared.cmp.Ordering.{Ordering}
 use Rattle.std.specs.declared.cmp.Ordering.TheVariants.{Less}
 use Rattle.std.specs.List.{AllByRecursion, HoldsAt}
 use Rattle.std.specs.Ordering.{is_eq}
-use Rattle.target_tables.specs.declared.survey.Verdict.{Verdict}
-use Rattle.target_tables.specs.declared.survey.Verdict.TheVariants.{NewKey, Foreign, Free}
+use Rattle.target_tables.specs.declared.survey.ChangeVerdict.{ChangeVerdict}
+use Rattle.target_tables.specs.declared.survey.ChangeVerdict.TheVariants.{NewKey, Foreign, Free}
 use Rattle.std.specs.Option.{option_or}
 use Rattle.target_tables.specs.Contents.{value_at}
 use Rattle.target_tables.specs.Rising.{IsRising, AreAbove}
@@ -18,11 +18,11 @@ ends_at cmp k (touch ∷ []) = is_eq (cmp touch.0 k)
 ends_at cmp k (touch ∷ next ∷ later) = ends_at cmp k (next ∷ later)
 
 -- a row that is put where a row stands
-abbrev pub verdict_on : {R : Type 0} → ℕ → ℕ × R → Verdict
+abbrev pub verdict_on : {R : Type 0} → ℕ → ℕ × R → ChangeVerdict
 verdict_on stream there = if there.0 == stream then Free else Foreign there.0
 
 -- what a change meets
-abbrev pub verdict_of : {R : Type 0} → ℕ → Option R → Option (ℕ × R) → Verdict
+abbrev pub verdict_of : {R : Type 0} → ℕ → Option R → Option (ℕ × R) → ChangeVerdict
 verdict_of stream None there = Free
 verdict_of stream (Some row) None = NewKey
 verdict_of stream (Some row) (Some there) = verdict_on stream there

@@ -3,18 +3,21 @@ use Rattle.std.specs.Prelude.{◌≡◌, ℕ, Bool, true, false, not, List, Opti
 use Rattle.std.specs.declared.cmp.Ordering.{Ordering}
 use Rattle.std.specs.List.{filter}
 use Rattle.std.specs.Option.{option_or}
+use Rattle.target_tables.specs.declared.merge_side.MergeSide.{MergeSide}
+use Rattle.target_tables.specs.declared.merge_side.MergeSide.TheVariants.{First, Second}
 use Rattle.target_tables.specs.Contents.{value_at}
 use Rattle.target_tables.specs.Rising.{IsRising}
 
--- whether a stream is marked, by the mark at its place; one without a mark isn't
-abbrev pub is_true : Option Bool → Bool
-is_true None = false
-is_true (Some mark) = mark
+-- whether a stream comes from the second map, by its side; one without a side comes from the first
+abbrev pub is_second : Option MergeSide → Bool
+is_second None = false
+is_second (Some First) = false
+is_second (Some Second) = true
 
--- the stream has this mark
-abbrev pub has_mark : List Bool → Bool → ℕ → Bool
-has_mark marks true stream = is_true (slice_get marks stream)
-has_mark marks false stream = not (is_true (slice_get marks stream))
+-- the stream's rows come from this side
+abbrev pub comes_from : List MergeSide → MergeSide → ℕ → Bool
+comes_from sides Second stream = is_second (slice_get sides stream)
+comes_from sides First stream = not (is_second (slice_get sides stream))
 
 -- the entries of the streams that pass a test
 abbrev pub part_of : {K R : Type 0} → (ℕ → Bool) → List (K × (ℕ × R)) → List (K × (ℕ × R))
@@ -25,7 +28,7 @@ abbrev pub of_part : {R : Type 0} → (ℕ → Bool) → Option (ℕ × R) → O
 of_part test None = None
 of_part test (Some there) = if test there.0 then Some there else None
 
--- each key has the row of a stream that isn't marked from the first map, or else that of a marked one from the second
-pub record AreMerged {K R : Type 0} (cmp : K → K → Ordering) (marks : List Bool) (one other merged : List (K × (ℕ × R))) : Type 0 where
+-- each key has the row of a stream that comes from the first map from there, or else that of one that comes from the second
+pub record AreMerged {K R : Type 0} (cmp : K → K → Ordering) (sides : List MergeSide) (one other merged : List (K × (ℕ × R))) : Type 0 where
   pub rising : IsRising cmp merged
-  pub values : (k : K) → value_at cmp merged k ≡ option_or (of_part (has_mark marks false) (value_at cmp one k)) (of_part (has_mark marks true) (value_at cmp other k))
+  pub values : (k : K) → value_at cmp merged k ≡ option_or (of_part (comes_from sides First) (value_at cmp one k)) (of_part (comes_from sides Second) (value_at cmp other k))

@@ -5,7 +5,8 @@ ghost use Rattle.target_tables.specs.Merged.{AreMerged};
 ghost use Rattle.target_tables.specs.Kept.{TakesLesser, AreMixed};
 ghost use Rattle.target_tables.specs.Rising.{IsRising};
 
-use crate::left::Left;
+use crate::merge_side::MergeSide;
+use crate::side_part::SidePart;
 use crate::tables::Tables;
 use std::alloc::Global;
 use std::cmp::Ordering;
@@ -13,8 +14,8 @@ use std::cmp::Ordering;
 /// Takes out the lesser of the first entries of two maps; where their keys are equal that of the first, and
 /// drops the other.
 fn take_lesser<K: Ord + Drop, R: Drop>(
-    one: &mut Left<K, R>,
-    other: &mut Left<K, R>,
+    one: &mut SidePart<K, R>,
+    other: &mut SidePart<K, R>,
 ) -> Option<(K, (u8, R))>
     ensures { TakesLesser K.cmp one.old other.old result one.new other.new }
 {
@@ -37,8 +38,8 @@ fn take_lesser<K: Ord + Drop, R: Drop>(
 /// All entries of two maps, put into an empty one; of two at one key that of the first.
 fn mix<K: Ord + Drop, R: Drop>(
     mixed: &mut Tables<K, R>,
-    mut one: Left<'_, K, R>,
-    mut other: Left<'_, K, R>,
+    mut one: SidePart<'_, K, R>,
+    mut other: SidePart<'_, K, R>,
 )
     requires empty { mixed.old.entries ≡ [] }
     requires room { length one + length other ≤ mixed.old.room }
@@ -49,21 +50,21 @@ fn mix<K: Ord + Drop, R: Drop>(
     }
 }
 
-/// One map of the rows of two: of each stream that isn't marked the rows of the first map, and of each that
-/// is marked those of the second; of two rows at one key the first map's. Rows are moved, in time linear in
-/// the rows of both. Where memory is wanted both maps are handed back.
+/// One map of the rows of two: of each stream the rows of the map that its side names, and of a stream without a
+/// side those of the first; of two rows at one key the first map's. Rows are moved, in time linear in the rows of
+/// both. Where memory is wanted both maps are handed back.
 pub fn merge<K: Ord + Drop, R: Drop>(
     alloc: Global,
     one: Tables<K, R>,
     other: Tables<K, R>,
-    marks: &[bool],
+    sides: &[MergeSide],
 ) -> Result<Tables<K, R>, (Tables<K, R>, Tables<K, R>)>
-    ensures merged { IfOk result (λ merged. AreMerged K.cmp marks.now one.entries other.entries merged.entries) }
+    ensures merged { IfOk result (λ merged. AreMerged K.cmp sides.now one.entries other.entries merged.entries) }
     ensures handed_back { IfErr result (λ both. (both.0.entries ≡ one.entries) × (both.1.entries ≡ other.entries)) }
 {
     let count = one
-        .count(marks, false)
-        .checked_add(other.count(marks, true));
+        .count(sides, MergeSide::First)
+        .checked_add(other.count(sides, MergeSide::Second));
     let Some(count) = count else {
         return Err((one, other));
     };
@@ -73,8 +74,8 @@ pub fn merge<K: Ord + Drop, R: Drop>(
         Ok(()) => {
             mix(
                 &mut merged,
-                one.into_part(alloc, marks, false),
-                other.into_part(alloc, marks, true),
+                one.into_part(alloc, sides, MergeSide::First),
+                other.into_part(alloc, sides, MergeSide::Second),
             );
             Ok(merged)
         }

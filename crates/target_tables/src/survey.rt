@@ -15,7 +15,7 @@ use crate::spots::{Spot, entry_at, next_to, spot_in};
 
 /// What a change meets.
 #[derive(Clone, Copy)]
-pub enum Verdict {
+pub enum ChangeVerdict {
     /// A row is put at a key that is new to the map.
     NewKey,
     /// A row is to be put where a row of this other stream stands.
@@ -36,7 +36,7 @@ pub struct Clash {
 /// What a change meets, and where.
 #[derive(Clone, Copy)]
 struct Met {
-    verdict: Verdict,
+    verdict: ChangeVerdict,
     /// the place of its key, or the one at which it would stand
     found: Result<Spot, Spot>,
 }
@@ -50,13 +50,13 @@ fn judge<K: Ord, R>(pages: &[Page<K, R>], hint: Spot, stream: u8, change: &(K, O
     let found = spot_by(pages, hint, &change.0);
     if change.1.is_none() {
         return Met {
-            verdict: Verdict::Free,
+            verdict: ChangeVerdict::Free,
             found,
         };
     }
     match found {
         Err(_) => Met {
-            verdict: Verdict::NewKey,
+            verdict: ChangeVerdict::NewKey,
             found,
         },
         Ok(spot) => {
@@ -64,12 +64,12 @@ fn judge<K: Ord, R>(pages: &[Page<K, R>], hint: Spot, stream: u8, change: &(K, O
             let owner = entry.1.0;
             if owner == stream {
                 Met {
-                    verdict: Verdict::Free,
+                    verdict: ChangeVerdict::Free,
                     found,
                 }
             } else {
                 Met {
-                    verdict: Verdict::Foreign(owner),
+                    verdict: ChangeVerdict::Foreign(owner),
                     found,
                 }
             }
@@ -100,9 +100,9 @@ pub fn survey<K: Ord, R>(
         near = next_to(met.found);
         spots.push_reserved(spot_in(met.found));
         match met.verdict {
-            Verdict::NewKey => count += 1,
-            Verdict::Foreign(owner) => return Err(Clash { place, owner }),
-            Verdict::Free => {}
+            ChangeVerdict::NewKey => count += 1,
+            ChangeVerdict::Foreign(owner) => return Err(Clash { place, owner }),
+            ChangeVerdict::Free => {}
         }
     }
     Ok(count)

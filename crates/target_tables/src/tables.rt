@@ -9,17 +9,18 @@ ghost use Rattle.target_tables.specs.Rising.{IsRising, AreBelow};
 ghost use Rattle.target_tables.specs.Touches.{last_at, change_at, removed, IsTouched, IsReady, IsUntouched, ComesLast, NoneInTheWay};
 ghost use Rattle.target_tables.specs.Clashes.{IsRefusal};
 ghost use Rattle.target_tables.specs.Common as shared;
-ghost use Rattle.target_tables.specs.Merged as marked;
+ghost use Rattle.target_tables.specs.Merged as merged;
 ghost use Rattle.target_tables.specs.Merged.{part_of};
 
 use crate::changes::{change_all, put_last};
 use crate::common::Common;
 use crate::fault::TableFault;
 use crate::freed::Freed;
-use crate::left::{Left, count_marked};
+use crate::merge_side::MergeSide;
 use crate::page::{HALF, Page};
 use crate::pages::Pages;
 use crate::scan::{Scan, scan_from};
+use crate::side_part::{SidePart, count_from};
 use crate::spots::{Spot, entry_at, spot_of};
 use crate::staged::Staged;
 use crate::survey::survey;
@@ -99,12 +100,12 @@ impl<K: Ord, R> Tables<K, R> {
         count(self.pages.as_slice())
     }
 
-    /// How many entries are of streams that have this mark. Takes no memory.
-    pub(crate) fn count(&self, marks: &[bool], mark: bool) -> usize
-        ensures { result ≡ length (part_of (marked.has_mark marks.now mark) self.now.entries) }
+    /// How many entries are of streams that come from this side. Takes no memory.
+    pub(crate) fn count(&self, sides: &[MergeSide], side: MergeSide) -> usize
+        ensures { result ≡ length (part_of (merged.comes_from sides.now side) self.now.entries) }
     {
         let pages = self.pages.as_slice();
-        count_marked(scan_from(pages, Spot { page: 0, place: 0 }), marks, mark)
+        count_from(scan_from(pages, Spot { page: 0, place: 0 }), sides, side)
     }
 
     /// How many pages the entries lie in. Takes no memory.
@@ -336,13 +337,18 @@ impl<K: Ord + Drop, R: Drop> Tables<K, R> {
         put_last(&mut self.pages, entry);
     }
 
-    /// The entries of the streams that have this mark, to be taken out; the others are dropped. Takes no memory.
-    pub(crate) fn into_part(self, alloc: Global, marks: &[bool], mark: bool) -> Left<'_, K, R>
-        ensures entries { result ≡ part_of (marked.has_mark marks.now mark) self.entries }
+    /// The entries of the streams that come from this side, to be taken out; the others are dropped. Takes no memory.
+    pub(crate) fn into_part(
+        self,
+        alloc: Global,
+        sides: &[MergeSide],
+        side: MergeSide,
+    ) -> SidePart<'_, K, R>
+        ensures entries { result ≡ part_of (merged.comes_from sides.now side) self.entries }
         ensures rising { IsRising K.cmp self.entries }
     {
         let list = self.pages.into_list();
-        Left::new(Taken::new(alloc, list), marks, mark)
+        SidePart::new(Taken::new(alloc, list), sides, side)
     }
 
     /// Takes every entry away. Takes no memory.

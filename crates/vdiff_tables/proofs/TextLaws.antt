@@ -1,5 +1,5 @@
 -- Texts of many pieces, walked from the front.
-use Rattle.std.proofs.Common.{◌≡◌, ◌∙◌, ap, ℕ, ◌+◌, ◌<◌, List, [], ◌++◌, arith, length, drop, get_or, map, subst, Result}
+use Rattle.std.proofs.Common.{◌≡◌, ◌∙◌, ap, ℕ, ◌+◌, ◌<◌, List, ◌++◌, length, drop, get_or, map, subst, Result}
 use Rattle.std.proofs.lemmas.List.{drop_more}
 use Rattle.std.specs.Prelude.{◌-◌}
 use Rattle.std.proofs.lemmas.List.Concat.{flat_map-cons}

@@ -122,21 +122,21 @@ fn of_target<'r>(
 
 /// Rows at one key, which is the least, that aren't the same.
 fn of_both<'r>(
-    ours: &'r (Key, RowBuf),
+    row: &'r (Key, RowBuf),
     lefts: &'r [(Key, RowBuf)],
-    theirs: &'r (Key, RowBuf),
+    other: &'r (Key, RowBuf),
     rights: &'r [(Key, RowBuf)],
 ) -> Found<'r>
-    requires source { IsRising key_cmp (ours.now ∷ lefts.now) }
-    requires target { IsRising key_cmp (theirs.now ∷ rights.now) }
-    requires key { ours.now.0 ≡ theirs.now.0 }
-    requires rows { ours.now.1 ≢ theirs.now.1 }
-    ensures { IsFound (ours.entry.now ∷ lefts.entry.now) (theirs.entry.now ∷ rights.entry.now) result }
+    requires source { IsRising key_cmp (row.now ∷ lefts.now) }
+    requires target { IsRising key_cmp (other.now ∷ rights.now) }
+    requires key { row.now.0 ≡ other.now.0 }
+    requires rows { row.now.1 ≢ other.now.1 }
+    ensures { IsFound (row.entry.now ∷ lefts.entry.now) (other.entry.now ∷ rights.entry.now) result }
 {
     Found {
-        key: &ours.0,
-        source: Some(&ours.1),
-        target: Some(&theirs.1),
+        key: &row.0,
+        source: Some(&row.1),
+        target: Some(&other.1),
         source_left: lefts,
         target_left: rights,
     }

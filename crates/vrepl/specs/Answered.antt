@@ -1,15 +1,8 @@
 -- What the commands leave that print what their inputs make, each by its own words.
-use Rattle.std.specs.Prelude.{◌≡◌, ◌∷◌, ◌++◌, [], false, true, map}
+use Rattle.std.specs.Prelude.{◌≡◌, ℕ, ◌∷◌, ◌++◌, [], map}
 use Rattle.vdiff_core.specs.Printing.{Written}
-use Rattle.vrepl_main.specs.Command.{IsGivenText, PrintsRefusal, PrintsWhole}
 use Rattle.vrepl_main.specs.Inputs.{IsUnread, IsUnreadAmong}
-use Rattle.vrepl_main.specs.InputList.{bytes_of}
-use Rattle.vrepl_main.specs.JoinedRun.{PrintsJoin, PrintsJoinRefusal}
-use Rattle.vrepl_main.specs.NamedInputs.{join_asked, opened_asked, script_asked}
-use Rattle.vrepl_main.specs.Replied.{AreFirstReplies, PrintsReplies}
-use Rattle.vrepl_main.specs.ResumedRun.{PrintsResumed, PrintsResumeRefusal}
-use Rattle.vrepl_main.specs.Running.{PrintsDump, PrintsRunRefusal}
-use Rattle.vrepl_main.specs.SavedBoard.{IsSavedBehind, PrintsCheckpoint}
+use Rattle.vrepl_main.specs.Running.{opened_asked, RunEnds}
 use Rattle.vrepl_main.specs.declared.input.InputName.TheVariants.{File, Standard}
 use Rattle.vrepl_main.specs.declared.named_inputs.Course.{Course}
 use Rattle.vrepl_main.specs.declared.refusal.Refusal.{Refusal}
@@ -17,10 +10,16 @@ use Rattle.vrepl_words.specs.declared.words.Run.{Run}
 use Rattle.vrepl_words.specs.declared.words.Words.{Words}
 use Rattle.vrepl_words.specs.declared.words.Words.TheVariants as ways
 use Rattle.vrepl.specs.Asked.{IsCheckAsked, IsVdiffAsked, text_asked}
-use Rattle.vrepl.specs.Checked.{PrintsReport, PrintsUnchecked}
-use Rattle.vrepl.specs.Compared.{PrintsDiffering, PrintsSame, PrintsUncompared, asks_more}
+use Rattle.vrepl.specs.Compared.{asks_more, ComparedEnds}
 use Rattle.vrepl.specs.declared.answering.Asked.{Asked}
 use Rattle.vrepl.specs.declared.answering.Asked.TheVariants as asked
+use Rattle.vrepl_main.specs.ScriptRun.{script_asked}
+use Rattle.vrepl_main.specs.Command.{TextEnds}
+use Rattle.vrepl_main.specs.JoinedRun.{JoinEnds}
+use Rattle.vrepl_main.specs.Replied.{StepEnds}
+use Rattle.vrepl_main.specs.ResumedRun.{ResumeEnds}
+use Rattle.vrepl_main.specs.SavedBoard.{SaveEnds}
+use Rattle.vrepl.specs.Checked.{ReportEnds}
 
 -- the command prints what its inputs make and does no more
 abbrev pub IsAnswering : Words → Type 0
@@ -63,30 +62,13 @@ IsUnreadFor (ways.Vdiff words) = IsUnreadAmong (File words.workflow ∷ File wor
 IsUnreadFor (ways.Check words) = IsUnreadAmong (File words.step.workflow ∷ map File words.step.feeds.items)
 IsUnreadFor words = λ refusal. ⊥
 
--- what it prints with status 0
-abbrev pub PrintsAsked : Asked → Written → Written → Type 0
-PrintsAsked (asked.Show words feed) old new = PrintsWhole (text_asked words.now feed.items) old new
-PrintsAsked (asked.Step inputs) old new = PrintsReplies (script_asked inputs) old new
-PrintsAsked (asked.Run inputs) old new = PrintsDump (opened_asked inputs) old new
-PrintsAsked (asked.Save inputs) old new = PrintsCheckpoint (script_asked inputs) old new
-PrintsAsked (asked.Resume inputs) old new = PrintsResumed (script_asked inputs.step) inputs.checkpoint.items old new
-PrintsAsked (asked.Join inputs) old new = PrintsJoin (join_asked inputs) inputs.one.items (bytes_of inputs.others.items) old new
-PrintsAsked (asked.Vdiff inputs) old new = PrintsSame (asks_more inputs.options) inputs old new
-PrintsAsked (asked.Check inputs) old new = PrintsReport false inputs old new
-
--- with status 3: dumps differ, or feeds are warned of; no other command has it
-abbrev pub PrintsFound : Asked → Written → Written → Type 0
-PrintsFound (asked.Vdiff inputs) old new = PrintsDiffering (asks_more inputs.options) inputs old new
-PrintsFound (asked.Check inputs) old new = PrintsReport true inputs old new
-PrintsFound other old new = ⊥
-
--- and what it leaves where it is refused
-abbrev pub PrintsRefusalAsked : Asked → Written → Written → Written → Written → Type 0
-PrintsRefusalAsked (asked.Show words feed) old new err_old err_new = PrintsRefusal IsGivenText (text_asked words.now feed.items) old new err_old err_new
-PrintsRefusalAsked (asked.Step inputs) old new err_old err_new = PrintsRefusal AreFirstReplies (script_asked inputs) old new err_old err_new
-PrintsRefusalAsked (asked.Run inputs) old new err_old err_new = PrintsRunRefusal (opened_asked inputs) old new err_old err_new
-PrintsRefusalAsked (asked.Save inputs) old new err_old err_new = PrintsRefusal IsSavedBehind (script_asked inputs) old new err_old err_new
-PrintsRefusalAsked (asked.Resume inputs) old new err_old err_new = PrintsResumeRefusal (script_asked inputs.step) inputs.checkpoint.items old new err_old err_new
-PrintsRefusalAsked (asked.Join inputs) old new err_old err_new = PrintsJoinRefusal (join_asked inputs) inputs.one.items (bytes_of inputs.others.items) old new err_old err_new
-PrintsRefusalAsked (asked.Vdiff inputs) old new err_old err_new = PrintsUncompared (asks_more inputs.options) inputs old new err_old err_new
-PrintsRefusalAsked (asked.Check inputs) old new err_old err_new = PrintsUnchecked inputs old new err_old
+-- how it ends
+abbrev pub AnswerEnds : Asked → ℕ → Written → Written → Written → Written → Type 0
+AnswerEnds (asked.Show words feed) = TextEnds (text_asked words.now feed.items)
+AnswerEnds (asked.Step inputs) = StepEnds (script_asked inputs)
+AnswerEnds (asked.Run inputs) = RunEnds (opened_asked inputs)
+AnswerEnds (asked.Save inputs) = SaveEnds (script_asked inputs)
+AnswerEnds (asked.Resume inputs) = ResumeEnds (script_asked inputs.step) inputs.checkpoint.items
+AnswerEnds (asked.Join inputs) = JoinEnds inputs
+AnswerEnds (asked.Vdiff inputs) = ComparedEnds (asks_more inputs.options) inputs
+AnswerEnds (asked.Check inputs) = λ status old new err_old err_new. ReportEnds inputs status old new err_old

@@ -1,7 +1,7 @@
 //! The commands that print what their inputs make, and do no more.
 
 ghost use Rattle.std.specs.Prelude.{◌≡◌, ◌≤◌, ◌⊎◌, IfErr, IfOk};
-ghost use Rattle.vrepl.specs.Answered.{IsAnswering, IsAskedBy, IsUnreadFor, PrintsAsked, PrintsFound, PrintsRefusalAsked};
+ghost use Rattle.vrepl.specs.Answered.{AnswerEnds, IsAnswering, IsAskedBy, IsUnreadFor};
 
 use crate::checking::{read_check, report};
 use crate::comparing::{compare, read_vdiff};
@@ -152,9 +152,7 @@ fn answer<T: Threads + Wait + Sync, G: Progress + Sync, W: Out, E: Out>(
     err: &mut E,
 ) -> u8
     ensures status { (result ≤ 1) ⊎ (result ≡ 3) }
-    ensures printed { result ≡ 0 → PrintsAsked asked.now (W.written out.old) (W.written out.new) }
-    ensures found { result ≡ 3 → PrintsFound asked.now (W.written out.old) (W.written out.new) }
-    ensures refused { result ≡ 1 → PrintsRefusalAsked asked.now (W.written out.old) (W.written out.new) (E.written err.old) (E.written err.new) }
+    ensures ends { AnswerEnds asked.now result (W.written out.old) (W.written out.new) (E.written err.old) (E.written err.new) }
 {
     match asked {
         Asked::Show(words, feed) => show_feed(alloc, words, feed, out, err),

@@ -1,8 +1,8 @@
 //! The inputs of `check`, and the report on them.
 
-ghost use Rattle.std.specs.Prelude.{◌≡◌, ◌≢◌, ◌⊎◌, ◌∷◌, false, true, map, IfErr, IfOk};
+ghost use Rattle.std.specs.Prelude.{◌≡◌, ◌≢◌, ◌∷◌, map, IfErr, IfOk};
 ghost use Rattle.vrepl.specs.Asked.{IsCheckAsked};
-ghost use Rattle.vrepl.specs.Checked.{PrintsReport, PrintsUnchecked};
+ghost use Rattle.vrepl.specs.Checked.{ReportEnds};
 ghost use Rattle.vrepl_main.specs.Inputs.{IsUnreadAmong};
 ghost use Rattle.vrepl_main.specs.declared.input.InputName.TheVariants.{File};
 
@@ -41,11 +41,8 @@ pub(crate) fn report<W: Out, E: Out>(
     out: &mut W,
     err: &mut E,
 ) -> u8
-    ensures status { (result ≡ 0) ⊎ (result ≡ 1) ⊎ (result ≡ 3) }
-    ensures sound { result ≡ 0 → PrintsReport false inputs.now (W.written out.old) (W.written out.new) }
-    ensures warned { result ≡ 3 → PrintsReport true inputs.now (W.written out.old) (W.written out.new) }
+    ensures ends { ReportEnds inputs.now result (W.written out.old) (W.written out.new) (E.written err.old) }
     ensures quiet { result ≢ 1 → err.new ≡ err.old }
-    ensures refused { result ≡ 1 → PrintsUnchecked inputs.now (W.written out.old) (W.written out.new) (E.written err.old) }
 {
     let status = check(alloc, inputs, out, err);
     if status == 1 {

@@ -1,8 +1,8 @@
 //! The inputs of `vdiff`, and their comparison.
 
-ghost use Rattle.std.specs.Prelude.{◌≡◌, ◌≢◌, ◌⊎◌, ◌∷◌, [], false, IfErr, IfOk};
+ghost use Rattle.std.specs.Prelude.{◌≡◌, ◌≢◌, ◌∷◌, [], false, IfErr, IfOk};
 ghost use Rattle.vrepl.specs.Asked.{IsVdiffAsked, is_other, options_asked};
-ghost use Rattle.vrepl.specs.Compared.{PrintsDiffering, PrintsSame, PrintsUncompared, asks_more};
+ghost use Rattle.vrepl.specs.Compared.{ComparedEnds, asks_more};
 ghost use Rattle.vrepl_main.specs.Inputs.{IsUnreadAmong, is_standard, input_name};
 ghost use Rattle.vrepl_main.specs.declared.input.InputName.TheVariants.{File};
 
@@ -68,11 +68,8 @@ pub(crate) fn compare<W: Out, E: Out>(
     out: &mut W,
     err: &mut E,
 ) -> u8
-    ensures status { (result ≡ 0) ⊎ (result ≡ 1) ⊎ (result ≡ 3) }
-    ensures same { result ≡ 0 → PrintsSame (asks_more inputs.now.options) inputs.now (W.written out.old) (W.written out.new) }
-    ensures differ { result ≡ 3 → PrintsDiffering (asks_more inputs.now.options) inputs.now (W.written out.old) (W.written out.new) }
+    ensures ends { ComparedEnds (asks_more inputs.now.options) inputs.now result (W.written out.old) (W.written out.new) (E.written err.old) (E.written err.new) }
     ensures quiet { result ≢ 1 → err.new ≡ err.old }
-    ensures refused { result ≡ 1 → PrintsUncompared (asks_more inputs.now.options) inputs.now (W.written out.old) (W.written out.new) (E.written err.old) (E.written err.new) }
 {
     if asks_more(&inputs.options) {
         return vdiff_with(alloc, inputs, out, err);
@@ -87,11 +84,8 @@ fn compare_plainly<W: Out, E: Out>(
     out: &mut W,
     err: &mut E,
 ) -> u8
-    ensures status { (result ≡ 0) ⊎ (result ≡ 1) ⊎ (result ≡ 3) }
-    ensures same { result ≡ 0 → PrintsSame false inputs.now (W.written out.old) (W.written out.new) }
-    ensures differ { result ≡ 3 → PrintsDiffering false inputs.now (W.written out.old) (W.written out.new) }
+    ensures ends { ComparedEnds false inputs.now result (W.written out.old) (W.written out.new) (E.written err.old) (E.written err.new) }
     ensures quiet { result ≢ 1 → err.new ≡ err.old }
-    ensures refused { result ≡ 1 → PrintsUncompared false inputs.now (W.written out.old) (W.written out.new) (E.written err.old) (E.written err.new) }
 {
     let (source, target) = (&inputs.source, &inputs.target);
     vdiff(

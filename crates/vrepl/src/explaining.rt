@@ -1,8 +1,8 @@
 //! The subcommand `explain`: what is said of a refusal's number.
 
-ghost use Rattle.std.specs.Prelude.{◌≡◌, ◌⊎◌, Ok, OnOk, IfErr};
+ghost use Rattle.std.specs.Prelude.{◌≡◌, ◌⊎◌, Ok};
 ghost use Rattle.refusal_words.specs.Texts.{explained};
-ghost use Rattle.vrepl_main.specs.Command.{IsGivenText, PrintsRefusal, PrintsWhole, RefusesCommand};
+ghost use Rattle.vrepl_main.specs.Command.{PrintsText, TextEnds};
 
 use refusal_words::texts::explained;
 use vdiff_core::{Out, put_all};
@@ -12,9 +12,8 @@ use vrepl_main::{Refusal, refuse};
 /// refusal on `err`. Answers the status: 0, or 1 where `out` can't be written.
 pub(crate) fn explain<W: Out, E: Out>(number: Option<u64>, out: &mut W, err: &mut E) -> u8
     ensures status { (result ≡ 0) ⊎ (result ≡ 1) }
-    ensures printed { result ≡ 0 → PrintsWhole (Ok (explained number)) (W.written out.old) (W.written out.new) }
+    ensures ends { TextEnds (Ok (explained number)) result (W.written out.old) (W.written out.new) (E.written err.old) (E.written err.new) }
     ensures quiet { result ≡ 0 → err.new ≡ err.old }
-    ensures refused { result ≡ 1 → PrintsRefusal IsGivenText (Ok (explained number)) (W.written out.old) (W.written out.new) (E.written err.old) (E.written err.new) }
 {
     match print_text(out, explained(number)) {
         Ok(()) => 0,
@@ -24,8 +23,7 @@ pub(crate) fn explain<W: Out, E: Out>(number: Option<u64>, out: &mut W, err: &mu
 
 /// Prints a text.
 fn print_text<W: Out>(out: &mut W, text: &str) -> Result<(), Refusal<'static>>
-    ensures printed { OnOk result (PrintsWhole (Ok text.now) (W.written out.old) (W.written out.new)) }
-    ensures refused { IfErr result (λ refusal. RefusesCommand IsGivenText refusal (Ok text.now) (W.written out.old) (W.written out.new)) }
+    ensures { PrintsText result (Ok text.now) (W.written out.old) (W.written out.new) }
 {
     put_all(out, text.as_bytes())?;
     Ok(())

@@ -1,5 +1,5 @@
 -- A report on feeds, by what opening and checking them give.
-use Rattle.std.proofs.Common.{◌≡◌, ◌∙◌, ℕ, Bool, List, [], sym, ap, subst, map, Option, Some, None, Result, Ok, Err}
+use Rattle.std.proofs.Common.{◌≡◌, ◌∙◌, ℕ, Bool, List, sym, ap, subst, map, Option, Some, None, Result, Ok, Err}
 use Rattle.std.specs.Global.{Vec}
 use Rattle.std.specs.Prelude.{MatchOption}
 use Rattle.outcome.specs.Outcome as outcome
@@ -15,7 +15,7 @@ use Rattle.vrepl_main.specs.Opening.{OpenedValue}
 use Rattle.vrepl_main.specs.Reasons.{Reason, reason_of, RefusesInputs}
 use Rattle.vrepl_main.specs.RefusalOf.{refusal_of_feed}
 use Rattle.vrepl_main.specs.declared.refusal.Refusal.{Refusal}
-use Rattle.vrepl_main.specs.declared.refusal.Refusal.TheVariants.{Memory, Workflow, FeedCount, Feed, BadHex, BadScript, BadDump, CannotRead, CannotWrite}
+use Rattle.vrepl_main.specs.declared.refusal.Refusal.TheVariants.{Memory}
 use Rattle.std.proofs.lemmas.Simd.{map-map}
 use Rattle.vrepl_check.specs.Checking.{IsWarned, bytes_or_none, said_checks, report_with, report_asked, report_of_feeds}
 use Rattle.vrepl_check.specs.declared.inputs.CheckInputs.{CheckInputs}

@@ -1,5 +1,5 @@
 -- What the command `check` prints of a workflow and its feeds, and its verdict (this profile).
-use Rattle.std.specs.Prelude.{◌≡◌, ℕ, Bool, List, [], map, Option, None, Some, Result, Ok, Err}
+use Rattle.std.specs.Prelude.{◌≡◌, ℕ, Bool, List, [], map, Option, None, Some, Result, Ok, Err, true, false}
 use Rattle.outcome.specs.Outcome.{◌>>=◌}
 use Rattle.source_feed.specs.declared.fault.FeedFault.{FeedFault}
 use Rattle.feed_check.specs.Checked.{CheckedValue, checked_feeds}
@@ -10,6 +10,8 @@ use Rattle.vrepl_main.specs.InputList.{bytes_of}
 use Rattle.vrepl_main.specs.Opening.{OpenedValue, opened_bytes}
 use Rattle.vrepl_main.specs.Reasons.{Reason, bad_feed}
 use Rattle.vrepl_check.specs.declared.inputs.CheckInputs.{CheckInputs}
+use Rattle.vdiff_core.specs.Printing.{Written}
+use Rattle.vrepl_main.specs.Command.{Ends, IsGivenText, PrintsRefusal, PrintsWhole}
 
 -- the bytes of a feed; a workflow isn't opened over what has none
 abbrev pub bytes_or_none : Option (List ℕ) → List ℕ
@@ -45,3 +47,11 @@ text_of_report report = report >>= λ r. Ok r.text
 abbrev pub IsWarned : Bool → Result ReportValue Reason → Type 0
 IsWarned warned (Ok report) = report.warned ≡ warned
 IsWarned warned (Err reason) = ⊥
+
+-- there is a report, whether it warns of anything is this, and it was printed whole
+abbrev pub PrintsReport : Bool → CheckInputs → Written → Written → Type 0
+PrintsReport warned inputs old new = IsWarned warned (report_asked inputs) × PrintsWhole (text_of_report (report_asked inputs)) old new
+
+-- how `check` ends: with 3 where the report warns of something
+abbrev pub CheckEnds : CheckInputs → ℕ → Written → Written → Written → Written → Type 0
+CheckEnds inputs status old new err_old err_new = Ends status (PrintsReport false inputs old new) (PrintsReport true inputs old new) (PrintsRefusal IsGivenText (text_of_report (report_asked inputs)) old new err_old err_new)

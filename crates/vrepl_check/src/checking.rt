@@ -1,10 +1,10 @@
 //! The subcommand `check`: what stands in feeds, and warnings of what can't be so.
 
-ghost use Rattle.std.specs.Prelude.{◌≡◌, ◌≢◌, ◌⊎◌, false, true, IfOk, IfErr, map};
-ghost use Rattle.vrepl_main.specs.Command.{IsGivenText, PrintsWhole, PrintsRefusal, RefusesCommand};
+ghost use Rattle.std.specs.Prelude.{◌≡◌, ◌≢◌, IfOk, map};
+ghost use Rattle.vrepl_main.specs.Command.{PrintsText};
 ghost use Rattle.vrepl_main.specs.Given.{given_value};
 ghost use Rattle.vrepl_main.specs.Reasons.{GivesOfInputs};
-ghost use Rattle.vrepl_check.specs.Checking.{bytes_or_none, report_of_feeds, report_asked, text_of_report, IsWarned};
+ghost use Rattle.vrepl_check.specs.Checking.{bytes_or_none, report_of_feeds, report_asked, text_of_report, CheckEnds, IsWarned};
 
 use crate::inputs::CheckInputs;
 use check_said::Said;
@@ -28,12 +28,8 @@ pub fn check<W: Out, E: Out>(
     out: &mut W,
     err: &mut E,
 ) -> u8
-    ensures status { (result ≡ 0) ⊎ (result ≡ 1) ⊎ (result ≡ 3) }
-    ensures sound { result ≡ 0 → IsWarned false (report_asked inputs.now) }
-    ensures warned { result ≡ 3 → IsWarned true (report_asked inputs.now) }
-    ensures printed { result ≢ 1 → PrintsWhole (text_of_report (report_asked inputs.now)) (W.written out.old) (W.written out.new) }
+    ensures ends { CheckEnds inputs.now result (W.written out.old) (W.written out.new) (E.written err.old) (E.written err.new) }
     ensures quiet { result ≢ 1 → err.new ≡ err.old }
-    ensures refused { result ≡ 1 → PrintsRefusal IsGivenText (text_of_report (report_asked inputs.now)) (W.written out.old) (W.written out.new) (E.written err.old) (E.written err.new) }
 {
     match print_check(alloc, inputs, out) {
         Ok(false) => 0,
@@ -50,8 +46,7 @@ fn print_check<W: Out>(
     out: &mut W,
 ) -> Result<bool, Refusal<'static>>
     ensures warned { IfOk result (λ warned. IsWarned warned (report_asked inputs.now)) }
-    ensures printed { IfOk result (λ _. PrintsWhole (text_of_report (report_asked inputs.now)) (W.written out.old) (W.written out.new)) }
-    ensures refused { IfErr result (λ refusal. RefusesCommand IsGivenText refusal (text_of_report (report_asked inputs.now)) (W.written out.old) (W.written out.new)) }
+    ensures printed { PrintsText result (text_of_report (report_asked inputs.now)) (W.written out.old) (W.written out.new) }
 {
     let report = report_on(alloc, inputs)?;
     put_all(out, report.text().as_bytes())?;

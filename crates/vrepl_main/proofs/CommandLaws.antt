@@ -1,5 +1,5 @@
 -- What a command leaves on its writers, by what there is to print.
-use Rattle.std.proofs.Common.{◌≡◌, ℕ, List, refl, sym, ap, subst, Result, Ok}
+use Rattle.std.proofs.Common.{◌≡◌, ℕ, List, refl, sym, ap, subst, Result, Ok, inl, inr, arith, ◌⊎◌, ◌≤◌}
 use Rattle.outcome.specs.Outcome as outcome
 use Rattle.source_feed.specs.FaultNumber as feed
 use Rattle.source_feed.specs.GroupValue.{GroupValue}
@@ -7,11 +7,46 @@ use Rattle.source_feed.specs.declared.fault.FeedFault.{FeedFault}
 use Rattle.source_feed.specs.declared.fault.FeedFault.TheVariants as fault
 use Rattle.vdiff_core.specs.Printing.{Written, IsWritten, BreaksOff}
 use Rattle.vrepl_main.specs.Reasons.{Reason, RefusesInputs}
-use Rattle.vrepl_main.specs.Command.{BreaksOffIn, PrintsWhole, RefusesCommand, IsUnwritten}
+use Rattle.vrepl_main.specs.Command.{BreaksOffIn, PrintsWhole, RefusesCommand, IsUnwritten, Ends}
 use Rattle.vrepl_main.specs.RefusalOf.{refusal_of_feed}
 use Rattle.vrepl_main.specs.Show.{shown_groups}
 use Rattle.vrepl_main.specs.declared.refusal.Refusal.{Refusal}
 use Rattle.vrepl_main.specs.declared.refusal.Refusal.TheVariants.{Memory, Workflow, NoStream, FeedCount, Feed, BadHex, BadScript, BadDump, CannotRead, CannotWrite}
+
+-- ---- how a command ends
+
+module _ (Prints Finds Refuses : Type 0) where
+  -- behind what it prints
+  pub ends_printed : Prints → Ends 0 Prints Finds Refuses
+  ends_printed did = record { is_one = inl refl; printed = λ said. did; found = λ said. absurd (omega (arith, said)); refused = λ said. absurd (omega (arith, said)) }
+
+  -- behind what it looks for
+  pub ends_found : Finds → Ends 3 Prints Finds Refuses
+  ends_found did = record { is_one = inr (inr refl); printed = λ said. absurd (omega (arith, said)); found = λ said. did; refused = λ said. absurd (omega (arith, said)) }
+
+  -- behind a refusal
+  pub ends_refused : (status : ℕ) → status ≡ 1 → Refuses → Ends status Prints Finds Refuses
+  ends_refused status one did = record {
+    is_one = inr (inl one);
+    printed = λ said. absurd (omega (arith, one, said));
+    found = λ said. absurd (omega (arith, one, said));
+    refused = λ said. did;
+  }
+
+-- the same with other words for the refusal
+pub ends_as : {Prints Finds Refuses Other : Type 0} (status : ℕ) → (Refuses → Other) → Ends status Prints Finds Refuses → Ends status Prints Finds Other
+ends_as status says ends = record { is_one = ends.is_one; printed = ends.printed; found = ends.found; refused = λ said. says (ends.refused said) }
+
+within : (status : ℕ) → (status ≡ 0) ⊎ (status ≡ 1) ⊎ (status ≡ 3) → (status ≤ 1) ⊎ (status ≡ 3)
+within status (inl one) = inl (omega (arith, one))
+within status (inr (inl one)) = inl (omega (arith, one))
+within status (inr (inr one)) = inr one
+
+-- its status is small
+pub ends_within : {Prints Finds Refuses : Type 0} (status : ℕ) → Ends status Prints Finds Refuses → (status ≤ 1) ⊎ (status ≡ 3)
+ends_within status ends = within status ends.is_one
+
+-- ---- a text
 
 pub PrintsWhole-text : (reading : Result (List ℕ) Reason) (old new : Written) (text : List ℕ) → reading ≡ Ok text → IsWritten old new text → PrintsWhole reading old new
 PrintsWhole-text reading old new text is printed = subst (λ r. PrintsWhole r old new) (sym is) printed

@@ -1,6 +1,9 @@
 -- What the command `follow` makes, by what its inputs say.
 use Rattle.std.proofs.Common.{◌≡◌, ◌∙◌, ap, sym, subst, arith, ℕ, ◌<◌, List, length, Option, Some, Result, Ok}
 use Rattle.std.specs.Prelude.{slice_get, nat_lt, true}
+use Rattle.std.specs.Arc.{arc_value}
+use Rattle.std.specs.declared.sync.Arc.{Arc}
+use Rattle.std.specs.declared.alloc.Global.{Global}
 use Rattle.std.proofs.lemmas.Bool.{ltb-true}
 use Rattle.std.proofs.lemmas.List.{length-map}
 use Rattle.filter_rule.proofs.StepLaws.{list_all_get}
@@ -16,7 +19,8 @@ use Rattle.stream_worker.specs.declared.run_refusal.RunRefusal.{RunRefusal}
 use Rattle.stream_worker.specs.declared.run_refusal.RunRefusal.TheVariants.{FeedCount, WrongPlan, Unsound, OwnedByOther, Memory}
 use Rattle.board_laws.specs.Meaning.{Meaning}
 use Rattle.checkpoint_laws.specs.Written.{checkpoint_of}
-use Rattle.vrepl_main.specs.Followed.{FollowedValue, IsAtFeedsEnds, IsFollowed, IsTakenUp}
+use Rattle.vrepl_main.specs.Followed.{FollowedValue, IsAtFeedsEnds, IsEndedRun, IsFollowed, IsTakenUp, RefusesFollow}
+use Rattle.vrepl_main.specs.declared.following.Unfollowed.{Unfollowed}
 use Rattle.vrepl_main.specs.OnlyFollowed.{IsMovedOn, IsOnlyFollowed, IsStart, have_streams}
 use Rattle.vrepl_main.specs.Opening.{OpenedValue}
 use Rattle.vrepl_main.specs.Reasons.{Reason}
@@ -59,6 +63,13 @@ refused_run plans feeds WrongPlan fed ends = absurd ends
 refused_run plans feeds (Unsound stream fault) fed ends = (fed, ends)
 refused_run plans feeds (OwnedByOther stream key owner) fed ends = (fed, ends)
 refused_run plans feeds Memory fed ends = (fed, ends)
+
+-- a run over the feeds that is refused refuses what goes on from there
+pub ended_run : (given : OpenedValue) (checkpoint : Option (List ℕ)) (plan : Arc PlanValue Global) → slice_get given.plans 0 ≡ Some (arc_value plan) → AreFed given.plans given.feeds
+    → IsTakenUp given checkpoint → (refusal : Unfollowed) → IsEndedRun plan given.feeds refusal → RefusesFollow refusal (Ok given) checkpoint
+ended_run given checkpoint plan first fed up refusal (ended, is, ends) =
+    subst (λ (r : Unfollowed). RefusesFollow r (Ok given) checkpoint) (sym is)
+    (record { taken_up = up; refused = record { first = first; refused = refused_run given.plans given.feeds ended fed ends } })
 
 -- the checkpoint of a board on which these streams have moved on
 pub only_followed_by : (reading : Result OpenedValue Reason) (given : OpenedValue) (only : List ℕ) (checkpoint : Option (List ℕ)) (followed : FollowedValue)

@@ -20,11 +20,13 @@ use Rattle.vdiff_core.specs.Printing.{Written, BreaksOff}
 use Rattle.vrepl_main.specs.declared.joining.Unjoined.{Unjoined}
 use Rattle.vrepl_main.specs.declared.joining.Unjoined.TheVariants.{Given, One, Other, Boards}
 use Rattle.vrepl_main.specs.Command.{BreaksOffIn}
-use Rattle.vrepl_main.specs.JoinedRun.{AreJoined, AreJoinedBefore, AreJoinedTo, AreNotJoined, IsJoinOf, IsJoinOver, IsOtherRefused, IsSavedJoin, IsUnjoined, RefusesJoin}
+use Rattle.vrepl_main.specs.JoinedRun.{AreJoined, AreJoinedBefore, AreJoinedTo, AreNotJoined, IsJoinOf, IsJoinOver, IsOtherRefused, IsSavedJoin, IsUnjoined, RefusesJoin, join_asked}
 use Rattle.vrepl_main.specs.Opening.{OpenedValue}
 use Rattle.vrepl_main.specs.Reasons.{Reason}
 use Rattle.vrepl_main.proofs.CommandLaws.{refuses}
 use Rattle.vrepl_main.proofs.SourceLaws.{fed_shows}
+use Rattle.vrepl_main.specs.InputList.{bytes_of}
+use Rattle.vrepl_main.specs.declared.named_inputs.JoinInputs.{JoinInputs}
 
 -- ---- other words for what is given
 
@@ -36,11 +38,11 @@ module _ (one : List ℕ) (others : List (List ℕ)) (said asked : Result Opened
   refused_as refusal refused = subst (λ (r : Result OpenedValue Reason). IsUnjoined refusal r one others) is refused
 
 -- what is found before anything is printed leaves nothing
-pub refuses_join : (unjoined : Unjoined) (reading : Result OpenedValue Reason) (one : List ℕ) (others : List (List ℕ)) (now : Written) → IsUnjoined unjoined reading one others → RefusesJoin unjoined reading one others now now
-refuses_join (Given refusal) reading one others now is = refuses (IsJoinOf one others) refusal reading now is
-refuses_join (One plan fault) reading one others now is = (is, refl)
-refuses_join (Other plan fault) reading one others now is = (is, refl)
-refuses_join (Boards plan fault) reading one others now is = (is, refl)
+pub refuses_join : (unjoined : Unjoined) (inputs : JoinInputs) (now : Written) → IsUnjoined unjoined (join_asked inputs) inputs.one.items (bytes_of inputs.others.items) → RefusesJoin unjoined inputs now now
+refuses_join (Given refusal) inputs now is = refuses (IsJoinOf inputs.one.items (bytes_of inputs.others.items)) refusal (join_asked inputs) now is
+refuses_join (One plan fault) inputs now is = (is, refl)
+refuses_join (Other plan fault) inputs now is = (is, refl)
+refuses_join (Boards plan fault) inputs now is = (is, refl)
 
 -- the checkpoint can't be written
 pub breaks_off : (reading : Result OpenedValue Reason) (one : List ℕ) (others : List (List ℕ)) (bytes : List ℕ) (old new : Written) → IsSavedJoin reading one others bytes → BreaksOff old new bytes → BreaksOffIn (IsJoinOf one others) reading old new

@@ -1,6 +1,6 @@
 -- What the command `resume` prints, and why it is refused, by what its inputs say.
 use Rattle.std.proofs.Common.{◌≡◌, sym, subst, ℕ, List, take, refl, Some, Result}
-use Rattle.std.specs.Prelude.{slice_get, OnOk, IfErr}
+use Rattle.std.specs.Prelude.{slice_get}
 use Rattle.filter_rule.specs.PlanValue.{PlanValue}
 use Rattle.source_feed.specs.Planned.{FeedValue}
 use Rattle.board_laws.specs.Meaning.{Meaning}
@@ -10,18 +10,14 @@ use Rattle.vrepl_main.specs.declared.resuming.ResumeRefusal.{ResumeRefusal}
 use Rattle.step_script.specs.declared.script.ScriptStep.{ScriptStep}
 use Rattle.vrepl_main.specs.Reasons.{Reason}
 use Rattle.vrepl_main.specs.Replied.{all_given}
-use Rattle.vrepl_main.specs.ResumedRun.{IsRepliedBehind, AreFirstBehind, PrintsResumed, RefusesResume}
+use Rattle.vrepl_main.specs.ResumedRun.{IsRepliedBehind, AreFirstBehind, PrintsResumed, LeavesResumed}
 use Rattle.vrepl_main.specs.ScriptRun.{ScriptReply, ScriptGiven, IsScriptRun, IsFed, replies_text}
 use Rattle.vrepl_main.proofs.SourceLaws.{script_shows}
 
 -- ---- other words for what is given
 
-module _ (checkpoint : List ℕ) (one other : Result ScriptGiven Reason) (is : one ≡ other) where
-  pub printed_as : {Y E : Type 0} (result : Result Y E) (old new : Written) → OnOk result (PrintsResumed other checkpoint old new) → OnOk result (PrintsResumed one checkpoint old new)
-  printed_as result old new printed = subst (λ (r : Result ScriptGiven Reason). OnOk result (PrintsResumed r checkpoint old new)) (sym is) printed
-
-  pub refused_as : {Y : Type 0} (result : Result Y ResumeRefusal) (old new : Written) → IfErr result (λ refusal. RefusesResume refusal other checkpoint old new) → IfErr result (λ refusal. RefusesResume refusal one checkpoint old new)
-  refused_as result old new refused = subst (λ (r : Result ScriptGiven Reason). IfErr result (λ refusal. RefusesResume refusal r checkpoint old new)) (sym is) refused
+pub left_as : {Y : Type 0} (checkpoint : List ℕ) (one other : Result ScriptGiven Reason) (result : Result Y ResumeRefusal) (old new : Written) → one ≡ other → LeavesResumed result other checkpoint old new → LeavesResumed result one checkpoint old new
+left_as checkpoint one other result old new is left = subst (λ (r : Result ScriptGiven Reason). LeavesResumed result r checkpoint old new) (sym is) left
 
 -- ---- what is printed
 

@@ -1,5 +1,5 @@
 -- The board stays lawful and reads its feeds behind each line of a script, so that each dump shows its sources.
-use Rattle.std.proofs.Common.{◌++◌, ℕ, Bool, true, List, [], ◌∷◌, Option, Some, None, Result, Ok, Err, OnOk, refl, sym, subst}
+use Rattle.std.proofs.Common.{◌++◌, ℕ, List, [], ◌∷◌, Option, Some, None, Result, Ok, Err, OnOk, refl, sym, subst}
 use Rattle.std.specs.List.{AllByRecursion}
 use Rattle.source_feed.specs.Planned.{FeedValue}
 use Rattle.stream_core.specs.declared.step.Step.{Step}
@@ -12,7 +12,7 @@ use Rattle.board_laws.proofs.Sources.{all_show}
 use Rattle.apply_core.specs.Shown.{all_rows}
 use Rattle.step_script.specs.declared.script.ScriptStep.{ScriptStep}
 use Rattle.step_script.specs.declared.script.ScriptStep.TheVariants as script
-use Rattle.vrepl_main.specs.ScriptRun.{ScriptReply, answers, stands, shows, byte_of, standing_in, standing_reply, AnswersStep, IsScriptStep, IsScriptRun, IsFed, ShowsSources, IsTold}
+use Rattle.vrepl_main.specs.ScriptRun.{ScriptReply, shows, byte_of, standing_in, standing_reply, AnswersStep, IsScriptStep, IsScriptRun, IsFed, ShowsSources, IsTold}
 
 -- ---- one line
 

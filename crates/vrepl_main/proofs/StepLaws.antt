@@ -1,6 +1,6 @@
 -- What the command `step` prints, and why it is refused, by what its inputs say.
 use Rattle.std.proofs.Common.{◌≡◌, ◌∙◌, ap, sym, subst, ℕ, Bool, List, [], ◌∷◌, take, map, refl, Option, Some, Result, Ok}
-use Rattle.std.specs.Prelude.{slice_get, option_map, OnOk, IfErr}
+use Rattle.std.specs.Prelude.{slice_get, option_map}
 use Rattle.std.proofs.lemmas.Option.{slice_get-map}
 use Rattle.outcome.specs.Outcome.{◌>>=◌}
 use Rattle.filter_rule.specs.PlanValue.{PlanValue}
@@ -16,7 +16,7 @@ use Rattle.vdiff_core.specs.Printing.{Written, IsWritten, BreaksOff}
 use Rattle.vrepl_main.specs.Opening.{OpenedValue}
 use Rattle.step_script.specs.ScriptLines.{script_steps}
 use Rattle.vrepl_main.specs.ScriptRun.{ScriptReply, ScriptGiven, IsScriptRun, IsFed, IsRepliedTo, said_steps, given_with, given_bytes, script_given, replies_text}
-use Rattle.vrepl_main.specs.Replied.{AreFirstReplies, PrintsReplies, all_given}
+use Rattle.vrepl_main.specs.Replied.{AreFirstReplies, PrintsReplies, all_given, LeavesReplies}
 use Rattle.vrepl_main.proofs.CommandLaws.{refuses_unwritten}
 use Rattle.vrepl_main.proofs.OpenLaws.{RefusesInputs-whole}
 use Rattle.vrepl_main.proofs.SourceLaws.{script_shows}
@@ -61,11 +61,8 @@ front_at f plans plan value is seen = slice_get-map f plans 0 ∙ ap (option_map
 
 -- ---- other words for what is given
 
-pub printed_as : {Y E : Type 0} (result : Result Y E) (one other : Result ScriptGiven Reason) (old new : Written) → one ≡ other → OnOk result (PrintsReplies other old new) → OnOk result (PrintsReplies one old new)
-printed_as result one other old new is printed = subst (λ (r : Result ScriptGiven Reason). OnOk result (PrintsReplies r old new)) (sym is) printed
-
-pub refused_as : {Y : Type 0} (result : Result Y Refusal) (one other : Result ScriptGiven Reason) (old new : Written) → one ≡ other → IfErr result (λ refusal. RefusesCommand AreFirstReplies refusal other old new) → IfErr result (λ refusal. RefusesCommand AreFirstReplies refusal one old new)
-refused_as result one other old new is refused = subst (λ (r : Result ScriptGiven Reason). IfErr result (λ refusal. RefusesCommand AreFirstReplies refusal r old new)) (sym is) refused
+pub left_as : {Y : Type 0} (result : Result Y Refusal) (one other : Result ScriptGiven Reason) (old new : Written) → one ≡ other → LeavesReplies result other old new → LeavesReplies result one old new
+left_as result one other old new is left = subst (λ (r : Result ScriptGiven Reason). LeavesReplies result r old new) (sym is) left
 
 -- ---- what is printed
 

@@ -1,11 +1,21 @@
--- What a command that prints a text, or refuses, leaves on its writers (this profile).
-use Rattle.std.specs.Prelude.{◌≡◌, ℕ, List, Result, Ok, Err, codes}
+-- How a command ends, and what one that prints a text, or refuses, leaves on its writers (this profile).
+use Rattle.std.specs.Prelude.{◌≡◌, ◌⊎◌, ℕ, List, Result, Ok, Err, codes}
 use Rattle.vdiff_core.specs.Printing.{Written, IsWritten, BreaksOff}
 use Rattle.vrepl_main.specs.Printing.{PrintsOrBreaks}
 use Rattle.vrepl_main.specs.Reasons.{Reason, RefusesInputs}
 use Rattle.vrepl_main.specs.Refusals.{refusal_line}
 use Rattle.vrepl_main.specs.declared.refusal.Refusal.{Refusal}
 use Rattle.vrepl_main.specs.declared.refusal.Refusal.TheVariants.{CannotWrite}
+
+-- ---- a status
+
+-- how a command ends by its status, which is one of these: 0 behind what it prints, 3 behind the same where it found what it
+-- looks for, 1 behind a refusal
+pub record Ends (status : ℕ) (Prints Finds Refuses : Type 0) : Type 0 where
+  pub is_one : (status ≡ 0) ⊎ (status ≡ 1) ⊎ (status ≡ 3)
+  pub printed : status ≡ 0 → Prints
+  pub found : status ≡ 3 → Finds
+  pub refused : status ≡ 1 → Refuses
 
 -- ---- a text
 
@@ -39,3 +49,14 @@ RefusesCommand IsText refusal reading old new = RefusesInputs refusal reading ×
 -- such a refusal's line was printed whole on standard error, unless a write of it failed
 abbrev pub PrintsRefusal : {X : Type 0} → (X → List ℕ → Type 0) → Result X Reason → Written → Written → Written → Written → Type 0
 PrintsRefusal IsText reading old new err_old err_new = (refusal : Refusal) × RefusesCommand IsText refusal reading old new × PrintsOrBreaks err_old err_new (refusal_line refusal)
+
+-- ---- a command that prints a text
+
+-- what trying to print the text leaves on standard output: the whole text, or what a refusal leaves there
+abbrev pub PrintsText : {X : Type 0} → Result X Refusal → Result (List ℕ) Reason → Written → Written → Type 0
+PrintsText (Ok x) reading old new = PrintsWhole reading old new
+PrintsText (Err refusal) reading old new = RefusesCommand IsGivenText refusal reading old new
+
+-- how such a command ends; it looks for nothing
+abbrev pub TextEnds : Result (List ℕ) Reason → ℕ → Written → Written → Written → Written → Type 0
+TextEnds reading status old new err_old err_new = Ends status (PrintsWhole reading old new) ⊥ (PrintsRefusal IsGivenText reading old new err_old err_new)

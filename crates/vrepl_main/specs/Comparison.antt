@@ -10,7 +10,7 @@ use Rattle.vdiff_core.specs.Printing.{Written, IsWritten, BreaksOff}
 use Rattle.vdiff_core.specs.Report.{report_of, IsFirstDifference}
 use Rattle.vdiff_core.specs.RowsValue.{RowsValue}
 use Rattle.vdiff_core.specs.declared.report.Report.{Report}
-use Rattle.vrepl_main.specs.Command.{RefusesCommand}
+use Rattle.vrepl_main.specs.Command.{RefusesCommand, Ends}
 use Rattle.vrepl_main.specs.Printing.{PrintsOrBreaks}
 use Rattle.vrepl_main.specs.Reasons.{Reason, bad_workflow, bad_dump}
 use Rattle.vrepl_main.specs.Refusals.{refusal_line}
@@ -107,3 +107,8 @@ RefusesDumps workflow source target refusal old new = (reading : Result Compared
 abbrev pub PrintsDumpRefusal : List ℕ → List ℕ → List ℕ → Written → Written → Written → Written → Type 0
 PrintsDumpRefusal workflow source target old new err_old err_new =
     (refusal : Refusal) × RefusesDumps workflow source target refusal old new × PrintsOrBreaks err_old err_new (refusal_line refusal)
+
+-- how `vdiff` ends: with 3 where the dumps differ
+abbrev pub ComparisonEnds : List ℕ → List ℕ → List ℕ → ℕ → Written → Written → Written → Written → Type 0
+ComparisonEnds workflow source target status old new err_old err_new =
+    Ends status (IsComparedAs Same workflow source target old new) (IsComparedAs Differ workflow source target old new) (PrintsDumpRefusal workflow source target old new err_old err_new)

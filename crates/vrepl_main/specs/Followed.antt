@@ -1,5 +1,5 @@
 -- What `follow` makes of a workflow with its feeds, from a checkpoint or from nothing, and why it refuses (this profile).
-use Rattle.std.specs.Prelude.{◌≡◌, ℕ, List, Option, Some, None, Result, Ok, Err, slice_get}
+use Rattle.std.specs.Prelude.{◌≡◌, ℕ, List, Option, Some, None, Result, Ok, slice_get, map}
 use Rattle.std.specs.Arc.{arc_value}
 use Rattle.filter_rule.specs.PlanValue.{PlanValue}
 use Rattle.source_feed.specs.Planned.{FeedValue}
@@ -10,18 +10,32 @@ use Rattle.checkpoint_laws.specs.declared.fault.ResumeFault.{ResumeFault}
 use Rattle.apply_core.specs.Resuming.{IsResumed}
 use Rattle.apply_core.specs.Shown.{all_rows}
 use Rattle.stream_worker.specs.Ended.{IsFedBoard, AllHaveEnded, IsRowsUnion}
-use Rattle.stream_worker.specs.RunRefused.{IsRefusedRun}
+use Rattle.stream_worker.specs.RunRefused.{EndsRun}
 use Rattle.stream_worker.specs.declared.run_refusal.RunRefusal.{RunRefusal}
 use Rattle.vrepl_main.specs.declared.following.Unfollowed.{Unfollowed}
 use Rattle.vrepl_main.specs.declared.following.Unfollowed.TheVariants.{Given, Checkpoint, Stream}
 use Rattle.vrepl_main.specs.JoinedRun.{IsOpenedAnd}
-use Rattle.vrepl_main.specs.Opening.{OpenedValue}
+use Rattle.vrepl_main.specs.Opening.{OpenedValue, opened_bytes}
 use Rattle.vrepl_main.specs.Reasons.{Reason, RefusesInputs}
 use Rattle.vrepl_main.specs.Refusals.{refusal_line}
 use Rattle.vrepl_main.specs.RefusedText.{refused_text}
 use Rattle.vrepl_main.specs.ResumedRun.{IsRefusedOver}
 use Rattle.vrepl_main.specs.ResumedText.{resume_line}
 use Rattle.vrepl_main.specs.Running.{IsRefusedStream, as_step}
+use Rattle.std.specs.Option.{option_map}
+use Rattle.vrepl_main.specs.Given.{given_value}
+use Rattle.vrepl_main.specs.declared.named_inputs.FollowInputs.{FollowInputs}
+use Rattle.std.specs.declared.sync.Arc.{Arc}
+use Rattle.std.specs.declared.alloc.Global.{Global}
+use Rattle.vrepl_main.specs.OpenedFeeds.{opened_over}
+
+-- the workflow with its feeds, or why they are refused
+abbrev pub follow_asked : FollowInputs → Result OpenedValue Reason
+follow_asked inputs = opened_bytes inputs.workflow.now (map given_value inputs.feeds.now)
+
+-- the checkpoint to go on from, where there is one
+abbrev pub saved_asked : FollowInputs → Option (List ℕ)
+saved_asked inputs = option_map (λ bytes. bytes.now) inputs.checkpoint
 
 -- ---- the board
 
@@ -80,3 +94,17 @@ abbrev pub follow_refusal_line : Unfollowed → List ℕ
 follow_refusal_line (Given refusal) = refusal_line refusal
 follow_refusal_line (Checkpoint plan fault) = resume_line (arc_value plan).tables fault
 follow_refusal_line (Stream plan refusal) = refused_text (arc_value plan).tables (as_step refusal)
+
+-- ---- over plans and feeds as they are kept
+
+-- the checkpoint of the inputs, where there is one, is resumed
+abbrev pub HasTakenUp : List (Arc PlanValue Global) → List FeedValue → FollowInputs → Type 0
+HasTakenUp plans feeds inputs = IsTakenUp (opened_over plans feeds) (saved_asked inputs)
+
+-- why there is no board to answer with
+abbrev pub HasNotFollowed : List (Arc PlanValue Global) → List FeedValue → FollowInputs → Unfollowed → Type 0
+HasNotFollowed plans feeds inputs refusal = RefusesFollow refusal (Ok (opened_over plans feeds)) (saved_asked inputs)
+
+-- a run over the feeds is refused; the line names tables of the plan
+abbrev pub IsEndedRun : Arc PlanValue Global → List FeedValue → Unfollowed → Type 0
+IsEndedRun plan feeds refusal = (ended : RunRefusal) × (refusal ≡ Stream plan ended) × EndsRun feeds ended

@@ -15,14 +15,20 @@ use Rattle.apply_core.specs.Resuming.{IsResumed}
 use Rattle.vdiff_core.specs.Printing.{Written, IsWritten}
 use Rattle.vrepl_main.specs.declared.joining.Unjoined.{Unjoined}
 use Rattle.vrepl_main.specs.declared.joining.Unjoined.TheVariants.{Given, One, Other, Boards}
-use Rattle.vrepl_main.specs.Command.{RefusesCommand}
+use Rattle.vrepl_main.specs.Command.{RefusesCommand, Ends}
 use Rattle.vrepl_main.specs.JoinedText.{join_line}
-use Rattle.vrepl_main.specs.Opening.{OpenedValue}
+use Rattle.vrepl_main.specs.Opening.{OpenedValue, opened}
 use Rattle.vrepl_main.specs.Printing.{PrintsOrBreaks}
 use Rattle.vrepl_main.specs.Reasons.{Reason, RefusesInputs}
 use Rattle.vrepl_main.specs.Refusals.{refusal_line}
 use Rattle.vrepl_main.specs.ResumedRun.{IsRefusedOver}
 use Rattle.vrepl_main.specs.ResumedText.{resume_line}
+use Rattle.vrepl_main.specs.InputList.{bytes_of}
+use Rattle.vrepl_main.specs.declared.named_inputs.JoinInputs.{JoinInputs}
+
+-- the workflow with its feeds, or why they are refused
+abbrev pub join_asked : JoinInputs → Result OpenedValue Reason
+join_asked inputs = opened inputs.hex inputs.workflow.items (bytes_of inputs.feeds.items)
 
 -- ---- the checkpoint
 
@@ -50,8 +56,8 @@ IsSavedJoin (Ok given) one others bytes = IsJoinOf one others given bytes
 IsSavedJoin (Err reason) one others bytes = ⊥
 
 -- its checkpoint was printed
-abbrev pub PrintsJoin : Result OpenedValue Reason → List ℕ → List (List ℕ) → Written → Written → Type 0
-PrintsJoin reading one others old new = (bytes : List ℕ) × IsSavedJoin reading one others bytes × IsWritten old new bytes
+abbrev pub PrintsJoin : JoinInputs → Written → Written → Type 0
+PrintsJoin inputs old new = (bytes : List ℕ) × IsSavedJoin (join_asked inputs) inputs.one.items (bytes_of inputs.others.items) bytes × IsWritten old new bytes
 
 -- ---- refusals
 
@@ -91,10 +97,14 @@ IsUnjoined (One plan fault) reading one others = IsOpenedAnd reading (λ given. 
 IsUnjoined (Other plan fault) reading one others = IsOpenedAnd reading (λ given. IsOtherRefused given one others (arc_value plan) fault)
 IsUnjoined (Boards plan fault) reading one others = IsOpenedAnd reading (λ given. AreNotJoined given one others (arc_value plan) fault)
 
+-- the same over what is opened
+abbrev pub IsUnjoinedOver : OpenedValue → List ℕ → List (List ℕ) → Unjoined → Type 0
+IsUnjoinedOver given one others unjoined = IsUnjoined unjoined (Ok given) one others
+
 -- the same with what it leaves on standard output: nothing, unless it is that this can't be written
-abbrev pub RefusesJoin : Unjoined → Result OpenedValue Reason → List ℕ → List (List ℕ) → Written → Written → Type 0
-RefusesJoin (Given refusal) reading one others old new = RefusesCommand (IsJoinOf one others) refusal reading old new
-RefusesJoin unjoined reading one others old new = IsUnjoined unjoined reading one others × (new ≡ old)
+abbrev pub RefusesJoin : Unjoined → JoinInputs → Written → Written → Type 0
+RefusesJoin (Given refusal) inputs old new = RefusesCommand (IsJoinOf inputs.one.items (bytes_of inputs.others.items)) refusal (join_asked inputs) old new
+RefusesJoin unjoined inputs old new = IsUnjoined unjoined (join_asked inputs) inputs.one.items (bytes_of inputs.others.items) × (new ≡ old)
 
 -- the line of a refusal
 abbrev pub join_refusal_line : Unjoined → List ℕ
@@ -104,6 +114,9 @@ join_refusal_line (Other plan fault) = resume_line (arc_value plan).tables fault
 join_refusal_line (Boards plan fault) = join_line (arc_value plan).tables fault
 
 -- such a refusal's line was printed whole on standard error, unless a write of it failed
-abbrev pub PrintsJoinRefusal : Result OpenedValue Reason → List ℕ → List (List ℕ) → Written → Written → Written → Written → Type 0
-PrintsJoinRefusal reading one others old new err_old err_new =
-    (refusal : Unjoined) × RefusesJoin refusal reading one others old new × PrintsOrBreaks err_old err_new (join_refusal_line refusal)
+abbrev pub PrintsJoinRefusal : JoinInputs → Written → Written → Written → Written → Type 0
+PrintsJoinRefusal inputs old new err_old err_new = (refusal : Unjoined) × RefusesJoin refusal inputs old new × PrintsOrBreaks err_old err_new (join_refusal_line refusal)
+
+-- how `join` ends
+abbrev pub JoinEnds : JoinInputs → ℕ → Written → Written → Written → Written → Type 0
+JoinEnds inputs status old new err_old err_new = Ends status (PrintsJoin inputs old new) ⊥ (PrintsJoinRefusal inputs old new err_old err_new)

@@ -24,7 +24,6 @@ pub mod SavedBoard
 pub mod ResumedRun
 pub mod JoinedRun
 pub mod InputList
-pub mod NamedInputs
 pub mod Running
 pub mod Followed
 pub mod OnlyFollowed

@@ -1,5 +1,5 @@
 -- What `follow` makes where streams are named that are to run alone (this profile).
-use Rattle.std.specs.Prelude.{◌≡◌, ℕ, nat_lt, Bool, not, List, length, Option, Some, None, Result, Ok, slice_get}
+use Rattle.std.specs.Prelude.{◌≡◌, ℕ, nat_lt, Bool, not, List, length, Option, Some, None, Result, Ok, slice_get, map, true}
 use Rattle.std.specs.List.{list_all}
 use Rattle.outcome.specs.Outcome.{◌>>=◌, refused_if}
 use Rattle.filter_rule.specs.PlanValue.{PlanValue}
@@ -11,11 +11,16 @@ use Rattle.checkpoint_laws.specs.Written.{checkpoint_of}
 use Rattle.apply_core.specs.Fresh.{fresh_board}
 use Rattle.apply_core.specs.Resuming.{IsResumed}
 use Rattle.stream_worker.specs.Ended.{IsFedBoard, HaveEnded, AreAsBefore}
-use Rattle.vrepl_main.specs.Followed.{FollowedValue}
-use Rattle.vrepl_main.specs.HexText.{feed_bytes}
+use Rattle.vrepl_main.specs.Followed.{FollowedValue, saved_asked}
 use Rattle.vrepl_main.specs.JoinedRun.{IsOpenedAnd}
 use Rattle.vrepl_main.specs.Opening.{OpenedValue, opened_with, said_plans}
 use Rattle.vrepl_main.specs.Reasons.{Reason, no_stream}
+use Rattle.vrepl_main.specs.Given.{given_value}
+use Rattle.vrepl_main.specs.declared.named_inputs.FollowInputs.{FollowInputs}
+use Rattle.std.specs.declared.sync.Arc.{Arc}
+use Rattle.std.specs.declared.alloc.Global.{Global}
+use Rattle.vrepl_main.specs.OpenedFeeds.{opened_over}
+use Rattle.std.specs.Arc.{arc_value}
 
 -- ---- what is opened
 
@@ -30,6 +35,10 @@ named_plans only workflow = said_plans (plans_of workflow) >>= λ plans. refused
 -- the faults of the workflow file, then the streams that are named, then the number of feeds, then the feeds in order
 abbrev pub opened_for : List ℕ → List ℕ → List (Option (List ℕ)) → Result OpenedValue Reason
 opened_for only workflow feeds = named_plans only workflow >>= opened_with feeds
+
+-- what the inputs give where the workflow has these streams, or why they are refused
+abbrev pub only_asked : List ℕ → FollowInputs → Result OpenedValue Reason
+only_asked only inputs = opened_for only inputs.workflow.now (map given_value inputs.feeds.now)
 
 -- ---- the board
 
@@ -58,3 +67,13 @@ pub record IsOnlyFollowedBy (given : OpenedValue) (only : List ℕ) (checkpoint 
 -- there is something to follow, and this is the checkpoint
 abbrev pub IsOnlyFollowed : Result OpenedValue Reason → List ℕ → Option (List ℕ) → FollowedValue → Type 0
 IsOnlyFollowed reading only checkpoint followed = IsOpenedAnd reading (λ given. IsOnlyFollowedBy given only checkpoint followed)
+
+-- ---- over plans and feeds as they are kept
+
+-- each of these streams has a plan
+abbrev pub AreThere : List ℕ → List (Arc PlanValue Global) → Type 0
+AreThere only plans = have_streams only (map arc_value plans) ≡ true
+
+-- the board on which these streams have moved on from that of the inputs' checkpoint, or from the beginning
+abbrev pub HasMovedOn : List (Arc PlanValue Global) → List FeedValue → FollowInputs → List ℕ → Meaning → Type 0
+HasMovedOn plans feeds inputs only board = (start : Meaning) × IsStart (opened_over plans feeds) (saved_asked inputs) start × IsMovedOn feeds only start board

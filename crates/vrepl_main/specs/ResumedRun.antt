@@ -10,7 +10,7 @@ use Rattle.vdiff_core.specs.Printing.{Written, IsWritten}
 use Rattle.vrepl_main.specs.declared.resuming.ResumeRefusal.{ResumeRefusal}
 use Rattle.vrepl_main.specs.declared.resuming.ResumeRefusal.TheVariants.{Given, Checkpoint}
 use Rattle.step_script.specs.declared.script.ScriptStep.{ScriptStep}
-use Rattle.vrepl_main.specs.Command.{RefusesCommand}
+use Rattle.vrepl_main.specs.Command.{RefusesCommand, Ends}
 use Rattle.vrepl_main.specs.Opening.{OpenedValue}
 use Rattle.vrepl_main.specs.Printing.{PrintsOrBreaks}
 use Rattle.vrepl_main.specs.Reasons.{Reason}
@@ -67,3 +67,12 @@ resume_refusal_line (Checkpoint plan fault) = resume_line (arc_value plan).table
 abbrev pub PrintsResumeRefusal : Result ScriptGiven Reason → List ℕ → Written → Written → Written → Written → Type 0
 PrintsResumeRefusal reading checkpoint old new err_old err_new =
     (refusal : ResumeRefusal) × RefusesResume refusal reading checkpoint old new × PrintsOrBreaks err_old err_new (resume_refusal_line refusal)
+
+-- what trying to print the replies leaves on standard output: all of them, or what a refusal leaves there
+abbrev pub LeavesResumed : {X : Type 0} → Result X ResumeRefusal → Result ScriptGiven Reason → List ℕ → Written → Written → Type 0
+LeavesResumed (Ok x) reading checkpoint old new = PrintsResumed reading checkpoint old new
+LeavesResumed (Err refusal) reading checkpoint old new = RefusesResume refusal reading checkpoint old new
+
+-- how `resume` ends
+abbrev pub ResumeEnds : Result ScriptGiven Reason → List ℕ → ℕ → Written → Written → Written → Written → Type 0
+ResumeEnds reading checkpoint status old new err_old err_new = Ends status (PrintsResumed reading checkpoint old new) ⊥ (PrintsResumeRefusal reading checkpoint old new err_old err_new)

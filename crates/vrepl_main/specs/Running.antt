@@ -12,14 +12,20 @@ use Rattle.stream_worker.specs.Ended.{IsRowsUnion}
 use Rattle.stream_worker.specs.RunRefused.{IsRefusedRun}
 use Rattle.stream_worker.specs.declared.run_refusal.RunRefusal.{RunRefusal}
 use Rattle.stream_worker.specs.declared.run_refusal.RunRefusal.TheVariants.{FeedCount, WrongPlan, Unsound, OwnedByOther, Memory}
-use Rattle.vrepl_main.specs.Command.{RefusesCommand}
-use Rattle.vrepl_main.specs.Opening.{OpenedValue}
+use Rattle.vrepl_main.specs.Command.{RefusesCommand, Ends}
+use Rattle.vrepl_main.specs.Opening.{OpenedValue, opened}
 use Rattle.vrepl_main.specs.Printing.{PrintsOrBreaks}
 use Rattle.vrepl_main.specs.Reasons.{Reason, RefusesInputs}
 use Rattle.vrepl_main.specs.RefusedText.{refused_text}
 use Rattle.vrepl_main.specs.Refusals.{refusal_line}
 use Rattle.vrepl_main.specs.declared.running.RunFault.{RunFault}
 use Rattle.vrepl_main.specs.declared.running.RunFault.TheVariants.{Given, Stream}
+use Rattle.vrepl_main.specs.InputList.{bytes_of}
+use Rattle.vrepl_main.specs.declared.named_inputs.RunInputs.{RunInputs}
+
+-- the workflow with its feeds, or why they are refused
+abbrev pub opened_asked : RunInputs → Result OpenedValue Reason
+opened_asked inputs = opened inputs.hex inputs.workflow.items (bytes_of inputs.feeds.items)
 
 -- ---- the dump
 
@@ -83,3 +89,7 @@ RefusesRun (Stream plan refusal) reading old new = RefusesStream (arc_value plan
 -- such a refusal's line was printed whole on standard error, unless a write of it failed
 abbrev pub PrintsRunRefusal : Result OpenedValue Reason → Written → Written → Written → Written → Type 0
 PrintsRunRefusal reading old new err_old err_new = (fault : RunFault) × RefusesRun fault reading old new × PrintsOrBreaks err_old err_new (fault_line fault)
+
+-- how `run` ends
+abbrev pub RunEnds : Result OpenedValue Reason → ℕ → Written → Written → Written → Written → Type 0
+RunEnds reading status old new err_old err_new = Ends status (PrintsDump reading old new) ⊥ (PrintsRunRefusal reading old new err_old err_new)

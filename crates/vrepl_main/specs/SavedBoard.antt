@@ -8,6 +8,13 @@ use Rattle.apply_core.specs.Fresh.{fresh_board}
 use Rattle.vdiff_core.specs.Printing.{Written, IsWritten}
 use Rattle.vrepl_main.specs.Reasons.{Reason}
 use Rattle.vrepl_main.specs.ScriptRun.{ScriptReply, ScriptGiven, IsScriptRun, IsTold}
+use Rattle.vrepl_main.specs.Command.{Ends, PrintsRefusal}
+use Rattle.source_feed.specs.Planned.{FeedValue}
+use Rattle.step_script.specs.declared.script.ScriptStep.{ScriptStep}
+
+-- the board behind steps from this one, whatever they reply but want of memory
+abbrev pub IsBehind : List FeedValue → Meaning → List ScriptStep → Meaning → Type 0
+IsBehind feeds start steps board = (replies : List ScriptReply) × IsScriptRun feeds start steps replies board × AllByRecursion IsTold replies
 
 -- the bytes are the checkpoint of the board behind the steps of a script, whatever they reply but want of memory; its
 -- streams show their sources
@@ -27,3 +34,7 @@ IsSavedBoard (Err reason) bytes = ⊥
 -- its checkpoint was printed
 abbrev pub PrintsCheckpoint : Result ScriptGiven Reason → Written → Written → Type 0
 PrintsCheckpoint reading old new = (bytes : List ℕ) × IsSavedBoard reading bytes × IsWritten old new bytes
+
+-- how `save` ends
+abbrev pub SaveEnds : Result ScriptGiven Reason → ℕ → Written → Written → Written → Written → Type 0
+SaveEnds reading status old new err_old err_new = Ends status (PrintsCheckpoint reading old new) ⊥ (PrintsRefusal IsSavedBehind reading old new err_old err_new)

@@ -26,6 +26,8 @@ use Rattle.vrepl_main.specs.Opening.{OpenedValue, opened, opened_bytes}
 use Rattle.step_script.specs.ScriptLines.{script_steps}
 use Rattle.vrepl_main.specs.AnswerText.{answer_text, state_text}
 use Rattle.vrepl_main.specs.RefusedText.{refused_text}
+use Rattle.vrepl_main.specs.InputList.{bytes_of}
+use Rattle.vrepl_main.specs.declared.named_inputs.Inputs.{Inputs}
 
 -- ---- one line
 
@@ -120,6 +122,10 @@ given_bytes workflow feeds script = opened_bytes workflow feeds >>= given_with s
 
 abbrev pub script_given : Bool → List ℕ → List (List ℕ) → List ℕ → Result ScriptGiven Reason
 script_given hex workflow feeds script = opened hex workflow feeds >>= given_with script
+
+-- what the inputs of `step` and of `save` give, or why they are refused
+abbrev pub script_asked : Inputs → Result ScriptGiven Reason
+script_asked inputs = script_given inputs.hex inputs.workflow.items (bytes_of inputs.feeds.items) inputs.script.items
 
 -- the text is that of the replies to these steps, on a board over the plans of which nothing is read
 pub record IsRepliedTo (given : OpenedValue) (steps : List ScriptStep) (text : List ℕ) : Type 0 where

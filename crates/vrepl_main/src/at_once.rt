@@ -5,7 +5,7 @@ ghost use Rattle.std.specs.Arc.{arc_value};
 ghost use Rattle.filter_rule.specs.WellFormed.{ArePlans};
 ghost use Rattle.vrepl_main.specs.Given.{given_value};
 ghost use Rattle.vrepl_main.specs.Opening.{opened_bytes, opened_feed, opened_feeds};
-ghost use Rattle.vrepl_main.specs.OpenedFeeds.{AreTried, IsTried, as_opened, opened_value};
+ghost use Rattle.vrepl_main.specs.OpenedFeeds.{AreTried, as_opened, opened_value, IsTriedAt};
 ghost use Rattle.vrepl_main.specs.Reasons.{GivesOfInputs};
 
 use crate::given::GivenFeed;
@@ -70,7 +70,7 @@ fn try_feeds<'h, R: Threads + Sync>(
         plans.len(),
         &|i|
             requires { (i < length plans.now) × (i < length given.now) }
-            ensures { IsTried (map arc_value plans.entry.now) (map given_value given.entry.now) i result }
+            ensures { IsTriedAt plans.entry.now given.entry.now i result }
         { try_feed(alloc, &plans[i], &given[i]) },
     )
 }

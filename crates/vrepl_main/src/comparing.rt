@@ -1,9 +1,9 @@
 //! The subcommand `vdiff`: two dumps compared.
 
-ghost use Rattle.std.specs.Prelude.{◌≡◌, ◌≢◌, ◌⊎◌, IfOk, IfErr};
+ghost use Rattle.std.specs.Prelude.{◌≡◌, ◌≢◌, IfOk, IfErr};
 ghost use Rattle.std.specs.Option.{option_map};
 ghost use Rattle.vrepl_main.specs.Adding.{AddsText, at};
-ghost use Rattle.vrepl_main.specs.Comparison.{count_line, report_text, first_line, first_text, AreTextsReadOnce, IsComparedAs, PrintsComparison, PrintsDumpRefusal, RefusesDumps};
+ghost use Rattle.vrepl_main.specs.Comparison.{count_line, report_text, first_line, first_text, AreTextsReadOnce, IsComparedAs, PrintsComparison, RefusesDumps, ComparisonEnds};
 
 use crate::key_text::print_key;
 use crate::output::{put_all, put_between, put_str};
@@ -39,11 +39,8 @@ pub fn vdiff<W: Out, E: Out>(
     out: &mut W,
     err: &mut E,
 ) -> u8
-    ensures status { (result ≡ 0) ⊎ (result ≡ 1) ⊎ (result ≡ 3) }
-    ensures same { result ≡ 0 → IsComparedAs Verdict.Same workflow.now source.now target.now (W.written out.old) (W.written out.new) }
-    ensures differ { result ≡ 3 → IsComparedAs Verdict.Differ workflow.now source.now target.now (W.written out.old) (W.written out.new) }
+    ensures ends { ComparisonEnds workflow.now source.now target.now result (W.written out.old) (W.written out.new) (E.written err.old) (E.written err.new) }
     ensures quiet { result ≢ 1 → err.new ≡ err.old }
-    ensures refused { result ≡ 1 → PrintsDumpRefusal workflow.now source.now target.now (W.written out.old) (W.written out.new) (E.written err.old) (E.written err.new) }
     // The files are read as one thing alone.
     ensures determined { AreTextsReadOnce workflow.now source.now target.now }
 {

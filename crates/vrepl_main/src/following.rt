@@ -1,14 +1,13 @@
 //! The subcommand `follow`: a checkpoint moved on to the feeds' ends.
 
-ghost use Rattle.std.specs.Prelude.{◌≡◌, ◌≤◌, Ok, IfOk, IfErr, length, map};
+ghost use Rattle.std.specs.Prelude.{◌≡◌, ◌≤◌, IfOk, IfErr, length};
 ghost use Rattle.std.specs.Arc.{arc_value};
 ghost use Rattle.vdiff_core.specs.Dump.{dump_of};
 ghost use Rattle.vdiff_core.specs.Printing.{Prints};
 ghost use Rattle.apply_core.specs.Shown.{all_rows};
 ghost use Rattle.stream_worker.specs.Ended.{IsFedBoard};
 ghost use Rattle.stream_worker.specs.RunRefused.{EndsRun};
-ghost use Rattle.vrepl_main.specs.Followed.{IsAtFeedsEnds, IsFollowed, IsTakenUp, RefusesFollow, follow_refusal_line};
-ghost use Rattle.vrepl_main.specs.NamedInputs.{follow_asked, saved_asked};
+ghost use Rattle.vrepl_main.specs.Followed.{IsAtFeedsEnds, IsFollowed, RefusesFollow, follow_refusal_line, follow_asked, saved_asked, HasTakenUp, HasNotFollowed};
 ghost use Rattle.vrepl_main.specs.Printing.{PrintsOrBreaks};
 
 use crate::named_inputs::{Course, FollowInputs};
@@ -146,9 +145,9 @@ fn board_at_ends<'h, R: Threads + Wait + Sync, G: Progress + Sync>(
 ) -> Result<Board<'h>, Unfollowed>
     requires some { 1 ≤ length plans.items }
     requires few { length plans.items ≤ 64 }
-    ensures taken_up { IfOk result (λ _. IsTakenUp (record { plans = map arc_value plans.items; feeds = feeds.now }) (saved_asked inputs.now)) }
+    ensures taken_up { IfOk result (λ _. HasTakenUp plans.items feeds.now inputs.now) }
     ensures ends { IfOk result (IsAtFeedsEnds feeds.now) }
-    ensures refused { IfErr result (λ refusal. RefusesFollow refusal (Ok (record { plans = map arc_value plans.items; feeds = feeds.now })) (saved_asked inputs.now)) }
+    ensures refused { IfErr result (HasNotFollowed plans.items feeds.now inputs.now) }
 {
     let plan = first_plan(&plans)?;
     let Some(bytes) = inputs.checkpoint else {

@@ -1,22 +1,17 @@
 //! The subcommand `follow` where streams are named that are to run alone.
 
-ghost use Rattle.std.specs.Prelude.{◌≡◌, ◌<◌, ◌≤◌, ℕ, nat_lt, true, Ok, IfOk, IfErr, length, map};
+ghost use Rattle.std.specs.Prelude.{◌≡◌, ◌<◌, ◌≤◌, ℕ, nat_lt, IfOk, IfErr, length, map};
 ghost use Rattle.std.specs.Arc.{arc_value};
 ghost use Rattle.std.specs.List.{list_all};
-ghost use Rattle.board_laws.specs.Meaning.{Meaning};
 ghost use Rattle.filter_rule.specs.WellFormed.{ArePlans};
 ghost use Rattle.apply_core.specs.Feeds.{AreFed};
 ghost use Rattle.apply_core.specs.Fresh.{fresh_board};
 ghost use Rattle.stream_worker.specs.Ended.{IsNamedStream, IsFedBoard};
-ghost use Rattle.stream_worker.specs.RunRefused.{EndsRun};
-ghost use Rattle.stream_worker.specs.declared.run_refusal.RunRefusal.{RunRefusal};
-ghost use Rattle.vrepl_main.specs.Followed.{RefusesFollow};
+ghost use Rattle.vrepl_main.specs.Followed.{RefusesFollow, saved_asked, HasNotFollowed, IsEndedRun};
 ghost use Rattle.vrepl_main.specs.Given.{given_value};
-ghost use Rattle.vrepl_main.specs.NamedInputs.{only_asked, saved_asked};
-ghost use Rattle.vrepl_main.specs.OnlyFollowed.{IsMovedOn, IsOnlyFollowed, IsStart, have_streams, named_plans, opened_for};
+ghost use Rattle.vrepl_main.specs.OnlyFollowed.{IsMovedOn, IsOnlyFollowed, have_streams, named_plans, opened_for, only_asked, AreThere, HasMovedOn};
 ghost use Rattle.vrepl_main.specs.OpenedFeeds.{opened_value};
 ghost use Rattle.vrepl_main.specs.Reasons.{GivesOfInputs};
-ghost use Rattle.vrepl_main.specs.declared.following.Unfollowed.TheVariants.{Stream};
 
 use crate::at_once::open_feeds_at_once;
 use crate::following::{Followed, Unfollowed};
@@ -72,7 +67,7 @@ fn open_for<'h, R: Threads + Sync>(
 ) -> Result<Opened<'h>, Refusal<'static>>
     ensures opened { GivesOfInputs opened_value result (opened_for only.now workflow.now (map given_value given.entry.now)) }
     ensures plans { IfOk result (λ opened. ArePlans (map arc_value opened.plans.items)) }
-    ensures there { IfOk result (λ opened. have_streams only.now (map arc_value opened.plans.items) ≡ true) }
+    ensures there { IfOk result (λ opened. AreThere only.now opened.plans.items) }
 {
     let plans = named_plans(alloc, only, workflow)?;
     if plans.len() != given.len() {
@@ -94,7 +89,7 @@ fn named_plans(
 ) -> Result<Vec<Arc<Plan>>, Refusal<'static>>
     ensures named { GivesOfInputs (λ plans. map arc_value plans.items) result (named_plans only.now workflow.now) }
     ensures plans { IfOk result (λ plans. ArePlans (map arc_value plans.items)) }
-    ensures there { IfOk result (λ plans. have_streams only.now (map arc_value plans.items) ≡ true) }
+    ensures there { IfOk result (λ plans. AreThere only.now plans.items) }
 {
     let plans = Plan::read_all(alloc, workflow)?;
     if have_streams(only, &plans) {
@@ -134,9 +129,9 @@ fn board_moved_on<'h>(
 ) -> Result<Board<'h>, Unfollowed>
     requires some { 1 ≤ length plans.items }
     requires few { length plans.items ≤ 64 }
-    requires there { have_streams only.now (map arc_value plans.items) ≡ true }
-    ensures moved { IfOk result (λ board. (start : Meaning) × IsStart (record { plans = map arc_value plans.items; feeds = feeds.now }) (saved_asked inputs.now) start × IsMovedOn feeds.now only.now start board) }
-    ensures refused { IfErr result (λ refusal. RefusesFollow refusal (Ok (record { plans = map arc_value plans.items; feeds = feeds.now })) (saved_asked inputs.now)) }
+    requires there { AreThere only.now plans.items }
+    ensures moved { IfOk result (HasMovedOn plans.items feeds.now inputs.now only.now) }
+    ensures refused { IfErr result (HasNotFollowed plans.items feeds.now inputs.now) }
 {
     let plan = first_plan(&plans)?;
     let policy = &inputs.course.policy;
@@ -160,7 +155,7 @@ fn fresh_board<'h>(
 ) -> Result<Board<'h>, AllocError>
     requires some { 1 ≤ length plans.items }
     requires few { length plans.items ≤ 64 }
-    ensures fresh { IfOk result (λ board. board ≡ fresh_board (map arc_value plans.items)) }
+    ensures fresh { IfOk result (λ made. made ≡ fresh_board (map arc_value plans.items)) }
     ensures planned { IfOk result (λ _. AreFed (map arc_value plans.items) feeds.now) }
     ensures fed { IfOk result (IsFedBoard feeds.now) }
 {
@@ -185,7 +180,7 @@ fn move_on<'h>(
     requires fed { IsFedBoard feeds.now start }
     requires there { (s : ℕ) → IsNamedStream only.now s → s < length feeds.now }
     ensures moved { IfOk result (IsMovedOn feeds.now only.now start.entry) }
-    ensures refused { IfErr result (λ refusal. (ended : RunRefusal) × (refusal ≡ Stream plan ended) × EndsRun feeds.now ended) }
+    ensures refused { IfErr result (IsEndedRun plan feeds.now) }
 {
     match run_streams_alone(alloc, start, feeds, only, policy) {
         Ok(board) => Ok(board),

@@ -1,12 +1,9 @@
 //! The subcommand `join`: the checkpoint of the join of two checkpoints' boards.
 
-ghost use Rattle.std.specs.Prelude.{◌≡◌, ◌⊎◌, Ok, Some, OnOk, IfErr, IfOk, map, slice_get};
-ghost use Rattle.std.specs.Arc.{arc_value};
-ghost use Rattle.filter_rule.specs.WellFormed.{ArePlans};
+ghost use Rattle.std.specs.Prelude.{◌≡◌, OnOk, IfErr, IfOk};
 ghost use Rattle.vrepl_main.specs.InputList.{bytes_of};
-ghost use Rattle.vrepl_main.specs.JoinedRun.{IsJoinOver, IsSavedJoin, IsUnjoined, PrintsJoin, PrintsJoinRefusal, RefusesJoin, join_refusal_line};
-ghost use Rattle.vrepl_main.specs.NamedInputs.{join_asked};
-ghost use Rattle.vrepl_main.specs.OpenedFeeds.{opened_value};
+ghost use Rattle.vrepl_main.specs.JoinedRun.{IsJoinOver, IsSavedJoin, IsUnjoined, PrintsJoin, RefusesJoin, join_refusal_line, join_asked, JoinEnds, IsUnjoinedOver};
+ghost use Rattle.vrepl_main.specs.OpenedFeeds.{opened_value, HasPlans, IsFirstOf};
 ghost use Rattle.vrepl_main.specs.Printing.{PrintsOrBreaks};
 
 use crate::given::given_feeds;
@@ -71,10 +68,8 @@ impl From<Refusal<'static>> for Unjoined {
 /// feeds, `one` first, and each of the others before its board is joined to those before it: two boards are held at a
 /// time. Answers the status: 0, or 1 after a refusal, also of memory.
 pub fn join<W: Out, E: Out>(alloc: Global, inputs: &JoinInputs, out: &mut W, err: &mut E) -> u8
-    ensures status { (result ≡ 0) ⊎ (result ≡ 1) }
-    ensures printed { result ≡ 0 → PrintsJoin (join_asked inputs.now) inputs.now.one.items (bytes_of inputs.now.others.items) (W.written out.old) (W.written out.new) }
+    ensures ends { JoinEnds inputs.now result (W.written out.old) (W.written out.new) (E.written err.old) (E.written err.new) }
     ensures quiet { result ≡ 0 → err.new ≡ err.old }
-    ensures refused { result ≡ 1 → PrintsJoinRefusal (join_asked inputs.now) inputs.now.one.items (bytes_of inputs.now.others.items) (W.written out.old) (W.written out.new) (E.written err.old) (E.written err.new) }
 {
     match print_joined(alloc, inputs, out) {
         Ok(()) => 0,
@@ -97,8 +92,8 @@ fn refuse_unjoined<E: Out>(err: &mut E, unjoined: &Unjoined) -> u8
 
 /// Prints the checkpoint of the join, or nothing where there is none.
 fn print_joined<W: Out>(alloc: Global, inputs: &JoinInputs, out: &mut W) -> Result<(), Unjoined>
-    ensures printed { OnOk result (PrintsJoin (join_asked inputs.now) inputs.now.one.items (bytes_of inputs.now.others.items) (W.written out.old) (W.written out.new)) }
-    ensures refused { IfErr result (λ refusal. RefusesJoin refusal (join_asked inputs.now) inputs.now.one.items (bytes_of inputs.now.others.items) (W.written out.old) (W.written out.new)) }
+    ensures printed { OnOk result (PrintsJoin inputs.now (W.written out.old) (W.written out.new)) }
+    ensures refused { IfErr result (λ refusal. RefusesJoin refusal inputs.now (W.written out.old) (W.written out.new)) }
 {
     let bytes = joined_bytes(alloc, inputs)?;
     match print_bytes(out, &bytes) {
@@ -134,10 +129,10 @@ fn join_over<'h>(
     one: &[u8],
     others: &[Vec<u8>],
 ) -> Result<Board<'h>, Unjoined>
-    requires plans { ArePlans (map arc_value opened.now.plans.items) }
-    requires first { slice_get (map arc_value opened.now.plans.items) 0 ≡ Some (arc_value plan) }
+    requires plans { HasPlans opened.now }
+    requires first { IsFirstOf opened.now plan }
     ensures joined { IfOk result (IsJoinOver (opened_value opened.now) one.now (bytes_of others.now)) }
-    ensures refused { IfErr result (λ refusal. IsUnjoined refusal (Ok (opened_value opened.now)) one.now (bytes_of others.now)) }
+    ensures refused { IfErr result (IsUnjoinedOver (opened_value opened.now) one.now (bytes_of others.now)) }
 {
     let plans = opened.plans.as_slice();
     let feeds = opened.feeds.as_slice();

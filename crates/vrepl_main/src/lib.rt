@@ -33,7 +33,7 @@ mod shown;
 mod state_text;
 mod stepping;
 
-pub use comparing::vdiff;
+pub use comparing::{Verdict, vdiff};
 pub use following::{Followed, Unfollowed, follow, refuse_unfollowed};
 pub use following_only::follow_only;
 pub use given::{GivenFeed, given_feeds};

@@ -1,11 +1,11 @@
 //! The subcommand `resume`: the steps of a script on the board of a checkpoint.
 
-ghost use Rattle.std.specs.Prelude.{◌≡◌, ◌⊎◌, Ok, OnOk, IfErr, map};
+ghost use Rattle.std.specs.Prelude.{◌≡◌, Ok, map};
 ghost use Rattle.std.specs.Arc.{arc_value};
 ghost use Rattle.filter_rule.specs.WellFormed.{ArePlans};
-ghost use Rattle.vrepl_main.specs.NamedInputs.{script_asked};
 ghost use Rattle.vrepl_main.specs.OpenedFeeds.{scripted_value};
-ghost use Rattle.vrepl_main.specs.ResumedRun.{PrintsResumed, PrintsResumeRefusal, RefusesResume};
+ghost use Rattle.vrepl_main.specs.ScriptRun.{script_asked};
+ghost use Rattle.vrepl_main.specs.ResumedRun.{LeavesResumed, ResumeEnds};
 
 use crate::given::given_feeds;
 use crate::line::Basis;
@@ -18,6 +18,7 @@ use crate::stepping::{first_plan, print_taken};
 use apply_core::{ResumeFault, resume as resumed_board};
 use filter_rule::Plan;
 use std::alloc::Global;
+use std::mem::forget;
 use std::sync::Arc;
 use vdiff_core::Out;
 
@@ -51,10 +52,8 @@ impl From<Refusal<'static>> for ResumeRefusal {
 /// `err` and then nothing on `out`, unless it is `out` that can't be written. The checkpoint is judged behind
 /// the workflow, the feeds and the whole script. Answers the status: 0, or 1 after a refusal, also of memory.
 pub fn resume<W: Out, E: Out>(alloc: Global, inputs: &ResumeInputs, out: &mut W, err: &mut E) -> u8
-    ensures status { (result ≡ 0) ⊎ (result ≡ 1) }
-    ensures printed { result ≡ 0 → PrintsResumed (script_asked inputs.now.step) inputs.now.checkpoint.items (W.written out.old) (W.written out.new) }
+    ensures ends { ResumeEnds (script_asked inputs.now.step) inputs.now.checkpoint.items result (W.written out.old) (W.written out.new) (E.written err.old) (E.written err.new) }
     ensures quiet { result ≡ 0 → err.new ≡ err.old }
-    ensures refused { result ≡ 1 → PrintsResumeRefusal (script_asked inputs.now.step) inputs.now.checkpoint.items (W.written out.old) (W.written out.new) (E.written err.old) (E.written err.new) }
 {
     match print_replies(alloc, inputs, out) {
         Ok(()) => 0,
@@ -69,8 +68,7 @@ fn print_replies<W: Out>(
     inputs: &ResumeInputs,
     out: &mut W,
 ) -> Result<(), ResumeRefusal>
-    ensures printed { OnOk result (PrintsResumed (script_asked inputs.now.step) inputs.now.checkpoint.items (W.written out.old) (W.written out.new)) }
-    ensures refused { IfErr result (λ refusal. RefusesResume refusal (script_asked inputs.now.step) inputs.now.checkpoint.items (W.written out.old) (W.written out.new)) }
+    ensures { LeavesResumed result (script_asked inputs.now.step) inputs.now.checkpoint.items (W.written out.old) (W.written out.new) }
 {
     let step = &inputs.step;
     let Ok(given) = given_feeds(alloc, step.hex, &step.feeds) else {
@@ -88,8 +86,7 @@ fn print_resumed<W: Out>(
     out: &mut W,
 ) -> Result<(), ResumeRefusal>
     requires { ArePlans (map arc_value scripted.opened.plans.items) }
-    ensures printed { OnOk result (PrintsResumed (Ok (scripted_value scripted.entry)) checkpoint.now (W.written out.old) (W.written out.new)) }
-    ensures refused { IfErr result (λ refusal. RefusesResume refusal (Ok (scripted_value scripted.entry)) checkpoint.now (W.written out.old) (W.written out.new)) }
+    ensures { LeavesResumed result (Ok (scripted_value scripted.entry)) checkpoint.now (W.written out.old) (W.written out.new) }
 {
     let Scripted { opened, steps } = scripted;
     let Opened { plans, feeds } = opened;
@@ -105,7 +102,11 @@ fn print_resumed<W: Out>(
         plan: &plan,
     };
     match print_taken(alloc, &basis, &mut board, &steps, out) {
-        Ok(()) => Ok(()),
+        Ok(()) => {
+            forget(board);
+            forget(feeds);
+            Ok(())
+        }
         Err(_) => Err(ResumeRefusal::Given(Refusal::CannotWrite { file: "-" })),
     }
 }

@@ -1,6 +1,6 @@
 //! The subcommand `run`: all streams run to their feeds' ends.
 
-ghost use Rattle.std.specs.Prelude.{◌≡◌, ◌⊎◌, ◌≤◌, OnOk, IfOk, IfErr, length, map};
+ghost use Rattle.std.specs.Prelude.{◌≡◌, ◌≤◌, OnOk, IfOk, IfErr, length, map};
 ghost use Rattle.std.specs.Arc.{arc_value};
 ghost use Rattle.vdiff_core.specs.Dump.{dump_of};
 ghost use Rattle.vdiff_core.specs.Printing.{Prints};
@@ -10,13 +10,12 @@ ghost use Rattle.vrepl_main.specs.Command.{IsUnwritten};
 ghost use Rattle.vrepl_main.specs.Followed.{IsAtFeedsEnds};
 ghost use Rattle.vrepl_main.specs.Given.{given_value};
 ghost use Rattle.filter_rule.specs.WellFormed.{ArePlans};
-ghost use Rattle.vrepl_main.specs.NamedInputs.{opened_asked};
-ghost use Rattle.vrepl_main.specs.OpenedFeeds.{opened_value};
+ghost use Rattle.vrepl_main.specs.OpenedFeeds.{opened_value, opened_given};
 ghost use Rattle.vrepl_main.specs.Opening.{opened_bytes};
 ghost use Rattle.vrepl_main.specs.Reasons.{GivesOfInputs};
 ghost use Rattle.vrepl_main.specs.Printing.{PrintsOrBreaks};
 ghost use Rattle.vrepl_main.specs.RefusedText.{refused_text};
-ghost use Rattle.vrepl_main.specs.Running.{IsFilled, IsUnfilled, PrintsDump, RefusesRun, PrintsRunRefusal, as_step};
+ghost use Rattle.vrepl_main.specs.Running.{IsFilled, IsUnfilled, PrintsDump, RefusesRun, as_step, opened_asked, RunEnds};
 
 use crate::at_once::open_at_once;
 use crate::given::{GivenFeed, given_feeds};
@@ -31,6 +30,7 @@ use board_laws::StepRefusal;
 use filter_rule::Plan;
 use source_feed::Feed;
 use std::alloc::Global;
+use std::mem::forget;
 use std::sync::{Arc, Wait};
 use std::thread::Threads;
 use stream_worker::{RunRefusal, run_alone, run_parallel};
@@ -54,7 +54,8 @@ pub enum RunFault {
 /// the dump of the target's rows on `out`; or prints the line of a refusal on `err` and then nothing on `out`, unless it
 /// is `out` that can't be written. The streams run one after another where the course is `alone`, and else each in a
 /// thread of its own, and then the gate is told of each group on its way. Answers the status: 0, or 1 after a refusal,
-/// also of memory.
+/// also of memory. Nothing comes after a run, so its groups and rows aren't given back: they go with the memory of the
+/// process.
 pub fn run<R: Threads + Wait + Sync, G: Progress + Sync, W: Out, E: Out>(
     rt: &R,
     alloc: Global,
@@ -63,10 +64,8 @@ pub fn run<R: Threads + Wait + Sync, G: Progress + Sync, W: Out, E: Out>(
     out: &mut W,
     err: &mut E,
 ) -> u8
-    ensures status { (result ≡ 0) ⊎ (result ≡ 1) }
-    ensures printed { result ≡ 0 → PrintsDump (opened_asked inputs.now) (W.written out.old) (W.written out.new) }
+    ensures ends { RunEnds (opened_asked inputs.now) result (W.written out.old) (W.written out.new) (E.written err.old) (E.written err.new) }
     ensures quiet { result ≡ 0 → err.new ≡ err.old }
-    ensures refused { result ≡ 1 → PrintsRunRefusal (opened_asked inputs.now) (W.written out.old) (W.written out.new) (E.written err.old) (E.written err.new) }
 {
     match print_run(rt, alloc, inputs, gate, out) {
         Ok(()) => 0,
@@ -117,7 +116,10 @@ fn print_run<R: Threads + Wait + Sync, G: Progress + Sync, W: Out>(
     };
     let (plan, board) = filled_board(rt, alloc, inputs, gate, &given)?;
     match print_rows(out, &plan, &board) {
-        Ok(()) => Ok(()),
+        Ok(()) => {
+            forget(board);
+            Ok(())
+        }
         Err(refusal) => Err(RunFault::Given(refusal)),
     }
 }
@@ -139,8 +141,8 @@ fn filled_board<'h, R: Threads + Wait + Sync, G: Progress + Sync>(
     gate: &G,
     given: &'h [GivenFeed<'_>],
 ) -> Result<(Arc<Plan>, Board<'h>), RunFault>
-    ensures filled { IfOk result (λ filled. IsFilled (opened_bytes inputs.now.workflow.items (map given_value given.entry.now)) (record { plan = arc_value filled.0; rows = all_rows filled.1.rows })) }
-    ensures refused { IfErr result (λ fault. IsUnfilled fault (opened_bytes inputs.now.workflow.items (map given_value given.entry.now))) }
+    ensures filled { IfOk result (λ filled. IsFilled (opened_given inputs.now.workflow.items given.entry.now) (record { plan = arc_value filled.0; rows = all_rows filled.1.rows })) }
+    ensures refused { IfErr result (λ fault. IsUnfilled fault (opened_given inputs.now.workflow.items given.entry.now)) }
 {
     let course = inputs.course;
     let opened = match open_streams(rt, alloc, course.alone, &inputs.workflow, given) {
@@ -153,7 +155,10 @@ fn filled_board<'h, R: Threads + Wait + Sync, G: Progress + Sync>(
     };
     match run_streams(rt, alloc, course, gate, plans, &feeds) {
         Err(refusal) => Err(RunFault::Stream { plan, refusal }),
-        Ok(board) => Ok((plan, board)),
+        Ok(board) => {
+            forget(feeds);
+            Ok((plan, board))
+        }
     }
 }
 

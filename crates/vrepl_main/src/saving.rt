@@ -1,16 +1,14 @@
 //! The subcommand `save`: the checkpoint of the board behind a script.
 
-ghost use Rattle.std.specs.Prelude.{◌≡◌, ◌⊎◌, ◌≤◌, List, OnOk, IfErr, IfOk, length, map};
+ghost use Rattle.std.specs.Prelude.{◌≡◌, ◌≤◌, OnOk, IfErr, IfOk, length, map};
 ghost use Rattle.std.specs.Arc.{arc_value};
-ghost use Rattle.std.specs.List.{AllByRecursion};
 ghost use Rattle.apply_core.specs.Fresh.{fresh_board};
 ghost use Rattle.filter_rule.specs.WellFormed.{ArePlans};
-ghost use Rattle.vrepl_main.specs.NamedInputs.{script_asked};
 ghost use Rattle.vrepl_main.specs.OpenedFeeds.{scripted_value};
-ghost use Rattle.vrepl_main.specs.ScriptRun.{ScriptReply, answers, IsScriptStep, IsScriptRun, IsFed, IsTold};
+ghost use Rattle.vrepl_main.specs.ScriptRun.{ScriptReply, answers, IsScriptStep, IsFed, IsTold, script_asked};
 ghost use Rattle.vdiff_core.specs.Printing.{Prints};
-ghost use Rattle.vrepl_main.specs.SavedBoard.{IsSavedBehind, PrintsCheckpoint};
-ghost use Rattle.vrepl_main.specs.Command.{PrintsRefusal, RefusesCommand};
+ghost use Rattle.vrepl_main.specs.SavedBoard.{IsSavedBehind, PrintsCheckpoint, SaveEnds, IsBehind};
+ghost use Rattle.vrepl_main.specs.Command.{RefusesCommand};
 
 use crate::given::given_feeds;
 use crate::line::answer_to;
@@ -23,6 +21,7 @@ use apply_core::{Answer, Board, StepRefusal, save as checkpoint};
 use filter_rule::Plan;
 use source_feed::Feed;
 use std::alloc::{AllocError, Global};
+use std::mem::forget;
 use std::sync::Arc;
 use step_script::ScriptStep;
 use vdiff_core::{Out, OutFailed, put_all};
@@ -36,10 +35,8 @@ const MEMORY: u8 = 72;
 /// A refused step doesn't end the script, unless it is refused for want of memory: the checkpoint would be of
 /// another board then. Answers the status: 0, or 1 after a refusal, also of memory.
 pub fn save<W: Out, E: Out>(alloc: Global, inputs: &Inputs, out: &mut W, err: &mut E) -> u8
-    ensures status { (result ≡ 0) ⊎ (result ≡ 1) }
-    ensures printed { result ≡ 0 → PrintsCheckpoint (script_asked inputs.now) (W.written out.old) (W.written out.new) }
+    ensures ends { SaveEnds (script_asked inputs.now) result (W.written out.old) (W.written out.new) (E.written err.old) (E.written err.new) }
     ensures quiet { result ≡ 0 → err.new ≡ err.old }
-    ensures refused { result ≡ 1 → PrintsRefusal IsSavedBehind (script_asked inputs.now) (W.written out.old) (W.written out.new) (E.written err.old) (E.written err.new) }
 {
     match print_checkpoint(alloc, inputs, out) {
         Ok(()) => 0,
@@ -79,6 +76,8 @@ fn saved_bytes(alloc: Global, scripted: Scripted<'_>) -> Result<Vec<u8>, AllocEr
     let Opened { plans, feeds } = opened;
     let board = board_behind(alloc, plans, &feeds, &steps)?;
     let bytes = checkpoint(alloc, &board)?;
+    forget(board);
+    forget(feeds);
     Ok(bytes)
 }
 
@@ -92,7 +91,7 @@ fn board_behind<'h>(
 ) -> Result<Board<'h>, AllocError>
     requires some { 1 ≤ length plans.items }
     requires few { length plans.items ≤ 64 }
-    ensures taken { IfOk result (λ board. (replies : List ScriptReply) × IsScriptRun feeds.now (fresh_board (map arc_value plans.items)) steps.now replies board × AllByRecursion IsTold replies) }
+    ensures taken { IfOk result (IsBehind feeds.now (fresh_board (map arc_value plans.items)) steps.now) }
     ensures fed { IfOk result (λ _. IsFed feeds.now (fresh_board (map arc_value plans.items))) }
 {
     let mut board = fresh_board(alloc, plans, feeds)?;
@@ -108,7 +107,7 @@ fn take_quietly<'h>(
     feeds: &[Feed<'h>],
     steps: &[ScriptStep],
 ) -> Result<(), AllocError>
-    ensures { OnOk result ((replies : List ScriptReply) × IsScriptRun feeds.now board.old steps.now replies board.new × AllByRecursion IsTold replies) }
+    ensures { OnOk result (IsBehind feeds.now board.old steps.now board.new) }
 {
     for step in steps {
         take_one(alloc, board, feeds, *step)?;

@@ -6,10 +6,9 @@ ghost use Rattle.filter_rule.specs.WellFormed.{ArePlans};
 ghost use Rattle.step_script.specs.ScriptLines.{script_steps};
 ghost use Rattle.vrepl_main.specs.Given.{given_value};
 ghost use Rattle.vrepl_main.specs.HexText.{feed_bytes};
-ghost use Rattle.vrepl_main.specs.NamedInputs.{script_asked};
 ghost use Rattle.vrepl_main.specs.OpenedFeeds.{scripted_value};
 ghost use Rattle.vrepl_main.specs.Reasons.{GivesOfInputs};
-ghost use Rattle.vrepl_main.specs.ScriptRun.{said_steps};
+ghost use Rattle.vrepl_main.specs.ScriptRun.{said_steps, script_asked};
 
 use crate::given::GivenFeed;
 use crate::named_inputs::Inputs;

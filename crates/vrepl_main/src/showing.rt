@@ -1,10 +1,10 @@
 //! The subcommand `show`: the text of a feed's groups.
 
-ghost use Rattle.std.specs.Prelude.{◌≡◌, ◌⊎◌, OnOk, IfErr, Some};
+ghost use Rattle.std.specs.Prelude.{◌≡◌, Some};
 ghost use Rattle.vrepl_main.specs.Shown.{shown};
 ghost use Rattle.vrepl_main.specs.Show.{shown_feed, shown_bytes, shown_source};
 ghost use Rattle.vdiff_core.specs.Printing.{Prints};
-ghost use Rattle.vrepl_main.specs.Command.{IsGivenText, PrintsWhole, PrintsRefusal, RefusesCommand};
+ghost use Rattle.vrepl_main.specs.Command.{PrintsText, TextEnds};
 
 use crate::hex_text::bytes_of_hex;
 use crate::refusal::{Refusal, refuse};
@@ -30,8 +30,7 @@ fn print_bytes<W: Out>(
     shard: &str,
     out: &mut W,
 ) -> Result<(), Refusal<'static>>
-    ensures printed { OnOk result (PrintsWhole (shown_bytes (shown_source keyspace.now shard.now) (Some feed.now)) (W.written out.old) (W.written out.new)) }
-    ensures refused { IfErr result (λ refusal. RefusesCommand IsGivenText refusal (shown_bytes (shown_source keyspace.now shard.now) (Some feed.now)) (W.written out.old) (W.written out.new)) }
+    ensures { PrintsText result (shown_bytes (shown_source keyspace.now shard.now) (Some feed.now)) (W.written out.old) (W.written out.new) }
 {
     let groups = read_groups(alloc, feed, keyspace, shard)?;
     print_whole(out, &groups)?;
@@ -48,8 +47,7 @@ fn print_feed<W: Out>(
     shard: &str,
     out: &mut W,
 ) -> Result<(), Refusal<'static>>
-    ensures printed { OnOk result (PrintsWhole (shown_feed hex feed.now (shown_source keyspace.now shard.now)) (W.written out.old) (W.written out.new)) }
-    ensures refused { IfErr result (λ refusal. RefusesCommand IsGivenText refusal (shown_feed hex feed.now (shown_source keyspace.now shard.now)) (W.written out.old) (W.written out.new)) }
+    ensures { PrintsText result (shown_feed hex feed.now (shown_source keyspace.now shard.now)) (W.written out.old) (W.written out.new) }
 {
     if !hex {
         return print_bytes(alloc, feed, keyspace, shard, out);
@@ -70,10 +68,8 @@ pub fn show<W: Out, E: Out>(
     out: &mut W,
     err: &mut E,
 ) -> u8
-    ensures status { (result ≡ 0) ⊎ (result ≡ 1) }
-    ensures printed { result ≡ 0 → PrintsWhole (shown_feed hex feed.now (shown_source keyspace.now shard.now)) (W.written out.old) (W.written out.new) }
+    ensures ends { TextEnds (shown_feed hex feed.now (shown_source keyspace.now shard.now)) result (W.written out.old) (W.written out.new) (E.written err.old) (E.written err.new) }
     ensures quiet { result ≡ 0 → err.new ≡ err.old }
-    ensures refused { result ≡ 1 → PrintsRefusal IsGivenText (shown_feed hex feed.now (shown_source keyspace.now shard.now)) (W.written out.old) (W.written out.new) (E.written err.old) (E.written err.new) }
 {
     match print_feed(alloc, hex, feed, keyspace, shard, out) {
         Ok(()) => 0,

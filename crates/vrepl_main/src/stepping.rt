@@ -1,15 +1,13 @@
 //! The subcommand `step`: the steps of a script on a board.
 
-ghost use Rattle.std.specs.Prelude.{◌≡◌, ◌⊎◌, ◌≤◌, Ok, Some, OnOk, IfErr, IfOk, length, map, slice_get};
+ghost use Rattle.std.specs.Prelude.{◌≡◌, ◌≤◌, Ok, Some, IfOk, length, map, slice_get};
 ghost use Rattle.std.specs.Arc.{arc_value};
 ghost use Rattle.apply_core.specs.Fresh.{fresh_board};
 ghost use Rattle.filter_rule.specs.WellFormed.{ArePlans};
-ghost use Rattle.vrepl_main.specs.NamedInputs.{script_asked};
 ghost use Rattle.vrepl_main.specs.OpenedFeeds.{scripted_value};
-ghost use Rattle.vrepl_main.specs.ScriptRun.{IsFed};
-ghost use Rattle.vrepl_main.specs.Replied.{AreFirstReplies, PrintsReplies};
+ghost use Rattle.vrepl_main.specs.ScriptRun.{IsFed, script_asked};
 ghost use Rattle.vrepl_main.specs.ScriptPrinting.{PrintsRun};
-ghost use Rattle.vrepl_main.specs.Command.{PrintsRefusal, RefusesCommand};
+ghost use Rattle.vrepl_main.specs.Replied.{LeavesReplies, StepEnds};
 
 use crate::given::given_feeds;
 use crate::line::Basis;
@@ -22,6 +20,7 @@ use apply_core::{Board, fed_board};
 use filter_rule::Plan;
 use source_feed::Feed;
 use std::alloc::{AllocError, Global};
+use std::mem::forget;
 use std::sync::Arc;
 use step_script::ScriptStep;
 use vdiff_core::{Gathered, Out, OutFailed};
@@ -32,10 +31,8 @@ use vdiff_core::{Gathered, Out, OutFailed};
 /// first. A refused step's line is its reply, and the script goes on. Answers the status: 0, or 1 after a
 /// refusal, also of memory.
 pub fn step<W: Out, E: Out>(alloc: Global, inputs: &Inputs, out: &mut W, err: &mut E) -> u8
-    ensures status { (result ≡ 0) ⊎ (result ≡ 1) }
-    ensures printed { result ≡ 0 → PrintsReplies (script_asked inputs.now) (W.written out.old) (W.written out.new) }
+    ensures ends { StepEnds (script_asked inputs.now) result (W.written out.old) (W.written out.new) (E.written err.old) (E.written err.new) }
     ensures quiet { result ≡ 0 → err.new ≡ err.old }
-    ensures refused { result ≡ 1 → PrintsRefusal AreFirstReplies (script_asked inputs.now) (W.written out.old) (W.written out.new) (E.written err.old) (E.written err.new) }
 {
     match print_replies(alloc, inputs, out) {
         Ok(()) => 0,
@@ -49,8 +46,7 @@ fn print_replies<W: Out>(
     inputs: &Inputs,
     out: &mut W,
 ) -> Result<(), Refusal<'static>>
-    ensures printed { OnOk result (PrintsReplies (script_asked inputs.now) (W.written out.old) (W.written out.new)) }
-    ensures refused { IfErr result (λ refusal. RefusesCommand AreFirstReplies refusal (script_asked inputs.now) (W.written out.old) (W.written out.new)) }
+    ensures { LeavesReplies result (script_asked inputs.now) (W.written out.old) (W.written out.new) }
 {
     let given = given_feeds(alloc, inputs.hex, &inputs.feeds)?;
     let scripted = open_scripted(alloc, inputs, &given)?;
@@ -96,8 +92,7 @@ fn print_run<W: Out>(
     out: &mut W,
 ) -> Result<(), Refusal<'static>>
     requires { ArePlans (map arc_value scripted.opened.plans.items) }
-    ensures printed { OnOk result (PrintsReplies (Ok (scripted_value scripted.entry)) (W.written out.old) (W.written out.new)) }
-    ensures refused { IfErr result (λ refusal. RefusesCommand AreFirstReplies refusal (Ok (scripted_value scripted.entry)) (W.written out.old) (W.written out.new)) }
+    ensures { LeavesReplies result (Ok (scripted_value scripted.entry)) (W.written out.old) (W.written out.new) }
 {
     let Scripted { opened, steps } = scripted;
     let Opened { plans, feeds } = opened;
@@ -108,6 +103,8 @@ fn print_run<W: Out>(
         plan: &plan,
     };
     print_taken(alloc, &basis, &mut board, &steps, out)?;
+    forget(board);
+    forget(feeds);
     Ok(())
 }
 

@@ -1,12 +1,12 @@
 -- Why `vdiff` is refused, and what is told of it.
-use Rattle.std.proofs.Common.{◌≡◌, ◌∙◌, ap, sym, subst, ℕ, List, [], ◌∷◌, ◌⊎◌, ◌++◌, refl, inl, inr, arith, Bool, true, false, Result, Ok, Err}
+use Rattle.std.proofs.Common.{◌≡◌, ◌∙◌, ap, sym, subst, ℕ, List, [], ◌∷◌, refl, inl, inr, Bool, true, false, Result, Ok, Err}
 use Rattle.filter_rule.specs.Faults as plans
 use Rattle.filter_rule.specs.PlanValue.{PlanValue}
 use Rattle.filter_rule.specs.Reading.{plans_of}
 use Rattle.filter_rule.specs.declared.fault.PlanFault.{PlanFault}
 use Rattle.filter_rule.specs.declared.fault.PlanFault.TheVariants as errors
 use Rattle.vdiff_core.specs.DumpReading.{IsFirstBad, IsDumpReading}
-use Rattle.vdiff_core.specs.Printing.{Written, BreaksOff}
+use Rattle.vdiff_core.specs.Printing.{Written}
 use Rattle.vdiff_core.specs.RowsValue.{RowsValue}
 use Rattle.vdiff_core.specs.declared.reading.DumpFault.{DumpFault}
 use Rattle.vdiff_core.specs.declared.reading.DumpFault.TheVariants as faults
@@ -14,36 +14,35 @@ use Rattle.vrepl_main.specs.declared.refusal.Refusal.{Refusal}
 use Rattle.vrepl_main.specs.declared.refusal.Refusal.TheVariants.{Memory, Workflow, NoStream, FeedCount, Feed, BadHex, BadScript, BadDump, CannotRead, CannotWrite}
 use Rattle.vrepl_main.specs.Reasons.{bad_workflow, bad_dump}
 use Rattle.vrepl_main.specs.RefusalOf.{refusal_of_dump, refusal_of_workflow}
-use Rattle.vrepl_main.specs.Command.{IsUnwritten}
 use Rattle.vrepl_main.specs.Comparison.{AreDumps, Compared}
 use Rattle.vrepl_vdiff.specs.NamedDump.{NamedDump}
 use Rattle.vrepl_vdiff.specs.Reading.{IsNamedBad, IsOfDump}
-use Rattle.vrepl_vdiff.specs.Shown.{IsShown, PrintsShown}
+use Rattle.vrepl_vdiff.specs.Shown.{PrintsShown}
 use Rattle.vrepl_vdiff.specs.Told.{IsTold, NamesBad, RefusesShown, error_of}
 use Rattle.vrepl_vdiff.specs.ToldValue.{IsToldOf}
-use Rattle.vrepl_vdiff.specs.declared.options.Options.{Options}
 use Rattle.vrepl_vdiff.specs.declared.told.Told.{Told}
+use Rattle.vrepl_vdiff.specs.declared.inputs.VdiffInputs.{VdiffInputs}
 
 -- the workflow's fault
-refuses_workflow : (options : Options) (fault : PlanFault) (workflow : List ℕ) (source target : NamedDump) (now : Written) → plans.Fails {Y = List PlanValue} fault (plans_of workflow) → RefusesShown options workflow source target (refusal_of_workflow fault) now now
-refuses_workflow options errors.Memory workflow source target now is = refl
-refuses_workflow options errors.Json workflow source target now is = (Err (bad_workflow plans.json), is, (refl, refl))
-refuses_workflow options errors.Shape workflow source target now is = (Err (bad_workflow plans.shape), is, (refl, refl))
-refuses_workflow options errors.Limit workflow source target now is = (Err (bad_workflow plans.limit), is, (refl, refl))
-refuses_workflow options (errors.NoSuchColumn table column) workflow source target now is = (Err (bad_workflow _), is, (refl, refl))
-refuses_workflow options (errors.KeyType table column) workflow source target now is = (Err (bad_workflow _), is, (refl, refl))
-refuses_workflow options (errors.BadRule stream rule) workflow source target now is = (Err (bad_workflow _), is, (refl, refl))
-refuses_workflow options (errors.ColumnsDiffer table) workflow source target now is = (Err (bad_workflow _), is, (refl, refl))
+refuses_workflow : (fault : PlanFault) (inputs : VdiffInputs) (now : Written) → plans.Fails {Y = List PlanValue} fault (plans_of inputs.workflow.items) → RefusesShown inputs (refusal_of_workflow fault) now now
+refuses_workflow errors.Memory inputs now is = refl
+refuses_workflow errors.Json inputs now is = (Err (bad_workflow plans.json), is, (refl, refl))
+refuses_workflow errors.Shape inputs now is = (Err (bad_workflow plans.shape), is, (refl, refl))
+refuses_workflow errors.Limit inputs now is = (Err (bad_workflow plans.limit), is, (refl, refl))
+refuses_workflow (errors.NoSuchColumn table column) inputs now is = (Err (bad_workflow _), is, (refl, refl))
+refuses_workflow (errors.KeyType table column) inputs now is = (Err (bad_workflow _), is, (refl, refl))
+refuses_workflow (errors.BadRule stream rule) inputs now is = (Err (bad_workflow _), is, (refl, refl))
+refuses_workflow (errors.ColumnsDiffer table) inputs now is = (Err (bad_workflow _), is, (refl, refl))
 
-workflow_names : (fault : PlanFault) (workflow : List ℕ) (source target : NamedDump) → NamesBad workflow source target (refusal_of_workflow fault) []
-workflow_names errors.Memory workflow source target = tt
-workflow_names errors.Json workflow source target = tt
-workflow_names errors.Shape workflow source target = tt
-workflow_names errors.Limit workflow source target = tt
-workflow_names (errors.NoSuchColumn table column) workflow source target = tt
-workflow_names (errors.KeyType table column) workflow source target = tt
-workflow_names (errors.BadRule stream rule) workflow source target = tt
-workflow_names (errors.ColumnsDiffer table) workflow source target = tt
+workflow_names : (fault : PlanFault) (inputs : VdiffInputs) → NamesBad inputs (refusal_of_workflow fault) []
+workflow_names errors.Memory inputs = tt
+workflow_names errors.Json inputs = tt
+workflow_names errors.Shape inputs = tt
+workflow_names errors.Limit inputs = tt
+workflow_names (errors.NoSuchColumn table column) inputs = tt
+workflow_names (errors.KeyType table column) inputs = tt
+workflow_names (errors.BadRule stream rule) inputs = tt
+workflow_names (errors.ColumnsDiffer table) inputs = tt
 
 workflow_error : (json : Bool) (fault : PlanFault) → error_of json (refusal_of_workflow fault) [] ≡ []
 workflow_error true errors.Memory = refl
@@ -56,21 +55,21 @@ workflow_error true (errors.BadRule stream rule) = refl
 workflow_error true (errors.ColumnsDiffer table) = refl
 workflow_error false fault = refl
 
-pub told_workflow : (options : Options) (fault : PlanFault) (workflow : List ℕ) (source target : NamedDump) (now : Written) (error : List ℕ) → error ≡ [] → plans.Fails {Y = List PlanValue} fault (plans_of workflow) → IsTold options workflow source target (refusal_of_workflow fault) error now now
-told_workflow options fault workflow source target now error none is = record {
-  refuses = refuses_workflow options fault workflow source target now is;
+pub told_workflow : (inputs : VdiffInputs) (fault : PlanFault) (now : Written) (error : List ℕ) → error ≡ [] → plans.Fails {Y = List PlanValue} fault (plans_of inputs.workflow.items) → IsTold inputs (refusal_of_workflow fault) error now now
+told_workflow inputs fault now error none is = record {
+  refuses = refuses_workflow fault inputs now is;
   name = [];
-  names = workflow_names fault workflow source target;
-  is_error = none ∙ sym (workflow_error options.json fault);
+  names = workflow_names fault inputs;
+  is_error = none ∙ sym (workflow_error inputs.options.json fault);
 }
 
-module _ (options : Options) (workflow : List ℕ) (source target : NamedDump) (plan : PlanValue) (others : List PlanValue) (is : plans_of workflow ≡ Ok (plan ∷ others)) (now : Written) where
+module _ (inputs : VdiffInputs) (plan : PlanValue) (others : List PlanValue) (is : plans_of inputs.workflow.items ≡ Ok (plan ∷ others)) (now : Written) where
   -- the source's bad line
-  pub told_source : (refusal : Refusal) (error : List ℕ) → IsOfDump plan source.text refusal → error ≡ error_of options.json refusal source.name → IsTold options workflow source target refusal error now now
-  told_source Memory error bad same = record { refuses = refl; name = source.name; names = tt; is_error = same }
+  pub told_source : (refusal : Refusal) (error : List ℕ) → IsOfDump plan inputs.source.text refusal → error ≡ error_of inputs.options.json refusal inputs.source.name → IsTold inputs refusal error now now
+  told_source Memory error bad same = record { refuses = refl; name = inputs.source.name; names = tt; is_error = same }
   told_source (BadDump line) error bad same = record {
     refuses = (Err (bad_dump line), record { plan = plan; others = others; plans = is; bad = inl bad }, (refl, refl));
-    name = source.name;
+    name = inputs.source.name;
     names = record { plan = plan; others = others; plans = is; bad = inl (refl, bad) };
     is_error = same;
   }
@@ -84,11 +83,11 @@ module _ (options : Options) (workflow : List ℕ) (source target : NamedDump) (
   told_source (CannotWrite file) error bad same = absurd bad
 
   -- the target's, behind a dump of the source
-  pub told_target : (rows : RowsValue) (refusal : Refusal) (error : List ℕ) → IsDumpReading plan source.text (Ok rows) → IsOfDump plan target.text refusal → error ≡ error_of options.json refusal target.name → IsTold options workflow source target refusal error now now
-  told_target rows Memory error read bad same = record { refuses = refl; name = target.name; names = tt; is_error = same }
+  pub told_target : (rows : RowsValue) (refusal : Refusal) (error : List ℕ) → IsDumpReading plan inputs.source.text (Ok rows) → IsOfDump plan inputs.target.text refusal → error ≡ error_of inputs.options.json refusal inputs.target.name → IsTold inputs refusal error now now
+  told_target rows Memory error read bad same = record { refuses = refl; name = inputs.target.name; names = tt; is_error = same }
   told_target rows (BadDump line) error read bad same = record {
     refuses = (Err (bad_dump line), record { plan = plan; others = others; plans = is; bad = inr (rows, read, bad) }, (refl, refl));
-    name = target.name;
+    name = inputs.target.name;
     names = record { plan = plan; others = others; plans = is; bad = inr (refl, (rows, read, bad)) };
     is_error = same;
   }
@@ -102,31 +101,31 @@ module _ (options : Options) (workflow : List ℕ) (source target : NamedDump) (
   told_target rows (CannotWrite file) error read bad same = absurd bad
 
 -- memory ran out, or it can't be written
-pub told_shown : (options : Options) (workflow : List ℕ) (source target : NamedDump) (compared : Compared) (refusal : Refusal) (error : List ℕ) (old new : Written) → AreDumps workflow source.text target.text compared
-    → PrintsShown {X = ℕ} options (Err refusal) compared old new → error ≡ [] → IsTold options workflow source target refusal error old new
-told_shown options workflow source target compared Memory error old new dumps printed none = record { refuses = printed; name = []; names = tt; is_error = none ∙ sym (by options.json) }
+pub told_shown : (inputs : VdiffInputs) (compared : Compared) (refusal : Refusal) (error : List ℕ) (old new : Written) → AreDumps inputs.workflow.items inputs.source.text inputs.target.text compared
+    → PrintsShown {X = ℕ} inputs.options (Err refusal) compared old new → error ≡ [] → IsTold inputs refusal error old new
+told_shown inputs compared Memory error old new dumps printed none = record { refuses = printed; name = []; names = tt; is_error = none ∙ sym (by inputs.options.json) }
   where
     by : (json : Bool) → error_of json Memory [] ≡ []
     by true = refl
     by false = refl
-told_shown options workflow source target compared (CannotWrite file) error old new dumps (is, text, shown, broken) none = record {
+told_shown inputs compared (CannotWrite file) error old new dumps (is, text, shown, broken) none = record {
   refuses = (Ok compared, dumps, (is, (text, shown, broken)));
   name = [];
   names = tt;
-  is_error = none ∙ sym (by options.json);
+  is_error = none ∙ sym (by inputs.options.json);
 }
   where
     by : (json : Bool) → error_of json (CannotWrite file) [] ≡ []
     by true = refl
     by false = refl
-told_shown options workflow source target compared (Workflow fault) error old new dumps printed none = absurd printed.0
-told_shown options workflow source target compared NoStream error old new dumps printed none = absurd printed.0
-told_shown options workflow source target compared FeedCount error old new dumps printed none = absurd printed.0
-told_shown options workflow source target compared (Feed fault) error old new dumps printed none = absurd printed.0
-told_shown options workflow source target compared BadHex error old new dumps printed none = absurd printed.0
-told_shown options workflow source target compared (BadScript line) error old new dumps printed none = absurd printed.0
-told_shown options workflow source target compared (BadDump line) error old new dumps printed none = absurd printed.0
-told_shown options workflow source target compared (CannotRead file) error old new dumps printed none = absurd printed.0
+told_shown inputs compared (Workflow fault) error old new dumps printed none = absurd printed.0
+told_shown inputs compared NoStream error old new dumps printed none = absurd printed.0
+told_shown inputs compared FeedCount error old new dumps printed none = absurd printed.0
+told_shown inputs compared (Feed fault) error old new dumps printed none = absurd printed.0
+told_shown inputs compared BadHex error old new dumps printed none = absurd printed.0
+told_shown inputs compared (BadScript line) error old new dumps printed none = absurd printed.0
+told_shown inputs compared (BadDump line) error old new dumps printed none = absurd printed.0
+told_shown inputs compared (CannotRead file) error old new dumps printed none = absurd printed.0
 
 -- ---- a dump's fault
 

@@ -1,5 +1,5 @@
 -- What is told of a dump that isn't read.
-use Rattle.std.specs.Prelude.{◌≡◌, ℕ, Bool, List, []}
+use Rattle.std.specs.Prelude.{◌≡◌, ℕ, Bool, List}
 use Rattle.filter_rule.specs.PlanValue.{PlanValue}
 use Rattle.vdiff_core.specs.DumpReading.{IsFirstBad}
 use Rattle.vrepl_main.specs.declared.refusal.Refusal.{Refusal}

@@ -11,10 +11,10 @@ use Rattle.vrepl_main.specs.Command.{IsUnwritten}
 use Rattle.vrepl_main.specs.Comparison.{AreDumps, Compared, IsComparison}
 use Rattle.vrepl_main.specs.declared.refusal.Refusal.{Refusal}
 use Rattle.vrepl_main.specs.declared.refusal.Refusal.TheVariants.{Memory}
-use Rattle.vrepl_vdiff.specs.NamedDump.{NamedDump}
 use Rattle.vrepl_vdiff.specs.declared.options.Options.{Options}
-use Rattle.vrepl_vdiff.specs.declared.showing.Verdict.{Verdict}
-use Rattle.vrepl_vdiff.specs.declared.showing.Verdict.TheVariants.{Same, Differ}
+use Rattle.vrepl_main.specs.declared.comparing.Verdict.{Verdict}
+use Rattle.vrepl_main.specs.declared.comparing.Verdict.TheVariants.{Same, Differ}
+use Rattle.vrepl_vdiff.specs.declared.inputs.VdiffInputs.{VdiffInputs}
 
 -- ---- text
 
@@ -64,10 +64,10 @@ PrintsShown options (Err Memory) compared old new = new ≡ old
 PrintsShown options (Err refusal) compared old new = IsUnwritten refusal × (text : List ℕ) × IsShown options compared text × BreaksOff old new text
 
 -- two dumps were read, this is the verdict on them, and what the options show of them was printed
-pub record IsShownAs (options : Options) (verdict : Verdict) (workflow : List ℕ) (source target : NamedDump) (old new : Written) : Type 0 where
+pub record IsShownAs (inputs : VdiffInputs) (verdict : Verdict) (old new : Written) : Type 0 where
   pub compared : Compared
-  pub dumps : AreDumps workflow source.text target.text compared
+  pub dumps : AreDumps inputs.workflow.items inputs.source.text inputs.target.text compared
   pub is_verdict : IsVerdict verdict compared.source compared.target
   pub text : List ℕ
-  pub shown : IsShown options compared text
+  pub shown : IsShown inputs.options compared text
   pub printed : IsWritten old new text

@@ -10,5 +10,4 @@ mod vdiff;
 
 pub use inputs::{Dump, VdiffInputs};
 pub use options::Options;
-pub use showing::Verdict;
 pub use vdiff::vdiff_with;

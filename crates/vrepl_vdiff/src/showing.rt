@@ -11,16 +11,7 @@ use std::alloc::{AllocError, Global};
 use vdiff_core::{Out, Rows, first_difference, put_all};
 use vdiff_json::comparison_line;
 use vdiff_tables::{TableReport, table_reports};
-use vrepl_main::Refusal;
-
-/// How two dumps compare.
-#[derive(Clone, Copy)]
-pub enum Verdict {
-    /// They are of the same rows.
-    Same,
-    /// They differ at a key.
-    Differ,
-}
+use vrepl_main::{Refusal, Verdict};
 
 /// Prints what the options show of two sets of rows. A refusal is want of memory, and then nothing was printed, or that
 /// `out` can't be written.

@@ -1,19 +1,19 @@
 //! The subcommand `vdiff` with options.
 
-ghost use Rattle.std.specs.Prelude.{◌≡◌, ◌≢◌, ◌⊎◌, IfErr, IfOk};
+ghost use Rattle.std.specs.Prelude.{◌≡◌, ◌≢◌, IfErr, IfOk};
 ghost use Rattle.vrepl_vdiff.specs.Shown.{IsShownAs};
-ghost use Rattle.vrepl_vdiff.specs.Told.{IsTold, PrintsTold};
+ghost use Rattle.vrepl_vdiff.specs.Told.{IsTold, ShownEnds};
 ghost use Rattle.vrepl_vdiff.specs.ToldValue.{error_text};
 ghost use Rattle.vrepl_vdiff.specs.Reading.{IsNamedBad};
 ghost use Rattle.vdiff_core.specs.DumpReading.{IsDump};
-ghost use Rattle.vrepl_vdiff.specs.declared.showing.Verdict.TheVariants.{Same, Differ};
 
 use crate::inputs::{Dump, VdiffInputs};
-use crate::showing::{Verdict, print_shown, verdict_of};
+use crate::showing::{print_shown, verdict_of};
 use crate::told::{Told, refuse_told, told_of, told_of_workflow};
 use filter_rule::Plan;
 use std::alloc::Global;
 use vdiff_core::{Out, Rows, read_dump};
+use vrepl_main::Verdict;
 
 /// Compares two dumps of a workflow's tables as `vdiff` does, and prints on `out` what its options show: the line of each
 /// table above the five counts, and the first differences below them, or all of it as one object of JSON; or it prints the
@@ -25,11 +25,8 @@ pub fn vdiff_with<W: Out, E: Out>(
     out: &mut W,
     err: &mut E,
 ) -> u8
-    ensures status { (result ≡ 0) ⊎ (result ≡ 1) ⊎ (result ≡ 3) }
-    ensures same { result ≡ 0 → IsShownAs inputs.now.options Same inputs.now.workflow.items inputs.now.source inputs.now.target (W.written out.old) (W.written out.new) }
-    ensures differ { result ≡ 3 → IsShownAs inputs.now.options Differ inputs.now.workflow.items inputs.now.source inputs.now.target (W.written out.old) (W.written out.new) }
+    ensures ends { ShownEnds inputs.now result (W.written out.old) (W.written out.new) (E.written err.old) (E.written err.new) }
     ensures quiet { result ≢ 1 → err.new ≡ err.old }
-    ensures refused { result ≡ 1 → PrintsTold inputs.now.options inputs.now.workflow.items inputs.now.source inputs.now.target (W.written out.old) (W.written out.new) (E.written err.old) (E.written err.new) }
 {
     match show_vdiff(alloc, inputs, out) {
         Ok(Verdict::Same) => 0,
@@ -40,8 +37,8 @@ pub fn vdiff_with<W: Out, E: Out>(
 
 /// Prints what is shown of two dumps, or nothing where one of the files is refused.
 fn show_vdiff<W: Out>(alloc: Global, inputs: &VdiffInputs<'_>, out: &mut W) -> Result<Verdict, Told>
-    ensures shown { IfOk result (λ verdict. IsShownAs inputs.now.options verdict inputs.now.workflow.items inputs.now.source inputs.now.target (W.written out.old) (W.written out.new)) }
-    ensures refused { IfErr result (λ told. IsTold inputs.now.options inputs.now.workflow.items inputs.now.source inputs.now.target told.refusal (error_text told.error) (W.written out.old) (W.written out.new)) }
+    ensures shown { IfOk result (λ verdict. IsShownAs inputs.now verdict (W.written out.old) (W.written out.new)) }
+    ensures refused { IfErr result (λ told. IsTold inputs.now told.refusal (error_text told.error) (W.written out.old) (W.written out.new)) }
 {
     let plans = match Plan::read_all(alloc, &inputs.workflow) {
         Ok(plans) => plans,

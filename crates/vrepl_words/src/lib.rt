@@ -2,9 +2,11 @@
 #![tactic(auto)]
 
 mod commands;
+mod given;
 mod help;
 mod numbers;
 pub mod portions;
+pub mod reading;
 mod streams;
 pub mod usage;
 pub mod words;

@@ -7,7 +7,7 @@ ghost use Rattle.vrepl_words.specs.Arguments.{count_given, portion_of, refusal_g
 ghost use Rattle.vrepl_words.specs.Words.{bad_follow, bad_portion};
 
 use crate::commands::{explain_command, follow_command, run_command, vdiff_command};
-use crate::words::{given_portions, portion, portion_of};
+use crate::given::{given_portions, portion, portion_of};
 use clap::error::ErrorKind;
 use clap::{ArgMatches, Command, Error};
 use refusal_words::texts::has_text;

@@ -4,7 +4,7 @@ ghost use Rattle.std.specs.Prelude.{◌≡◌, IfOk, is_some, option_map};
 ghost use Rattle.clap.specs.Words.{found_of, rows_of};
 ghost use Rattle.vrepl_words.specs.Arguments.{are_streams, gives_streams, stream_number_of, streams_given, streams_of};
 
-use crate::words::text_if;
+use crate::given::text_if;
 use clap::ArgMatches;
 use std::alloc::{AllocError, Global};
 use vindex::natural_of;

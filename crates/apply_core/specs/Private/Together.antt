@@ -3,6 +3,8 @@ use Rattle.std.specs.Prelude.{◌≡◌, ℕ, List, [], Option, length, map, sli
 use Rattle.std.specs.Option.{option_map_or}
 use Rattle.pk_copy.specs.KeyOrder.{key_cmp}
 use Rattle.pk_copy.specs.KeyValue.{KeyValue}
+use Rattle.target_tables.specs.declared.fault.TableFault.{TableFault}
+use Rattle.target_tables.specs.declared.fault.TableFault.TheVariants as table
 use Rattle.target_tables.specs.Touches.{last_at, IsLeastClash}
 use Rattle.source_feed.specs.History.{RowValue}
 use Rattle.board_laws.specs.Meaning.{State, TargetRows, Meaning}
@@ -14,9 +16,9 @@ use Rattle.join_laws.specs.Joined.{rows_from}
 use Rattle.join_laws.specs.Compatible.{AreApart, AreCompatible}
 use Rattle.join_laws.specs.Refused.{IsFirstClash}
 use Rattle.checkpoint_laws.specs.Saved.{SavedStream}
-use Rattle.apply_core.specs.Private.Meeting.{AreFurtherMarks}
-use Rattle.apply_core.specs.declared.joining.Source.{Source}
-use Rattle.apply_core.specs.declared.joining.Source.TheVariants.{First, Second, Both}
+use Rattle.apply_core.specs.Private.Meeting.{AreFurtherSides}
+use Rattle.apply_core.specs.declared.joining.JoinSource.{JoinSource}
+use Rattle.apply_core.specs.declared.joining.JoinSource.TheVariants.{First, Second, Both}
 
 -- the rows are those of the cuts of these streams, which share no key
 pub record AreTogether (states : List State) (rows : TargetRows) : Type 0 where
@@ -36,11 +38,9 @@ abbrev pub ArePutsOfCut : State → List (KeyValue × Option RowValue) → Type 
 ArePutsOfCut state puts = (key : KeyValue) → last_at key_cmp puts key ≡ due_at state key
 
 -- the next stream isn't put to these: at the least key a lower one has a row; or want of memory
-abbrev pub IsNotPut : List State → State → JoinFault → Type 0
-IsNotPut lower state (OwnedByOther key owner) = IsLeastClash key_cmp (rows_from 0 lower) (length lower) (due_at state) key owner
-IsNotPut lower state Memory = Unit {0}
-IsNotPut lower state WrongPlan = ⊥
-IsNotPut lower state (HistoriesDiffer s) = ⊥
+abbrev pub IsNotPut : List State → State → TableFault KeyValue → Type 0
+IsNotPut lower state (table.OwnedByOther key owner) = IsLeastClash key_cmp (rows_from 0 lower) (length lower) (due_at state) key owner
+IsNotPut lower state table.Memory = Unit {0}
 
 -- the streams aren't put together
 abbrev pub AreNotTogether : List State → JoinFault → Type 0
@@ -49,8 +49,8 @@ AreNotTogether states Memory = Unit {0}
 AreNotTogether states WrongPlan = ⊥
 AreNotTogether states (HistoriesDiffer s) = ⊥
 
--- where the streams of a join come from: all from one of the boards, or from both, with the marks of those that come from the second
-abbrev pub IsSource : Meaning → Meaning → Source → Type 0
-IsSource a b First = AreCompatible a b × (all_chosen a.streams b.streams ≡ a.streams)
-IsSource a b Second = AreCompatible a b × (all_chosen a.streams b.streams ≡ b.streams)
-IsSource a b (Both marks) = AreCompatible a b × AreFurtherMarks a.streams b.streams marks.items
+-- where the streams of a join come from: all from one of the boards, or from both, each from the side on which it is further on
+abbrev pub IsJoinSource : Meaning → Meaning → JoinSource → Type 0
+IsJoinSource a b First = AreCompatible a b × (all_chosen a.streams b.streams ≡ a.streams)
+IsJoinSource a b Second = AreCompatible a b × (all_chosen a.streams b.streams ≡ b.streams)
+IsJoinSource a b (Both sides) = AreCompatible a b × AreFurtherSides a.streams b.streams sides.items

@@ -8,7 +8,7 @@ use Rattle.stream_worker.specs.declared.seat_run.Job.{Job}
 use Rattle.stream_worker.specs.declared.seat_run.Ran.{Ran}
 use Rattle.stream_worker.specs.declared.run_refusal.RunRefusal.{RunRefusal}
 use Rattle.stream_worker.specs.Knowing.{SawStreams}
-use Rattle.stream_worker.specs.SeatOf.{known, IsSeatOf}
+use Rattle.stream_worker.specs.SeatOf.{known, IsSeatOf, SawNoOther}
 use Rattle.stream_worker.specs.Worked.{Follows, HasCome, EndsSeat}
 
 -- ---- one seat
@@ -26,7 +26,7 @@ pub record IsSeated (shared : Shared) (feeds : List FeedValue) (seat : Seat) : T
 pub record IsLeft (shared : Shared) (feed : FeedValue) (before : Seat) (ran : Ran) : Type 0 where
   pub at_board : IsSeatOf shared ran.seat
   pub stream : ran.seat.stream ≡ before.stream
-  pub many : (n : ℕ) → SawStreams (known before) n → SawStreams (known ran.seat) n
+  pub many : SawNoOther before ran.seat
   pub follows : Follows feed before → Follows feed ran.seat
   pub outcome : Follows feed before → MatchOption ran.refusal (HasCome feed ran.seat) (EndsSeat feed ran.seat)
 

@@ -1,6 +1,5 @@
 -- A step of a seat's stream on its course, and how a refused one ends it (this profile).
-use Rattle.std.specs.Prelude.{◌≡◌, ◌++◌, ◌∷◌, [], ◌⊎◌, ℕ, List, Result, Ok, Err, Some, IsSomeAnd}
-use Rattle.std.specs.Arc.{arc_value}
+use Rattle.std.specs.Prelude.{◌≡◌, ◌++◌, ◌∷◌, [], ◌⊎◌, ℕ, List, Result, Ok, Err, Some}
 use Rattle.stream_core.specs.declared.step.Step.{Step}
 use Rattle.stream_core.specs.declared.step.Step.TheVariants.{Advance}
 use Rattle.source_feed.specs.Planned.{FeedValue}
@@ -16,9 +15,8 @@ use Rattle.stream_worker.specs.declared.receipt.Receipt.{Receipt}
 use Rattle.stream_worker.specs.declared.seat.Seat.{Seat}
 use Rattle.stream_worker.specs.Knowing.{Knows}
 use Rattle.stream_worker.specs.RunRefused.{IsFirstUnsoundGroup}
-use Rattle.stream_worker.specs.SeatOf.{seat_state}
-use Rattle.stream_worker.specs.Seats.{IsSeatStep, IsReceiptOf}
-use Rattle.stream_worker.specs.Worked.{MeetsRow}
+use Rattle.stream_worker.specs.Seats.{IsSeatStep}
+use Rattle.stream_worker.specs.Worked.{MeetsRow, IsLastReceipt}
 
 -- ---- one step
 
@@ -41,7 +39,7 @@ IsSeatReply feed before s step (Err (Refused refusal)) after = ((refusal ≡ Mem
 pub record IsOneMore (seat : Seat) (old new : List Receipt) : Type 0 where
   pub receipt : Receipt
   pub items : new ≡ old ++ receipt ∷ []
-  pub of_last : IsSomeAnd (seat_state seat) (λ state. IsReceiptOf seat.stream state receipt.stream receipt.number (arc_value receipt.group))
+  pub of_last : IsLastReceipt seat receipt
 
 -- the receipts behind a step: one more behind an advance that is made, and else the same
 abbrev pub AreBehind : Step → Reply → Seat → List Receipt → List Receipt → Type 0

@@ -1,5 +1,5 @@
 -- Groups that stand ready, and a turn of a stream, in which they are offered and applied while its seat holds the board.
-use Rattle.std.specs.Prelude.{◌≡◌, ◌⊎◌, ℕ, suc, ◌+◌, ◌<◌, ◌≤◌, List, [], ◌∷◌, ◌++◌, length, map, take, Option, Some, None, Ok, Err, IsSomeAnd, slice_get}
+use Rattle.std.specs.Prelude.{◌≡◌, ◌⊎◌, ℕ, suc, ◌+◌, ◌<◌, ◌≤◌, List, [], ◌∷◌, ◌++◌, length, map, take, Some, None, Ok, Err, IsSomeAnd, slice_get}
 use Rattle.std.specs.Arc.{arc_value}
 use Rattle.std.specs.Option.{option_map}
 use Rattle.pk_copy.specs.KeyOrder.{key_cmp}
@@ -97,6 +97,10 @@ pub record IsTurn (feed : FeedValue) (s : ℕ) (taken left : Laid) : Type 0 wher
   pub given : left.given ≡ taken.given
   pub follows : IsSomeAnd (slice_get taken.board s) (ReadsFeed feed) → IsSomeAnd (slice_get left.board s) (ReadsFeed feed)
 
+-- stream s of a board is so
+abbrev pub StreamIs : Laid → ℕ → (State → Type 0) → Type 0
+StreamIs laid s P = IsSomeAnd (slice_get laid.board s) P
+
 -- receipts of stream s of a board, since so many were applied
 abbrev pub AreReceiptsOn : ℕ → ℕ → Laid → List Receipt → Type 0
 AreReceiptsOn first s laid receipts = IsSomeAnd (slice_get laid.board s) (λ state. AreReceiptsSince first s state receipts)
@@ -110,3 +114,11 @@ pub record IsAhead (outline : Outlined) (readies : List Ready) (state : State) :
 pub record BeginsWith (outline : Outlined) (state : State) : Type 0 where
   pub list : take (length state.list) outline.list ≡ state.list
   pub marks : outline.marks ≡ state.marks
+
+-- with a receipt for each group that stream s had applied since some number, there is one for each
+abbrev pub KeepsReceipts : ℕ → Laid → List Receipt → Laid → List Receipt → Type 0
+KeepsReceipts s taken had left has = (first : ℕ) → AreReceiptsOn first s taken had → AreReceiptsOn first s left has
+
+-- an outline that was ahead of stream s by these begins with what it then has read
+abbrev pub KeepsOutlines : ℕ → Laid → List Ready → Laid → Type 0
+KeepsOutlines s taken readies left = (outline : Outlined) → StreamIs taken s (IsAhead outline readies) → StreamIs left s (BeginsWith outline)

@@ -1,7 +1,11 @@
-use Rattle.std.proofs.Common.{◌∙◌, map, ap, arith}
+use Rattle.std.proofs.Common.{◌∙◌, map, take, ap, sym, subst, arith}
 use Rattle.std.specs.Arc.{arc_value}
+use Rattle.stream_core.specs.Standing.{Standing}
+use Rattle.board_laws.specs.Runs.{sound_groups}
 use Rattle.added_laws.specs.Extended.{marks_of_more}
+use Rattle.apply_core.specs.Private.Adding.{IsExtendedBy}
 use Rattle.apply_core.proofs.AddLaws.{made_extended, made_stream}
+use Rattle.apply_core.proofs.StreamLaws.{stands-behind}
 use Rattle.apply_core.proofs.added_streams.extended_stream.Goals as goal
 
 pub marks_with-requires : goal.marks_with-requires
@@ -9,11 +13,14 @@ marks_with-requires c = omega (arith, c.is_sound.ensures.tables, c.requires.more
 
 pub invariant_of-result : goal.invariant_of-result
 invariant_of-result c =
-    made_stream c.args.feed.now c.args.stream.now (map arc_value c.in_ok-list.list.items) (arc_value c.in_ok-plan.plan) c.applied_of-applied.result c.in_ok-marks.marks c.in_ok-list.ensures.ok (c.in_ok-plan.ensures.cases ∙ c.plan.ensures.value)
-    c.applied_of-applied.ensures (c.in_ok-marks.ensures ∙ ap (λ n. marks_of_more n c.args.stream.now.marks) c.tables_under.ensures) c.extended_streams_are_sound.ensures.sound c.is_sound.ensures c.plan.ensures.whole c.requires c.new.result
-    (c.new.ensures.kept (map arc_value c.in_ok-list.list.items))
+    stands-behind (arc_value c.in_ok-plan.plan) (map arc_value c.in_ok-list.list.items) _ c.applied_of.result c.in_ok-marks.marks _ _ (c.in_ok-list.ensures.ok.are ∙ sym (ap (λ n. take n (sound_groups c.args.feed.now)) c.applied_of.ensures))
+    (made_stream c.args.feed.now c.args.stream.now (map arc_value c.in_ok-list.list.items) (arc_value c.in_ok-plan.plan) c.applied_of.result c.in_ok-marks.marks c.in_ok-list.ensures.ok (c.in_ok-plan.ensures.cases ∙ c.plan.ensures.value)
+    c.applied_of.ensures (c.in_ok-marks.ensures ∙ ap (λ n. marks_of_more n c.args.stream.now.marks) c.tables_under.ensures) c.extended_streams_are_sound.ensures.sound c.is_sound.ensures c.plan.ensures.whole c.requires c.new.result
+    (c.new.ensures.kept (map arc_value c.in_ok-list.list.items)))
+    _ c.cursor_behind-cursor.ensures
 
 pub returns-clause-ok : goal.returns-clause-ok
 returns-clause-ok c =
-    made_extended c.args.feed.now c.args.stream.now (map arc_value c.in_ok-list.list.items) (arc_value c.in_ok-plan.plan) c.applied_of-applied.result c.in_ok-marks.marks c.in_ok-list.ensures.ok (c.in_ok-plan.ensures.cases ∙ c.plan.ensures.value)
-    c.applied_of-applied.ensures (c.in_ok-marks.ensures ∙ ap (λ n. marks_of_more n c.args.stream.now.marks) c.tables_under.ensures)
+    subst (λ (s : Standing). IsExtendedBy c.args.feed.now c.args.stream.now (record { plan = arc_value c.in_ok-plan.plan; list = map arc_value c.in_ok-list.list.items; applied = s.applied; marks = c.in_ok-marks.marks; snapshot = s.snapshot })) (sym c.cursor_behind-cursor.ensures)
+    (made_extended c.args.feed.now c.args.stream.now (map arc_value c.in_ok-list.list.items) (arc_value c.in_ok-plan.plan) c.applied_of.result c.in_ok-marks.marks c.in_ok-list.ensures.ok (c.in_ok-plan.ensures.cases ∙ c.plan.ensures.value)
+    c.applied_of.ensures (c.in_ok-marks.ensures ∙ ap (λ n. marks_of_more n c.args.stream.now.marks) c.tables_under.ensures))

@@ -18,4 +18,4 @@ pub returns : goal.returns
 returns c =
     let seen : List Met = c.loop-key.invariant.0 in
     let all : c.args.keys ≡ seen = c.loop-key.invariant.1 ∙ ap (λ (l : List Met). seen ++ l) c.in_default.ensures ∙ append-nil seen in
-    subst (λ (l : List Met). MatchOption c.loop-key.first (NoneClash c.args.marks.now l) (λ met. IsFirstMet c.args.marks.now l met.key.now met.later met.lower)) (sym all) c.loop-key.invariant.2
+    subst (λ (l : List Met). MatchOption c.loop-key.first (NoneClash c.args.sides.now l) (λ met. IsFirstMet c.args.sides.now l met.key.now met.later met.lower)) (sym all) c.loop-key.invariant.2

@@ -12,5 +12,5 @@ returns-then-holds_all-2-clause-ok c =
     all_second (λ a b. (c.keys_tie_where_they_are_equal.ensures a b).0) c.args.a.now c.args.b.now c.is_lawful.ensures c.is_lawful-2.ensures (c.joined_boards_are_lawful.ensures.one c.args.b.now c.is_lawful-2.ensures).0 c.in-Ok.ensures.ok
     (c.holds_all-in-Ok.ensures (subst IsTrue (sym c.if-holds_all-2.true) refl))
 
-pub returns-in-Ok-mark_further-clause-ok : goal.returns-in-Ok-mark_further-clause-ok
-returns-in-Ok-mark_further-clause-ok c = (compatible c.args.a.now c.args.b.now c.in-Ok.ensures.ok c.in-Ok-mark_further.ensures.apart, c.in-Ok-mark_further.ensures.marks)
+pub returns-in-Ok-choose_sides-clause-ok : goal.returns-in-Ok-choose_sides-clause-ok
+returns-in-Ok-choose_sides-clause-ok c = (compatible c.args.a.now c.args.b.now c.in-Ok.ensures.ok c.in-Ok-choose_sides.ensures.apart, c.in-Ok-choose_sides.ensures.sides)

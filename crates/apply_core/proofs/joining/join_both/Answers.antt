@@ -17,10 +17,10 @@ invariant_of-result-in-Ok c =
     let there : c.deref_mut-in-Ok.result.now ≡ c.args.b.streams = c.deref_mut-in-Ok.ensures.value ∙ ap (λ (m : Meaning). m.streams) c.b.view_is in
     let one : c.a.inside.rows.entries ≡ c.args.a.rows = ap (λ (m : Meaning). m.rows) c.a.view_is in
     let other : c.b.inside.rows.entries ≡ c.args.b.rows = ap (λ (m : Meaning). m.rows) c.b.view_is in
-    let merged : AreMerged key_cmp c.args.marks.now c.args.a.rows c.args.b.rows c.in-Ok.rows.entries =
-    subst (λ (rs : TargetRows). AreMerged key_cmp c.args.marks.now rs c.args.b.rows c.in-Ok.rows.entries) one (subst (λ (rs : TargetRows). AreMerged key_cmp c.args.marks.now c.a.inside.rows.entries rs c.in-Ok.rows.entries) other c.in-Ok.ensures.merged) in
+    let merged : AreMerged key_cmp c.args.sides.now c.args.a.rows c.args.b.rows c.in-Ok.rows.entries =
+    subst (λ (rs : TargetRows). AreMerged key_cmp c.args.sides.now rs c.args.b.rows c.in-Ok.rows.entries) one (subst (λ (rs : TargetRows). AreMerged key_cmp c.args.sides.now c.a.inside.rows.entries rs c.in-Ok.rows.entries) other c.in-Ok.ensures.merged) in
     let rows : c.in-Ok.rows.entries ≡ rows_from 0 (all_chosen c.args.a.streams c.args.b.streams) =
-    rows_of_both (λ x y. (c.keys_tie_where_they_are_equal.ensures x y).0) c.args.a c.args.b c.args.marks.now c.is_lawful.ensures c.is_lawful-2.ensures c.requires.compatible.plans c.requires.marks c.in-Ok.rows.entries c.requires.compatible.apart merged in
+    rows_of_both (λ x y. (c.keys_tie_where_they_are_equal.ensures x y).0) c.args.a c.args.b c.args.sides.now c.is_lawful.ensures c.is_lawful-2.ensures c.requires.compatible.plans c.requires.sides c.in-Ok.rows.entries c.requires.compatible.apart merged in
     both_lawful c.args.a c.args.b _ c.in-Ok.rows.entries
     (refilled c.a.inside.streams.len c.a.inside.streams.items c.keep_all_further.new.a same ∙ c.keep_all_further.ensures ∙ ap (λ (xs : List State). all_chosen xs c.deref_mut-in-Ok.result.now) here
     ∙ ap (λ (ys : List State). all_chosen c.args.a.streams ys) there)
@@ -33,10 +33,10 @@ returns-in-Ok-clause-joined c =
     let there : c.deref_mut-in-Ok.result.now ≡ c.args.b.streams = c.deref_mut-in-Ok.ensures.value ∙ ap (λ (m : Meaning). m.streams) c.b.view_is in
     let one : c.a.inside.rows.entries ≡ c.args.a.rows = ap (λ (m : Meaning). m.rows) c.a.view_is in
     let other : c.b.inside.rows.entries ≡ c.args.b.rows = ap (λ (m : Meaning). m.rows) c.b.view_is in
-    let merged : AreMerged key_cmp c.args.marks.now c.args.a.rows c.args.b.rows c.in-Ok.rows.entries =
-    subst (λ (rs : TargetRows). AreMerged key_cmp c.args.marks.now rs c.args.b.rows c.in-Ok.rows.entries) one (subst (λ (rs : TargetRows). AreMerged key_cmp c.args.marks.now c.a.inside.rows.entries rs c.in-Ok.rows.entries) other c.in-Ok.ensures.merged) in
+    let merged : AreMerged key_cmp c.args.sides.now c.args.a.rows c.args.b.rows c.in-Ok.rows.entries =
+    subst (λ (rs : TargetRows). AreMerged key_cmp c.args.sides.now rs c.args.b.rows c.in-Ok.rows.entries) one (subst (λ (rs : TargetRows). AreMerged key_cmp c.args.sides.now c.a.inside.rows.entries rs c.in-Ok.rows.entries) other c.in-Ok.ensures.merged) in
     let rows : c.in-Ok.rows.entries ≡ rows_from 0 (all_chosen c.args.a.streams c.args.b.streams) =
-    rows_of_both (λ x y. (c.keys_tie_where_they_are_equal.ensures x y).0) c.args.a c.args.b c.args.marks.now c.is_lawful.ensures c.is_lawful-2.ensures c.requires.compatible.plans c.requires.marks c.in-Ok.rows.entries c.requires.compatible.apart merged in
+    rows_of_both (λ x y. (c.keys_tie_where_they_are_equal.ensures x y).0) c.args.a c.args.b c.args.sides.now c.is_lawful.ensures c.is_lawful-2.ensures c.requires.compatible.plans c.requires.sides c.in-Ok.rows.entries c.requires.compatible.apart merged in
     both_joined c.args.a c.args.b _ c.in-Ok.rows.entries
     (refilled c.a.inside.streams.len c.a.inside.streams.items c.keep_all_further.new.a same ∙ c.keep_all_further.ensures ∙ ap (λ (xs : List State). all_chosen xs c.deref_mut-in-Ok.result.now) here
     ∙ ap (λ (ys : List State). all_chosen c.args.a.streams ys) there)

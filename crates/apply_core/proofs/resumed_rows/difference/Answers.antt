@@ -3,6 +3,7 @@ use Rattle.std.specs.List.{AllByRecursion, filter}
 use Rattle.filter_rule.specs.PlanValue.{PlanValue}
 use Rattle.pk_copy.specs.KeyValue.{KeyValue}
 use Rattle.pk_copy.specs.Marks.{Marks, is_inside}
+use Rattle.stream_core.specs.Standing.{Standing}
 use Rattle.source_feed.specs.History.{RowValue}
 use Rattle.source_feed.specs.Image.{lent_row}
 use Rattle.board_laws.specs.Meaning.{State}
@@ -14,7 +15,7 @@ pub first_difference-requires-clause-found : goal.first_difference-requires-clau
 first_difference-requires-clause-found c =
     let planned : c.deref.result.now ≡ c.args.stream.now.plan = c.deref.ensures ∙ ap (λ (s : State). s.plan) c.stream.view_is in
     let marks = ap (λ (s : State). s.marks) c.stream.view_is in
-    let there = c.in_ok-bring.ensures.there ∙ ap (λ (s : State). s.applied) c.stream.view_is in
+    let there = c.in_ok-bring.ensures.there ∙ c.applied.ensures ∙ ap (λ (x : Standing). x.applied) c.cursor.ensures in
     let inside = c.in_ok-rows.ensures ∙ ap (λ (m : Marks). filter (λ (row : KeyValue × RowValue). is_inside m row.0) c.bring.new.image) marks in
     let pass = found_pass c.kept_rows_are_one_list.ensures.list c.args.stream.now c.bring.new.image (map lent_row c.in_ok-rows.rows.items) c.bring.new.imaged there (rw c.list.ensures at c.in_ok-bring.ensures.kept) inside in
     let cut = found_are_cut c.args.stream.now c.in_ok-rows.rows.items pass in
@@ -25,7 +26,7 @@ pub first_difference-requires-clause-of_tables : goal.first_difference-requires-
 first_difference-requires-clause-of_tables c =
     let planned : c.deref.result.now ≡ c.args.stream.now.plan = c.deref.ensures ∙ ap (λ (s : State). s.plan) c.stream.view_is in
     let marks = ap (λ (s : State). s.marks) c.stream.view_is in
-    let there = c.in_ok-bring.ensures.there ∙ ap (λ (s : State). s.applied) c.stream.view_is in
+    let there = c.in_ok-bring.ensures.there ∙ c.applied.ensures ∙ ap (λ (x : Standing). x.applied) c.cursor.ensures in
     let inside = c.in_ok-rows.ensures ∙ ap (λ (m : Marks). filter (λ (row : KeyValue × RowValue). is_inside m row.0) c.bring.new.image) marks in
     let pass = found_pass c.kept_rows_are_one_list.ensures.list c.args.stream.now c.bring.new.image (map lent_row c.in_ok-rows.rows.items) c.bring.new.imaged there (rw c.list.ensures at c.in_ok-bring.ensures.kept) inside in
     subst (λ (plan : PlanValue). AllByRecursion (λ row. IsOfTable plan row.0 row.1) (map lent_row c.deref-2.result.now)) (sym planned)
@@ -35,7 +36,7 @@ pub returns : goal.returns
 returns c =
     let planned : c.deref.result.now ≡ c.args.stream.now.plan = c.deref.ensures ∙ ap (λ (s : State). s.plan) c.stream.view_is in
     let marks = ap (λ (s : State). s.marks) c.stream.view_is in
-    let there = c.in_ok-bring.ensures.there ∙ ap (λ (s : State). s.applied) c.stream.view_is in
+    let there = c.in_ok-bring.ensures.there ∙ c.applied.ensures ∙ ap (λ (x : Standing). x.applied) c.cursor.ensures in
     let inside = c.in_ok-rows.ensures ∙ ap (λ (m : Marks). filter (λ (row : KeyValue × RowValue). is_inside m row.0) c.bring.new.image) marks in
     let pass = found_pass c.kept_rows_are_one_list.ensures.list c.args.stream.now c.bring.new.image (map lent_row c.in_ok-rows.rows.items) c.bring.new.imaged there (rw c.list.ensures at c.in_ok-bring.ensures.kept) inside in
     let cut = found_are_cut c.args.stream.now c.in_ok-rows.rows.items pass in

@@ -4,7 +4,7 @@ use Rattle.row_view.specs.FieldValue.{FieldValue}
 use Rattle.filter_rule.specs.PlanValue.{columns_of}
 use Rattle.vevent.specs.ColumnView.{field_value}
 use Rattle.checkpoint_laws.specs.Written.{fields_of_table, key_fields_of}
-use Rattle.checkpoint_core.specs.Private.Texts.{fields_at}
+use Rattle.checkpoint_core.specs.Private.WrittenTables.{fields_at}
 use Rattle.checkpoint_core.proofs.head.has_columns.Goals as goal
 
 pub returns-then-not-are_fields : goal.returns-then-not-are_fields

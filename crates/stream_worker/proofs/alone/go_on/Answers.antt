@@ -2,7 +2,7 @@ use Rattle.std.proofs.Common.{◌≡◌, ◌<◌, ◌^◌, length, Some, slice_g
 use Rattle.std.proofs.lemmas.Option.{slice_get_read}
 use Rattle.board_laws.specs.Schedule.{Reply, IsReply}
 use Rattle.stream_worker.specs.Private.Courses.{LeadsOn, IsAtEnd}
-use Rattle.stream_worker.proofs.OneStep.{stream-there, feed-few, stand-within, stand-ended, stand-refused, stand-fed, stand-others, stand-nearer}
+use Rattle.stream_worker.proofs.StreamsThatStandSo.{stream-there, feed-few, stand-within, stand-ended, stand-refused, stand-fed, stand-others, stand-nearer}
 use Rattle.stream_worker.proofs.alone.go_on.Goals as goal
 
 pub overflow_cast-groups : goal.overflow_cast-groups

@@ -1,7 +1,7 @@
 use Rattle.std.proofs.Common.{◌<◌, length, arith}
 use Rattle.std.proofs.lemmas.Option.{slice_get_within}
 use Rattle.stream_worker.specs.Ended.{AllHaveEnded}
-use Rattle.stream_worker.proofs.OneStep.{ended-more}
+use Rattle.stream_worker.proofs.StreamsThatStandSo.{ended-more}
 use Rattle.stream_worker.proofs.alone.run_board_alone.Goals as goal
 
 pub loop-s-init : goal.loop-s-init

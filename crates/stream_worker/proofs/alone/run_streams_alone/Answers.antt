@@ -1,6 +1,6 @@
 use Rattle.std.proofs.Common.{◌<◌, length, refl, arith}
 use Rattle.std.proofs.lemmas.Option.{slice_get_within}
-use Rattle.stream_worker.proofs.OneStep.{named-more, unnamed-more}
+use Rattle.stream_worker.proofs.StreamsThatStandSo.{named-more, unnamed-more}
 use Rattle.stream_worker.proofs.alone.run_streams_alone.Goals as goal
 
 pub loop-i-init : goal.loop-i-init

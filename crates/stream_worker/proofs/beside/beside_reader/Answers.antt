@@ -1,4 +1,4 @@
-use Rattle.stream_worker.proofs.SeatGoesOn.{left-unbegun}
+use Rattle.stream_worker.proofs.SeatsGoOn.{left-unbegun}
 use Rattle.stream_worker.proofs.beside.beside_reader.Goals as goal
 
 pub returns-in-Err : goal.returns-in-Err

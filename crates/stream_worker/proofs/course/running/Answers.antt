@@ -1,6 +1,6 @@
 use Rattle.std.proofs.Common.{refl, ap, arith}
 use Rattle.stream_core.specs.Standing.{is_open_at}
-use Rattle.stream_worker.proofs.CourseLaws.{running-closed, at-end}
+use Rattle.stream_worker.proofs.PhasesTellNumbers.{running-closed, at-end}
 use Rattle.stream_worker.proofs.course.running.Goals as goal
 
 pub returns-then-applied-read : goal.returns-then-applied-read

@@ -1,4 +1,4 @@
-use Rattle.stream_worker.proofs.CallLaws.{calls_go_on, applied_stay}
+use Rattle.stream_worker.proofs.CallsKeepGroups.{calls_go_on, applied_stay}
 use Rattle.stream_worker.proofs.laws.calls_keep_applied_groups.Goals as goal
 
 pub returns-clause-go_on : goal.returns-clause-go_on

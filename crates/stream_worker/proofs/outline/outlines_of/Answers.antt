@@ -1,5 +1,5 @@
 use Rattle.std.proofs.Common.{arith}
-use Rattle.stream_worker.proofs.OutlineLaws.{outlines_more}
+use Rattle.stream_worker.proofs.OutlinesStayTrue.{outlines_more}
 use Rattle.stream_worker.proofs.outline.outlines_of.Goals as goal
 
 pub loop-s-preserved : goal.loop-s-preserved

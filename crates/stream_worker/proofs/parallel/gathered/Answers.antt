@@ -4,7 +4,7 @@ use Rattle.std.specs.Option.{option_or}
 use Rattle.stream_worker.specs.declared.run_refusal.RunRefusal.{RunRefusal}
 use Rattle.stream_worker.specs.declared.seat.Seat.{Seat}
 use Rattle.stream_worker.specs.declared.seat_run.Ran.{Ran}
-use Rattle.stream_worker.proofs.ManyRuns.{first_refusal-more}
+use Rattle.stream_worker.proofs.RunsLeaveSeats.{first_refusal-more}
 use Rattle.stream_worker.proofs.parallel.gathered.Goals as goal
 
 pub loop-ran-preserved : goal.loop-ran-preserved

@@ -1,5 +1,5 @@
 use Rattle.std.proofs.Common.{refl}
-use Rattle.stream_worker.proofs.JobLaws.{jobs_pushed, seats_more}
+use Rattle.stream_worker.proofs.JobsAreSeated.{jobs_pushed, seats_more}
 use Rattle.stream_worker.proofs.parallel.jobs_of.Goals as goal
 
 pub loop-seat-preserved : goal.loop-seat-preserved

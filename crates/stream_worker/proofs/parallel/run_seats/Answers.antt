@@ -2,7 +2,7 @@ use Rattle.std.proofs.Common.{◌≡◌, ◌<◌, length, vec_len, subst, arith,
 use Rattle.std.proofs.lemmas.Option.{slice_get_within, get_or_from_slice_get}
 use Rattle.stream_worker.specs.declared.seat_run.Ran.{Ran}
 use Rattle.stream_worker.specs.Private.SeatRuns.{IsRan, AreRan}
-use Rattle.stream_worker.proofs.JobLaws.{job_ready, job_ran, if_both}
+use Rattle.stream_worker.proofs.JobsAreSeated.{job_ready, job_ran, if_both}
 use Rattle.stream_worker.proofs.parallel.run_seats.Goals as goal
 
 pub map_vec-requires-after_bounds : goal.map_vec-requires-after_bounds

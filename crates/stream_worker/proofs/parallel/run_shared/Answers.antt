@@ -1,5 +1,5 @@
-use Rattle.stream_worker.proofs.ManyRuns.{opened-seated}
-use Rattle.stream_worker.proofs.BoardRuns.{run-seats, run-fed, run-outcome, run-lowest}
+use Rattle.stream_worker.proofs.RunsLeaveSeats.{opened-seated}
+use Rattle.stream_worker.proofs.BoardsBehindRuns.{run-seats, run-fed, run-outcome, run-lowest}
 use Rattle.stream_worker.proofs.parallel.run_shared.Goals as goal
 
 pub run_seats-requires-after_bounds : goal.run_seats-requires-after_bounds

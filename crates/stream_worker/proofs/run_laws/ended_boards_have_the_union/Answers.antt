@@ -1,4 +1,4 @@
-use Rattle.stream_worker.proofs.UnionLaws.{union-kept, one-union}
+use Rattle.stream_worker.proofs.EndedBoardsHaveUnions.{union-kept, one-union}
 use Rattle.stream_worker.proofs.run_laws.ended_boards_have_the_union.Goals as goal
 
 pub returns-clause-rows : goal.returns-clause-rows

@@ -1,7 +1,7 @@
 use Rattle.std.proofs.Common.{length, get_or, Some, refl, ap, ◌∙◌}
 use Rattle.std.proofs.lemmas.Option.{slice_get_read}
 use Rattle.source_feed.specs.Planned.{FeedValue}
-use Rattle.stream_worker.proofs.SeatGoesOn.{has-feed, ran}
+use Rattle.stream_worker.proofs.SeatsGoOn.{has-feed, ran}
 use Rattle.stream_worker.proofs.seat_run.run_seat.Goals as goal
 
 pub returns : goal.returns

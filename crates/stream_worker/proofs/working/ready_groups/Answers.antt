@@ -1,7 +1,7 @@
 use Rattle.std.proofs.Common.{ℕ, [], ◌∷◌, List, length, length-append, ap, sym, subst, ◌∙◌, arith}
 use Rattle.stream_worker.specs.declared.ready.Ready.{Ready}
 use Rattle.stream_worker.specs.Private.Turns.{IsReady, AreReady}
-use Rattle.stream_worker.proofs.TurnLaws.{ready-push}
+use Rattle.stream_worker.proofs.TurnsTakeGroupsIn.{ready-push}
 use Rattle.stream_worker.proofs.working.ready_groups.Goals as goal
 
 pub loop-next-preserved : goal.loop-next-preserved

@@ -1,6 +1,6 @@
 use Rattle.std.proofs.Common.{refl}
 use Rattle.stream_core.specs.declared.step.Step.TheVariants.{Offer}
-use Rattle.stream_worker.proofs.SeatGoesOn.{sits-refused}
+use Rattle.stream_worker.proofs.SeatsGoOn.{sits-refused}
 use Rattle.stream_worker.proofs.working.take_in.Goals as goal
 
 pub returns-in-Err-clause-refused : goal.returns-in-Err-clause-refused

@@ -1,11 +1,10 @@
-use Rattle.std.proofs.Common.{◌≡◌, ℕ}
-use Rattle.stream_worker.specs.Knowing.{SawStreams}
-use Rattle.stream_worker.specs.SeatOf.{known, IsSeatOf}
+use Rattle.std.proofs.Common.{◌≡◌}
+use Rattle.stream_worker.specs.SeatOf.{IsSeatOf, SawNoOther}
 use Rattle.stream_worker.specs.Worked.{Follows, AreReceipts}
 use Rattle.stream_worker.proofs.working.work.Given as goal
 
 -- the seat is at its board, with a receipt for each group that was applied; what stands ready is of the feed
 abbrev pub invariant-loop : goal.invariant-loop
 invariant-loop g l =
-    IsSeatOf l.shared l.seat × (l.seat.stream ≡ l.initial.seat.stream) × ((n : ℕ) → SawStreams (known l.initial.seat) n → SawStreams (known l.seat) n)
+    IsSeatOf l.shared l.seat × (l.seat.stream ≡ l.initial.seat.stream) × SawNoOther l.initial.seat l.seat
     × AreReceipts l.initial.seat.cursor.applied l.seat l.receipts.items × (Follows l.feed l.initial.seat → Follows l.feed l.seat) × (g.A.Ahead.feed l.ahead ≡ l.feed)

@@ -1,7 +1,7 @@
 use Rattle.std.proofs.Common.{◌≡◌, ℕ, true, not, List, get_or, ap, ◌∙◌, sym}
 use Rattle.std.specs.Prelude.{is_some}
 use Rattle.target_tables.specs.Pages.{entries_of, flat, StandsAt}
-use Rattle.target_tables.specs.declared.survey.Verdict.TheVariants.{Foreign}
+use Rattle.target_tables.specs.declared.survey.ChangeVerdict.TheVariants.{Foreign}
 use Rattle.target_tables.proofs.Judging.{verdict_new, judged_own, judged_other}
 use Rattle.target_tables.proofs.Placed.{none_here}
 use Rattle.target_tables.proofs.survey.judge.Goals as goal

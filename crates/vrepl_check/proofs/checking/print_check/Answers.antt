@@ -6,13 +6,13 @@ use Rattle.vrepl_check.specs.Checking.{text_of_report}
 use Rattle.vrepl_check.proofs.CheckingLaws.{refuses_behind, warned_as}
 use Rattle.vrepl_check.proofs.checking.print_check.Goals as goal
 
-pub returns-in_err-report-clause-refused : goal.returns-in_err-report-clause-refused
-returns-in_err-report-clause-refused g c =
+pub returns-in_err-report-clause-printed : goal.returns-in_err-report-clause-printed
+returns-in_err-report-clause-printed g c =
     let p = err_from_is_err_and c.from_residual.result c.from_residual.ensures.1 in
     rw (p.1, p.2) (refuses IsGivenText _ _ _ (refuses_behind c.in_err-report.field-0.0 _ (λ r. Ok r.text) c.in_err-report.ensures))
 
-pub returns-in_err-put_all-clause-refused : goal.returns-in_err-put_all-clause-refused
-returns-in_err-put_all-clause-refused g c =
+pub returns-in_err-put_all-clause-printed : goal.returns-in_err-put_all-clause-printed
+returns-in_err-put_all-clause-printed g c =
     let p = err_from_is_err_and c.from_residual-in_err-put_all.result c.from_residual-in_err-put_all.ensures.1 in
     rw p.1 (refuses_unwritten IsGivenText p.0 _ _ _ _ _ (ap text_of_report c.in_ok-report.ensures) refl (rw (c.as_bytes.ensures.value, c.text.ensures) at c.in_err-put_all.ensures) p.2)
 

@@ -1,7 +1,7 @@
 use Rattle.std.specs.Arc.{arc_value}
-use Rattle.vrepl_main.specs.NamedInputs.{follow_asked, saved_asked}
 use Rattle.vrepl_main.specs.OpenedFeeds.{opened_value}
 use Rattle.vrepl_main.proofs.FollowLaws.{followed_by}
+use Rattle.vrepl_main.specs.Followed.{follow_asked, saved_asked}
 use Rattle.vrepl_main.proofs.following.follow.Goals as goal
 
 pub returns-clause-followed : goal.returns-clause-followed

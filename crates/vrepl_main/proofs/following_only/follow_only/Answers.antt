@@ -1,7 +1,8 @@
 use Rattle.std.specs.Arc.{arc_value}
-use Rattle.vrepl_main.specs.NamedInputs.{only_asked, saved_asked}
 use Rattle.vrepl_main.specs.OpenedFeeds.{opened_value}
 use Rattle.vrepl_main.proofs.FollowLaws.{only_followed_by}
+use Rattle.vrepl_main.specs.OnlyFollowed.{only_asked}
+use Rattle.vrepl_main.specs.Followed.{saved_asked}
 use Rattle.vrepl_main.proofs.following_only.follow_only.Goals as goal
 
 pub returns-clause-followed : goal.returns-clause-followed

@@ -7,7 +7,7 @@ use Rattle.vrepl_main.proofs.joining.print_joined.Goals as goal
 pub returns-in_err-bytes-clause-refused : goal.returns-in_err-bytes-clause-refused
 returns-in_err-bytes-clause-refused g c =
     let p = err_from_is_err_and c.from_residual.result c.from_residual.ensures.1 in
-    rw (p.1, p.2) (refuses_join c.in_err-bytes.field-0.0 _ _ _ _ c.in_err-bytes.ensures.refused)
+    rw (p.1, p.2) (refuses_join c.in_err-bytes.field-0.0 c.args.inputs.now _ c.in_err-bytes.ensures.refused)
 
 pub returns-in-Ok-clause-printed : goal.returns-in-Ok-clause-printed
 returns-in-Ok-clause-printed g c = (c.in_ok-bytes.bytes.items, c.in_ok-bytes.ensures.saved, rw c.deref.ensures.value at c.in-Ok.ensures)

@@ -3,19 +3,19 @@ use Rattle.std.specs.Arc.{arc_value}
 use Rattle.vrepl_main.proofs.ResumeLaws.{prints_all, prints_first}
 use Rattle.vrepl_main.proofs.resuming.print_resumed.Goals as goal
 
-pub returns-in-Err-clause-refused : goal.returns-in-Err-clause-refused
-returns-in-Err-clause-refused g c =
+pub returns-in-Err : goal.returns-in-Err
+returns-in-Err g c =
     (record { first = rw c.deref.ensures.value at c.in-Ok.ensures; refused = rw (c.deref-2.ensures.value, c.deref-3.ensures.value) at c.in-Err.ensures.refused }, refl)
 
-pub returns-in-Ok-print_taken-clause-printed : goal.returns-in-Ok-print_taken-clause-printed
-returns-in-Ok-print_taken-clause-printed g c =
+pub returns-in-Ok-print_taken : goal.returns-in-Ok-print_taken
+returns-in-Ok-print_taken g c =
     let given = c.args.scripted in
     prints_all (map arc_value given.opened.plans.items) given.opened.feeds.items given.steps.items c.args.checkpoint.now (arc_value c.in-Ok.plan) _ _ _ (rw c.deref.ensures.value at c.in-Ok.ensures)
     (rw c.deref-3.ensures.value at c.in-Ok-resumed_board.ensures.resumed) (record { lawful = c.in-Ok-resumed_board.ensures.lawful; reads = rw c.deref-3.ensures.value at c.in-Ok-resumed_board.ensures.reads })
     (rw (c.deref-4.ensures.value, c.deref-5.ensures, c.deref-6.ensures.value) at c.in-Ok-print_taken.ensures)
 
-pub returns-clause-refused : goal.returns-clause-refused
-returns-clause-refused g c =
+pub returns : goal.returns
+returns g c =
     let given = c.args.scripted in (
       refl,
       prints_first (map arc_value given.opened.plans.items) given.opened.feeds.items given.steps.items c.args.checkpoint.now (arc_value c.in-Ok.plan) _ _ _ (rw c.deref.ensures.value at c.in-Ok.ensures)

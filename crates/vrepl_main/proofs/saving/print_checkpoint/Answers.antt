@@ -1,4 +1,3 @@
-use Rattle.std.proofs.Common.{sym}
 use Rattle.std.proofs.lemmas.Result.{err_from_is_err_and}
 use Rattle.vrepl_main.specs.OpenedFeeds.{scripted_value}
 use Rattle.vrepl_main.specs.SavedBoard.{IsSavedBehind}

@@ -5,15 +5,15 @@ use Rattle.vrepl_main.specs.Show.{shown_groups}
 use Rattle.vrepl_main.proofs.CommandLaws.{PrintsWhole-text, RefusesInputs-feed, refuses, refuses_unwritten}
 use Rattle.vrepl_main.proofs.showing.print_bytes.Goals as goal
 
-pub returns-in_err-groups-clause-refused : goal.returns-in_err-groups-clause-refused
-returns-in_err-groups-clause-refused g c =
+pub returns-in_err-groups : goal.returns-in_err-groups
+returns-in_err-groups g c =
     let p = err_from_is_err_and c.from_residual.result c.from_residual.ensures.1 in
     rw (p.1, p.2) (refuses IsGivenText _ _ _ (RefusesInputs-feed c.in_err-groups.field-0.0 _ c.in_err-groups.ensures.exact))
 
-pub returns-in_err-print_whole-clause-refused : goal.returns-in_err-print_whole-clause-refused
-returns-in_err-print_whole-clause-refused g c =
+pub returns-in_err-print_whole : goal.returns-in_err-print_whole
+returns-in_err-print_whole g c =
     let p = err_from_is_err_and c.from_residual-in_err-print_whole.result c.from_residual-in_err-print_whole.ensures.1 in
     rw p.1 (refuses_unwritten IsGivenText p.0 _ _ _ _ _ (ap shown_groups c.in_ok-groups.ensures.exact) refl (rw c.deref.ensures.value at c.in_err-print_whole.ensures) p.2)
 
-pub returns-clause-printed : goal.returns-clause-printed
-returns-clause-printed g c = PrintsWhole-text _ _ _ _ (ap shown_groups c.in_ok-groups.ensures.exact) (rw c.deref.ensures.value at c.in_ok-print_whole.ensures)
+pub returns : goal.returns
+returns g c = PrintsWhole-text _ _ _ _ (ap shown_groups c.in_ok-groups.ensures.exact) (rw c.deref.ensures.value at c.in_ok-print_whole.ensures)

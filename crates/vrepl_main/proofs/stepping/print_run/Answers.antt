@@ -11,15 +11,15 @@ fresh_board-requires-clause-some g c = subst (λ (n : ℕ). 1 ≤ n) (length-map
 pub fresh_board-requires-clause-few : goal.fresh_board-requires-clause-few
 fresh_board-requires-clause-few g c = subst (λ (n : ℕ). n ≤ 64) (length-map c.args.scripted.opened.plans.items arc_value) c.requires.count.1
 
-pub returns-in_err-print_taken-clause-refused : goal.returns-in_err-print_taken-clause-refused
-returns-in_err-print_taken-clause-refused g c =
+pub returns-in_err-print_taken : goal.returns-in_err-print_taken
+returns-in_err-print_taken g c =
     let given = c.args.scripted in
     let p = err_from_is_err_and c.from_residual-in_err-print_taken.result c.from_residual-in_err-print_taken.ensures.1 in
     rw p.1 (prints_first (map arc_value given.opened.plans.items) given.opened.feeds.items given.steps.items (arc_value c.in_ok-plan.plan) _ _ _ (rw c.deref.ensures.value at c.in_ok-plan.ensures) c.in_ok-board.ensures.fresh (rw c.deref-2.ensures.value at c.in_ok-board.ensures.fed) p.0 p.2
     (rw (c.deref-3.ensures.value, c.deref-4.ensures, c.deref-5.ensures.value) at c.in_err-print_taken.ensures))
 
-pub returns-clause-printed : goal.returns-clause-printed
-returns-clause-printed g c =
+pub returns : goal.returns
+returns g c =
     let given = c.args.scripted in
     prints_all (map arc_value given.opened.plans.items) given.opened.feeds.items given.steps.items (arc_value c.in_ok-plan.plan) _ _ _ (rw c.deref.ensures.value at c.in_ok-plan.ensures) c.in_ok-board.ensures.fresh (rw c.deref-2.ensures.value at c.in_ok-board.ensures.fed)
     (rw (c.deref-3.ensures.value, c.deref-4.ensures, c.deref-5.ensures.value) at c.in_ok-print_taken.ensures)

@@ -1,4 +1,3 @@
-use Rattle.std.proofs.Common.{refl}
 use Rattle.std.proofs.lemmas.Result.{err_from_is_err_and}
 use Rattle.vrepl_main.specs.Comparison.{Compared}
 use Rattle.vrepl_vdiff.proofs.ShownLaws.{shown_json, shown_text, unwritten_shown}

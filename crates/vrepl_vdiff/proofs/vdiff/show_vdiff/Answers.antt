@@ -10,7 +10,7 @@ use Rattle.vrepl_vdiff.proofs.vdiff.show_vdiff.Goals as goal
 
 pub returns-in-Err-clause-refused : goal.returns-in-Err-clause-refused
 returns-in-Err-clause-refused g c =
-    rw (c.told_of_workflow.ensures.0, c.told_of_workflow.ensures.1) (told_workflow c.args.inputs.now.options c.in-Err.fault c.args.inputs.now.workflow.items c.args.inputs.now.source c.args.inputs.now.target _ _ refl (rw c.deref.ensures.value at c.in-Err.ensures.reads))
+    rw (c.told_of_workflow.ensures.0, c.told_of_workflow.ensures.1) (told_workflow c.args.inputs.now c.in-Err.fault _ _ refl (rw c.deref.ensures.value at c.in-Err.ensures.reads))
 
 pub returns-in_err-ours-clause-refused : goal.returns-in_err-ours-clause-refused
 returns-in_err-ours-clause-refused g c =
@@ -18,7 +18,7 @@ returns-in_err-ours-clause-refused g c =
     let is = first_plan arc_value (plans_of c.args.inputs.now.workflow.items) c.in-Ok.plans.items c.index-plan.result.now (rw c.deref.ensures.value at c.in-Ok.ensures.reads) (subst (λ (n : ℕ). 1 ≤ n) (length-map c.in-Ok.plans.items arc_value) c.in-Ok.ensures.well_formed.count.0) c.index-plan.ensures in
     let p = err_from_is_err_and c.from_residual.result c.from_residual.ensures.1 in
     let bad = rw c.deref-2.ensures at c.in_err-ours.ensures.refused in
-    rw (p.1, p.2) (told_source c.args.inputs.now.options c.args.inputs.now.workflow.items c.args.inputs.now.source c.args.inputs.now.target plan _ is _ c.in_err-ours.field-0.0.refusal _ bad.0 bad.1)
+    rw (p.1, p.2) (told_source c.args.inputs.now plan _ is _ c.in_err-ours.field-0.0.refusal _ bad.0 bad.1)
 
 pub returns-in_err-theirs-clause-refused : goal.returns-in_err-theirs-clause-refused
 returns-in_err-theirs-clause-refused g c =
@@ -26,7 +26,7 @@ returns-in_err-theirs-clause-refused g c =
     let is = first_plan arc_value (plans_of c.args.inputs.now.workflow.items) c.in-Ok.plans.items c.index-plan.result.now (rw c.deref.ensures.value at c.in-Ok.ensures.reads) (subst (λ (n : ℕ). 1 ≤ n) (length-map c.in-Ok.plans.items arc_value) c.in-Ok.ensures.well_formed.count.0) c.index-plan.ensures in
     let p = err_from_is_err_and c.from_residual-in_err-theirs.result c.from_residual-in_err-theirs.ensures.1 in
     let bad = rw c.deref-3.ensures at c.in_err-theirs.ensures.refused in
-    rw (p.1, p.2) (told_target c.args.inputs.now.options c.args.inputs.now.workflow.items c.args.inputs.now.source c.args.inputs.now.target plan _ is _ c.in_ok-ours.ours c.in_err-theirs.field-0.0.refusal _ (rw c.deref-2.ensures at c.in_ok-ours.ensures.read) bad.0 bad.1)
+    rw (p.1, p.2) (told_target c.args.inputs.now plan _ is _ c.in_ok-ours.ours c.in_err-theirs.field-0.0.refusal _ (rw c.deref-2.ensures at c.in_ok-ours.ensures.read) bad.0 bad.1)
 
 pub returns-in_err-print_shown-clause-refused : goal.returns-in_err-print_shown-clause-refused
 returns-in_err-print_shown-clause-refused g c =
@@ -40,7 +40,7 @@ returns-in_err-print_shown-clause-refused g c =
       target_read = rw c.deref-3.ensures at c.in_ok-theirs.ensures.read;
     } in
     let p = err_from_is_err_and c.from_residual-in_err-print_shown.result c.from_residual-in_err-print_shown.ensures.1 in
-    rw (p.1, p.2.0, p.2.1) (told_shown c.args.inputs.now.options c.args.inputs.now.workflow.items c.args.inputs.now.source c.args.inputs.now.target compared c.in_err-print_shown.field-0.0 _ _ _ dumps (rw c.deref-4.ensures at c.in_err-print_shown.ensures) refl)
+    rw (p.1, p.2.0, p.2.1) (told_shown c.args.inputs.now compared c.in_err-print_shown.field-0.0 _ _ _ dumps (rw c.deref-4.ensures at c.in_err-print_shown.ensures) refl)
 
 pub returns-clause-shown : goal.returns-clause-shown
 returns-clause-shown g c =

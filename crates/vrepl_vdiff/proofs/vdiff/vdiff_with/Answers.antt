@@ -1,12 +1,19 @@
+use Rattle.vrepl_main.proofs.CommandLaws.{ends_found, ends_printed, ends_refused}
 use Rattle.vrepl_vdiff.specs.ToldValue.{error_text}
 use Rattle.vrepl_vdiff.proofs.vdiff.vdiff_with.Goals as goal
 
-pub returns-in-Err-clause-refused : goal.returns-in-Err-clause-refused
-returns-in-Err-clause-refused g c = λ one. record {
+pub returns-in-Ok-Same-clause-ends : goal.returns-in-Ok-Same-clause-ends
+returns-in-Ok-Same-clause-ends g c = ends_printed _ _ _ (rw c.in-Ok-Same.field-0-is at c.in-Ok-Same.ensures.shown)
+
+pub returns-in-Ok-Differ-clause-ends : goal.returns-in-Ok-Differ-clause-ends
+returns-in-Ok-Differ-clause-ends g c = ends_found _ _ _ (rw c.in-Ok-Differ.field-0-is at c.in-Ok-Differ.ensures.shown)
+
+pub returns-in-Err-clause-ends : goal.returns-in-Err-clause-ends
+returns-in-Err-clause-ends g c = ends_refused _ _ _ _ c.refuse_told.ensures.status (record {
   refusal = c.in-Err.told.refusal;
   error = error_text c.in-Err.told.error;
   told = c.in-Err.ensures.refused;
   between = c.refuse_told.ensures.lines.0;
   line = c.refuse_told.ensures.lines.1;
   behind = c.refuse_told.ensures.lines.2;
-}
+})

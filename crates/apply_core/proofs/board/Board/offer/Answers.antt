@@ -11,10 +11,10 @@ pub invariant_of-self : goal.invariant_of-self
 invariant_of-self c =
     let same : length c.offer_to.new.streams ≡ c.self.inside.streams.len = omega (arith, c.offer_to.auto.streams, c.deref_mut.ensures.len) in
     lent-lawful c.steps_keep_boards_lawful.ensures.still c.self.inside.streams.items c.self.inside.rows.entries c.args.s (offer (arc_value c.args.group)) (answered Offered c.offer_to.result) c.deref_mut.result.now c.offer_to.new.streams
-    c.deref_mut.ensures.value c.self.invariant (subst IsPrepared c.deref.ensures c.touches-touches.ensures.whole) (λ state key. refl) c.offer_to.ensures c.self.inside.streams.len same
+    c.deref_mut.ensures.value c.self.invariant (subst IsPrepared c.deref.ensures c.know_group.ensures) (λ state key. refl) c.offer_to.ensures c.self.inside.streams.len same
 
 pub returns : goal.returns
 returns c =
     let same : length c.offer_to.new.streams ≡ c.self.inside.streams.len = omega (arith, c.offer_to.auto.streams, c.deref_mut.ensures.len) in
     lent-step c.steps_keep_boards_lawful.ensures.still c.self.inside.streams.items c.self.inside.rows.entries c.args.s (offer (arc_value c.args.group)) (answered Offered c.offer_to.result) c.deref_mut.result.now c.offer_to.new.streams
-    c.deref_mut.ensures.value c.self.invariant (subst IsPrepared c.deref.ensures c.touches-touches.ensures.whole) (λ state key. refl) c.offer_to.ensures c.self.inside.streams.len same c.args.self.now c.self.view_is
+    c.deref_mut.ensures.value c.self.invariant (subst IsPrepared c.deref.ensures c.know_group.ensures) (λ state key. refl) c.offer_to.ensures c.self.inside.streams.len same c.args.self.now c.self.view_is

@@ -9,4 +9,4 @@ move_to-requires c =
 pub invariant_of-self-in-Some : goal.invariant_of-self-in-Some
 invariant_of-self-in-Some c =
     moved-stream _ _ c.self-else-copied.view_is c.args._c c.args.step c.requires.moves c.in-Some.key c.in-Some.is _ c.move_to.ensures.moved c.if-copied.false
-    c.steps_keep_boards_lawful.ensures.sound c.requires.allowed _ _ c.self-else-copied.invariant
+    c.steps_keep_boards_lawful.ensures.sound c.requires.allowed _ _ _ c.self-else-copied.invariant

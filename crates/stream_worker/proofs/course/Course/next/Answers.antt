@@ -1,5 +1,5 @@
 use Rattle.std.proofs.Common.{sym, ◌∙◌}
-use Rattle.stream_worker.proofs.CourseLaws.{copy-reached, forward-ahead}
+use Rattle.stream_worker.proofs.PhasesTellNumbers.{copy-reached, forward-ahead}
 use Rattle.stream_worker.proofs.course.Course.next.Goals as goal
 
 pub returns-in-Running : goal.returns-in-Running

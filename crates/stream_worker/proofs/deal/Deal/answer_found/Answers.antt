@@ -7,7 +7,7 @@ use Rattle.board_laws.specs.declared.refusal.Refusal.{Refusal}
 use Rattle.board_laws.specs.Event.{offer}
 use Rattle.stream_worker.specs.Private.FoundGroups.{answer_of}
 use Rattle.stream_worker.specs.Seats.{IsBoardStep}
-use Rattle.stream_worker.proofs.FoundLaws.{found-step}
+use Rattle.stream_worker.proofs.ReadGroupsAreAnswered.{found-step}
 use Rattle.stream_worker.proofs.deal.Deal.answer_found.Goals as goal
 
 pub returns : goal.returns

@@ -1,6 +1,6 @@
 use Rattle.std.proofs.Common.{sym, subst, refl}
 use Rattle.std.specs.Prelude.{IsOk}
-use Rattle.stream_worker.proofs.BoardSteps.{advance_by_table, advance_wants}
+use Rattle.stream_worker.proofs.StepsOfOneStream.{advance_by_table, advance_wants}
 use Rattle.stream_worker.proofs.deal.Deal.judge_advance.Goals as goal
 
 pub returns-in-Err : goal.returns-in-Err

@@ -6,7 +6,7 @@ use Rattle.board_laws.specs.Event.{offer}
 use Rattle.board_laws.specs.Step.{answered, IsStep}
 use Rattle.stream_worker.specs.Knowing.{Laid}
 use Rattle.stream_worker.specs.Seats.{IsBoardStep}
-use Rattle.stream_worker.proofs.BoardSteps.{of_step}
+use Rattle.stream_worker.proofs.StepsOfOneStream.{of_step}
 use Rattle.stream_worker.proofs.deal.Deal.judge_offer.Goals as goal
 
 pub returns : goal.returns

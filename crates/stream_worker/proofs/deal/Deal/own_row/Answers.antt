@@ -3,7 +3,7 @@ use Rattle.std.specs.Option.{option_map}
 use Rattle.target_tables.specs.Contents.{standing}
 use Rattle.stream_worker.specs.Knowing.{Laid}
 use Rattle.stream_worker.specs.Seats.{own_cut}
-use Rattle.stream_worker.proofs.BoardSteps.{own_none, own_else, own_found}
+use Rattle.stream_worker.proofs.StepsOfOneStream.{own_none, own_else, own_found}
 use Rattle.stream_worker.proofs.deal.Deal.own_row.Goals as goal
 
 pub returns-in-None : goal.returns-in-None

@@ -1,7 +1,7 @@
 use Rattle.std.proofs.Common.{length, ap, arith}
 use Rattle.std.proofs.lemmas.Result.{err_from_is_err_and}
 use Rattle.std.specs.Vec.Iter.{into_iter_items}
-use Rattle.stream_worker.proofs.TurnLaws.{next-ready, more-turn, more-caught, more-ahead, more-receipts, end-turn, end-receipts, end-begins, end-ends, ahead-begins}
+use Rattle.stream_worker.proofs.TurnsTakeGroupsIn.{more-turn, more-caught, more-ahead, more-receipts, end-turn, end-receipts, end-begins, end-ends, ahead-begins}
 use Rattle.stream_worker.proofs.deal.Deal.take_in_all.Goals as goal
 
 pub returns-in_err-receipt-clause-turn : goal.returns-in_err-receipt-clause-turn

@@ -1,4 +1,4 @@
-use Rattle.stream_worker.proofs.Steps.{merges_some}
+use Rattle.stream_worker.proofs.PassesKeepTheRule.{merges_some}
 use Rattle.stream_worker.proofs.lock.Lock.join.Goals as goal
 
 pub absorb-requires-clause-rule : goal.absorb-requires-clause-rule

@@ -1,4 +1,4 @@
-use Rattle.stream_worker.proofs.Steps.{forks}
+use Rattle.stream_worker.proofs.PassesKeepTheRule.{forks}
 use Rattle.stream_worker.proofs.lock.Lock.pass.Goals as goal
 
 pub another-requires-clause-rule : goal.another-requires-clause-rule

@@ -1,5 +1,5 @@
 use Rattle.std.proofs.Common.{rules}
-use Rattle.stream_worker.proofs.Steps.{puts}
+use Rattle.stream_worker.proofs.PassesKeepTheRule.{puts}
 use Rattle.stream_worker.proofs.lock.Lock.put_back.Goals as goal
 
 pub try_send_as-requires-clause-rule : goal.try_send_as-requires-clause-rule

@@ -1,4 +1,4 @@
-use Rattle.stream_worker.proofs.Steps.{takes}
+use Rattle.stream_worker.proofs.PassesKeepTheRule.{takes}
 use Rattle.stream_worker.proofs.lock.Lock.take.Goals as goal
 
 pub try_recv_as-requires-clause-rule : goal.try_recv_as-requires-clause-rule

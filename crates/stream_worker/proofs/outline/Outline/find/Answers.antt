@@ -3,7 +3,7 @@ use Rattle.std.proofs.lemmas.Bool.{ltb-true}
 use Rattle.std.proofs.lemmas.Option.{slice_get-map, slice_get_read}
 use Rattle.std.specs.Arc.{arc_value}
 use Rattle.std.specs.Option.{option_map}
-use Rattle.stream_worker.proofs.FoundLaws.{found_in}
+use Rattle.stream_worker.proofs.ReadGroupsAreAnswered.{found_in}
 use Rattle.stream_worker.proofs.outline.Outline.find.Goals as goal
 
 pub returns-in-Some : goal.returns-in-Some

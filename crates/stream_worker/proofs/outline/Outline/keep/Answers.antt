@@ -3,7 +3,7 @@ use Rattle.std.specs.Arc.{arc_value}
 use Rattle.std.specs.List.{take-map}
 use Rattle.source_feed.specs.Touches.{PreparedValue}
 use Rattle.stream_worker.specs.Outlines.{Outlined}
-use Rattle.stream_worker.proofs.OutlineLaws.{outlined}
+use Rattle.stream_worker.proofs.OutlinesStayTrue.{outlined}
 use Rattle.stream_worker.proofs.outline.Outline.keep.Goals as goal
 
 pub returns : goal.returns

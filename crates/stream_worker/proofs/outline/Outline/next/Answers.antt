@@ -5,7 +5,7 @@ use Rattle.std.specs.Arc.{arc_value}
 use Rattle.std.specs.Option.{option_map}
 use Rattle.source_feed.specs.Touches.{PreparedValue}
 use Rattle.board_laws.specs.Touching.{left_by}
-use Rattle.stream_worker.proofs.OutlineLaws.{next_in}
+use Rattle.stream_worker.proofs.OutlinesStayTrue.{next_in}
 use Rattle.stream_worker.proofs.outline.Outline.next.Goals as goal
 
 pub returns-in_ok-group-in-Some : goal.returns-in_ok-group-in-Some

@@ -1,6 +1,6 @@
 use Rattle.std.specs.Arc.{arc_value}
 use Rattle.crossbeam_channel.specs.Claims.{view}
-use Rattle.stream_worker.proofs.FoundLaws.{found_taken}
+use Rattle.stream_worker.proofs.ReadGroupsAreAnswered.{found_taken}
 use Rattle.stream_worker.proofs.shared.Shared.answer_found.Goals as goal
 
 -- what was found is so of the board that was taken

@@ -2,7 +2,7 @@ use Rattle.std.proofs.Common.{List, length, slice_get, sym, ap, ◌∙◌, subst
 use Rattle.crossbeam_channel.specs.Claims.{view}
 use Rattle.board_laws.specs.Meaning.{State}
 use Rattle.stream_worker.specs.SeatOf.{AllGoOnFromSeen, SawAsMany}
-use Rattle.stream_worker.proofs.EndLaws.{ended, ended_on, ended_many}
+use Rattle.stream_worker.proofs.PassesTakeSeats.{ended, ended_on, ended_many}
 use Rattle.stream_worker.proofs.shared.Shared.end.Goals as goal
 
 pub returns : goal.returns

@@ -1,7 +1,7 @@
 use Rattle.std.proofs.Common.{vec_len, sym, subst}
 use Rattle.crossbeam_channel.specs.Claims.{view}
 use Rattle.stream_worker.specs.SeatOf.{AreAllKnown}
-use Rattle.stream_worker.proofs.EndLaws.{first_popped, next_popped}
+use Rattle.stream_worker.proofs.PassesTakeSeats.{first_popped, next_popped}
 use Rattle.stream_worker.proofs.shared.Shared.joined.Goals as goal
 
 pub loop-seat-init : goal.loop-seat-init

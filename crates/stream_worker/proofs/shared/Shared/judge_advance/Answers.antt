@@ -3,8 +3,8 @@ use Rattle.std.specs.Option.{option_map}
 use Rattle.crossbeam_channel.specs.Claims.{view}
 use Rattle.board_laws.specs.Lawful.{standing_of}
 use Rattle.board_laws.specs.Event.{advance}
-use Rattle.stream_worker.proofs.SeatLaws.{own_as_seen, put_numbers}
-use Rattle.stream_worker.proofs.OutlineLaws.{still_outlined}
+use Rattle.stream_worker.proofs.SeatsTakeAndPut.{own_as_seen, put_numbers}
+use Rattle.stream_worker.proofs.OutlinesStayTrue.{still_outlined}
 use Rattle.stream_worker.proofs.shared.Shared.judge_advance.Goals as goal
 
 pub invariant_of-seat-clause-numbers : goal.invariant_of-seat-clause-numbers

@@ -1,7 +1,7 @@
 use Rattle.std.proofs.Common.{ap}
 use Rattle.crossbeam_channel.specs.Claims.{view}
 use Rattle.stream_worker.specs.Knowing.{Laid}
-use Rattle.stream_worker.proofs.OpenLaws.{opener_outlines, opened}
+use Rattle.stream_worker.proofs.SeatsAreClaimed.{opener_outlines, opened}
 use Rattle.stream_worker.proofs.shared.Shared.open.Goals as goal
 
 pub seats-seats-requires-clause-outlined : goal.seats-seats-requires-clause-outlined

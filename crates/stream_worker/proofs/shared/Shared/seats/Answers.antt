@@ -1,6 +1,6 @@
 use Rattle.std.proofs.Common.{ℕ, ◌+◌, [], ◌∷◌, length-append, sym, ap, ◌∙◌, arith}
 use Rattle.crossbeam_channel.specs.Claims.{view}
-use Rattle.stream_worker.proofs.OpenLaws.{seats_pushed, states_pushed, many_pushed}
+use Rattle.stream_worker.proofs.SeatsAreClaimed.{seats_pushed, states_pushed, many_pushed}
 use Rattle.stream_worker.proofs.shared.Shared.seats.Goals as goal
 
 pub loop-outline-preserved : goal.loop-outline-preserved

@@ -1,6 +1,0 @@
-use Rattle.checkpoint_core.proofs.GroupLaws.{NoneUpTo}
-use Rattle.checkpoint_core.proofs.numbers.number_at.Given as goal
-
--- none of the groups so far has the position
-abbrev pub invariant-loop-i : goal.invariant-loop-i
-invariant-loop-i l = NoneUpTo l.feed l.position l.i

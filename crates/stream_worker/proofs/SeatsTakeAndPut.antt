@@ -1,0 +1,48 @@
+-- What a call of a seat owes and gains, from the board that it took to the one that it put back.
+use Rattle.std.proofs.Common.{◌≡◌, ◌==◌, ℕ, true, false, List, [], ◌∷◌, Option, Some, None, Result, MatchOption, slice_get, inl, refl, sym, ap, ◌∙◌, subst}
+use Rattle.std.proofs.lemmas.Bool.{or_left}
+use Rattle.std.specs.Option.{option_map, option_and_then}
+use borrow.Author.Tests.{eq-eqb}
+use Rattle.stream_core.specs.Standing.{Standing}
+use Rattle.board_laws.specs.declared.answer.Answer.{Answer}
+use Rattle.board_laws.specs.declared.refusal.Refusal.{Refusal}
+use Rattle.board_laws.specs.Lawful.{standing_of}
+use Rattle.board_laws.specs.Event.{Event}
+use Rattle.stream_worker.specs.Knowing.{Laid, Knows, names, state_seen}
+use Rattle.stream_worker.specs.Rule.{IsSaid, SaysOfBoard, IsBoardTaken, IsOwnChange, CountsSeats, MayPut, IsBoardPut}
+use Rattle.stream_worker.specs.Seats.{IsBoardStep, IsSeatStep}
+use Rattle.stream_worker.proofs.StepsOfOneStream.{step_changes}
+
+-- a change of the board that was taken may be put back
+pub may_put_change : (before holding : Knows) (taken left : Laid) → IsBoardTaken before taken holding → IsOwnChange before.streams taken left → CountsSeats before.streams taken left → MayPut holding left
+may_put_change before holding taken left h change counts = subst (λ (v : Knows). MayPut v left) (sym h.view) (change, counts)
+
+-- behind a step on the seat's stream
+pub may_put : (before holding : Knows) (s : ℕ) (taken left : Laid) (event : Event) (result : Result Answer Refusal) → before.streams ≡ s ∷ [] → IsBoardTaken before taken holding
+    → IsBoardStep taken s event result left → MayPut holding left
+may_put before holding s taken left event result own h step =
+    may_put_change before holding taken left h (subst (λ (l : List ℕ). IsOwnChange l taken left) (sym own) (step_changes taken left s event result step)) (inl step.given)
+
+pub named_itself : (s : ℕ) → names (s ∷ []) s ≡ true
+named_itself s = or_left (s == s) false (eq-eqb s s refl)
+
+-- the seat's own stream is as the seat knew it
+pub own_as_seen : (before : Knows) (s : ℕ) (taken : Laid) (standing : Standing) → before.streams ≡ s ∷ [] → SaysOfBoard before taken
+    → option_map standing_of (state_seen before s) ≡ Some standing → slice_get taken.board s ≡ state_seen before s
+own_as_seen before s taken standing own says numbers = by before.seen says numbers
+  where
+    by : (o : Option Laid) → MatchOption o (before.streams ≡ []) (λ seen. IsSaid before.streams seen taken) → option_map standing_of (option_and_then (λ (laid : Laid). slice_get laid.board s) o) ≡ Some standing
+        → slice_get taken.board s ≡ option_and_then (λ (laid : Laid). slice_get laid.board s) o
+    by None said e = cc
+    by (Some seen) said e = said.own s (ap (λ (l : List ℕ). names l s) own ∙ named_itself s)
+
+-- ---- what the seat then is
+
+pub put_numbers : (holding after : Knows) (s : ℕ) (left : Laid) (standing : Standing) → IsBoardPut holding left after → option_map standing_of (slice_get left.board s) ≡ Some standing
+    → option_map standing_of (state_seen after s) ≡ Some standing
+put_numbers holding after s left standing put numbers =
+    ap (λ (o : Option Laid). option_map standing_of (option_and_then (λ (laid : Laid). slice_get laid.board s) o)) put.seen ∙ numbers
+
+pub seat_step : (before holding after : Knows) (s : ℕ) (taken left : Laid) (event : Event) (result : Result Answer Refusal) → IsBoardTaken before taken holding → IsBoardStep taken s event result left
+    → IsBoardPut holding left after → IsSeatStep before s event result after
+seat_step before holding after s taken left event result h step put = record { taken = taken; left = left; says = h.says; step = step; seen = put.seen }

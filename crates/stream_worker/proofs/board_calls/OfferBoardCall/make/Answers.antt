@@ -1,0 +1,4 @@
+use Rattle.stream_worker.proofs.board_calls.OfferBoardCall.make.Goals as goal
+
+pub returns-clause-step : goal.returns-clause-step
+returns-clause-step c = c.offer.ensures

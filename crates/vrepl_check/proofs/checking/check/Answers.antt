@@ -1,0 +1,12 @@
+use Rattle.std.proofs.Common.{rules}
+use Rattle.vrepl_main.proofs.CommandLaws.{ends_found, ends_printed, ends_refused}
+use Rattle.vrepl_check.proofs.checking.check.Goals as goal
+
+pub returns-in-Ok-false-clause-ends : goal.returns-in-Ok-false-clause-ends
+returns-in-Ok-false-clause-ends g c = ends_printed _ _ _ (search rules, c.in-Ok-false.ensures.printed)
+
+pub returns-in-Ok-true-clause-ends : goal.returns-in-Ok-true-clause-ends
+returns-in-Ok-true-clause-ends g c = ends_found _ _ _ (search rules, c.in-Ok-true.ensures.printed)
+
+pub returns-in-Err-clause-ends : goal.returns-in-Err-clause-ends
+returns-in-Err-clause-ends g c = ends_refused _ _ _ _ c.refuse.ensures.status (c.in-Err.refusal, c.in-Err.ensures.printed, c.refuse.ensures.line)

@@ -1,0 +1,11 @@
+use Rattle.vrepl_main.proofs.CommandLaws.{ends_printed, ends_refused}
+use Rattle.vrepl_main.proofs.running.run.Goals as goal
+
+pub returns-in-Ok-clause-ends : goal.returns-in-Ok-clause-ends
+returns-in-Ok-clause-ends g c = ends_printed _ _ _ c.in-Ok.ensures.printed
+
+pub returns-in-Err-Given-clause-ends : goal.returns-in-Err-Given-clause-ends
+returns-in-Err-Given-clause-ends g c = ends_refused _ _ _ _ c.refuse.ensures.status (c.in-Err-Given.field-0, c.in-Err-Given.ensures.refused, rw c.in-Err-Given.field-0-is c.refuse.ensures.line)
+
+pub returns-in-Err-Stream-clause-ends : goal.returns-in-Err-Stream-clause-ends
+returns-in-Err-Stream-clause-ends g c = ends_refused _ _ _ _ c.refuse_run.ensures.status (c.in-Err-Stream.field-0, c.in-Err-Stream.ensures.refused, rw c.in-Err-Stream.field-0-is (rw c.deref.ensures at c.refuse_run.ensures.line))

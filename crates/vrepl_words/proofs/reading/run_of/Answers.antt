@@ -1,0 +1,5 @@
+use Rattle.std.proofs.Common.{refl}
+use Rattle.vrepl_words.proofs.reading.run_of.Goals as goal
+
+pub returns : goal.returns
+returns c = rw (c.has_flag.ensures, c.has_flag-2.ensures, c.has_flag-3.ensures, c.text.ensures, c.in_ok-feeds.ensures) refl

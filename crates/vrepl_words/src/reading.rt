@@ -1,0 +1,256 @@
+//! The words of the command line, read as `clap` takes them.
+
+ghost use Rattle.std.specs.Prelude.{◌≡◌, ◌≢◌, [], IfOk, Some, map, string_bytes};
+ghost use Rattle.clap.specs.Words.{FailsBy, found_of, rows_of, subcommand_rows_of};
+ghost use Rattle.vrepl_words.specs.Built.{HasApp};
+ghost use Rattle.vrepl_words.specs.Meant.{Asks, follow_value, portions_value, run_value, show_value, step_value, value_of_words, vdiff_value};
+ghost use Rattle.vrepl_words.specs.Words.{asked_by, asks_check, asks_join, asks_follow, asks_resume, asks_run, asks_save, asks_step, check_given, explain_subcommand, faults_of, follow_given, follow_subcommand, join_given, program_app, resume_given, run_given, run_subcommand, show_given, step_given, vdiff_given, vdiff_subcommand, words_of};
+
+use crate::commands::program;
+use crate::given::{given_portions, has_flag, text, text_if, texts};
+use crate::numbers::{bad_number, count_given, refusal_given};
+use crate::portions::Portions;
+use crate::streams::{gives_streams, streams_given};
+use crate::words::{Check, Follow, Join, Resume, Run, Show, Step, Vdiff, Words};
+use clap::{ArgMatches, Command, Error};
+use std::alloc::{AllocError, Global};
+
+/// Reads the words that follow the program's name. Without any they are `show --hex -`.
+///
+/// An error is a fault of usage (its status is 2), a request for help (0), or `OutOfMemory`. Words
+/// without a fault are read, unless memory runs out.
+pub fn read<'w>(alloc: Global, words: &'w [String]) -> Result<Words<'w>, Error>
+    ensures read { IfOk result (λ read. words_of (map string_bytes words.now) ≡ Some (value_of_words read)) }
+    ensures refused { FailsBy (faults_of (map string_bytes words.now)) result }
+{
+    if words.is_empty() {
+        return Ok(Words::Show(Show {
+            hex: true,
+            keyspace: "",
+            shard: "",
+            feed: "-",
+        }));
+    }
+    read_by(alloc, program(alloc)?, words)
+}
+
+/// Reads words, of which there are some, by the program's command.
+fn read_by<'w>(
+    alloc: Global,
+    mut command: Command<'w>,
+    words: &'w [String],
+) -> Result<Words<'w>, Error>
+    requires command { HasApp program_app command }
+    requires some { words.now ≢ [] }
+    ensures read { IfOk result (λ read. words_of (map string_bytes words.now) ≡ Some (value_of_words read)) }
+    ensures refused { FailsBy (faults_of (map string_bytes words.now)) result }
+{
+    let matches = command.try_get_matches_from_mut(words)?;
+    match asked(alloc, &matches) {
+        Some(words) => Ok(words?),
+        None => Err(bad_number(alloc, &matches)?),
+    }
+}
+
+/// What the subcommand that was met asks for. A fault is want of memory.
+fn asked<'w>(alloc: Global, matches: &ArgMatches<'w>) -> Option<Result<Words<'w>, AllocError>>
+    ensures { Asks result (asked_by (subcommand_rows_of matches.now)) }
+{
+    let (name, given) = matches.subcommand()?;
+    match name {
+        "show" => Some(Ok(Words::Show(show_words(given)))),
+        "step" => Some(step_words(alloc, given)),
+        "run" => run_words(alloc, given),
+        "save" => Some(save_words(alloc, given)),
+        "resume" => Some(resume_words(alloc, given)),
+        "join" => Some(join_words(alloc, given)),
+        "follow" => follow_words(alloc, given),
+        "vdiff" => vdiff_words(given),
+        "check" => Some(check_words(alloc, given)),
+        "explain" => explain_words(given),
+        _ => None,
+    }
+}
+
+fn show_words<'w>(given: &ArgMatches<'w>) -> Show<'w>
+    ensures { show_value result ≡ show_given (rows_of (found_of given.now)) }
+{
+    Show {
+        hex: has_flag(given, "hex"),
+        keyspace: text(given, "keyspace"),
+        shard: text(given, "shard"),
+        feed: text(given, "feed"),
+    }
+}
+
+fn script_words<'w>(alloc: Global, given: &ArgMatches<'w>) -> Result<Step<'w>, AllocError>
+    ensures { IfOk result (λ words. step_value words ≡ step_given (rows_of (found_of given.now))) }
+{
+    let feeds = texts(alloc, given, "feed")?;
+    Ok(Step {
+        hex: has_flag(given, "hex"),
+        workflow: text(given, "workflow"),
+        feeds,
+    })
+}
+
+fn step_words<'w>(alloc: Global, given: &ArgMatches<'w>) -> Result<Words<'w>, AllocError>
+    ensures { IfOk result (λ words. value_of_words words ≡ asks_step (step_given (rows_of (found_of given.now)))) }
+{
+    let words = script_words(alloc, given)?;
+    Ok(Words::Step(words))
+}
+
+fn save_words<'w>(alloc: Global, given: &ArgMatches<'w>) -> Result<Words<'w>, AllocError>
+    ensures { IfOk result (λ words. value_of_words words ≡ asks_save (step_given (rows_of (found_of given.now)))) }
+{
+    let words = script_words(alloc, given)?;
+    Ok(Words::Save(words))
+}
+
+fn check_words<'w>(alloc: Global, given: &ArgMatches<'w>) -> Result<Words<'w>, AllocError>
+    ensures { IfOk result (λ words. value_of_words words ≡ asks_check (check_given (rows_of (found_of given.now)))) }
+{
+    let step = script_words(alloc, given)?;
+    Ok(Words::Check(Check {
+        json: has_flag(given, "json"),
+        step,
+    }))
+}
+
+fn resume_words<'w>(alloc: Global, given: &ArgMatches<'w>) -> Result<Words<'w>, AllocError>
+    ensures { IfOk result (λ words. value_of_words words ≡ asks_resume (resume_given (rows_of (found_of given.now)))) }
+{
+    let step = script_words(alloc, given)?;
+    Ok(Words::Resume(Resume {
+        checkpoint: text(given, "checkpoint"),
+        step,
+    }))
+}
+
+fn join_words<'w>(alloc: Global, given: &ArgMatches<'w>) -> Result<Words<'w>, AllocError>
+    ensures { IfOk result (λ words. value_of_words words ≡ asks_join (join_given (rows_of (found_of given.now)))) }
+{
+    let more = texts(alloc, given, "also")?;
+    let feeds = texts(alloc, given, "feed")?;
+    Ok(Words::Join(Join {
+        hex: has_flag(given, "hex"),
+        workflow: text(given, "workflow"),
+        one: text(given, "one"),
+        other: text(given, "other"),
+        more,
+        feeds,
+    }))
+}
+
+/// None where a portion that was given is none.
+fn run_words<'w>(alloc: Global, given: &ArgMatches<'w>) -> Option<Result<Words<'w>, AllocError>>
+    ensures { Asks result (run_subcommand.meaning (rows_of (found_of given.now))) }
+{
+    let portions = given_portions(given)?;
+    Some(run_words_by(alloc, given, portions))
+}
+
+/// The same with these portions. An error is want of memory.
+fn run_words_by<'w>(
+    alloc: Global,
+    given: &ArgMatches<'w>,
+    portions: Portions,
+) -> Result<Words<'w>, AllocError>
+    ensures { IfOk result (λ words. value_of_words words ≡ asks_run (run_given (rows_of (found_of given.now)) (portions_value portions))) }
+{
+    let run = run_of(alloc, given, portions)?;
+    Ok(Words::Run(run))
+}
+
+/// What is given to `run`, with these portions. An error is want of memory.
+fn run_of<'w>(
+    alloc: Global,
+    given: &ArgMatches<'w>,
+    portions: Portions,
+) -> Result<Run<'w>, AllocError>
+    ensures { IfOk result (λ run. run_value run ≡ run_given (rows_of (found_of given.now)) (portions_value portions)) }
+{
+    let feeds = texts(alloc, given, "feed")?;
+    Ok(Run {
+        hex: has_flag(given, "hex"),
+        alone: has_flag(given, "alone"),
+        progress: has_flag(given, "progress"),
+        portions,
+        workflow: text(given, "workflow"),
+        feeds,
+    })
+}
+
+/// None where a portion that was given is none, or a stream.
+fn follow_words<'w>(alloc: Global, given: &ArgMatches<'w>) -> Option<Result<Words<'w>, AllocError>>
+    ensures { Asks result (follow_subcommand.meaning (rows_of (found_of given.now))) }
+{
+    let portions = given_portions(given)?;
+    if gives_streams(given, "only") {
+        Some(follow_words_by(alloc, given, portions))
+    } else {
+        None
+    }
+}
+
+/// The same with these portions. An error is want of memory.
+fn follow_words_by<'w>(
+    alloc: Global,
+    given: &ArgMatches<'w>,
+    portions: Portions,
+) -> Result<Words<'w>, AllocError>
+    ensures { IfOk result (λ words. value_of_words words ≡ asks_follow (follow_given (rows_of (found_of given.now)) (portions_value portions))) }
+{
+    let follow = follow_of(alloc, given, portions)?;
+    Ok(Words::Follow(follow))
+}
+
+/// What is given to `follow`, with these portions. An error is want of memory.
+fn follow_of<'w>(
+    alloc: Global,
+    given: &ArgMatches<'w>,
+    portions: Portions,
+) -> Result<Follow<'w>, AllocError>
+    ensures { IfOk result (λ follow. follow_value follow ≡ follow_given (rows_of (found_of given.now)) (portions_value portions)) }
+{
+    let run = run_of(alloc, given, portions)?;
+    let only = streams_given(alloc, given, "only")?;
+    Ok(Follow {
+        run,
+        dump: has_flag(given, "dump"),
+        only,
+        checkpoint: text_if(given, "checkpoint"),
+        save_to: text(given, "save-to"),
+    })
+}
+
+/// None where what was given is no number of a refusal.
+fn explain_words<'w>(given: &ArgMatches<'w>) -> Option<Result<Words<'w>, AllocError>>
+    ensures { Asks result (explain_subcommand.meaning (rows_of (found_of given.now))) }
+{
+    let number = refusal_given(given, "number")?;
+    Some(Ok(Words::Explain(number)))
+}
+
+/// None where the number of differences that was given is none.
+fn vdiff_words<'w>(given: &ArgMatches<'w>) -> Option<Result<Words<'w>, AllocError>>
+    ensures { Asks result (vdiff_subcommand.meaning (rows_of (found_of given.now))) }
+{
+    let first = count_given(given, "first")?;
+    Some(Ok(Words::Vdiff(vdiff_of(given, first))))
+}
+
+/// What is given to `vdiff`, with this number of differences.
+fn vdiff_of<'w>(given: &ArgMatches<'w>, first: Option<u32>) -> Vdiff<'w>
+    ensures { vdiff_value result ≡ vdiff_given (rows_of (found_of given.now)) first }
+{
+    Vdiff {
+        tables: has_flag(given, "tables"),
+        first,
+        json: has_flag(given, "json"),
+        workflow: text(given, "workflow"),
+        source: text(given, "source"),
+        target: text(given, "target"),
+    }
+}
