@@ -5,7 +5,7 @@ use std::alloc::{AllocError, Global};
 use std::test::Fail;
 use step_script::{ScriptFault, ScriptStep, read_script};
 use stream_core::Step;
-use vrepl_main::{GivenFeed, Refusal, given_feeds, open_workflow};
+use vrepl_main::{CommandRefusal, GivenFeed, given_feeds, open_workflow};
 
 /// A line for each step, with comments, blanks, tabs, zeros in front, both ends of lines, and no last one.
 const ALL_STEPS: &[u8] = b"# none\n\r\n \t offer\t007  1 \t\r\n#\nadvance 0\nopen 1 2\n\
@@ -82,7 +82,7 @@ fn opened(alloc: Global, given: &[GivenFeed<'_>]) -> Result<[usize; 3], AllocErr
             let groups = opened.feeds.last().map_or(0, |feed| feed.len());
             Ok([opened.plans.len(), opened.feeds.len(), groups])
         }
-        Err(Refusal::Memory) => Err(AllocError),
+        Err(CommandRefusal::Memory) => Err(AllocError),
         Err(_) => Ok([0, 0, 0]),
     }
 }

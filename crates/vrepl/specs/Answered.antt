@@ -5,7 +5,7 @@ use Rattle.vrepl_main.specs.Inputs.{IsUnread, IsUnreadAmong}
 use Rattle.vrepl_main.specs.Running.{opened_asked, RunEnds}
 use Rattle.vrepl_main.specs.declared.input.InputName.TheVariants.{File, Standard}
 use Rattle.vrepl_main.specs.declared.named_inputs.Course.{Course}
-use Rattle.vrepl_main.specs.declared.refusal.Refusal.{Refusal}
+use Rattle.vrepl_main.specs.declared.refusal.CommandRefusal.{CommandRefusal}
 use Rattle.vrepl_words.specs.declared.words.Run.{Run}
 use Rattle.vrepl_words.specs.declared.words.Words.{Words}
 use Rattle.vrepl_words.specs.declared.words.Words.TheVariants as ways
@@ -51,7 +51,7 @@ IsAskedBy (ways.Check words) (asked.Check inputs) = IsCheckAsked words inputs
 IsAskedBy words other = ⊥
 
 -- the first input that can't be read is named, in the order of its command
-abbrev pub IsUnreadFor : Words → Refusal → Type 0
+abbrev pub IsUnreadFor : Words → CommandRefusal → Type 0
 IsUnreadFor (ways.Show words) = IsUnread words.feed.now
 IsUnreadFor (ways.Step words) = IsUnreadAmong (File words.workflow ∷ (map File words.feeds.items ++ Standard ∷ []))
 IsUnreadFor (ways.Run words) = IsUnreadAmong (File words.workflow ∷ map File words.feeds.items)

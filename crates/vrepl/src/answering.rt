@@ -13,8 +13,8 @@ use std::thread::Threads;
 use vdiff_core::{Out, Writer};
 use vrepl_check::CheckInputs;
 use vrepl_main::{
-    InputName, Inputs, JoinFiles, JoinInputs, Progress, Refusal, ResumeInputs, RunInputs, Untold,
-    join, read_input, read_join, read_resume, read_run, read_step, resume, run, save, step,
+    CommandRefusal, InputName, Inputs, JoinFiles, JoinInputs, Progress, ResumeInputs, RunInputs,
+    Untold, join, read_input, read_join, read_resume, read_run, read_step, resume, run, save, step,
 };
 use vrepl_vdiff::VdiffInputs;
 use vrepl_words::words::{Join, Show, Words};
@@ -45,7 +45,7 @@ pub(crate) fn run_answering<'w, T: Threads + Wait + Sync>(
     rt: &HostRuntime,
     threads: &T,
     words: &Words<'w>,
-) -> Result<u8, Refusal<'w>>
+) -> Result<u8, CommandRefusal<'w>>
     requires answering { IsAnswering words.now }
     ensures status { IfOk result (λ status. (status ≤ 1) ⊎ (status ≡ 3)) }
     ensures unread { IfErr result (IsUnreadFor words.now) }
@@ -69,7 +69,10 @@ fn reporter_of<'r>(
 }
 
 /// Reads the inputs that the words name, each by its name, in the order of their command.
-fn read_asked<'a, 'w>(rt: &HostRuntime, words: &'a Words<'w>) -> Result<Asked<'a, 'w>, Refusal<'w>>
+fn read_asked<'a, 'w>(
+    rt: &HostRuntime,
+    words: &'a Words<'w>,
+) -> Result<Asked<'a, 'w>, CommandRefusal<'w>>
     requires answering { IsAnswering words.now }
     ensures asked { IfOk result (IsAskedBy words.entry.now) }
     ensures unread { IfErr result (IsUnreadFor words.entry.now) }

@@ -9,14 +9,14 @@ ghost use Rattle.vrepl_main.specs.declared.input.InputName.TheVariants.{File};
 use std::alloc::Global;
 use vdiff_core::Out;
 use vrepl_check::{CheckInputs, check, print_place};
-use vrepl_main::{Refusal, read_inputs, run_inputs};
+use vrepl_main::{CommandRefusal, read_inputs, run_inputs};
 use vrepl_words::words::Check;
 
 /// Reads the inputs that the words name: the workflow's file, and the feeds' files in the order of the streams.
 pub(crate) fn read_check<'n, 'w>(
     rt: &HostRuntime,
     words: &'n Check<'w>,
-) -> Result<CheckInputs<'n, 'w>, Refusal<'w>>
+) -> Result<CheckInputs<'n, 'w>, CommandRefusal<'w>>
     ensures asked { IfOk result (IsCheckAsked words.entry.now) }
     ensures unread { IfErr result (IsUnreadAmong (File words.entry.now.step.workflow ∷ map File words.entry.now.step.feeds.items)) }
 {

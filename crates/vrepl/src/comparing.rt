@@ -8,7 +8,7 @@ ghost use Rattle.vrepl_main.specs.declared.input.InputName.TheVariants.{File};
 
 use std::alloc::Global;
 use vdiff_core::Out;
-use vrepl_main::{InputName, Refusal, read_input, vdiff};
+use vrepl_main::{CommandRefusal, InputName, read_input, vdiff};
 use vrepl_vdiff::{Dump, Options, VdiffInputs, vdiff_with};
 use vrepl_words::words::Vdiff;
 
@@ -17,7 +17,7 @@ use vrepl_words::words::Vdiff;
 pub(crate) fn read_vdiff<'w>(
     rt: &HostRuntime,
     words: &Vdiff<'w>,
-) -> Result<VdiffInputs<'w>, Refusal<'w>>
+) -> Result<VdiffInputs<'w>, CommandRefusal<'w>>
     ensures asked { IfOk result (IsVdiffAsked words.now) }
     ensures unread { IfErr result (IsUnreadAmong (File words.now.workflow ∷ File words.now.source ∷ File words.now.target ∷ [])) }
 {

@@ -6,7 +6,7 @@ ghost use Rattle.vrepl_main.specs.Command.{PrintsText, TextEnds};
 
 use refusal_words::texts::explained;
 use vdiff_core::{Out, put_all};
-use vrepl_main::{Refusal, refuse};
+use vrepl_main::{CommandRefusal, refuse};
 
 /// Prints on `out` what is said of a refusal's number, or the list of all numbers, or prints the line of a
 /// refusal on `err`. Answers the status: 0, or 1 where `out` can't be written.
@@ -22,7 +22,7 @@ pub(crate) fn explain<W: Out, E: Out>(number: Option<u64>, out: &mut W, err: &mu
 }
 
 /// Prints a text.
-fn print_text<W: Out>(out: &mut W, text: &str) -> Result<(), Refusal<'static>>
+fn print_text<W: Out>(out: &mut W, text: &str) -> Result<(), CommandRefusal<'static>>
     ensures { PrintsText result (Ok text.now) (W.written out.old) (W.written out.new) }
 {
     put_all(out, text.as_bytes())?;

@@ -9,8 +9,8 @@ use std::sync::Wait;
 use std::thread::Threads;
 use vdiff_core::Writer;
 use vrepl_main::{
-    FollowInputs, Followed, InputName, Progress, Refusal, Unfollowed, Untold, follow, follow_only,
-    given_feeds, keep_file, read_input, read_run, refuse_unfollowed,
+    CommandRefusal, FollowInputs, Followed, InputName, Progress, Unfollowed, Untold, follow,
+    follow_only, given_feeds, keep_file, read_input, read_run, refuse_unfollowed,
 };
 use vrepl_words::words::Follow;
 
@@ -21,7 +21,7 @@ pub(crate) fn run_follow<'w, T: Threads + Wait + Sync>(
     rt: &HostRuntime,
     threads: &T,
     words: &Follow<'w>,
-) -> Result<u8, Refusal<'w>>
+) -> Result<u8, CommandRefusal<'w>>
     ensures status { IfOk result (λ status. status ≤ 1) }
 {
     if words.run.progress {
@@ -38,7 +38,7 @@ fn follow_read<'w, T: Threads + Wait + Sync, G: Progress + Sync>(
     threads: &T,
     words: &Follow<'w>,
     gate: &G,
-) -> Result<u8, Refusal<'w>>
+) -> Result<u8, CommandRefusal<'w>>
     ensures status { IfOk result (λ status. status ≤ 1) }
 {
     let run = &words.run;
@@ -58,7 +58,10 @@ fn follow_read<'w, T: Threads + Wait + Sync, G: Progress + Sync>(
 }
 
 /// The bytes of the checkpoint of this name, where there is one.
-fn read_saved<'w>(rt: &HostRuntime, name: Option<&'w str>) -> Result<Option<Vec<u8>>, Refusal<'w>> {
+fn read_saved<'w>(
+    rt: &HostRuntime,
+    name: Option<&'w str>,
+) -> Result<Option<Vec<u8>>, CommandRefusal<'w>> {
     match name {
         None => Ok(None),
         Some(name) => {
@@ -87,7 +90,7 @@ fn keep<'w>(
     rt: &HostRuntime,
     words: &Follow<'w>,
     followed: &Followed<'_>,
-) -> Result<u8, Refusal<'w>>
+) -> Result<u8, CommandRefusal<'w>>
     ensures status { IfOk result (λ status. status ≤ 1) }
 {
     keep_file(rt, words.save_to, &followed.checkpoint)?;

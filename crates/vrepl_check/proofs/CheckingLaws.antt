@@ -14,8 +14,8 @@ use Rattle.vrepl_main.specs.HexText.{feed_bytes}
 use Rattle.vrepl_main.specs.Opening.{OpenedValue}
 use Rattle.vrepl_main.specs.Reasons.{Reason, reason_of, RefusesInputs}
 use Rattle.vrepl_main.specs.RefusalOf.{refusal_of_feed}
-use Rattle.vrepl_main.specs.declared.refusal.Refusal.{Refusal}
-use Rattle.vrepl_main.specs.declared.refusal.Refusal.TheVariants.{Memory}
+use Rattle.vrepl_main.specs.declared.refusal.CommandRefusal.{CommandRefusal}
+use Rattle.vrepl_main.specs.declared.refusal.CommandRefusal.TheVariants.{Memory}
 use Rattle.std.proofs.lemmas.Simd.{map-map}
 use Rattle.vrepl_check.specs.Checking.{IsWarned, bytes_or_none, said_checks, report_with, report_asked, report_of_feeds}
 use Rattle.vrepl_check.specs.declared.inputs.CheckInputs.{CheckInputs}
@@ -25,7 +25,7 @@ behind : {X Y : Type 0} (o : Option Reason) (reading : Result X Reason) (f : X �
 behind None reading f is = is
 behind (Some reason) reading f is = ap (λ r. r >>= f) is
 
-pub refuses_behind : {X Y : Type 0} (refusal : Refusal) (reading : Result X Reason) (f : X → Result Y Reason) → RefusesInputs refusal reading → RefusesInputs refusal (reading >>= f)
+pub refuses_behind : {X Y : Type 0} (refusal : CommandRefusal) (reading : Result X Reason) (f : X → Result Y Reason) → RefusesInputs refusal reading → RefusesInputs refusal (reading >>= f)
 refuses_behind Memory reading f is = tt
 refuses_behind other reading f is = behind (reason_of other) reading f is
 

@@ -11,7 +11,7 @@ use check_said::Said;
 use feed_check::check_feeds;
 use std::alloc::{AllocError, Global};
 use vdiff_core::{Out, put_all};
-use vrepl_main::{GivenFeed, Refusal, given_feeds, open_workflow, refuse};
+use vrepl_main::{CommandRefusal, GivenFeed, given_feeds, open_workflow, refuse};
 
 /// Checks a workflow with its feeds, one in the order of the streams each, and prints on `out` a line for each
 /// table of each stream with the rows that the stream passes, then a line for each stream and a line for each of
@@ -44,7 +44,7 @@ fn print_check<W: Out>(
     alloc: Global,
     inputs: &CheckInputs<'_, '_>,
     out: &mut W,
-) -> Result<bool, Refusal<'static>>
+) -> Result<bool, CommandRefusal<'static>>
     ensures warned { IfOk result (λ warned. IsWarned warned (report_asked inputs.now)) }
     ensures printed { PrintsText result (text_of_report (report_asked inputs.now)) (W.written out.old) (W.written out.new) }
 {
@@ -55,7 +55,7 @@ fn print_check<W: Out>(
 
 /// The report on a workflow and its feeds, which may be given as hexadecimal text, and what is told of the
 /// workflow's file.
-fn report_on(alloc: Global, inputs: &CheckInputs<'_, '_>) -> Result<Said, Refusal<'static>>
+fn report_on(alloc: Global, inputs: &CheckInputs<'_, '_>) -> Result<Said, CommandRefusal<'static>>
     ensures { GivesOfInputs (λ report. report) result (report_asked inputs.now) }
 {
     let given = given_feeds(alloc, inputs.hex, &inputs.feeds)?;
@@ -67,7 +67,7 @@ fn report_of(
     alloc: Global,
     inputs: &CheckInputs<'_, '_>,
     given: &[GivenFeed<'_>],
-) -> Result<Said, Refusal<'static>>
+) -> Result<Said, CommandRefusal<'static>>
     ensures { GivesOfInputs (λ report. report) result (report_of_feeds inputs.now (map given_value given.now)) }
 {
     let opened = open_workflow(alloc, &inputs.workflow, given)?;

@@ -5,7 +5,7 @@ use Rattle.std.proofs.lemmas.List.{drop_more, drop_all}
 use Rattle.std.proofs.lemmas.Option.{slice_get_within, slice_get_read, get_or_from_slice_get, slice_get_cases}
 use Rattle.filter_rule.specs.PlanValue.{PlanValue}
 use Rattle.source_feed.specs.Planned.{FeedValue}
-use Rattle.vrepl_main.specs.declared.refusal.Refusal.{Refusal}
+use Rattle.vrepl_main.specs.declared.refusal.CommandRefusal.{CommandRefusal}
 use Rattle.vrepl_main.specs.Reasons.{GivesOfInputs, RefusesInputs}
 use Rattle.vrepl_main.specs.Opening.{opened_feed, opened_feeds}
 use Rattle.vrepl_main.specs.OpenedFeeds.{AreTried, as_opened}
@@ -45,16 +45,16 @@ module _ (plans : List PlanValue) (given : List (Option (List ℕ))) where
           let p = there plans n (omega (arith, less, are.many)) in
           let b = there given n (omega (arith, less, are.many, same)) in
           let gives = are.each n one (slice_get_read tried (length tried) n one refl less is) p.0 b.0 p.1 b.1 in
-          let opens : opened_feed p.0 b.0 ≡ Ok feed = subst (λ (r : Result FeedValue Refusal). GivesOfInputs {X = FeedValue} {Y = FeedValue} (λ f. f) r (opened_feed p.0 b.0)) opened gives in
+          let opens : opened_feed p.0 b.0 ≡ Ok feed = subst (λ (r : Result FeedValue CommandRefusal). GivesOfInputs {X = FeedValue} {Y = FeedValue} (λ f. f) r (opened_feed p.0 b.0)) opened gives in
           so_far ∙ ap (in_front front) (behind n p.0 b.0 p.1 b.1) ∙ one_more front feed p.0 b.0 (drop (n + 1) plans) (drop (n + 1) given) opens
 
       -- one is refused, and is the first
-      pub stops_there : (refusal : Refusal) → as_opened one ≡ Err refusal → RefusesInputs refusal (opened_feeds plans given)
+      pub stops_there : (refusal : CommandRefusal) → as_opened one ≡ Err refusal → RefusesInputs refusal (opened_feeds plans given)
       stops_there refusal refused =
           let p = there plans n (omega (arith, less, are.many)) in
           let b = there given n (omega (arith, less, are.many, same)) in
           let gives = are.each n one (slice_get_read tried (length tried) n one refl less is) p.0 b.0 p.1 b.1 in
-          let bad : RefusesInputs refusal (opened_feed p.0 b.0) = subst (λ (r : Result FeedValue Refusal). GivesOfInputs {X = FeedValue} {Y = FeedValue} (λ f. f) r (opened_feed p.0 b.0)) refused gives in
+          let bad : RefusesInputs refusal (opened_feed p.0 b.0) = subst (λ (r : Result FeedValue CommandRefusal). GivesOfInputs {X = FeedValue} {Y = FeedValue} (λ f. f) r (opened_feed p.0 b.0)) refused gives in
           RefusesInputs-whole refusal (opened_feed p.0 b.0) (opened_feeds plans given)
           (λ reason e. so_far ∙ ap (in_front front) (behind n p.0 b.0 p.1 b.1) ∙ none_more front reason p.0 b.0 (drop (n + 1) plans) (drop (n + 1) given) e) bad
 

@@ -10,8 +10,8 @@ use Rattle.vrepl_main.specs.Reasons.{Reason, RefusesInputs}
 use Rattle.vrepl_main.specs.Command.{BreaksOffIn, PrintsWhole, RefusesCommand, IsUnwritten, Ends}
 use Rattle.vrepl_main.specs.RefusalOf.{refusal_of_feed}
 use Rattle.vrepl_main.specs.Show.{shown_groups}
-use Rattle.vrepl_main.specs.declared.refusal.Refusal.{Refusal}
-use Rattle.vrepl_main.specs.declared.refusal.Refusal.TheVariants.{Memory, Workflow, NoStream, FeedCount, Feed, BadHex, BadScript, BadDump, CannotRead, CannotWrite}
+use Rattle.vrepl_main.specs.declared.refusal.CommandRefusal.{CommandRefusal}
+use Rattle.vrepl_main.specs.declared.refusal.CommandRefusal.TheVariants.{Memory, Workflow, NoStream, FeedCount, Feed, BadHex, BadScript, BadDump, CannotRead, CannotWrite}
 
 -- ---- how a command ends
 
@@ -51,12 +51,12 @@ ends_within status ends = within status ends.is_one
 pub PrintsWhole-text : (reading : Result (List ℕ) Reason) (old new : Written) (text : List ℕ) → reading ≡ Ok text → IsWritten old new text → PrintsWhole reading old new
 PrintsWhole-text reading old new text is printed = subst (λ r. PrintsWhole r old new) (sym is) printed
 
-module _ {X : Type 0} (IsText : X → List ℕ → Type 0) (refusal : Refusal) (reading : Result X Reason) where
+module _ {X : Type 0} (IsText : X → List ℕ → Type 0) (refusal : CommandRefusal) (reading : Result X Reason) where
   -- a refusal of the inputs leaves nothing
   pub refuses : (now : Written) → RefusesInputs refusal reading → RefusesCommand IsText refusal reading now now
   refuses now is = by refusal is
     where
-      by : (r : Refusal) → RefusesInputs r reading → RefusesCommand IsText r reading now now
+      by : (r : CommandRefusal) → RefusesInputs r reading → RefusesCommand IsText r reading now now
       by Memory is = (tt, refl)
       by (Workflow fault) is = (is, refl)
       by NoStream is = (is, refl)
@@ -72,7 +72,7 @@ module _ {X : Type 0} (IsText : X → List ℕ → Type 0) (refusal : Refusal) (
   pub refuses_unwritten : (given : X) (text : List ℕ) (old new : Written) → reading ≡ Ok given → IsText given text → BreaksOff old new text → IsUnwritten refusal → RefusesCommand IsText refusal reading old new
   refuses_unwritten given text old new is is_text broken unwritten = by refusal unwritten
     where
-      by : (r : Refusal) → IsUnwritten r → RefusesCommand IsText r reading old new
+      by : (r : CommandRefusal) → IsUnwritten r → RefusesCommand IsText r reading old new
       by (CannotWrite file) unwritten = (unwritten, subst (λ (given : Result X Reason). BreaksOffIn IsText given old new) (sym is) (text, is_text, broken))
       by Memory unwritten = absurd unwritten
       by (Workflow fault) unwritten = absurd unwritten

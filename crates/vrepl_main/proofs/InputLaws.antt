@@ -7,8 +7,8 @@ use Rattle.std.specs.Prelude.{get_or}
 use Rattle.vrepl_main.specs.Inputs.{input_name, IsUnread, IsUnreadAmong}
 use Rattle.vrepl_main.specs.declared.input.InputName.{InputName}
 use Rattle.vrepl_main.specs.declared.input.InputName.TheVariants.{Standard}
-use Rattle.vrepl_main.specs.declared.refusal.Refusal.{Refusal}
-use Rattle.vrepl_main.specs.declared.refusal.Refusal.TheVariants.{Memory, Workflow, NoStream, FeedCount, Feed, BadHex, BadScript, BadDump, CannotRead, CannotWrite}
+use Rattle.vrepl_main.specs.declared.refusal.CommandRefusal.{CommandRefusal}
+use Rattle.vrepl_main.specs.declared.refusal.CommandRefusal.TheVariants.{Memory, Workflow, NoStream, FeedCount, Feed, BadHex, BadScript, BadDump, CannotRead, CannotWrite}
 
 -- a read that finds the end shows that the bytes are all that was left
 pub whole : (old mid new : Option (List ℕ)) (bytes piece : List ℕ) (n : ℕ) → n ≡ 0 → Consumes old mid bytes → Consumes mid new (take n piece) → IsAtEnd new → IfSome old (λ left. bytes ≡ left)
@@ -25,7 +25,7 @@ limit (Some xs) bytes i reads e h lt =
     λ many. let same : length bytes ≡ length xs = ap length e in absurd (omega arith)
 
 -- one of some inputs can't be read
-unread_among : (names : List InputName) (i : ℕ) (refusal : Refusal) → i < length names → IsUnread (input_name (get_or names i Standard)) refusal → IsUnreadAmong names refusal
+unread_among : (names : List InputName) (i : ℕ) (refusal : CommandRefusal) → i < length names → IsUnread (input_name (get_or names i Standard)) refusal → IsUnreadAmong names refusal
 unread_among names i Memory within unread = tt
 unread_among names i (CannotRead file) within unread = (i, within, unread)
 unread_among names i (Workflow fault) within unread = absurd unread
@@ -37,18 +37,18 @@ unread_among names i (BadScript bad) within unread = absurd unread
 unread_among names i (BadDump bad) within unread = absurd unread
 unread_among names i (CannotWrite file) within unread = absurd unread
 
-pub IsUnreadAmong-one : (names : List InputName) (i : ℕ) (default : InputName) (refusal : Refusal) → i < length names → IsUnread (input_name (get_or names i default)) refusal → IsUnreadAmong names refusal
+pub IsUnreadAmong-one : (names : List InputName) (i : ℕ) (default : InputName) (refusal : CommandRefusal) → i < length names → IsUnread (input_name (get_or names i default)) refusal → IsUnreadAmong names refusal
 IsUnreadAmong-one names i default refusal within unread =
     unread_among names i refusal within (subst (λ name. IsUnread (input_name name) refusal) (get_or_default names i default Standard within) unread)
 
 -- ---- parts of what is read
 
 -- the first can't be read
-pub unread_first : (name : InputName) (others : List InputName) (refusal : Refusal) → IsUnread (input_name name) refusal → IsUnreadAmong (name ∷ others) refusal
+pub unread_first : (name : InputName) (others : List InputName) (refusal : CommandRefusal) → IsUnread (input_name name) refusal → IsUnreadAmong (name ∷ others) refusal
 unread_first name others refusal unread = unread_among (name ∷ others) 0 refusal (omega arith) unread
 
 -- one of the others can't
-pub unread_later : (name : InputName) (others : List InputName) (refusal : Refusal) → IsUnreadAmong others refusal → IsUnreadAmong (name ∷ others) refusal
+pub unread_later : (name : InputName) (others : List InputName) (refusal : CommandRefusal) → IsUnreadAmong others refusal → IsUnreadAmong (name ∷ others) refusal
 unread_later name others Memory unread = tt
 unread_later name others (CannotRead file) (i, within, is) = (suc i, omega (arith, within), is)
 unread_later name others (Workflow fault) unread = absurd unread
@@ -61,12 +61,12 @@ unread_later name others (BadDump bad) unread = absurd unread
 unread_later name others (CannotWrite file) unread = absurd unread
 
 -- one of those behind some can't
-pub unread_behind : (some others : List InputName) (refusal : Refusal) → IsUnreadAmong others refusal → IsUnreadAmong (some ++ others) refusal
+pub unread_behind : (some others : List InputName) (refusal : CommandRefusal) → IsUnreadAmong others refusal → IsUnreadAmong (some ++ others) refusal
 unread_behind [] others refusal unread = unread
 unread_behind (name ∷ some) others refusal unread = unread_later name (some ++ others) refusal (unread_behind some others refusal unread)
 
 -- one of those before others can't
-pub unread_before : (some others : List InputName) (refusal : Refusal) → IsUnreadAmong some refusal → IsUnreadAmong (some ++ others) refusal
+pub unread_before : (some others : List InputName) (refusal : CommandRefusal) → IsUnreadAmong some refusal → IsUnreadAmong (some ++ others) refusal
 unread_before some others Memory unread = tt
 unread_before some others (CannotRead file) (i, within, is) =
     let least : length some ≤ length (some ++ others) = subst (λ (n : ℕ). length some ≤ n) (sym (length-append some others)) (omega arith) in

@@ -4,8 +4,8 @@ use Rattle.std.specs.Prelude.{MatchOption}
 use Rattle.std.proofs.lemmas.List.{drop_more, drop_all}
 use Rattle.filter_rule.specs.PlanValue.{PlanValue}
 use Rattle.source_feed.specs.Planned.{FeedValue}
-use Rattle.vrepl_main.specs.declared.refusal.Refusal.{Refusal}
-use Rattle.vrepl_main.specs.declared.refusal.Refusal.TheVariants.{Memory}
+use Rattle.vrepl_main.specs.declared.refusal.CommandRefusal.{CommandRefusal}
+use Rattle.vrepl_main.specs.declared.refusal.CommandRefusal.TheVariants.{Memory}
 use Rattle.vrepl_main.specs.Reasons.{Reason, reason_of, RefusesInputs}
 use Rattle.vrepl_main.specs.Opening.{opened_feed, opened_feeds, opened_then}
 
@@ -17,7 +17,7 @@ by_reason None one whole carries is = is
 by_reason (Some reason) one whole carries is = carries reason is
 
 -- a refusal of one reading is one of a whole that this ends
-pub RefusesInputs-whole : {X Y : Type 0} (refusal : Refusal) (one : Result X Reason) (whole : Result Y Reason) → ((reason : Reason) → one ≡ Err reason → whole ≡ Err reason)
+pub RefusesInputs-whole : {X Y : Type 0} (refusal : CommandRefusal) (one : Result X Reason) (whole : Result Y Reason) → ((reason : Reason) → one ≡ Err reason → whole ≡ Err reason)
     → RefusesInputs refusal one → RefusesInputs refusal whole
 RefusesInputs-whole Memory one whole carries is = tt
 RefusesInputs-whole refusal one whole carries is = by_reason (reason_of refusal) one whole carries is

@@ -8,7 +8,7 @@ use Rattle.vdiff_core.specs.RowsValue.{RowsValue}
 use Rattle.stream_worker.specs.Ended.{IsRowsUnion}
 use Rattle.stream_worker.specs.RunRefused.{IsRefusedRun}
 use Rattle.stream_worker.specs.declared.run_refusal.RunRefusal.{RunRefusal}
-use Rattle.vrepl_main.specs.declared.refusal.Refusal.{Refusal}
+use Rattle.vrepl_main.specs.declared.refusal.CommandRefusal.{CommandRefusal}
 use Rattle.vrepl_main.specs.Command.{RefusesCommand, IsUnwritten}
 use Rattle.vrepl_main.specs.HexText.{feed_bytes}
 use Rattle.vrepl_main.specs.Opening.{OpenedValue, opened, opened_bytes}
@@ -39,7 +39,7 @@ refuses_run (Given refusal) reading now is = refuses IsFilledDump refusal readin
 refuses_run (Stream plan refusal) reading now is = (is, refl)
 
 -- the dump can't be written
-pub unwritten_run : (refusal : Refusal) (reading : Result OpenedValue Reason) (filled : Filled) (old new : Written) → IsFilled reading filled → BreaksOff old new (dump_of filled.plan filled.rows) → IsUnwritten refusal
+pub unwritten_run : (refusal : CommandRefusal) (reading : Result OpenedValue Reason) (filled : Filled) (old new : Written) → IsFilled reading filled → BreaksOff old new (dump_of filled.plan filled.rows) → IsUnwritten refusal
     → RefusesCommand IsFilledDump refusal reading old new
 unwritten_run refusal (Ok given) filled old new is broken unwritten = refuses_unwritten IsFilledDump refusal (Ok given) given (dump_of filled.plan filled.rows) old new refl (filled, is, refl) broken unwritten
 unwritten_run refusal (Err reason) filled old new is broken unwritten = absurd is

@@ -8,7 +8,7 @@ use Rattle.source_feed.specs.Planned.{FeedValue}
 use Rattle.board_laws.specs.Meaning.{Meaning}
 use Rattle.apply_core.specs.Fresh.{fresh_board}
 use Rattle.step_script.specs.declared.script.ScriptStep.{ScriptStep}
-use Rattle.vrepl_main.specs.declared.refusal.Refusal.{Refusal}
+use Rattle.vrepl_main.specs.declared.refusal.CommandRefusal.{CommandRefusal}
 use Rattle.vrepl_main.specs.HexText.{feed_bytes}
 use Rattle.vrepl_main.specs.Reasons.{Reason, RefusesInputs}
 use Rattle.vrepl_main.specs.Command.{RefusesCommand, IsUnwritten}
@@ -24,7 +24,7 @@ use Rattle.vrepl_main.proofs.SourceLaws.{script_shows}
 -- ---- refusals
 
 -- a refusal of the workflow and its feeds
-pub refuses_opened : (refusal : Refusal) (opening : Result OpenedValue Reason) (script : List ℕ) → RefusesInputs refusal opening → RefusesInputs {X = ScriptGiven} refusal (opening >>= given_with script)
+pub refuses_opened : (refusal : CommandRefusal) (opening : Result OpenedValue Reason) (script : List ℕ) → RefusesInputs refusal opening → RefusesInputs {X = ScriptGiven} refusal (opening >>= given_with script)
 refuses_opened refusal opening script is =
     RefusesInputs-whole {X = OpenedValue} {Y = ScriptGiven} refusal opening (opening >>= given_with script) (λ reason e. ap (λ (r : Result OpenedValue Reason). r >>= given_with script) e) is
 
@@ -33,7 +33,7 @@ abbrev with_steps : OpenedValue → Result (List ScriptStep) Reason → Result S
 with_steps found said = said >>= λ steps. Ok (record { opened = found; steps = steps })
 
 -- a refusal of the script behind them
-pub refuses_script : (refusal : Refusal) (opening : Result OpenedValue Reason) (found : OpenedValue) (script : List ℕ) → opening ≡ Ok found → RefusesInputs refusal (said_steps (script_steps script))
+pub refuses_script : (refusal : CommandRefusal) (opening : Result OpenedValue Reason) (found : OpenedValue) (script : List ℕ) → opening ≡ Ok found → RefusesInputs refusal (said_steps (script_steps script))
     → RefusesInputs {X = ScriptGiven} refusal (opening >>= given_with script)
 refuses_script refusal opening found script is bad =
     RefusesInputs-whole {X = List ScriptStep} {Y = ScriptGiven} refusal (said_steps (script_steps script)) (opening >>= given_with script)
@@ -61,7 +61,7 @@ front_at f plans plan value is seen = slice_get-map f plans 0 ∙ ap (option_map
 
 -- ---- other words for what is given
 
-pub left_as : {Y : Type 0} (result : Result Y Refusal) (one other : Result ScriptGiven Reason) (old new : Written) → one ≡ other → LeavesReplies result other old new → LeavesReplies result one old new
+pub left_as : {Y : Type 0} (result : Result Y CommandRefusal) (one other : Result ScriptGiven Reason) (old new : Written) → one ≡ other → LeavesReplies result other old new → LeavesReplies result one old new
 left_as result one other old new is left = subst (λ (r : Result ScriptGiven Reason). LeavesReplies result r old new) (sym is) left
 
 -- ---- what is printed
@@ -86,7 +86,7 @@ module _ (plans : List PlanValue) (feeds : List FeedValue) (steps : List ScriptS
   prints_all (board, replies, run, appended) = (replies_text plan replies, replied steps replies board run, appended)
 
   -- a beginning of the replies to the first steps, which can't be written
-  pub prints_first : (refusal : Refusal) → IsUnwritten refusal → (n : ℕ) × (board : Meaning) × (replies : List ScriptReply) × IsScriptRun feeds start (take n steps) replies board × BreaksOff old new (replies_text plan replies)
+  pub prints_first : (refusal : CommandRefusal) → IsUnwritten refusal → (n : ℕ) × (board : Meaning) × (replies : List ScriptReply) × IsScriptRun feeds start (take n steps) replies board × BreaksOff old new (replies_text plan replies)
       → RefusesCommand AreFirstReplies refusal (all_given plans feeds steps) old new
   prints_first refusal unwritten (n, board, replies, run, broken) =
       refuses_unwritten AreFirstReplies refusal (all_given plans feeds steps) _ (replies_text plan replies) old new refl (n, replied (take n steps) replies board run) broken unwritten

@@ -15,8 +15,8 @@ use Rattle.vdiff_core.specs.RowsValue.{RowsValue, row_with_key}
 use Rattle.vdiff_core.specs.declared.reading.DumpFault.{DumpFault}
 use Rattle.vdiff_core.specs.declared.reading.DumpFault.TheVariants as faults
 use Rattle.vdiff_core.specs.declared.report.Report.{Report}
-use Rattle.vrepl_main.specs.declared.refusal.Refusal.{Refusal}
-use Rattle.vrepl_main.specs.declared.refusal.Refusal.TheVariants.{Memory, Workflow, NoStream, FeedCount, Feed, BadHex, BadScript, BadDump, CannotRead, CannotWrite}
+use Rattle.vrepl_main.specs.declared.refusal.CommandRefusal.{CommandRefusal}
+use Rattle.vrepl_main.specs.declared.refusal.CommandRefusal.TheVariants.{Memory, Workflow, NoStream, FeedCount, Feed, BadHex, BadScript, BadDump, CannotRead, CannotWrite}
 use Rattle.vrepl_main.specs.Reasons.{bad_workflow, no_stream, feed_count, bad_hex, bad_feed, bad_script, bad_dump}
 use Rattle.vrepl_main.specs.RefusalOf.{refusal_of_workflow, refusal_of_dump}
 use Rattle.vrepl_main.specs.Command.{IsUnwritten}
@@ -68,7 +68,7 @@ module _ (workflow source target : List ℕ) (plan : PlanValue) (others : List P
   refuses_target (faults.BadDump n) rows read bad = (Err (bad_dump n), record { plan = plan; others = others; plans = is; bad = inr (rows, read, bad n refl) }, (refl, refl))
 
 -- the comparison can't be written
-pub unwritten_comparison : (workflow source target : List ℕ) (compared : Compared) (refusal : Refusal) (old new : Written) → AreDumps workflow source target compared
+pub unwritten_comparison : (workflow source target : List ℕ) (compared : Compared) (refusal : CommandRefusal) (old new : Written) → AreDumps workflow source target compared
     → (text : List ℕ) × IsComparison compared text × BreaksOff old new text → IsUnwritten refusal → RefusesDumps workflow source target refusal old new
 unwritten_comparison workflow source target compared (CannotWrite file) old new dumps (text, comparison, broken) is = (Ok compared, dumps, (is, (text, comparison, broken)))
 unwritten_comparison workflow source target compared Memory old new dumps printed is = absurd is

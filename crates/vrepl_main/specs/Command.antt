@@ -4,8 +4,8 @@ use Rattle.vdiff_core.specs.Printing.{Written, IsWritten, BreaksOff}
 use Rattle.vrepl_main.specs.Printing.{PrintsOrBreaks}
 use Rattle.vrepl_main.specs.Reasons.{Reason, RefusesInputs}
 use Rattle.vrepl_main.specs.Refusals.{refusal_line}
-use Rattle.vrepl_main.specs.declared.refusal.Refusal.{Refusal}
-use Rattle.vrepl_main.specs.declared.refusal.Refusal.TheVariants.{CannotWrite}
+use Rattle.vrepl_main.specs.declared.refusal.CommandRefusal.{CommandRefusal}
+use Rattle.vrepl_main.specs.declared.refusal.CommandRefusal.TheVariants.{CannotWrite}
 
 -- ---- a status
 
@@ -31,7 +31,7 @@ IsGivenText given text = text ≡ given
 -- ---- refusals
 
 -- standard output, `-`, can't be written
-abbrev pub IsUnwritten : Refusal → Type 0
+abbrev pub IsUnwritten : CommandRefusal → Type 0
 IsUnwritten (CannotWrite file) = file.now ≡ codes "-"
 IsUnwritten refusal = ⊥
 
@@ -42,18 +42,18 @@ BreaksOffIn IsText (Err reason) old new = ⊥
 
 -- a refusal is that standard output can't be written, and then a write of it failed; any other leaves it as it was and
 -- says just why there is nothing to be had of the inputs, unless memory ran out
-abbrev pub RefusesCommand : {X : Type 0} → (X → List ℕ → Type 0) → Refusal → Result X Reason → Written → Written → Type 0
+abbrev pub RefusesCommand : {X : Type 0} → (X → List ℕ → Type 0) → CommandRefusal → Result X Reason → Written → Written → Type 0
 RefusesCommand IsText (CannotWrite file) reading old new = (file.now ≡ codes "-") × BreaksOffIn IsText reading old new
 RefusesCommand IsText refusal reading old new = RefusesInputs refusal reading × (new ≡ old)
 
 -- such a refusal's line was printed whole on standard error, unless a write of it failed
 abbrev pub PrintsRefusal : {X : Type 0} → (X → List ℕ → Type 0) → Result X Reason → Written → Written → Written → Written → Type 0
-PrintsRefusal IsText reading old new err_old err_new = (refusal : Refusal) × RefusesCommand IsText refusal reading old new × PrintsOrBreaks err_old err_new (refusal_line refusal)
+PrintsRefusal IsText reading old new err_old err_new = (refusal : CommandRefusal) × RefusesCommand IsText refusal reading old new × PrintsOrBreaks err_old err_new (refusal_line refusal)
 
 -- ---- a command that prints a text
 
 -- what trying to print the text leaves on standard output: the whole text, or what a refusal leaves there
-abbrev pub PrintsText : {X : Type 0} → Result X Refusal → Result (List ℕ) Reason → Written → Written → Type 0
+abbrev pub PrintsText : {X : Type 0} → Result X CommandRefusal → Result (List ℕ) Reason → Written → Written → Type 0
 PrintsText (Ok x) reading old new = PrintsWhole reading old new
 PrintsText (Err refusal) reading old new = RefusesCommand IsGivenText refusal reading old new
 

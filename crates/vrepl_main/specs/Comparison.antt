@@ -18,8 +18,8 @@ use Rattle.vdiff_core.specs.declared.writer.OutFailed.{OutFailed}
 use Rattle.vdiff_core.specs.KeyText.{key_text}
 use Rattle.vrepl_main.specs.declared.comparing.Verdict.{Verdict}
 use Rattle.vrepl_main.specs.declared.comparing.Verdict.TheVariants.{Same, Differ}
-use Rattle.vrepl_main.specs.declared.refusal.Refusal.{Refusal}
-use Rattle.vrepl_main.specs.declared.refusal.Refusal.TheVariants.{Memory}
+use Rattle.vrepl_main.specs.declared.refusal.CommandRefusal.{CommandRefusal}
+use Rattle.vrepl_main.specs.declared.refusal.CommandRefusal.TheVariants.{Memory}
 
 -- ---- text
 
@@ -99,14 +99,14 @@ IsComparedAs verdict workflow source target old new =
 
 -- a refusal says what the files are read as, unless memory ran out, and leaves nothing on standard output; or it is that
 -- this can't be written, and then a write of it failed
-abbrev pub RefusesDumps : List ℕ → List ℕ → List ℕ → Refusal → Written → Written → Type 0
+abbrev pub RefusesDumps : List ℕ → List ℕ → List ℕ → CommandRefusal → Written → Written → Type 0
 RefusesDumps workflow source target Memory old new = new ≡ old
 RefusesDumps workflow source target refusal old new = (reading : Result Compared Reason) × AreRead workflow source target reading × RefusesCommand IsComparison refusal reading old new
 
 -- such a refusal's line was printed whole on standard error, unless a write of it failed
 abbrev pub PrintsDumpRefusal : List ℕ → List ℕ → List ℕ → Written → Written → Written → Written → Type 0
 PrintsDumpRefusal workflow source target old new err_old err_new =
-    (refusal : Refusal) × RefusesDumps workflow source target refusal old new × PrintsOrBreaks err_old err_new (refusal_line refusal)
+    (refusal : CommandRefusal) × RefusesDumps workflow source target refusal old new × PrintsOrBreaks err_old err_new (refusal_line refusal)
 
 -- how `vdiff` ends: with 3 where the dumps differ
 abbrev pub ComparisonEnds : List ℕ → List ℕ → List ℕ → ℕ → Written → Written → Written → Written → Type 0

@@ -2,8 +2,8 @@
 use Rattle.std.specs.Prelude.{◌≡◌, ◌<◌, ℕ, List, length, codes, get_or, Bool, true, false}
 use Rattle.vrepl_main.specs.declared.input.InputName.{InputName}
 use Rattle.vrepl_main.specs.declared.input.InputName.TheVariants.{File, Standard}
-use Rattle.vrepl_main.specs.declared.refusal.Refusal.{Refusal}
-use Rattle.vrepl_main.specs.declared.refusal.Refusal.TheVariants.{Memory, CannotRead}
+use Rattle.vrepl_main.specs.declared.refusal.CommandRefusal.{CommandRefusal}
+use Rattle.vrepl_main.specs.declared.refusal.CommandRefusal.TheVariants.{Memory, CannotRead}
 
 -- the name of an input in the line of a refusal
 abbrev pub input_name : InputName → List ℕ
@@ -16,13 +16,13 @@ is_standard (File name) = false
 is_standard Standard = true
 
 -- the refusal is that the input of this name can't be read, or that memory ran out
-abbrev pub IsUnread : List ℕ → Refusal → Type 0
+abbrev pub IsUnread : List ℕ → CommandRefusal → Type 0
 IsUnread name Memory = Unit {0}
 IsUnread name (CannotRead file) = file.now ≡ name
 IsUnread name refusal = ⊥
 
 -- the same of one of some inputs
-abbrev pub IsUnreadAmong : List InputName → Refusal → Type 0
+abbrev pub IsUnreadAmong : List InputName → CommandRefusal → Type 0
 IsUnreadAmong names Memory = Unit {0}
 IsUnreadAmong names (CannotRead file) = (i : ℕ) × (i < length names) × (file.now ≡ input_name (get_or names i Standard))
 IsUnreadAmong names refusal = ⊥

@@ -10,8 +10,8 @@ use Rattle.vrepl_main.specs.declared.opened.Opened.{Opened}
 use Rattle.vrepl_main.specs.declared.scripted.Scripted.{Scripted}
 use Rattle.source_feed.specs.declared.fault.FeedFault.{FeedFault}
 use Rattle.vrepl_main.specs.RefusalOf.{refusal_of_feed}
-use Rattle.vrepl_main.specs.declared.refusal.Refusal.{Refusal}
-use Rattle.vrepl_main.specs.declared.refusal.Refusal.TheVariants.{BadHex}
+use Rattle.vrepl_main.specs.declared.refusal.CommandRefusal.{CommandRefusal}
+use Rattle.vrepl_main.specs.declared.refusal.CommandRefusal.TheVariants.{BadHex}
 use Rattle.std.specs.declared.sync.Arc.{Arc}
 use Rattle.std.specs.declared.alloc.Global.{Global}
 use Rattle.vrepl_main.specs.Given.{given_value}
@@ -41,7 +41,7 @@ abbrev pub scripted_value : Scripted → ScriptGiven
 scripted_value scripted = record { opened = opened_value scripted.opened; steps = scripted.steps.items }
 
 -- what came of opening a feed, none where it should have been hexadecimal text, as the feed or its refusal
-abbrev pub as_opened : Result (Option FeedValue) FeedFault → Result FeedValue Refusal
+abbrev pub as_opened : Result (Option FeedValue) FeedFault → Result FeedValue CommandRefusal
 as_opened (Ok None) = Err BadHex
 as_opened (Ok (Some feed)) = Ok feed
 as_opened (Err fault) = Err (refusal_of_feed fault)

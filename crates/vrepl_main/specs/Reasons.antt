@@ -3,8 +3,8 @@ use Rattle.std.specs.Prelude.{◌≡◌, ℕ, Option, None, Some, MatchOption, R
 use Rattle.filter_rule.specs.Faults as plans
 use Rattle.source_feed.specs.FaultNumber as feed
 use Rattle.source_feed.specs.declared.fault.FeedFault.{FeedFault}
-use Rattle.vrepl_main.specs.declared.refusal.Refusal.{Refusal}
-use Rattle.vrepl_main.specs.declared.refusal.Refusal.TheVariants.{Memory, Workflow, NoStream, FeedCount, Feed, BadHex, BadScript, BadDump, CannotRead, CannotWrite}
+use Rattle.vrepl_main.specs.declared.refusal.CommandRefusal.{CommandRefusal}
+use Rattle.vrepl_main.specs.declared.refusal.CommandRefusal.TheVariants.{Memory, Workflow, NoStream, FeedCount, Feed, BadHex, BadScript, BadDump, CannotRead, CannotWrite}
 
 -- the workflow file has a fault; it has no stream of a number that is named; there aren't as many feeds as streams; a feed
 -- that is to be hexadecimal text is none; a feed is refused; a line of the script is no step; a line of a dump can't stand
@@ -19,7 +19,7 @@ pub data Reason : Type 0 where
   bad_dump : ℕ → Reason
 
 -- what a refusal says of the inputs; nothing for want of memory, and where a file can't be read or written
-abbrev pub reason_of : Refusal → Option Reason
+abbrev pub reason_of : CommandRefusal → Option Reason
 reason_of Memory = None
 reason_of (Workflow fault) = option_map bad_workflow (plans.definition_fault_of fault)
 reason_of NoStream = Some no_stream
@@ -32,11 +32,11 @@ reason_of (CannotRead file) = None
 reason_of (CannotWrite file) = None
 
 -- a refusal says just why there is nothing to be had of the inputs, unless memory ran out
-abbrev pub RefusesInputs : {X : Type 0} → Refusal → Result X Reason → Type 0
+abbrev pub RefusesInputs : {X : Type 0} → CommandRefusal → Result X Reason → Type 0
 RefusesInputs Memory reading = Unit {0}
 RefusesInputs refusal reading = MatchOption (reason_of refusal) ⊥ (λ reason. reading ≡ Err reason)
 
 -- what a call gives of the inputs, seen by `view`
-abbrev pub GivesOfInputs : {X Y : Type 0} → (X → Y) → Result X Refusal → Result Y Reason → Type 0
+abbrev pub GivesOfInputs : {X Y : Type 0} → (X → Y) → Result X CommandRefusal → Result Y Reason → Type 0
 GivesOfInputs view (Ok x) reading = reading ≡ Ok (view x)
 GivesOfInputs view (Err refusal) reading = RefusesInputs refusal reading

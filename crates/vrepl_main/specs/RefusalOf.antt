@@ -7,22 +7,22 @@ use Rattle.vdiff_core.specs.declared.reading.DumpFault.{DumpFault}
 use Rattle.vdiff_core.specs.declared.reading.DumpFault.TheVariants as dumps
 use Rattle.vrepl_main.specs.declared.hex_text.HexFault.{HexFault}
 use Rattle.vrepl_main.specs.declared.hex_text.HexFault.TheVariants as hex
-use Rattle.vrepl_main.specs.declared.refusal.Refusal.{Refusal}
-use Rattle.vrepl_main.specs.declared.refusal.Refusal.TheVariants.{Memory, Workflow, Feed, BadHex, BadDump}
+use Rattle.vrepl_main.specs.declared.refusal.CommandRefusal.{CommandRefusal}
+use Rattle.vrepl_main.specs.declared.refusal.CommandRefusal.TheVariants.{Memory, Workflow, Feed, BadHex, BadDump}
 
 -- want of memory is one refusal, wherever it strikes
-abbrev pub refusal_of_feed : FeedFault → Refusal
+abbrev pub refusal_of_feed : FeedFault → CommandRefusal
 refusal_of_feed feed.Memory = Memory
 refusal_of_feed fault = Feed fault
 
-abbrev pub refusal_of_hex : HexFault → Refusal
+abbrev pub refusal_of_hex : HexFault → CommandRefusal
 refusal_of_hex hex.Memory = Memory
 refusal_of_hex hex.BadHex = BadHex
 
-abbrev pub refusal_of_workflow : PlanFault → Refusal
+abbrev pub refusal_of_workflow : PlanFault → CommandRefusal
 refusal_of_workflow plans.Memory = Memory
 refusal_of_workflow fault = Workflow fault
 
-abbrev pub refusal_of_dump : DumpFault → Refusal
+abbrev pub refusal_of_dump : DumpFault → CommandRefusal
 refusal_of_dump dumps.Memory = Memory
 refusal_of_dump (dumps.BadDump line) = BadDump line

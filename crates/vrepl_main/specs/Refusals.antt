@@ -9,11 +9,11 @@ use Rattle.source_feed.specs.declared.fault.FeedFault.{FeedFault}
 use Rattle.source_feed.specs.declared.fault.FeedFault.TheVariants.{Event, Diverged}
 use Rattle.vrepl_main.specs.Printing.{named_number}
 use Rattle.vrepl_main.specs.RefusalLine.{line_of}
-use Rattle.vrepl_main.specs.declared.refusal.Refusal.{Refusal}
-use Rattle.vrepl_main.specs.declared.refusal.Refusal.TheVariants.{Memory, Workflow, NoStream, FeedCount, Feed, BadHex, BadScript, BadDump, CannotRead, CannotWrite}
+use Rattle.vrepl_main.specs.declared.refusal.CommandRefusal.{CommandRefusal}
+use Rattle.vrepl_main.specs.declared.refusal.CommandRefusal.TheVariants.{Memory, Workflow, NoStream, FeedCount, Feed, BadHex, BadScript, BadDump, CannotRead, CannotWrite}
 
 -- the number of each refusal
-abbrev pub number_of : Refusal → ℕ
+abbrev pub number_of : CommandRefusal → ℕ
 number_of Memory = 72
 number_of (Workflow fault) = plans.number_of fault
 number_of NoStream = 115
@@ -57,7 +57,7 @@ workflow_details (ColumnsDiffer table) = codes " table " ++ string_bytes table
 workflow_details _ = []
 
 -- what stands behind the number
-abbrev pub details_of : Refusal → List ℕ
+abbrev pub details_of : CommandRefusal → List ℕ
 details_of (Workflow fault) = workflow_details fault
 details_of (Feed fault) = feed_details fault
 details_of (BadScript bad) = codes " line " ++ decimal bad
@@ -67,5 +67,5 @@ details_of (CannotWrite file) = codes " file " ++ file.now
 details_of _ = []
 
 -- the line
-abbrev pub refusal_line : Refusal → List ℕ
+abbrev pub refusal_line : CommandRefusal → List ℕ
 refusal_line refusal = line_of (number_of refusal) (details_of refusal)

@@ -7,7 +7,7 @@ use Rattle.step_script.specs.declared.script.ScriptStep.{ScriptStep}
 use Rattle.vrepl_main.specs.Reasons.{Reason}
 use Rattle.vrepl_main.specs.ScriptRun.{ScriptGiven, IsRepliedTo}
 use Rattle.vrepl_main.specs.Command.{Ends, PrintsRefusal, RefusesCommand}
-use Rattle.vrepl_main.specs.declared.refusal.Refusal.{Refusal}
+use Rattle.vrepl_main.specs.declared.refusal.CommandRefusal.{CommandRefusal}
 
 -- these plans, feeds and steps are what is given
 abbrev pub all_given : List PlanValue → List FeedValue → List ScriptStep → Result ScriptGiven Reason
@@ -23,7 +23,7 @@ abbrev pub AreFirstReplies : ScriptGiven → List ℕ → Type 0
 AreFirstReplies given text = (n : ℕ) × IsRepliedTo given.opened (take n given.steps) text
 
 -- what trying to print the replies leaves on standard output: all of them, or what a refusal leaves there
-abbrev pub LeavesReplies : {X : Type 0} → Result X Refusal → Result ScriptGiven Reason → Written → Written → Type 0
+abbrev pub LeavesReplies : {X : Type 0} → Result X CommandRefusal → Result ScriptGiven Reason → Written → Written → Type 0
 LeavesReplies (Ok x) reading old new = PrintsReplies reading old new
 LeavesReplies (Err refusal) reading old new = RefusesCommand AreFirstReplies refusal reading old new
 

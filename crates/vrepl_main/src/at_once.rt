@@ -10,7 +10,7 @@ ghost use Rattle.vrepl_main.specs.Reasons.{GivesOfInputs};
 
 use crate::given::GivenFeed;
 use crate::opened::Opened;
-use crate::refusal::Refusal;
+use crate::refusal::CommandRefusal;
 use filter_rule::Plan;
 use source_feed::{Feed, FeedFault};
 use std::alloc::{AllocError, Global};
@@ -24,14 +24,14 @@ pub fn open_at_once<'h, R: Threads + Sync>(
     alloc: Global,
     workflow: &[u8],
     given: &'h [GivenFeed<'_>],
-) -> Result<Opened<'h>, Refusal<'static>>
+) -> Result<Opened<'h>, CommandRefusal<'static>>
     ensures opened { GivesOfInputs opened_value result (opened_bytes workflow.now (map given_value given.entry.now)) }
     // There are 1 to 64 plans over the same tables.
     ensures plans { IfOk result (λ opened. ArePlans (map arc_value opened.plans.items)) }
 {
     let plans = Plan::read_all(alloc, workflow)?;
     if plans.len() != given.len() {
-        return Err(Refusal::FeedCount);
+        return Err(CommandRefusal::FeedCount);
     }
     let feeds = open_feeds_at_once(rt, alloc, &plans, given)?;
     Ok(Opened { plans, feeds })
@@ -43,7 +43,7 @@ pub(crate) fn open_feeds_at_once<'h, R: Threads + Sync>(
     alloc: Global,
     plans: &[Arc<Plan>],
     given: &'h [GivenFeed<'_>],
-) -> Result<Vec<Feed<'h>>, Refusal<'static>>
+) -> Result<Vec<Feed<'h>>, CommandRefusal<'static>>
     requires { length plans.now ≡ length given.now }
     ensures { GivesOfInputs (λ feeds. feeds.items) result (opened_feeds (map arc_value plans.now) (map given_value given.entry.now)) }
 {
@@ -89,12 +89,12 @@ fn try_feed<'h>(alloc: Global, plan: &Arc<Plan>, given: &'h GivenFeed<'_>) -> Tr
 }
 
 /// The feed, or why it isn't opened.
-fn opened(tried: Tried<'_>) -> Result<Feed<'_>, Refusal<'static>>
+fn opened(tried: Tried<'_>) -> Result<Feed<'_>, CommandRefusal<'static>>
     ensures { result ≡ as_opened tried.entry }
 {
     match tried? {
         Some(feed) => Ok(feed),
-        None => Err(Refusal::BadHex),
+        None => Err(CommandRefusal::BadHex),
     }
 }
 
@@ -104,7 +104,7 @@ fn feeds_of<'h>(
     plans: &[Arc<Plan>],
     given: &'h [GivenFeed<'_>],
     tried: Vec<Tried<'h>>,
-) -> Result<Vec<Feed<'h>>, Refusal<'static>>
+) -> Result<Vec<Feed<'h>>, CommandRefusal<'static>>
     requires same { length plans.now ≡ length given.now }
     requires tried { AreTried (map arc_value plans.now) (map given_value given.now) tried.items }
     ensures { GivesOfInputs (λ feeds. feeds.items) result (opened_feeds (map arc_value plans.now) (map given_value given.entry.now)) }
@@ -115,7 +115,7 @@ fn feeds_of<'h>(
     for one in tried {
         let feed = opened(one)?;
         if feeds.push(feed).is_err() {
-            return Err(Refusal::Memory);
+            return Err(CommandRefusal::Memory);
         }
     }
     Ok(feeds)

@@ -7,7 +7,7 @@ ghost use Rattle.vrepl_main.specs.Comparison.{count_line, report_text, first_lin
 
 use crate::key_text::print_key;
 use crate::output::{put_all, put_between, put_str};
-use crate::refusal::{Refusal, refuse};
+use crate::refusal::{CommandRefusal, refuse};
 use crate::refused_text::name_of_table;
 use filter_rule::{Plan, Table};
 use pk_copy::Key;
@@ -59,7 +59,7 @@ fn print_vdiff<W: Out>(
     source: &[u8],
     target: &[u8],
     out: &mut W,
-) -> Result<Verdict, Refusal<'static>>
+) -> Result<Verdict, CommandRefusal<'static>>
     ensures compared { IfOk result (λ verdict. IsComparedAs verdict workflow.now source.now target.now (W.written out.old) (W.written out.new)) }
     ensures refused { IfErr result (λ refusal. RefusesDumps workflow.now source.now target.now refusal (W.written out.old) (W.written out.new)) }
 {

@@ -13,7 +13,7 @@ ghost use Rattle.vrepl_main.specs.Printing.{PrintsOrBreaks};
 use crate::named_inputs::{Course, FollowInputs};
 use crate::opened::Opened;
 use crate::progress::{Progress, tell_feeds};
-use crate::refusal::{Refusal, refuse};
+use crate::refusal::{CommandRefusal, refuse};
 use crate::refusal_line::refuse_over;
 use crate::running::{open_streams, refuse_run, run_streams};
 use crate::stepping::first_plan;
@@ -61,7 +61,7 @@ impl<'h> Followed<'h> {
 #[derive(Drop)]
 pub enum Unfollowed {
     /// What stands in the workflow or the feeds, or want of memory.
-    Given(Refusal<'static>),
+    Given(CommandRefusal<'static>),
     /// The checkpoint; its line names tables of the plan.
     Checkpoint {
         /// the first plan
@@ -78,13 +78,13 @@ pub enum Unfollowed {
     },
 }
 
-impl From<Refusal<'static>> for Unfollowed {
+impl From<CommandRefusal<'static>> for Unfollowed {
     ghost use Rattle.std.specs.Prelude.{◌≡◌};
     ghost use Rattle.vrepl_main.specs.declared.following.Unfollowed.TheVariants.{Given};
 
     ghost from_gives = { λ refusal made. made ≡ Given refusal };
 
-    fn from(refusal: Refusal<'static>) -> Unfollowed {
+    fn from(refusal: CommandRefusal<'static>) -> Unfollowed {
         Unfollowed::Given(refusal)
     }
 }
@@ -92,12 +92,12 @@ impl From<Refusal<'static>> for Unfollowed {
 impl From<AllocError> for Unfollowed {
     ghost use Rattle.std.specs.Prelude.{◌≡◌};
     ghost use Rattle.vrepl_main.specs.declared.following.Unfollowed.TheVariants.{Given};
-    ghost use Rattle.vrepl_main.specs.declared.refusal.Refusal.TheVariants.{Memory};
+    ghost use Rattle.vrepl_main.specs.declared.refusal.CommandRefusal.TheVariants.{Memory};
 
     ghost from_gives = { λ _ made. made ≡ Given Memory };
 
     fn from(_: AllocError) -> Unfollowed {
-        Unfollowed::Given(Refusal::Memory)
+        Unfollowed::Given(CommandRefusal::Memory)
     }
 }
 

@@ -18,7 +18,7 @@ use crate::following::{Followed, Unfollowed};
 use crate::given::GivenFeed;
 use crate::named_inputs::FollowInputs;
 use crate::opened::{Opened, open_feeds};
-use crate::refusal::Refusal;
+use crate::refusal::CommandRefusal;
 use crate::stepping::first_plan;
 use apply_core::{Board, fed_board, resume as resumed_board, save as checkpoint_of};
 use filter_rule::Plan;
@@ -64,14 +64,14 @@ fn open_for<'h, R: Threads + Sync>(
     only: &[u8],
     workflow: &[u8],
     given: &'h [GivenFeed<'_>],
-) -> Result<Opened<'h>, Refusal<'static>>
+) -> Result<Opened<'h>, CommandRefusal<'static>>
     ensures opened { GivesOfInputs opened_value result (opened_for only.now workflow.now (map given_value given.entry.now)) }
     ensures plans { IfOk result (λ opened. ArePlans (map arc_value opened.plans.items)) }
     ensures there { IfOk result (λ opened. AreThere only.now opened.plans.items) }
 {
     let plans = named_plans(alloc, only, workflow)?;
     if plans.len() != given.len() {
-        return Err(Refusal::FeedCount);
+        return Err(CommandRefusal::FeedCount);
     }
     let feeds = if alone {
         open_feeds(alloc, &plans, given)?
@@ -86,7 +86,7 @@ fn named_plans(
     alloc: Global,
     only: &[u8],
     workflow: &[u8],
-) -> Result<Vec<Arc<Plan>>, Refusal<'static>>
+) -> Result<Vec<Arc<Plan>>, CommandRefusal<'static>>
     ensures named { GivesOfInputs (λ plans. map arc_value plans.items) result (named_plans only.now workflow.now) }
     ensures plans { IfOk result (λ plans. ArePlans (map arc_value plans.items)) }
     ensures there { IfOk result (λ plans. AreThere only.now plans.items) }
@@ -95,7 +95,7 @@ fn named_plans(
     if have_streams(only, &plans) {
         Ok(plans)
     } else {
-        Err(Refusal::NoStream)
+        Err(CommandRefusal::NoStream)
     }
 }
 

@@ -7,7 +7,7 @@ ghost use Rattle.std.specs.IoError.{error_kind};
 ghost use Rattle.std.specs.declared.io.ErrorKind.TheVariants.{OutOfMemory};
 ghost use Rattle.vrepl_main.specs.Inputs.{is_standard, input_name, IsUnread, IsUnreadAmong};
 
-use crate::refusal::Refusal;
+use crate::refusal::CommandRefusal;
 use std::alloc::Global;
 use std::fs::{File, OpenFile};
 use std::io;
@@ -70,7 +70,7 @@ impl<'w> InputName<'w> {
 pub fn read_inputs<'w, R: Files + Input + AllocGlobal>(
     rt: &R,
     names: &[InputName<'w>],
-) -> Result<Vec<Vec<u8>>, Refusal<'w>>
+) -> Result<Vec<Vec<u8>>, CommandRefusal<'w>>
     ensures all { IfOk result (λ inputs. length inputs.items ≡ length names.now) }
     ensures refused { IfErr result (IsUnreadAmong names.now) }
 {
@@ -78,7 +78,7 @@ pub fn read_inputs<'w, R: Files + Input + AllocGlobal>(
     for name in names {
         let read = read_input(rt, *name)?;
         if inputs.push(read).is_err() {
-            return Err(Refusal::Memory);
+            return Err(CommandRefusal::Memory);
         }
     }
     Ok(inputs)
@@ -88,7 +88,7 @@ pub fn read_inputs<'w, R: Files + Input + AllocGlobal>(
 pub fn read_input<'w, R: Files + Input + AllocGlobal>(
     rt: &R,
     name: InputName<'w>,
-) -> Result<Vec<u8>, Refusal<'w>>
+) -> Result<Vec<u8>, CommandRefusal<'w>>
     ensures refused { IfErr result (IsUnread (input_name name.entry)) }
 {
     let read = match name {
@@ -102,12 +102,12 @@ pub fn read_input<'w, R: Files + Input + AllocGlobal>(
 }
 
 /// The refusal of an input that isn't there whole.
-fn unread<'w>(fault: InputFault, name: InputName<'w>) -> Refusal<'w>
+fn unread<'w>(fault: InputFault, name: InputName<'w>) -> CommandRefusal<'w>
     ensures { IsUnread (input_name name.entry) result }
 {
     match fault {
-        InputFault::CannotRead => Refusal::CannotRead { file: name.text() },
-        InputFault::Memory => Refusal::Memory,
+        InputFault::CannotRead => CommandRefusal::CannotRead { file: name.text() },
+        InputFault::Memory => CommandRefusal::Memory,
     }
 }
 

@@ -9,7 +9,7 @@ ghost use Rattle.vrepl_main.specs.Printing.{PrintsOrBreaks};
 use crate::given::given_feeds;
 use crate::named_inputs::JoinInputs;
 use crate::opened::{Opened, open_workflow};
-use crate::refusal::{Refusal, refuse};
+use crate::refusal::{CommandRefusal, refuse};
 use crate::refusal_line::refuse_over;
 use crate::saving::print_bytes;
 use crate::stepping::first_plan;
@@ -26,7 +26,7 @@ use vdiff_core::Out;
 #[derive(Drop)]
 pub enum Unjoined {
     /// What stands in the workflow or the feeds, want of memory, or that the checkpoint can't be written.
-    Given(Refusal<'static>),
+    Given(CommandRefusal<'static>),
     /// The one checkpoint; its line names tables of the plan.
     One {
         /// the first plan
@@ -50,13 +50,13 @@ pub enum Unjoined {
     },
 }
 
-impl From<Refusal<'static>> for Unjoined {
+impl From<CommandRefusal<'static>> for Unjoined {
     ghost use Rattle.std.specs.Prelude.{◌≡◌};
     ghost use Rattle.vrepl_main.specs.declared.joining.Unjoined.TheVariants.{Given};
 
     ghost from_gives = { λ refusal made. made ≡ Given refusal };
 
-    fn from(refusal: Refusal<'static>) -> Unjoined {
+    fn from(refusal: CommandRefusal<'static>) -> Unjoined {
         Unjoined::Given(refusal)
     }
 }
@@ -98,7 +98,7 @@ fn print_joined<W: Out>(alloc: Global, inputs: &JoinInputs, out: &mut W) -> Resu
     let bytes = joined_bytes(alloc, inputs)?;
     match print_bytes(out, &bytes) {
         Ok(()) => Ok(()),
-        Err(_) => Err(Unjoined::Given(Refusal::CannotWrite { file: "-" })),
+        Err(_) => Err(Unjoined::Given(CommandRefusal::CannotWrite { file: "-" })),
     }
 }
 
@@ -108,16 +108,16 @@ fn joined_bytes(alloc: Global, inputs: &JoinInputs) -> Result<Vec<u8>, Unjoined>
     ensures refused { IfErr result (λ refusal. IsUnjoined refusal (join_asked inputs.now) inputs.now.one.items (bytes_of inputs.now.others.items)) }
 {
     let Ok(given) = given_feeds(alloc, inputs.hex, &inputs.feeds) else {
-        return Err(Unjoined::Given(Refusal::Memory));
+        return Err(Unjoined::Given(CommandRefusal::Memory));
     };
     let opened = open_workflow(alloc, &inputs.workflow, &given)?;
     let Ok(plan) = first_plan(&opened.plans) else {
-        return Err(Unjoined::Given(Refusal::Memory));
+        return Err(Unjoined::Given(CommandRefusal::Memory));
     };
     let board = join_over(alloc, &opened, plan, &inputs.one, &inputs.others)?;
     match checkpoint(alloc, &board) {
         Ok(bytes) => Ok(bytes),
-        Err(_) => Err(Unjoined::Given(Refusal::Memory)),
+        Err(_) => Err(Unjoined::Given(CommandRefusal::Memory)),
     }
 }
 

@@ -3,7 +3,7 @@
 ghost use Rattle.std.specs.Prelude.{IfErr};
 ghost use Rattle.vrepl_main.specs.Keeping.{IsUnkept};
 
-use crate::refusal::Refusal;
+use crate::refusal::CommandRefusal;
 use std::fs::OpenFile;
 use std::io::Write;
 use std::rt::Files;
@@ -21,7 +21,7 @@ pub fn keep_file<'w, R: Files + AllocGlobal>(
     rt: &R,
     file: &'w str,
     bytes: &[u8],
-) -> Result<(), Refusal<'w>>
+) -> Result<(), CommandRefusal<'w>>
     ensures refused { IfErr result (IsUnkept file.now) }
 {
     let mut part = String::with_capacity(rt.alloc(), file.len() + PART.len())?;
@@ -31,7 +31,7 @@ pub fn keep_file<'w, R: Files + AllocGlobal>(
         Ok(()) => Ok(()),
         Err(_) => {
             let _ = fs::remove_file(rt, part.as_str());
-            Err(Refusal::CannotWrite { file })
+            Err(CommandRefusal::CannotWrite { file })
         }
     }
 }

@@ -48,7 +48,7 @@ pub use named_inputs::{
 };
 pub use opened::open_workflow;
 pub use progress::{Progress, Untold};
-pub use refusal::{Refusal, refuse};
+pub use refusal::{CommandRefusal, refuse};
 pub use resuming::resume;
 pub use running::run;
 pub use saving::save;

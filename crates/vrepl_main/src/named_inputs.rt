@@ -7,7 +7,7 @@ ghost use Rattle.vrepl_main.specs.declared.input.InputName.TheVariants.{File, St
 use crate::given::GivenFeed;
 use crate::input::{InputName, read_input, read_inputs};
 use crate::input_list::{file_names, run_inputs};
-use crate::refusal::Refusal;
+use crate::refusal::CommandRefusal;
 use std::rt::Files;
 use stream_worker::Policy;
 
@@ -106,7 +106,7 @@ pub fn read_run<'w, R: Files + Input + AllocGlobal>(
     hex: bool,
     workflow: &'w str,
     feeds: &[&'w str],
-) -> Result<RunInputs, Refusal<'w>>
+) -> Result<RunInputs, CommandRefusal<'w>>
     ensures course { IfOk result (λ inputs. inputs.course ≡ course) }
     ensures hex { IfOk result (λ inputs. inputs.hex ≡ hex) }
     ensures refused { IfErr result (IsUnreadAmong (File workflow.entry ∷ map File feeds.now)) }
@@ -128,7 +128,7 @@ pub fn read_step<'w, R: Files + Input + AllocGlobal>(
     hex: bool,
     workflow: &'w str,
     feeds: &[&'w str],
-) -> Result<Inputs, Refusal<'w>>
+) -> Result<Inputs, CommandRefusal<'w>>
     ensures hex { IfOk result (λ inputs. inputs.hex ≡ hex) }
     ensures refused { IfErr result (IsUnreadAmong (File workflow.entry ∷ (map File feeds.now ++ Standard ∷ []))) }
 {
@@ -150,7 +150,7 @@ pub fn read_resume<'w, R: Files + Input + AllocGlobal>(
     checkpoint: &'w str,
     workflow: &'w str,
     feeds: &[&'w str],
-) -> Result<ResumeInputs, Refusal<'w>>
+) -> Result<ResumeInputs, CommandRefusal<'w>>
     ensures hex { IfOk result (λ inputs. inputs.step.hex ≡ hex) }
     ensures refused { IfErr result (IsUnreadAmong (File checkpoint.entry ∷ File workflow.entry ∷ (map File feeds.now ++ Standard ∷ []))) }
 {
@@ -167,7 +167,7 @@ pub fn read_join<'w, R: Files + Input + AllocGlobal>(
     rt: &R,
     hex: bool,
     files: &JoinFiles<'_, 'w>,
-) -> Result<JoinInputs, Refusal<'w>>
+) -> Result<JoinInputs, CommandRefusal<'w>>
     ensures hex { IfOk result (λ inputs. inputs.hex ≡ hex) }
     ensures refused { IfErr result (IsUnreadAmong (File files.now.workflow ∷ File files.now.one ∷ File files.now.other ∷ (map File files.now.more.now ++ map File files.now.feeds.now))) }
 {
@@ -189,7 +189,7 @@ pub fn read_join<'w, R: Files + Input + AllocGlobal>(
 fn read_files<'w, R: Files + Input + AllocGlobal>(
     rt: &R,
     files: &[&'w str],
-) -> Result<Vec<Vec<u8>>, Refusal<'w>>
+) -> Result<Vec<Vec<u8>>, CommandRefusal<'w>>
     ensures all { IfOk result (λ read. length read.items ≡ length files.now) }
     ensures refused { IfErr result (IsUnreadAmong (map File files.now)) }
 {

@@ -9,7 +9,7 @@ ghost use Rattle.vrepl_main.specs.OpenedFeeds.{opened_value};
 ghost use Rattle.vrepl_main.specs.Reasons.{GivesOfInputs};
 
 use crate::given::GivenFeed;
-use crate::refusal::Refusal;
+use crate::refusal::CommandRefusal;
 use filter_rule::Plan;
 use source_feed::Feed;
 use std::alloc::Global;
@@ -29,14 +29,14 @@ pub fn open_workflow<'h>(
     alloc: Global,
     workflow: &[u8],
     given: &'h [GivenFeed<'_>],
-) -> Result<Opened<'h>, Refusal<'static>>
+) -> Result<Opened<'h>, CommandRefusal<'static>>
     ensures opened { GivesOfInputs opened_value result (opened_bytes workflow.now (map given_value given.entry.now)) }
     // There are 1 to 64 plans over the same tables.
     ensures plans { IfOk result (λ opened. ArePlans (map arc_value opened.plans.items)) }
 {
     let plans = Plan::read_all(alloc, workflow)?;
     if plans.len() != given.len() {
-        return Err(Refusal::FeedCount);
+        return Err(CommandRefusal::FeedCount);
     }
     let feeds = open_feeds(alloc, &plans, given)?;
     Ok(Opened { plans, feeds })
@@ -47,7 +47,7 @@ pub(crate) fn open_feeds<'h>(
     alloc: Global,
     plans: &[Arc<Plan>],
     given: &'h [GivenFeed<'_>],
-) -> Result<Vec<Feed<'h>>, Refusal<'static>>
+) -> Result<Vec<Feed<'h>>, CommandRefusal<'static>>
     requires { length plans.now ≡ length given.now }
     ensures { GivesOfInputs (λ feeds. feeds.items) result (opened_feeds (map arc_value plans.now) (map given_value given.entry.now)) }
 {
@@ -55,7 +55,7 @@ pub(crate) fn open_feeds<'h>(
     for i in 0..plans.len() {
         let feed = open_feed(alloc, &plans[i], &given[i])?;
         if feeds.push(feed).is_err() {
-            return Err(Refusal::Memory);
+            return Err(CommandRefusal::Memory);
         }
     }
     Ok(feeds)
@@ -66,11 +66,11 @@ fn open_feed<'h>(
     alloc: Global,
     plan: &Arc<Plan>,
     given: &'h GivenFeed<'_>,
-) -> Result<Feed<'h>, Refusal<'static>>
+) -> Result<Feed<'h>, CommandRefusal<'static>>
     ensures { GivesOfInputs (λ feed. feed) result (opened_feed (arc_value plan.now) (given_value given.entry.now)) }
 {
     match given.bytes() {
-        None => Err(Refusal::BadHex),
+        None => Err(CommandRefusal::BadHex),
         Some(bytes) => {
             let feed = Feed::open(alloc, bytes, plan)?;
             Ok(feed)

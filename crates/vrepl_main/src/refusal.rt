@@ -17,7 +17,7 @@ use vevent::EventFault;
 /// Why the program ends with status 1. Its line on standard error is `refused`, the number, and for
 /// some numbers details.
 #[derive(Drop)]
-pub enum Refusal<'w> {
+pub enum CommandRefusal<'w> {
     /// 72: a growth of memory was refused.
     Memory,
     /// 51 to 56: the workflow file is refused.
@@ -40,101 +40,101 @@ pub enum Refusal<'w> {
     CannotWrite { file: &'w str },
 }
 
-impl Refusal<'_> {
+impl CommandRefusal<'_> {
     /// The number of the refusal.
     pub fn number(&self) -> u8
         ensures { result ≡ number_of self.now }
     {
         match self {
-            Refusal::Memory => 72,
-            Refusal::Workflow(fault) => fault.number(),
-            Refusal::NoStream => 115,
-            Refusal::FeedCount => 119,
-            Refusal::Feed(fault) => fault.number(),
-            Refusal::BadHex => 93,
-            Refusal::BadScript { .. } => 120,
-            Refusal::BadDump { .. } => 121,
-            Refusal::CannotRead { .. } => 131,
-            Refusal::CannotWrite { .. } => 132,
+            CommandRefusal::Memory => 72,
+            CommandRefusal::Workflow(fault) => fault.number(),
+            CommandRefusal::NoStream => 115,
+            CommandRefusal::FeedCount => 119,
+            CommandRefusal::Feed(fault) => fault.number(),
+            CommandRefusal::BadHex => 93,
+            CommandRefusal::BadScript { .. } => 120,
+            CommandRefusal::BadDump { .. } => 121,
+            CommandRefusal::CannotRead { .. } => 131,
+            CommandRefusal::CannotWrite { .. } => 132,
         }
     }
 }
 
-impl<'w> From<AllocError> for Refusal<'w> {
+impl<'w> From<AllocError> for CommandRefusal<'w> {
     ghost use Rattle.std.specs.Prelude.{◌≡◌};
-    ghost use Rattle.vrepl_main.specs.declared.refusal.Refusal.TheVariants.{Memory};
+    ghost use Rattle.vrepl_main.specs.declared.refusal.CommandRefusal.TheVariants.{Memory};
 
     ghost from_gives = { λ _ refusal. refusal ≡ Memory };
 
-    fn from(_: AllocError) -> Refusal<'w> {
-        Refusal::Memory
+    fn from(_: AllocError) -> CommandRefusal<'w> {
+        CommandRefusal::Memory
     }
 }
 
-impl<'w> From<FeedFault> for Refusal<'w> {
+impl<'w> From<FeedFault> for CommandRefusal<'w> {
     ghost use Rattle.std.specs.Prelude.{◌≡◌};
     ghost use Rattle.vrepl_main.specs.RefusalOf.{refusal_of_feed};
 
     ghost from_gives = { λ fault refusal. refusal ≡ refusal_of_feed fault };
 
-    fn from(fault: FeedFault) -> Refusal<'w> {
+    fn from(fault: FeedFault) -> CommandRefusal<'w> {
         match fault {
-            FeedFault::Memory => Refusal::Memory,
-            fault => Refusal::Feed(fault),
+            FeedFault::Memory => CommandRefusal::Memory,
+            fault => CommandRefusal::Feed(fault),
         }
     }
 }
 
-impl<'w> From<PlanFault> for Refusal<'w> {
+impl<'w> From<PlanFault> for CommandRefusal<'w> {
     ghost use Rattle.std.specs.Prelude.{◌≡◌};
     ghost use Rattle.vrepl_main.specs.RefusalOf.{refusal_of_workflow};
 
     ghost from_gives = { λ fault refusal. refusal ≡ refusal_of_workflow fault };
 
-    fn from(fault: PlanFault) -> Refusal<'w> {
+    fn from(fault: PlanFault) -> CommandRefusal<'w> {
         match fault {
-            PlanFault::Memory => Refusal::Memory,
-            fault => Refusal::Workflow(fault),
+            PlanFault::Memory => CommandRefusal::Memory,
+            fault => CommandRefusal::Workflow(fault),
         }
     }
 }
 
-impl<'w> From<HexFault> for Refusal<'w> {
+impl<'w> From<HexFault> for CommandRefusal<'w> {
     ghost use Rattle.std.specs.Prelude.{◌≡◌};
     ghost use Rattle.vrepl_main.specs.RefusalOf.{refusal_of_hex};
 
     ghost from_gives = { λ fault refusal. refusal ≡ refusal_of_hex fault };
 
-    fn from(fault: HexFault) -> Refusal<'w> {
+    fn from(fault: HexFault) -> CommandRefusal<'w> {
         match fault {
-            HexFault::BadHex => Refusal::BadHex,
-            HexFault::Memory => Refusal::Memory,
+            HexFault::BadHex => CommandRefusal::BadHex,
+            HexFault::Memory => CommandRefusal::Memory,
         }
     }
 }
 
-impl<'w> From<DumpFault> for Refusal<'w> {
+impl<'w> From<DumpFault> for CommandRefusal<'w> {
     ghost use Rattle.std.specs.Prelude.{◌≡◌};
     ghost use Rattle.vrepl_main.specs.RefusalOf.{refusal_of_dump};
 
     ghost from_gives = { λ fault refusal. refusal ≡ refusal_of_dump fault };
 
-    fn from(fault: DumpFault) -> Refusal<'w> {
+    fn from(fault: DumpFault) -> CommandRefusal<'w> {
         match fault {
-            DumpFault::BadDump { line } => Refusal::BadDump { line },
-            DumpFault::Memory => Refusal::Memory,
+            DumpFault::BadDump { line } => CommandRefusal::BadDump { line },
+            DumpFault::Memory => CommandRefusal::Memory,
         }
     }
 }
 
 /// All that commands print goes to standard output.
-impl<'w> From<OutFailed> for Refusal<'w> {
+impl<'w> From<OutFailed> for CommandRefusal<'w> {
     ghost use Rattle.vrepl_main.specs.Command.{IsUnwritten};
 
     ghost from_gives = { λ _ refusal. IsUnwritten refusal };
 
-    fn from(_: OutFailed) -> Refusal<'w> {
-        Refusal::CannotWrite { file: "-" }
+    fn from(_: OutFailed) -> CommandRefusal<'w> {
+        CommandRefusal::CannotWrite { file: "-" }
     }
 }
 
@@ -241,7 +241,7 @@ fn print_file<E: Out>(err: &mut E, text: &mut Gathered, file: &str) -> Result<()
     put_str(err, text, file)
 }
 
-impl Telling for Refusal<'_> {
+impl Telling for CommandRefusal<'_> {
     ghost use Rattle.vrepl_main.specs.Refusals.{details_of, number_of};
 
     ghost told_number = { number_of };
@@ -260,21 +260,24 @@ impl Telling for Refusal<'_> {
         _tables: &[Table],
     ) -> Result<(), OutFailed> {
         match self {
-            Refusal::CannotRead { file } | Refusal::CannotWrite { file } => {
+            CommandRefusal::CannotRead { file } | CommandRefusal::CannotWrite { file } => {
                 print_file(err, text, file)
             }
-            Refusal::Workflow(fault) => print_workflow_details(err, text, fault),
-            Refusal::Feed(fault) => print_feed_details(err, text, fault),
-            Refusal::BadScript { line } | Refusal::BadDump { line } => {
+            CommandRefusal::Workflow(fault) => print_workflow_details(err, text, fault),
+            CommandRefusal::Feed(fault) => print_feed_details(err, text, fault),
+            CommandRefusal::BadScript { line } | CommandRefusal::BadDump { line } => {
                 put_named(err, text, " line ", *line as u64)
             }
-            Refusal::Memory | Refusal::NoStream | Refusal::FeedCount | Refusal::BadHex => Ok(()),
+            CommandRefusal::Memory
+            | CommandRefusal::NoStream
+            | CommandRefusal::FeedCount
+            | CommandRefusal::BadHex => Ok(()),
         }
     }
 }
 
 /// Prints the line of a refusal in one piece, whole unless `err` fails, and answers the status 1.
-pub fn refuse<E: Out>(err: &mut E, refusal: &Refusal<'_>) -> u8
+pub fn refuse<E: Out>(err: &mut E, refusal: &CommandRefusal<'_>) -> u8
     ensures status { result ≡ 1 }
     ensures line { PrintsOrBreaks (E.written err.old) (E.written err.new) (refusal_line refusal.now) }
 {

@@ -11,7 +11,7 @@ use crate::given::given_feeds;
 use crate::line::Basis;
 use crate::named_inputs::ResumeInputs;
 use crate::opened::Opened;
-use crate::refusal::{Refusal, refuse};
+use crate::refusal::{CommandRefusal, refuse};
 use crate::refusal_line::refuse_over;
 use crate::scripted::{Scripted, open_scripted};
 use crate::stepping::{first_plan, print_taken};
@@ -26,7 +26,7 @@ use vdiff_core::Out;
 #[derive(Drop)]
 pub enum ResumeRefusal {
     /// What stands in the other inputs, want of memory, or that the replies can't be written.
-    Given(Refusal<'static>),
+    Given(CommandRefusal<'static>),
     /// The checkpoint; its line names tables of the plan.
     Checkpoint {
         /// the first plan
@@ -36,13 +36,13 @@ pub enum ResumeRefusal {
     },
 }
 
-impl From<Refusal<'static>> for ResumeRefusal {
+impl From<CommandRefusal<'static>> for ResumeRefusal {
     ghost use Rattle.std.specs.Prelude.{◌≡◌};
     ghost use Rattle.vrepl_main.specs.declared.resuming.ResumeRefusal.TheVariants.{Given};
 
     ghost from_gives = { λ refusal made. made ≡ Given refusal };
 
-    fn from(refusal: Refusal<'static>) -> ResumeRefusal {
+    fn from(refusal: CommandRefusal<'static>) -> ResumeRefusal {
         ResumeRefusal::Given(refusal)
     }
 }
@@ -72,7 +72,7 @@ fn print_replies<W: Out>(
 {
     let step = &inputs.step;
     let Ok(given) = given_feeds(alloc, step.hex, &step.feeds) else {
-        return Err(ResumeRefusal::Given(Refusal::Memory));
+        return Err(ResumeRefusal::Given(CommandRefusal::Memory));
     };
     let scripted = open_scripted(alloc, step, &given)?;
     print_resumed(alloc, &inputs.checkpoint, scripted, out)
@@ -91,7 +91,7 @@ fn print_resumed<W: Out>(
     let Scripted { opened, steps } = scripted;
     let Opened { plans, feeds } = opened;
     let Ok(plan) = first_plan(&plans) else {
-        return Err(ResumeRefusal::Given(Refusal::Memory));
+        return Err(ResumeRefusal::Given(CommandRefusal::Memory));
     };
     let mut board = match resumed_board(alloc, &plans, &feeds, checkpoint) {
         Ok(board) => board,
@@ -107,6 +107,6 @@ fn print_resumed<W: Out>(
             forget(feeds);
             Ok(())
         }
-        Err(_) => Err(ResumeRefusal::Given(Refusal::CannotWrite { file: "-" })),
+        Err(_) => Err(ResumeRefusal::Given(CommandRefusal::CannotWrite { file: "-" })),
     }
 }

@@ -22,7 +22,7 @@ use crate::given::{GivenFeed, given_feeds};
 use crate::named_inputs::{Course, RunInputs};
 use crate::opened::{Opened, open_workflow};
 use crate::progress::{Progress, tell_feeds};
-use crate::refusal::{Refusal, refuse};
+use crate::refusal::{CommandRefusal, refuse};
 use crate::refusal_line::refuse_over;
 use crate::stepping::first_plan;
 use apply_core::Board;
@@ -40,7 +40,7 @@ use vdiff_core::Out;
 #[derive(Drop)]
 pub enum RunFault {
     /// What stands in the inputs, want of memory, or that the dump can't be written.
-    Given(Refusal<'static>),
+    Given(CommandRefusal<'static>),
     /// Why the streams' run was refused; its line names tables of the plan.
     Stream {
         /// the first plan
@@ -112,7 +112,7 @@ fn print_run<R: Threads + Wait + Sync, G: Progress + Sync, W: Out>(
     ensures refused { IfErr result (λ fault. RefusesRun fault (opened_asked inputs.now) (W.written out.old) (W.written out.new)) }
 {
     let Ok(given) = given_feeds(alloc, inputs.hex, &inputs.feeds) else {
-        return Err(RunFault::Given(Refusal::Memory));
+        return Err(RunFault::Given(CommandRefusal::Memory));
     };
     let (plan, board) = filled_board(rt, alloc, inputs, gate, &given)?;
     match print_rows(out, &plan, &board) {
@@ -125,7 +125,11 @@ fn print_run<R: Threads + Wait + Sync, G: Progress + Sync, W: Out>(
 }
 
 /// Prints the dump of a board's rows.
-fn print_rows<W: Out>(out: &mut W, plan: &Plan, board: &Board<'_>) -> Result<(), Refusal<'static>>
+fn print_rows<W: Out>(
+    out: &mut W,
+    plan: &Plan,
+    board: &Board<'_>,
+) -> Result<(), CommandRefusal<'static>>
     ensures printed { Prints result (W.written out.old) (W.written out.new) (dump_of plan.now (all_rows board.now.rows)) }
     ensures refused { IfErr result IsUnwritten }
 {
@@ -151,7 +155,7 @@ fn filled_board<'h, R: Threads + Wait + Sync, G: Progress + Sync>(
     };
     let Opened { plans, feeds } = opened;
     let Ok(plan) = first_plan(&plans) else {
-        return Err(RunFault::Given(Refusal::Memory));
+        return Err(RunFault::Given(CommandRefusal::Memory));
     };
     match run_streams(rt, alloc, course, gate, plans, &feeds) {
         Err(refusal) => Err(RunFault::Stream { plan, refusal }),
@@ -169,7 +173,7 @@ pub(crate) fn open_streams<'h, R: Threads + Sync>(
     alone: bool,
     workflow: &[u8],
     given: &'h [GivenFeed<'_>],
-) -> Result<Opened<'h>, Refusal<'static>>
+) -> Result<Opened<'h>, CommandRefusal<'static>>
     ensures opened { GivesOfInputs opened_value result (opened_bytes workflow.now (map given_value given.entry.now)) }
     ensures plans { IfOk result (λ opened. ArePlans (map arc_value opened.plans.items)) }
 {

@@ -14,7 +14,7 @@ use crate::given::given_feeds;
 use crate::line::answer_to;
 use crate::named_inputs::Inputs;
 use crate::opened::Opened;
-use crate::refusal::{Refusal, refuse};
+use crate::refusal::{CommandRefusal, refuse};
 use crate::scripted::{Scripted, open_scripted};
 use crate::stepping::fresh_board;
 use apply_core::{Answer, Board, StepRefusal, save as checkpoint};
@@ -49,7 +49,7 @@ fn print_checkpoint<W: Out>(
     alloc: Global,
     inputs: &Inputs,
     out: &mut W,
-) -> Result<(), Refusal<'static>>
+) -> Result<(), CommandRefusal<'static>>
     ensures printed { OnOk result (PrintsCheckpoint (script_asked inputs.now) (W.written out.old) (W.written out.new)) }
     ensures refused { IfErr result (λ refusal. RefusesCommand IsSavedBehind refusal (script_asked inputs.now) (W.written out.old) (W.written out.new)) }
 {

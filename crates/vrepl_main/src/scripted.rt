@@ -13,7 +13,7 @@ ghost use Rattle.vrepl_main.specs.ScriptRun.{said_steps, script_asked};
 use crate::given::GivenFeed;
 use crate::named_inputs::Inputs;
 use crate::opened::{Opened, open_workflow};
-use crate::refusal::Refusal;
+use crate::refusal::CommandRefusal;
 use std::alloc::Global;
 use step_script::{ScriptFault, ScriptStep, read_script};
 
@@ -30,7 +30,7 @@ pub(crate) fn open_scripted<'h>(
     alloc: Global,
     inputs: &Inputs,
     given: &'h [GivenFeed<'_>],
-) -> Result<Scripted<'h>, Refusal<'static>>
+) -> Result<Scripted<'h>, CommandRefusal<'static>>
     requires { map given_value given.now ≡ map (λ feed. feed_bytes inputs.now.hex feed.items) inputs.now.feeds.items }
     ensures scripted { GivesOfInputs scripted_value result (script_asked inputs.now) }
     // There are 1 to 64 plans over the same tables.
@@ -42,12 +42,12 @@ pub(crate) fn open_scripted<'h>(
 }
 
 /// The steps of a script.
-fn steps_of(alloc: Global, script: &[u8]) -> Result<Vec<ScriptStep>, Refusal<'static>>
+fn steps_of(alloc: Global, script: &[u8]) -> Result<Vec<ScriptStep>, CommandRefusal<'static>>
     ensures { GivesOfInputs (λ steps. steps.items) result (said_steps (script_steps script.now)) }
 {
     match read_script(alloc, script) {
         Ok(steps) => Ok(steps),
-        Err(ScriptFault::Memory) => Err(Refusal::Memory),
-        Err(ScriptFault::BadLine(line)) => Err(Refusal::BadScript { line }),
+        Err(ScriptFault::Memory) => Err(CommandRefusal::Memory),
+        Err(ScriptFault::BadLine(line)) => Err(CommandRefusal::BadScript { line }),
     }
 }

@@ -7,7 +7,7 @@ ghost use Rattle.vdiff_core.specs.Printing.{Prints};
 ghost use Rattle.vrepl_main.specs.Command.{PrintsText, TextEnds};
 
 use crate::hex_text::bytes_of_hex;
-use crate::refusal::{Refusal, refuse};
+use crate::refusal::{CommandRefusal, refuse};
 use crate::shown::print_groups;
 use source_feed::{Group, read_groups};
 use std::alloc::Global;
@@ -29,7 +29,7 @@ fn print_bytes<W: Out>(
     keyspace: &str,
     shard: &str,
     out: &mut W,
-) -> Result<(), Refusal<'static>>
+) -> Result<(), CommandRefusal<'static>>
     ensures { PrintsText result (shown_bytes (shown_source keyspace.now shard.now) (Some feed.now)) (W.written out.old) (W.written out.new) }
 {
     let groups = read_groups(alloc, feed, keyspace, shard)?;
@@ -46,7 +46,7 @@ fn print_feed<W: Out>(
     keyspace: &str,
     shard: &str,
     out: &mut W,
-) -> Result<(), Refusal<'static>>
+) -> Result<(), CommandRefusal<'static>>
     ensures { PrintsText result (shown_feed hex feed.now (shown_source keyspace.now shard.now)) (W.written out.old) (W.written out.new) }
 {
     if !hex {

@@ -14,7 +14,7 @@ use crate::line::Basis;
 use crate::lines::take_lines;
 use crate::named_inputs::Inputs;
 use crate::opened::Opened;
-use crate::refusal::{Refusal, refuse};
+use crate::refusal::{CommandRefusal, refuse};
 use crate::scripted::{Scripted, open_scripted};
 use apply_core::{Board, fed_board};
 use filter_rule::Plan;
@@ -45,7 +45,7 @@ fn print_replies<W: Out>(
     alloc: Global,
     inputs: &Inputs,
     out: &mut W,
-) -> Result<(), Refusal<'static>>
+) -> Result<(), CommandRefusal<'static>>
     ensures { LeavesReplies result (script_asked inputs.now) (W.written out.old) (W.written out.new) }
 {
     let given = given_feeds(alloc, inputs.hex, &inputs.feeds)?;
@@ -90,7 +90,7 @@ fn print_run<W: Out>(
     alloc: Global,
     scripted: Scripted<'_>,
     out: &mut W,
-) -> Result<(), Refusal<'static>>
+) -> Result<(), CommandRefusal<'static>>
     requires { ArePlans (map arc_value scripted.opened.plans.items) }
     ensures { LeavesReplies result (Ok (scripted_value scripted.entry)) (W.written out.old) (W.written out.new) }
 {

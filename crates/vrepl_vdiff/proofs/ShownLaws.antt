@@ -4,8 +4,8 @@ use Rattle.std.specs.Prelude.{unwrap_or}
 use Rattle.vdiff_core.specs.Printing.{Written, BreaksOff}
 use Rattle.vdiff_tables.specs.Reports.{NamedReport}
 use Rattle.vrepl_main.specs.Command.{IsUnwritten}
-use Rattle.vrepl_main.specs.declared.refusal.Refusal.{Refusal}
-use Rattle.vrepl_main.specs.declared.refusal.Refusal.TheVariants.{Memory, Workflow, NoStream, FeedCount, Feed, BadHex, BadScript, BadDump, CannotRead, CannotWrite}
+use Rattle.vrepl_main.specs.declared.refusal.CommandRefusal.{CommandRefusal}
+use Rattle.vrepl_main.specs.declared.refusal.CommandRefusal.TheVariants.{Memory, Workflow, NoStream, FeedCount, Feed, BadHex, BadScript, BadDump, CannotRead, CannotWrite}
 use Rattle.vrepl_main.specs.Comparison.{Compared}
 use Rattle.vrepl_vdiff.specs.Shown.{IsJsonOf, IsShown, IsTextOf, PrintsShown, by_json, reports_asked}
 use Rattle.vrepl_vdiff.specs.declared.options.Options.{Options}
@@ -21,7 +21,7 @@ shown_text options compared reports n text is asked count shown =
     (subst (λ (m : ℕ). IsTextOf compared (reports_asked options.tables compared) m text) count (subst (λ (r : List NamedReport). IsTextOf compared r n text) asked shown))
 
 -- it was printed, or it can't be written
-pub unwritten_shown : (options : Options) (refusal : Refusal) (compared : Compared) (old new : Written) (text : List ℕ) → IsShown options compared text → BreaksOff old new text → IsUnwritten refusal → PrintsShown {X = ℕ} options (Err refusal) compared old new
+pub unwritten_shown : (options : Options) (refusal : CommandRefusal) (compared : Compared) (old new : Written) (text : List ℕ) → IsShown options compared text → BreaksOff old new text → IsUnwritten refusal → PrintsShown {X = ℕ} options (Err refusal) compared old new
 unwritten_shown options (CannotWrite file) compared old new text shown broken is = (is, text, shown, broken)
 unwritten_shown options Memory compared old new text shown broken is = absurd is
 unwritten_shown options (Workflow fault) compared old new text shown broken is = absurd is

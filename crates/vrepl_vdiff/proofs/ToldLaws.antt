@@ -10,8 +10,8 @@ use Rattle.vdiff_core.specs.Printing.{Written}
 use Rattle.vdiff_core.specs.RowsValue.{RowsValue}
 use Rattle.vdiff_core.specs.declared.reading.DumpFault.{DumpFault}
 use Rattle.vdiff_core.specs.declared.reading.DumpFault.TheVariants as faults
-use Rattle.vrepl_main.specs.declared.refusal.Refusal.{Refusal}
-use Rattle.vrepl_main.specs.declared.refusal.Refusal.TheVariants.{Memory, Workflow, NoStream, FeedCount, Feed, BadHex, BadScript, BadDump, CannotRead, CannotWrite}
+use Rattle.vrepl_main.specs.declared.refusal.CommandRefusal.{CommandRefusal}
+use Rattle.vrepl_main.specs.declared.refusal.CommandRefusal.TheVariants.{Memory, Workflow, NoStream, FeedCount, Feed, BadHex, BadScript, BadDump, CannotRead, CannotWrite}
 use Rattle.vrepl_main.specs.Reasons.{bad_workflow, bad_dump}
 use Rattle.vrepl_main.specs.RefusalOf.{refusal_of_dump, refusal_of_workflow}
 use Rattle.vrepl_main.specs.Comparison.{AreDumps, Compared}
@@ -65,7 +65,7 @@ told_workflow inputs fault now error none is = record {
 
 module _ (inputs : VdiffInputs) (plan : PlanValue) (others : List PlanValue) (is : plans_of inputs.workflow.items ≡ Ok (plan ∷ others)) (now : Written) where
   -- the source's bad line
-  pub told_source : (refusal : Refusal) (error : List ℕ) → IsOfDump plan inputs.source.text refusal → error ≡ error_of inputs.options.json refusal inputs.source.name → IsTold inputs refusal error now now
+  pub told_source : (refusal : CommandRefusal) (error : List ℕ) → IsOfDump plan inputs.source.text refusal → error ≡ error_of inputs.options.json refusal inputs.source.name → IsTold inputs refusal error now now
   told_source Memory error bad same = record { refuses = refl; name = inputs.source.name; names = tt; is_error = same }
   told_source (BadDump line) error bad same = record {
     refuses = (Err (bad_dump line), record { plan = plan; others = others; plans = is; bad = inl bad }, (refl, refl));
@@ -83,7 +83,7 @@ module _ (inputs : VdiffInputs) (plan : PlanValue) (others : List PlanValue) (is
   told_source (CannotWrite file) error bad same = absurd bad
 
   -- the target's, behind a dump of the source
-  pub told_target : (rows : RowsValue) (refusal : Refusal) (error : List ℕ) → IsDumpReading plan inputs.source.text (Ok rows) → IsOfDump plan inputs.target.text refusal → error ≡ error_of inputs.options.json refusal inputs.target.name → IsTold inputs refusal error now now
+  pub told_target : (rows : RowsValue) (refusal : CommandRefusal) (error : List ℕ) → IsDumpReading plan inputs.source.text (Ok rows) → IsOfDump plan inputs.target.text refusal → error ≡ error_of inputs.options.json refusal inputs.target.name → IsTold inputs refusal error now now
   told_target rows Memory error read bad same = record { refuses = refl; name = inputs.target.name; names = tt; is_error = same }
   told_target rows (BadDump line) error read bad same = record {
     refuses = (Err (bad_dump line), record { plan = plan; others = others; plans = is; bad = inr (rows, read, bad) }, (refl, refl));
@@ -101,7 +101,7 @@ module _ (inputs : VdiffInputs) (plan : PlanValue) (others : List PlanValue) (is
   told_target rows (CannotWrite file) error read bad same = absurd bad
 
 -- memory ran out, or it can't be written
-pub told_shown : (inputs : VdiffInputs) (compared : Compared) (refusal : Refusal) (error : List ℕ) (old new : Written) → AreDumps inputs.workflow.items inputs.source.text inputs.target.text compared
+pub told_shown : (inputs : VdiffInputs) (compared : Compared) (refusal : CommandRefusal) (error : List ℕ) (old new : Written) → AreDumps inputs.workflow.items inputs.source.text inputs.target.text compared
     → PrintsShown {X = ℕ} inputs.options (Err refusal) compared old new → error ≡ [] → IsTold inputs refusal error old new
 told_shown inputs compared Memory error old new dumps printed none = record { refuses = printed; name = []; names = tt; is_error = none ∙ sym (by inputs.options.json) }
   where
@@ -140,4 +140,4 @@ of_dump plan text (faults.BadDump n) bad = bad n refl
 pub named_bad : {X : Type 0} (json : Bool) (plan : PlanValue) (dump : NamedDump) (fault : DumpFault) (told : Told) → IsToldOf json dump.name fault told
     → ((n : ℕ) → ◌≡◌ {A = Result X DumpFault} (Err fault) (Err (faults.BadDump n)) → IsFirstBad plan dump.text n) → IsNamedBad json plan dump told
 named_bad {X} json plan dump fault told (inl (is, error)) bad = (subst (IsOfDump plan dump.text) (sym is) (of_dump {X = X} plan dump.text fault bad), error)
-named_bad json plan dump fault told (inr (is, none)) bad = (subst (IsOfDump plan dump.text) (sym is) tt, none ∙ sym (ap (λ (r : Refusal). error_of json r dump.name) is ∙ no_error json dump.name))
+named_bad json plan dump fault told (inr (is, none)) bad = (subst (IsOfDump plan dump.text) (sym is) tt, none ∙ sym (ap (λ (r : CommandRefusal). error_of json r dump.name) is ∙ no_error json dump.name))

@@ -2,15 +2,15 @@
 use Rattle.std.specs.Prelude.{◌≡◌, ℕ, Bool, List}
 use Rattle.filter_rule.specs.PlanValue.{PlanValue}
 use Rattle.vdiff_core.specs.DumpReading.{IsFirstBad}
-use Rattle.vrepl_main.specs.declared.refusal.Refusal.{Refusal}
-use Rattle.vrepl_main.specs.declared.refusal.Refusal.TheVariants.{Memory, BadDump}
+use Rattle.vrepl_main.specs.declared.refusal.CommandRefusal.{CommandRefusal}
+use Rattle.vrepl_main.specs.declared.refusal.CommandRefusal.TheVariants.{Memory, BadDump}
 use Rattle.vrepl_vdiff.specs.NamedDump.{NamedDump}
 use Rattle.vrepl_vdiff.specs.Told.{error_of}
 use Rattle.vrepl_vdiff.specs.ToldValue.{error_text}
 use Rattle.vrepl_vdiff.specs.declared.told.Told.{Told}
 
 -- the refusal is of memory, or of the dump's first bad line
-abbrev pub IsOfDump : PlanValue → List ℕ → Refusal → Type 0
+abbrev pub IsOfDump : PlanValue → List ℕ → CommandRefusal → Type 0
 IsOfDump plan text Memory = Unit {0}
 IsOfDump plan text (BadDump line) = IsFirstBad plan text line
 IsOfDump plan text refusal = ⊥

@@ -9,8 +9,8 @@ use Rattle.vdiff_tables.specs.Reports.{NamedReport, reports_from}
 use Rattle.vdiff_tables.specs.Texts.{differences_text, tables_text}
 use Rattle.vrepl_main.specs.Command.{IsUnwritten}
 use Rattle.vrepl_main.specs.Comparison.{AreDumps, Compared, IsComparison}
-use Rattle.vrepl_main.specs.declared.refusal.Refusal.{Refusal}
-use Rattle.vrepl_main.specs.declared.refusal.Refusal.TheVariants.{Memory}
+use Rattle.vrepl_main.specs.declared.refusal.CommandRefusal.{CommandRefusal}
+use Rattle.vrepl_main.specs.declared.refusal.CommandRefusal.TheVariants.{Memory}
 use Rattle.vrepl_vdiff.specs.declared.options.Options.{Options}
 use Rattle.vrepl_main.specs.declared.comparing.Verdict.{Verdict}
 use Rattle.vrepl_main.specs.declared.comparing.Verdict.TheVariants.{Same, Differ}
@@ -58,7 +58,7 @@ IsVerdict Same source target = source ≡ target
 IsVerdict Differ source target = source ≢ target
 
 -- what the options show was printed; or want of memory, and then nothing was; or a write of it failed
-abbrev pub PrintsShown : {X : Type 0} → Options → Result X Refusal → Compared → Written → Written → Type 0
+abbrev pub PrintsShown : {X : Type 0} → Options → Result X CommandRefusal → Compared → Written → Written → Type 0
 PrintsShown options (Ok x) compared old new = (text : List ℕ) × IsShown options compared text × IsWritten old new text
 PrintsShown options (Err Memory) compared old new = new ≡ old
 PrintsShown options (Err refusal) compared old new = IsUnwritten refusal × (text : List ℕ) × IsShown options compared text × BreaksOff old new text

@@ -11,8 +11,8 @@ use Rattle.vrepl_main.specs.Comparison.{AreRead, Compared}
 use Rattle.vrepl_main.specs.Printing.{PrintsOrBreaks}
 use Rattle.vrepl_main.specs.Reasons.{Reason}
 use Rattle.vrepl_main.specs.Refusals.{refusal_line}
-use Rattle.vrepl_main.specs.declared.refusal.Refusal.{Refusal}
-use Rattle.vrepl_main.specs.declared.refusal.Refusal.TheVariants.{Memory, BadDump}
+use Rattle.vrepl_main.specs.declared.refusal.CommandRefusal.{CommandRefusal}
+use Rattle.vrepl_main.specs.declared.refusal.CommandRefusal.TheVariants.{Memory, BadDump}
 use Rattle.vrepl_vdiff.specs.Shown.{IsShown, IsShownAs}
 use Rattle.vrepl_vdiff.specs.declared.inputs.VdiffInputs.{VdiffInputs}
 use Rattle.vrepl_main.specs.declared.comparing.Verdict.TheVariants.{Same, Differ}
@@ -25,23 +25,23 @@ pub record IsBadIn (inputs : VdiffInputs) (line : ℕ) (name : List ℕ) : Type 
   pub bad : ((name ≡ inputs.source.name) × IsDumpReading plan inputs.source.text (Err line)) ⊎ ((name ≡ inputs.target.name) × ((rows : RowsValue) × IsDumpReading plan inputs.source.text (Ok rows) × IsDumpReading plan inputs.target.text (Err line)))
 
 -- with JSON a bad dump is named by an object behind the refusal's line
-abbrev pub error_of : Bool → Refusal → List ℕ → List ℕ
+abbrev pub error_of : Bool → CommandRefusal → List ℕ → List ℕ
 error_of true (BadDump bad) name = json_line (error_data 121 name)
 error_of json refusal name = []
 
 -- the name is that of the bad dump, where there is one
-abbrev pub NamesBad : VdiffInputs → Refusal → List ℕ → Type 0
+abbrev pub NamesBad : VdiffInputs → CommandRefusal → List ℕ → Type 0
 NamesBad inputs (BadDump bad) name = IsBadIn inputs bad name
 NamesBad inputs refusal name = Unit {0}
 
 -- a refusal says what the files are read as, unless memory ran out, and leaves nothing on standard output; or it is that
 -- this can't be written, and then a write of it failed
-abbrev pub RefusesShown : VdiffInputs → Refusal → Written → Written → Type 0
+abbrev pub RefusesShown : VdiffInputs → CommandRefusal → Written → Written → Type 0
 RefusesShown inputs Memory old new = new ≡ old
 RefusesShown inputs refusal old new = (reading : Result Compared Reason) × AreRead inputs.workflow.items inputs.source.text inputs.target.text reading × RefusesCommand (IsShown inputs.options) refusal reading old new
 
 -- such a refusal, and the line behind its own
-pub record IsTold (inputs : VdiffInputs) (refusal : Refusal) (error : List ℕ) (old new : Written) : Type 0 where
+pub record IsTold (inputs : VdiffInputs) (refusal : CommandRefusal) (error : List ℕ) (old new : Written) : Type 0 where
   pub refuses : RefusesShown inputs refusal old new
   pub name : List ℕ
   pub names : NamesBad inputs refusal name
@@ -49,7 +49,7 @@ pub record IsTold (inputs : VdiffInputs) (refusal : Refusal) (error : List ℕ) 
 
 -- its line was printed whole on standard error, unless a write of it failed, and so was the line behind it
 pub record PrintsTold (inputs : VdiffInputs) (old new err_old err_new : Written) : Type 0 where
-  pub refusal : Refusal
+  pub refusal : CommandRefusal
   pub error : List ℕ
   pub told : IsTold inputs refusal error old new
   pub between : Written

@@ -5,7 +5,7 @@ use Rattle.std.specs.declared.alloc.Global.{Global}
 use Rattle.std.specs.Prelude.{String}
 use Rattle.vdiff_core.specs.declared.reading.DumpFault.{DumpFault}
 use Rattle.vrepl_main.specs.RefusalOf.{refusal_of_dump}
-use Rattle.vrepl_main.specs.declared.refusal.Refusal.TheVariants.{Memory}
+use Rattle.vrepl_main.specs.declared.refusal.CommandRefusal.TheVariants.{Memory}
 use Rattle.vrepl_vdiff.specs.Told.{error_of}
 use Rattle.vrepl_vdiff.specs.declared.told.Told.{Told}
 

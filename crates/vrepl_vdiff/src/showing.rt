@@ -11,7 +11,7 @@ use std::alloc::{AllocError, Global};
 use vdiff_core::{Out, Rows, first_difference, put_all};
 use vdiff_json::comparison_line;
 use vdiff_tables::{TableReport, table_reports};
-use vrepl_main::{Refusal, Verdict};
+use vrepl_main::{CommandRefusal, Verdict};
 
 /// Prints what the options show of two sets of rows. A refusal is want of memory, and then nothing was printed, or that
 /// `out` can't be written.
@@ -22,7 +22,7 @@ pub(crate) fn print_shown<W: Out>(
     source: &Rows,
     target: &Rows,
     out: &mut W,
-) -> Result<(), Refusal<'static>>
+) -> Result<(), CommandRefusal<'static>>
     ensures { PrintsShown options.now result (record { plan = plan.now; source = source.now; target = target.now }) (W.written out.old) (W.written out.new) }
 {
     if options.json {

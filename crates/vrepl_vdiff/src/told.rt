@@ -11,21 +11,21 @@ use filter_rule::PlanFault;
 use std::alloc::Global;
 use vdiff_core::{DumpFault, Out, OutFailed, put_all};
 use vdiff_json::error_line;
-use vrepl_main::{Refusal, refuse};
+use vrepl_main::{CommandRefusal, refuse};
 
 /// A refusal, and the line behind its own, if there is one.
 #[derive(Drop)]
 pub(crate) struct Told {
-    pub(crate) refusal: Refusal<'static>,
+    pub(crate) refusal: CommandRefusal<'static>,
     pub(crate) error: Option<String>,
 }
 
-impl From<Refusal<'static>> for Told {
+impl From<CommandRefusal<'static>> for Told {
     ghost use Rattle.std.specs.Prelude.{◌≡◌, None};
 
     ghost from_gives = { λ refusal told. (told.refusal ≡ refusal) × (told.error ≡ None) };
 
-    fn from(refusal: Refusal<'static>) -> Told {
+    fn from(refusal: CommandRefusal<'static>) -> Told {
         Told {
             refusal,
             error: None,
@@ -38,7 +38,7 @@ pub(crate) fn told_of_workflow(fault: PlanFault) -> Told
     ensures { (result.refusal ≡ refusal_of_workflow fault) × (result.error ≡ None) }
 {
     Told {
-        refusal: Refusal::from(fault),
+        refusal: CommandRefusal::from(fault),
         error: None,
     }
 }
@@ -48,15 +48,15 @@ pub(crate) fn told_of(alloc: Global, json: bool, name: &str, fault: DumpFault) -
     ensures { IsToldOf json name.now fault result }
 {
     match fault {
-        DumpFault::Memory => Told::from(Refusal::Memory),
+        DumpFault::Memory => Told::from(CommandRefusal::Memory),
         DumpFault::BadDump { line } if json => match error_line(alloc, 121, name) {
             Ok(error) => Told {
-                refusal: Refusal::BadDump { line },
+                refusal: CommandRefusal::BadDump { line },
                 error: Some(error),
             },
-            Err(_) => Told::from(Refusal::Memory),
+            Err(_) => Told::from(CommandRefusal::Memory),
         },
-        DumpFault::BadDump { line } => Told::from(Refusal::BadDump { line }),
+        DumpFault::BadDump { line } => Told::from(CommandRefusal::BadDump { line }),
     }
 }
 

@@ -1,5 +1,5 @@
 use Rattle.std.proofs.Common.{rules}
-use Rattle.vrepl_main.proofs.refusal.Refusal.number.Goals as goal
+use Rattle.vrepl_main.proofs.refusal.CommandRefusal.number.Goals as goal
 
 pub returns-in-BadHex : goal.returns-in-BadHex
 returns-in-BadHex c = search rules
