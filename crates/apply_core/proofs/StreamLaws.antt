@@ -7,7 +7,7 @@ use Rattle.std.specs.Prelude.{nat_le}
 use Rattle.std.specs.Option.{option_map}
 use Rattle.filter_rule.specs.PlanValue.{PlanValue}
 use Rattle.pk_copy.specs.Marks.{Marks}
-use Rattle.stream_core.specs.declared.step.Answer.TheVariants.{Read, Repeat}
+use Rattle.stream_core.specs.declared.step.CoreAnswer.TheVariants.{Read, Repeat}
 use Rattle.stream_core.specs.declared.step.Step.TheVariants.{Offer, Restart}
 use Rattle.stream_core.specs.Standing.{Standing}
 use Rattle.stream_core.specs.StepTable.{made, row_of}

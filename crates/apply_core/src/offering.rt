@@ -21,7 +21,7 @@ use board_laws::{Offered, Refusal, kept_rows_are_one_list, steps_keep_boards_law
 use source_feed::Prepared;
 use std::alloc::{AllocError, Global};
 use std::sync::Arc;
-use stream_core::{Answer, CoreRefusal, Cursor, Step};
+use stream_core::{CoreAnswer, CoreRefusal, Cursor, Step};
 
 /// What is true of every prepared group, as that its number is at least 1: a fact for contracts. Takes no memory.
 fn know_group(group: &Prepared<'_>)
@@ -70,7 +70,7 @@ impl<'h> Stream<'h> {
     {
         let made = self.judge(Step::Offer(number))?;
         match made.answer {
-            Answer::Read(number) => Ok((Offered::Read(number), made.cursor)),
+            CoreAnswer::Read(number) => Ok((Offered::Read(number), made.cursor)),
             _ => Ok((Offered::Repeat(number), made.cursor)),
         }
     }

@@ -7,7 +7,7 @@ use stream_core::*;
 type Stand = (u32, u32, Option<u32>);
 
 /// What a step answers and where the stream then stands, or the number that it is refused with.
-type Wanted = Result<(Answer, Stand), u8>;
+type Wanted = Result<(CoreAnswer, Stand), u8>;
 
 /// A stream of one table, of which nothing is copied.
 fn copying((read, applied, snapshot): Stand) -> Option<Cursor> {
@@ -52,19 +52,19 @@ const TABLE: [(Stand, Step, Wanted); 16] = [
     (
         (2, 1, None),
         Step::Offer(3),
-        Ok((Answer::Read(3), (3, 1, None))),
+        Ok((CoreAnswer::Read(3), (3, 1, None))),
     ),
     (
         (2, 1, None),
         Step::Offer(2),
-        Ok((Answer::Repeat(2), (2, 1, None))),
+        Ok((CoreAnswer::Repeat(2), (2, 1, None))),
     ),
     // Nothing is read, or the snapshot is reached.
     ((2, 2, None), Step::Advance, Err(102)),
     (
         (2, 1, None),
         Step::Advance,
-        Ok((Answer::Applied(2), (2, 2, None))),
+        Ok((CoreAnswer::Applied(2), (2, 2, None))),
     ),
     ((2, 2, Some(2)), Step::Advance, Err(103)),
     // A second snapshot, one behind what is applied, and one past what is read.
@@ -73,7 +73,7 @@ const TABLE: [(Stand, Step, Wanted); 16] = [
     (
         (2, 1, None),
         Step::OpenAt(1),
-        Ok((Answer::Opened(1), (2, 1, Some(1)))),
+        Ok((CoreAnswer::Opened(1), (2, 1, Some(1)))),
     ),
     ((2, 1, None), Step::OpenAt(3), Err(107)),
     // No snapshot is open, or it isn't reached.
@@ -83,18 +83,18 @@ const TABLE: [(Stand, Step, Wanted); 16] = [
     (
         (2, 2, Some(2)),
         Step::CopyRows(5),
-        Ok((Answer::MayCopy(5), (2, 2, Some(2)))),
+        Ok((CoreAnswer::MayCopy(5), (2, 2, Some(2)))),
     ),
     // What is read ahead and the snapshot are forgotten.
     (
         (4, 1, Some(4)),
         Step::Restart,
-        Ok((Answer::Restarted(1), (1, 1, None))),
+        Ok((CoreAnswer::Restarted(1), (1, 1, None))),
     ),
     (
         (2, 1, Some(2)),
         Step::Close,
-        Ok((Answer::Closed, (2, 1, None))),
+        Ok((CoreAnswer::Closed, (2, 1, None))),
     ),
 ];
 

@@ -3,15 +3,15 @@ use Rattle.std.specs.Prelude.{ℕ, ◌+◌, Bool, List, [], ◌∷◌, Option, S
 use Rattle.stream_core.specs.declared.step.Step.{Step}
 use Rattle.stream_core.specs.declared.step.Step.TheVariants.{Offer, Advance, OpenAt, CopyRows, Close, Restart}
 use Rattle.stream_core.specs.declared.step.Move.{Move}
-use Rattle.stream_core.specs.declared.step.Answer.{Answer}
-use Rattle.stream_core.specs.declared.step.Answer.TheVariants.{Read, Repeat, Applied, Opened, MayCopy, Closed, Restarted}
+use Rattle.stream_core.specs.declared.step.CoreAnswer.{CoreAnswer}
+use Rattle.stream_core.specs.declared.step.CoreAnswer.TheVariants.{Read, Repeat, Applied, Opened, MayCopy, Closed, Restarted}
 use Rattle.stream_core.specs.declared.refusal.CoreRefusal.{CoreRefusal}
 use Rattle.stream_core.specs.declared.refusal.CoreRefusal.TheVariants.{Gap, NothingRead, SnapshotReached, NotCopying, SnapshotOpen, SnapshotBehind, SnapshotNotRead, NoSnapshot, NotReached}
 use Rattle.stream_core.specs.Standing.{Standing, is_open_at}
 use Rattle.stream_core.specs.Rows.{Row, decides}
 
 -- an answer, and where the stream then stands
-abbrev pub made : Answer → Standing → Move
+abbrev pub made : CoreAnswer → Standing → Move
 made a s = record { answer = a; cursor = s }
 
 -- the row of each step

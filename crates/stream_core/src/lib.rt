@@ -10,5 +10,5 @@ mod table;
 pub use cursor::Cursor;
 pub use phase::Phase;
 pub use refusal::CoreRefusal;
-pub use step::{Answer, Move, Step};
+pub use step::{CoreAnswer, Move, Step};
 pub use table::decide;

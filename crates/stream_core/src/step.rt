@@ -19,9 +19,9 @@ pub enum Step {
     Restart,
 }
 
-/// What a step answers.
+/// What the step table answers.
 #[derive(Clone, Copy, Debug, PartialEq, Eq)]
-pub enum Answer {
+pub enum CoreAnswer {
     /// The group of this number is new and counts as read.
     Read(u32),
     /// The group of this number was read before; nothing changes.
@@ -41,6 +41,6 @@ pub enum Answer {
 /// What a step that isn't refused does: its answer, and where the stream then stands.
 #[derive(Clone, Copy)]
 pub struct Move {
-    pub answer: Answer,
+    pub answer: CoreAnswer,
     pub cursor: Cursor,
 }

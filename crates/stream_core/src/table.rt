@@ -8,7 +8,7 @@ ghost use Rattle.stream_core.specs.StepTable.{row_of, decided};
 
 use crate::cursor::Cursor;
 use crate::refusal::CoreRefusal;
-use crate::step::{Answer, Move, Step};
+use crate::step::{CoreAnswer, Move, Step};
 
 /// What the step table says of a step: its answer and where the stream then stands, or the first
 /// refusal of the step's row. For `CopyRows` the cursor is as it was. Takes no memory.
@@ -38,12 +38,12 @@ fn offer(cursor: &Cursor, number: u32) -> Result<Move, CoreRefusal>
     }
     if number <= read {
         return Ok(Move {
-            answer: Answer::Repeat(number),
+            answer: CoreAnswer::Repeat(number),
             cursor: *cursor,
         });
     }
     Ok(Move {
-        answer: Answer::Read(number),
+        answer: CoreAnswer::Read(number),
         cursor: Cursor {
             read: number,
             ..*cursor
@@ -63,7 +63,7 @@ fn advance(cursor: &Cursor) -> Result<Move, CoreRefusal>
         return Err(CoreRefusal::NothingRead);
     }
     Ok(Move {
-        answer: Answer::Applied(applied + 1),
+        answer: CoreAnswer::Applied(applied + 1),
         cursor: Cursor {
             applied: applied + 1,
             ..*cursor
@@ -88,7 +88,7 @@ fn open_at(cursor: &Cursor, group: u32) -> Result<Move, CoreRefusal>
         return Err(CoreRefusal::SnapshotNotRead);
     }
     Ok(Move {
-        answer: Answer::Opened(group),
+        answer: CoreAnswer::Opened(group),
         cursor: Cursor {
             snapshot: Some(group),
             ..*cursor
@@ -107,7 +107,7 @@ fn copy_rows(cursor: &Cursor, count: u32) -> Result<Move, CoreRefusal>
         return Err(CoreRefusal::NotReached);
     }
     Ok(Move {
-        answer: Answer::MayCopy(count),
+        answer: CoreAnswer::MayCopy(count),
         cursor: *cursor,
     })
 }
@@ -120,7 +120,7 @@ fn close(cursor: &Cursor) -> Result<Move, CoreRefusal>
         return Err(CoreRefusal::NoSnapshot);
     }
     Ok(Move {
-        answer: Answer::Closed,
+        answer: CoreAnswer::Closed,
         cursor: cursor.without_snapshot(),
     })
 }
@@ -130,7 +130,7 @@ fn restart(cursor: &Cursor) -> Move
     ensures { Ok result ≡ decided cursor.now Restart }
 {
     Move {
-        answer: Answer::Restarted(cursor.applied),
+        answer: CoreAnswer::Restarted(cursor.applied),
         cursor: Cursor {
             read: cursor.applied,
             ..cursor.without_snapshot()
