@@ -19,13 +19,13 @@ use pk_copy::{Key, Mark};
 use row_view::RowBuf;
 use std::alloc::{AllocError, Global};
 use target_tables::Tables;
-use vdiff_core::{Out, OutFailed, Rows, write_target_dump};
+use vdiff_core::{DumpRows, Out, OutFailed, write_target_dump};
 
 /// Copies of all rows. An error is want of memory.
-fn copies_of_all(alloc: Global, rows: &Tables<Key, RowBuf>) -> Result<Rows, AllocError>
+fn copies_of_all(alloc: Global, rows: &Tables<Key, RowBuf>) -> Result<DumpRows, AllocError>
     ensures { IfOk result (λ copies. copies ≡ all_rows rows.now.entries) }
 {
-    let mut copies = Rows::new(alloc);
+    let mut copies = DumpRows::new(alloc);
     copies.reserve(rows.len())?;
     for (key, _, row) in rows.iter() {
         copies.push(key.try_clone(alloc)?, row.try_clone(alloc)?)?;
@@ -34,10 +34,10 @@ fn copies_of_all(alloc: Global, rows: &Tables<Key, RowBuf>) -> Result<Rows, Allo
 }
 
 /// Copies of the rows of stream `s`. An error is want of memory.
-fn copies_of_own(alloc: Global, rows: &Tables<Key, RowBuf>, s: u8) -> Result<Rows, AllocError>
+fn copies_of_own(alloc: Global, rows: &Tables<Key, RowBuf>, s: u8) -> Result<DumpRows, AllocError>
     ensures { IfOk result (λ copies. copies ≡ rows_of_stream s rows.now.entries) }
 {
-    let mut copies = Rows::new(alloc);
+    let mut copies = DumpRows::new(alloc);
     for (key, owner, row) in rows.iter() {
         if owner == s {
             copies.push(key.try_clone(alloc)?, row.try_clone(alloc)?)?;
@@ -102,14 +102,14 @@ impl<'h> Board<'h> {
     }
 
     /// Copies of all rows of the target, by rising key. An error is want of memory.
-    pub fn rows(&self, alloc: Global) -> Result<Rows, AllocError>
+    pub fn rows(&self, alloc: Global) -> Result<DumpRows, AllocError>
         ensures { IfOk result (λ rows. rows ≡ all_rows self.now.rows) }
     {
         copies_of_all(alloc, &self.rows)
     }
 
     /// Copies of the rows of stream `s`, by rising key. Refused 115, and for want of memory.
-    pub fn rows_of(&self, alloc: Global, s: u8) -> Result<Rows, Refusal>
+    pub fn rows_of(&self, alloc: Global, s: u8) -> Result<DumpRows, Refusal>
         ensures rows { IfOk result (λ rows. IsSome (slice_get self.now.streams s) × (rows ≡ rows_of_stream s self.now.rows)) }
         ensures refused { IfErr result (λ refusal. MatchOption (slice_get self.now.streams s) (refusal ≡ NoStream) (λ _. refusal ≡ Memory)) }
     {

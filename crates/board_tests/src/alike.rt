@@ -5,7 +5,7 @@ use pk_copy::Mark;
 use std::alloc::{AllocError, Global};
 use std::cmp::Ordering;
 use stream_core::Cursor;
-use vdiff_core::Rows;
+use vdiff_core::DumpRows;
 
 /// How far on a mark is beside another one of the same table, which isn't done: up to a key is further than none.
 pub(crate) fn order_of_marks(one: Mark<'_>, other: Mark<'_>) -> Ordering {
@@ -56,7 +56,7 @@ fn has_read_alike(one: &Board<'_>, other: &Board<'_>, s: u8) -> bool {
 }
 
 /// Whether rows are the same.
-fn are_rows(rows: &Rows, others: &Rows) -> bool {
+fn are_rows(rows: &DumpRows, others: &DumpRows) -> bool {
     let mut alike = rows.len() == others.len();
     for (row, other) in rows.as_slice().iter().zip(others.as_slice()) {
         alike &= row.0.view().cmp(&other.0.view()).is_eq() && row.1.same(&other.1);

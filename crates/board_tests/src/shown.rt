@@ -7,7 +7,7 @@ use row_view::Column;
 use source_feed::Feed;
 use std::alloc::{AllocError, Global};
 use stream_core::{Cursor, Phase};
-use vdiff_core::{Out, OutFailed, Rows, write_dump};
+use vdiff_core::{DumpRows, Out, OutFailed, write_dump};
 
 /// A stream's phase, how many groups are read and applied, the open snapshot and how many tables are done.
 pub(crate) type Stand = (Phase, u32, u32, Option<u32>, u8);
@@ -30,7 +30,7 @@ pub(crate) fn stands(board: &Board<'_>, s: u8, wanted: Stand) -> bool {
 }
 
 /// The columns of rows, a semicolon behind each row.
-fn text_of(alloc: Global, rows: &Rows) -> Result<Vec<u8>, AllocError> {
+fn text_of(alloc: Global, rows: &DumpRows) -> Result<Vec<u8>, AllocError> {
     let mut text = Vec::new(alloc);
     for (_, row) in rows.as_slice() {
         for column in row.columns() {
@@ -44,7 +44,7 @@ fn text_of(alloc: Global, rows: &Rows) -> Result<Vec<u8>, AllocError> {
 }
 
 /// Whether these are the columns of rows.
-pub(crate) fn is_text_of(alloc: Global, rows: &Rows, wanted: &[u8]) -> bool {
+pub(crate) fn is_text_of(alloc: Global, rows: &DumpRows, wanted: &[u8]) -> bool {
     match text_of(alloc, rows) {
         Ok(text) => text.as_slice() == wanted,
         Err(_) => false,
@@ -87,7 +87,7 @@ impl Out for Page {
 }
 
 /// Whether this is the dump of rows under the plan of the first of these feeds.
-fn is_dump_of(alloc: Global, rows: &Rows, feeds: &[Feed<'_>], wanted: &[u8]) -> bool {
+fn is_dump_of(alloc: Global, rows: &DumpRows, feeds: &[Feed<'_>], wanted: &[u8]) -> bool {
     let Some(feed) = feeds.first() else {
         return false;
     };

@@ -3,7 +3,7 @@
 use crate::two_tables::plan;
 use filter_rule::Plan;
 use std::alloc::Global;
-use vdiff_core::{Report, Rows, compare, first_difference, read_dump};
+use vdiff_core::{DumpRows, Report, compare, first_difference, read_dump};
 
 /// Rows 1 `a`, 2 `b` and 3 `c` of `t`.
 const SOURCE: &[u8] = b"table t\nx31\tx61\nx32\tx62\nx33\tx63\ntable u\n";
@@ -67,7 +67,7 @@ fn counts_of(report: &Report) -> [usize; 5] {
 }
 
 /// The two differ first at the key of the only row of these, or nowhere where there is none.
-fn differ_first_at(source: &Rows, target: &Rows, only: &Rows) -> bool {
+fn differ_first_at(source: &DumpRows, target: &DumpRows, only: &DumpRows) -> bool {
     match (first_difference(source, target), only.as_slice()) {
         (Some(key), [row]) => *key == row.0,
         (None, []) => true,

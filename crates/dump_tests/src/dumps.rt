@@ -22,7 +22,7 @@ fn key<'b>(plan: &Plan, t: u8, row: &RowView<'b>) -> Option<KeyView<'b>> {
 }
 
 /// Puts a row with its key behind the others.
-fn push_row(alloc: Global, rows: &mut Rows, key: &KeyView<'_>, row: &RowView<'_>) -> bool {
+fn push_row(alloc: Global, rows: &mut DumpRows, key: &KeyView<'_>, row: &RowView<'_>) -> bool {
     let Ok(key) = Key::from_view(alloc, key) else {
         return false;
     };
@@ -33,7 +33,7 @@ fn push_row(alloc: Global, rows: &mut Rows, key: &KeyView<'_>, row: &RowView<'_>
 }
 
 /// Puts a row of a table behind the others.
-fn push(alloc: Global, plan: &Plan, rows: &mut Rows, t: u8, bytes: &[u8]) -> bool {
+fn push(alloc: Global, plan: &Plan, rows: &mut DumpRows, t: u8, bytes: &[u8]) -> bool {
     let Ok(row) = RowView::read(bytes) else {
         return false;
     };
@@ -44,8 +44,8 @@ fn push(alloc: Global, plan: &Plan, rows: &mut Rows, t: u8, bytes: &[u8]) -> boo
 }
 
 /// Rows 1 `a`, 2 NULL and 11 with the empty value of `t`, and 9 of `u`.
-fn some_rows(alloc: Global, plan: &Plan) -> Option<Rows> {
-    let mut rows = Rows::new(alloc);
+fn some_rows(alloc: Global, plan: &Plan) -> Option<DumpRows> {
+    let mut rows = DumpRows::new(alloc);
     if push(alloc, plan, &mut rows, 0, b"\x0a\x02\x02\x02\x12\x021a")
         && push(alloc, plan, &mut rows, 0, b"\x0a\x02\x02\x01\x12\x012")
         && push(alloc, plan, &mut rows, 0, b"\x0a\x02\x04\x00\x12\x0211")
@@ -57,7 +57,7 @@ fn some_rows(alloc: Global, plan: &Plan) -> Option<Rows> {
 }
 
 /// The plan of two tables, and these rows of it.
-fn given(alloc: Global) -> Option<(Arc<Plan>, Rows)> {
+fn given(alloc: Global) -> Option<(Arc<Plan>, DumpRows)> {
     let plan = plan(alloc)?;
     let rows = some_rows(alloc, &plan)?;
     Some((plan, rows))
@@ -100,7 +100,7 @@ impl Out for Short {
 }
 
 /// How many columns the row has that stands at the key of this row of `t`.
-fn columns_at(plan: &Plan, rows: &Rows, bytes: &[u8]) -> Option<usize> {
+fn columns_at(plan: &Plan, rows: &DumpRows, bytes: &[u8]) -> Option<usize> {
     let Ok(row) = RowView::read(bytes) else {
         return None;
     };
@@ -114,7 +114,7 @@ fn columns_at(plan: &Plan, rows: &Rows, bytes: &[u8]) -> Option<usize> {
 }
 
 /// No row's key is behind all.
-fn has_no_key_behind(rows: &Rows) -> bool {
+fn has_no_key_behind(rows: &DumpRows) -> bool {
     for pair in rows.as_slice() {
         if rows.is_behind_all(&pair.0) {
             return false;
@@ -124,7 +124,7 @@ fn has_no_key_behind(rows: &Rows) -> bool {
 }
 
 /// A copy of the rows has them all, each at its key, and room for more.
-fn is_copied(alloc: Global, plan: &Plan, rows: &Rows) -> bool {
+fn is_copied(alloc: Global, plan: &Plan, rows: &DumpRows) -> bool {
     let Ok(mut copy) = rows.try_clone(alloc) else {
         return false;
     };
@@ -146,11 +146,11 @@ fn are_copied(alloc: Global) -> bool {
 
 #[test]
 fn rows_by_rising_key(rt: HostRuntime) {
-    assert!(rt; are_copied(rt.alloc()) && Rows::new(rt.alloc()).is_empty());
+    assert!(rt; are_copied(rt.alloc()) && DumpRows::new(rt.alloc()).is_empty());
 }
 
 /// The dump of the rows is this, into a writer that takes so many bytes in all and a call.
-fn is_dump(alloc: Global, plan: &Plan, rows: &Rows, most: [usize; 2], wanted: &[u8]) -> bool {
+fn is_dump(alloc: Global, plan: &Plan, rows: &DumpRows, most: [usize; 2], wanted: &[u8]) -> bool {
     let mut out = Short::new(alloc, most[0], most[1]);
     write_dump(&mut out, plan, rows).is_ok() && out.got.as_slice() == wanted
 }
@@ -164,7 +164,7 @@ fn are_dumped(alloc: Global) -> bool {
                 && is_dump(
                     alloc,
                     &plan,
-                    &Rows::new(alloc),
+                    &DumpRows::new(alloc),
                     [1000, 1000],
                     b"table t\ntable u\n",
                 )
@@ -179,7 +179,7 @@ fn dump_of_two_tables(rt: HostRuntime) {
 }
 
 /// The rows are those of their dump.
-fn is_read(alloc: Global, plan: &Plan, rows: &Rows) -> bool {
+fn is_read(alloc: Global, plan: &Plan, rows: &DumpRows) -> bool {
     match read_dump(alloc, plan, DUMP) {
         Ok(read) => {
             first_difference(rows, &read).is_none() && compare(rows, &read).matching == 4
@@ -189,7 +189,7 @@ fn is_read(alloc: Global, plan: &Plan, rows: &Rows) -> bool {
 }
 
 /// A writer that fails after k bytes of their dump has got the first k of them.
-fn is_cut_at(alloc: Global, plan: &Plan, rows: &Rows, k: usize) -> bool {
+fn is_cut_at(alloc: Global, plan: &Plan, rows: &DumpRows, k: usize) -> bool {
     let mut out = Short::new(alloc, k, 7);
     write_dump(&mut out, plan, rows).is_err()
         && out.failures == 1
@@ -198,7 +198,7 @@ fn is_cut_at(alloc: Global, plan: &Plan, rows: &Rows, k: usize) -> bool {
 }
 
 /// A writer may fail anywhere in their dump.
-fn is_cut_anywhere(alloc: Global, plan: &Plan, rows: &Rows) -> bool {
+fn is_cut_anywhere(alloc: Global, plan: &Plan, rows: &DumpRows) -> bool {
     for k in 0..DUMP.len() {
         if !is_cut_at(alloc, plan, rows, k) {
             return false;

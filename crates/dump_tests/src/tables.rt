@@ -3,7 +3,7 @@
 use crate::two_tables::plan;
 use filter_rule::Plan;
 use std::alloc::Global;
-use vdiff_core::{Gathered, Out, Rows, Writer, read_dump};
+use vdiff_core::{DumpRows, Gathered, Out, Writer, read_dump};
 use vdiff_tables::{add_differences, add_tables, table_reports};
 
 /// Rows 1 `a`, 2 NULL and 3 `c` of `t`, and 1 of `u`.
@@ -46,8 +46,8 @@ fn print<O: Out>(
     alloc: Global,
     out: &mut O,
     plan: &Plan,
-    source: &Rows,
-    target: &Rows,
+    source: &DumpRows,
+    target: &DumpRows,
     count: u32,
 ) -> bool {
     let mut text = Gathered::new();

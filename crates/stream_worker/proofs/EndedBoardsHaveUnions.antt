@@ -21,7 +21,7 @@ use Rattle.source_feed.specs.History.{RowValue, touches_in, passing, kept_of, ke
 use Rattle.source_feed.specs.Planned.{FeedValue}
 use Rattle.source_feed.specs.Prepared.{IsTouchUnder}
 use Rattle.source_feed.specs.Touches.{PutValue, TouchValue, PreparedValue}
-use Rattle.vdiff_core.specs.RowsValue.{RowsValue, row_with_key}
+use Rattle.vdiff_core.specs.DumpRowsValue.{DumpRowsValue, row_with_key}
 use Rattle.board_laws.specs.Meaning.{State, TargetRows, Meaning}
 use Rattle.board_laws.specs.Cut.{cut_of, own_row}
 use Rattle.board_laws.specs.Lawful.{standing_of, IsSoundState}
@@ -190,5 +190,5 @@ module _ (ties : Ties) (feeds : List FeedValue) (board : Meaning) (fed : IsFedBo
   }
 
 -- rows that are such a union are the same
-pub one-union : (ties : Ties) (feeds : List FeedValue) (one other : RowsValue) → IsRowsUnion feeds one → IsRowsUnion feeds other → one ≡ other
+pub one-union : (ties : Ties) (feeds : List FeedValue) (one other : DumpRowsValue) → IsRowsUnion feeds one → IsRowsUnion feeds other → one ≡ other
 one-union ties feeds one other a b = same_rows ties one other a.rising b.rising (λ q. a.each_key q ∙ sym (b.each_key q))

@@ -6,7 +6,7 @@ use Rattle.pk_copy.specs.KeyValue.{KeyValue}
 use Rattle.stream_core.specs.declared.phase.Phase.TheVariants.{Running}
 use Rattle.stream_core.specs.Standing.{phase_of}
 use Rattle.target_tables.specs.Rising.{IsRising}
-use Rattle.vdiff_core.specs.RowsValue.{RowsValue, row_with_key}
+use Rattle.vdiff_core.specs.DumpRowsValue.{DumpRowsValue, row_with_key}
 use Rattle.source_feed.specs.History.{KeptRow, kept_at}
 use Rattle.source_feed.specs.Planned.{FeedValue}
 use Rattle.board_laws.specs.Meaning.{State, Meaning}
@@ -74,7 +74,7 @@ KeepApart feeds =
     → kept_of_feed one key ≢ None → kept_of_feed other key ≢ None → s ≡ t
 
 -- rows by rising key that are just those which the feeds keep, each of one feed alone
-pub record IsRowsUnion (feeds : List FeedValue) (rows : RowsValue) : Type 0 where
+pub record IsRowsUnion (feeds : List FeedValue) (rows : DumpRowsValue) : Type 0 where
   pub rising : IsRising key_cmp rows
   pub each_key : (key : KeyValue) → row_with_key rows key ≡ kept_by feeds key
   pub apart : KeepApart feeds
@@ -87,4 +87,4 @@ EndedBoardsHaveTheUnion = (feeds : List FeedValue) (board : Meaning) → IsFedBo
 
 -- there is one such list of rows
 abbrev pub UnionsAreOne : Type 0
-UnionsAreOne = (feeds : List FeedValue) (one other : RowsValue) → IsRowsUnion feeds one → IsRowsUnion feeds other → one ≡ other
+UnionsAreOne = (feeds : List FeedValue) (one other : DumpRowsValue) → IsRowsUnion feeds one → IsRowsUnion feeds other → one ≡ other

@@ -14,7 +14,7 @@ use Rattle.vdiff_core.specs.Cells.{cell, cells}
 use Rattle.vdiff_core.specs.Dump.{row_line}
 use Rattle.vdiff_core.specs.DumpReading.{AreByteValues}
 use Rattle.vdiff_core.specs.Private.Reading.{digit_of, with_pair, bytes_front, cell_front, behind_byte, pair_front, with_column, with_columns, cells_front, row_front, TakesCell, TakesCells, TakesSoFar, IsRowLine, TakesRow, TakesMessage, NoRowIn}
-use Rattle.vdiff_core.specs.RowsValue.{RowValue}
+use Rattle.vdiff_core.specs.DumpRowsValue.{RowValue}
 
 -- ---- digits
 

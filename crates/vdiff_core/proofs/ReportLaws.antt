@@ -16,7 +16,7 @@ use Rattle.target_tables.specs.Rising.{IsRising, AreAbove}
 use Rattle.target_tables.proofs.Values.{none_above}
 use Rattle.vdiff_core.specs.Report.{column_eq, row_eq, is_matched, is_mismatched, is_missing, count_beside, report_of, IsFirstDifference}
 use Rattle.vdiff_core.specs.declared.report.Report.{Report}
-use Rattle.vdiff_core.specs.RowsValue.{RowValue, RowsValue, row_with_key}
+use Rattle.vdiff_core.specs.DumpRowsValue.{RowValue, DumpRowsValue, row_with_key}
 
 pub column_eq-Decides : (a b : Option (List ℕ)) → Decides (column_eq a b) (a ≡ b)
 column_eq-Decides None None = (λ e. refl, λ e. refl)
@@ -33,24 +33,24 @@ row_eq-Decides a b = slice_eq-Decides column_eq-Decides a b (row_eq a b) refl
 -- ---- a key that is less than all
 
 -- there is no row at it
-pub none_at : (key : KeyValue) (rows : RowsValue) → AreAbove key_cmp key rows → row_with_key rows key ≡ None
+pub none_at : (key : KeyValue) (rows : DumpRowsValue) → AreAbove key_cmp key rows → row_with_key rows key ≡ None
 none_at key rows above = none_above key_cmp_total key key rows (tied_itself key_cmp_total key) above
 
 -- what stands at a greater key is found behind it
-behind : (key : KeyValue) (row : RowValue) (others : RowsValue) (later : KeyValue) → key_cmp key later ≡ Less → row_with_key ((key, row) ∷ others) later ≡ row_with_key others later
+behind : (key : KeyValue) (row : RowValue) (others : DumpRowsValue) (later : KeyValue) → key_cmp key later ≡ Less → row_with_key ((key, row) ∷ others) later ≡ row_with_key others later
 behind key row others later less =
     let greater : key_cmp later key ≡ Greater = key_cmp_total.antisymm later key ∙ ap ordering_reverse less in
     ap (λ o. cond (is_eq o) (Some row) (row_with_key others later)) greater
 
 -- what the first row counts, and the others
-counts_first : (test : Option RowValue → RowValue → Bool) (others : RowsValue) (key : KeyValue) (row : RowValue) (rows : RowsValue) (there : Option RowValue) (n : ℕ) → row_with_key others key ≡ there → cond (test there row) 1 0 ≡ n
+counts_first : (test : Option RowValue → RowValue → Bool) (others : DumpRowsValue) (key : KeyValue) (row : RowValue) (rows : DumpRowsValue) (there : Option RowValue) (n : ℕ) → row_with_key others key ≡ there → cond (test there row) 1 0 ≡ n
     → count_beside test others ((key, row) ∷ rows) ≡ n + count_beside test others rows
 counts_first test others key row rows there n is one =
     sum_by-cons (λ (e : KeyValue × RowValue). cond (test (row_with_key others e.0) e.1) 1 0) (key, row) rows
     ∙ ap (λ (m : ℕ). m + count_beside test others rows) (ap (λ o. cond (test o row) 1 0) is ∙ one)
 
 -- rows at greater keys are counted as without it
-pub count_behind : (test : Option RowValue → RowValue → Bool) (key : KeyValue) (row : RowValue) (others rows : RowsValue) → AreAbove key_cmp key rows → count_beside test ((key, row) ∷ others) rows ≡ count_beside test others rows
+pub count_behind : (test : Option RowValue → RowValue → Bool) (key : KeyValue) (row : RowValue) (others rows : DumpRowsValue) → AreAbove key_cmp key rows → count_beside test ((key, row) ∷ others) rows ≡ count_beside test others rows
 count_behind test key row others [] above = refl
 count_behind test key row others (e ∷ rows) above =
     counts_first test ((key, row) ∷ others) e.0 e.1 rows (row_with_key others e.0) _ (behind key row others e.0 above.0) refl
@@ -58,11 +58,11 @@ count_behind test key row others (e ∷ rows) above =
     ∙ sym (counts_first test others e.0 e.1 rows (row_with_key others e.0) _ refl refl)
 
 -- where the first key is greater, all are
-pub all_above : (key : KeyValue) (first : KeyValue × RowValue) (rows : RowsValue) → IsRising key_cmp (first ∷ rows) → key_cmp key first.0 ≡ Less → AreAbove key_cmp key (first ∷ rows)
+pub all_above : (key : KeyValue) (first : KeyValue × RowValue) (rows : DumpRowsValue) → IsRising key_cmp (first ∷ rows) → key_cmp key first.0 ≡ Less → AreAbove key_cmp key (first ∷ rows)
 all_above key first rows rising less = (less, each (λ later. key_cmp first.0 later.0 ≡ Less) (λ later. key_cmp key later.0 ≡ Less) (λ later l. key_cmp_total.trans key first.0 later.0 less l) rows rising.0)
 
 -- the key itself is found at once
-pub here : (key : KeyValue) (row : RowValue) (others : RowsValue) → row_with_key ((key, row) ∷ others) key ≡ Some row
+pub here : (key : KeyValue) (row : RowValue) (others : DumpRowsValue) → row_with_key ((key, row) ∷ others) key ≡ Some row
 here key row others = ap (λ o. cond (is_eq o) (Some row) (row_with_key others key)) (tied_itself key_cmp_total key)
 
 -- ---- one step of the walk
@@ -75,7 +75,7 @@ pub record IsStep (whole rest : Report) (matching mismatched extra_source extra_
   pub extra_target_is : whole.extra_target ≡ extra_target + rest.extra_target
 
 -- the source's first key is less than all of the target
-pub source_alone : (key : KeyValue) (row : RowValue) (lefts right : RowsValue) → AreAbove key_cmp key right → IsStep (report_of ((key, row) ∷ lefts) right) (report_of lefts right) 0 0 1 0
+pub source_alone : (key : KeyValue) (row : RowValue) (lefts right : DumpRowsValue) → AreAbove key_cmp key right → IsStep (report_of ((key, row) ∷ lefts) right) (report_of lefts right) 0 0 1 0
 source_alone key row lefts right above =
     let none = none_at key right above in
     record {
@@ -86,7 +86,7 @@ source_alone key row lefts right above =
     }
 
 -- the target's first key is less than all of the source
-pub target_alone : (key : KeyValue) (row : RowValue) (left rights : RowsValue) → AreAbove key_cmp key left → IsStep (report_of left ((key, row) ∷ rights)) (report_of left rights) 0 0 0 1
+pub target_alone : (key : KeyValue) (row : RowValue) (left rights : DumpRowsValue) → AreAbove key_cmp key left → IsStep (report_of left ((key, row) ∷ rights)) (report_of left rights) 0 0 0 1
 target_alone key row left rights above =
     let none = none_at key left above in
     record {
@@ -105,7 +105,7 @@ by_test true = refl
 by_test false = refl
 
 -- both have the key
-pub both_have : (key : KeyValue) (a b : RowValue) (lefts rights : RowsValue) (r : Bool) → row_eq a b ≡ r → AreAbove key_cmp key lefts → AreAbove key_cmp key rights
+pub both_have : (key : KeyValue) (a b : RowValue) (lefts rights : DumpRowsValue) (r : Bool) → row_eq a b ≡ r → AreAbove key_cmp key lefts → AreAbove key_cmp key rights
     → IsStep (report_of ((key, a) ∷ lefts) ((key, b) ∷ rights)) (report_of lefts rights) (cond r 1 0) (cond r 0 1) 0 0
 both_have key a b lefts rights r same above beyond =
     let there = here key b rights in
@@ -119,39 +119,39 @@ both_have key a b lefts rights r same above beyond =
 
 -- ---- the walk
 
-none_matched : (rows : RowsValue) → count_beside is_matched [] rows ≡ 0
+none_matched : (rows : DumpRowsValue) → count_beside is_matched [] rows ≡ 0
 none_matched [] = refl
 none_matched (row ∷ rows) = omega (arith, counts_first is_matched [] row.0 row.1 rows None 0 refl refl, none_matched rows)
 
-none_mismatched : (rows : RowsValue) → count_beside is_mismatched [] rows ≡ 0
+none_mismatched : (rows : DumpRowsValue) → count_beside is_mismatched [] rows ≡ 0
 none_mismatched [] = refl
 none_mismatched (row ∷ rows) = omega (arith, counts_first is_mismatched [] row.0 row.1 rows None 0 refl refl, none_mismatched rows)
 
-all_missing : (rows : RowsValue) → count_beside is_missing [] rows ≡ length rows
+all_missing : (rows : DumpRowsValue) → count_beside is_missing [] rows ≡ length rows
 all_missing [] = refl
 all_missing (row ∷ rows) =
     let first = counts_first is_missing [] row.0 row.1 rows None 1 refl refl in
     let others = all_missing rows in
     omega (arith, first, others)
 
-source_is_left : (left : RowsValue) → IsStep (report_of left []) (report_of [] []) 0 0 (length left) 0
+source_is_left : (left : DumpRowsValue) → IsStep (report_of left []) (report_of [] []) 0 0 (length left) 0
 source_is_left left = record { matching_is = none_matched left; mismatched_is = none_mismatched left; extra_source_is = omega (arith, all_missing left); extra_target_is = refl }
 
-target_is_left : (right : RowsValue) → IsStep (report_of [] right) (report_of [] []) 0 0 0 (length right)
+target_is_left : (right : DumpRowsValue) → IsStep (report_of [] right) (report_of [] []) 0 0 0 (length right)
 target_is_left right = record { matching_is = refl; mismatched_is = refl; extra_source_is = refl; extra_target_is = omega (arith, all_missing right) }
 
 -- where one is at its end, the other's rows are extra
-pub counts_rest : (left right : RowsValue) → (left ≡ []) ⊎ (right ≡ []) → IsStep (report_of left right) (report_of [] []) 0 0 (length left) (length right)
+pub counts_rest : (left right : DumpRowsValue) → (left ≡ []) ⊎ (right ≡ []) → IsStep (report_of left right) (report_of [] []) 0 0 (length left) (length right)
 counts_rest left right (inl none) = rw none (target_is_left right)
 counts_rest left right (inr none) = rw none (source_is_left left)
 
 -- ---- the first difference
 
-above_lesser : (lesser key : KeyValue) (rows : RowsValue) → key_cmp lesser key ≡ Less → AreAbove key_cmp key rows → AreAbove key_cmp lesser rows
+above_lesser : (lesser key : KeyValue) (rows : DumpRowsValue) → key_cmp lesser key ≡ Less → AreAbove key_cmp key rows → AreAbove key_cmp lesser rows
 above_lesser lesser key rows less above = each (λ later. key_cmp key later.0 ≡ Less) (λ later. key_cmp lesser later.0 ≡ Less) (λ later l. key_cmp_total.trans lesser key later.0 less l) rows above
 
 -- a key that ties with the row before them isn't among them
-pub tied_none : (x : KeyValue × RowValue) (rows : RowsValue) (key : KeyValue) → AreAbove key_cmp x.0 rows → key_cmp key x.0 ≡ Equal → row_with_key rows key ≡ None
+pub tied_none : (x : KeyValue × RowValue) (rows : DumpRowsValue) (key : KeyValue) → AreAbove key_cmp x.0 rows → key_cmp key x.0 ≡ Equal → row_with_key rows key ≡ None
 tied_none x rows key above tied = none_above key_cmp_total x.0 key rows (tied_back key_cmp_total key x.0 tied) above
 
 pub is_equal : (o : Ordering) → is_eq o ≡ true → o ≡ Equal
@@ -159,7 +159,7 @@ is_equal Less e = cc
 is_equal Equal e = refl
 is_equal Greater e = cc
 
-differs_behind : (x : KeyValue × RowValue) (lefts rights : RowsValue) (key : KeyValue) → AreAbove key_cmp x.0 lefts → AreAbove key_cmp x.0 rights → (row_with_key lefts key ≡ row_with_key rights key → ⊥)
+differs_behind : (x : KeyValue × RowValue) (lefts rights : DumpRowsValue) (key : KeyValue) → AreAbove key_cmp x.0 lefts → AreAbove key_cmp x.0 rights → (row_with_key lefts key ≡ row_with_key rights key → ⊥)
     → (b : Bool) → eq_by_cmp key_cmp key x.0 ≡ b → row_with_key (x ∷ lefts) key ≡ row_with_key (x ∷ rights) key → ⊥
 differs_behind x lefts rights key above beyond differ true e same =
     let tied : key_cmp key x.0 ≡ Equal = is_equal (key_cmp key x.0) e in
@@ -167,25 +167,25 @@ differs_behind x lefts rights key above beyond differ true e same =
 differs_behind x lefts rights key above beyond differ false e same = differ (rw e at same)
 
 -- the first keys of two lists of rows differ, or their rows do: there is the first difference
-pub source_first : (key : KeyValue) (row : RowValue) (lefts right : RowsValue) → IsRising key_cmp ((key, row) ∷ lefts) → AreAbove key_cmp key right → IsFirstDifference ((key, row) ∷ lefts) right key
+pub source_first : (key : KeyValue) (row : RowValue) (lefts right : DumpRowsValue) → IsRising key_cmp ((key, row) ∷ lefts) → AreAbove key_cmp key right → IsFirstDifference ((key, row) ∷ lefts) right key
 source_first key row lefts right rising above = record {
   differ = λ e. let some : Some row ≡ None = sym (here key row lefts) ∙ e ∙ none_at key right above in cc;
   same_before = λ lesser less. none_at lesser ((key, row) ∷ lefts) (less, above_lesser lesser key lefts less rising.0) ∙ sym (none_at lesser right (above_lesser lesser key right less above));
 }
 
-pub target_first : (key : KeyValue) (row : RowValue) (left rights : RowsValue) → IsRising key_cmp ((key, row) ∷ rights) → AreAbove key_cmp key left → IsFirstDifference left ((key, row) ∷ rights) key
+pub target_first : (key : KeyValue) (row : RowValue) (left rights : DumpRowsValue) → IsRising key_cmp ((key, row) ∷ rights) → AreAbove key_cmp key left → IsFirstDifference left ((key, row) ∷ rights) key
 target_first key row left rights rising above =
     let turned = source_first key row rights left rising above in
     record { differ = λ e. turned.differ (sym e); same_before = λ lesser less. sym (turned.same_before lesser less) }
 
-pub rows_first : (key : KeyValue) (a b : RowValue) (lefts rights : RowsValue) → (a ≡ b → ⊥) → AreAbove key_cmp key lefts → AreAbove key_cmp key rights → IsFirstDifference ((key, a) ∷ lefts) ((key, b) ∷ rights) key
+pub rows_first : (key : KeyValue) (a b : RowValue) (lefts rights : DumpRowsValue) → (a ≡ b → ⊥) → AreAbove key_cmp key lefts → AreAbove key_cmp key rights → IsFirstDifference ((key, a) ∷ lefts) ((key, b) ∷ rights) key
 rows_first key a b lefts rights differ above beyond = record {
   differ = λ e. let some : Some a ≡ Some b = sym (here key a lefts) ∙ e ∙ here key b rights in differ (cc);
   same_before = λ lesser less. none_at lesser ((key, a) ∷ lefts) (less, above_lesser lesser key lefts less above) ∙ sym (none_at lesser ((key, b) ∷ rights) (less, above_lesser lesser key rights less beyond));
 }
 
 -- behind a row that both have it is the first difference too
-pub first_behind : (x : KeyValue × RowValue) (lefts rights : RowsValue) (key : KeyValue) → AreAbove key_cmp x.0 lefts → AreAbove key_cmp x.0 rights → IsFirstDifference lefts rights key → IsFirstDifference (x ∷ lefts) (x ∷ rights) key
+pub first_behind : (x : KeyValue × RowValue) (lefts rights : DumpRowsValue) (key : KeyValue) → AreAbove key_cmp x.0 lefts → AreAbove key_cmp x.0 rights → IsFirstDifference lefts rights key → IsFirstDifference (x ∷ lefts) (x ∷ rights) key
 first_behind x lefts rights key above beyond first = record {
   differ = differs_behind x lefts rights key above beyond first.differ (eq_by_cmp key_cmp key x.0) refl;
   same_before = λ lesser less. ap (λ (o : Option RowValue). cond (eq_by_cmp key_cmp lesser x.0) (Some x.1) o) (first.same_before lesser less);
@@ -193,7 +193,7 @@ first_behind x lefts rights key above beyond first = record {
 
 -- ---- the five counts as one report
 
-pub report_is : (source target : RowsValue) (matching mismatched extra_source extra_target processed : ℕ) → IsStep (report_of source target) (report_of [] []) matching mismatched extra_source extra_target → processed ≡ matching + mismatched + extra_source + extra_target
+pub report_is : (source target : DumpRowsValue) (matching mismatched extra_source extra_target processed : ℕ) → IsStep (report_of source target) (report_of [] []) matching mismatched extra_source extra_target → processed ≡ matching + mismatched + extra_source + extra_target
     → record { processed = processed; matching = matching; mismatched = mismatched; extra_source = extra_source; extra_target = extra_target } ≡ report_of source target
 report_is source target matching mismatched extra_source extra_target processed step sum =
     let whole = report_of source target in
@@ -207,7 +207,7 @@ report_is source target matching mismatched extra_source extra_target processed 
 -- ---- the loop
 
 -- what is counted and what is left are the whole, and each row of the two is counted once
-pub record IsWalked (source target left right : RowsValue) (matching mismatched extra_source extra_target : ℕ) : Type 0 where
+pub record IsWalked (source target left right : DumpRowsValue) (matching mismatched extra_source extra_target : ℕ) : Type 0 where
   pub counted : IsStep (report_of source target) (report_of left right) matching mismatched extra_source extra_target
   pub of_source : matching + mismatched + extra_source + length left ≡ length source
   pub of_target : matching + mismatched + extra_target + length right ≡ length target
@@ -223,7 +223,7 @@ counts_more whole now rest a b c d e f g h first second ms bb cs dd p q r s = re
   extra_target_is = omega (arith, first.extra_target_is, second.extra_target_is, s);
 }
 
-module _ (source target lefts rights : RowsValue) (x y : KeyValue × RowValue) (a b c d : ℕ) where
+module _ (source target lefts rights : DumpRowsValue) (x y : KeyValue × RowValue) (a b c d : ℕ) where
   pub walks_source : IsWalked source target (x ∷ lefts) (y ∷ rights) a b c d → key_cmp x.0 y.0 ≡ Less → IsWalked source target lefts (y ∷ rights) a b (c + 1) d
   walks_source w less = record {
     counted = counts_more _ _ _ a b c d 0 0 1 0 w.counted (source_alone x.0 x.1 lefts (y ∷ rights) (all_above x.0 y rights w.right_rises less)) _ _ _ _ (omega arith) (omega arith) refl (omega arith);
@@ -270,29 +270,29 @@ module _ (source target lefts rights : RowsValue) (x y : KeyValue × RowValue) (
   }
 
 -- where one is at its end, what is left of the other is extra
-pub walk_ends : (source target left right : RowsValue) (a b c d : ℕ) → IsWalked source target left right a b c d → (left ≡ []) ⊎ (right ≡ [])
+pub walk_ends : (source target left right : DumpRowsValue) (a b c d : ℕ) → IsWalked source target left right a b c d → (left ≡ []) ⊎ (right ≡ [])
     → record { processed = a + b + (c + length left) + (d + length right); matching = a; mismatched = b; extra_source = c + length left; extra_target = d + length right } ≡ report_of source target
 walk_ends source target left right a b c d w end =
     report_is source target a b (c + length left) (d + length right) (a + b + (c + length left) + (d + length right))
     (counts_more _ _ _ a b c d 0 0 (length left) (length right) w.counted (counts_rest left right end) _ _ _ _ (omega arith) (omega arith) refl refl) refl
 
-pub none_of : (rows : RowsValue) → length rows ≡ 0 → rows ≡ []
+pub none_of : (rows : DumpRowsValue) → length rows ≡ 0 → rows ≡ []
 none_of [] e = refl
 none_of (row ∷ rows) e = absurd (omega arith)
 
 -- ---- the loop to the first difference
 
 -- the first difference of what is left is that of the whole
-pub record IsSameSoFar (source target left right : RowsValue) : Type 0 where
+pub record IsSameSoFar (source target left right : DumpRowsValue) : Type 0 where
   pub same : left ≡ right → source ≡ target
   pub first : (key : KeyValue) → IsFirstDifference left right key → IsFirstDifference source target key
   pub left_rises : IsRising key_cmp left
   pub right_rises : IsRising key_cmp right
 
-pub same_at_first : (source target : RowsValue) → IsRising key_cmp source → IsRising key_cmp target → IsSameSoFar source target source target
+pub same_at_first : (source target : DumpRowsValue) → IsRising key_cmp source → IsRising key_cmp target → IsSameSoFar source target source target
 same_at_first source target left right = record { same = λ e. e; first = λ key d. d; left_rises = left; right_rises = right }
 
-module _ (source target : RowsValue) (x y : KeyValue × RowValue) (lefts rights : RowsValue) where
+module _ (source target : DumpRowsValue) (x y : KeyValue × RowValue) (lefts rights : DumpRowsValue) where
   pub stops_at_source : IsSameSoFar source target (x ∷ lefts) (y ∷ rights) → key_cmp x.0 y.0 ≡ Less → IsFirstDifference source target x.0
   stops_at_source w less = w.first x.0 (source_first x.0 x.1 lefts (y ∷ rights) w.left_rises (all_above x.0 y rights w.right_rises less))
 
@@ -318,15 +318,15 @@ module _ (source target : RowsValue) (x y : KeyValue × RowValue) (lefts rights 
       }
 
 -- one of the two is at its end, and the other isn't
-pub rest_of_source : (source target left right : RowsValue) (x : KeyValue × RowValue) → IsSameSoFar source target left right → (left ≡ []) ⊎ (right ≡ []) → Some x ≡ slice_get left 0 → IsFirstDifference source target x.0
+pub rest_of_source : (source target left right : DumpRowsValue) (x : KeyValue × RowValue) → IsSameSoFar source target left right → (left ≡ []) ⊎ (right ≡ []) → Some x ≡ slice_get left 0 → IsFirstDifference source target x.0
 rest_of_source source target [] right x w end e = cc
 rest_of_source source target (z ∷ zs) right x w (inl none) e = cc
 rest_of_source source target (z ∷ zs) right x w (inr none) e =
     let is : x ≡ z = cc in
-    let v : IsSameSoFar source target (z ∷ zs) [] = subst (λ (l : RowsValue). IsSameSoFar source target (z ∷ zs) l) none w in
+    let v : IsSameSoFar source target (z ∷ zs) [] = subst (λ (l : DumpRowsValue). IsSameSoFar source target (z ∷ zs) l) none w in
     rw is (v.first z.0 (source_first z.0 z.1 zs [] v.left_rises tt))
 
-pub rest_of_target : (source target left right : RowsValue) (y : KeyValue × RowValue) → IsSameSoFar source target left right → None ≡ slice_get left 0 → Some y ≡ slice_get right 0 → IsFirstDifference source target y.0
+pub rest_of_target : (source target left right : DumpRowsValue) (y : KeyValue × RowValue) → IsSameSoFar source target left right → None ≡ slice_get left 0 → Some y ≡ slice_get right 0 → IsFirstDifference source target y.0
 rest_of_target source target (z ∷ zs) right y w none e = cc
 rest_of_target source target [] [] y w none e = cc
 rest_of_target source target [] (z ∷ zs) y w none e =

@@ -6,7 +6,7 @@ use Rattle.std.proofs.lemmas.List.Elements.{All-from_recursion}
 use Rattle.vdiff_core.specs.declared.row_cells.Span.{Span}
 use Rattle.vdiff_core.specs.Private.Reading.{bytes_front, with_bytes, cell_front, TakesCell}
 use Rattle.vdiff_core.specs.Private.Spans.{bytes_at, columns_at, EndsWithin, AreWithin}
-use Rattle.vdiff_core.specs.RowsValue.{RowValue}
+use Rattle.vdiff_core.specs.DumpRowsValue.{RowValue}
 
 pub within_at : (count i : ℕ) (spans : List (Option Span)) (d : Option Span) → i < length spans → AreWithin count spans → EndsWithin count (get_or spans i d)
 within_at count i spans d lt all = All-from_recursion (EndsWithin count) spans all i d lt

@@ -23,7 +23,7 @@ use Rattle.target_tables.proofs.Order.{all_join, all_right, before_middle, behin
 use Rattle.vdiff_core.specs.Dump.{row_line, row_lines, rows_of_table, table_line, table_lines}
 use Rattle.vdiff_core.specs.DumpReading.{AreByteValues, FitsPlan, AreRowsOf, IsDump, Behind, BeginsTable, AddsRow, CanStand, Stand, NoLineStands, IsFirstBad, AreReadOnce, at_front, joined_lines}
 use Rattle.vdiff_core.specs.Private.Reading.{row_front, IsReadSoFar, NoRowStands, TakesLine, TakesRow, TakesRowLine}
-use Rattle.vdiff_core.specs.RowsValue.{RowValue, RowsValue}
+use Rattle.vdiff_core.specs.DumpRowsValue.{RowValue, DumpRowsValue}
 use Rattle.vdiff_core.proofs.ReadingLaws.{row_there}
 use Rattle.vdiff_core.proofs.RowsLaws.{rising_pushed}
 use Rattle.vdiff_core.proofs.TableLaws.{table_of_less}
@@ -121,7 +121,7 @@ sound_front plan = record { few = omega arith; rows_of_plan = record { rising = 
 abbrev written : PlanValue → Behind → List ℕ
 written plan s = table_lines 0 (take s.begun plan.tables) s.rows
 
-lines_append : (t : ℕ) (xs ys : List TableValue) (rows : RowsValue) → table_lines t (xs ++ ys) rows ≡ table_lines t xs rows ++ table_lines (t + length xs) ys rows
+lines_append : (t : ℕ) (xs ys : List TableValue) (rows : DumpRowsValue) → table_lines t (xs ++ ys) rows ≡ table_lines t xs rows ++ table_lines (t + length xs) ys rows
 lines_append t [] ys rows = ap (λ (k : ℕ). table_lines k ys rows) (omega arith)
 lines_append t (x ∷ xs) ys rows =
     let first : List ℕ = table_line x.name ++ row_lines (rows_of_table t rows) in
@@ -129,7 +129,7 @@ lines_append t (x ∷ xs) ys rows =
     ap (λ (l : List ℕ). first ++ l) (lines_append (t + 1) xs ys rows ∙ ap (λ (k : ℕ). table_lines (t + 1) xs rows ++ table_lines k ys rows) place)
     ∙ sym (append_assoc first (table_lines (t + 1) xs rows) (table_lines (t + suc (length xs)) ys rows))
 
-no_rows : (t : ℕ) (rows : RowsValue) → AllByRecursion (λ (row : KeyValue × RowValue). row.0.table < t) rows → rows_of_table t rows ≡ []
+no_rows : (t : ℕ) (rows : DumpRowsValue) → AllByRecursion (λ (row : KeyValue × RowValue). row.0.table < t) rows → rows_of_table t rows ≡ []
 no_rows t [] under = refl
 no_rows t (row ∷ rows) under =
     let differs : (row.0.table == t) ≡ false = grind (arith, nat_tests, under.0) in
@@ -150,32 +150,32 @@ table_adds plan s sound lt =
     ap (λ (l : List TableValue). table_lines 0 l s.rows) there.2
     ∙ lines_append 0 (take s.begun plan.tables) (there.0 ∷ []) s.rows
     ∙ ap (λ (k : ℕ). written plan s ++ table_lines k (there.0 ∷ []) s.rows) place
-    ∙ ap (λ (l : RowsValue). written plan s ++ (table_line there.0.name ++ row_lines l ++ [])) none
+    ∙ ap (λ (l : DumpRowsValue). written plan s ++ (table_line there.0.name ++ row_lines l ++ [])) none
     ∙ ap (λ (l : List ℕ). written plan s ++ l) (append-nil (table_line there.0.name ++ []) ∙ append-nil (table_line there.0.name) ∙ ap table_line name)
 
 -- the row of a table behind others of it
-same_table : (t : ℕ) (rows : RowsValue) (row : KeyValue × RowValue) → row.0.table ≡ t → rows_of_table t (rows ++ row ∷ []) ≡ rows_of_table t rows ++ row ∷ []
+same_table : (t : ℕ) (rows : DumpRowsValue) (row : KeyValue × RowValue) → row.0.table ≡ t → rows_of_table t (rows ++ row ∷ []) ≡ rows_of_table t rows ++ row ∷ []
 same_table t rows row e =
     let same : (row.0.table == t) ≡ true = grind (arith, nat_tests, e) in
     filter-append (λ (r : KeyValue × RowValue). r.0.table == t) rows (row ∷ []) ∙ ap (λ b. rows_of_table t rows ++ cond b (row ∷ []) []) same
 
-other_table : (t : ℕ) (rows : RowsValue) (row : KeyValue × RowValue) → t < row.0.table → rows_of_table t (rows ++ row ∷ []) ≡ rows_of_table t rows
+other_table : (t : ℕ) (rows : DumpRowsValue) (row : KeyValue × RowValue) → t < row.0.table → rows_of_table t (rows ++ row ∷ []) ≡ rows_of_table t rows
 other_table t rows row lt =
     let differs : (row.0.table == t) ≡ false = grind (arith, nat_tests, lt) in
     filter-append (λ (r : KeyValue × RowValue). r.0.table == t) rows (row ∷ []) ∙ ap (λ b. rows_of_table t rows ++ cond b (row ∷ []) []) differs ∙ append-nil (rows_of_table t rows)
 
-row_lines_more : (rows : RowsValue) (row : KeyValue × RowValue) → row_lines (rows ++ row ∷ []) ≡ row_lines rows ++ row_line row.1
+row_lines_more : (rows : DumpRowsValue) (row : KeyValue × RowValue) → row_lines (rows ++ row ∷ []) ≡ row_lines rows ++ row_line row.1
 row_lines_more rows row =
     flat_map-append (λ (r : KeyValue × RowValue). row_line r.1) rows (row ∷ [])
     ∙ ap (λ (l : List ℕ). row_lines rows ++ l) (flat_map-cons (λ (r : KeyValue × RowValue). row_line r.1) row [] ∙ append-nil (row_line row.1))
 
 -- the line of a row of the last table adds to the text
-row_adds : (t : ℕ) (tables : List TableValue) (rows : RowsValue) (row : KeyValue × RowValue) → row.0.table + 1 ≡ t + length tables → t ≤ row.0.table → table_lines t tables (rows ++ row ∷ []) ≡ table_lines t tables rows ++ row_line row.1
+row_adds : (t : ℕ) (tables : List TableValue) (rows : DumpRowsValue) (row : KeyValue × RowValue) → row.0.table + 1 ≡ t + length tables → t ≤ row.0.table → table_lines t tables (rows ++ row ∷ []) ≡ table_lines t tables rows ++ row_line row.1
 row_adds t [] rows row last le = absurd (omega arith)
 row_adds t (x ∷ []) rows row last le =
     let here : row.0.table ≡ t = omega arith in
     let name : List ℕ = table_line x.name in
-    ap (λ (l : RowsValue). name ++ row_lines l ++ []) (same_table t rows row here)
+    ap (λ (l : DumpRowsValue). name ++ row_lines l ++ []) (same_table t rows row here)
     ∙ append-nil (name ++ row_lines (rows_of_table t rows ++ row ∷ []))
     ∙ ap (λ (l : List ℕ). name ++ l) (row_lines_more (rows_of_table t rows) row)
     ∙ sym (append_assoc name (row_lines (rows_of_table t rows)) (row_line row.1))
@@ -183,7 +183,7 @@ row_adds t (x ∷ []) rows row last le =
 row_adds t (x ∷ y ∷ ys) rows row last le =
     let further : t < row.0.table = omega arith in
     let first : List ℕ = table_line x.name ++ row_lines (rows_of_table t rows) in
-    ap (λ (l : RowsValue). table_line x.name ++ row_lines l ++ table_lines (t + 1) (y ∷ ys) (rows ++ row ∷ [])) (other_table t rows row further)
+    ap (λ (l : DumpRowsValue). table_line x.name ++ row_lines l ++ table_lines (t + 1) (y ∷ ys) (rows ++ row ∷ [])) (other_table t rows row further)
     ∙ ap (λ (l : List ℕ). first ++ l) (row_adds (t + 1) (y ∷ ys) rows row (omega arith) (omega arith))
     ∙ sym (append_assoc first (table_lines (t + 1) (y ∷ ys) rows) (row_line row.1))
 
@@ -239,37 +239,37 @@ stand_is_dump plan lines e text stand is all =
 
 -- ---- the lines of a dump can stand
 
-abbrev StandFrom : PlanValue → ℕ → RowsValue → RowsValue → Type 0
+abbrev StandFrom : PlanValue → ℕ → DumpRowsValue → DumpRowsValue → Type 0
 StandFrom plan begun done rest = (lines : List (List ℕ)) × Stand plan (record { begun = begun; rows = done }) lines (record { begun = length plan.tables; rows = done ++ rest })
 
 -- the next table begins
-then_table : (plan : PlanValue) (begun : ℕ) (done rest : RowsValue) → begun < length plan.tables → StandFrom plan (begun + 1) done rest → StandFrom plan begun done rest
+then_table : (plan : PlanValue) (begun : ℕ) (done rest : DumpRowsValue) → begun < length plan.tables → StandFrom plan (begun + 1) done rest → StandFrom plan begun done rest
 then_table plan begun done rest lt (lines, stand) =
     (table_line (table_name plan begun) ∷ lines, (record { begun = begun + 1; rows = done }, inl record { more = lt; is_line = refl; is_new = refl }, stand))
 
 -- a row of the table that began last is added
-then_row : (plan : PlanValue) (begun : ℕ) (done : RowsValue) (row : KeyValue × RowValue) (rest : RowsValue) → FitsPlan plan row → row.0.table + 1 ≡ begun → AreBelow key_cmp row.0 done → StandFrom plan begun (done ++ row ∷ []) rest
+then_row : (plan : PlanValue) (begun : ℕ) (done : DumpRowsValue) (row : KeyValue × RowValue) (rest : DumpRowsValue) → FitsPlan plan row → row.0.table + 1 ≡ begun → AreBelow key_cmp row.0 done → StandFrom plan begun (done ++ row ∷ []) rest
     → StandFrom plan begun done (row ∷ rest)
 then_row plan begun done row rest fits last below (lines, stand) = (
   row_line row.1 ∷ lines,
   (
     record { begun = begun; rows = done ++ row ∷ [] },
     inr record { row = row; fits = fits; begun_last = last; above = below; is_line = refl; is_new = refl },
-    subst (λ (l : RowsValue). Stand plan (record { begun = begun; rows = done ++ row ∷ [] }) lines (record { begun = length plan.tables; rows = l })) (append_assoc done (row ∷ []) rest) stand,
+    subst (λ (l : DumpRowsValue). Stand plan (record { begun = begun; rows = done ++ row ∷ [] }) lines (record { begun = length plan.tables; rows = l })) (append_assoc done (row ∷ []) rest) stand,
   ),
 )
 
 -- rows from a table on
-abbrev AreNotBefore : ℕ → RowsValue → Type 0
+abbrev AreNotBefore : ℕ → DumpRowsValue → Type 0
 AreNotBefore begun rows = AllByRecursion (λ (row : KeyValue × RowValue). begun ≤ row.0.table + 1) rows
 
-not_before : (begun : ℕ) (row : KeyValue × RowValue) (rest : RowsValue) → AreAbove key_cmp row.0 rest → begun ≤ row.0.table + 1 → AreNotBefore begun (row ∷ rest)
+not_before : (begun : ℕ) (row : KeyValue × RowValue) (rest : DumpRowsValue) → AreAbove key_cmp row.0 rest → begun ≤ row.0.table + 1 → AreNotBefore begun (row ∷ rest)
 not_before begun row rest above le = (le, each (λ (later : KeyValue × RowValue). key_cmp row.0 later.0 ≡ Less) (λ (later : KeyValue × RowValue). begun ≤ later.0.table + 1) (λ later less. omega (arith, table_of_less row.0 later.0 less, le)) rest above)
 
 abbrev Leads : PlanValue → ℕ → Type 0
-Leads plan fuel = (begun : ℕ) (done rest : RowsValue) → length plan.tables + length rest ≡ begun + fuel → begun ≤ length plan.tables → AreRowsOf plan (done ++ rest) → AreNotBefore begun rest → StandFrom plan begun done rest
+Leads plan fuel = (begun : ℕ) (done rest : DumpRowsValue) → length plan.tables + length rest ≡ begun + fuel → begun ≤ length plan.tables → AreRowsOf plan (done ++ rest) → AreNotBefore begun rest → StandFrom plan begun done rest
 
-leads_row : (f : ℕ) (plan : PlanValue) (begun : ℕ) (done : RowsValue) (row : KeyValue × RowValue) (rest : RowsValue) → Leads plan f → length plan.tables + length (row ∷ rest) ≡ begun + suc f → AreRowsOf plan (done ++ row ∷ rest) → AreNotBefore begun (row ∷ rest)
+leads_row : (f : ℕ) (plan : PlanValue) (begun : ℕ) (done : DumpRowsValue) (row : KeyValue × RowValue) (rest : DumpRowsValue) → Leads plan f → length plan.tables + length (row ∷ rest) ≡ begun + suc f → AreRowsOf plan (done ++ row ∷ rest) → AreNotBefore begun (row ∷ rest)
     → (begun < row.0.table + 1) ⊎ (row.0.table + 1 ≤ begun) → StandFrom plan begun done (row ∷ rest)
 leads_row f plan begun done row rest more fuel are from (inl lt) =
     let fits = (all_right (FitsPlan plan) done (row ∷ rest) are.each_row).0 in
@@ -291,23 +291,23 @@ leads zero plan begun done (row ∷ rest) fuel few are from = absurd (omega arit
 leads (suc f) plan begun done [] fuel few are from = then_table plan begun done [] (omega arith) (leads f plan (begun + 1) done [] (omega arith) (omega arith) are tt)
 leads (suc f) plan begun done (row ∷ rest) fuel few are from = leads_row f plan begun done row rest (leads f plan) fuel are from (cases_lt begun (row.0.table + 1))
 
-all_not_before : (rows : RowsValue) → AreNotBefore 0 rows
+all_not_before : (rows : DumpRowsValue) → AreNotBefore 0 rows
 all_not_before [] = tt
 all_not_before (row ∷ rows) = (omega arith, all_not_before rows)
 
 -- a dump as lines that can stand
-pub record IsLines (plan : PlanValue) (rows : RowsValue) (text : List ℕ) : Type 0 where
+pub record IsLines (plan : PlanValue) (rows : DumpRowsValue) (text : List ℕ) : Type 0 where
   pub lines : List (List ℕ)
   pub stand : Stand plan at_front lines (record { begun = length plan.tables; rows = rows })
   pub is_text : text ≡ joined_lines lines
 
-pub dump_lines : (plan : PlanValue) (rows : RowsValue) (text : List ℕ) → IsDump plan rows text → IsLines plan rows text
+pub dump_lines : (plan : PlanValue) (rows : DumpRowsValue) (text : List ℕ) → IsDump plan rows text → IsLines plan rows text
 dump_lines plan rows text dump =
     let lead = leads (length plan.tables + length rows) plan 0 [] rows (omega arith) (omega arith) dump.rows_of_plan (all_not_before rows) in
     let again = stand_is_dump plan lead.0 (record { begun = length plan.tables; rows = rows }) (joined_lines lead.0) lead.1 refl (omega arith) in
     record { lines = lead.0; stand = lead.1; is_text = dump.is_text ∙ sym again.is_text }
 
-pub dumps_determine : (plan : PlanValue) (text : List ℕ) (rows others : RowsValue) → IsDump plan rows text → IsDump plan others text → rows ≡ others
+pub dumps_determine : (plan : PlanValue) (text : List ℕ) (rows others : DumpRowsValue) → IsDump plan rows text → IsDump plan others text → rows ≡ others
 dumps_determine plan text rows others one two =
     let a = dump_lines plan rows text one in
     let b = dump_lines plan others text two in
@@ -316,7 +316,7 @@ dumps_determine plan text rows others one two =
     ap (λ (s : Behind). s.rows) same.0
 
 -- no dump has a line that can't stand
-pub no_dump : (plan : PlanValue) (rows : RowsValue) (text : List ℕ) (n : ℕ) → IsFirstBad plan text n → IsDump plan rows text → ⊥
+pub no_dump : (plan : PlanValue) (rows : DumpRowsValue) (text : List ℕ) (n : ℕ) → IsFirstBad plan text n → IsDump plan rows text → ⊥
 no_dump plan rows text n bad dump =
     let a = dump_lines plan rows text dump in
     let ends : joined_lines bad.lines ++ bad.rest ≡ joined_lines a.lines ++ [] = sym bad.parts ∙ a.is_text ∙ sym (append-nil (joined_lines a.lines)) in

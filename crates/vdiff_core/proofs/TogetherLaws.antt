@@ -9,11 +9,11 @@ use Rattle.pk_copy.specs.KeyOrderLaws.{key_cmp_total}
 use Rattle.pk_copy.specs.KeyValue.{KeyValue}
 use Rattle.target_tables.specs.Rising.{IsRising, AreAbove}
 use Rattle.vdiff_core.specs.Report.{row_eq, report_of, AreTogether, HaveKeys}
-use Rattle.vdiff_core.specs.RowsValue.{RowValue, RowsValue, row_with_key}
+use Rattle.vdiff_core.specs.DumpRowsValue.{RowValue, DumpRowsValue, row_with_key}
 use Rattle.vdiff_core.proofs.ReportLaws.{all_above, both_have, counts_rest, is_equal, source_alone, target_alone, tied_none}
 
 -- these are the rows of both, and as many as are processed
-pub record IsCounted (left right both : RowsValue) : Type 0 where
+pub record IsCounted (left right both : DumpRowsValue) : Type 0 where
   pub together : AreTogether left right both
   pub above : (key : KeyValue) → AreAbove key_cmp key left → AreAbove key_cmp key right → AreAbove key_cmp key both
   pub count : (report_of left right).processed ≡ length both
@@ -38,7 +38,7 @@ both_at false a b both left right is = is
 
 -- ---- one step
 
-left_first : (x : KeyValue × RowValue) (lefts right both : RowsValue) → AreAbove key_cmp x.0 lefts → AreAbove key_cmp x.0 right → IsCounted lefts right both → IsCounted (x ∷ lefts) right (x ∷ both)
+left_first : (x : KeyValue × RowValue) (lefts right both : DumpRowsValue) → AreAbove key_cmp x.0 lefts → AreAbove key_cmp x.0 right → IsCounted lefts right both → IsCounted (x ∷ lefts) right (x ∷ both)
 left_first x lefts right both above beyond is =
     let step = source_alone x.0 x.1 lefts right beyond in
     record {
@@ -50,7 +50,7 @@ left_first x lefts right both above beyond is =
       count = omega (arith, step.matching_is, step.mismatched_is, step.extra_source_is, step.extra_target_is, is.count);
     }
 
-right_first : (y : KeyValue × RowValue) (left rights both : RowsValue) → AreAbove key_cmp y.0 left → AreAbove key_cmp y.0 rights → IsCounted left rights both → IsCounted left (y ∷ rights) (y ∷ both)
+right_first : (y : KeyValue × RowValue) (left rights both : DumpRowsValue) → AreAbove key_cmp y.0 left → AreAbove key_cmp y.0 rights → IsCounted left rights both → IsCounted left (y ∷ rights) (y ∷ both)
 right_first y left rights both above beyond is =
     let step = target_alone y.0 y.1 left rights above in
     record {
@@ -67,7 +67,7 @@ one_of_two : (r : Bool) → cond {A = ℕ} r 1 0 + cond {A = ℕ} r 0 1 ≡ 1
 one_of_two true = refl
 one_of_two false = refl
 
-both_first : (key : KeyValue) (a b : RowValue) (lefts rights both : RowsValue) → AreAbove key_cmp key lefts → AreAbove key_cmp key rights → IsCounted lefts rights both → IsCounted ((key, a) ∷ lefts) ((key, b) ∷ rights) ((key, a) ∷ both)
+both_first : (key : KeyValue) (a b : RowValue) (lefts rights both : DumpRowsValue) → AreAbove key_cmp key lefts → AreAbove key_cmp key rights → IsCounted lefts rights both → IsCounted ((key, a) ∷ lefts) ((key, b) ∷ rights) ((key, a) ∷ both)
 both_first key a b lefts rights both above beyond is =
     let step = both_have key a b lefts rights (row_eq a b) refl above beyond in
     record {
@@ -81,7 +81,7 @@ both_first key a b lefts rights both above beyond is =
 
 -- ---- all of both
 
-none_left : (right : RowsValue) → IsRising key_cmp right → IsCounted [] right right
+none_left : (right : DumpRowsValue) → IsRising key_cmp right → IsCounted [] right right
 none_left right rising =
     let step = counts_rest [] right (inl refl) in
     record {
@@ -90,7 +90,7 @@ none_left right rising =
       count = omega (arith, step.matching_is, step.mismatched_is, step.extra_source_is, step.extra_target_is);
     }
 
-none_right : (left : RowsValue) → IsRising key_cmp left → IsCounted left [] left
+none_right : (left : DumpRowsValue) → IsRising key_cmp left → IsCounted left [] left
 none_right left rising =
     let step = counts_rest left [] (inr refl) in
     record {
@@ -101,12 +101,12 @@ none_right left rising =
 
 -- rows of two lists can be put together, where they are so many at most
 abbrev Joins : ℕ → Type 0
-Joins most = (left right : RowsValue) → length left + length right ≤ most → IsRising key_cmp left → IsRising key_cmp right → (both : RowsValue) × IsCounted left right both
+Joins most = (left right : DumpRowsValue) → length left + length right ≤ most → IsRising key_cmp left → IsRising key_cmp right → (both : DumpRowsValue) × IsCounted left right both
 
 module _ (same : (a b : KeyValue) → key_cmp a b ≡ Equal → a ≡ b) where
   -- by the first keys of both
-  first_of : (most : ℕ) → Joins most → (x y : KeyValue × RowValue) (lefts rights : RowsValue) → length (x ∷ lefts) + length (y ∷ rights) ≤ suc most
-      → IsRising key_cmp (x ∷ lefts) → IsRising key_cmp (y ∷ rights) → (o : Ordering) → key_cmp x.0 y.0 ≡ o → (both : RowsValue) × IsCounted (x ∷ lefts) (y ∷ rights) both
+  first_of : (most : ℕ) → Joins most → (x y : KeyValue × RowValue) (lefts rights : DumpRowsValue) → length (x ∷ lefts) + length (y ∷ rights) ≤ suc most
+      → IsRising key_cmp (x ∷ lefts) → IsRising key_cmp (y ∷ rights) → (o : Ordering) → key_cmp x.0 y.0 ≡ o → (both : DumpRowsValue) × IsCounted (x ∷ lefts) (y ∷ rights) both
   first_of most joins x y lefts rights few l r Less less =
       let rest = joins lefts (y ∷ rights) (omega (arith, few)) l.1 r in
       (x ∷ rest.0, left_first x lefts (y ∷ rights) rest.0 l.0 (all_above x.0 y rights r less) rest.1)
@@ -127,7 +127,7 @@ module _ (same : (a b : KeyValue) → key_cmp a b ≡ Equal → a ≡ b) where
   counted (suc most) (x ∷ lefts) (y ∷ rights) few l r = first_of most (counted most) x y lefts rights few l r (key_cmp x.0 y.0) refl
 
   -- as many keys as are processed stand in either
-  pub processed_keys : (source target : RowsValue) → IsRising key_cmp source → IsRising key_cmp target → HaveKeys source target (report_of source target).processed
+  pub processed_keys : (source target : DumpRowsValue) → IsRising key_cmp source → IsRising key_cmp target → HaveKeys source target (report_of source target).processed
   processed_keys source target l r =
       let all = counted (length source + length target) source target (omega arith) l r in
       (all.0, all.1.together, all.1.count)

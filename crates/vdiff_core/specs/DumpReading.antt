@@ -9,7 +9,7 @@ use Rattle.pk_copy.specs.KeyValue.{KeyValue}
 use Rattle.row_view.specs.WrittenRow.{IsWithinLimits}
 use Rattle.target_tables.specs.Rising.{IsRising, AreBelow}
 use Rattle.vdiff_core.specs.Dump.{dump_of, row_line, table_line}
-use Rattle.vdiff_core.specs.RowsValue.{RowValue, RowsValue}
+use Rattle.vdiff_core.specs.DumpRowsValue.{RowValue, DumpRowsValue}
 
 -- each value is of bytes
 abbrev pub AreByteValues : RowValue → Type 0
@@ -25,12 +25,12 @@ pub record FitsPlan (plan : PlanValue) (row : KeyValue × RowValue) : Type 0 whe
   pub bytes : AreByteValues row.1
 
 -- rows that a dump can have: by rising key, and each fits
-pub record AreRowsOf (plan : PlanValue) (rows : RowsValue) : Type 0 where
+pub record AreRowsOf (plan : PlanValue) (rows : DumpRowsValue) : Type 0 where
   pub rising : IsRising key_cmp rows
   pub each_row : AllByRecursion (FitsPlan plan) rows
 
 -- the text is the dump of these rows
-pub record IsDump (plan : PlanValue) (rows : RowsValue) (text : List ℕ) : Type 0 where
+pub record IsDump (plan : PlanValue) (rows : DumpRowsValue) (text : List ℕ) : Type 0 where
   pub rows_of_plan : AreRowsOf plan rows
   pub is_text : text ≡ dump_of plan rows
 
@@ -39,7 +39,7 @@ pub record IsDump (plan : PlanValue) (rows : RowsValue) (text : List ℕ) : Type
 -- what stands behind some lines: how many tables have begun, and the rows so far
 pub record Behind : Type 0 where
   pub begun : ℕ
-  pub rows : RowsValue
+  pub rows : DumpRowsValue
 
 -- the line of the next table's name
 pub record BeginsTable (plan : PlanValue) (old new : Behind) (line : List ℕ) : Type 0 where
@@ -101,10 +101,10 @@ pub record MayHaveRow (plan : PlanValue) (text : List ℕ) : Type 0 where
 -- ---- what a text is read as
 
 -- the rows of a dump, or the number of the first line that can't stand
-abbrev pub IsDumpReading : PlanValue → List ℕ → Result RowsValue ℕ → Type 0
+abbrev pub IsDumpReading : PlanValue → List ℕ → Result DumpRowsValue ℕ → Type 0
 IsDumpReading plan text (Ok rows) = IsDump plan rows text
 IsDumpReading plan text (Err line) = IsFirstBad plan text line
 
 -- under a plan each text is read as one thing alone: a dump determines its rows, and no dump has a line that can't stand
 abbrev pub AreReadOnce : Type 0
-AreReadOnce = (plan : PlanValue) (text : List ℕ) (one other : Result RowsValue ℕ) → IsDumpReading plan text one → IsDumpReading plan text other → one ≡ other
+AreReadOnce = (plan : PlanValue) (text : List ℕ) (one other : Result DumpRowsValue ℕ) → IsDumpReading plan text one → IsDumpReading plan text other → one ≡ other

@@ -1,4 +1,4 @@
-pub mod RowsValue
+pub mod DumpRowsValue
 pub mod Printing
 pub mod Cells
 pub mod KeyText

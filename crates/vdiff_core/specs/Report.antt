@@ -9,7 +9,7 @@ use Rattle.pk_copy.specs.KeyOrder.{key_cmp}
 use Rattle.pk_copy.specs.KeyValue.{KeyValue}
 use Rattle.target_tables.specs.Rising.{IsRising}
 use Rattle.vdiff_core.specs.declared.report.Report.{Report}
-use Rattle.vdiff_core.specs.RowsValue.{RowValue, RowsValue, row_with_key}
+use Rattle.vdiff_core.specs.DumpRowsValue.{RowValue, DumpRowsValue, row_with_key}
 
 -- whether two columns are equal, NULL and the empty value told apart
 abbrev pub column_eq : Option (List ℕ) → Option (List ℕ) → Bool
@@ -35,12 +35,12 @@ is_missing None row = true
 is_missing (Some other) row = false
 
 -- how many rows meet this beside what there is at their key in others
-abbrev pub count_beside : (Option RowValue → RowValue → Bool) → RowsValue → RowsValue → ℕ
+abbrev pub count_beside : (Option RowValue → RowValue → Bool) → DumpRowsValue → DumpRowsValue → ℕ
 count_beside test others rows = count_by (λ row. test (row_with_key others row.0) row.1) rows
 
 -- how many keys are in both with equal columns, in both with others, in the source alone and in the target
 -- alone, and how many there are in either
-abbrev pub report_of : RowsValue → RowsValue → Report
+abbrev pub report_of : DumpRowsValue → DumpRowsValue → Report
 report_of source target =
     let matching = count_beside is_matched target source in
     let mismatched = count_beside is_mismatched target source in
@@ -49,17 +49,17 @@ report_of source target =
     record { processed = matching + mismatched + extra_source + extra_target; matching = matching; mismatched = mismatched; extra_source = extra_source; extra_target = extra_target }
 
 -- the least key at which the two differ: there they do, and at no lesser key
-pub record IsFirstDifference (source target : RowsValue) (key : KeyValue) : Type 0 where
+pub record IsFirstDifference (source target : DumpRowsValue) (key : KeyValue) : Type 0 where
   pub differ : row_with_key source key ≢ row_with_key target key
   pub same_before : (lesser : KeyValue) → key_cmp lesser key ≡ Less → row_with_key source lesser ≡ row_with_key target lesser
 
 -- ---- the sum
 
 -- the rows of both together, each key once: at a key the source's row, or else the target's
-pub record AreTogether (source target both : RowsValue) : Type 0 where
+pub record AreTogether (source target both : DumpRowsValue) : Type 0 where
   pub rising : IsRising key_cmp both
   pub each_key : (key : KeyValue) → row_with_key both key ≡ option_or (row_with_key source key) (row_with_key target key)
 
 -- so many keys stand in either
-abbrev pub HaveKeys : RowsValue → RowsValue → ℕ → Type 0
-HaveKeys source target count = (both : RowsValue) × AreTogether source target both × (count ≡ length both)
+abbrev pub HaveKeys : DumpRowsValue → DumpRowsValue → ℕ → Type 0
+HaveKeys source target count = (both : DumpRowsValue) × AreTogether source target both × (count ≡ length both)

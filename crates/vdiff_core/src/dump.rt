@@ -6,12 +6,12 @@ ghost use Rattle.target_tables.specs.Rising.{IsRising};
 ghost use Rattle.vdiff_core.specs.Dump.{row_line, row_lines, rows_of_table, table_line, table_lines, dump_of};
 ghost use Rattle.vdiff_core.specs.Printing.{Prints, Adds};
 ghost use Rattle.vdiff_core.specs.Private.Tables.{AreFrom, behind_table};
-ghost use Rattle.vdiff_core.specs.RowsValue.{all_rows};
+ghost use Rattle.vdiff_core.specs.DumpRowsValue.{all_rows};
 
 use crate::cells::{add_cell, add_cells};
 use crate::gathered::Gathered;
 use crate::lent_rows::{Later, LentRows};
-use crate::rows::Rows;
+use crate::rows::DumpRows;
 use crate::writer::{Out, OutFailed};
 use filter_rule::{Plan, Table};
 use pk_copy::Key;
@@ -22,7 +22,7 @@ use target_tables::Tables;
 /// by key, one a line, the cells parted by one tab; a cell is `x` and the value in lower case
 /// hexadecimal, or `N` for NULL. It is written in pieces of up to 4 KiB. After a fault, which comes only
 /// of a write that failed in this call, what was written is a beginning of the dump. Takes no memory.
-pub fn write_dump<O: Out>(out: &mut O, plan: &Plan, rows: &Rows) -> Result<(), OutFailed>
+pub fn write_dump<O: Out>(out: &mut O, plan: &Plan, rows: &DumpRows) -> Result<(), OutFailed>
     ensures { Prints result (O.written out.old) (O.written out.new) (dump_of plan.now rows.now) }
 {
     let lent = LentRows::new(Later::Own(rows.as_slice()));

@@ -50,9 +50,9 @@ impl<'t> Model for LentRows<'t> {
     ghost use Rattle.std.specs.Option.{option_map};
     ghost use Rattle.target_tables.specs.Kept.{fetched};
     ghost use Rattle.vdiff_core.specs.Private.Lent.{later_rows, lent};
-    ghost use Rattle.vdiff_core.specs.RowsValue.{RowsValue};
+    ghost use Rattle.vdiff_core.specs.DumpRowsValue.{DumpRowsValue};
 
-    ghost Value = { RowsValue };
+    ghost Value = { DumpRowsValue };
 
     ghost view = { λ l. fetched (option_map lent l.first) (later_rows l.later) };
 }

@@ -21,5 +21,5 @@ pub use places::place_of_other;
 pub use put::put_all;
 pub use reading::{DumpFault, read_dump, texts_are_read_once};
 pub use report::{Report, compare, compare_rows, first_difference};
-pub use rows::Rows;
+pub use rows::DumpRows;
 pub use writer::{Out, OutFailed, Writer};

@@ -6,12 +6,12 @@ ghost use Rattle.pk_copy.specs.KeyOfKept.{key_of_kept};
 ghost use Rattle.vdiff_core.specs.Dump.{table_line};
 ghost use Rattle.vdiff_core.specs.DumpReading.{IsDump, IsFirstBad, NoLineStands, MayHaveRow, AreReadOnce};
 ghost use Rattle.vdiff_core.specs.DumpFaults.{number_of};
-ghost use Rattle.vdiff_core.specs.RowsValue.{RowsValue};
+ghost use Rattle.vdiff_core.specs.DumpRowsValue.{DumpRowsValue};
 ghost use Rattle.vdiff_core.specs.Private.Reading.{TakesLine, TakesRowLine, NoRowStands};
 
 use crate::line_fault::LineFault;
 use crate::row_cells::{RowCells, take_row};
-use crate::rows::Rows;
+use crate::rows::DumpRows;
 use filter_rule::Plan;
 use pk_copy::{Key, key_of_kept};
 use row_view::{RowBuf, RowBytes};
@@ -30,14 +30,14 @@ pub enum DumpFault {
 /// What stands behind some lines: how many tables have begun, and the rows so far; and the memory that
 /// one line after another is read into. Seen in contracts as what stands behind the lines.
 #[derive(Drop)]
-struct DumpRows {
+struct LinesRead {
     begun: usize,
-    rows: Rows,
+    rows: DumpRows,
     cells: RowCells,
     message: Vec<u8>,
 }
 
-impl Model for DumpRows {
+impl Model for LinesRead {
     ghost use Rattle.vdiff_core.specs.DumpReading.{Behind};
 
     ghost Value = { Behind };
@@ -57,7 +57,7 @@ impl DumpFault {
     }
 }
 
-impl DumpRows {
+impl LinesRead {
     /// Takes a line off the front: that of the next table's name, or of a row.
     fn take_line<'t>(
         &mut self,
@@ -126,17 +126,17 @@ fn key_of_row(alloc: Global, plan: &Plan, t: u8, row: &RowBytes<'_>) -> Result<K
 /// key that can be read and is greater than those so far; where lines are missing, the one behind the last.
 /// A line without its end can't stand there. Any other error is want of memory, which comes of a line alone that
 /// stands behind the name of a table. Linear in the text.
-pub fn read_dump(alloc: Global, plan: &Plan, bytes: &[u8]) -> Result<Rows, DumpFault>
+pub fn read_dump(alloc: Global, plan: &Plan, bytes: &[u8]) -> Result<DumpRows, DumpFault>
     ensures ok { IfOk result (λ rows. IsDump plan.now rows bytes.now) }
-    ensures only { (rows : RowsValue) → IsDump plan.now rows bytes.now → (result ≡ Ok rows) ⊎ (result ≡ Err DumpFault.Memory) }
+    ensures only { (rows : DumpRowsValue) → IsDump plan.now rows bytes.now → (result ≡ Ok rows) ⊎ (result ≡ Err DumpFault.Memory) }
     ensures bad { (n : ℕ) → (result ≡ Err (DumpFault.BadDump n)) → IsFirstBad plan.now bytes.now n }
     ensures first { (n : ℕ) → IsFirstBad plan.now bytes.now n → (result ≡ Err (DumpFault.BadDump n)) ⊎ (result ≡ Err DumpFault.Memory) }
     // Memory is wanted for rows alone, which stand behind the name of a table.
     ensures memory { result ≡ Err DumpFault.Memory → MayHaveRow plan.now bytes.now }
 {
-    let mut read = DumpRows {
+    let mut read = LinesRead {
         begun: 0,
-        rows: Rows::new(alloc),
+        rows: DumpRows::new(alloc),
         cells: RowCells::new(alloc),
         message: Vec::new(alloc),
     };

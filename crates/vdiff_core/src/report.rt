@@ -5,7 +5,7 @@ ghost use Rattle.pk_copy.specs.KeyOrder.{key_cmp};
 ghost use Rattle.target_tables.specs.Rising.{IsRising};
 ghost use Rattle.vdiff_core.specs.Report.{report_of, HaveKeys, IsFirstDifference};
 
-use crate::rows::Rows;
+use crate::rows::DumpRows;
 use pk_copy::{Key, keys_tie_where_they_are_equal};
 use row_view::RowBuf;
 use std::cmp::Ordering;
@@ -27,7 +27,7 @@ pub struct Report {
 
 /// Compares the rows of a source and of a target, key by key, in one walk over both. NULL and the
 /// empty value are told apart. Takes no memory.
-pub fn compare(source: &Rows, target: &Rows) -> Report
+pub fn compare(source: &DumpRows, target: &DumpRows) -> Report
     ensures report { result ≡ report_of source.now target.now }
     // As many keys as are processed stand in either.
     ensures keys { HaveKeys source.now target.now result.processed }
@@ -95,7 +95,7 @@ pub fn compare_rows(source: &[(Key, RowBuf)], target: &[(Key, RowBuf)]) -> Repor
 /// The least key at which the two differ: one of the source alone, of the target alone, or of both
 /// with other columns. There is none exactly where they are the same. One walk over what is the same.
 /// Takes no memory.
-pub fn first_difference<'r>(source: &'r Rows, target: &'r Rows) -> Option<&'r Key>
+pub fn first_difference<'r>(source: &'r DumpRows, target: &'r DumpRows) -> Option<&'r Key>
     ensures { MatchOption result (source.now ≡ target.now)
         (λ key. IsFirstDifference source.now target.now key.now) }
 {

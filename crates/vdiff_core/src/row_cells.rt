@@ -5,7 +5,7 @@ ghost use Rattle.std.specs.Option.{option_map};
 ghost use Rattle.row_view.specs.ColumnValue.{column_value};
 ghost use Rattle.row_view.specs.Row.{row_of_message};
 ghost use Rattle.row_view.specs.WrittenRow.{IsWithinLimits};
-ghost use Rattle.vdiff_core.specs.RowsValue.{RowValue};
+ghost use Rattle.vdiff_core.specs.DumpRowsValue.{RowValue};
 ghost use Rattle.vdiff_core.specs.Private.Reading.{digit_of, pair_front, bytes_front, with_bytes, cell_front, behind_byte, cells_front, row_front, TakesCell, TakesCells, TakesMessage, NoRowIn};
 ghost use Rattle.vdiff_core.specs.Private.Spans.{bytes_at, columns_at, EndsWithin, AreWithin};
 
@@ -39,7 +39,7 @@ pub(crate) struct RowCells {
 
 impl Model for RowCells {
     ghost use Rattle.std.specs.Prelude.{length};
-    ghost use Rattle.vdiff_core.specs.RowsValue.{RowValue};
+    ghost use Rattle.vdiff_core.specs.DumpRowsValue.{RowValue};
     ghost use Rattle.vdiff_core.specs.Private.Spans.{columns_at, AreWithin};
 
     ghost Value = { RowValue };

@@ -3,7 +3,7 @@
 ghost use Rattle.std.specs.Prelude.{◌≡◌, ◌↔◌, [], ◌∷◌, ◌++◌, IsTrue, IfOk, OnOk, OnErr, length, option_copied};
 ghost use Rattle.pk_copy.specs.KeyOrder.{key_cmp};
 ghost use Rattle.target_tables.specs.Rising.{IsRising, AreBelow};
-ghost use Rattle.vdiff_core.specs.RowsValue.{row_with_key};
+ghost use Rattle.vdiff_core.specs.DumpRowsValue.{row_with_key};
 
 use crate::places::place_of;
 use pk_copy::{Key, KeyView};
@@ -14,28 +14,28 @@ use std::marker::Model;
 /// Rows in memory of their own, by rising key, so each key once. Seen in contracts as the list of keys
 /// and rows.
 #[derive(Drop)]
-pub struct Rows {
+pub struct DumpRows {
     pairs: Vec<(Key, RowBuf)>,
 }
 
-impl Model for Rows {
+impl Model for DumpRows {
     ghost use Rattle.pk_copy.specs.KeyOrder.{key_cmp};
     ghost use Rattle.target_tables.specs.Rising.{IsRising};
-    ghost use Rattle.vdiff_core.specs.RowsValue.{RowsValue};
+    ghost use Rattle.vdiff_core.specs.DumpRowsValue.{DumpRowsValue};
 
-    ghost Value = { RowsValue };
+    ghost Value = { DumpRowsValue };
 
     ghost view = { λ r. r.pairs.items };
 
     ghost invariant = { λ r. IsRising key_cmp r.pairs.items };
 }
 
-impl Rows {
+impl DumpRows {
     /// No rows. Takes no memory.
-    pub fn new(alloc: Global) -> Rows
+    pub fn new(alloc: Global) -> DumpRows
         ensures { result ≡ [] }
     {
-        Rows {
+        DumpRows {
             pairs: Vec::new(alloc),
         }
     }
@@ -104,13 +104,13 @@ impl Rows {
     }
 
     /// A copy of the rows. An error is want of memory.
-    pub fn try_clone(&self, alloc: Global) -> Result<Rows, AllocError>
+    pub fn try_clone(&self, alloc: Global) -> Result<DumpRows, AllocError>
         ensures { IfOk result (λ copy. copy ≡ self.now) }
     {
         let mut pairs = Vec::with_capacity(alloc, self.pairs.len())?;
         for (key, row) in &self.pairs {
             pairs.push((key.try_clone(alloc)?, row.try_clone(alloc)?))?;
         }
-        Ok(Rows { pairs })
+        Ok(DumpRows { pairs })
     }
 }

@@ -9,7 +9,7 @@ use Rattle.target_tables.specs.Rising.{IsRising}
 use Rattle.serde_json.specs.Data.{Data, Members, member, no_members, object, array, string}
 use Rattle.serde_json.specs.View.{items_of}
 use Rattle.serde_json.specs.Written.{has_float, items_have_float, members_have_float}
-use Rattle.vdiff_core.specs.RowsValue.{RowValue, RowsValue}
+use Rattle.vdiff_core.specs.DumpRowsValue.{RowValue, DumpRowsValue}
 use Rattle.vdiff_core.specs.declared.report.Report.{Report}
 use Rattle.vdiff_core.specs.KeyText.{part_cell}
 use Rattle.vdiff_json.specs.Json.{cell_data, row_data, side_data, key_data, difference_data, counts_before, table_data, comparison_data, error_data}
@@ -56,15 +56,15 @@ made_more f done made whole left x rest is one so_far =
 
 -- ---- the loop over differences
 
-pub record AreMadeTo (tables : List TableValue) (n i : ℕ) (source target left right : RowsValue) (made : List Data) : Type 0 where
+pub record AreMadeTo (tables : List TableValue) (n i : ℕ) (source target left right : DumpRowsValue) (made : List Data) : Type 0 where
   pub found : List Difference
   pub are_found : AreFoundTo n i source target left right found
   pub are_made : made ≡ map (difference_data tables) found
 
-pub made_none : (tables : List TableValue) (n : ℕ) (source target : RowsValue) (made : List Data) → made ≡ [] → IsRising key_cmp source → IsRising key_cmp target → AreMadeTo tables n 0 source target source target made
+pub made_none : (tables : List TableValue) (n : ℕ) (source target : DumpRowsValue) (made : List Data) → made ≡ [] → IsRising key_cmp source → IsRising key_cmp target → AreMadeTo tables n 0 source target source target made
 made_none tables n source target made none rising rises = record { found = []; are_found = found_none n source target rising rises; are_made = none }
 
-pub made_one : (tables : List TableValue) (n i : ℕ) (source target left right : RowsValue) (made : List Data) (least : Difference) (lefts rights : RowsValue) (one : Data) → i < n → AreMadeTo tables n i source target left right made
+pub made_one : (tables : List TableValue) (n i : ℕ) (source target left right : DumpRowsValue) (made : List Data) (least : Difference) (lefts rights : DumpRowsValue) (one : Data) → i < n → AreMadeTo tables n i source target left right made
     → IsNextDifference left right least lefts rights → one ≡ difference_data tables least → AreMadeTo tables n (i + 1) source target lefts rights (made ++ one ∷ [])
 made_one tables n i source target left right made least lefts rights one lt so_far next is = record {
   found = so_far.found ++ least ∷ [];

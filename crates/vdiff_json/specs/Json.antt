@@ -6,7 +6,7 @@ use Rattle.serde_json.specs.Data.{Data, null, number, string, array, object, Mem
 use Rattle.serde_json.specs.View.{items_of}
 use Rattle.serde_json.specs.Written.{compact_text}
 use Rattle.vdiff_core.specs.Cells.{cell}
-use Rattle.vdiff_core.specs.RowsValue.{RowValue}
+use Rattle.vdiff_core.specs.DumpRowsValue.{RowValue}
 use Rattle.vdiff_core.specs.declared.report.Report.{Report}
 use Rattle.vdiff_core.specs.KeyText.{part_cell}
 use Rattle.vdiff_tables.specs.Differences.{Difference}

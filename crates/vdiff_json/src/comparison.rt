@@ -14,7 +14,7 @@ use crate::line::line_of;
 use filter_rule::Plan;
 use serde_json::{Value, json};
 use std::alloc::{AllocError, Global};
-use vdiff_core::{Report, Rows, compare};
+use vdiff_core::{DumpRows, Report, compare};
 use vdiff_tables::{TableReport, table_reports};
 
 /// The line of JSON of a comparison: the first `count` keys at which the two differ with both rows, the five counts,
@@ -22,8 +22,8 @@ use vdiff_tables::{TableReport, table_reports};
 pub fn comparison_line(
     alloc: Global,
     plan: &Plan,
-    source: &Rows,
-    target: &Rows,
+    source: &DumpRows,
+    target: &DumpRows,
     count: u32,
 ) -> Result<String, AllocError>
     ensures { IfOk result (λ line. (found : List Difference) × AreFirstDifferences count source.now target.now found

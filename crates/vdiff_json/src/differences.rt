@@ -11,15 +11,15 @@ use crate::cells::{key_value, side_value};
 use filter_rule::Table;
 use serde_json::{Value, json};
 use std::alloc::{AllocError, Global};
-use vdiff_core::Rows;
+use vdiff_core::DumpRows;
 use vdiff_tables::{Found, first_found, name_of_table};
 
 /// The first `count` keys at which the two differ, by rising key.
 pub(crate) fn differences_value(
     alloc: Global,
     tables: &[Table],
-    source: &Rows,
-    target: &Rows,
+    source: &DumpRows,
+    target: &DumpRows,
     count: u32,
 ) -> Result<Value, AllocError>
     ensures { IfOk result (λ made. (found : List Difference) × AreFirstDifferences count source.now target.now found × (view made ≡ array (items_of (map (difference_data tables.now) found)))) }

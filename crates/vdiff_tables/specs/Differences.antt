@@ -5,7 +5,7 @@ use Rattle.std.specs.Ordering.{is_lt}
 use Rattle.pk_copy.specs.KeyOrder.{key_cmp}
 use Rattle.pk_copy.specs.KeyValue.{KeyValue}
 use Rattle.vdiff_core.specs.Report.{IsFirstDifference}
-use Rattle.vdiff_core.specs.RowsValue.{RowValue, RowsValue, row_with_key}
+use Rattle.vdiff_core.specs.DumpRowsValue.{RowValue, DumpRowsValue, row_with_key}
 
 -- a key, and the rows that stand there, if any do
 pub record Difference : Type 0 where
@@ -14,17 +14,17 @@ pub record Difference : Type 0 where
   pub target : Option RowValue
 
 -- the least key at which the two differ, with the rows that stand there
-pub record IsLeast (source target : RowsValue) (least : Difference) : Type 0 where
+pub record IsLeast (source target : DumpRowsValue) (least : Difference) : Type 0 where
   pub first : IsFirstDifference source target least.key
   pub source_row : least.source ≡ row_with_key source least.key
   pub target_row : least.target ≡ row_with_key target least.key
 
 -- the rows at greater keys
-abbrev pub rows_past : KeyValue → RowsValue → RowsValue
+abbrev pub rows_past : KeyValue → DumpRowsValue → DumpRowsValue
 rows_past key rows = filter (λ row. is_lt (key_cmp key row.0)) rows
 
 -- the first n differences by rising key, or all where there are fewer: the least one, and those behind it
-abbrev pub AreFirstDifferences : ℕ → RowsValue → RowsValue → List Difference → Type 0
+abbrev pub AreFirstDifferences : ℕ → DumpRowsValue → DumpRowsValue → List Difference → Type 0
 AreFirstDifferences zero source target [] = Unit {0}
 AreFirstDifferences zero source target (least ∷ others) = ⊥
 AreFirstDifferences (suc n) source target [] = source ≡ target

@@ -3,11 +3,11 @@ use Rattle.std.specs.Prelude.{ℕ, ◌+◌, List, [], ◌∷◌}
 use Rattle.filter_rule.specs.PlanTable.{TableValue}
 use Rattle.vdiff_core.specs.Dump.{rows_of_table}
 use Rattle.vdiff_core.specs.Report.{report_of}
-use Rattle.vdiff_core.specs.RowsValue.{RowsValue}
+use Rattle.vdiff_core.specs.DumpRowsValue.{DumpRowsValue}
 use Rattle.vdiff_core.specs.declared.report.Report.{Report}
 
 -- the counts of the rows of table t alone
-abbrev pub report_of_table : ℕ → RowsValue → RowsValue → Report
+abbrev pub report_of_table : ℕ → DumpRowsValue → DumpRowsValue → Report
 report_of_table t source target = report_of (rows_of_table t source) (rows_of_table t target)
 
 -- a table's name, and its counts
@@ -16,6 +16,6 @@ pub record NamedReport : Type 0 where
   pub report : Report
 
 -- those of a list of tables that begins with table t
-abbrev pub reports_from : ℕ → List TableValue → RowsValue → RowsValue → List NamedReport
+abbrev pub reports_from : ℕ → List TableValue → DumpRowsValue → DumpRowsValue → List NamedReport
 reports_from t [] source target = []
 reports_from t (table ∷ tables) source target = record { name = table.name; report = report_of_table t source target } ∷ reports_from (t + 1) tables source target

@@ -5,7 +5,7 @@ use Rattle.std.specs.Option.{option_map_or}
 use Rattle.filter_rule.specs.PlanTable.{TableValue, name_of_table}
 use Rattle.pk_copy.specs.KeyValue.{KeyValue}
 use Rattle.vdiff_core.specs.Cells.{cells}
-use Rattle.vdiff_core.specs.RowsValue.{RowValue}
+use Rattle.vdiff_core.specs.DumpRowsValue.{RowValue}
 use Rattle.vdiff_core.specs.declared.report.Report.{Report}
 use Rattle.vdiff_core.specs.KeyText.{key_text}
 use Rattle.vdiff_tables.specs.Differences.{Difference}

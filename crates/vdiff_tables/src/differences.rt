@@ -12,7 +12,7 @@ use crate::walk::{Found, first_found};
 use filter_rule::Table;
 use pk_copy::keys_tie_where_they_are_equal;
 use row_view::{Columns, RowBuf};
-use vdiff_core::{Gathered, Out, OutFailed, Rows, add_cells};
+use vdiff_core::{DumpRows, Gathered, Out, OutFailed, add_cells};
 
 /// Adds the first `count` keys at which the two differ, by rising key, each with the rows that stand there, in one walk
 /// over both. Takes no memory.
@@ -20,8 +20,8 @@ pub fn add_differences<O: Out>(
     out: &mut O,
     text: &mut Gathered,
     tables: &[Table],
-    source: &Rows,
-    target: &Rows,
+    source: &DumpRows,
+    target: &DumpRows,
     count: u32,
 ) -> Result<(), OutFailed>
     ensures { AddsFirst result tables.now count source.now target.now (O.written out.old) text.old (O.written out.new) text.new }

@@ -4,10 +4,10 @@ ghost use Rattle.std.specs.Prelude.{List};
 ghost use Rattle.vdiff_tables.specs.Differences.{AreFirstDifferences, Difference};
 
 use pk_copy::keys_tie_where_they_are_equal;
-use vdiff_core::Rows;
+use vdiff_core::DumpRows;
 
 /// There are first differences, however many are asked for.
-pub fn first_differences_are_there(source: &Rows, target: &Rows, count: u32)
+pub fn first_differences_are_there(source: &DumpRows, target: &DumpRows, count: u32)
     ensures { (found : List Difference) × AreFirstDifferences count source.now target.now found }
 {
     keys_tie_where_they_are_equal();

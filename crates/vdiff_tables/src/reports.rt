@@ -6,7 +6,7 @@ ghost use Rattle.vdiff_tables.specs.Reports.{reports_from};
 
 use filter_rule::Plan;
 use std::alloc::{AllocError, Global};
-use vdiff_core::{Report, Rows, compare_rows, place_of_other};
+use vdiff_core::{DumpRows, Report, compare_rows, place_of_other};
 
 /// A table's name, and how many of its keys there are of each kind.
 #[derive(Clone, Copy)]
@@ -19,8 +19,8 @@ pub struct TableReport<'p> {
 pub fn table_reports<'p>(
     alloc: Global,
     plan: &'p Plan,
-    source: &Rows,
-    target: &Rows,
+    source: &DumpRows,
+    target: &DumpRows,
 ) -> Result<Vec<TableReport<'p>>, AllocError>
     ensures { IfOk result (λ reports. map named_report reports.items ≡ reports_from 0 plan.entry.now.tables source.now target.now) }
 {

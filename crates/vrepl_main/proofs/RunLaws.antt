@@ -4,7 +4,7 @@ use Rattle.std.specs.Prelude.{slice_get}
 use Rattle.filter_rule.specs.PlanValue.{PlanValue}
 use Rattle.vdiff_core.specs.Dump.{dump_of}
 use Rattle.vdiff_core.specs.Printing.{Written, BreaksOff}
-use Rattle.vdiff_core.specs.RowsValue.{RowsValue}
+use Rattle.vdiff_core.specs.DumpRowsValue.{DumpRowsValue}
 use Rattle.stream_worker.specs.Ended.{IsRowsUnion}
 use Rattle.stream_worker.specs.RunRefused.{IsRefusedRun}
 use Rattle.stream_worker.specs.declared.run_refusal.RunRefusal.{RunRefusal}
@@ -30,7 +30,7 @@ module _ (reading : Result OpenedValue Reason) (found : OpenedValue) (plan : Pla
   refused_run refusal refused = subst (RefusesStream plan refusal) (sym is) (record { first = first; refused = refused })
 
   -- it has filled the target
-  pub filled_run : (rows : RowsValue) → IsRowsUnion found.feeds rows → IsFilled reading (record { plan = plan; rows = rows })
+  pub filled_run : (rows : DumpRowsValue) → IsRowsUnion found.feeds rows → IsFilled reading (record { plan = plan; rows = rows })
   filled_run rows union = subst (λ (r : Result OpenedValue Reason). IsFilled r (record { plan = plan; rows = rows })) (sym is) (record { first = first; union = union })
 
 -- what is found before anything is printed leaves nothing

@@ -11,7 +11,7 @@ use Rattle.vdiff_core.specs.DumpReading as dump
 use Rattle.vdiff_core.specs.DumpReading.{IsFirstBad, IsDumpReading}
 use Rattle.vdiff_core.specs.Printing.{Written, BreaksOff}
 use Rattle.vdiff_core.specs.Report.{report_of, IsFirstDifference}
-use Rattle.vdiff_core.specs.RowsValue.{RowsValue, row_with_key}
+use Rattle.vdiff_core.specs.DumpRowsValue.{DumpRowsValue, row_with_key}
 use Rattle.vdiff_core.specs.declared.reading.DumpFault.{DumpFault}
 use Rattle.vdiff_core.specs.declared.reading.DumpFault.TheVariants as faults
 use Rattle.vdiff_core.specs.declared.report.Report.{Report}
@@ -39,8 +39,8 @@ comparison_is first now compared report is least = record {
 }
 
 -- rows that differ at a key aren't the same
-pub differ_at : (source target : RowsValue) (key : KeyValue) → IsFirstDifference source target key → source ≢ target
-differ_at source target key is same = is.differ (ap (λ (rows : RowsValue). row_with_key rows key) same)
+pub differ_at : (source target : DumpRowsValue) (key : KeyValue) → IsFirstDifference source target key → source ≢ target
+differ_at source target key is same = is.differ (ap (λ (rows : DumpRowsValue). row_with_key rows key) same)
 
 -- ---- refusals
 
@@ -62,7 +62,7 @@ module _ (workflow source target : List ℕ) (plan : PlanValue) (others : List P
   refuses_source (faults.BadDump n) bad = (Err (bad_dump n), record { plan = plan; others = others; plans = is; bad = inl (bad n refl) }, (refl, refl))
 
   -- the target's, behind a dump of the source
-  pub refuses_target : {X : Type 0} (fault : DumpFault) (rows : RowsValue) → IsDumpReading plan source (Ok rows) → ((n : ℕ) → ◌≡◌ {A = Result X DumpFault} (Err fault) (Err (faults.BadDump n)) → IsFirstBad plan target n)
+  pub refuses_target : {X : Type 0} (fault : DumpFault) (rows : DumpRowsValue) → IsDumpReading plan source (Ok rows) → ((n : ℕ) → ◌≡◌ {A = Result X DumpFault} (Err fault) (Err (faults.BadDump n)) → IsFirstBad plan target n)
       → RefusesDumps workflow source target (refusal_of_dump fault) now now
   refuses_target faults.Memory rows read bad = refl
   refuses_target (faults.BadDump n) rows read bad = (Err (bad_dump n), record { plan = plan; others = others; plans = is; bad = inr (rows, read, bad n refl) }, (refl, refl))
@@ -101,19 +101,19 @@ module _ (once : dump.AreReadOnce) (workflow source target : List ℕ) where
   same_fault : (fault other : plans.Fault) → plans_of workflow ≡ Err fault → plans_of workflow ≡ Err other → fault ≡ other
   same_fault fault other is too = cc
 
-  same_rows : (plan other : PlanValue) (text : List ℕ) (rows others : RowsValue) → plan ≡ other → IsDumpReading plan text (Ok rows) → IsDumpReading other text (Ok others) → rows ≡ others
+  same_rows : (plan other : PlanValue) (text : List ℕ) (rows others : DumpRowsValue) → plan ≡ other → IsDumpReading plan text (Ok rows) → IsDumpReading other text (Ok others) → rows ≡ others
   same_rows plan other text rows others is one two =
-      let same : ◌≡◌ {A = Result RowsValue ℕ} (Ok rows) (Ok others) = once other text (Ok rows) (Ok others) (subst (λ (p : PlanValue). IsDumpReading p text (Ok rows)) is one) two in
+      let same : ◌≡◌ {A = Result DumpRowsValue ℕ} (Ok rows) (Ok others) = once other text (Ok rows) (Ok others) (subst (λ (p : PlanValue). IsDumpReading p text (Ok rows)) is one) two in
       cc
 
   same_bad : (plan other : PlanValue) (text : List ℕ) (n m : ℕ) → plan ≡ other → IsDumpReading plan text (Err n) → IsDumpReading other text (Err m) → n ≡ m
   same_bad plan other text n m is one two =
-      let same : ◌≡◌ {A = Result RowsValue ℕ} (Err n) (Err m) = once other text (Err n) (Err m) (subst (λ (p : PlanValue). IsDumpReading p text (Err n)) is one) two in
+      let same : ◌≡◌ {A = Result DumpRowsValue ℕ} (Err n) (Err m) = once other text (Err n) (Err m) (subst (λ (p : PlanValue). IsDumpReading p text (Err n)) is one) two in
       cc
 
-  not_both : (plan other : PlanValue) (text : List ℕ) (rows : RowsValue) (n : ℕ) → plan ≡ other → IsDumpReading plan text (Ok rows) → IsDumpReading other text (Err n) → ⊥
+  not_both : (plan other : PlanValue) (text : List ℕ) (rows : DumpRowsValue) (n : ℕ) → plan ≡ other → IsDumpReading plan text (Ok rows) → IsDumpReading other text (Err n) → ⊥
   not_both plan other text rows n is one two =
-      let same : ◌≡◌ {A = Result RowsValue ℕ} (Ok rows) (Err n) = once other text (Ok rows) (Err n) (subst (λ (p : PlanValue). IsDumpReading p text (Ok rows)) is one) two in
+      let same : ◌≡◌ {A = Result DumpRowsValue ℕ} (Ok rows) (Err n) = once other text (Ok rows) (Err n) (subst (λ (p : PlanValue). IsDumpReading p text (Ok rows)) is one) two in
       cc
 
   no_bad_line : (compared : Compared) (n : ℕ) → AreDumps workflow source target compared → IsBadLine workflow source target n → ⊥
@@ -122,7 +122,7 @@ module _ (once : dump.AreReadOnce) (workflow source target : List ℕ) where
       same : compared.plan ≡ bad.plan
       same = same_plan compared.plan bad.plan dumps.others bad.others dumps.plans bad.plans
 
-      by : IsDumpReading bad.plan source (Err n) ⊎ ((rows : RowsValue) × IsDumpReading bad.plan source (Ok rows) × IsDumpReading bad.plan target (Err n)) → ⊥
+      by : IsDumpReading bad.plan source (Err n) ⊎ ((rows : DumpRowsValue) × IsDumpReading bad.plan source (Ok rows) × IsDumpReading bad.plan target (Err n)) → ⊥
       by (inl line) = not_both compared.plan bad.plan source compared.source n same dumps.source_read line
       by (inr (rows, read, line)) = not_both compared.plan bad.plan target compared.target n same dumps.target_read line
 
@@ -139,7 +139,7 @@ module _ (once : dump.AreReadOnce) (workflow source target : List ℕ) where
       same : x.plan ≡ y.plan
       same = same_plan x.plan y.plan x.others y.others x.plans y.plans
 
-      by : IsDumpReading x.plan source (Err n) ⊎ ((rows : RowsValue) × IsDumpReading x.plan source (Ok rows) × IsDumpReading x.plan target (Err n)) → IsDumpReading y.plan source (Err m) ⊎ ((rows : RowsValue) × IsDumpReading y.plan source (Ok rows) × IsDumpReading y.plan target (Err m)) → n ≡ m
+      by : IsDumpReading x.plan source (Err n) ⊎ ((rows : DumpRowsValue) × IsDumpReading x.plan source (Ok rows) × IsDumpReading x.plan target (Err n)) → IsDumpReading y.plan source (Err m) ⊎ ((rows : DumpRowsValue) × IsDumpReading y.plan source (Ok rows) × IsDumpReading y.plan target (Err m)) → n ≡ m
       by (inl a) (inl b) = same_bad x.plan y.plan source n m same a b
       by (inl a) (inr (rows, read, b)) = absurd (not_both y.plan x.plan source rows n (sym same) read a)
       by (inr (rows, read, a)) (inl b) = absurd (not_both x.plan y.plan source rows m same read b)

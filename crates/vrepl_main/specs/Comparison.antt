@@ -8,7 +8,7 @@ use Rattle.pk_copy.specs.KeyValue.{KeyValue}
 use Rattle.vdiff_core.specs.DumpReading.{IsDumpReading}
 use Rattle.vdiff_core.specs.Printing.{Written, IsWritten, BreaksOff}
 use Rattle.vdiff_core.specs.Report.{report_of, IsFirstDifference}
-use Rattle.vdiff_core.specs.RowsValue.{RowsValue}
+use Rattle.vdiff_core.specs.DumpRowsValue.{DumpRowsValue}
 use Rattle.vdiff_core.specs.declared.report.Report.{Report}
 use Rattle.vrepl_main.specs.Command.{RefusesCommand, Ends}
 use Rattle.vrepl_main.specs.Printing.{PrintsOrBreaks}
@@ -45,8 +45,8 @@ first_text tables first = option_map_or (first_line tables) first []
 -- rows of a source and of a target, under a plan
 pub record Compared : Type 0 where
   pub plan : PlanValue
-  pub source : RowsValue
-  pub target : RowsValue
+  pub source : DumpRowsValue
+  pub target : DumpRowsValue
 
 -- the counts, and behind them the least key at which the two differ, if there is one
 pub record IsComparison (compared : Compared) (text : List ℕ) : Type 0 where
@@ -66,7 +66,7 @@ pub record IsBadLine (workflow source target : List ℕ) (line : ℕ) : Type 0 w
   pub plan : PlanValue
   pub others : List PlanValue
   pub plans : plans_of workflow ≡ Ok (plan ∷ others)
-  pub bad : IsDumpReading plan source (Err line) ⊎ ((rows : RowsValue) × IsDumpReading plan source (Ok rows) × IsDumpReading plan target (Err line))
+  pub bad : IsDumpReading plan source (Err line) ⊎ ((rows : DumpRowsValue) × IsDumpReading plan source (Ok rows) × IsDumpReading plan target (Err line))
 
 -- what a workflow file and two texts are read as: rows to compare, or why there are none, the workflow's fault
 -- before the source's and that before the target's

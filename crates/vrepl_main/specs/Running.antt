@@ -4,7 +4,7 @@ use Rattle.std.specs.Arc.{arc_value}
 use Rattle.filter_rule.specs.PlanValue.{PlanValue}
 use Rattle.vdiff_core.specs.Dump.{dump_of}
 use Rattle.vdiff_core.specs.Printing.{Written, IsWritten}
-use Rattle.vdiff_core.specs.RowsValue.{RowsValue}
+use Rattle.vdiff_core.specs.DumpRowsValue.{DumpRowsValue}
 use Rattle.board_laws.specs.declared.refusal.Refusal.TheVariants as refusals
 use Rattle.board_laws.specs.declared.step_refusal.StepRefusal.{StepRefusal}
 use Rattle.board_laws.specs.declared.step_refusal.StepRefusal.TheVariants.{Unprepared, Refused}
@@ -32,7 +32,7 @@ opened_asked inputs = opened inputs.hex inputs.workflow.items (bytes_of inputs.f
 -- rows, and the plan whose tables they are of
 pub record Filled : Type 0 where
   pub plan : PlanValue
-  pub rows : RowsValue
+  pub rows : DumpRowsValue
 
 -- just the rows that the feeds keep, under the first plan
 pub record IsFilledBy (given : OpenedValue) (filled : Filled) : Type 0 where

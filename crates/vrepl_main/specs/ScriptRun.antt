@@ -9,7 +9,7 @@ use Rattle.source_feed.specs.Planned.{FeedValue}
 use Rattle.stream_core.specs.Standing.{Standing}
 use Rattle.stream_core.specs.declared.step.Step.{Step}
 use Rattle.vdiff_core.specs.Dump.{dump_of}
-use Rattle.vdiff_core.specs.RowsValue.{RowsValue}
+use Rattle.vdiff_core.specs.DumpRowsValue.{DumpRowsValue}
 use Rattle.board_laws.specs.Lawful.{standing_of, IsLawful}
 use Rattle.board_laws.specs.Meaning.{State, Meaning}
 use Rattle.board_laws.specs.Reading.{AllReadTheirFeeds}
@@ -35,7 +35,7 @@ use Rattle.vrepl_main.specs.declared.named_inputs.Inputs.{Inputs}
 pub data ScriptReply : Type 0 where
   answers : Reply → ScriptReply
   stands : ℕ → State → ScriptReply
-  shows : RowsValue → ScriptReply
+  shows : DumpRowsValue → ScriptReply
 
 -- the number of a stream, if it is at most 255
 abbrev pub byte_of : ℕ → Option ℕ

@@ -13,7 +13,7 @@ use filter_rule::{Plan, Table};
 use pk_copy::Key;
 use std::alloc::Global;
 use vdiff_core::{
-    Gathered, Out, OutFailed, Report, Rows, compare, first_difference, read_dump,
+    DumpRows, Gathered, Out, OutFailed, Report, compare, first_difference, read_dump,
     texts_are_read_once,
 };
 
@@ -75,8 +75,8 @@ fn print_vdiff<W: Out>(
 fn print_comparison<W: Out>(
     out: &mut W,
     plan: &Plan,
-    source: &Rows,
-    target: &Rows,
+    source: &DumpRows,
+    target: &DumpRows,
 ) -> Result<Verdict, OutFailed>
     ensures { PrintsComparison result (record { plan = plan.now; source = source.now; target = target.now }) (W.written out.old) (W.written out.new) }
 {

@@ -7,7 +7,7 @@ use Rattle.filter_rule.specs.declared.fault.PlanFault.{PlanFault}
 use Rattle.filter_rule.specs.declared.fault.PlanFault.TheVariants as errors
 use Rattle.vdiff_core.specs.DumpReading.{IsFirstBad, IsDumpReading}
 use Rattle.vdiff_core.specs.Printing.{Written}
-use Rattle.vdiff_core.specs.RowsValue.{RowsValue}
+use Rattle.vdiff_core.specs.DumpRowsValue.{DumpRowsValue}
 use Rattle.vdiff_core.specs.declared.reading.DumpFault.{DumpFault}
 use Rattle.vdiff_core.specs.declared.reading.DumpFault.TheVariants as faults
 use Rattle.vrepl_main.specs.declared.refusal.CommandRefusal.{CommandRefusal}
@@ -83,7 +83,7 @@ module _ (inputs : VdiffInputs) (plan : PlanValue) (others : List PlanValue) (is
   told_source (CannotWrite file) error bad same = absurd bad
 
   -- the target's, behind a dump of the source
-  pub told_target : (rows : RowsValue) (refusal : CommandRefusal) (error : List ℕ) → IsDumpReading plan inputs.source.text (Ok rows) → IsOfDump plan inputs.target.text refusal → error ≡ error_of inputs.options.json refusal inputs.target.name → IsTold inputs refusal error now now
+  pub told_target : (rows : DumpRowsValue) (refusal : CommandRefusal) (error : List ℕ) → IsDumpReading plan inputs.source.text (Ok rows) → IsOfDump plan inputs.target.text refusal → error ≡ error_of inputs.options.json refusal inputs.target.name → IsTold inputs refusal error now now
   told_target rows Memory error read bad same = record { refuses = refl; name = inputs.target.name; names = tt; is_error = same }
   told_target rows (BadDump line) error read bad same = record {
     refuses = (Err (bad_dump line), record { plan = plan; others = others; plans = is; bad = inr (rows, read, bad) }, (refl, refl));

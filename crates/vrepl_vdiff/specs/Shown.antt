@@ -2,7 +2,7 @@
 use Rattle.std.specs.Prelude.{◌≡◌, ◌≢◌, ℕ, Bool, true, false, List, [], ◌++◌, unwrap_or, Result, Ok, Err}
 use Rattle.vdiff_core.specs.Printing.{Written, IsWritten, BreaksOff}
 use Rattle.vdiff_core.specs.Report.{report_of}
-use Rattle.vdiff_core.specs.RowsValue.{RowsValue}
+use Rattle.vdiff_core.specs.DumpRowsValue.{DumpRowsValue}
 use Rattle.vdiff_json.specs.Json.{comparison_data, json_line}
 use Rattle.vdiff_tables.specs.Differences.{AreFirstDifferences, Difference}
 use Rattle.vdiff_tables.specs.Reports.{NamedReport, reports_from}
@@ -53,7 +53,7 @@ IsShown options compared text = by_json options.json options compared text
 -- ---- what is left on the writers
 
 -- whether the rows are the same
-abbrev pub IsVerdict : Verdict → RowsValue → RowsValue → Type 0
+abbrev pub IsVerdict : Verdict → DumpRowsValue → DumpRowsValue → Type 0
 IsVerdict Same source target = source ≡ target
 IsVerdict Differ source target = source ≢ target
 

@@ -4,7 +4,7 @@ use Rattle.filter_rule.specs.PlanValue.{PlanValue}
 use Rattle.filter_rule.specs.Reading.{plans_of}
 use Rattle.vdiff_core.specs.DumpReading.{IsDumpReading}
 use Rattle.vdiff_core.specs.Printing.{Written}
-use Rattle.vdiff_core.specs.RowsValue.{RowsValue}
+use Rattle.vdiff_core.specs.DumpRowsValue.{DumpRowsValue}
 use Rattle.vdiff_json.specs.Json.{error_data, json_line}
 use Rattle.vrepl_main.specs.Command.{RefusesCommand, Ends}
 use Rattle.vrepl_main.specs.Comparison.{AreRead, Compared}
@@ -22,7 +22,7 @@ pub record IsBadIn (inputs : VdiffInputs) (line : ℕ) (name : List ℕ) : Type 
   pub plan : PlanValue
   pub others : List PlanValue
   pub plans : plans_of inputs.workflow.items ≡ Ok (plan ∷ others)
-  pub bad : ((name ≡ inputs.source.name) × IsDumpReading plan inputs.source.text (Err line)) ⊎ ((name ≡ inputs.target.name) × ((rows : RowsValue) × IsDumpReading plan inputs.source.text (Ok rows) × IsDumpReading plan inputs.target.text (Err line)))
+  pub bad : ((name ≡ inputs.source.name) × IsDumpReading plan inputs.source.text (Err line)) ⊎ ((name ≡ inputs.target.name) × ((rows : DumpRowsValue) × IsDumpReading plan inputs.source.text (Ok rows) × IsDumpReading plan inputs.target.text (Err line)))
 
 -- with JSON a bad dump is named by an object behind the refusal's line
 abbrev pub error_of : Bool → CommandRefusal → List ℕ → List ℕ

@@ -8,7 +8,7 @@ use crate::options::Options;
 use crate::text::print_text;
 use filter_rule::Plan;
 use std::alloc::{AllocError, Global};
-use vdiff_core::{Out, Rows, first_difference, put_all};
+use vdiff_core::{DumpRows, Out, first_difference, put_all};
 use vdiff_json::comparison_line;
 use vdiff_tables::{TableReport, table_reports};
 use vrepl_main::{CommandRefusal, Verdict};
@@ -19,8 +19,8 @@ pub(crate) fn print_shown<W: Out>(
     alloc: Global,
     options: &Options,
     plan: &Plan,
-    source: &Rows,
-    target: &Rows,
+    source: &DumpRows,
+    target: &DumpRows,
     out: &mut W,
 ) -> Result<(), CommandRefusal<'static>>
     ensures { PrintsShown options.now result (record { plan = plan.now; source = source.now; target = target.now }) (W.written out.old) (W.written out.new) }
@@ -42,8 +42,8 @@ fn asked_reports<'p>(
     alloc: Global,
     asked: bool,
     plan: &'p Plan,
-    source: &Rows,
-    target: &Rows,
+    source: &DumpRows,
+    target: &DumpRows,
 ) -> Result<Vec<TableReport<'p>>, AllocError>
     ensures { IfOk result (λ reports. map named_report reports.items ≡ reports_asked asked (record { plan = plan.entry.now; source = source.now; target = target.now })) }
 {
@@ -55,7 +55,7 @@ fn asked_reports<'p>(
 }
 
 /// How two sets of rows compare. Takes no memory.
-pub(crate) fn verdict_of(source: &Rows, target: &Rows) -> Verdict
+pub(crate) fn verdict_of(source: &DumpRows, target: &DumpRows) -> Verdict
     ensures { IsVerdict result source.now target.now }
 {
     match first_difference(source, target) {

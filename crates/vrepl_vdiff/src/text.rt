@@ -9,7 +9,7 @@ ghost use Rattle.vrepl_vdiff.specs.Shown.{IsTextOf};
 
 use filter_rule::{Plan, Table};
 use pk_copy::Key;
-use vdiff_core::{Gathered, Out, OutFailed, Rows, compare, first_difference};
+use vdiff_core::{DumpRows, Gathered, Out, OutFailed, compare, first_difference};
 use vdiff_tables::{
     TableReport, add_counts, add_differences, add_key_line, add_tables, first_differences_are_there,
 };
@@ -19,8 +19,8 @@ use vdiff_tables::{
 pub(crate) fn print_text<W: Out>(
     out: &mut W,
     plan: &Plan,
-    source: &Rows,
-    target: &Rows,
+    source: &DumpRows,
+    target: &DumpRows,
     reports: &[TableReport<'_>],
     count: u32,
 ) -> Result<(), OutFailed>

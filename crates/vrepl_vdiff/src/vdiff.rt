@@ -12,7 +12,7 @@ use crate::showing::{print_shown, verdict_of};
 use crate::told::{Told, refuse_told, told_of, told_of_workflow};
 use filter_rule::Plan;
 use std::alloc::Global;
-use vdiff_core::{Out, Rows, read_dump};
+use vdiff_core::{DumpRows, Out, read_dump};
 use vrepl_main::Verdict;
 
 /// Compares two dumps of a workflow's tables as `vdiff` does, and prints on `out` what its options show: the line of each
@@ -52,7 +52,7 @@ fn show_vdiff<W: Out>(alloc: Global, inputs: &VdiffInputs<'_>, out: &mut W) -> R
 }
 
 /// The rows of a dump, or what is told of it.
-fn read_named(alloc: Global, json: bool, plan: &Plan, dump: &Dump<'_>) -> Result<Rows, Told>
+fn read_named(alloc: Global, json: bool, plan: &Plan, dump: &Dump<'_>) -> Result<DumpRows, Told>
     ensures read { IfOk result (λ rows. IsDump plan.now rows dump.now.text) }
     ensures refused { IfErr result (λ told. IsNamedBad json plan.now dump.now told) }
 {

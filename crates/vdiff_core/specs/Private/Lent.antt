@@ -1,7 +1,7 @@
 -- Rows that are lent one after another, as plain values.
 use denote.Ref.{Bor}
 use Rattle.pk_copy.specs.KeyValue.{KeyValue}
-use Rattle.vdiff_core.specs.RowsValue.{RowValue, RowsValue, all_rows}
+use Rattle.vdiff_core.specs.DumpRowsValue.{RowValue, DumpRowsValue, all_rows}
 use Rattle.vdiff_core.specs.declared.lent_rows.Later.{Later}
 use Rattle.vdiff_core.specs.declared.lent_rows.Later.TheVariants.{Target, Own}
 
@@ -10,6 +10,6 @@ abbrev pub lent : Bor KeyValue × Bor RowValue → KeyValue × RowValue
 lent pair = (pair.0.now, pair.1.now)
 
 -- all that are still to come
-abbrev pub later_rows : Later → RowsValue
+abbrev pub later_rows : Later → DumpRowsValue
 later_rows (Target rows) = all_rows rows
 later_rows (Own rows) = rows.now

@@ -6,7 +6,7 @@ use Rattle.row_view.specs.Row.{row_of_message}
 use Rattle.row_view.specs.WrittenRow.{IsWithinLimits}
 use Rattle.vdiff_core.specs.Dump.{row_line}
 use Rattle.vdiff_core.specs.DumpReading.{AddsRow, AreByteValues, Behind, CanStand, Stand, at_front, joined_lines}
-use Rattle.vdiff_core.specs.RowsValue.{RowValue}
+use Rattle.vdiff_core.specs.DumpRowsValue.{RowValue}
 
 -- the value of a digit in lower case
 abbrev pub digit_of : ℕ → Option ℕ

@@ -3,7 +3,7 @@ use Rattle.std.specs.Prelude.{ℕ, ◌-◌, ◌≤◌, List, take, drop, map, Op
 use Rattle.std.specs.Option.{option_map}
 use Rattle.std.specs.List.{AllByRecursion}
 use Rattle.vdiff_core.specs.declared.row_cells.Span.{Span}
-use Rattle.vdiff_core.specs.RowsValue.{RowValue}
+use Rattle.vdiff_core.specs.DumpRowsValue.{RowValue}
 
 -- the bytes of a span
 abbrev pub bytes_at : List ℕ → Span → List ℕ

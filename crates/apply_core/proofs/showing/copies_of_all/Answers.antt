@@ -3,7 +3,7 @@ use Rattle.pk_copy.specs.KeyOrder.{key_cmp}
 use Rattle.pk_copy.specs.KeyValue.{KeyValue}
 use Rattle.target_tables.specs.Contents.{entry}
 use Rattle.target_tables.specs.Rising.{AreBelow}
-use Rattle.vdiff_core.specs.RowsValue.{RowsValue}
+use Rattle.vdiff_core.specs.DumpRowsValue.{DumpRowsValue}
 use Rattle.apply_core.specs.Shown.{all_rows}
 use Rattle.apply_core.proofs.ShowLaws.{Lent, walk_begins, walk_ends, walk_on, behind_seen, behind_all, more-all}
 use Rattle.apply_core.proofs.showing.copies_of_all.Goals as goal
@@ -15,7 +15,7 @@ pub push-requires : goal.push-requires
 push-requires c =
     let next : Lent = (c.in-Some.key, c.in-Some.field-0-1, c.in-Some.row) in
     let behind = behind_seen _ _ c.next.new.self c.loop-key.yielded next c.loop-key.invariant.0 c.in-Some.ensures.steps in
-    subst (λ (copies : RowsValue). AreBelow key_cmp c.in_ok-try_clone.field-0 copies) (sym c.loop-key.invariant.1)
+    subst (λ (copies : DumpRowsValue). AreBelow key_cmp c.in_ok-try_clone.field-0 copies) (sym c.loop-key.invariant.1)
     (subst (λ (key : KeyValue). AreBelow key_cmp key (all_rows (map entry c.loop-key.yielded))) (sym c.in_ok-try_clone.ensures)
     (behind_all c.in-Some.key.now (map entry c.loop-key.yielded) behind))
 
@@ -25,7 +25,7 @@ loop-key-preserved c =
     let pushed : c.push.new.self ≡ c.loop-key.copies ++ (c.in-Some.key.now, c.in-Some.row.now) ∷ [] =
     rw (← c.in_ok-try_clone.ensures, ← c.in_ok-try_clone-2.ensures) c.in_ok-push.ensures.ok in (
       walk_on _ _ c.next.new.self c.loop-key.yielded next c.loop-key.invariant.0 c.in-Some.ensures.steps,
-      pushed ∙ ap (λ (copies : RowsValue). copies ++ (c.in-Some.key.now, c.in-Some.row.now) ∷ []) c.loop-key.invariant.1
+      pushed ∙ ap (λ (copies : DumpRowsValue). copies ++ (c.in-Some.key.now, c.in-Some.row.now) ∷ []) c.loop-key.invariant.1
           ∙ sym (more-all c.loop-key.yielded next),
     )
 

@@ -4,7 +4,7 @@ use Rattle.pk_copy.specs.KeyOrder.{key_cmp}
 use Rattle.target_tables.specs.Rising.{IsRising}
 use Rattle.vdiff_core.specs.Dump.{row_lines}
 use Rattle.vdiff_core.specs.Private.Tables.{AreFrom}
-use Rattle.vdiff_core.specs.RowsValue.{RowsValue}
+use Rattle.vdiff_core.specs.DumpRowsValue.{DumpRowsValue}
 use Rattle.vdiff_core.proofs.PrintLaws.{adding_starts, adding_moves, adding_stops, adding_ends}
 use Rattle.vdiff_core.proofs.TableLaws.{taken_line, taken_behind, none_taken}
 use Rattle.vdiff_core.proofs.dump.add_rows_of.Goals as goal

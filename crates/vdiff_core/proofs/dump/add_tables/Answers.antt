@@ -3,7 +3,7 @@ use Rattle.std.proofs.lemmas.Result.{err_from_is_err_and}
 use Rattle.list_laws.proofs.Walks.{at_item}
 use Rattle.filter_rule.specs.PlanTable.{TableValue}
 use Rattle.vdiff_core.specs.Dump.{row_lines, rows_of_table, table_line, table_lines}
-use Rattle.vdiff_core.specs.RowsValue.{RowsValue}
+use Rattle.vdiff_core.specs.DumpRowsValue.{DumpRowsValue}
 use Rattle.vdiff_core.proofs.PrintLaws.{adding_starts, added_breaks, added_more, adding_moves, adding_stops}
 use Rattle.vdiff_core.proofs.TableLaws.{from_none, table_and_others, behind_rows}
 use Rattle.vdiff_core.proofs.dump.add_tables.Goals as goal
@@ -15,7 +15,7 @@ pub returns-in_err-add_table_line : goal.returns-in_err-add_table_line
 returns-in_err-add_table_line g c =
     let t : ℕ = c.loop-t.t in
     let table : TableValue = c.index-tables-t.result in
-    let rows : RowsValue = c.loop-t.rows in
+    let rows : DumpRowsValue = c.loop-t.rows in
     let tables : List TableValue = c.args.tables.now in
     let parts =
     ap (λ (l : List TableValue). table_lines t l rows) (at_item tables t table c.loop-t-test.true c.index-tables-t.is)
@@ -28,7 +28,7 @@ pub returns-in_err-add_rows_of : goal.returns-in_err-add_rows_of
 returns-in_err-add_rows_of g c =
     let t : ℕ = c.loop-t.t in
     let table : TableValue = c.index-tables-t.result in
-    let rows : RowsValue = c.loop-t.rows in
+    let rows : DumpRowsValue = c.loop-t.rows in
     let tables : List TableValue = c.args.tables.now in
     let parts = ap (λ (l : List TableValue). table_lines t l rows) (at_item tables t table c.loop-t-test.true c.index-tables-t.is)
     ∙ table_and_others t table (drop (t + 1) tables) rows c.loop-t.invariant.1 c.loop-t.invariant.2 in
@@ -40,7 +40,7 @@ pub loop-t-preserved : goal.loop-t-preserved
 loop-t-preserved g c =
     let t : ℕ = c.loop-t.t in
     let table : TableValue = c.index-tables-t.result in
-    let rows : RowsValue = c.loop-t.rows in
+    let rows : DumpRowsValue = c.loop-t.rows in
     let tables : List TableValue = c.args.tables.now in
     let parts = ap (λ (l : List TableValue). table_lines t l rows) (at_item tables t table c.loop-t-test.true c.index-tables-t.is)
     ∙ table_and_others t table (drop (t + 1) tables) rows c.loop-t.invariant.1 c.loop-t.invariant.2 in

@@ -1,7 +1,7 @@
 use Rattle.std.proofs.Common.{ap, subst, sym, ◌∙◌}
 use Rattle.pk_copy.specs.KeyOrder.{key_cmp}
 use Rattle.target_tables.specs.Rising.{IsRising}
-use Rattle.vdiff_core.specs.RowsValue.{all_rows}
+use Rattle.vdiff_core.specs.DumpRowsValue.{all_rows}
 use Rattle.vdiff_core.proofs.TableLaws.{rising_unowned}
 use Rattle.vdiff_core.proofs.dump.write_target_dump.Goals as goal
 

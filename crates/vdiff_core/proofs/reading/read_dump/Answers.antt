@@ -1,7 +1,7 @@
 use Rattle.std.proofs.Common.{◌≡◌, ◌<◌, ◌≤◌, ◌∙◌, ℕ, length, ap, sym, subst, arith, inl, Ok, Err}
 use Rattle.vdiff_core.specs.declared.reading.DumpFault.TheVariants.{BadDump}
 use Rattle.vdiff_core.specs.DumpReading.{Behind, IsDump, IsFirstBad}
-use Rattle.vdiff_core.specs.RowsValue.{RowsValue}
+use Rattle.vdiff_core.specs.DumpRowsValue.{DumpRowsValue}
 use Rattle.vdiff_core.proofs.StandLaws.{bad_line, missing_line, read_all, read_more, no_dump, one_bad, dumps_determine, is_zero, is_more}
 use Rattle.vdiff_core.proofs.reading.read_dump.Goals as goal
 
@@ -49,7 +49,7 @@ pub returns-clause-ok : goal.returns-clause-ok
 returns-clause-ok c =
     let all : length c.args.plan.now.tables ≤ c.loop-rest.read.begun = omega (arith, c.if-read-tables.false, ap (λ (s : Behind). s.begun) c.read-2.view_is, ap length c.tables.ensures.tables) in
     let dump = read_all _ _ _ _ _ c.loop-rest.invariant (is_zero _ _ c.is_empty.ensures c.loop-rest-test.false) all in
-    subst (λ (rows : RowsValue). IsDump c.args.plan.now rows c.args.bytes.now) (sym (ap (λ (s : Behind). s.rows) c.read-2.view_is)) dump
+    subst (λ (rows : DumpRowsValue). IsDump c.args.plan.now rows c.args.bytes.now) (sym (ap (λ (s : Behind). s.rows) c.read-2.view_is)) dump
 
 pub returns-clause-only : goal.returns-clause-only
 returns-clause-only c =

@@ -1,7 +1,7 @@
 use Rattle.std.proofs.Common.{subst, arith}
 use Rattle.vdiff_core.specs.Private.Reading.{TakesCell}
 use Rattle.vdiff_core.specs.Private.Spans.{columns_at}
-use Rattle.vdiff_core.specs.RowsValue.{RowValue}
+use Rattle.vdiff_core.specs.DumpRowsValue.{RowValue}
 use Rattle.vdiff_core.proofs.SpanLaws.{value_taken}
 use Rattle.vdiff_core.proofs.row_cells.RowCells.take_cell.Goals as goal
 

@@ -6,11 +6,11 @@ use Rattle.row_view.specs.Row.{row_of_message}
 use Rattle.target_tables.specs.Rising.{AreBelow}
 use Rattle.vdiff_core.specs.DumpReading.{Behind}
 use Rattle.vdiff_core.specs.Private.Reading.{TakesRowLine}
-use Rattle.vdiff_core.specs.RowsValue.{RowsValue}
+use Rattle.vdiff_core.specs.DumpRowsValue.{DumpRowsValue}
 use Rattle.vdiff_core.proofs.ReadingLaws.{err_is, message_is_row, message_row}
 use Rattle.vdiff_core.proofs.TableLaws.{kept_some}
 use Rattle.vdiff_core.proofs.StandLaws.{key_refused, key_not_behind, row_is_added}
-use Rattle.vdiff_core.proofs.reading.DumpRows.take_row_line.Goals as goal
+use Rattle.vdiff_core.proofs.reading.LinesRead.take_row_line.Goals as goal
 
 pub take_row-requires : goal.take_row-requires
 take_row-requires c =
@@ -36,7 +36,7 @@ pub returns-then-not-is_behind_all-clause-bad : goal.returns-then-not-is_behind_
 returns-then-not-is_behind_all-clause-bad c =
     let last : c.self.inside.begun ≡ (c.self.inside.begun - 1) + 1 = omega (arith, c.if-self-eq0.false) in
     λ e. key_not_behind _ _ _ _ _ _ _ _ (message_row _ _ _ _ _ c.in_ok-rest.ensures.taken (sym (ap row_of_message c.deref.ensures.value) ∙ c.of_row-row.ensures)) (ap length c.kept_columns-width.ensures.places) (sym (ap (λ (s : Behind). s.begun) c.self.view_is) ∙ last) c.in_ok-key.ensures.ok.0 (λ below.
-    let told = c.is_behind_all.ensures.1 (subst (λ (rows : RowsValue). AreBelow key_cmp c.in_ok-key.key rows) (sym (ap (λ (s : Behind). s.rows) c.self.view_is)) below) in
+    let told = c.is_behind_all.ensures.1 (subst (λ (rows : DumpRowsValue). AreBelow key_cmp c.in_ok-key.key rows) (sym (ap (λ (s : Behind). s.rows) c.self.view_is)) below) in
     let h = c.if-not-is_behind_all.true in
     cc)
 

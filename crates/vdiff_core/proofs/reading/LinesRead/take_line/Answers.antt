@@ -6,7 +6,7 @@ use Rattle.vdiff_core.specs.DumpReading.{Behind}
 use Rattle.vdiff_core.specs.Private.Reading.{TakesLine}
 use Rattle.vdiff_core.proofs.ReadingLaws.{err_is}
 use Rattle.vdiff_core.proofs.StandLaws.{table_begins, none_stands}
-use Rattle.vdiff_core.proofs.reading.DumpRows.take_line.Goals as goal
+use Rattle.vdiff_core.proofs.reading.LinesRead.take_line.Goals as goal
 
 pub returns-in-Some-clause-taken : goal.returns-in-Some-clause-taken
 returns-in-Some-clause-taken c =
