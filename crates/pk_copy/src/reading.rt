@@ -109,6 +109,24 @@ fn lent_at<'b>(
             Err(fault) => Ok(Err(fault)),
         };
     }
+    lent_of_several(alloc, t, columns, places, row)
+}
+
+/// The same where several columns are the key, apart from `lent_at`, so that a key of one column has no place for a
+/// view of several.
+#[inline(never)]
+fn lent_of_several<'b>(
+    alloc: Global,
+    t: u8,
+    columns: &[ColumnDef],
+    places: &[u8],
+    row: &RowBytes<'b>,
+) -> Result<Result<LentKey<'b>, KeyFault>, AllocError>
+    requires few { length places.now ≤ 8 }
+    requires places { AreColumnPlaces columns.now places.now }
+    requires width { length row.now ≡ length columns.now }
+    ensures { IfOk result (λ answer. answer ≡ key_in t (map (cell_at columns.now row.now) places.now)) }
+{
     match key_at(t, columns, places, row) {
         Ok(key) => Ok(Ok(LentKey::from_view(alloc, &key)?)),
         Err(fault) => Ok(Err(fault)),

@@ -5,7 +5,7 @@ ghost use Rattle.outcome.specs.Outcome.{Gives};
 ghost use Rattle.proto_wire.specs.Field.{wire_value, wire_field, bytes_at, sized_at, number_at, payload_at, field_at};
 
 use crate::fault::WireFault;
-use crate::varint::varint_of;
+use crate::varint::{short_varint_of, varint_of};
 
 /// What a field holds, by its wire type. Slices lie in the buffer that was read.
 #[derive(Clone, Copy, Debug, PartialEq, Eq)]
@@ -29,6 +29,7 @@ pub struct Field<'b> {
 }
 
 /// The first `size` bytes, and those after them.
+#[inline(always)]
 fn bytes_of(size: u64, bytes: &[u8]) -> Result<(&[u8], &[u8]), WireFault>
     ensures { Gives (λ x. (x.0.now, x.1.now)) result (bytes_at size bytes.now) }
 {
@@ -39,6 +40,7 @@ fn bytes_of(size: u64, bytes: &[u8]) -> Result<(&[u8], &[u8]), WireFault>
 }
 
 /// The bytes behind their length, and those after them.
+#[inline(always)]
 #[tactic(auto, unfolding(crate::specs::Field::sized_at))]
 pub(crate) fn sized_of(bytes: &[u8]) -> Result<(&[u8], &[u8]), WireFault>
     ensures { Gives (λ x. (x.0.now, x.1.now)) result (sized_at bytes.now) }
@@ -86,8 +88,33 @@ fn payload_of(kind: u64, body: &[u8]) -> Result<(Option<Payload<'_>>, &[u8]), Wi
 
 /// The field at the front, and the bytes after it. Of no bytes it is `Truncated`. Takes no memory.
 #[inline(always)]
-#[tactic(auto, unfolding(crate::specs::Field::field_at, crate::specs::Field::field_behind))]
+#[tactic(auto, unfolding(crate::specs::Field::field_at, crate::specs::Field::field_behind, crate::specs::Field::payload_at))]
 pub fn field_of(bytes: &[u8]) -> Result<(Field<'_>, &[u8]), WireFault>
+    ensures { Gives (λ x. (wire_field x.0, x.1.now)) result (field_at bytes.now) }
+{
+    let Some((tag, body)) = short_varint_of(bytes) else {
+        return any_field_of(bytes);
+    };
+    let number = u32::from(tag / 8);
+    match tag % 8 {
+        0 if number > 0 => {
+            let (value, rest) = varint_of(body)?;
+            let payload = Payload::Varint(value);
+            Ok((Field { number, payload }, rest))
+        }
+        2 if number > 0 => {
+            let (part, rest) = sized_of(body)?;
+            let payload = Payload::Bytes(part);
+            Ok((Field { number, payload }, rest))
+        }
+        _ => any_field_of(bytes),
+    }
+}
+
+/// The same of any field, apart from those that most are: a tag of one byte, with a varint or bytes behind it.
+#[inline(never)]
+#[tactic(auto, unfolding(crate::specs::Field::field_at, crate::specs::Field::field_behind))]
+fn any_field_of(bytes: &[u8]) -> Result<(Field<'_>, &[u8]), WireFault>
     ensures { Gives (λ x. (wire_field x.0, x.1.now)) result (field_at bytes.now) }
 {
     let (tag, body) = varint_of(bytes)?;

@@ -1,11 +1,24 @@
 //! One varint at the front of the bytes.
 
+ghost use Rattle.std.specs.Prelude.{◌≡◌, Ok, IfSome};
 ghost use Rattle.outcome.specs.Outcome.{Gives};
 ghost use Rattle.proto_wire.specs.Varint.{varint_at};
 
 use crate::fault::WireFault;
 
-/// The varint at the front, and the bytes after it. Most have one byte. Of no bytes it is
+/// The varint at the front and the bytes after it, where it has one byte, as most have.
+#[inline(always)]
+#[tactic(auto, unfolding(crate::specs::Varint::varint_at, crate::specs::Varint::varint_within))]
+pub(crate) fn short_varint_of(bytes: &[u8]) -> Option<(u8, &[u8])>
+    ensures { IfSome result (λ x. varint_at bytes.now ≡ Ok (x.0, x.1.now)) }
+{
+    match bytes {
+        [byte, after @ ..] if *byte < 128 => Some((*byte, after)),
+        _ => None,
+    }
+}
+
+/// The varint at the front, and the bytes after it. Most have one byte or two. Of no bytes it is
 /// `Truncated`. Takes no memory.
 #[inline(always)]
 #[tactic(auto, unfolding(crate::specs::Varint::varint_at, crate::specs::Varint::varint_within))]
@@ -14,6 +27,9 @@ pub fn varint_of(bytes: &[u8]) -> Result<(u64, &[u8]), WireFault>
 {
     match bytes {
         [byte, after @ ..] if *byte < 128 => Ok((u64::from(*byte), after)),
+        [low, high, after @ ..] if *high < 128 => {
+            Ok((u64::from(*low) - 128 + u64::from(*high) * 128, after))
+        }
         _ => longer_varint_of(bytes),
     }
 }

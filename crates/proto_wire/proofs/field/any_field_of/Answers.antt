@@ -1,7 +1,7 @@
 use Rattle.std.proofs.Common.{rules}
 use Rattle.proto_wire.specs.Field.{field_at}
 use Rattle.proto_wire.specs.Field.{field_behind}
-use Rattle.proto_wire.proofs.field.field_of.Goals as goal
+use Rattle.proto_wire.proofs.field.any_field_of.Goals as goal
 
 pub returns-in_default : goal.returns-in_default
 unfolding field_at field_behind
