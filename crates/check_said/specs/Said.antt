@@ -2,6 +2,8 @@
 use Rattle.std.specs.Prelude.{ℕ, ◌||◌, Bool, true, false, not, List, [], ◌∷◌, ◌++◌}
 use Rattle.feed_check.specs.Checked.{CheckedValue}
 use Rattle.feed_check.specs.Report.{ReportValue, check_report_of}
+use Rattle.vrepl_choices.specs.declared.report_form.ReportForm.{ReportForm}
+use Rattle.vrepl_choices.specs.declared.report_form.ReportForm.TheVariants.{Lines, Json}
 use Rattle.workflow_check.specs.File.{notes_of, note_lines, rules_text}
 use Rattle.workflow_check.specs.Notes.{NoteValue}
 use Rattle.check_said.specs.Json.{check_data, json_line}
@@ -15,11 +17,11 @@ is_empty (note ∷ notes) = false
 abbrev pub with_file : List ℕ → ReportValue → ReportValue
 with_file workflow report = record { text = rules_text workflow ++ (report.text ++ note_lines (notes_of workflow)); warned = report.warned || not (is_empty (notes_of workflow)) }
 
--- the same as a line of JSON, where it is asked for
-abbrev pub said_as : Bool → List ℕ → List (List ℕ) → List CheckedValue → ReportValue → ReportValue
-said_as false workflow files checks lines = lines
-said_as true workflow files checks lines = record { text = json_line (check_data workflow files checks lines.warned); warned = lines.warned }
+-- the same in this form
+abbrev pub said_as : ReportForm → List ℕ → List (List ℕ) → List CheckedValue → ReportValue → ReportValue
+said_as Lines workflow files checks lines = lines
+said_as Json workflow files checks lines = record { text = json_line (check_data workflow files checks lines.warned); warned = lines.warned }
 
 -- what is said of a workflow's file and of checks of its feeds
-abbrev pub said_of : Bool → List ℕ → List (List ℕ) → List CheckedValue → ReportValue
-said_of json workflow files checks = said_as json workflow files checks (with_file workflow (check_report_of files checks))
+abbrev pub said_of : ReportForm → List ℕ → List (List ℕ) → List CheckedValue → ReportValue
+said_of form workflow files checks = said_as form workflow files checks (with_file workflow (check_report_of files checks))

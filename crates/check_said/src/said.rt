@@ -8,6 +8,7 @@ use crate::line::check_line;
 use feed_check::{CheckReport, Checked};
 use std::alloc::{AllocError, Global};
 use std::marker::Model;
+use vrepl_choices::ReportForm;
 use workflow_check::{Note, note_lines, notes_of, rules_of};
 
 /// What `check` says, and whether it warns of anything.
@@ -63,25 +64,27 @@ fn said_in_lines(
 
 impl Said {
     /// What is said of a workflow's file and of checks of its feeds, whose files have these names: as one line of
-    /// JSON where `json` is set, else in lines. An error is want of memory.
+    /// JSON, or in lines. An error is want of memory.
     pub fn of(
         alloc: Global,
-        json: bool,
+        form: ReportForm,
         workflow: &[u8],
         files: &[&str],
         checks: &[Checked<'_>],
     ) -> Result<Said, AllocError>
-        ensures { IfOk result (λ said. said ≡ said_of json workflow.now (map (λ file. file.now) files.now) checks.now) }
+        ensures { IfOk result (λ said. said ≡ said_of form workflow.now (map (λ file. file.now) files.now) checks.now) }
     {
         let said = said_in_lines(alloc, workflow, files, checks)?;
-        if !json {
-            return Ok(said);
+        match form {
+            ReportForm::Lines => Ok(said),
+            ReportForm::Json => {
+                let line = check_line(alloc, workflow, files, checks, said.warned)?;
+                Ok(Said {
+                    text: line,
+                    warned: said.warned,
+                })
+            }
         }
-        let line = check_line(alloc, workflow, files, checks, said.warned)?;
-        Ok(Said {
-            text: line,
-            warned: said.warned,
-        })
     }
 
     /// The whole text.

@@ -2,6 +2,7 @@
 //! A feed's group k has position 1-k of its source, and each row stands in one change.
 
 use std::alloc::{AllocError, Global};
+use vrepl_choices::FeedForm;
 use vrepl_main::Inputs;
 
 /// One stream, every row.
@@ -56,7 +57,7 @@ pub fn inputs_over(alloc: Global, feed: &str, script: &[u8]) -> Result<Inputs, A
     let feeds = feeds_of(alloc, &[feed])?;
     let script = Vec::from_slice(alloc, script)?;
     Ok(Inputs {
-        hex: true,
+        feed_form: FeedForm::Hex,
         workflow,
         feeds,
         script,

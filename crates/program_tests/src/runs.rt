@@ -9,6 +9,7 @@ use std::test::*;
 use std::thread::Threads;
 use stream_worker::Policy;
 use vdiff_core::Writer;
+use vrepl_choices::{FeedForm, Threading};
 use vrepl_main::{Course, RunInputs, Untold, run};
 
 /// The run was refused with this beginning of a line, and has printed nothing; an error where memory was wanting.
@@ -23,15 +24,15 @@ fn is_refused(status: u8, out: &[u8], err: &[u8], line: &[u8]) -> Result<bool, A
 fn meets_a_foreign_row<R: Threads + Wait + Sync>(
     rt: &R,
     alloc: Global,
-    alone: bool,
+    threading: Threading,
     line: &[u8],
 ) -> Result<bool, AllocError> {
     let Some(policy) = Policy::new(1_000, 100, 4) else {
         return Ok(false);
     };
     let inputs = RunInputs {
-        course: Course { alone, policy },
-        hex: true,
+        course: Course { threading, policy },
+        feed_form: FeedForm::Hex,
         workflow: Vec::from_slice(alloc, TWO.as_bytes())?,
         feeds: feeds_of(alloc, &[LOWER, SAME_KEY])?,
     };
@@ -46,8 +47,8 @@ fn meets_a_foreign_row<R: Threads + Wait + Sync>(
 fn foreign_row(rt: HostRuntime) -> Result<(), Fail> {
     let alloc = rt.alloc();
     let line = b"refused 71 table t key x31 owner 0\n";
-    assert!(rt; meets_a_foreign_row(&rt, alloc, true, line)?);
+    assert!(rt; meets_a_foreign_row(&rt, alloc, Threading::Alone, line)?);
     let line = b"refused 71 table t key x31 owner ";
-    assert!(rt; meets_a_foreign_row(&rt, alloc, false, line)?);
+    assert!(rt; meets_a_foreign_row(&rt, alloc, Threading::Parallel, line)?);
     Ok(())
 }

@@ -36,16 +36,16 @@ IsAnswering words = ⊥
 -- the streams are run as the words ask for it: one after another or in threads, and in these portions
 abbrev pub IsCourseOf : Run → Course → Type 0
 IsCourseOf words course =
-    (course.alone ≡ words.alone) × (course.policy.rows ≡ words.portions.rows) × (course.policy.ahead ≡ words.portions.ahead) × (course.policy.chunks ≡ words.portions.chunks)
+    (course.threading ≡ words.threading) × (course.policy.rows ≡ words.portions.rows) × (course.policy.ahead ≡ words.portions.ahead) × (course.policy.chunks ≡ words.portions.chunks)
 
 -- the words ask for just this, with what was read of the files that they name
 abbrev pub IsAskedBy : Words → Asked → Type 0
 IsAskedBy (ways.Show words) (asked.Show of feed) = of.now ≡ words
-IsAskedBy (ways.Step words) (asked.Step inputs) = inputs.hex ≡ words.hex
-IsAskedBy (ways.Run words) (asked.Run inputs) = IsCourseOf words inputs.course × (inputs.hex ≡ words.hex)
-IsAskedBy (ways.Save words) (asked.Save inputs) = inputs.hex ≡ words.hex
-IsAskedBy (ways.Resume words) (asked.Resume inputs) = inputs.step.hex ≡ words.step.hex
-IsAskedBy (ways.Join words) (asked.Join inputs) = inputs.hex ≡ words.hex
+IsAskedBy (ways.Step words) (asked.Step inputs) = inputs.feed_form ≡ words.feed_form
+IsAskedBy (ways.Run words) (asked.Run inputs) = IsCourseOf words inputs.course × (inputs.feed_form ≡ words.feed_form)
+IsAskedBy (ways.Save words) (asked.Save inputs) = inputs.feed_form ≡ words.feed_form
+IsAskedBy (ways.Resume words) (asked.Resume inputs) = inputs.step.feed_form ≡ words.step.feed_form
+IsAskedBy (ways.Join words) (asked.Join inputs) = inputs.feed_form ≡ words.feed_form
 IsAskedBy (ways.Vdiff words) (asked.Vdiff inputs) = IsVdiffAsked words inputs
 IsAskedBy (ways.Check words) (asked.Check inputs) = IsCheckAsked words inputs
 IsAskedBy words other = ⊥

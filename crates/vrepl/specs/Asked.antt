@@ -12,7 +12,7 @@ use Rattle.vrepl_words.specs.declared.words.Vdiff.{Vdiff}
 
 -- the text that the words of `show` ask for of a feed, or why it is refused
 abbrev pub text_asked : Show → List ℕ → Result (List ℕ) Reason
-text_asked show feed = shown_feed show.hex feed (record { keyspace = show.keyspace.now; shard = show.shard.now })
+text_asked show feed = shown_feed show.feed_form feed (record { keyspace = show.keyspace.now; shard = show.shard.now })
 
 -- the target's dump is standard input, unless the source's is
 abbrev pub is_other : List ℕ → List ℕ → Bool
@@ -20,7 +20,7 @@ is_other source target = if bytes_eq source (codes "-") then false else bytes_eq
 
 -- what the words of `vdiff` ask to be shown
 abbrev pub options_asked : Vdiff → Options
-options_asked words = record { tables = words.tables; first = words.first; json = words.json }
+options_asked words = record { tables = words.tables; first = words.first; report_form = words.report_form }
 
 -- the inputs are those that these words ask for, by the names that they give the dumps
 abbrev pub IsVdiffAsked : Vdiff → VdiffInputs → Type 0
@@ -28,4 +28,4 @@ IsVdiffAsked words inputs = (inputs.options ≡ options_asked words) × (inputs.
 
 -- the same of the words of `check`, by the names of the feeds' files
 abbrev pub IsCheckAsked : Check → CheckInputs → Type 0
-IsCheckAsked words inputs = (inputs.json ≡ words.json) × (inputs.hex ≡ words.step.hex) × (inputs.files.now ≡ words.step.feeds.items)
+IsCheckAsked words inputs = (inputs.report_form ≡ words.report_form) × (inputs.feed_form ≡ words.step.feed_form) × (inputs.files.now ≡ words.step.feeds.items)

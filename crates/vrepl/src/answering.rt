@@ -83,26 +83,26 @@ fn read_asked<'a, 'w>(
             Ok(Asked::Show(words, feed))
         }
         Words::Step(words) => {
-            let inputs = read_step(rt, words.hex, words.workflow, &words.feeds)?;
+            let inputs = read_step(rt, words.feed_form, words.workflow, &words.feeds)?;
             Ok(Asked::Step(inputs))
         }
         Words::Run(words) => {
             let course = course_of(words);
-            let inputs = read_run(rt, course, words.hex, words.workflow, &words.feeds)?;
+            let inputs = read_run(rt, course, words.feed_form, words.workflow, &words.feeds)?;
             Ok(Asked::Run(inputs))
         }
         Words::Save(words) => {
-            let inputs = read_step(rt, words.hex, words.workflow, &words.feeds)?;
+            let inputs = read_step(rt, words.feed_form, words.workflow, &words.feeds)?;
             Ok(Asked::Save(inputs))
         }
         Words::Resume(words) => {
             let step = &words.step;
             let checkpoint = words.checkpoint;
-            let inputs = read_resume(rt, step.hex, checkpoint, step.workflow, &step.feeds)?;
+            let inputs = read_resume(rt, step.feed_form, checkpoint, step.workflow, &step.feeds)?;
             Ok(Asked::Resume(inputs))
         }
         Words::Join(words) => {
-            let inputs = read_join(rt, words.hex, &files_of(words))?;
+            let inputs = read_join(rt, words.feed_form, &files_of(words))?;
             Ok(Asked::Join(inputs))
         }
         Words::Vdiff(words) => Ok(Asked::Vdiff(read_vdiff(rt, words)?)),

@@ -25,8 +25,8 @@ pub(crate) fn read_check<'n, 'w>(
     let mut feeds = read_inputs(rt, &names)?;
     let workflow = feeds.remove(0);
     Ok(CheckInputs {
-        json: words.json,
-        hex: step.hex,
+        report_form: words.report_form,
+        feed_form: step.feed_form,
         workflow,
         files: &step.feeds,
         feeds,

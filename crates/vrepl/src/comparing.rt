@@ -2,12 +2,13 @@
 
 ghost use Rattle.std.specs.Prelude.{◌≡◌, ◌≢◌, ◌∷◌, [], false, IfErr, IfOk};
 ghost use Rattle.vrepl.specs.Asked.{IsVdiffAsked, is_other, options_asked};
-ghost use Rattle.vrepl.specs.Compared.{ComparedEnds, asks_more};
+ghost use Rattle.vrepl.specs.Compared.{ComparedEnds, asks_more, is_json};
 ghost use Rattle.vrepl_main.specs.Inputs.{IsUnreadAmong, is_standard, input_name};
 ghost use Rattle.vrepl_main.specs.declared.input.InputName.TheVariants.{File};
 
 use std::alloc::Global;
 use vdiff_core::Out;
+use vrepl_choices::ReportForm;
 use vrepl_main::{CommandRefusal, InputName, read_input, vdiff};
 use vrepl_vdiff::{Dump, Options, VdiffInputs, vdiff_with};
 use vrepl_words::words::Vdiff;
@@ -57,7 +58,7 @@ fn options_of(words: &Vdiff<'_>) -> Options
     Options {
         tables: words.tables,
         first: words.first,
-        json: words.json,
+        report_form: words.report_form,
     }
 }
 
@@ -102,5 +103,11 @@ fn compare_plainly<W: Out, E: Out>(
 fn asks_more(options: &Options) -> bool
     ensures { result ≡ asks_more options.now }
 {
-    options.tables || options.json || options.first.is_some()
+    options.tables || is_json(options.report_form) || options.first.is_some()
+}
+
+fn is_json(form: ReportForm) -> bool
+    ensures { result ≡ is_json form }
+{
+    matches!(form, ReportForm::Json)
 }

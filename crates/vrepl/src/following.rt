@@ -43,8 +43,8 @@ fn follow_read<'w, T: Threads + Wait + Sync, G: Progress + Sync>(
 {
     let run = &words.run;
     let saved = read_saved(rt, words.checkpoint)?;
-    let inputs = read_run(rt, course_of(run), run.hex, run.workflow, &run.feeds)?;
-    let given = given_feeds(rt.alloc(), inputs.hex, &inputs.feeds)?;
+    let inputs = read_run(rt, course_of(run), run.feed_form, run.workflow, &run.feeds)?;
+    let given = given_feeds(rt.alloc(), inputs.feed_form, &inputs.feeds)?;
     let inputs = FollowInputs {
         course: inputs.course,
         checkpoint: saved.as_deref(),

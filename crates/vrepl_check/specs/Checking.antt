@@ -5,6 +5,7 @@ use Rattle.source_feed.specs.declared.fault.FeedFault.{FeedFault}
 use Rattle.feed_check.specs.Checked.{CheckedValue, checked_feeds}
 use Rattle.feed_check.specs.Report.{ReportValue}
 use Rattle.check_said.specs.Said.{said_of}
+use Rattle.vrepl_choices.specs.declared.report_form.ReportForm.{ReportForm}
 use Rattle.vrepl_main.specs.HexText.{feed_bytes}
 use Rattle.vrepl_main.specs.InputList.{bytes_of}
 use Rattle.vrepl_main.specs.Opening.{OpenedValue, opened_bytes}
@@ -24,20 +25,20 @@ said_checks (Ok checks) = Ok checks
 said_checks (Err fault) = Err (bad_feed fault)
 
 -- the report on feeds that were opened of these bytes: refused by the first group that isn't sound
-abbrev pub report_with : Bool → List (List ℕ) → List ℕ → List (Option (List ℕ)) → OpenedValue → Result ReportValue Reason
-report_with json files workflow given opened = said_checks (checked_feeds (map bytes_or_none given) opened.feeds) >>= λ checks. Ok (said_of json workflow files checks)
+abbrev pub report_with : ReportForm → List (List ℕ) → List ℕ → List (Option (List ℕ)) → OpenedValue → Result ReportValue Reason
+report_with form files workflow given opened = said_checks (checked_feeds (map bytes_or_none given) opened.feeds) >>= λ checks. Ok (said_of form workflow files checks)
 
 -- the names of the feeds' files
 abbrev pub names_of : CheckInputs → List (List ℕ)
 names_of inputs = map (λ file. file.now) inputs.files.now
 
--- the report on a workflow with feeds of these bytes, as JSON where that is asked for; the faults of opening them come first
+-- the report on a workflow with feeds of these bytes, in the form that is asked for; the faults of opening them come first
 abbrev pub report_of_feeds : CheckInputs → List (Option (List ℕ)) → Result ReportValue Reason
-report_of_feeds inputs given = opened_bytes inputs.workflow.items given >>= report_with inputs.json (names_of inputs) inputs.workflow.items given
+report_of_feeds inputs given = opened_bytes inputs.workflow.items given >>= report_with inputs.report_form (names_of inputs) inputs.workflow.items given
 
--- the report on a workflow with its feeds, which may be given as hexadecimal text
+-- the report on a workflow with its feeds, as these are given
 abbrev pub report_asked : CheckInputs → Result ReportValue Reason
-report_asked inputs = report_of_feeds inputs (map (feed_bytes inputs.hex) (bytes_of inputs.feeds.items))
+report_asked inputs = report_of_feeds inputs (map (feed_bytes inputs.feed_form) (bytes_of inputs.feeds.items))
 
 -- the text of a report
 abbrev pub text_of_report : Result ReportValue Reason → Result (List ℕ) Reason

@@ -58,7 +58,7 @@ fn print_check<W: Out>(
 fn report_on(alloc: Global, inputs: &CheckInputs<'_, '_>) -> Result<Said, CommandRefusal<'static>>
     ensures { GivesOfInputs (λ report. report) result (report_asked inputs.now) }
 {
-    let given = given_feeds(alloc, inputs.hex, &inputs.feeds)?;
+    let given = given_feeds(alloc, inputs.feed_form, &inputs.feeds)?;
     report_of(alloc, inputs, &given)
 }
 
@@ -73,7 +73,13 @@ fn report_of(
     let opened = open_workflow(alloc, &inputs.workflow, given)?;
     let bytes = bytes_given(alloc, given)?;
     let checks = check_feeds(alloc, &bytes, &opened.feeds)?;
-    let said = Said::of(alloc, inputs.json, &inputs.workflow, inputs.files, &checks)?;
+    let said = Said::of(
+        alloc,
+        inputs.report_form,
+        &inputs.workflow,
+        inputs.files,
+        &checks,
+    )?;
     Ok(said)
 }
 

@@ -1,12 +1,14 @@
 //! What `check` is given, each by its name.
 
+use vrepl_choices::{FeedForm, ReportForm};
+
 /// What is checked, and how it is told.
 #[derive(Drop)]
 pub struct CheckInputs<'n, 'w> {
-    /// Whether all is one line of JSON.
-    pub json: bool,
-    /// Whether the feeds are hexadecimal text.
-    pub hex: bool,
+    /// How the report is printed.
+    pub report_form: ReportForm,
+    /// How the feeds are given.
+    pub feed_form: FeedForm,
     /// The workflow's file.
     pub workflow: Vec<u8>,
     /// The names of the feeds' files.

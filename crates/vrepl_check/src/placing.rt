@@ -75,7 +75,7 @@ fn place_text(alloc: Global, inputs: &CheckInputs<'_, '_>) -> Result<Option<Stri
     if plans.len() != inputs.feeds.len() {
         return Ok(None);
     }
-    let given = given_feeds(alloc, inputs.hex, &inputs.feeds)?;
+    let given = given_feeds(alloc, inputs.feed_form, &inputs.feeds)?;
     feeds_place(alloc, inputs.files, &plans, &given)
 }
 

@@ -1,5 +1,5 @@
 -- What the command `run` prints, and why it is refused, by what its inputs say.
-use Rattle.std.proofs.Common.{◌≡◌, ◌∙◌, ap, sym, subst, ℕ, Bool, List, map, refl, Option, Some, Result, Ok, Err}
+use Rattle.std.proofs.Common.{◌≡◌, ◌∙◌, ap, sym, subst, ℕ, List, map, refl, Option, Some, Result, Ok, Err}
 use Rattle.std.specs.Prelude.{slice_get}
 use Rattle.filter_rule.specs.PlanValue.{PlanValue}
 use Rattle.vdiff_core.specs.Dump.{dump_of}
@@ -10,6 +10,7 @@ use Rattle.stream_worker.specs.RunRefused.{IsRefusedRun}
 use Rattle.stream_worker.specs.declared.run_refusal.RunRefusal.{RunRefusal}
 use Rattle.vrepl_main.specs.declared.refusal.CommandRefusal.{CommandRefusal}
 use Rattle.vrepl_main.specs.Command.{RefusesCommand, IsUnwritten}
+use Rattle.vrepl_choices.specs.declared.feed_form.FeedForm.{FeedForm}
 use Rattle.vrepl_main.specs.HexText.{feed_bytes}
 use Rattle.vrepl_main.specs.Opening.{OpenedValue, opened, opened_bytes}
 use Rattle.vrepl_main.specs.Reasons.{Reason}
@@ -20,9 +21,9 @@ use Rattle.vrepl_main.proofs.CommandLaws.{refuses, refuses_unwritten}
 use Rattle.vrepl_main.proofs.StepLaws.{map-map}
 
 -- the bytes of the feeds, decoded where they are given as hexadecimal text
-pub opened_as : {A : Type 0} (feeds : List A) (view : A → List ℕ) (hex : Bool) (workflow : List ℕ) (given : List (Option (List ℕ))) → given ≡ map (λ feed. feed_bytes hex (view feed)) feeds
-    → opened_bytes workflow given ≡ opened hex workflow (map view feeds)
-opened_as feeds view hex workflow given is = ap (λ (bytes : List (Option (List ℕ))). opened_bytes workflow bytes) (is ∙ sym (map-map (feed_bytes hex) view feeds))
+pub opened_as : {A : Type 0} (feeds : List A) (view : A → List ℕ) (form : FeedForm) (workflow : List ℕ) (given : List (Option (List ℕ))) → given ≡ map (λ feed. feed_bytes form (view feed)) feeds
+    → opened_bytes workflow given ≡ opened form workflow (map view feeds)
+opened_as feeds view form workflow given is = ap (λ (bytes : List (Option (List ℕ))). opened_bytes workflow bytes) (is ∙ sym (map-map (feed_bytes form) view feeds))
 
 module _ (reading : Result OpenedValue Reason) (found : OpenedValue) (plan : PlanValue) (is : reading ≡ Ok found) (first : slice_get found.plans 0 ≡ Some plan) where
   -- a run over what is opened is refused

@@ -1,5 +1,5 @@
 -- What the command `step` prints, and why it is refused, by what its inputs say.
-use Rattle.std.proofs.Common.{◌≡◌, ◌∙◌, ap, sym, subst, ℕ, Bool, List, [], ◌∷◌, take, map, refl, Option, Some, Result, Ok}
+use Rattle.std.proofs.Common.{◌≡◌, ◌∙◌, ap, sym, subst, ℕ, List, [], ◌∷◌, take, map, refl, Option, Some, Result, Ok}
 use Rattle.std.specs.Prelude.{slice_get, option_map}
 use Rattle.std.proofs.lemmas.Option.{slice_get-map}
 use Rattle.outcome.specs.Outcome.{◌>>=◌}
@@ -9,6 +9,7 @@ use Rattle.board_laws.specs.Meaning.{Meaning}
 use Rattle.apply_core.specs.Fresh.{fresh_board}
 use Rattle.step_script.specs.declared.script.ScriptStep.{ScriptStep}
 use Rattle.vrepl_main.specs.declared.refusal.CommandRefusal.{CommandRefusal}
+use Rattle.vrepl_choices.specs.declared.feed_form.FeedForm.{FeedForm}
 use Rattle.vrepl_main.specs.HexText.{feed_bytes}
 use Rattle.vrepl_main.specs.Reasons.{Reason, RefusesInputs}
 use Rattle.vrepl_main.specs.Command.{RefusesCommand, IsUnwritten}
@@ -50,10 +51,10 @@ map-map f g [] = refl
 map-map {A} {B} {C} f g (x ∷ xs) = ap (λ (l : List C). f (g x) ∷ l) (map-map f g xs)
 
 -- the bytes of the feeds, decoded where they are given as hexadecimal text
-pub given_as : {A : Type 0} (feeds : List A) (view : A → List ℕ) (hex : Bool) (workflow script : List ℕ) (given : List (Option (List ℕ))) → given ≡ map (λ feed. feed_bytes hex (view feed)) feeds
-    → given_bytes workflow given script ≡ script_given hex workflow (map view feeds) script
-given_as feeds view hex workflow script given is =
-    ap (λ (bytes : List (Option (List ℕ))). given_bytes workflow bytes script) (is ∙ sym (map-map (feed_bytes hex) view feeds))
+pub given_as : {A : Type 0} (feeds : List A) (view : A → List ℕ) (form : FeedForm) (workflow script : List ℕ) (given : List (Option (List ℕ))) → given ≡ map (λ feed. feed_bytes form (view feed)) feeds
+    → given_bytes workflow given script ≡ script_given form workflow (map view feeds) script
+given_as feeds view form workflow script given is =
+    ap (λ (bytes : List (Option (List ℕ))). given_bytes workflow bytes script) (is ∙ sym (map-map (feed_bytes form) view feeds))
 
 -- the first plan
 pub front_at : {A : Type 0} (f : A → PlanValue) (plans : List A) (plan : A) (value : PlanValue) → slice_get plans 0 ≡ Some plan → value ≡ f plan → slice_get (map f plans) 0 ≡ Some value

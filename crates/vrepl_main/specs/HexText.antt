@@ -1,5 +1,7 @@
--- Hexadecimal text of a feed, as this profile's `--hex` reads it.
+-- Hexadecimal text of a feed, as this profile's `--hex` reads it, and the bytes of a feed by its form.
 use Rattle.std.specs.Prelude.{ℕ, ◌+◌, ◌-◌, ◌*◌, ◌==◌, ◌&&◌, ◌||◌, nat_le, not, Bool, if◌then◌else◌, List, [], ◌∷◌, map, filter, Option, Some, None}
+use Rattle.vrepl_choices.specs.declared.feed_form.FeedForm.{FeedForm}
+use Rattle.vrepl_choices.specs.declared.feed_form.FeedForm.TheVariants.{Bytes, Hex}
 
 -- blanks, tabs, LF and CR are skipped wherever they stand
 abbrev pub is_skipped_byte : ℕ → Bool
@@ -32,6 +34,7 @@ paired (high ∷ low ∷ rest) = with_hex_byte high low (paired rest)
 abbrev pub hex_bytes : List ℕ → Option (List ℕ)
 hex_bytes text = paired (digits_of text)
 
--- the bytes of a feed, which may be given as hexadecimal text
-abbrev pub feed_bytes : Bool → List ℕ → Option (List ℕ)
-feed_bytes hex feed = if hex then hex_bytes feed else Some feed
+-- the bytes of a feed that is given in this form
+abbrev pub feed_bytes : FeedForm → List ℕ → Option (List ℕ)
+feed_bytes Bytes feed = Some feed
+feed_bytes Hex feed = hex_bytes feed

@@ -28,7 +28,7 @@ use Rattle.vrepl_main.specs.declared.named_inputs.JoinInputs.{JoinInputs}
 
 -- the workflow with its feeds, or why they are refused
 abbrev pub join_asked : JoinInputs → Result OpenedValue Reason
-join_asked inputs = opened inputs.hex inputs.workflow.items (bytes_of inputs.feeds.items)
+join_asked inputs = opened inputs.feed_form inputs.workflow.items (bytes_of inputs.feeds.items)
 
 -- ---- the checkpoint
 

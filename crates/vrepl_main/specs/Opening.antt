@@ -1,11 +1,12 @@
 -- A workflow with its feeds, as a command opens them (this profile).
-use Rattle.std.specs.Prelude.{ℕ, Bool, ◌==◌, not, length, List, [], ◌∷◌, map, Option, None, Some, Result, Ok, Err}
+use Rattle.std.specs.Prelude.{ℕ, ◌==◌, not, length, List, [], ◌∷◌, map, Option, None, Some, Result, Ok, Err}
 use Rattle.outcome.specs.Outcome.{◌>>=◌, refused_if}
 use Rattle.filter_rule.specs.Faults as plans
 use Rattle.filter_rule.specs.PlanValue.{PlanValue}
 use Rattle.filter_rule.specs.Reading.{plans_of}
 use Rattle.source_feed.specs.Planned.{PlannedGroupValue, FeedValue, groups_under}
 use Rattle.source_feed.specs.declared.fault.FeedFault.{FeedFault}
+use Rattle.vrepl_choices.specs.declared.feed_form.FeedForm.{FeedForm}
 use Rattle.vrepl_main.specs.Reasons.{Reason, bad_workflow, feed_count, bad_hex, bad_feed}
 use Rattle.vrepl_main.specs.HexText.{feed_bytes}
 
@@ -52,6 +53,6 @@ opened_with feeds plans =
 abbrev pub opened_bytes : List ℕ → List (Option (List ℕ)) → Result OpenedValue Reason
 opened_bytes workflow feeds = said_plans (plans_of workflow) >>= opened_with feeds
 
--- the same of feeds that may be given as hexadecimal text
-abbrev pub opened : Bool → List ℕ → List (List ℕ) → Result OpenedValue Reason
-opened hex workflow feeds = opened_bytes workflow (map (feed_bytes hex) feeds)
+-- the same of feeds that are given in this form
+abbrev pub opened : FeedForm → List ℕ → List (List ℕ) → Result OpenedValue Reason
+opened form workflow feeds = opened_bytes workflow (map (feed_bytes form) feeds)

@@ -25,7 +25,7 @@ use Rattle.vrepl_main.specs.declared.named_inputs.RunInputs.{RunInputs}
 
 -- the workflow with its feeds, or why they are refused
 abbrev pub opened_asked : RunInputs → Result OpenedValue Reason
-opened_asked inputs = opened inputs.hex inputs.workflow.items (bytes_of inputs.feeds.items)
+opened_asked inputs = opened inputs.feed_form inputs.workflow.items (bytes_of inputs.feeds.items)
 
 -- ---- the dump
 

@@ -1,5 +1,5 @@
 -- What the lines of a script reply over a workflow with its feeds, and what they leave (this profile).
-use Rattle.std.specs.Prelude.{◌≡◌, ℕ, nat_lt, if◌then◌else◌, Bool, List, [], ◌∷◌, Option, Some, None, Result, Ok, Err, slice_get, flat_map}
+use Rattle.std.specs.Prelude.{◌≡◌, ℕ, nat_lt, if◌then◌else◌, List, [], ◌∷◌, Option, Some, None, Result, Ok, Err, slice_get, flat_map}
 use Rattle.std.specs.List.{AllByRecursion}
 use Rattle.std.specs.Option.{option_and_then}
 use Rattle.outcome.specs.Outcome.{◌>>=◌}
@@ -21,6 +21,7 @@ use Rattle.board_laws.specs.Sources.{applied_position, AllShowTheirSources}
 use Rattle.apply_core.specs.Shown.{all_rows}
 use Rattle.step_script.specs.declared.script.ScriptStep.{ScriptStep}
 use Rattle.step_script.specs.declared.script.ScriptStep.TheVariants as script
+use Rattle.vrepl_choices.specs.declared.feed_form.FeedForm.{FeedForm}
 use Rattle.vrepl_main.specs.Reasons.{Reason, bad_script}
 use Rattle.vrepl_main.specs.Opening.{OpenedValue, opened, opened_bytes}
 use Rattle.step_script.specs.ScriptLines.{script_steps}
@@ -120,12 +121,12 @@ given_with script found = said_steps (script_steps script) >>= λ steps. Ok (rec
 abbrev pub given_bytes : List ℕ → List (Option (List ℕ)) → List ℕ → Result ScriptGiven Reason
 given_bytes workflow feeds script = opened_bytes workflow feeds >>= given_with script
 
-abbrev pub script_given : Bool → List ℕ → List (List ℕ) → List ℕ → Result ScriptGiven Reason
-script_given hex workflow feeds script = opened hex workflow feeds >>= given_with script
+abbrev pub script_given : FeedForm → List ℕ → List (List ℕ) → List ℕ → Result ScriptGiven Reason
+script_given form workflow feeds script = opened form workflow feeds >>= given_with script
 
 -- what the inputs of `step` and of `save` give, or why they are refused
 abbrev pub script_asked : Inputs → Result ScriptGiven Reason
-script_asked inputs = script_given inputs.hex inputs.workflow.items (bytes_of inputs.feeds.items) inputs.script.items
+script_asked inputs = script_given inputs.feed_form inputs.workflow.items (bytes_of inputs.feeds.items) inputs.script.items
 
 -- the text is that of the replies to these steps, on a board over the plans of which nothing is read
 pub record IsRepliedTo (given : OpenedValue) (steps : List ScriptStep) (text : List ℕ) : Type 0 where

@@ -1,9 +1,10 @@
 -- What `show` prints of a feed (this profile).
-use Rattle.std.specs.Prelude.{ℕ, Bool, List, Option, None, Some, Result, Ok, Err}
+use Rattle.std.specs.Prelude.{ℕ, List, Option, None, Some, Result, Ok, Err}
 use Rattle.source_feed.specs.declared.fault.FeedFault.{FeedFault}
 use Rattle.source_feed.specs.GroupValue.{GroupValue}
 use Rattle.source_feed.specs.SourceValue.{SourceValue}
 use Rattle.source_feed.specs.Groups.{groups}
+use Rattle.vrepl_choices.specs.declared.feed_form.FeedForm.{FeedForm}
 use Rattle.vrepl_main.specs.Reasons.{Reason, bad_hex, bad_feed}
 use Rattle.vrepl_main.specs.HexText.{feed_bytes}
 use Rattle.vrepl_main.specs.Shown.{shown}
@@ -21,5 +22,5 @@ shown_bytes source None = Err bad_hex
 shown_bytes source (Some feed) = shown_groups (groups feed source)
 
 -- the text of the feed's groups, or why it is refused
-abbrev pub shown_feed : Bool → List ℕ → SourceValue → Result (List ℕ) Reason
-shown_feed hex feed source = shown_bytes source (feed_bytes hex feed)
+abbrev pub shown_feed : FeedForm → List ℕ → SourceValue → Result (List ℕ) Reason
+shown_feed form feed source = shown_bytes source (feed_bytes form feed)

@@ -10,7 +10,7 @@ use vdiff_core::{Gathered, Out, OutFailed};
 
 /// Adds the line of what a step answers: `read N`, `repeat N`, `applied N`, `snapshot N`, `copied R`
 /// with ` done` behind it where the table is done, `closed`, or `restarted N`. Takes no memory.
-pub fn print_answer<W: Out>(
+pub(crate) fn print_answer<W: Out>(
     out: &mut W,
     text: &mut Gathered,
     answer: Answer,

@@ -19,7 +19,7 @@ use std::thread;
 use std::thread::Threads;
 
 /// Opens a workflow with its feeds as `open_workflow` does, all feeds at once. The faults are found in the same order.
-pub fn open_at_once<'h, R: Threads + Sync>(
+pub(crate) fn open_at_once<'h, R: Threads + Sync>(
     rt: &R,
     alloc: Global,
     workflow: &[u8],

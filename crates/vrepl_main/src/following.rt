@@ -26,6 +26,7 @@ use std::sync::{Arc, Wait};
 use std::thread::Threads;
 use stream_worker::{RunRefusal, run_board_alone, run_board_parallel};
 use vdiff_core::{Out, OutFailed};
+use vrepl_choices::Threading;
 
 /// A checkpoint that was moved on to the feeds' ends.
 #[derive(Drop)]
@@ -119,7 +120,7 @@ pub fn follow<'h, R: Threads + Wait + Sync, G: Progress + Sync>(
     let opened = open_streams(
         rt,
         alloc,
-        inputs.course.alone,
+        inputs.course.threading,
         inputs.workflow,
         inputs.feeds,
     )?;
@@ -179,11 +180,12 @@ fn run_on_from<'h, R: Threads + Wait + Sync, G: Progress + Sync>(
     ensures ends { IfOk result (IsAtFeedsEnds feeds.now) }
     ensures refused { IfErr result (EndsRun feeds.now) }
 {
-    if course.alone {
-        run_board_alone(alloc, board, feeds, &course.policy)
-    } else {
-        tell_feeds(gate, feeds);
-        run_board_parallel(rt, alloc, board, feeds, &course.policy, gate)
+    match course.threading {
+        Threading::Alone => run_board_alone(alloc, board, feeds, &course.policy),
+        Threading::Parallel => {
+            tell_feeds(gate, feeds);
+            run_board_parallel(rt, alloc, board, feeds, &course.policy, gate)
+        }
     }
 }
 

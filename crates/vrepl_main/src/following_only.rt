@@ -27,6 +27,7 @@ use std::alloc::{AllocError, Global};
 use std::sync::Arc;
 use std::thread::Threads;
 use stream_worker::{Policy, run_streams_alone};
+use vrepl_choices::Threading;
 
 /// Moves these streams of a checkpoint on, over a workflow and its feeds, one in the order of the streams each: from the
 /// board that it makes with them, or from the beginning where there is none, these streams run to their feeds' ends, one
@@ -44,7 +45,14 @@ pub fn follow_only<'h, R: Threads + Sync>(
     ensures refused { IfErr result (λ refusal. RefusesFollow refusal (only_asked only.now inputs.now) (saved_asked inputs.now)) }
 {
     let course = inputs.course;
-    let opened = open_for(rt, alloc, course.alone, only, inputs.workflow, inputs.feeds)?;
+    let opened = open_for(
+        rt,
+        alloc,
+        course.threading,
+        only,
+        inputs.workflow,
+        inputs.feeds,
+    )?;
     let Opened { plans, feeds } = opened;
     let plan = first_plan(&plans)?;
     let board = board_moved_on(alloc, inputs, only, plans, &feeds)?;
@@ -60,7 +68,7 @@ pub fn follow_only<'h, R: Threads + Sync>(
 fn open_for<'h, R: Threads + Sync>(
     rt: &R,
     alloc: Global,
-    alone: bool,
+    threading: Threading,
     only: &[u8],
     workflow: &[u8],
     given: &'h [GivenFeed<'_>],
@@ -73,10 +81,9 @@ fn open_for<'h, R: Threads + Sync>(
     if plans.len() != given.len() {
         return Err(CommandRefusal::FeedCount);
     }
-    let feeds = if alone {
-        open_feeds(alloc, &plans, given)?
-    } else {
-        open_feeds_at_once(rt, alloc, &plans, given)?
+    let feeds = match threading {
+        Threading::Alone => open_feeds(alloc, &plans, given)?,
+        Threading::Parallel => open_feeds_at_once(rt, alloc, &plans, given)?,
     };
     Ok(Opened { plans, feeds })
 }

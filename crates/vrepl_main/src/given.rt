@@ -3,10 +3,11 @@
 ghost use Rattle.std.specs.Prelude.{◌≡◌, IfOk, map};
 ghost use Rattle.std.specs.Option.{option_map};
 ghost use Rattle.vrepl_main.specs.Given.{given_value};
-ghost use Rattle.vrepl_main.specs.HexText.{feed_bytes};
+ghost use Rattle.vrepl_main.specs.HexText.{feed_bytes, hex_bytes};
 
 use crate::hex_text::{HexFault, bytes_of_hex};
 use std::alloc::{AllocError, Global};
+use vrepl_choices::FeedForm;
 
 /// The bytes of a feed.
 #[derive(Drop)]
@@ -32,28 +33,39 @@ impl GivenFeed<'_> {
     }
 }
 
-/// The bytes of each feed; where `hex` is set feeds are hexadecimal text. An error is want of memory.
+/// The bytes of each feed, all given in one form. An error is want of memory.
 pub fn given_feeds<'f>(
     alloc: Global,
-    hex: bool,
+    form: FeedForm,
     feeds: &'f [Vec<u8>],
 ) -> Result<Vec<GivenFeed<'f>>, AllocError>
-    ensures { IfOk result (λ given. map given_value given.items ≡ map (λ feed. feed_bytes hex feed.items) feeds.now) }
+    ensures { IfOk result (λ given. map given_value given.items ≡ map (λ feed. feed_bytes form feed.items) feeds.now) }
 {
     let mut given = Vec::with_capacity(alloc, feeds.len())?;
     for feed in feeds {
-        given.push(given_feed(alloc, hex, feed.as_slice())?)?;
+        given.push(given_feed(alloc, form, feed.as_slice())?)?;
     }
     Ok(given)
 }
 
 /// The bytes of a feed. An error is want of memory.
-fn given_feed<'f>(alloc: Global, hex: bool, feed: &'f [u8]) -> Result<GivenFeed<'f>, AllocError>
-    ensures { IfOk result (λ given. given_value given ≡ feed_bytes hex feed.entry.now) }
+fn given_feed<'f>(
+    alloc: Global,
+    form: FeedForm,
+    feed: &'f [u8],
+) -> Result<GivenFeed<'f>, AllocError>
+    ensures { IfOk result (λ given. given_value given ≡ feed_bytes form feed.entry.now) }
 {
-    if !hex {
-        return Ok(GivenFeed::Bytes(feed));
+    match form {
+        FeedForm::Bytes => Ok(GivenFeed::Bytes(feed)),
+        FeedForm::Hex => decoded(alloc, feed),
     }
+}
+
+/// The bytes of a feed that is given as hexadecimal text. An error is want of memory.
+fn decoded<'f>(alloc: Global, feed: &[u8]) -> Result<GivenFeed<'f>, AllocError>
+    ensures { IfOk result (λ given. given_value given ≡ hex_bytes feed.now) }
+{
     match bytes_of_hex(alloc, feed) {
         Ok(bytes) => Ok(GivenFeed::Decoded(bytes)),
         Err(HexFault::BadHex) => Ok(GivenFeed::BadHex),

@@ -24,10 +24,10 @@ pub enum InputFault {
 }
 
 /// The reads that an input may have, the one that finds its end among them.
-pub const READS: u64 = 1 << 32;
+const READS: u64 = 1 << 32;
 
 /// The most bytes that one read gives.
-pub const CHUNK: usize = 65536;
+const CHUNK: usize = 65536;
 
 /// The most bytes for which room is made before a file is read.
 const MOST_ROOM: u64 = 1 << 31;

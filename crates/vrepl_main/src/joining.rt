@@ -24,7 +24,7 @@ use vdiff_core::Out;
 
 /// Why nothing is joined.
 #[derive(Drop)]
-pub enum Unjoined {
+enum Unjoined {
     /// What stands in the workflow or the feeds, want of memory, or that the checkpoint can't be written.
     Given(CommandRefusal<'static>),
     /// The one checkpoint; its line names tables of the plan.
@@ -107,7 +107,7 @@ fn joined_bytes(alloc: Global, inputs: &JoinInputs) -> Result<Vec<u8>, Unjoined>
     ensures saved { IfOk result (λ bytes. IsSavedJoin (join_asked inputs.now) inputs.now.one.items (bytes_of inputs.now.others.items) bytes.items) }
     ensures refused { IfErr result (λ refusal. IsUnjoined refusal (join_asked inputs.now) inputs.now.one.items (bytes_of inputs.now.others.items)) }
 {
-    let Ok(given) = given_feeds(alloc, inputs.hex, &inputs.feeds) else {
+    let Ok(given) = given_feeds(alloc, inputs.feed_form, &inputs.feeds) else {
         return Err(Unjoined::Given(CommandRefusal::Memory));
     };
     let opened = open_workflow(alloc, &inputs.workflow, &given)?;

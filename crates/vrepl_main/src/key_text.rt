@@ -13,7 +13,11 @@ use vdiff_core::{Gathered, Out, OutFailed};
 
 /// Adds a key: its parts as cells, parted by commas, a number as its shortest decimal text. Takes no
 /// memory.
-pub fn print_key<W: Out>(out: &mut W, text: &mut Gathered, key: &Key) -> Result<(), OutFailed>
+pub(crate) fn print_key<W: Out>(
+    out: &mut W,
+    text: &mut Gathered,
+    key: &Key,
+) -> Result<(), OutFailed>
     ensures { AddsText result (at (W.written out.old) text.old) (at (W.written out.new) text.new) (key_text key.now) }
 {
     let view = key.view();

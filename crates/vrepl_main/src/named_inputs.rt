@@ -10,12 +10,13 @@ use crate::input_list::{file_names, run_inputs};
 use crate::refusal::CommandRefusal;
 use std::rt::Files;
 use stream_worker::Policy;
+use vrepl_choices::{FeedForm, Threading};
 
 /// How streams are run.
 #[derive(Clone, Copy)]
 pub struct Course {
-    /// Whether they run one after another, and not in threads.
-    pub alone: bool,
+    /// One after another, or in threads.
+    pub threading: Threading,
     /// In what portions.
     pub policy: Policy,
 }
@@ -25,8 +26,8 @@ pub struct Course {
 pub struct RunInputs {
     /// How the streams are run.
     pub course: Course,
-    /// Whether the feeds are hexadecimal text.
-    pub hex: bool,
+    /// How the feeds are given.
+    pub feed_form: FeedForm,
     /// The workflow's file.
     pub workflow: Vec<u8>,
     /// The feeds, one in the order of the streams each.
@@ -36,8 +37,8 @@ pub struct RunInputs {
 /// The inputs of `step` and of `save`.
 #[derive(Drop)]
 pub struct Inputs {
-    /// Whether the feeds are hexadecimal text.
-    pub hex: bool,
+    /// How the feeds are given.
+    pub feed_form: FeedForm,
     /// The workflow's file.
     pub workflow: Vec<u8>,
     /// The feeds, one in the order of the streams each.
@@ -71,8 +72,8 @@ pub struct FollowInputs<'h, 'f> {
 /// The inputs of `join`.
 #[derive(Drop)]
 pub struct JoinInputs {
-    /// Whether the feeds are hexadecimal text.
-    pub hex: bool,
+    /// How the feeds are given.
+    pub feed_form: FeedForm,
     /// The workflow's file.
     pub workflow: Vec<u8>,
     /// The one checkpoint, never hexadecimal text.
@@ -103,19 +104,19 @@ pub struct JoinFiles<'n, 'w> {
 pub fn read_run<'w, R: Files + Input + AllocGlobal>(
     rt: &R,
     course: Course,
-    hex: bool,
+    feed_form: FeedForm,
     workflow: &'w str,
     feeds: &[&'w str],
 ) -> Result<RunInputs, CommandRefusal<'w>>
     ensures course { IfOk result (λ inputs. inputs.course ≡ course) }
-    ensures hex { IfOk result (λ inputs. inputs.hex ≡ hex) }
+    ensures feed_form { IfOk result (λ inputs. inputs.feed_form ≡ feed_form) }
     ensures refused { IfErr result (IsUnreadAmong (File workflow.entry ∷ map File feeds.now)) }
 {
     let plans = read_input(rt, InputName::File(workflow))?;
     let texts = read_files(rt, feeds)?;
     Ok(RunInputs {
         course,
-        hex,
+        feed_form,
         workflow: plans,
         feeds: texts,
     })
@@ -125,18 +126,18 @@ pub fn read_run<'w, R: Files + Input + AllocGlobal>(
 /// input. The first that can't be read is refused.
 pub fn read_step<'w, R: Files + Input + AllocGlobal>(
     rt: &R,
-    hex: bool,
+    feed_form: FeedForm,
     workflow: &'w str,
     feeds: &[&'w str],
 ) -> Result<Inputs, CommandRefusal<'w>>
-    ensures hex { IfOk result (λ inputs. inputs.hex ≡ hex) }
+    ensures feed_form { IfOk result (λ inputs. inputs.feed_form ≡ feed_form) }
     ensures refused { IfErr result (IsUnreadAmong (File workflow.entry ∷ (map File feeds.now ++ Standard ∷ []))) }
 {
     let plans = read_input(rt, InputName::File(workflow))?;
     let texts = read_files(rt, feeds)?;
     let script = read_input(rt, InputName::Standard)?;
     Ok(Inputs {
-        hex,
+        feed_form,
         workflow: plans,
         feeds: texts,
         script,
@@ -146,16 +147,16 @@ pub fn read_step<'w, R: Files + Input + AllocGlobal>(
 /// Reads the inputs of `resume`: the checkpoint's file, and then those of `step`.
 pub fn read_resume<'w, R: Files + Input + AllocGlobal>(
     rt: &R,
-    hex: bool,
+    feed_form: FeedForm,
     checkpoint: &'w str,
     workflow: &'w str,
     feeds: &[&'w str],
 ) -> Result<ResumeInputs, CommandRefusal<'w>>
-    ensures hex { IfOk result (λ inputs. inputs.step.hex ≡ hex) }
+    ensures feed_form { IfOk result (λ inputs. inputs.step.feed_form ≡ feed_form) }
     ensures refused { IfErr result (IsUnreadAmong (File checkpoint.entry ∷ File workflow.entry ∷ (map File feeds.now ++ Standard ∷ []))) }
 {
     let saved = read_input(rt, InputName::File(checkpoint))?;
-    let step = read_step(rt, hex, workflow, feeds)?;
+    let step = read_step(rt, feed_form, workflow, feeds)?;
     Ok(ResumeInputs {
         checkpoint: saved,
         step,
@@ -165,10 +166,10 @@ pub fn read_resume<'w, R: Files + Input + AllocGlobal>(
 /// Reads the inputs of `join`: the workflow's file, the checkpoints' files in their order, and the feeds' files.
 pub fn read_join<'w, R: Files + Input + AllocGlobal>(
     rt: &R,
-    hex: bool,
+    feed_form: FeedForm,
     files: &JoinFiles<'_, 'w>,
 ) -> Result<JoinInputs, CommandRefusal<'w>>
-    ensures hex { IfOk result (λ inputs. inputs.hex ≡ hex) }
+    ensures feed_form { IfOk result (λ inputs. inputs.feed_form ≡ feed_form) }
     ensures refused { IfErr result (IsUnreadAmong (File files.now.workflow ∷ File files.now.one ∷ File files.now.other ∷ (map File files.now.more.now ++ map File files.now.feeds.now))) }
 {
     let workflow = read_input(rt, InputName::File(files.workflow))?;
@@ -177,7 +178,7 @@ pub fn read_join<'w, R: Files + Input + AllocGlobal>(
     let others = read_inputs(rt, &names)?;
     let feeds = read_files(rt, files.feeds)?;
     Ok(JoinInputs {
-        hex,
+        feed_form,
         workflow,
         one,
         others,

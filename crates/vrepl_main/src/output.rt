@@ -10,21 +10,33 @@ use row_view::{Column, Columns};
 use vdiff_core::{Gathered, Out, OutFailed, add_cell, add_cells};
 
 /// Adds all the bytes.
-pub fn put_all<W: Out>(out: &mut W, text: &mut Gathered, bytes: &[u8]) -> Result<(), OutFailed>
+pub(crate) fn put_all<W: Out>(
+    out: &mut W,
+    text: &mut Gathered,
+    bytes: &[u8],
+) -> Result<(), OutFailed>
     ensures { AddsText result (at (W.written out.old) text.old) (at (W.written out.new) text.new) bytes.now }
 {
     text.put(out, bytes)
 }
 
 /// Adds a text.
-pub fn put_str<W: Out>(out: &mut W, text: &mut Gathered, piece: &str) -> Result<(), OutFailed>
+pub(crate) fn put_str<W: Out>(
+    out: &mut W,
+    text: &mut Gathered,
+    piece: &str,
+) -> Result<(), OutFailed>
     ensures { AddsText result (at (W.written out.old) text.old) (at (W.written out.new) text.new) piece.now }
 {
     put_all(out, text, piece.as_bytes())
 }
 
 /// Adds a number in decimal digits.
-pub fn put_number<W: Out>(out: &mut W, text: &mut Gathered, number: u64) -> Result<(), OutFailed>
+pub(crate) fn put_number<W: Out>(
+    out: &mut W,
+    text: &mut Gathered,
+    number: u64,
+) -> Result<(), OutFailed>
     ensures { AddsText result (at (W.written out.old) text.old) (at (W.written out.new) text.new) (decimal number) }
 {
     let mut digits = itoa::Buffer::new();
@@ -32,7 +44,7 @@ pub fn put_number<W: Out>(out: &mut W, text: &mut Gathered, number: u64) -> Resu
 }
 
 /// Adds each column as a cell behind a tab.
-pub fn print_cells<W: Out>(
+pub(crate) fn print_cells<W: Out>(
     out: &mut W,
     text: &mut Gathered,
     columns: Columns<'_>,
@@ -43,7 +55,7 @@ pub fn print_cells<W: Out>(
 }
 
 /// Adds a column as a cell.
-pub fn print_cell<W: Out>(
+pub(crate) fn print_cell<W: Out>(
     out: &mut W,
     text: &mut Gathered,
     column: &Column<'_>,
@@ -54,7 +66,7 @@ pub fn print_cell<W: Out>(
 }
 
 /// Adds a number behind a word.
-pub fn put_named<W: Out>(
+pub(crate) fn put_named<W: Out>(
     out: &mut W,
     text: &mut Gathered,
     word: &str,
@@ -67,7 +79,7 @@ pub fn put_named<W: Out>(
 }
 
 /// Adds a number between two words.
-pub fn put_between<W: Out>(
+pub(crate) fn put_between<W: Out>(
     out: &mut W,
     text: &mut Gathered,
     before: &str,

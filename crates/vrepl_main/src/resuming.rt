@@ -24,7 +24,7 @@ use vdiff_core::Out;
 
 /// Why nothing is resumed.
 #[derive(Drop)]
-pub enum ResumeRefusal {
+enum ResumeRefusal {
     /// What stands in the other inputs, want of memory, or that the replies can't be written.
     Given(CommandRefusal<'static>),
     /// The checkpoint; its line names tables of the plan.
@@ -50,7 +50,8 @@ impl From<CommandRefusal<'static>> for ResumeRefusal {
 /// Takes the steps of a script on the board that a checkpoint makes with a workflow's feeds, one in the order
 /// of the streams each, and prints their replies on `out`, as `step` does; or prints the line of a refusal on
 /// `err` and then nothing on `out`, unless it is `out` that can't be written. The checkpoint is judged behind
-/// the workflow, the feeds and the whole script. Answers the status: 0, or 1 after a refusal, also of memory.
+/// the workflow, the feeds and the whole script. Answers the status: 0, or 1 after a refusal, also of memory. Behind the
+/// replies what the board and the feeds hold is forgotten: it goes back with the memory of the process.
 pub fn resume<W: Out, E: Out>(alloc: Global, inputs: &ResumeInputs, out: &mut W, err: &mut E) -> u8
     ensures ends { ResumeEnds (script_asked inputs.now.step) inputs.now.checkpoint.items result (W.written out.old) (W.written out.new) (E.written err.old) (E.written err.new) }
     ensures quiet { result ≡ 0 → err.new ≡ err.old }
@@ -71,7 +72,7 @@ fn print_replies<W: Out>(
     ensures { LeavesResumed result (script_asked inputs.now.step) inputs.now.checkpoint.items (W.written out.old) (W.written out.new) }
 {
     let step = &inputs.step;
-    let Ok(given) = given_feeds(alloc, step.hex, &step.feeds) else {
+    let Ok(given) = given_feeds(alloc, step.feed_form, &step.feeds) else {
         return Err(ResumeRefusal::Given(CommandRefusal::Memory));
     };
     let scripted = open_scripted(alloc, step, &given)?;

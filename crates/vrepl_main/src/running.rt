@@ -35,10 +35,11 @@ use std::sync::{Arc, Wait};
 use std::thread::Threads;
 use stream_worker::{RunRefusal, run_alone, run_parallel};
 use vdiff_core::Out;
+use vrepl_choices::Threading;
 
 /// Why a run prints no dump.
 #[derive(Drop)]
-pub enum RunFault {
+enum RunFault {
     /// What stands in the inputs, want of memory, or that the dump can't be written.
     Given(CommandRefusal<'static>),
     /// Why the streams' run was refused; its line names tables of the plan.
@@ -52,10 +53,10 @@ pub enum RunFault {
 
 /// Runs all streams of a workflow over its feeds, one in the order of the streams each, to their ends, and prints
 /// the dump of the target's rows on `out`; or prints the line of a refusal on `err` and then nothing on `out`, unless it
-/// is `out` that can't be written. The streams run one after another where the course is `alone`, and else each in a
-/// thread of its own, and then the gate is told of each group on its way. Answers the status: 0, or 1 after a refusal,
-/// also of memory. Nothing comes after a run, so its groups and rows aren't given back: they go with the memory of the
-/// process.
+/// is `out` that can't be written. The streams run as the course says: one after another, or each in a thread of its own,
+/// and then the gate is told of each group on its way. Answers the status: 0, or 1 after a refusal, also of memory. Behind
+/// the run the groups of its feeds are forgotten, and behind the dump its rows are: they go back with the memory of the
+/// process. Where the dump can't be written the rows are given back.
 pub fn run<R: Threads + Wait + Sync, G: Progress + Sync, W: Out, E: Out>(
     rt: &R,
     alloc: Global,
@@ -111,7 +112,7 @@ fn print_run<R: Threads + Wait + Sync, G: Progress + Sync, W: Out>(
     ensures printed { OnOk result (PrintsDump (opened_asked inputs.now) (W.written out.old) (W.written out.new)) }
     ensures refused { IfErr result (λ fault. RefusesRun fault (opened_asked inputs.now) (W.written out.old) (W.written out.new)) }
 {
-    let Ok(given) = given_feeds(alloc, inputs.hex, &inputs.feeds) else {
+    let Ok(given) = given_feeds(alloc, inputs.feed_form, &inputs.feeds) else {
         return Err(RunFault::Given(CommandRefusal::Memory));
     };
     let (plan, board) = filled_board(rt, alloc, inputs, gate, &given)?;
@@ -149,7 +150,7 @@ fn filled_board<'h, R: Threads + Wait + Sync, G: Progress + Sync>(
     ensures refused { IfErr result (λ fault. IsUnfilled fault (opened_given inputs.now.workflow.items given.entry.now)) }
 {
     let course = inputs.course;
-    let opened = match open_streams(rt, alloc, course.alone, &inputs.workflow, given) {
+    let opened = match open_streams(rt, alloc, course.threading, &inputs.workflow, given) {
         Ok(opened) => opened,
         Err(refusal) => return Err(RunFault::Given(refusal)),
     };
@@ -166,21 +167,20 @@ fn filled_board<'h, R: Threads + Wait + Sync, G: Progress + Sync>(
     }
 }
 
-/// The workflow with its feeds, which are opened one after another where `alone` is set, and else at once.
+/// The workflow with its feeds, which are opened as the streams run: one after another, or at once.
 pub(crate) fn open_streams<'h, R: Threads + Sync>(
     rt: &R,
     alloc: Global,
-    alone: bool,
+    threading: Threading,
     workflow: &[u8],
     given: &'h [GivenFeed<'_>],
 ) -> Result<Opened<'h>, CommandRefusal<'static>>
     ensures opened { GivesOfInputs opened_value result (opened_bytes workflow.now (map given_value given.entry.now)) }
     ensures plans { IfOk result (λ opened. ArePlans (map arc_value opened.plans.items)) }
 {
-    if alone {
-        open_workflow(alloc, workflow, given)
-    } else {
-        open_at_once(rt, alloc, workflow, given)
+    match threading {
+        Threading::Alone => open_workflow(alloc, workflow, given),
+        Threading::Parallel => open_at_once(rt, alloc, workflow, given),
     }
 }
 
@@ -198,10 +198,11 @@ pub(crate) fn run_streams<'h, R: Threads + Wait + Sync, G: Progress + Sync>(
     ensures ends { IfOk result (IsAtFeedsEnds feeds.now) }
     ensures refused { IfErr result (IsRefusedRun (map arc_value plans.items) feeds.now) }
 {
-    if course.alone {
-        run_alone(alloc, plans, feeds, &course.policy)
-    } else {
-        tell_feeds(gate, feeds);
-        run_parallel(rt, alloc, plans, feeds, &course.policy, gate)
+    match course.threading {
+        Threading::Alone => run_alone(alloc, plans, feeds, &course.policy),
+        Threading::Parallel => {
+            tell_feeds(gate, feeds);
+            run_parallel(rt, alloc, plans, feeds, &course.policy, gate)
+        }
     }
 }

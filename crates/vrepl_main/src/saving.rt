@@ -33,7 +33,8 @@ const MEMORY: u8 = 72;
 /// each, and prints on `out` the checkpoint of the board that they leave; their replies aren't printed. Or
 /// prints the line of a refusal on `err` and then nothing on `out`, unless it is `out` that can't be written.
 /// A refused step doesn't end the script, unless it is refused for want of memory: the checkpoint would be of
-/// another board then. Answers the status: 0, or 1 after a refusal, also of memory.
+/// another board then. Answers the status: 0, or 1 after a refusal, also of memory. Once the checkpoint is made,
+/// written or not, what the board and the feeds hold is forgotten: it goes back with the memory of the process.
 pub fn save<W: Out, E: Out>(alloc: Global, inputs: &Inputs, out: &mut W, err: &mut E) -> u8
     ensures ends { SaveEnds (script_asked inputs.now) result (W.written out.old) (W.written out.new) (E.written err.old) (E.written err.new) }
     ensures quiet { result ≡ 0 → err.new ≡ err.old }
@@ -53,7 +54,7 @@ fn print_checkpoint<W: Out>(
     ensures printed { OnOk result (PrintsCheckpoint (script_asked inputs.now) (W.written out.old) (W.written out.new)) }
     ensures refused { IfErr result (λ refusal. RefusesCommand IsSavedBehind refusal (script_asked inputs.now) (W.written out.old) (W.written out.new)) }
 {
-    let given = given_feeds(alloc, inputs.hex, &inputs.feeds)?;
+    let given = given_feeds(alloc, inputs.feed_form, &inputs.feeds)?;
     let scripted = open_scripted(alloc, inputs, &given)?;
     let bytes = saved_bytes(alloc, scripted)?;
     print_bytes(out, &bytes)?;

@@ -19,9 +19,9 @@ use step_script::{ScriptFault, ScriptStep, read_script};
 
 /// The plans of a workflow with their feeds, and the steps of a script.
 #[derive(Drop)]
-pub struct Scripted<'h> {
-    pub opened: Opened<'h>,
-    pub steps: Vec<ScriptStep>,
+pub(crate) struct Scripted<'h> {
+    pub(crate) opened: Opened<'h>,
+    pub(crate) steps: Vec<ScriptStep>,
 }
 
 /// Opens the workflow with its feeds, whose bytes are given, and reads the whole script. The faults are found in this
@@ -31,7 +31,7 @@ pub(crate) fn open_scripted<'h>(
     inputs: &Inputs,
     given: &'h [GivenFeed<'_>],
 ) -> Result<Scripted<'h>, CommandRefusal<'static>>
-    requires { map given_value given.now ≡ map (λ feed. feed_bytes inputs.now.hex feed.items) inputs.now.feeds.items }
+    requires { map given_value given.now ≡ map (λ feed. feed_bytes inputs.now.feed_form feed.items) inputs.now.feeds.items }
     ensures scripted { GivesOfInputs scripted_value result (script_asked inputs.now) }
     // There are 1 to 64 plans over the same tables.
     ensures plans { IfOk result (λ scripted. ArePlans (map arc_value scripted.opened.plans.items)) }

@@ -14,7 +14,7 @@ use vdiff_core::{Gathered, Out, OutFailed};
 /// Prints groups in small pieces: for each group the line `group NUMBER POSITION`, then for each
 /// change the row before behind `- TABLE` and the row after behind `+ TABLE`, each cell behind a tab.
 /// Takes no memory. Fails where `out` does, and has then printed a beginning of the text.
-pub fn print_groups<W: Out>(
+pub(crate) fn print_groups<W: Out>(
     out: &mut W,
     text: &mut Gathered,
     groups: &[Group<'_>],
@@ -51,7 +51,7 @@ fn print_group_line<W: Out>(
 }
 
 /// Prints a position, an interval at a time. Takes no memory.
-pub fn print_position<W: Out>(
+pub(crate) fn print_position<W: Out>(
     out: &mut W,
     text: &mut Gathered,
     position: &GtidSet,

@@ -14,7 +14,7 @@ use vdiff_core::{Gathered, Out, OutFailed};
 /// Adds the line of where a stream stands: its phase and its numbers, the group of its open snapshot or
 /// `none`, and the position of its applied group, which may be left out where it is empty; an empty one
 /// is `-`. Takes no memory.
-pub fn print_state<W: Out>(
+pub(crate) fn print_state<W: Out>(
     out: &mut W,
     text: &mut Gathered,
     stream: u32,

@@ -29,7 +29,8 @@ use vdiff_core::{Gathered, Out, OutFailed};
 /// each, and prints their replies on `out` in pieces of up to 4 KiB; or prints the line of a refusal on
 /// `err` and then nothing on `out`, unless it is `out` that can't be written. The whole script is read
 /// first. A refused step's line is its reply, and the script goes on. Answers the status: 0, or 1 after a
-/// refusal, also of memory.
+/// refusal, also of memory. Behind the replies what the board and the feeds hold is forgotten: it goes back
+/// with the memory of the process.
 pub fn step<W: Out, E: Out>(alloc: Global, inputs: &Inputs, out: &mut W, err: &mut E) -> u8
     ensures ends { StepEnds (script_asked inputs.now) result (W.written out.old) (W.written out.new) (E.written err.old) (E.written err.new) }
     ensures quiet { result ≡ 0 → err.new ≡ err.old }
@@ -48,7 +49,7 @@ fn print_replies<W: Out>(
 ) -> Result<(), CommandRefusal<'static>>
     ensures { LeavesReplies result (script_asked inputs.now) (W.written out.old) (W.written out.new) }
 {
-    let given = given_feeds(alloc, inputs.hex, &inputs.feeds)?;
+    let given = given_feeds(alloc, inputs.feed_form, &inputs.feeds)?;
     let scripted = open_scripted(alloc, inputs, &given)?;
     print_run(alloc, scripted, out)
 }

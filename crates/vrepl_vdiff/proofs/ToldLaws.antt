@@ -1,5 +1,5 @@
 -- Why `vdiff` is refused, and what is told of it.
-use Rattle.std.proofs.Common.{◌≡◌, ◌∙◌, ap, sym, subst, ℕ, List, [], ◌∷◌, refl, inl, inr, Bool, true, false, Result, Ok, Err}
+use Rattle.std.proofs.Common.{◌≡◌, ◌∙◌, ap, sym, subst, ℕ, List, [], ◌∷◌, refl, inl, inr, Result, Ok, Err}
 use Rattle.filter_rule.specs.Faults as plans
 use Rattle.filter_rule.specs.PlanValue.{PlanValue}
 use Rattle.filter_rule.specs.Reading.{plans_of}
@@ -10,6 +10,8 @@ use Rattle.vdiff_core.specs.Printing.{Written}
 use Rattle.vdiff_core.specs.DumpRowsValue.{DumpRowsValue}
 use Rattle.vdiff_core.specs.declared.reading.DumpFault.{DumpFault}
 use Rattle.vdiff_core.specs.declared.reading.DumpFault.TheVariants as faults
+use Rattle.vrepl_choices.specs.declared.report_form.ReportForm.{ReportForm}
+use Rattle.vrepl_choices.specs.declared.report_form.ReportForm.TheVariants.{Lines, Json}
 use Rattle.vrepl_main.specs.declared.refusal.CommandRefusal.{CommandRefusal}
 use Rattle.vrepl_main.specs.declared.refusal.CommandRefusal.TheVariants.{Memory, Workflow, NoStream, FeedCount, Feed, BadHex, BadScript, BadDump, CannotRead, CannotWrite}
 use Rattle.vrepl_main.specs.Reasons.{bad_workflow, bad_dump}
@@ -44,28 +46,28 @@ workflow_names (errors.KeyType table column) inputs = tt
 workflow_names (errors.BadRule stream rule) inputs = tt
 workflow_names (errors.ColumnsDiffer table) inputs = tt
 
-workflow_error : (json : Bool) (fault : PlanFault) → error_of json (refusal_of_workflow fault) [] ≡ []
-workflow_error true errors.Memory = refl
-workflow_error true errors.Json = refl
-workflow_error true errors.Shape = refl
-workflow_error true errors.Limit = refl
-workflow_error true (errors.NoSuchColumn table column) = refl
-workflow_error true (errors.KeyType table column) = refl
-workflow_error true (errors.BadRule stream rule) = refl
-workflow_error true (errors.ColumnsDiffer table) = refl
-workflow_error false fault = refl
+workflow_error : (form : ReportForm) (fault : PlanFault) → error_of form (refusal_of_workflow fault) [] ≡ []
+workflow_error Json errors.Memory = refl
+workflow_error Json errors.Json = refl
+workflow_error Json errors.Shape = refl
+workflow_error Json errors.Limit = refl
+workflow_error Json (errors.NoSuchColumn table column) = refl
+workflow_error Json (errors.KeyType table column) = refl
+workflow_error Json (errors.BadRule stream rule) = refl
+workflow_error Json (errors.ColumnsDiffer table) = refl
+workflow_error Lines fault = refl
 
 pub told_workflow : (inputs : VdiffInputs) (fault : PlanFault) (now : Written) (error : List ℕ) → error ≡ [] → plans.Fails {Y = List PlanValue} fault (plans_of inputs.workflow.items) → IsTold inputs (refusal_of_workflow fault) error now now
 told_workflow inputs fault now error none is = record {
   refuses = refuses_workflow fault inputs now is;
   name = [];
   names = workflow_names fault inputs;
-  is_error = none ∙ sym (workflow_error inputs.options.json fault);
+  is_error = none ∙ sym (workflow_error inputs.options.report_form fault);
 }
 
 module _ (inputs : VdiffInputs) (plan : PlanValue) (others : List PlanValue) (is : plans_of inputs.workflow.items ≡ Ok (plan ∷ others)) (now : Written) where
   -- the source's bad line
-  pub told_source : (refusal : CommandRefusal) (error : List ℕ) → IsOfDump plan inputs.source.text refusal → error ≡ error_of inputs.options.json refusal inputs.source.name → IsTold inputs refusal error now now
+  pub told_source : (refusal : CommandRefusal) (error : List ℕ) → IsOfDump plan inputs.source.text refusal → error ≡ error_of inputs.options.report_form refusal inputs.source.name → IsTold inputs refusal error now now
   told_source Memory error bad same = record { refuses = refl; name = inputs.source.name; names = tt; is_error = same }
   told_source (BadDump line) error bad same = record {
     refuses = (Err (bad_dump line), record { plan = plan; others = others; plans = is; bad = inl bad }, (refl, refl));
@@ -83,7 +85,7 @@ module _ (inputs : VdiffInputs) (plan : PlanValue) (others : List PlanValue) (is
   told_source (CannotWrite file) error bad same = absurd bad
 
   -- the target's, behind a dump of the source
-  pub told_target : (rows : DumpRowsValue) (refusal : CommandRefusal) (error : List ℕ) → IsDumpReading plan inputs.source.text (Ok rows) → IsOfDump plan inputs.target.text refusal → error ≡ error_of inputs.options.json refusal inputs.target.name → IsTold inputs refusal error now now
+  pub told_target : (rows : DumpRowsValue) (refusal : CommandRefusal) (error : List ℕ) → IsDumpReading plan inputs.source.text (Ok rows) → IsOfDump plan inputs.target.text refusal → error ≡ error_of inputs.options.report_form refusal inputs.target.name → IsTold inputs refusal error now now
   told_target rows Memory error read bad same = record { refuses = refl; name = inputs.target.name; names = tt; is_error = same }
   told_target rows (BadDump line) error read bad same = record {
     refuses = (Err (bad_dump line), record { plan = plan; others = others; plans = is; bad = inr (rows, read, bad) }, (refl, refl));
@@ -103,21 +105,21 @@ module _ (inputs : VdiffInputs) (plan : PlanValue) (others : List PlanValue) (is
 -- memory ran out, or it can't be written
 pub told_shown : (inputs : VdiffInputs) (compared : Compared) (refusal : CommandRefusal) (error : List ℕ) (old new : Written) → AreDumps inputs.workflow.items inputs.source.text inputs.target.text compared
     → PrintsShown {X = ℕ} inputs.options (Err refusal) compared old new → error ≡ [] → IsTold inputs refusal error old new
-told_shown inputs compared Memory error old new dumps printed none = record { refuses = printed; name = []; names = tt; is_error = none ∙ sym (by inputs.options.json) }
+told_shown inputs compared Memory error old new dumps printed none = record { refuses = printed; name = []; names = tt; is_error = none ∙ sym (by inputs.options.report_form) }
   where
-    by : (json : Bool) → error_of json Memory [] ≡ []
-    by true = refl
-    by false = refl
+    by : (form : ReportForm) → error_of form Memory [] ≡ []
+    by Lines = refl
+    by Json = refl
 told_shown inputs compared (CannotWrite file) error old new dumps (is, text, shown, broken) none = record {
   refuses = (Ok compared, dumps, (is, (text, shown, broken)));
   name = [];
   names = tt;
-  is_error = none ∙ sym (by inputs.options.json);
+  is_error = none ∙ sym (by inputs.options.report_form);
 }
   where
-    by : (json : Bool) → error_of json (CannotWrite file) [] ≡ []
-    by true = refl
-    by false = refl
+    by : (form : ReportForm) → error_of form (CannotWrite file) [] ≡ []
+    by Lines = refl
+    by Json = refl
 told_shown inputs compared (Workflow fault) error old new dumps printed none = absurd printed.0
 told_shown inputs compared NoStream error old new dumps printed none = absurd printed.0
 told_shown inputs compared FeedCount error old new dumps printed none = absurd printed.0
@@ -129,15 +131,15 @@ told_shown inputs compared (CannotRead file) error old new dumps printed none = 
 
 -- ---- a dump's fault
 
-no_error : (json : Bool) (name : List ℕ) → error_of json Memory name ≡ []
-no_error true name = refl
-no_error false name = refl
+no_error : (form : ReportForm) (name : List ℕ) → error_of form Memory name ≡ []
+no_error Lines name = refl
+no_error Json name = refl
 
 of_dump : {X : Type 0} (plan : PlanValue) (text : List ℕ) (fault : DumpFault) → ((n : ℕ) → ◌≡◌ {A = Result X DumpFault} (Err fault) (Err (faults.BadDump n)) → IsFirstBad plan text n) → IsOfDump plan text (refusal_of_dump fault)
 of_dump plan text faults.Memory bad = tt
 of_dump plan text (faults.BadDump n) bad = bad n refl
 
-pub named_bad : {X : Type 0} (json : Bool) (plan : PlanValue) (dump : NamedDump) (fault : DumpFault) (told : Told) → IsToldOf json dump.name fault told
-    → ((n : ℕ) → ◌≡◌ {A = Result X DumpFault} (Err fault) (Err (faults.BadDump n)) → IsFirstBad plan dump.text n) → IsNamedBad json plan dump told
-named_bad {X} json plan dump fault told (inl (is, error)) bad = (subst (IsOfDump plan dump.text) (sym is) (of_dump {X = X} plan dump.text fault bad), error)
-named_bad json plan dump fault told (inr (is, none)) bad = (subst (IsOfDump plan dump.text) (sym is) tt, none ∙ sym (ap (λ (r : CommandRefusal). error_of json r dump.name) is ∙ no_error json dump.name))
+pub named_bad : {X : Type 0} (form : ReportForm) (plan : PlanValue) (dump : NamedDump) (fault : DumpFault) (told : Told) → IsToldOf form dump.name fault told
+    → ((n : ℕ) → ◌≡◌ {A = Result X DumpFault} (Err fault) (Err (faults.BadDump n)) → IsFirstBad plan dump.text n) → IsNamedBad form plan dump told
+named_bad {X} form plan dump fault told (inl (is, error)) bad = (subst (IsOfDump plan dump.text) (sym is) (of_dump {X = X} plan dump.text fault bad), error)
+named_bad form plan dump fault told (inr (is, none)) bad = (subst (IsOfDump plan dump.text) (sym is) tt, none ∙ sym (ap (λ (r : CommandRefusal). error_of form r dump.name) is ∙ no_error form dump.name))

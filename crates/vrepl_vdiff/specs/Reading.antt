@@ -1,7 +1,8 @@
 -- What is told of a dump that isn't read.
-use Rattle.std.specs.Prelude.{◌≡◌, ℕ, Bool, List}
+use Rattle.std.specs.Prelude.{◌≡◌, ℕ, List}
 use Rattle.filter_rule.specs.PlanValue.{PlanValue}
 use Rattle.vdiff_core.specs.DumpReading.{IsFirstBad}
+use Rattle.vrepl_choices.specs.declared.report_form.ReportForm.{ReportForm}
 use Rattle.vrepl_main.specs.declared.refusal.CommandRefusal.{CommandRefusal}
 use Rattle.vrepl_main.specs.declared.refusal.CommandRefusal.TheVariants.{Memory, BadDump}
 use Rattle.vrepl_vdiff.specs.NamedDump.{NamedDump}
@@ -16,5 +17,5 @@ IsOfDump plan text (BadDump line) = IsFirstBad plan text line
 IsOfDump plan text refusal = ⊥
 
 -- and the line behind it names the dump
-abbrev pub IsNamedBad : Bool → PlanValue → NamedDump → Told → Type 0
-IsNamedBad json plan dump told = IsOfDump plan dump.text told.refusal × (error_text told.error ≡ error_of json told.refusal dump.name)
+abbrev pub IsNamedBad : ReportForm → PlanValue → NamedDump → Told → Type 0
+IsNamedBad form plan dump told = IsOfDump plan dump.text told.refusal × (error_text told.error ≡ error_of form told.refusal dump.name)

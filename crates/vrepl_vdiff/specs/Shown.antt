@@ -7,6 +7,8 @@ use Rattle.vdiff_json.specs.Json.{comparison_data, json_line}
 use Rattle.vdiff_tables.specs.Differences.{AreFirstDifferences, Difference}
 use Rattle.vdiff_tables.specs.Reports.{NamedReport, reports_from}
 use Rattle.vdiff_tables.specs.Texts.{differences_text, tables_text}
+use Rattle.vrepl_choices.specs.declared.report_form.ReportForm.{ReportForm}
+use Rattle.vrepl_choices.specs.declared.report_form.ReportForm.TheVariants.{Lines, Json}
 use Rattle.vrepl_main.specs.Command.{IsUnwritten}
 use Rattle.vrepl_main.specs.Comparison.{AreDumps, Compared, IsComparison}
 use Rattle.vrepl_main.specs.declared.refusal.CommandRefusal.{CommandRefusal}
@@ -41,14 +43,14 @@ pub record IsJsonOf (compared : Compared) (n : ℕ) (text : List ℕ) : Type 0 w
   pub are_first : AreFirstDifferences n compared.source compared.target found
   pub is_text : text ≡ json_line (comparison_data compared.plan.tables (report_of compared.source compared.target) (reports_by_table compared) found)
 
--- JSON has the first difference where no number is given, text has none
-abbrev pub by_json : Bool → Options → Compared → List ℕ → Type 0
-by_json true options compared text = IsJsonOf compared (unwrap_or options.first 1) text
-by_json false options compared text = IsTextOf compared (reports_asked options.tables compared) (unwrap_or options.first 0) text
+-- JSON has the first difference where no number is given, lines have none
+abbrev pub by_form : ReportForm → Options → Compared → List ℕ → Type 0
+by_form Json options compared text = IsJsonOf compared (unwrap_or options.first 1) text
+by_form Lines options compared text = IsTextOf compared (reports_asked options.tables compared) (unwrap_or options.first 0) text
 
 -- what the options show of rows
 abbrev pub IsShown : Options → Compared → List ℕ → Type 0
-IsShown options compared text = by_json options.json options compared text
+IsShown options compared text = by_form options.report_form options compared text
 
 -- ---- what is left on the writers
 

@@ -1,11 +1,13 @@
 -- What `vdiff` tells of a refusal by its options (this profile).
-use Rattle.std.specs.Prelude.{◌≡◌, ◌⊎◌, ℕ, Bool, true, List, [], ◌∷◌, Result, Ok, Err}
+use Rattle.std.specs.Prelude.{◌≡◌, ◌⊎◌, ℕ, List, [], ◌∷◌, Result, Ok, Err}
 use Rattle.filter_rule.specs.PlanValue.{PlanValue}
 use Rattle.filter_rule.specs.Reading.{plans_of}
 use Rattle.vdiff_core.specs.DumpReading.{IsDumpReading}
 use Rattle.vdiff_core.specs.Printing.{Written}
 use Rattle.vdiff_core.specs.DumpRowsValue.{DumpRowsValue}
 use Rattle.vdiff_json.specs.Json.{error_data, json_line}
+use Rattle.vrepl_choices.specs.declared.report_form.ReportForm.{ReportForm}
+use Rattle.vrepl_choices.specs.declared.report_form.ReportForm.TheVariants.{Json}
 use Rattle.vrepl_main.specs.Command.{RefusesCommand, Ends}
 use Rattle.vrepl_main.specs.Comparison.{AreRead, Compared}
 use Rattle.vrepl_main.specs.Printing.{PrintsOrBreaks}
@@ -25,9 +27,9 @@ pub record IsBadIn (inputs : VdiffInputs) (line : ℕ) (name : List ℕ) : Type 
   pub bad : ((name ≡ inputs.source.name) × IsDumpReading plan inputs.source.text (Err line)) ⊎ ((name ≡ inputs.target.name) × ((rows : DumpRowsValue) × IsDumpReading plan inputs.source.text (Ok rows) × IsDumpReading plan inputs.target.text (Err line)))
 
 -- with JSON a bad dump is named by an object behind the refusal's line
-abbrev pub error_of : Bool → CommandRefusal → List ℕ → List ℕ
-error_of true (BadDump bad) name = json_line (error_data 121 name)
-error_of json refusal name = []
+abbrev pub error_of : ReportForm → CommandRefusal → List ℕ → List ℕ
+error_of Json (BadDump bad) name = json_line (error_data 121 name)
+error_of form refusal name = []
 
 -- the name is that of the bad dump, where there is one
 abbrev pub NamesBad : VdiffInputs → CommandRefusal → List ℕ → Type 0
@@ -45,7 +47,7 @@ pub record IsTold (inputs : VdiffInputs) (refusal : CommandRefusal) (error : Lis
   pub refuses : RefusesShown inputs refusal old new
   pub name : List ℕ
   pub names : NamesBad inputs refusal name
-  pub is_error : error ≡ error_of inputs.options.json refusal name
+  pub is_error : error ≡ error_of inputs.options.report_form refusal name
 
 -- its line was printed whole on standard error, unless a write of it failed, and so was the line behind it
 pub record PrintsTold (inputs : VdiffInputs) (old new err_old err_new : Written) : Type 0 where

@@ -1,5 +1,7 @@
 //! What is shown of a comparison.
 
+use vrepl_choices::ReportForm;
+
 /// What is shown of a comparison.
 #[derive(Clone, Copy)]
 pub struct Options {
@@ -7,6 +9,6 @@ pub struct Options {
     pub tables: bool,
     /// How many differences are shown, where a number is given.
     pub first: Option<u32>,
-    /// Whether all is one object of JSON.
-    pub json: bool,
+    /// How all of it is printed.
+    pub report_form: ReportForm,
 }

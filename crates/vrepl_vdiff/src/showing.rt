@@ -11,6 +11,7 @@ use std::alloc::{AllocError, Global};
 use vdiff_core::{DumpRows, Out, first_difference, put_all};
 use vdiff_json::comparison_line;
 use vdiff_tables::{TableReport, table_reports};
+use vrepl_choices::ReportForm;
 use vrepl_main::{CommandRefusal, Verdict};
 
 /// Prints what the options show of two sets of rows. A refusal is want of memory, and then nothing was printed, or that
@@ -25,16 +26,20 @@ pub(crate) fn print_shown<W: Out>(
 ) -> Result<(), CommandRefusal<'static>>
     ensures { PrintsShown options.now result (record { plan = plan.now; source = source.now; target = target.now }) (W.written out.old) (W.written out.new) }
 {
-    if options.json {
-        let count = options.first.unwrap_or(1);
-        let line = comparison_line(alloc, plan, source, target, count)?;
-        put_all(out, line.as_bytes())?;
-        return Ok(());
+    match options.report_form {
+        ReportForm::Json => {
+            let count = options.first.unwrap_or(1);
+            let line = comparison_line(alloc, plan, source, target, count)?;
+            put_all(out, line.as_bytes())?;
+            Ok(())
+        }
+        ReportForm::Lines => {
+            let reports = asked_reports(alloc, options.tables, plan, source, target)?;
+            let count = options.first.unwrap_or(0);
+            print_text(out, plan, source, target, &reports, count)?;
+            Ok(())
+        }
     }
-    let reports = asked_reports(alloc, options.tables, plan, source, target)?;
-    let count = options.first.unwrap_or(0);
-    print_text(out, plan, source, target, &reports, count)?;
-    Ok(())
 }
 
 /// The counts of the tables, where they are asked for. An error is want of memory.

@@ -11,6 +11,7 @@ use filter_rule::PlanFault;
 use std::alloc::Global;
 use vdiff_core::{DumpFault, Out, OutFailed, put_all};
 use vdiff_json::error_line;
+use vrepl_choices::ReportForm;
 use vrepl_main::{CommandRefusal, refuse};
 
 /// A refusal, and the line behind its own, if there is one.
@@ -44,19 +45,21 @@ pub(crate) fn told_of_workflow(fault: PlanFault) -> Told
 }
 
 /// What is told of a dump's fault: with JSON a bad dump is named by an object behind the refusal's line.
-pub(crate) fn told_of(alloc: Global, json: bool, name: &str, fault: DumpFault) -> Told
-    ensures { IsToldOf json name.now fault result }
+pub(crate) fn told_of(alloc: Global, form: ReportForm, name: &str, fault: DumpFault) -> Told
+    ensures { IsToldOf form name.now fault result }
 {
     match fault {
         DumpFault::Memory => Told::from(CommandRefusal::Memory),
-        DumpFault::BadDump { line } if json => match error_line(alloc, 121, name) {
-            Ok(error) => Told {
-                refusal: CommandRefusal::BadDump { line },
-                error: Some(error),
+        DumpFault::BadDump { line } => match form {
+            ReportForm::Lines => Told::from(CommandRefusal::BadDump { line }),
+            ReportForm::Json => match error_line(alloc, 121, name) {
+                Ok(error) => Told {
+                    refusal: CommandRefusal::BadDump { line },
+                    error: Some(error),
+                },
+                Err(_) => Told::from(CommandRefusal::Memory),
             },
-            Err(_) => Told::from(CommandRefusal::Memory),
         },
-        DumpFault::BadDump { line } => Told::from(CommandRefusal::BadDump { line }),
     }
 }
 

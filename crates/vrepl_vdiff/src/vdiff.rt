@@ -13,6 +13,7 @@ use crate::told::{Told, refuse_told, told_of, told_of_workflow};
 use filter_rule::Plan;
 use std::alloc::Global;
 use vdiff_core::{DumpRows, Out, read_dump};
+use vrepl_choices::ReportForm;
 use vrepl_main::Verdict;
 
 /// Compares two dumps of a workflow's tables as `vdiff` does, and prints on `out` what its options show: the line of each
@@ -45,19 +46,24 @@ fn show_vdiff<W: Out>(alloc: Global, inputs: &VdiffInputs<'_>, out: &mut W) -> R
         Err(fault) => return Err(told_of_workflow(fault)),
     };
     let plan = &plans[0];
-    let ours = read_named(alloc, inputs.options.json, plan, &inputs.source)?;
-    let theirs = read_named(alloc, inputs.options.json, plan, &inputs.target)?;
+    let ours = read_named(alloc, inputs.options.report_form, plan, &inputs.source)?;
+    let theirs = read_named(alloc, inputs.options.report_form, plan, &inputs.target)?;
     print_shown(alloc, &inputs.options, plan, &ours, &theirs, out)?;
     Ok(verdict_of(&ours, &theirs))
 }
 
 /// The rows of a dump, or what is told of it.
-fn read_named(alloc: Global, json: bool, plan: &Plan, dump: &Dump<'_>) -> Result<DumpRows, Told>
+fn read_named(
+    alloc: Global,
+    form: ReportForm,
+    plan: &Plan,
+    dump: &Dump<'_>,
+) -> Result<DumpRows, Told>
     ensures read { IfOk result (λ rows. IsDump plan.now rows dump.now.text) }
-    ensures refused { IfErr result (λ told. IsNamedBad json plan.now dump.now told) }
+    ensures refused { IfErr result (λ told. IsNamedBad form plan.now dump.now told) }
 {
     match read_dump(alloc, plan, &dump.text) {
         Ok(rows) => Ok(rows),
-        Err(fault) => Err(told_of(alloc, json, dump.name, fault)),
+        Err(fault) => Err(told_of(alloc, form, dump.name, fault)),
     }
 }

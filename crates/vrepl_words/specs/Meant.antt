@@ -16,24 +16,24 @@ use Rattle.vrepl_words.specs.declared.words.Words.TheVariants as words
 -- each value without its reference
 abbrev pub show_value : Show → ShowValue
 show_value show = record {
-  hex = show.hex;
+  feed_form = show.feed_form;
   keyspace = show.keyspace.now;
   shard = show.shard.now;
   feed = show.feed.now;
 }
 
 abbrev pub step_value : Step → StepValue
-step_value step = record { hex = step.hex; workflow = step.workflow.now; feeds = map (λ feed. feed.now) step.feeds.items }
+step_value step = record { feed_form = step.feed_form; workflow = step.workflow.now; feeds = map (λ feed. feed.now) step.feeds.items }
 
 abbrev pub resume_value : Resume → ResumeValue
 resume_value resume = record { checkpoint = resume.checkpoint.now; step = step_value resume.step }
 
 abbrev pub check_value : Check → CheckValue
-check_value check = record { json = check.json; step = step_value check.step }
+check_value check = record { report_form = check.report_form; step = step_value check.step }
 
 abbrev pub join_value : Join → JoinValue
 join_value join = record {
-  hex = join.hex;
+  feed_form = join.feed_form;
   workflow = join.workflow.now;
   one = join.one.now;
   other = join.other.now;
@@ -46,8 +46,8 @@ portions_value portions = record { rows = portions.rows; ahead = portions.ahead;
 
 abbrev pub run_value : Run → RunValue
 run_value run = record {
-  hex = run.hex;
-  alone = run.alone;
+  feed_form = run.feed_form;
+  threading = run.threading;
   progress = run.progress;
   portions = portions_value run.portions;
   workflow = run.workflow.now;
@@ -67,7 +67,7 @@ abbrev pub vdiff_value : Vdiff → VdiffValue
 vdiff_value files = record {
   tables = files.tables;
   first = files.first;
-  json = files.json;
+  report_form = files.report_form;
   workflow = files.workflow.now;
   source = files.source.now;
   target = files.target.now;

@@ -6,19 +6,23 @@ use Rattle.clap.specs.Words.{first_of, App, Row, Rule, Shape, Text, fault_of, su
 use Rattle.clap.specs.Simple.{new_shape}
 use Rattle.clap.specs.Kinds.{Kinds, or_else}
 use Rattle.clap.specs.declared.error.kind.ErrorKind.TheVariants.{ValueValidation}
+use Rattle.vrepl_choices.specs.declared.feed_form.FeedForm.{FeedForm}
+use Rattle.vrepl_choices.specs.declared.report_form.ReportForm.{ReportForm}
+use Rattle.vrepl_choices.specs.declared.threading.Threading.{Threading}
 use Rattle.vrepl_words.specs.declared.numbers.TheConstants.{ROWS, AHEAD, CHUNKS, ONLY}
 use Rattle.vrepl_words.specs.Arguments.{count_given, flag_rule, further_rule, gives_streams, is_given, needed_rule, operand_rule, operands_rule, optional_rule, option_rule, portion_given, refusal_given, streams_given, text_given, texts_given}
+use Rattle.vrepl_words.specs.Choices.{feed_form_given, report_form_given, threading_given}
 
--- `show`: a feed, whose it is, and whether it is hexadecimal text
+-- `show`: a feed, whose it is, and how it is given
 pub record ShowValue : Type 0 where
-  pub hex : Bool
+  pub feed_form : FeedForm
   pub keyspace : Text
   pub shard : Text
   pub feed : Text
 
--- `step` and `save`: a workflow, a feed for each of its streams, and whether feeds are hexadecimal text
+-- `step` and `save`: a workflow, a feed for each of its streams, and how feeds are given
 pub record StepValue : Type 0 where
-  pub hex : Bool
+  pub feed_form : FeedForm
   pub workflow : Text
   pub feeds : List Text
 
@@ -28,11 +32,11 @@ pub record PortionsValue : Type 0 where
   pub ahead : ℕ
   pub chunks : ℕ
 
--- `run`: a workflow, a feed for each of its streams, whether feeds are hexadecimal text, whether the streams run
--- one after another, whether it is told how far they are, and in what portions
+-- `run`: a workflow, a feed for each of its streams, how feeds are given, how the streams run, whether it is told how
+-- far they are, and in what portions
 pub record RunValue : Type 0 where
-  pub hex : Bool
-  pub alone : Bool
+  pub feed_form : FeedForm
+  pub threading : Threading
   pub progress : Bool
   pub portions : PortionsValue
   pub workflow : Text
@@ -52,14 +56,14 @@ pub record ResumeValue : Type 0 where
   pub checkpoint : Text
   pub step : StepValue
 
--- `check`: whether all is printed as one object of JSON, and what `step` is given
+-- `check`: how the report is printed, and what `step` is given
 pub record CheckValue : Type 0 where
-  pub json : Bool
+  pub report_form : ReportForm
   pub step : StepValue
 
--- `join`: a workflow, two checkpoints, further ones, a feed for each of its streams, and whether feeds are hexadecimal text
+-- `join`: a workflow, two checkpoints, further ones, a feed for each of its streams, and how feeds are given
 pub record JoinValue : Type 0 where
-  pub hex : Bool
+  pub feed_form : FeedForm
   pub workflow : Text
   pub one : Text
   pub other : Text
@@ -67,11 +71,11 @@ pub record JoinValue : Type 0 where
   pub feeds : List Text
 
 -- `vdiff`: a workflow, the dumps of a source and of a target, whether the counts of each table are printed too, how many
--- differences are, where a number is given, and whether all is JSON
+-- differences are, where a number is given, and how all is printed
 pub record VdiffValue : Type 0 where
   pub tables : Bool
   pub first : Option ℕ
-  pub json : Bool
+  pub report_form : ReportForm
   pub workflow : Text
   pub source : Text
   pub target : Text
@@ -100,7 +104,7 @@ pub record Subcommand : Type 0 where
 -- what is given to the arguments of `show`
 abbrev pub show_given : List Row → ShowValue
 show_given given = record {
-  hex = is_given (codes "hex") given;
+  feed_form = feed_form_given given;
   keyspace = text_given (codes "keyspace") given;
   shard = text_given (codes "shard") given;
   feed = text_given (codes "feed") given;
@@ -116,7 +120,7 @@ show_subcommand = record {
 
 -- what is given to the arguments of `step`, and to those of `save`
 abbrev pub step_given : List Row → StepValue
-step_given given = record { hex = is_given (codes "hex") given; workflow = text_given (codes "workflow") given; feeds = texts_given (codes "feed") given }
+step_given given = record { feed_form = feed_form_given given; workflow = text_given (codes "workflow") given; feeds = texts_given (codes "feed") given }
 
 -- `step [--hex] WORKFLOW FEED..`
 abbrev pub step_subcommand : Subcommand
@@ -144,8 +148,8 @@ bad_follow given = if is_some (portions_given given) then ONLY.now else bad_port
 -- what is given to the arguments of `run`
 abbrev pub run_given : List Row → PortionsValue → RunValue
 run_given given portions = record {
-  hex = is_given (codes "hex") given;
-  alone = is_given (codes "alone") given;
+  feed_form = feed_form_given given;
+  threading = threading_given given;
   progress = is_given (codes "progress") given;
   portions = portions;
   workflow = text_given (codes "workflow") given;
@@ -183,7 +187,7 @@ resume_subcommand = record {
 -- what is given to the arguments of `join`
 abbrev pub join_given : List Row → JoinValue
 join_given given = record {
-  hex = is_given (codes "hex") given;
+  feed_form = feed_form_given given;
   workflow = text_given (codes "workflow") given;
   one = text_given (codes "one") given;
   other = text_given (codes "other") given;
@@ -223,7 +227,7 @@ abbrev pub vdiff_given : List Row → Option ℕ → VdiffValue
 vdiff_given given first = record {
   tables = is_given (codes "tables") given;
   first = first;
-  json = is_given (codes "json") given;
+  report_form = report_form_given given;
   workflow = text_given (codes "workflow") given;
   source = text_given (codes "source") given;
   target = text_given (codes "target") given;
@@ -239,7 +243,7 @@ vdiff_subcommand = record {
 
 -- what is given to the arguments of `check`
 abbrev pub check_given : List Row → CheckValue
-check_given given = record { json = is_given (codes "json") given; step = step_given given }
+check_given given = record { report_form = report_form_given given; step = step_given given }
 
 -- `check [--hex] [--json] WORKFLOW FEED..`
 abbrev pub check_subcommand : Subcommand

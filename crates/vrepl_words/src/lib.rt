@@ -1,6 +1,7 @@
 //! The words of the program `vrepl`: `clap` reads them, and here is what they ask for.
 #![tactic(auto)]
 
+mod choices;
 mod commands;
 mod given;
 mod help;

@@ -6,6 +6,7 @@ ghost use Rattle.vrepl_words.specs.Built.{HasApp};
 ghost use Rattle.vrepl_words.specs.Meant.{Asks, follow_value, portions_value, run_value, show_value, step_value, value_of_words, vdiff_value};
 ghost use Rattle.vrepl_words.specs.Words.{asked_by, asks_check, asks_join, asks_follow, asks_resume, asks_run, asks_save, asks_step, check_given, explain_subcommand, faults_of, follow_given, follow_subcommand, join_given, program_app, resume_given, run_given, run_subcommand, show_given, step_given, vdiff_given, vdiff_subcommand, words_of};
 
+use crate::choices::{feed_form_given, report_form_given, threading_given};
 use crate::commands::program;
 use crate::given::{given_portions, has_flag, text, text_if, texts};
 use crate::numbers::{bad_number, count_given, refusal_given};
@@ -14,6 +15,7 @@ use crate::streams::{gives_streams, streams_given};
 use crate::words::{Check, Follow, Join, Resume, Run, Show, Step, Vdiff, Words};
 use clap::{ArgMatches, Command, Error};
 use std::alloc::{AllocError, Global};
+use vrepl_choices::FeedForm;
 
 /// Reads the words that follow the program's name. Without any they are `show --hex -`.
 ///
@@ -25,7 +27,7 @@ pub fn read<'w>(alloc: Global, words: &'w [String]) -> Result<Words<'w>, Error>
 {
     if words.is_empty() {
         return Ok(Words::Show(Show {
-            hex: true,
+            feed_form: FeedForm::Hex,
             keyspace: "",
             shard: "",
             feed: "-",
@@ -76,7 +78,7 @@ fn show_words<'w>(given: &ArgMatches<'w>) -> Show<'w>
     ensures { show_value result ≡ show_given (rows_of (found_of given.now)) }
 {
     Show {
-        hex: has_flag(given, "hex"),
+        feed_form: feed_form_given(given),
         keyspace: text(given, "keyspace"),
         shard: text(given, "shard"),
         feed: text(given, "feed"),
@@ -88,7 +90,7 @@ fn script_words<'w>(alloc: Global, given: &ArgMatches<'w>) -> Result<Step<'w>, A
 {
     let feeds = texts(alloc, given, "feed")?;
     Ok(Step {
-        hex: has_flag(given, "hex"),
+        feed_form: feed_form_given(given),
         workflow: text(given, "workflow"),
         feeds,
     })
@@ -113,7 +115,7 @@ fn check_words<'w>(alloc: Global, given: &ArgMatches<'w>) -> Result<Words<'w>, A
 {
     let step = script_words(alloc, given)?;
     Ok(Words::Check(Check {
-        json: has_flag(given, "json"),
+        report_form: report_form_given(given),
         step,
     }))
 }
@@ -134,7 +136,7 @@ fn join_words<'w>(alloc: Global, given: &ArgMatches<'w>) -> Result<Words<'w>, Al
     let more = texts(alloc, given, "also")?;
     let feeds = texts(alloc, given, "feed")?;
     Ok(Words::Join(Join {
-        hex: has_flag(given, "hex"),
+        feed_form: feed_form_given(given),
         workflow: text(given, "workflow"),
         one: text(given, "one"),
         other: text(given, "other"),
@@ -173,8 +175,8 @@ fn run_of<'w>(
 {
     let feeds = texts(alloc, given, "feed")?;
     Ok(Run {
-        hex: has_flag(given, "hex"),
-        alone: has_flag(given, "alone"),
+        feed_form: feed_form_given(given),
+        threading: threading_given(given),
         progress: has_flag(given, "progress"),
         portions,
         workflow: text(given, "workflow"),
@@ -248,7 +250,7 @@ fn vdiff_of<'w>(given: &ArgMatches<'w>, first: Option<u32>) -> Vdiff<'w>
     Vdiff {
         tables: has_flag(given, "tables"),
         first,
-        json: has_flag(given, "json"),
+        report_form: report_form_given(given),
         workflow: text(given, "workflow"),
         source: text(given, "source"),
         target: text(given, "target"),

@@ -1,6 +1,7 @@
 //! What the words of the command line ask for.
 
 use crate::portions::Portions;
+use vrepl_choices::{FeedForm, ReportForm, Threading};
 
 /// What the words ask for.
 #[derive(Drop)]
@@ -30,10 +31,10 @@ pub enum Words<'w> {
 /// The words of `run`.
 #[derive(Drop)]
 pub struct Run<'w> {
-    /// Whether the feeds are hexadecimal text.
-    pub hex: bool,
-    /// Whether the streams run one after another.
-    pub alone: bool,
+    /// How the feeds are given.
+    pub feed_form: FeedForm,
+    /// How the streams run.
+    pub threading: Threading,
     /// Whether it is told on the way how far streams in threads are.
     pub progress: bool,
     /// In what portions a stream is run.
@@ -71,8 +72,8 @@ pub struct Resume<'w> {
 /// The words of `check`.
 #[derive(Drop)]
 pub struct Check<'w> {
-    /// Whether all is printed as one object of JSON.
-    pub json: bool,
+    /// How the report is printed.
+    pub report_form: ReportForm,
     /// The other words, which are those of `step`.
     pub step: Step<'w>,
 }
@@ -80,8 +81,8 @@ pub struct Check<'w> {
 /// The words of `join`.
 #[derive(Drop)]
 pub struct Join<'w> {
-    /// Whether the feeds are hexadecimal text.
-    pub hex: bool,
+    /// How the feeds are given.
+    pub feed_form: FeedForm,
     /// The workflow's file.
     pub workflow: &'w str,
     /// The file of the one checkpoint.
@@ -97,8 +98,8 @@ pub struct Join<'w> {
 /// The words of `step`, and of `save`, which has the same.
 #[derive(Drop)]
 pub struct Step<'w> {
-    /// Whether the feeds are hexadecimal text.
-    pub hex: bool,
+    /// How the feeds are given.
+    pub feed_form: FeedForm,
     /// The workflow's file.
     pub workflow: &'w str,
     /// The feeds' files, in the order of the streams.
@@ -114,8 +115,8 @@ pub struct Vdiff<'w> {
     pub tables: bool,
     /// How many keys at which the dumps differ are printed with their rows, where a number is given.
     pub first: Option<u32>,
-    /// Whether all is printed as one object of JSON.
-    pub json: bool,
+    /// How the comparison is printed.
+    pub report_form: ReportForm,
     /// The file of the source's dump, or `-` for standard input.
     pub source: &'w str,
     /// The file of the target's dump, or `-` for standard input, unless that is the source's.
@@ -125,8 +126,8 @@ pub struct Vdiff<'w> {
 /// The words of `show`.
 #[derive(Clone, Copy)]
 pub struct Show<'w> {
-    /// Whether the feed is hexadecimal text.
-    pub hex: bool,
+    /// How the feed is given.
+    pub feed_form: FeedForm,
     /// The keyspace that the feed is of, empty unless given.
     pub keyspace: &'w str,
     /// The shard that the feed is of, empty unless given.

@@ -5,4 +5,4 @@ use Rattle.vrepl_main.proofs.given.given_feeds.Given as goal
 
 -- the feeds so far
 abbrev pub invariant-loop-feed : goal.invariant-loop-feed
-invariant-loop-feed l = map given_value l.given.items ≡ map (λ feed. feed_bytes l.hex feed.items) (take l.feed-index l.feeds)
+invariant-loop-feed l = map given_value l.given.items ≡ map (λ feed. feed_bytes l.form feed.items) (take l.feed-index l.feeds)

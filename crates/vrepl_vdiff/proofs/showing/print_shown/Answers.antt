@@ -3,28 +3,28 @@ use Rattle.vrepl_main.specs.Comparison.{Compared}
 use Rattle.vrepl_vdiff.proofs.ShownLaws.{shown_json, shown_text, unwritten_shown}
 use Rattle.vrepl_vdiff.proofs.showing.print_shown.Goals as goal
 
-pub returns-in_err-put_all : goal.returns-in_err-put_all
-returns-in_err-put_all g c =
+pub returns-in_err-put_all-in-Json : goal.returns-in_err-put_all-in-Json
+returns-in_err-put_all-in-Json g c =
     let compared : Compared = record { plan = c.args.plan.now; source = c.args.source.now; target = c.args.target.now } in
-    let p = err_from_is_err_and c.from_residual-in_err-put_all.result c.from_residual-in_err-put_all.ensures.1 in
-    let line = c.in_ok-line.ensures in
-    rw p.1 (unwritten_shown c.args.options.now p.0 compared _ _ _ (shown_json c.args.options.now compared _ _ c.if-options.true c.unwrap_or-count.ensures (record { found = line.0; are_first = line.1; is_text = line.2 })) (rw c.as_bytes.ensures.value at c.in_err-put_all.ensures) p.2)
+    let p = err_from_is_err_and c.from_residual-in_err-put_all-in-Json.result c.from_residual-in_err-put_all-in-Json.ensures.1 in
+    let line = c.in_ok-line-in-Json.ensures in
+    rw p.1 (unwritten_shown c.args.options.now p.0 compared _ _ _ (shown_json c.args.options.now compared _ _ c.in-Json.is c.unwrap_or-count-in-Json.ensures (record { found = line.0; are_first = line.1; is_text = line.2 })) (rw c.as_bytes.ensures.value at c.in_err-put_all-in-Json.ensures) p.2)
 
-pub returns-then-options : goal.returns-then-options
-returns-then-options g c =
+pub returns-in_ok-put_all-in-Json : goal.returns-in_ok-put_all-in-Json
+returns-in_ok-put_all-in-Json g c =
     let compared : Compared = record { plan = c.args.plan.now; source = c.args.source.now; target = c.args.target.now } in
-    let line = c.in_ok-line.ensures in
-    (_, shown_json c.args.options.now compared _ _ c.if-options.true c.unwrap_or-count.ensures (record { found = line.0; are_first = line.1; is_text = line.2 }), rw c.as_bytes.ensures.value at c.in_ok-put_all.ensures)
+    let line = c.in_ok-line-in-Json.ensures in
+    (_, shown_json c.args.options.now compared _ _ c.in-Json.is c.unwrap_or-count-in-Json.ensures (record { found = line.0; are_first = line.1; is_text = line.2 }), rw c.as_bytes.ensures.value at c.in_ok-put_all-in-Json.ensures)
 
-pub returns-in_err-print_text : goal.returns-in_err-print_text
-returns-in_err-print_text g c =
+pub returns-in_err-print_text-in-Lines : goal.returns-in_err-print_text-in-Lines
+returns-in_err-print_text-in-Lines g c =
     let compared : Compared = record { plan = c.args.plan.now; source = c.args.source.now; target = c.args.target.now } in
-    let p = err_from_is_err_and c.from_residual-in_err-print_text.result c.from_residual-in_err-print_text.ensures.1 in
-    let text = rw c.deref.ensures.value at c.in_err-print_text.ensures in
-    rw p.1 (unwritten_shown c.args.options.now p.0 compared _ _ _ (shown_text c.args.options.now compared _ _ _ c.if-options.false c.in_ok-reports.ensures c.unwrap_or-count-2.ensures text.1) text.2 p.2)
+    let p = err_from_is_err_and c.from_residual-in_err-print_text-in-Lines.result c.from_residual-in_err-print_text-in-Lines.ensures.1 in
+    let text = rw c.deref.ensures.value at c.in_err-print_text-in-Lines.ensures in
+    rw p.1 (unwritten_shown c.args.options.now p.0 compared _ _ _ (shown_text c.args.options.now compared _ _ _ c.in-Lines.is c.in_ok-reports-in-Lines.ensures c.unwrap_or-count-in-Lines.ensures text.1) text.2 p.2)
 
-pub returns : goal.returns
-returns g c =
+pub returns-in_ok-print_text-in-Lines : goal.returns-in_ok-print_text-in-Lines
+returns-in_ok-print_text-in-Lines g c =
     let compared : Compared = record { plan = c.args.plan.now; source = c.args.source.now; target = c.args.target.now } in
-    let text = rw c.deref.ensures.value at c.in_ok-print_text.ensures in
-    (text.0, shown_text c.args.options.now compared _ _ _ c.if-options.false c.in_ok-reports.ensures c.unwrap_or-count-2.ensures text.1, text.2)
+    let text = rw c.deref.ensures.value at c.in_ok-print_text-in-Lines.ensures in
+    (text.0, shown_text c.args.options.now compared _ _ _ c.in-Lines.is c.in_ok-reports-in-Lines.ensures c.unwrap_or-count-in-Lines.ensures text.1, text.2)

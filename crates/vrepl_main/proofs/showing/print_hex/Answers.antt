@@ -1,5 +1,5 @@
 use Rattle.std.proofs.Common.{rules}
-use Rattle.vrepl_main.proofs.showing.print_feed.Goals as goal
+use Rattle.vrepl_main.proofs.showing.print_hex.Goals as goal
 
 pub returns : goal.returns
 returns g c = search rules

@@ -1,0 +1,42 @@
+//! What the flags of a subcommand choose: each flag that stands for one of two ways is read here, and nowhere else.
+
+ghost use Rattle.std.specs.Prelude.{◌≡◌};
+ghost use Rattle.clap.specs.Words.{found_of, rows_of};
+ghost use Rattle.vrepl_words.specs.Choices.{feed_form_given, report_form_given, threading_given};
+
+use crate::given::has_flag;
+use clap::ArgMatches;
+use vrepl_choices::{FeedForm, ReportForm, Threading};
+
+/// How feeds are given: as hexadecimal text with `--hex`.
+pub(crate) fn feed_form_given(given: &ArgMatches<'_>) -> FeedForm
+    ensures { result ≡ feed_form_given (rows_of (found_of given.now)) }
+{
+    if has_flag(given, "hex") {
+        FeedForm::Hex
+    } else {
+        FeedForm::Bytes
+    }
+}
+
+/// How streams run: one after another with `--alone`.
+pub(crate) fn threading_given(given: &ArgMatches<'_>) -> Threading
+    ensures { result ≡ threading_given (rows_of (found_of given.now)) }
+{
+    if has_flag(given, "alone") {
+        Threading::Alone
+    } else {
+        Threading::Parallel
+    }
+}
+
+/// How a report is printed: as JSON with `--json`.
+pub(crate) fn report_form_given(given: &ArgMatches<'_>) -> ReportForm
+    ensures { result ≡ report_form_given (rows_of (found_of given.now)) }
+{
+    if has_flag(given, "json") {
+        ReportForm::Json
+    } else {
+        ReportForm::Lines
+    }
+}
