@@ -5,4 +5,5 @@ pub mod Field
 pub mod Parts
 pub mod Frame
 pub mod Zigzag
+pub mod Sint64s
 pub mod Writing

@@ -13,28 +13,30 @@ use Rattle.proto_wire.specs.declared.field.Payload.TheVariants as payload
 use Rattle.proto_wire.specs.declared.field.Field.{Field}
 use Rattle.proto_wire.specs.Field.{WireField, WireValue, Varint, Eight, Bytes, Four, wire_value, wire_field, IsField, IsPayload, field_at, fields_of}
 use Rattle.proto_wire.specs.Parts.{bytes_in, part_in, first_of, last_of}
-use Rattle.proto_wire.specs.Zigzag.{unzigzag_of}
+use Rattle.proto_wire.specs.Zigzag.{unzigzag_of, sint64_at}
+use Rattle.proto_wire.specs.Sint64s.{sint64s_in, sint64s_at}
 use Rattle.proto_wire.proofs.ReadingLaws.{reading-none, reading-first, reading-fault}
 use Rattle.proto_wire.proofs.VarintLaws.{varint_takes, varint_found}
 use Rattle.proto_wire.proofs.FieldLaws.{field_takes, field_reader}
+use Rattle.proto_wire.proofs.Sint64Laws.{sint64_found}
 use Rattle.row_view.specs.declared.count.Count.{Count}
 use Rattle.row_view.specs.declared.marks.Mark.{Mark}
-use Rattle.row_view.specs.RowFields.{lengths_in, lengths_at, lengths_of, packed_fault_in, packed_fault_at, fault_of}
+use Rattle.row_view.specs.RowFields.{lengths_of, packed_fault_in, packed_fault_at, fault_of}
 use Rattle.row_view.specs.Private.Marks.{EndsIn, lengths_left}
 use Rattle.row_view.specs.Private.Counted.{IsCounted, IsRead, IsFound}
 use Rattle.row_view.proofs.FoundLaws.{fault_of-next}
 
 -- ---- a number of a packed part
 
-pub record NumberAhead (packed rest : List ℕ) (n : ℕ) : Type 0 where
+pub record NumberAhead (packed rest : List ℕ) (n : ℤ) : Type 0 where
   pub front : List ℕ
   pub is : packed ≡ front ++ rest
   pub shorter : length rest < length packed
-  pub left : (fields : List ℕ) → lengths_left packed fields ≡ unzigzag_of n ∷ lengths_left rest fields
+  pub left : (fields : List ℕ) → lengths_left packed fields ≡ n ∷ lengths_left rest fields
   pub fault : (varints_of rest).fault ≡ (varints_of packed).fault
 
-pub number_ahead : (packed rest : List ℕ) (n : ℕ) → varint_at packed ≡ Ok (n, rest) → NumberAhead packed rest n
-number_ahead packed rest n e =
+varint_ahead : (packed rest : List ℕ) (n : ℕ) → varint_at packed ≡ Ok (n, rest) → NumberAhead packed rest (unzigzag_of n)
+varint_ahead packed rest n e =
     let first : varints_of packed ≡ record { items = n ∷ (varints_of rest).items; fault = (varints_of rest).fault } = reading-first varint_at varint_takes packed (n, rest) e in
     let found = varint_found packed (n, rest) e in
     record {
@@ -44,6 +46,11 @@ number_ahead packed rest n e =
       left = λ fields. ap (λ (r : Reading ℕ WireFault). map unzigzag_of r.items ++ lengths_of (fields_of fields).items) first;
       fault = sym (ap (λ (r : Reading ℕ WireFault). r.fault) first);
     }
+
+pub number_ahead : (packed rest : List ℕ) (n : ℤ) → sint64_at packed ≡ Ok (n, rest) → NumberAhead packed rest n
+number_ahead packed rest n e =
+    let read = sint64_found packed (n, rest) e in
+    subst (NumberAhead packed rest) read.2 (varint_ahead packed rest read.0 read.1)
 
 pub no_numbers : (fields : List ℕ) → lengths_left [] fields ≡ lengths_of (fields_of fields).items
 no_numbers fields = ap (λ (r : Reading ℕ WireFault). map unzigzag_of r.items ++ lengths_of (fields_of fields).items) (reading-none varint_at)
@@ -89,7 +96,7 @@ pub no_fields : fields_of [] ≡ record { items = []; fault = None }
 no_fields = reading-none field_at
 
 -- the lengths that are left, by the field
-pub field_lengths : (bytes after : List ℕ) (f : WireField) → FieldAhead bytes after f → lengths_of (fields_of bytes).items ≡ lengths_at f ++ lengths_of (fields_of after).items
+pub field_lengths : (bytes after : List ℕ) (f : WireField) → FieldAhead bytes after f → lengths_of (fields_of bytes).items ≡ sint64s_at 1 f ++ lengths_of (fields_of after).items
 field_lengths bytes after f ahead = ap lengths_of ahead.items
 
 -- what a field holds, and the fields behind it, end the message
@@ -111,34 +118,34 @@ field_long bytes after b f ahead e =
 
 -- ---- what one field says
 
-pub at_packed : (f : WireField) (b : List ℕ) → f.number ≡ 1 → f.value ≡ Bytes b → lengths_at f ≡ map unzigzag_of (varints_of b).items
+pub at_packed : (f : WireField) (b : List ℕ) → f.number ≡ 1 → f.value ≡ Bytes b → sint64s_at 1 f ≡ map unzigzag_of (varints_of b).items
 at_packed f b number value = rw (number, value) refl
 
-pub at_single : (f : WireField) (n : ℕ) → f.number ≡ 1 → f.value ≡ Varint n → (lengths_at f ≡ unzigzag_of n ∷ []) × (packed_fault_at f ≡ None)
+pub at_single : (f : WireField) (n : ℕ) → f.number ≡ 1 → f.value ≡ Varint n → (sint64s_at 1 f ≡ unzigzag_of n ∷ []) × (packed_fault_at f ≡ None)
 at_single f n number value = (rw (number, value) refl, rw (number, value) refl)
 
 if_same : {A : Type 0} (test : Bool) (x d : A) → x ≡ d → (if test then x else d) ≡ d
 if_same true x d e = e
 if_same false x d e = refl
 
-none_in : (p : Payload) → ((n : ℕ) → p ≡ payload.Varint n → ⊥) → ((b : Bor (List ℕ)) → p ≡ payload.Bytes b → ⊥) → (lengths_in (wire_value p) ≡ []) × (packed_fault_in (wire_value p) ≡ None)
+none_in : (p : Payload) → ((n : ℕ) → p ≡ payload.Varint n → ⊥) → ((b : Bor (List ℕ)) → p ≡ payload.Bytes b → ⊥) → (sint64s_in (wire_value p) ≡ []) × (packed_fault_in (wire_value p) ≡ None)
 none_in (payload.Varint n) no_varint no_bytes = absurd (no_varint n refl)
 none_in (payload.Bytes b) no_varint no_bytes = absurd (no_bytes b refl)
 none_in (payload.Eight b) no_varint no_bytes = (refl, refl)
 none_in (payload.Four b) no_varint no_bytes = (refl, refl)
 
 -- a field of another wire type has no lengths
-pub at_other_type : (f : Field) → ((n : ℕ) → f.payload ≡ payload.Varint n → ⊥) → ((b : Bor (List ℕ)) → f.payload ≡ payload.Bytes b → ⊥) → (lengths_at (wire_field f) ≡ []) × (packed_fault_at (wire_field f) ≡ None)
+pub at_other_type : (f : Field) → ((n : ℕ) → f.payload ≡ payload.Varint n → ⊥) → ((b : Bor (List ℕ)) → f.payload ≡ payload.Bytes b → ⊥) → (sint64s_at 1 (wire_field f) ≡ []) × (packed_fault_at (wire_field f) ≡ None)
 at_other_type f no_varint no_bytes =
     let none = none_in f.payload no_varint no_bytes in
-    (if_same (f.number == 1) (lengths_in (wire_value f.payload)) [] none.0, if_same (f.number == 1) (packed_fault_in (wire_value f.payload)) None none.1)
+    (if_same (f.number == 1) (sint64s_in (wire_value f.payload)) [] none.0, if_same (f.number == 1) (packed_fault_in (wire_value f.payload)) None none.1)
 
 -- nor has a field of another number
-pub at_other_number : (f : WireField) → (f.number ≡ 1 → ⊥) → (lengths_at f ≡ []) × (packed_fault_at f ≡ None)
+pub at_other_number : (f : WireField) → (f.number ≡ 1 → ⊥) → (sint64s_at 1 f ≡ []) × (packed_fault_at f ≡ None)
 at_other_number f ne = let other : eqb f.number 1 ≡ false = ne_eqb f.number 1 ne in (rw other refl, rw other refl)
 
 -- the lengths that are left, past a field that has these
-pub left_behind : (message rest after : List ℕ) (f : WireField) (ns : List ℤ) (count : Count) (marks : List Mark) → FieldAhead rest after f → lengths_at f ≡ ns
+pub left_behind : (message rest after : List ℕ) (f : WireField) (ns : List ℤ) (count : Count) (marks : List Mark) → FieldAhead rest after f → sint64s_at 1 f ≡ ns
     → IsCounted message (lengths_of (fields_of rest).items) count marks → IsCounted message (ns ++ lengths_of (fields_of after).items) count marks
 left_behind message rest after f ns count marks ahead has counted =
     subst (λ (left : List ℤ). IsCounted message left count marks) (field_lengths rest after f ahead ∙ ap (λ (xs : List ℤ). xs ++ lengths_of (fields_of after).items) has) counted

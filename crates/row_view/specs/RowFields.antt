@@ -1,32 +1,21 @@
 -- What the fields of a row message say: repeated sint64 lengths = 1, bytes values = 2
 -- (`query.proto`, Row). Fields of other numbers, and these two with another wire type, say nothing.
-use Rattle.std.specs.Prelude.{ℕ, ℤ, ◌==◌, List, [], ◌∷◌, map, Option, None, if◌then◌else◌}
+use Rattle.std.specs.Prelude.{ℕ, ℤ, ◌==◌, List, Option, None, if◌then◌else◌}
 use Rattle.std.specs.Option.{option_or}
-use Rattle.std.specs.List.{flat_map, filter_map}
+use Rattle.std.specs.List.{filter_map}
 use Rattle.proto_wire.specs.declared.fault.WireFault.{WireFault}
 use Rattle.proto_wire.specs.Reading.{Reading}
 use Rattle.proto_wire.specs.Varint.{varints_of}
 use Rattle.proto_wire.specs.Field.{WireValue, WireField, Varint, Eight, Bytes, Four, fields_of}
 use Rattle.proto_wire.specs.Parts.{first_of, text}
-use Rattle.proto_wire.specs.Zigzag.{unzigzag_of}
+use Rattle.proto_wire.specs.Sint64s.{sint64s_of, sint64s}
 use Rattle.row_view.specs.declared.found.TheConstants.{LENGTHS, VALUES}
 
 -- ---- lengths
 
--- the lengths in a payload: a single one, or a packed list of them
-abbrev pub lengths_in : WireValue → List ℤ
-lengths_in (Varint n) = unzigzag_of n ∷ []
-lengths_in (Eight b) = []
-lengths_in (Bytes b) = map unzigzag_of (varints_of b).items
-lengths_in (Four b) = []
-
--- the lengths in a field
-abbrev pub lengths_at : WireField → List ℤ
-lengths_at f = if f.number == LENGTHS then lengths_in f.value else []
-
 -- all lengths of these fields, in order
 abbrev pub lengths_of : List WireField → List ℤ
-lengths_of fields = flat_map lengths_at fields
+lengths_of fields = sint64s_of LENGTHS fields
 
 -- ---- faults
 
@@ -49,7 +38,7 @@ fault_of fields = option_or (first_of (filter_map packed_fault_at fields.items))
 
 -- all its lengths, in order
 abbrev pub row_lengths : List ℕ → List ℤ
-row_lengths bytes = lengths_of (fields_of bytes).items
+row_lengths bytes = sint64s LENGTHS bytes
 
 -- its values: the last that there are
 abbrev pub row_values : List ℕ → List ℕ

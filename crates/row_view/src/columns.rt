@@ -8,8 +8,9 @@ ghost use Rattle.row_view.specs.Row.{size_of_all, columns_over};
 ghost use Rattle.row_view.specs.Private.Marks.{lengths_left};
 
 use crate::column::Column;
-use crate::lengths::Lengths;
+use crate::found::LENGTHS;
 use crate::steps::Steps;
+use proto_wire::Sint64s;
 use std::marker::Model;
 use std::sync::ledger::Ledger;
 
@@ -17,7 +18,7 @@ use std::sync::ledger::Ledger;
 /// `None` for NULL. Takes no memory.
 #[derive(Drop)]
 pub struct Columns<'b> {
-    lengths: Lengths<'b>,
+    lengths: Sint64s<'b>,
     /// the values from the next column on
     values: &'b [u8],
 }
@@ -40,7 +41,7 @@ impl<'b> Columns<'b> {
         ensures { result ≡ columns_over values.now (row_lengths message.now) }
     {
         Columns {
-            lengths: Lengths::new(message),
+            lengths: Sint64s::new(message, LENGTHS),
             values,
         }
     }
@@ -52,7 +53,7 @@ impl<'b> Columns<'b> {
         ensures { result ≡ columns_over values.now (lengths_left packed.now fields.now) }
     {
         Columns {
-            lengths: Lengths::behind(packed, fields),
+            lengths: Sint64s::behind(packed, fields, LENGTHS),
             values,
         }
     }
@@ -77,7 +78,7 @@ impl<'b> Iterator for Columns<'b> {
 
     #[inline(always)]
     fn next(&mut self) -> Option<Column<'b>> {
-        let length = self.lengths.next_length()?;
+        let length = self.lengths.next()?;
         if length < 0 {
             return Some(Column::Null);
         }

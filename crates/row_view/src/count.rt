@@ -2,7 +2,6 @@
 
 ghost use Rattle.std.specs.Prelude.{◌≡◌, ℕ, ℤ, ◌+◌, ◌-◌, ◌^◌, ◌<◌, ◌≤◌, List, [], ◌∷◌, None, Some, Ok, MatchResult, length};
 ghost use Rattle.proto_wire.specs.Varint.{varints_of};
-ghost use Rattle.proto_wire.specs.Zigzag.{unzigzag_of};
 ghost use Rattle.proto_wire.specs.Field.{wire_field, field_at, fields_of};
 ghost use Rattle.row_view.specs.RowFields.{lengths_of, packed_fault_at};
 ghost use Rattle.row_view.specs.Row.{size_of};
@@ -11,7 +10,7 @@ ghost use Rattle.row_view.specs.Private.Counted.{IsCounted};
 
 use crate::found::LENGTHS;
 use crate::marks::{MARKS, Mark};
-use proto_wire::{Field, Payload, WireFault, unzigzag, varint_of};
+use proto_wire::{Field, Payload, WireFault, sint64_of, unzigzag};
 
 /// What the lengths so far come to.
 #[derive(Clone, Copy)]
@@ -28,13 +27,6 @@ fn size_of_length(length: i64) -> u64
     ensures { result ≡ size_of length }
 {
     if length < 0 { 0 } else { length as u64 }
-}
-
-/// How many bytes the column takes whose length travels as this number.
-fn size_of_number(number: u64) -> u64
-    ensures { result ≡ size_of (unzigzag_of number) }
-{
-    size_of_length(unzigzag(number))
 }
 
 impl Count {
@@ -55,21 +47,19 @@ impl Count {
         }
     }
 
-    /// Counts the length that travels as this number and stands at this place.
+    /// Counts a length that stands at this place.
     #[inline(always)]
-    fn put_length(&mut self, number: u64, at: usize, end: usize, marks: &mut [Mark; MARKS])
+    fn put_length(&mut self, length: i64, at: usize, end: usize, marks: &mut [Mark; MARKS])
         requires within { (at ≤ end) × (end < 2 ^ 32) }
         requires few { self.old.columns < 2 ^ 32 - 1 }
         ensures one { self.new.columns ≡ self.old.columns + 1 }
         ensures counted { (message packed fields : List ℕ) (left : List ℤ) → IsPlace message packed fields at end
-            → lengths_left packed fields ≡ unzigzag_of number ∷ left
-            → IsCounted message (unzigzag_of number ∷ left) self.old marks.old
+            → lengths_left packed fields ≡ length ∷ left → IsCounted message (length ∷ left) self.old marks.old
             → IsCounted message left self.new marks.new }
     {
         self.mark(at, end, marks);
-        let size = size_of_number(number);
         self.columns += 1;
-        self.bytes = self.bytes.saturating_add(size);
+        self.bytes = self.bytes.saturating_add(size_of_length(length));
     }
 
     /// Counts the lengths of a packed part, behind which this follows, or finds why it isn't one.
@@ -93,8 +83,8 @@ impl Count {
         let end = message.len() - after.len();
         let mut rest = packed;
         while !rest.is_empty() {
-            let (number, next) = varint_of(rest)?;
-            self.put_length(number, end - rest.len(), end, marks);
+            let (length, next) = sint64_of(rest)?;
+            self.put_length(length, end - rest.len(), end, marks);
             rest = next;
         }
         Ok(())
@@ -125,7 +115,7 @@ impl Count {
         match (field.number, field.payload) {
             (LENGTHS, Payload::Varint(number)) => {
                 let place = message.len() - rest.len();
-                self.put_length(number, place, place, marks);
+                self.put_length(unzigzag(number), place, place, marks);
                 Ok(())
             }
             (LENGTHS, Payload::Bytes(packed)) => self.put_packed(message, packed, after, marks),

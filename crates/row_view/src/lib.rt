@@ -6,7 +6,6 @@ mod columns;
 mod count;
 mod fault;
 mod found;
-mod lengths;
 mod marks;
 mod row;
 mod row_buf;

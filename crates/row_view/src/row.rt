@@ -4,7 +4,7 @@ ghost use Rattle.std.specs.Prelude.{◌≡◌, ℕ, ◌+◌, ◌*◌, ◌^◌, �
 ghost use Rattle.proto_wire.specs.declared.fault.WireFault.{WireFault};
 ghost use Rattle.row_view.specs.ColumnValue.{column_value};
 ghost use Rattle.row_view.specs.RowFields.{row_lengths, row_values, row_wire_fault};
-ghost use Rattle.row_view.specs.Row.{RowValue, IsRow, IsWhole, size_of_all, columns_in, row_of_message};
+ghost use Rattle.row_view.specs.Row.{IsRow, IsWhole, size_of_all, columns_in, row_of_message};
 ghost use Rattle.row_view.specs.Private.Kept.{IsGood};
 
 use crate::column::Column;

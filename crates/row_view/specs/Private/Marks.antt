@@ -1,15 +1,14 @@
 -- Where a column's length stands in a message, and what is known from there on.
-use Rattle.std.specs.Prelude.{◌≡◌, ℕ, ℤ, ◌*◌, ◌^◌, ◌<◌, ◌≤◌, List, ◌++◌, map, length, take, drop, Some, slice_get}
-use Rattle.proto_wire.specs.Varint.{varints_of}
-use Rattle.proto_wire.specs.Field.{fields_of}
-use Rattle.proto_wire.specs.Zigzag.{unzigzag_of}
+use Rattle.std.specs.Prelude.{◌≡◌, ℕ, ℤ, ◌*◌, ◌^◌, ◌<◌, ◌≤◌, List, ◌++◌, length, take, drop, Some, slice_get}
+use Rattle.proto_wire.specs.Sint64s.{sint64s_left}
+use Rattle.row_view.specs.declared.found.TheConstants.{LENGTHS}
 use Rattle.row_view.specs.declared.marks.Mark.{Mark}
-use Rattle.row_view.specs.RowFields.{lengths_of, row_lengths}
+use Rattle.row_view.specs.RowFields.{row_lengths}
 use Rattle.row_view.specs.Row.{size_of_all}
 
 -- the lengths that are left of a packed part, and those of the fields behind it
 abbrev pub lengths_left : List ℕ → List ℕ → List ℤ
-lengths_left packed fields = map unzigzag_of (varints_of packed).items ++ lengths_of (fields_of fields).items
+lengths_left packed fields = sint64s_left LENGTHS packed fields
 
 -- the lengths from a place on; the packed part in which it lies ends at `end`
 abbrev pub lengths_from : List ℕ → ℕ → ℕ → List ℤ

@@ -1,9 +1,13 @@
-use Rattle.std.proofs.Common.{ℕ, ℤ, ◌-◌, List, [], ◌∷◌, ◌++◌, map, length, refl, ap, ◌∙◌, arith}
+use Rattle.std.proofs.Common.{◌≡◌, ℕ, ℤ, ◌-◌, List, [], ◌∷◌, ◌++◌, map, length, rules, refl, sym, ap, subst, ◌∙◌, arith}
+use mir.Val.{SFits, to_z, of_z}
+use Rattle.std.specs.Int.{w64}
+use Rattle.std.proofs.lemmas.Int.{to_z-of_z}
 use Rattle.proto_wire.specs.Zigzag.{unzigzag_of}
 use Rattle.proto_wire.specs.Varint.{varints_of}
 use Rattle.proto_wire.specs.Field.{wire_value, wire_field, fields_of}
 use Rattle.row_view.specs.RowFields.{lengths_of}
 use Rattle.row_view.specs.Private.Marks.{IsPlace}
+use Rattle.row_view.specs.Private.Counted.{IsCounted}
 use Rattle.row_view.proofs.PlaceLaws.{ends_place}
 use Rattle.row_view.proofs.ReadLaws.{field_ahead, field_long, field_lengths, ends_in_field, no_numbers, at_packed, at_single, at_other_type, at_other_number, left_behind}
 use Rattle.row_view.proofs.count.Count.put.Goals as goal
@@ -42,10 +46,14 @@ returns-in-1-Varint-clause-read c =
     let single = at_single f c.in-1-Varint.number c.in-1-Varint.is-0 (ap wire_value c.in-1-Varint.is-1) in
     let at : ℕ = length message - length rest in
     let place : IsPlace message [] rest at at = ends_place message [] rest at at c.requires.place refl (omega arith) in
-    let left = no_numbers rest ∙ field_lengths rest after f ahead ∙ ap (λ (ns : List ℤ). ns ++ more) single.0 in (
+    let fits : SFits w64 c.unzigzag.result = search rules in
+    let is : to_z w64 (of_z w64 c.unzigzag.result) ≡ unzigzag_of c.in-1-Varint.number = to_z-of_z w64 c.unzigzag.result fits ∙ c.unzigzag.ensures.value in
+    let passed = ap (λ (n : ℤ). n ∷ more) (sym is) in
+    let left = no_numbers rest ∙ field_lengths rest after f ahead ∙ ap (λ (ns : List ℤ). ns ++ more) single.0 ∙ passed in (
       single.1,
       c.put_length.ensures.counted message [] rest more place left
-          (left_behind message rest after f (unzigzag_of c.in-1-Varint.number ∷ []) c.args.self.now c.args.marks.now ahead single.0 c.requires.counted),
+          (subst (λ (ns : List ℤ). IsCounted message ns c.args.self.now c.args.marks.now) passed
+              (left_behind message rest after f (unzigzag_of c.in-1-Varint.number ∷ []) c.args.self.now c.args.marks.now ahead single.0 c.requires.counted)),
     )
 
 pub returns-in-1-Bytes-clause-few : goal.returns-in-1-Bytes-clause-few
