@@ -274,7 +274,17 @@ impl KeptKey {
     }
 }
 
-/// The order of two keys with one front.
+/// The order of two keys, by their views.
+#[inline(never)]
+fn compare_views(one: &KeptKey, other: &KeptKey) -> Ordering
+    requires one { IsKept one.now }
+    requires other { IsKept other.now }
+    ensures { result ≡ key_cmp (kept_key one.now) (kept_key other.now) }
+{
+    one.view().cmp(&other.view())
+}
+
+/// The order of two keys with one front. Views, which are large, are made of keys of unlike forms alone.
 #[inline(never)]
 fn compare_behind(one: &KeptKey, other: &KeptKey) -> Ordering
     requires one { IsKept one.now }
@@ -291,7 +301,7 @@ fn compare_behind(one: &KeptKey, other: &KeptKey) -> Ordering
         }
         (KeptRest::Long(_, x), KeptRest::Long(_, y)) => x.as_slice().cmp(y.as_slice()),
         (KeptRest::Several(_, x), KeptRest::Several(_, y)) => x.as_slice().cmp(y.as_slice()),
-        _ => one.view().cmp(&other.view()),
+        _ => compare_views(one, other),
     }
 }
 

@@ -1,13 +1,16 @@
 //! A key in memory of its own.
 
-ghost use Rattle.std.specs.Prelude.{◌≡◌, IfOk};
+ghost use Rattle.std.specs.Prelude.{◌≡◌, [], ◌∷◌, IfOk};
 ghost use Rattle.std.specs.Ordering.{eq_by_cmp, as_partial_cmp};
 ghost use Rattle.std.specs.Cmp.{partial_equiv_from_equiv, eq_by_cmp_equiv, partial_order_from_total};
+ghost use Rattle.pk_copy.specs.KeyValue.{IsPart};
 ghost use Rattle.pk_copy.specs.KeyOrder.{key_cmp};
 ghost use Rattle.pk_copy.specs.KeyOrderLaws.{key_cmp_total};
+ghost use Rattle.pk_copy.specs.PartValue.{part_value};
 
 use crate::kept::{KeptKey, compare};
 use crate::lent::LentKey;
+use crate::part::KeyPart;
 use crate::view::KeyView;
 use std::alloc::{AllocError, Global};
 use std::cmp::Ordering;
@@ -45,6 +48,16 @@ impl Key {
             [part] => KeptKey::of_one(alloc, table, *part)?,
             parts => KeptKey::of_several(alloc, table, parts)?,
         };
+        Ok(Key { kept })
+    }
+
+    /// The key of a table with this part alone. Takes no memory for a number or up to 12 bytes; an error is
+    /// want of it.
+    pub(crate) fn of_one(alloc: Global, table: u8, part: KeyPart<'_>) -> Result<Key, AllocError>
+        requires { IsPart (part_value part) }
+        ensures { IfOk result (λ key. key ≡ record { table = table; parts = part_value part.entry ∷ [] }) }
+    {
+        let kept = KeptKey::of_one(alloc, table, part)?;
         Ok(Key { kept })
     }
 
