@@ -1,5 +1,6 @@
 //! One field at the front of the bytes.
 
+ghost use Rattle.std.specs.Prelude.{◌≡◌, Ok, IfSome};
 ghost use Rattle.std.specs.Option.{option_map};
 ghost use Rattle.outcome.specs.Outcome.{Gives};
 ghost use Rattle.proto_wire.specs.Field.{wire_value, wire_field, bytes_at, sized_at, number_at, payload_at, field_at};
@@ -29,7 +30,6 @@ pub struct Field<'b> {
 }
 
 /// The first `size` bytes, and those after them.
-#[inline(always)]
 fn bytes_of(size: u64, bytes: &[u8]) -> Result<(&[u8], &[u8]), WireFault>
     ensures { Gives (λ x. (x.0.now, x.1.now)) result (bytes_at size bytes.now) }
 {
@@ -40,7 +40,6 @@ fn bytes_of(size: u64, bytes: &[u8]) -> Result<(&[u8], &[u8]), WireFault>
 }
 
 /// The bytes behind their length, and those after them.
-#[inline(always)]
 #[tactic(auto, unfolding(crate::specs::Field::sized_at))]
 pub(crate) fn sized_of(bytes: &[u8]) -> Result<(&[u8], &[u8]), WireFault>
     ensures { Gives (λ x. (x.0.now, x.1.now)) result (sized_at bytes.now) }
@@ -86,33 +85,37 @@ fn payload_of(kind: u64, body: &[u8]) -> Result<(Option<Payload<'_>>, &[u8]), Wi
     }
 }
 
+/// The field at the front and the bytes after it, where its tag has one byte and says bytes behind a length of one byte:
+/// most fields are of this form.
+#[inline(always)]
+#[tactic(auto, unfolding(crate::specs::Field::field_at, crate::specs::Field::field_behind, crate::specs::Field::payload_at, crate::specs::Field::sized_at))]
+fn short_field_of(bytes: &[u8]) -> Option<(Field<'_>, &[u8])>
+    ensures { IfSome result (λ x. field_at bytes.now ≡ Ok (wire_field x.0, x.1.now)) }
+{
+    let (tag, body) = short_varint_of(bytes)?;
+    let (size, rest) = short_varint_of(body)?;
+    if tag % 8 != 2 || tag < 8 || rest.len() < usize::from(size) {
+        return None;
+    }
+    let (part, behind) = rest.split_at(usize::from(size));
+    let number = u32::from(tag / 8);
+    let payload = Payload::Bytes(part);
+    Some((Field { number, payload }, behind))
+}
+
 /// The field at the front, and the bytes after it. Of no bytes it is `Truncated`. Takes no memory.
 #[inline(always)]
-#[tactic(auto, unfolding(crate::specs::Field::field_at, crate::specs::Field::field_behind, crate::specs::Field::payload_at))]
 pub fn field_of(bytes: &[u8]) -> Result<(Field<'_>, &[u8]), WireFault>
     ensures { Gives (λ x. (wire_field x.0, x.1.now)) result (field_at bytes.now) }
 {
-    let Some((tag, body)) = short_varint_of(bytes) else {
-        return any_field_of(bytes);
-    };
-    let number = u32::from(tag / 8);
-    match tag % 8 {
-        0 if number > 0 => {
-            let (value, rest) = varint_of(body)?;
-            let payload = Payload::Varint(value);
-            Ok((Field { number, payload }, rest))
-        }
-        2 if number > 0 => {
-            let (part, rest) = sized_of(body)?;
-            let payload = Payload::Bytes(part);
-            Ok((Field { number, payload }, rest))
-        }
-        _ => any_field_of(bytes),
+    match short_field_of(bytes) {
+        Some(field) => Ok(field),
+        None => any_field_of(bytes),
     }
 }
 
-/// The same of any field, apart from those that most are: a tag of one byte, with a varint or bytes behind it.
-#[inline(never)]
+/// The same of any field.
+#[inline(always)]
 #[tactic(auto, unfolding(crate::specs::Field::field_at, crate::specs::Field::field_behind))]
 fn any_field_of(bytes: &[u8]) -> Result<(Field<'_>, &[u8]), WireFault>
     ensures { Gives (λ x. (wire_field x.0, x.1.now)) result (field_at bytes.now) }
