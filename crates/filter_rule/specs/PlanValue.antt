@@ -1,10 +1,9 @@
 -- What a plan means: its tables, and for each of them which rows of one stream pass. Two plans are
 -- the same exactly where these values are equal (this profile, after the Vitess filter rules).
-use Rattle.std.specs.Prelude.{ℕ, List, Bool, true, false, Option, Some, None, Result, Ok, Err, position, slice_get, slice_index_or, []}
+use Rattle.std.specs.Prelude.{ℕ, List, Bool, true, false, Option, Some, None, Result, Ok, position, slice_get, slice_index_or, []}
 use Rattle.std.specs.Option.{option_map_or}
 use Rattle.std.specs.Str.{bytes_eq}
-use Rattle.vindex.specs.Bounds.{Bounds, in_range}
-use Rattle.vindex.specs.KeyspaceId.{id_of}
+use Rattle.vindex.specs.KeyspaceId.{id_of, id_in}
 use Rattle.vindex.specs.declared.faults.VindexFault.{VindexFault}
 use Rattle.row_view.specs.FieldValue.{FieldValue}
 use Rattle.filter_rule.specs.PlanTable.{TableValue}
@@ -45,11 +44,6 @@ table_of_name plan name = position (λ table. bytes_eq table.name name) plan.tab
 -- a column of a row, NULL as `None`
 abbrev pub column_at : List (Option (List ℕ)) → ℕ → Option (List ℕ)
 column_at row place = slice_index_or row place None
-
--- whether a range has an id, where there is one
-abbrev pub id_in : Bounds → Result (List ℕ) VindexFault → Result Bool VindexFault
-id_in range (Ok id) = Ok (in_range range id)
-id_in range (Err fault) = Err fault
 
 -- whether a row passes under a decision; a range asks for the id also where it is the whole range
 abbrev pub kept_under : Decision → List (Option (List ℕ)) → Result Bool VindexFault

@@ -57,10 +57,7 @@ impl Decision {
                 vindex,
                 range,
                 ..
-            } => {
-                let id = vindex.id(row.column(*column))?;
-                Ok(range.holds(id.bytes()))
-            }
+            } => range.holds_value(*vindex, row.column(*column)),
         }
     }
 }

@@ -1,6 +1,6 @@
 //! The workflow file as a typed document, lent from its JSON value.
 
-ghost use Rattle.std.specs.Prelude.{◌≡◌, List, ℕ, Result, map};
+ghost use Rattle.std.specs.Prelude.{Result, map};
 ghost use Rattle.serde_json.specs.View.{view};
 ghost use Rattle.outcome.specs.Outcome.{each};
 ghost use Rattle.filter_rule.specs.Faults.{GivesOrFails};

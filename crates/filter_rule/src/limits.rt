@@ -9,16 +9,16 @@ use crate::document::{Document, TableText};
 use crate::fault::PlanFault;
 
 /// The most streams that a workflow may have.
-pub const MAX_STREAMS: usize = 64;
+pub(crate) const MAX_STREAMS: usize = 64;
 
 /// The most tables that a workflow may have.
-pub const MAX_TABLES: usize = 64;
+pub(crate) const MAX_TABLES: usize = 64;
 
 /// The most columns that a table may have.
-pub const MAX_COLUMNS: usize = 256;
+pub(crate) const MAX_COLUMNS: usize = 256;
 
 /// The most key columns that a table may have.
-pub const MAX_KEY_COLUMNS: usize = 8;
+pub(crate) const MAX_KEY_COLUMNS: usize = 8;
 
 fn is_up_to(most: usize, count: usize) -> bool
     ensures { result ≡ is_up_to most count }

@@ -1,6 +1,6 @@
 //! Places of columns.
 
-ghost use Rattle.std.specs.Prelude.{◌≡◌, ◌≤◌, IfOk, length};
+ghost use Rattle.std.specs.Prelude.{◌≡◌, ◌≤◌, IfOk};
 ghost use Rattle.std.specs.List.{range_with_len};
 
 use crate::same::Same;

@@ -1,6 +1,6 @@
 //! A stream's plan.
 
-ghost use Rattle.std.specs.Prelude.{◌≡◌, ◌↔◌, IsTrue, ℕ, ◌<◌, length, position, IfSome};
+ghost use Rattle.std.specs.Prelude.{◌≡◌, ◌↔◌, IsTrue, ◌<◌, length, position, IfSome};
 ghost use Rattle.std.specs.Str.{bytes_eq};
 ghost use Rattle.filter_rule.specs.Private.PlanParts.{plan_value};
 ghost use Rattle.filter_rule.specs.WellFormed.{IsPlan, AreColumnPlaces, AreKept};
@@ -32,8 +32,6 @@ pub struct Plan {
 }
 
 impl Model for Plan {
-    ghost use Rattle.std.specs.String.{string_bytes};
-    ghost use Rattle.std.specs.Arc.{arc_value};
     ghost use Rattle.filter_rule.specs.Splitting.{SplitRow};
     ghost use Rattle.filter_rule.specs.PlanValue.{PlanValue};
 

@@ -1,6 +1,6 @@
 //! Rules of a stream to the decisions of its plan.
 
-ghost use Rattle.std.specs.Prelude.{◌≡◌, length, List, Ok, map};
+ghost use Rattle.std.specs.Prelude.{◌≡◌, length, List, Ok};
 ghost use Rattle.filter_rule.specs.Faults.{GivesOrFails};
 ghost use Rattle.filter_rule.specs.Reading.{rule_over, undecided, decisions_of};
 ghost use Rattle.filter_rule.specs.declared.decision.Decision.{Decision};

@@ -1,6 +1,6 @@
 //! The tables of a workflow.
 
-ghost use Rattle.std.specs.Prelude.{◌≡◌, ◌↔◌, ◌≤◌, length, IfOk, IsTrue};
+ghost use Rattle.std.specs.Prelude.{◌≡◌, ◌≤◌, length, IfOk};
 ghost use Rattle.row_view.specs.FieldValue.{FieldValue};
 ghost use Rattle.filter_rule.specs.PlanTable.{TableValue, keeping};
 

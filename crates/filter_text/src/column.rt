@@ -10,12 +10,12 @@ use crate::tokens::next_token;
 
 /// A column of a list and what follows it.
 #[derive(Drop)]
-pub struct Column<'t> {
-    pub name: &'t str,
+pub(crate) struct Column<'t> {
+    pub(crate) name: &'t str,
     /// Whether `from` follows the name, and not a comma.
-    pub is_last: bool,
+    pub(crate) is_last: bool,
     /// The text behind the `from` or the comma.
-    pub behind: &'t str,
+    pub(crate) behind: &'t str,
 }
 
 /// The name of a column, where the token isn't the key word `from`.
@@ -29,7 +29,7 @@ fn column_of<'t>(token: &Token<'t>) -> Option<&'t str>
 }
 
 /// The column that a text begins with, if it begins with a list.
-pub fn first_column(text: &str) -> Option<Column<'_>>
+pub(crate) fn first_column(text: &str) -> Option<Column<'_>>
     ensures column { IsFirstColumn text.now result }
     ensures shorter { IfSome result (λ column. length column.behind.now < length text.now) }
 {
@@ -48,7 +48,7 @@ pub fn first_column(text: &str) -> Option<Column<'_>>
 }
 
 /// The text behind the `from` of the list that a text begins with.
-pub fn behind_list(text: &str) -> Option<&str>
+pub(crate) fn behind_list(text: &str) -> Option<&str>
     ensures some { IfSome result (λ rest. IsListBefore text.now rest.now) }
     ensures none { IfNone result (list_of text.now ≡ None) }
 {

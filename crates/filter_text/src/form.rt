@@ -1,10 +1,10 @@
 //! The forms of a filter by its tokens.
 
-ghost use Rattle.std.specs.Prelude.{◌≡◌, None, map, option_map, option_and_then, IfSome, IfNone};
+ghost use Rattle.std.specs.Prelude.{◌≡◌, None, map, option_and_then, IfSome, IfNone};
 ghost use Rattle.vindex.specs.RangeText.{key_range_of_text};
 ghost use Rattle.filter_text.specs.FilterText.{range_in, vindex_in, rows_of_own_range, named_rows, are_between, arguments_of, opens_condition, rows_of, from_table, table_rows, all_of, listed_rows, behind_select, selection_of};
 ghost use Rattle.filter_text.specs.ColumnList.{list_of};
-ghost use Rattle.filter_text.specs.Lexemes.{named, text_in_quotes};
+ghost use Rattle.filter_text.specs.Lexemes.{named};
 ghost use Rattle.filter_text.specs.Private.Listing.{IsListBefore, IsAllBefore};
 ghost use Rattle.filter_text.specs.Tokens.{tokens_of};
 ghost use Rattle.filter_text.specs.Views.{Reads, lexeme, rows_said, meaning};
@@ -19,7 +19,7 @@ use std::alloc::Global;
 use vindex::{KeyRange, Vindex, VindexFault};
 
 /// The key range that a text writes.
-pub fn key_range(alloc: Global, text: &str) -> Result<KeyRange, FilterFault>
+pub(crate) fn key_range(alloc: Global, text: &str) -> Result<KeyRange, FilterFault>
     ensures { Reads (λ range. range) result (key_range_of_text text.now) }
 {
     match KeyRange::parse(alloc, text) {
@@ -210,7 +210,7 @@ fn behind_select(alloc: Global, text: &str) -> Result<Filter<'_>, FilterFault>
 }
 
 /// The selection that a text writes.
-pub fn selection(alloc: Global, text: &str) -> Result<Filter<'_>, FilterFault>
+pub(crate) fn selection(alloc: Global, text: &str) -> Result<Filter<'_>, FilterFault>
     ensures { Reads meaning result (option_and_then selection_of (tokens_of text.now)) }
 {
     match next_token(text) {

@@ -6,7 +6,7 @@ ghost use Rattle.filter_text.specs.Views.{lexeme};
 
 /// A token, lent from the text.
 #[derive(Clone, Copy, Debug, PartialEq, Eq)]
-pub enum Token<'t> {
+pub(crate) enum Token<'t> {
     /// Letters, digits, `_` and `$`, as many as stand together: a key word or a plain name.
     Word(&'t str),
     /// What stands between two backquotes, at least one byte: a name, never a key word.
@@ -25,7 +25,7 @@ impl<'t> Default for Token<'t> {
 
 impl<'t> Token<'t> {
     /// Whether it is this key word, in any case.
-    pub fn is_key(&self, key: &str) -> bool
+    pub(crate) fn is_key(&self, key: &str) -> bool
         ensures { result ≡ is_key key.now (lexeme self.now) }
     {
         match self {
@@ -35,7 +35,7 @@ impl<'t> Token<'t> {
     }
 
     /// Whether it is this mark.
-    pub fn is_mark(&self, mark: u8) -> bool
+    pub(crate) fn is_mark(&self, mark: u8) -> bool
         ensures { result ≡ is_this_mark mark (lexeme self.now) }
     {
         match self {
@@ -45,7 +45,7 @@ impl<'t> Token<'t> {
     }
 
     /// The name that it is, with or without backquotes.
-    pub fn name(&self) -> Option<&'t str>
+    pub(crate) fn name(&self) -> Option<&'t str>
         ensures { option_map (λ t. t.now) result ≡ named (lexeme self.now) }
     {
         match self {
@@ -55,7 +55,7 @@ impl<'t> Token<'t> {
     }
 
     /// What stands between its quotes.
-    pub fn quoted(&self) -> Option<&'t str>
+    pub(crate) fn quoted(&self) -> Option<&'t str>
         ensures { option_map (λ t. t.now) result ≡ text_in_quotes (lexeme self.now) }
     {
         match self {

@@ -1,7 +1,6 @@
 //! Cutting a filter's text into its tokens.
 
-ghost use Rattle.std.specs.Prelude.{◌≡◌, false, ◌==◌, ◌<◌, ◌≤◌, Some, IfSome, IfNone, IsTrue, not, List, ◌∷◌, slice_index, length, take, drop, map, position, option_map, option_and_then};
-ghost use Rattle.std.specs.List.{list_all};
+ghost use Rattle.std.specs.Prelude.{◌≡◌, false, ◌==◌, ◌<◌, ◌≤◌, Some, IfSome, IfNone, IsTrue, not, ◌∷◌, slice_index, length, take, drop, map, position, option_map, option_and_then};
 ghost use Rattle.filter_text.specs.Lexemes.{is_blank, is_word_byte, is_mark};
 ghost use Rattle.filter_text.specs.Tokens.{tokens_of, until, as_name, as_quoted, begins_in_word, after_blanks, word_in_front, first_word};
 ghost use Rattle.filter_text.specs.Views.{lexeme};
@@ -82,7 +81,7 @@ fn split_word(text: &str) -> (&str, &str)
 }
 
 /// The word that a text begins with, behind blanks; no bytes, where it begins with none.
-pub fn first_word(text: &str) -> &str
+pub(crate) fn first_word(text: &str) -> &str
     ensures { result.now ≡ first_word text.now }
 {
     split_word(skip_blanks(text)).0
@@ -158,7 +157,7 @@ fn first_token(text: &str) -> Option<(Token<'_>, &str)>
 }
 
 /// The token that a text begins with, behind blanks, and what follows it; `None`, where none stands there.
-pub fn next_token(text: &str) -> Option<(Token<'_>, &str)>
+pub(crate) fn next_token(text: &str) -> Option<(Token<'_>, &str)>
     ensures next { IsNext (tokens_of text.now) result }
     ensures shorter { IfSome result (λ p. length p.1.now < length text.now) }
 {
@@ -171,7 +170,7 @@ pub fn next_token(text: &str) -> Option<(Token<'_>, &str)>
 
 /// The tokens of a text. `None` is for a text that has none, or more than any selection has behind
 /// its `from`. Takes no memory.
-pub fn tokens_of<'t>(text: &'t str) -> Option<ArrayVec<Token<'t>, MOST_TOKENS>>
+pub(crate) fn tokens_of<'t>(text: &'t str) -> Option<ArrayVec<Token<'t>, MOST_TOKENS>>
     ensures some { IfSome result (λ tokens. tokens_of text.now ≡ Some (map lexeme tokens.items)) }
     ensures none { IfNone result (IfSome (tokens_of text.now) (λ tokens. 10 < length tokens)) }
 {

@@ -11,7 +11,7 @@ use crate::search::place_of;
 use std::alloc::{AllocError, Global};
 
 /// Adds a pair to a set. An error leaves the set as it was.
-pub fn add_pair(
+pub(crate) fn add_pair(
     set: &mut Intervals,
     alloc: Global,
     uuid: u128,

@@ -11,7 +11,7 @@ use crate::fault::GtidFault;
 const LAST_NUMBER: u64 = 9_223_372_036_854_775_806;
 
 /// The number of one or more decimal digits, from `low` to the greatest of a GTID.
-pub fn number(text: &[u8], low: u64) -> Result<u64, GtidFault>
+pub(crate) fn number(text: &[u8], low: u64) -> Result<u64, GtidFault>
     ensures { Gives (λ n. n) result (number_from low (decimal_of text.now)) }
 {
     if text.is_empty() {
@@ -83,7 +83,7 @@ fn is_hyphenated(text: &[u8]) -> bool
 
 /// The uuid of 36 bytes: hexadecimal digits of either case, 8-4-4-4-12.
 #[tactic(auto, unfolding(crate::specs::Digits::uuid_of))]
-pub fn uuid(text: &[u8]) -> Option<u128>
+pub(crate) fn uuid(text: &[u8]) -> Option<u128>
     ensures { result ≡ uuid_of text.now }
 {
     if !is_hyphenated(text) {

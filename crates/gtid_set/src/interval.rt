@@ -15,7 +15,7 @@ impl Interval {
     ghost use Rattle.gtid_set.specs.Inner.Order.{wider};
 
     /// The number of the uuid is in the interval.
-    pub fn holds(&self, uuid: u128, number: u64) -> bool
+    pub(crate) fn holds(&self, uuid: u128, number: u64) -> bool
         ensures { result ≡ holds self.now uuid number }
     {
         self.uuid == uuid && self.first <= number && number <= self.last
@@ -23,7 +23,7 @@ impl Interval {
 
     /// The interval ends before the other begins, with a number between them where both are of
     /// one uuid.
-    pub fn ends_before(&self, other: &Interval) -> bool
+    pub(crate) fn ends_before(&self, other: &Interval) -> bool
         ensures { result ≡ ends_before self.now other.now }
     {
         self.uuid < other.uuid
@@ -31,14 +31,14 @@ impl Interval {
     }
 
     /// The interval begins no later than the other.
-    pub fn starts_by(&self, other: &Interval) -> bool
+    pub(crate) fn starts_by(&self, other: &Interval) -> bool
         ensures { result ≡ starts_by self.now other.now }
     {
         self.uuid < other.uuid || (self.uuid == other.uuid && self.first <= other.first)
     }
 
     /// The interval with one number more, which it holds or which is next to it.
-    pub fn wider(&self, number: u64) -> Interval
+    pub(crate) fn wider(&self, number: u64) -> Interval
         ensures { result ≡ wider self.now number }
     {
         Interval {
@@ -49,7 +49,7 @@ impl Interval {
     }
 
     /// Each number of the other interval is in this one.
-    pub fn covers(&self, other: &Interval) -> bool
+    pub(crate) fn covers(&self, other: &Interval) -> bool
         ensures { result ≡ holds_interval self.now other.now }
     {
         self.uuid == other.uuid && self.first <= other.first && other.last <= self.last

@@ -10,7 +10,7 @@ use std::slice;
 
 /// Intervals one behind the other: none, one kept in place, or any number in a block of memory.
 #[derive(Drop)]
-pub enum Intervals {
+pub(crate) enum Intervals {
     Empty,
     One(Interval),
     Many(Vec<Interval>),
@@ -18,7 +18,7 @@ pub enum Intervals {
 
 impl Intervals {
     /// The intervals in their order.
-    pub fn as_slice(&self) -> &[Interval]
+    pub(crate) fn as_slice(&self) -> &[Interval]
         ensures { result.now ≡ intervals_listed self.now }
     {
         match self {
@@ -29,7 +29,7 @@ impl Intervals {
     }
 
     /// The same intervals, of which a single one gives its block back.
-    pub fn from_vec(intervals: Vec<Interval>) -> Intervals
+    pub(crate) fn from_vec(intervals: Vec<Interval>) -> Intervals
         ensures { intervals_listed result ≡ intervals.items }
     {
         match intervals.as_slice() {
@@ -40,7 +40,7 @@ impl Intervals {
     }
 
     /// A copy of some intervals. Fails for want of memory alone, and for two intervals or more.
-    pub fn copied(alloc: Global, intervals: &[Interval]) -> Result<Intervals, AllocError>
+    pub(crate) fn copied(alloc: Global, intervals: &[Interval]) -> Result<Intervals, AllocError>
         ensures value { IfOk result (λ copy. intervals_listed copy ≡ intervals.now) }
         ensures err { OnErr result (2 ≤ length intervals.now) }
     {
@@ -53,7 +53,7 @@ impl Intervals {
 
     /// Puts an interval at a place. Fails for want of memory alone, where there is an interval
     /// already, and then changes nothing.
-    pub fn insert(
+    pub(crate) fn insert(
         &mut self,
         alloc: Global,
         place: usize,

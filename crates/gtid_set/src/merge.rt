@@ -88,7 +88,7 @@ fn merge(intervals: &mut Vec<Interval>)
 }
 
 /// The set of some intervals, in any order.
-pub fn merged(intervals: Intervals) -> Intervals
+pub(crate) fn merged(intervals: Intervals) -> Intervals
     requires { AllByRecursion IsInterval (intervals_listed intervals) }
     ensures { intervals_listed result ≡ set_of (intervals_listed intervals) }
 {
@@ -104,7 +104,7 @@ pub fn merged(intervals: Intervals) -> Intervals
 }
 
 /// The union of two sets, without spare room where the allocator gives it back.
-pub fn union(
+pub(crate) fn union(
     alloc: Global,
     one: &[Interval],
     other: &[Interval],

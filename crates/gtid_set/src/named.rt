@@ -11,14 +11,14 @@ use std::alloc::Global;
 /// The intervals that a text named so far, or that memory for them was wanting: the text is then
 /// read on, since a fault that stands further on is told before want of memory.
 #[derive(Drop)]
-pub enum Named {
+pub(crate) enum Named {
     Kept(Intervals),
     Wanting,
 }
 
 impl Named {
     /// Takes one more interval.
-    pub fn put(&mut self, alloc: Global, interval: Interval)
+    pub(crate) fn put(&mut self, alloc: Global, interval: Interval)
         ensures { (front : List IntervalValue) → Keeps self.old front → Keeps self.new (front ++ interval ∷ []) }
     {
         if let Named::Kept(intervals) = self {

@@ -1,6 +1,6 @@
 //! The printed form of a set.
 
-ghost use Rattle.std.specs.Prelude.{◌≡◌, ◌+◌, ◌*◌, ◌/◌, ◌%◌, ◌^◌, ◌<◌, Some, slice_set};
+ghost use Rattle.std.specs.Prelude.{◌≡◌, ◌+◌, ◌/◌, ◌%◌, ◌<◌, Some, slice_set};
 ghost use Rattle.gtid_set.specs.Printed.{hex_glyph, group_of, uuid_text};
 
 use crate::interval::Interval;

@@ -5,7 +5,7 @@ ghost use Rattle.gtid_set.specs.declared.interval.Interval.{Interval as Interval
 ghost use Rattle.gtid_set.specs.Inner.Kept.{intervals_listed, Keeps, ReadsIntervals, RefusedBy};
 ghost use Rattle.outcome.specs.Outcome.{Gives};
 ghost use Rattle.gtid_set.specs.Blank.{parts_between};
-ghost use Rattle.gtid_set.specs.Text.{all_of, intervals_of_piece, intervals_behind, intervals_of_part, without_flavor, intervals_of_text, put_before, within_limit};
+ghost use Rattle.gtid_set.specs.Text.{all_of, intervals_of_piece, intervals_of_part, without_flavor, intervals_of_text, put_before, within_limit};
 
 use crate::digits::{number, uuid};
 use crate::fault::GtidFault;
@@ -81,7 +81,7 @@ fn without_flavor(text: &[u8]) -> Result<&[u8], GtidFault>
 /// All intervals that a text names, in its order. Its own faults are told before want of memory,
 /// which comes only where it names two intervals or more.
 #[tactic(auto, unfolding(crate::specs::Text::within_limit, crate::specs::Text::intervals_of_text))]
-pub fn intervals_of(alloc: Global, text: &[u8]) -> Result<Intervals, GtidFault>
+pub(crate) fn intervals_of(alloc: Global, text: &[u8]) -> Result<Intervals, GtidFault>
     ensures named { IfOk result (λ intervals. within_limit text.now ≡ Ok (intervals_listed intervals)) }
     ensures refused { IfErr result (λ fault. RefusedBy fault (within_limit text.now)) }
 {

@@ -8,7 +8,7 @@ ghost use Rattle.gtid_set.specs.Inner.Order.{AllEndBefore};
 use crate::interval::Interval;
 
 /// The place of the first interval that doesn't end before `interval` begins, by halves.
-pub fn place_of(set: &[Interval], interval: &Interval) -> usize
+pub(crate) fn place_of(set: &[Interval], interval: &Interval) -> usize
     requires { IsCanonical set.now }
     ensures bound { result ≤ length set.now }
     ensures passed { AllEndBefore interval.now (take result set.now) }
@@ -42,7 +42,7 @@ fn reach(set: &[Interval], from: usize, interval: &Interval) -> usize
 }
 
 /// Each interval of `some` lies in one of `all`.
-pub fn are_within(some: &[Interval], all: &[Interval]) -> bool
+pub(crate) fn are_within(some: &[Interval], all: &[Interval]) -> bool
     requires some { IsCanonical some.now }
     requires all { IsCanonical all.now }
     ensures { result ≡ within_of some.now all.now }
@@ -58,7 +58,7 @@ pub fn are_within(some: &[Interval], all: &[Interval]) -> bool
 }
 
 /// The pair is in the set.
-pub fn has_pair(set: &[Interval], uuid: u128, number: u64) -> bool
+pub(crate) fn has_pair(set: &[Interval], uuid: u128, number: u64) -> bool
     requires { IsCanonical set.now }
     ensures { result ≡ has set.now uuid number }
 {

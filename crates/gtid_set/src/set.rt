@@ -1,12 +1,12 @@
 //! Sets of pairs of a uuid and a number.
 
-ghost use Rattle.std.specs.Prelude.{◌≡◌, ◌≤◌, ◌<◌, ◌↔◌, ◌||◌, ℕ, [], IsTrue, IfOk, IfErr, OnOk, OnErr, Err, length};
+ghost use Rattle.std.specs.Prelude.{◌≡◌, ◌≤◌, ◌<◌, ◌↔◌, [], IsTrue, IfOk, IfErr, OnOk, OnErr, Err, length};
 ghost use Rattle.std.specs.Int.{w128, from_be_bytes};
 ghost use Rattle.gtid_set.specs.declared.fault.GtidFault.{GtidFault as FaultValue};
 ghost use Rattle.gtid_set.specs.declared.fault.GtidFault.TheVariants.{Memory};
 ghost use Rattle.outcome.specs.Outcome.{GivesUnless};
 ghost use Rattle.gtid_set.specs.Fault.{meant};
-ghost use Rattle.gtid_set.specs.Position.{has, IsWithin, SamePairs, IsCanonical, HasBoth, HasPairMore, StandsApart, last_number, union_of, with_pair, within_of};
+ghost use Rattle.gtid_set.specs.Position.{has, IsWithin, IsCanonical, HasBoth, HasPairMore, StandsApart, last_number, union_of, with_pair, within_of};
 ghost use Rattle.gtid_set.specs.Text.{position_of_text, IsOfText, NamesSeveral};
 
 use crate::add::add_pair;

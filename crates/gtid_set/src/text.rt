@@ -39,7 +39,7 @@ fn trimmed_end(text: &[u8]) -> &[u8]
 }
 
 /// The text without the blanks, tabs, CR and LF at its ends.
-pub fn trimmed(text: &[u8]) -> &[u8]
+pub(crate) fn trimmed(text: &[u8]) -> &[u8]
     ensures { result.now ≡ trimmed text.now }
 {
     trimmed_end(trimmed_front(text))
@@ -47,7 +47,7 @@ pub fn trimmed(text: &[u8]) -> &[u8]
 
 /// What stands before the first separator, and what stands behind it where there is one.
 #[inline(always)]
-pub fn cut(text: &[u8], separator: u8) -> (&[u8], Option<&[u8]>)
+pub(crate) fn cut(text: &[u8], separator: u8) -> (&[u8], Option<&[u8]>)
     ensures { (result.0.now, option_map (λ r. r.now) result.1) ≡ cut separator text.now }
 {
     match memchr(separator, text) {

@@ -10,7 +10,7 @@ use stream_core::Step;
 
 /// What a line of a script is.
 #[derive(Clone, Copy)]
-pub enum Line {
+pub(crate) enum Line {
     /// An empty line, or one that begins with `#`.
     Skipped,
     Step(ScriptStep),

@@ -1,9 +1,10 @@
 -- Vindexes, which give a column's value its keyspace id (the Vitess documents on vindexes).
-use Rattle.std.specs.Prelude.{◌≡◌, ℕ, List, [], ◌∷◌, Option, None, Some, Result, Ok, Err, ℤ, pos, negsuc, codes, find}
+use Rattle.std.specs.Prelude.{◌≡◌, ℕ, List, [], ◌∷◌, Bool, Option, None, Some, Result, Ok, Err, ℤ, pos, negsuc, codes, find}
 use Rattle.std.specs.Int.{w64, to_be_bytes, reverse_bits}
 use Rattle.std.specs.Option.{option_map, ok_or}
 use Rattle.std.specs.Str.{bytes_eq}
 use Rattle.md5.specs.Md5.{md5}
+use Rattle.vindex.specs.Bounds.{Bounds, in_range}
 use Rattle.vindex.specs.NumberText.{number_of_text}
 use Rattle.vindex.specs.declared.faults.VindexFault.{VindexFault}
 use Rattle.vindex.specs.declared.faults.VindexFault.TheVariants.{NullValue, NotANumber}
@@ -56,3 +57,8 @@ id_of Numeric (Some text) = id_of_number (λ n. to_be_bytes w64 n) text
 id_of ReverseBits (Some text) = id_of_number (λ n. to_be_bytes w64 (reverse_bits w64 n)) text
 id_of Binary (Some bytes) = Ok bytes
 id_of BinaryMd5 (Some bytes) = Ok (md5 bytes)
+
+-- whether a range has an id, where there is one
+abbrev pub id_in : Bounds → Result (List ℕ) VindexFault → Result Bool VindexFault
+id_in range (Ok id) = Ok (in_range range id)
+id_in range (Err fault) = Err fault

@@ -15,7 +15,7 @@ use std::marker::Model;
 
 /// The hexadecimal digits of a bound without the `00` at their end, seen as the bytes that they write.
 #[derive(Drop)]
-pub struct BoundText<'t> {
+pub(crate) struct BoundText<'t> {
     digits: &'t [u8],
 }
 
@@ -34,7 +34,7 @@ impl<'t> Model for BoundText<'t> {
 impl<'t> BoundText<'t> {
     /// The bound that a text writes: an even number of hexadecimal digits of either case. `None` is for
     /// every other text. Takes no memory.
-    pub fn read(text: &'t str) -> Option<BoundText<'t>>
+    pub(crate) fn read(text: &'t str) -> Option<BoundText<'t>>
         ensures { result ≡ option_map without_end_zeros (bytes_of_hex text.now) }
     {
         let digits = text.as_bytes();
@@ -47,21 +47,21 @@ impl<'t> BoundText<'t> {
     }
 
     /// Whether it has no bytes. Takes no memory.
-    pub fn is_empty(&self) -> bool
+    pub(crate) fn is_empty(&self) -> bool
         ensures { IsTrue result ↔ (self.now ≡ []) }
     {
         self.digits.is_empty()
     }
 
     /// Whether its bytes come before those of another bound. Takes no memory.
-    pub fn is_before(&self, other: &BoundText<'_>) -> bool
+    pub(crate) fn is_before(&self, other: &BoundText<'_>) -> bool
         ensures { result ≡ is_lt (slice_cmp nat_cmp self.now other.now) }
     {
         comes_before(self.digits, other.digits)
     }
 
     /// Its bytes.
-    pub fn bytes(&self, alloc: Global) -> Result<Vec<u8>, AllocError>
+    pub(crate) fn bytes(&self, alloc: Global) -> Result<Vec<u8>, AllocError>
         ensures { IfOk result (λ bytes. bytes.items ≡ self.now) }
     {
         match hex::decode(alloc, self.digits) {

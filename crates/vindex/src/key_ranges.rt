@@ -2,13 +2,17 @@
 
 ghost use Rattle.std.specs.Prelude.{◌≡◌, ◌⊎◌, ◌↔◌, Some, None, IfOk, IfErr, IsErrOf, IsSome, IsTrue};
 ghost use Rattle.std.specs.Option.{option_copied};
+ghost use Rattle.row_view.specs.ColumnValue.{column_value};
 ghost use Rattle.vindex.specs.Bounds.{Bounds, in_range, is_ordered};
+ghost use Rattle.vindex.specs.KeyspaceId.{id_of, id_in};
 ghost use Rattle.vindex.specs.Private.RangeAnswers.{AnswersRange};
 ghost use Rattle.vindex.specs.RangeText.{key_range_of_text, IsRangeText};
 ghost use Rattle.vindex.specs.declared.faults.VindexFault.TheVariants.{BadRange, Memory};
 
 use crate::bound_text::BoundText;
 use crate::faults::VindexFault;
+use crate::vindexes::Vindex;
+use row_view::Column;
 use std::alloc::{AllocError, Global};
 use std::marker::Model;
 
@@ -113,6 +117,15 @@ impl KeyRange {
             None => true,
         };
         self.start().cmp(id).is_le() && is_below
+    }
+
+    /// Whether the range has the keyspace id of a column's value. A value that has no id under the
+    /// vindex is refused as by `Vindex::id`. Takes no memory.
+    pub fn holds_value(&self, vindex: Vindex, column: Column<'_>) -> Result<bool, VindexFault>
+        ensures { result ≡ id_in self.now (id_of vindex (column_value column.entry)) }
+    {
+        let id = vindex.id(column)?;
+        Ok(self.holds(id.bytes()))
     }
 
     /// Where the range starts. Takes no memory.

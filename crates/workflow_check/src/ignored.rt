@@ -13,7 +13,7 @@ use std::alloc::{AllocError, Global};
 
 /// An object of the file, by its place.
 #[derive(Clone, Copy)]
-pub enum Object {
+pub(crate) enum Object {
     /// The file.
     File,
     /// A table.

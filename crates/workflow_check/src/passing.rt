@@ -4,10 +4,9 @@ ghost use Rattle.std.specs.Prelude.{◌≡◌, ◌++◌, IfOk, OnOk, codes, deci
 ghost use Rattle.std.specs.Option.{option_copied, option_map};
 ghost use Rattle.std.specs.String.{string_bytes};
 ghost use Rattle.serde_json.specs.View.{view};
-ghost use Rattle.hex.specs.Hex.{encode_lower};
 ghost use Rattle.vindex.specs.KeyspaceId.{vindex_name};
 ghost use Rattle.filter_text.specs.Views.{meaning, rows_said};
-ghost use Rattle.workflow_check.specs.Passing.{said_by, rows_by, own_ranged, range_said, end_text, range_text, ranged_text, said_text, table_words, rule_line, stream_lines, rule_lines};
+ghost use Rattle.workflow_check.specs.Passing.{said_by, rows_by, range_said, end_text, range_text, ranged_text, said_text, table_words, rule_line, stream_lines, rule_lines};
 
 use crate::json::text_at;
 use crate::listed::columns_text;
