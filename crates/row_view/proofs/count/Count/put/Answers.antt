@@ -53,7 +53,7 @@ returns-in-1-Varint-clause-read c =
       single.1,
       c.put_length.ensures.counted message [] rest more place left
           (subst (λ (ns : List ℤ). IsCounted message ns c.args.self.now c.args.marks.now) passed
-              (left_behind message rest after f (unzigzag_of c.in-1-Varint.number ∷ []) c.args.self.now c.args.marks.now ahead single.0 c.requires.counted)),
+          (left_behind message rest after f (unzigzag_of c.in-1-Varint.number ∷ []) c.args.self.now c.args.marks.now ahead single.0 c.requires.counted)),
     )
 
 pub returns-in-1-Bytes-clause-few : goal.returns-in-1-Bytes-clause-few
