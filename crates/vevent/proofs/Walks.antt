@@ -1,5 +1,5 @@
 -- One more field of a message is met.
-use Rattle.std.proofs.Common.{◌≡◌, ◌∷◌, ℕ, List, Option, Some, None, Result, Ok, refl, subst, sym}
+use Rattle.std.proofs.Common.{◌≡◌, ◌∷◌, ℕ, List, [], Option, Some, None, Result, Ok, refl, subst, sym}
 use Rattle.std.specs.Prelude.{option_and_then}
 use Rattle.proto_wire.specs.Reading.{Reading, Next}
 use Rattle.proto_wire.specs.Field.{WireField}
@@ -11,5 +11,14 @@ pub next_item : {X A F : Type 0} (view : X → A) (old new : Reading A F) (r : R
 next_item view old new r x next e = subst (λ given. Next view old given new) e next
 
 -- where nothing is at fault in a field, the first fault is that of the others
-pub first_in_others : {F : Type 0} (inside : ℕ → List ℕ → Option F) (f : WireField) (old new : Reading WireField F) → (old.items ≡ f ∷ new.items) × (old.fault ≡ new.fault) → None ≡ option_and_then (inside f.number) (bytes_in f.value) → first_in inside new.items new.fault ≡ first_in inside old.items old.fault
-first_in_others inside f old new next none = rw (next.0, next.1) (rw (sym none) refl)
+pub first_in_rest : {F : Type 0} (inside : ℕ → List ℕ → Option F) (f : WireField) (all rest : List WireField) (end : Option F) → all ≡ f ∷ rest → None ≡ option_and_then (inside f.number) (bytes_in f.value) → first_in inside rest end ≡ first_in inside all end
+first_in_rest inside f all rest end next none = rw next (rw (sym none) refl)
+
+none_in : {F : Type 0} (bytes : Option (List ℕ)) → option_and_then {U = F} (λ _. None) bytes ≡ None
+none_in None = refl
+none_in (Some bytes) = refl
+
+-- where nothing can be at fault in a field, the first fault is the one that ends them
+pub first_in_none : {F : Type 0} (fields : List WireField) (end : Option F) → first_in (λ _ _. None) fields end ≡ end
+first_in_none [] end = refl
+first_in_none (f ∷ fields) end = rw (none_in (bytes_in f.value)) (first_in_none fields end)

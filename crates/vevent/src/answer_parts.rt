@@ -1,9 +1,8 @@
 //! What an answer of a stream of rows holds, in one walk down to its rows.
 
-ghost use Rattle.std.specs.Prelude.{◌≡◌, ℕ, List, [], ◌∷◌, None, Some, MatchResult, OnOk, option_and_then};
+ghost use Rattle.std.specs.Prelude.{◌≡◌, ℕ, List, [], None, Some, MatchResult, OnOk};
 ghost use Rattle.std.specs.Result.{result_err};
-ghost use Rattle.proto_wire.specs.Field.{WireField, wire_field, fields_of};
-ghost use Rattle.proto_wire.specs.Parts.{bytes_in};
+ghost use Rattle.proto_wire.specs.Field.{fields_of};
 ghost use Rattle.row_view.specs.Row.{row_of_message};
 ghost use Rattle.vevent.specs.Answer.{in_answer, answer_wire_fault, are_answer_texts};
 ghost use Rattle.vevent.specs.Private.Singular.{repeats_behind};
@@ -11,8 +10,9 @@ ghost use Rattle.vevent.specs.Private.AnswerParts.{AreAnswerParts, AreAllAnswerP
 
 use crate::singular::Singular;
 use crate::text::is_text;
+use crate::walk::{MessageParts, walk};
 use crate::wire::check_plain;
-use proto_wire::{Field, Fields, Payload, WireFault, last_text};
+use proto_wire::{Field, Payload, WireFault, last_text};
 use row_view::{RowFault, RowView};
 
 /// What was met so far of an answer.
@@ -57,12 +57,27 @@ impl<'b> AnswerParts<'b> {
         Ok(())
     }
 
-    /// Meets a field.
-    fn put(&mut self, field: Field<'b>) -> Result<(), WireFault>
-        ensures wire { let f = wire_field field.entry in
-            result_err result ≡ option_and_then (in_answer f.number) (bytes_in f.value) }
-        ensures put { OnOk result ((answer : List ℕ) (more : List WireField) → AreAnswerParts answer self.old (wire_field field.entry ∷ more) → AreAnswerParts answer self.new more) }
+    /// Whether there are two last keys.
+    pub(crate) fn repeats(&self) -> bool
+        ensures { result ≡ repeats_behind self.now.lastpk [] }
     {
+        self.lastpk.repeats()
+    }
+
+    /// Whether the texts are ones.
+    pub(crate) fn are_texts(&self) -> bool
+        ensures { (answer : List ℕ) → AreAllAnswerParts answer self.now → result ≡ are_answer_texts answer }
+    {
+        self.are_names && is_text(self.gtid)
+    }
+}
+
+impl<'b> MessageParts<'b> for AnswerParts<'b> {
+    ghost inside = { λ _. in_answer };
+
+    ghost make_up = { AreAnswerParts };
+
+    fn put(&mut self, field: Field<'b>) -> Result<(), WireFault> {
         match (field.number, field.payload) {
             (1 | 2, Payload::Bytes(column)) => self.put_column(column),
             (3, Payload::Bytes(gtid)) => {
@@ -81,20 +96,6 @@ impl<'b> AnswerParts<'b> {
             _ => Ok(()),
         }
     }
-
-    /// Whether there are two last keys.
-    pub(crate) fn repeats(&self) -> bool
-        ensures { result ≡ repeats_behind self.now.lastpk [] }
-    {
-        self.lastpk.repeats()
-    }
-
-    /// Whether the texts are ones.
-    pub(crate) fn are_texts(&self) -> bool
-        ensures { (answer : List ℕ) → AreAllAnswerParts answer self.now → result ≡ are_answer_texts answer }
-    {
-        self.are_names && is_text(self.gtid)
-    }
 }
 
 /// All that an answer holds, or the first fault from the left of what isn't a list of fields in it.
@@ -104,9 +105,6 @@ pub(crate) fn answer_parts_of(answer: &[u8]) -> Result<AnswerParts<'_>, WireFaul
         (λ fault. answer_wire_fault answer.now ≡ Some fault) }
 {
     let mut parts = AnswerParts::new();
-    let mut fields = Fields::new(answer);
-    while let Some(field) = fields.next_field()? {
-        parts.put(field)?;
-    }
+    walk(answer, &mut parts)?;
     Ok(parts)
 }

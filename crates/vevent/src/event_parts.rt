@@ -1,17 +1,17 @@
 //! What an event holds, in one walk down to its rows.
 
-ghost use Rattle.std.specs.Prelude.{◌≡◌, ◌||◌, ℕ, List, [], ◌∷◌, None, Some, MatchResult, OnOk, option_and_then};
+ghost use Rattle.std.specs.Prelude.{◌≡◌, ◌||◌, ℕ, List, [], None, Some, MatchResult, OnOk};
 ghost use Rattle.std.specs.Result.{result_err};
-ghost use Rattle.proto_wire.specs.Field.{WireField, wire_field, fields_of};
-ghost use Rattle.proto_wire.specs.Parts.{bytes_in};
+ghost use Rattle.proto_wire.specs.Field.{fields_of};
 ghost use Rattle.vevent.specs.Fault.{in_event, in_plain, wire_fault_by, event_wire_fault};
 ghost use Rattle.vevent.specs.Private.Singular.{repeats_behind};
 ghost use Rattle.vevent.specs.Private.EventParts.{AreParts, AreAllParts, PutsRowEvent};
 
 use crate::row_parts::{RowParts, row_parts_of};
 use crate::singular::Singular;
+use crate::walk::{MessageParts, walk};
 use crate::wire::check_holder;
-use proto_wire::{Field, Fields, Payload, WireFault};
+use proto_wire::{Field, Payload, WireFault};
 
 /// What was met so far of an event.
 #[derive(Drop)]
@@ -55,12 +55,23 @@ impl<'b> EventParts<'b> {
         Ok(())
     }
 
-    /// Meets a field.
-    fn put(&mut self, field: Field<'b>) -> Result<(), WireFault>
-        ensures wire { let f = wire_field field.entry in
-            result_err result ≡ option_and_then (in_event f.number) (bytes_in f.value) }
-        ensures put { OnOk result ((event : List ℕ) (more : List WireField) → AreParts event self.old (wire_field field.entry ∷ more) → AreParts event self.new more) }
+    /// Whether a message that stands alone occurs twice.
+    pub(crate) fn repeats(&self) -> bool
+        ensures { result ≡ (repeats_behind self.now.row_event [] || repeats_behind self.now.field_event [] || repeats_behind self.now.vgtid [] || self.now.rows.repeats) }
     {
+        self.row_event.repeats()
+            || self.field_event.repeats()
+            || self.vgtid.repeats()
+            || self.rows.repeats
+    }
+}
+
+impl<'b> MessageParts<'b> for EventParts<'b> {
+    ghost inside = { λ _. in_event };
+
+    ghost make_up = { AreParts };
+
+    fn put(&mut self, field: Field<'b>) -> Result<(), WireFault> {
         match (field.number, field.payload) {
             (1, Payload::Varint(number)) => {
                 self.type_number = number;
@@ -82,16 +93,6 @@ impl<'b> EventParts<'b> {
             _ => Ok(()),
         }
     }
-
-    /// Whether a message that stands alone occurs twice.
-    pub(crate) fn repeats(&self) -> bool
-        ensures { result ≡ (repeats_behind self.now.row_event [] || repeats_behind self.now.field_event [] || repeats_behind self.now.vgtid [] || self.now.rows.repeats) }
-    {
-        self.row_event.repeats()
-            || self.field_event.repeats()
-            || self.vgtid.repeats()
-            || self.rows.repeats
-    }
 }
 
 /// All that an event holds, or the first fault in it of what isn't a list of fields.
@@ -101,9 +102,6 @@ pub(crate) fn event_parts_of(event: &[u8]) -> Result<EventParts<'_>, WireFault>
         (λ fault. event_wire_fault event.now ≡ Some fault) }
 {
     let mut parts = EventParts::new();
-    let mut fields = Fields::new(event);
-    while let Some(field) = fields.next_field()? {
-        parts.put(field)?;
-    }
+    walk(event, &mut parts)?;
     Ok(parts)
 }

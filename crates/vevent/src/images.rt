@@ -1,8 +1,8 @@
 //! The rows before and after a row change, in one pass.
 
-ghost use Rattle.std.specs.Prelude.{◌≡◌, ◌||◌, ◌&&◌, ℕ, List, [], ◌∷◌, None, Some, MatchResult};
+ghost use Rattle.std.specs.Prelude.{◌≡◌, ◌||◌, ◌&&◌, ℕ, List, [], None, Some, MatchResult};
 ghost use Rattle.std.specs.Result.{result_err};
-ghost use Rattle.proto_wire.specs.Field.{WireField, wire_field, fields_of};
+ghost use Rattle.proto_wire.specs.Field.{fields_of};
 ghost use Rattle.row_view.specs.Row.{row_of_message};
 ghost use Rattle.std.specs.Option.{option_or};
 ghost use Rattle.vevent.specs.Private.Singular.{repeats_behind};
@@ -11,7 +11,8 @@ ghost use Rattle.vevent.specs.Private.EventParts.{AreImages};
 
 use crate::column_count::ColumnCount;
 use crate::singular::Singular;
-use proto_wire::{Field, Fields, Payload, WireFault};
+use crate::walk::{MessageParts, walk};
+use proto_wire::{Field, Payload, WireFault};
 use row_view::{RowFault, RowView};
 
 /// What was met so far of a row change.
@@ -28,6 +29,19 @@ pub(crate) struct Images<'b> {
 }
 
 impl<'b> Images<'b> {
+    /// Nothing was met.
+    fn new() -> Images<'b>
+        ensures { (change : List ℕ) → AreImages change result (fields_of change).items }
+    {
+        Images {
+            before: Singular::Absent,
+            after: Singular::Absent,
+            is_partial: false,
+            fault: None,
+            columns: ColumnCount::NoRow,
+        }
+    }
+
     /// Reads a row: how many columns it has, or else its fault, where none was found before.
     fn put_row(&mut self, row: &[u8])
         ensures fault { self.new.fault ≡ option_or self.old.fault (result_err (row_of_message row.now)) }
@@ -42,10 +56,20 @@ impl<'b> Images<'b> {
         }
     }
 
-    /// Meets a field.
-    fn put(&mut self, field: Field<'b>)
-        ensures { (change : List ℕ) (more : List WireField) → AreImages change self.old (wire_field field.entry ∷ more) → AreImages change self.new more }
+    /// Whether there are two rows before or two after.
+    pub(crate) fn repeats(&self) -> bool
+        ensures { result ≡ (repeats_behind self.now.before [] || repeats_behind self.now.after []) }
     {
+        self.before.repeats() || self.after.repeats()
+    }
+}
+
+impl<'b> MessageParts<'b> for Images<'b> {
+    ghost inside = { λ _ _ _. None };
+
+    ghost make_up = { AreImages };
+
+    fn put(&mut self, field: Field<'b>) -> Result<(), WireFault> {
         match (field.number, field.payload) {
             (1, Payload::Bytes(row)) => {
                 self.before.put(row);
@@ -58,32 +82,18 @@ impl<'b> Images<'b> {
             (1 | 2, _) => {}
             _ => self.is_partial = true,
         }
-    }
-
-    /// Whether there are two rows before or two after.
-    pub(crate) fn repeats(&self) -> bool
-        ensures { result ≡ (repeats_behind self.now.before [] || repeats_behind self.now.after []) }
-    {
-        self.before.repeats() || self.after.repeats()
+        Ok(())
     }
 }
 
 /// The rows of a row change, or why it isn't a list of fields.
+#[tactic(auto, using(crate::proofs::Walks::first_in_none))]
 pub(crate) fn images_of(change: &[u8]) -> Result<Images<'_>, WireFault>
     ensures { MatchResult result
         (λ images. ((fields_of change.now).fault ≡ None) × AreImages change.now images [])
         (λ fault. (fields_of change.now).fault ≡ Some fault) }
 {
-    let mut images = Images {
-        before: Singular::Absent,
-        after: Singular::Absent,
-        is_partial: false,
-        fault: None,
-        columns: ColumnCount::NoRow,
-    };
-    let mut fields = Fields::new(change);
-    while let Some(field) = fields.next_field()? {
-        images.put(field);
-    }
+    let mut images = Images::new();
+    walk(change, &mut images)?;
     Ok(images)
 }

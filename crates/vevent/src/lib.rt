@@ -20,6 +20,7 @@ mod singular;
 mod text;
 mod used_texts;
 mod vgtid_event;
+mod walk;
 mod wire;
 mod written_answer;
 mod written_changes;

@@ -1,9 +1,9 @@
 //! What the parts of a checkpoint hold, each in one walk down to its rows.
 
-ghost use Rattle.std.specs.Prelude.{◌≡◌, ◌||◌, ℕ, List, [], ◌∷◌, None, Some, MatchResult, OnOk, option_and_then};
+ghost use Rattle.std.specs.Prelude.{◌≡◌, ℕ, List, None, Some, MatchResult, OnOk};
 ghost use Rattle.std.specs.Result.{result_err};
-ghost use Rattle.proto_wire.specs.Field.{WireField, wire_field, fields_of};
-ghost use Rattle.proto_wire.specs.Parts.{bytes_in, embedded};
+ghost use Rattle.proto_wire.specs.Field.{fields_of};
+ghost use Rattle.proto_wire.specs.Parts.{embedded};
 ghost use Rattle.vevent.specs.Answer.{answer_wire_fault};
 ghost use Rattle.vevent.specs.CheckpointPart.{in_table, table_wire_fault, repeats_in_table, are_table_texts, table_row_fault, in_stream, stream_wire_fault, are_stream_texts};
 ghost use Rattle.vevent.specs.Private.PartContents.{IsTable, IsWholeTable, PutsAnswer, IsStream, IsWholeStream, PutsTable};
@@ -11,7 +11,8 @@ ghost use Rattle.vevent.specs.Private.PartContents.{IsTable, IsWholeTable, PutsA
 use crate::answer_parts::{AnswerParts, answer_parts_of};
 use crate::singular::Singular;
 use crate::text::is_text;
-use proto_wire::{Field, Fields, Payload, WireFault, single_of};
+use crate::walk::{MessageParts, walk};
+use proto_wire::{Field, Payload, WireFault, single_of};
 use row_view::RowFault;
 
 /// The answer in a table's part; an absent one is empty.
@@ -53,18 +54,6 @@ impl<'b> TableContents<'b> {
         Ok(())
     }
 
-    /// Meets a field.
-    fn put(&mut self, field: Field<'b>) -> Result<(), WireFault>
-        ensures wire { let f = wire_field field.entry in
-            result_err result ≡ option_and_then (in_table f.number) (bytes_in f.value) }
-        ensures put { OnOk result ((part : List ℕ) (more : List WireField) → IsTable part self.old (wire_field field.entry ∷ more) → IsTable part self.new more) }
-    {
-        match (field.number, field.payload) {
-            (2, Payload::Bytes(answer)) => self.put_answer(answer),
-            _ => Ok(()),
-        }
-    }
-
     /// Whether there are two answers, or two last keys in the first.
     pub(crate) fn repeats(&self) -> bool
         ensures { (part : List ℕ) → IsWholeTable part self.now → result ≡ repeats_in_table part }
@@ -87,6 +76,19 @@ impl<'b> TableContents<'b> {
     }
 }
 
+impl<'b> MessageParts<'b> for TableContents<'b> {
+    ghost inside = { λ _. in_table };
+
+    ghost make_up = { IsTable };
+
+    fn put(&mut self, field: Field<'b>) -> Result<(), WireFault> {
+        match (field.number, field.payload) {
+            (2, Payload::Bytes(answer)) => self.put_answer(answer),
+            _ => Ok(()),
+        }
+    }
+}
+
 /// All that a table's part holds, or the first fault from the left of what isn't a list of fields in it.
 pub(crate) fn table_contents_of(part: &[u8]) -> Result<TableContents<'_>, WireFault>
     ensures { MatchResult result
@@ -94,10 +96,7 @@ pub(crate) fn table_contents_of(part: &[u8]) -> Result<TableContents<'_>, WireFa
         (λ fault. table_wire_fault part.now ≡ Some fault) }
 {
     let mut contents = TableContents::new();
-    let mut fields = Fields::new(part);
-    while let Some(field) = fields.next_field()? {
-        contents.put(field)?;
-    }
+    walk(part, &mut contents)?;
     Ok(contents)
 }
 
@@ -139,12 +138,20 @@ impl<'b> StreamContents<'b> {
         Ok(())
     }
 
-    /// Meets a field.
-    fn put(&mut self, field: Field<'b>) -> Result<(), WireFault>
-        ensures wire { let f = wire_field field.entry in
-            result_err result ≡ option_and_then (in_stream f.number) (bytes_in f.value) }
-        ensures put { OnOk result ((part : List ℕ) (more : List WireField) → IsStream part self.old (wire_field field.entry ∷ more) → IsStream part self.new more) }
+    /// Whether the texts are ones.
+    pub(crate) fn are_texts(&self) -> bool
+        ensures { (part : List ℕ) → IsWholeStream part self.now → result ≡ are_stream_texts part }
     {
+        is_text(self.shard) && self.are_tables
+    }
+}
+
+impl<'b> MessageParts<'b> for StreamContents<'b> {
+    ghost inside = { λ _. in_stream };
+
+    ghost make_up = { IsStream };
+
+    fn put(&mut self, field: Field<'b>) -> Result<(), WireFault> {
         match (field.number, field.payload) {
             (1, Payload::Bytes(shard)) => {
                 self.shard = shard;
@@ -153,13 +160,6 @@ impl<'b> StreamContents<'b> {
             (2, Payload::Bytes(part)) => self.put_table(part),
             _ => Ok(()),
         }
-    }
-
-    /// Whether the texts are ones.
-    pub(crate) fn are_texts(&self) -> bool
-        ensures { (part : List ℕ) → IsWholeStream part self.now → result ≡ are_stream_texts part }
-    {
-        is_text(self.shard) && self.are_tables
     }
 }
 
@@ -170,9 +170,6 @@ pub(crate) fn stream_contents_of(part: &[u8]) -> Result<StreamContents<'_>, Wire
         (λ fault. stream_wire_fault part.now ≡ Some fault) }
 {
     let mut contents = StreamContents::new();
-    let mut fields = Fields::new(part);
-    while let Some(field) = fields.next_field()? {
-        contents.put(field)?;
-    }
+    walk(part, &mut contents)?;
     Ok(contents)
 }

@@ -1,15 +1,15 @@
 //! What a row event holds, in one pass over it and its row changes.
 
-ghost use Rattle.std.specs.Prelude.{◌≡◌, ◌||◌, ℕ, List, [], ◌∷◌, None, Some, MatchResult, OnOk, option_and_then};
+ghost use Rattle.std.specs.Prelude.{◌≡◌, ℕ, List, None, Some, MatchResult, OnOk};
 ghost use Rattle.std.specs.Result.{result_err};
-ghost use Rattle.proto_wire.specs.Field.{WireField, wire_field, fields_of};
-ghost use Rattle.proto_wire.specs.Parts.{bytes_in};
+ghost use Rattle.proto_wire.specs.Field.{fields_of};
 ghost use Rattle.vevent.specs.Fault.{in_plain, wire_fault_by};
 ghost use Rattle.vevent.specs.Private.EventParts.{AreRowParts, AreAllRowParts, PutsChange};
 
 use crate::column_count::ColumnCount;
 use crate::images::images_of;
-use proto_wire::{Field, Fields, Payload, WireFault};
+use crate::walk::{MessageParts, walk};
+use proto_wire::{Field, Payload, WireFault};
 use row_view::RowFault;
 
 /// What was met so far of a row event.
@@ -53,13 +53,14 @@ impl<'b> RowParts<'b> {
         self.columns = self.columns.and(images.columns);
         Ok(())
     }
+}
 
-    /// Meets a field.
-    fn put(&mut self, field: Field<'b>) -> Result<(), WireFault>
-        ensures wire { let f = wire_field field.entry in
-            result_err result ≡ option_and_then (in_plain 2 f.number) (bytes_in f.value) }
-        ensures put { OnOk result ((row_event : List ℕ) (more : List WireField) → AreRowParts row_event self.old (wire_field field.entry ∷ more) → AreRowParts row_event self.new more) }
-    {
+impl<'b> MessageParts<'b> for RowParts<'b> {
+    ghost inside = { λ _. in_plain 2 };
+
+    ghost make_up = { AreRowParts };
+
+    fn put(&mut self, field: Field<'b>) -> Result<(), WireFault> {
         match (field.number, field.payload) {
             (1, Payload::Bytes(name)) => {
                 self.table_name = name;
@@ -78,9 +79,6 @@ pub(crate) fn row_parts_of(row_event: &[u8]) -> Result<RowParts<'_>, WireFault>
         (λ fault. wire_fault_by (in_plain 2) row_event.now ≡ Some fault) }
 {
     let mut parts = RowParts::new();
-    let mut fields = Fields::new(row_event);
-    while let Some(field) = fields.next_field()? {
-        parts.put(field)?;
-    }
+    walk(row_event, &mut parts)?;
     Ok(parts)
 }

@@ -1,11 +1,11 @@
 //! Writing of answers of a stream of rows.
 
-ghost use Rattle.std.specs.Prelude.{◌≡◌, ◌++◌, Option, map, length, OnOk, OnErr, IfOk};
+ghost use Rattle.std.specs.Prelude.{◌≡◌, ◌++◌, map, length, OnOk, OnErr, IfOk};
 ghost use Rattle.proto_wire.specs.Writing.{written_field, written_fields, message_field, Begins};
 ghost use Rattle.row_view.specs.WrittenRow.{written_row};
 ghost use Rattle.vevent.specs.ColumnView.{field_value};
 ghost use Rattle.vevent.specs.ContentView.{answer_content};
-ghost use Rattle.vevent.specs.WrittenEvent.{message_fields, row_field, written_column};
+ghost use Rattle.vevent.specs.WrittenEvent.{message_fields, written_column};
 ghost use Rattle.vevent.specs.WrittenPart.{written_answer, AnswersAreReadAgain};
 
 use crate::field_event::ColumnField;

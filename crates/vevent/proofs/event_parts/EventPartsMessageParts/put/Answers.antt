@@ -1,6 +1,6 @@
 use Rattle.std.proofs.Common.{arith, rules}
 use Rattle.std.proofs.lemmas.Grind.{common_steps}
-use Rattle.vevent.proofs.event_parts.EventParts.put.Goals as goal
+use Rattle.vevent.proofs.event_parts.EventPartsMessageParts.put.Goals as goal
 
 pub returns-in-1-Varint-clause-put : goal.returns-in-1-Varint-clause-put
 returns-in-1-Varint-clause-put c = search rules

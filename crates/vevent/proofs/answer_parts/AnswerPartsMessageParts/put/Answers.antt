@@ -4,7 +4,7 @@ use Rattle.row_view.specs.Row.{row_of_message}
 use Rattle.vevent.specs.Fault.{first_in}
 use Rattle.vevent.specs.Answer.{in_rows}
 use Rattle.vevent.proofs.FirstFault.{option_or-option_or}
-use Rattle.vevent.proofs.answer_parts.AnswerParts.put.Goals as goal
+use Rattle.vevent.proofs.answer_parts.AnswerPartsMessageParts.put.Goals as goal
 
 pub returns-in-5-Bytes-clause-put : goal.returns-in-5-Bytes-clause-put
 returns-in-5-Bytes-clause-put c = λ answer more h. record {

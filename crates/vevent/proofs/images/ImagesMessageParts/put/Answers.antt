@@ -8,10 +8,10 @@ use Rattle.row_view.specs.Row.{row_of_message}
 use Rattle.vevent.specs.Fault.{first_in, in_change}
 use Rattle.vevent.proofs.FirstFault.{option_or-option_or}
 use Rattle.vevent.proofs.CountLaws.{and_first, and_second}
-use Rattle.vevent.proofs.images.Images.put.Goals as goal
+use Rattle.vevent.proofs.images.ImagesMessageParts.put.Goals as goal
 
-pub returns-in-1-Bytes : goal.returns-in-1-Bytes
-returns-in-1-Bytes c = λ change more h. record {
+pub returns-in-1-Bytes-clause-put : goal.returns-in-1-Bytes-clause-put
+returns-in-1-Bytes-clause-put c = λ change more h. record {
   before = search rules;
   after = search rules;
   partial = search rules;
@@ -23,8 +23,8 @@ returns-in-1-Bytes c = λ change more h. record {
       rw (c.put_row.ensures.columns wanted) (and_first (all_have c.args.self.now.columns wanted) (image_has wanted c.in-1-Bytes.row.now) (list_all (image_has wanted) (filter_map (part_in 1) more)) (list_all (image_has wanted) (filter_map (part_in 2) more)) ∙ met);
 }
 
-pub returns-in-2-Bytes : goal.returns-in-2-Bytes
-returns-in-2-Bytes c = λ change more h. record {
+pub returns-in-2-Bytes-clause-put : goal.returns-in-2-Bytes-clause-put
+returns-in-2-Bytes-clause-put c = λ change more h. record {
   before = search rules;
   after = search rules;
   partial = search rules;
