@@ -18,6 +18,7 @@ use Rattle.pk_copy.specs.Marks.{IsOfCurrent, is_inside}
 use Rattle.source_feed.specs.Planned.{FeedValue, IsFeed}
 use Rattle.source_feed.specs.Prepared.{IsSameOn}
 use Rattle.source_feed.specs.History.{picked, touches_in, passed_at, kept_of, kept_at}
+use Rattle.source_feed.specs.SoundGroups.{sound_groups}
 use Rattle.source_feed.specs.Touches.{PreparedValue, prepared}
 use Rattle.stream_core.specs.declared.phase.Phase.TheVariants.{Running, CatchUp}
 use Rattle.stream_core.specs.Standing.{phase_of}
@@ -25,7 +26,6 @@ use Rattle.board_laws.specs.Allowed.{last_position}
 use Rattle.board_laws.specs.Cut.{cut_of}
 use Rattle.board_laws.specs.Lawful.{standing_of, IsSoundState}
 use Rattle.board_laws.specs.Meaning.{State}
-use Rattle.board_laws.specs.Runs.{sound_groups}
 use Rattle.board_laws.proofs.FeedGroups.{last_of, sound-is_read}
 use Rattle.board_laws.proofs.History.{passed_at-take, read-cut}
 use Rattle.board_laws.proofs.Lists.{take-take}

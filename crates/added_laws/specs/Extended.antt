@@ -4,8 +4,8 @@ use Rattle.filter_rule.specs.Extending.{IsExtended}
 use Rattle.filter_rule.specs.PlanValue.{PlanValue}
 use Rattle.pk_copy.specs.Marks.{Marks}
 use Rattle.source_feed.specs.Planned.{FeedValue, IsFeed}
+use Rattle.source_feed.specs.SoundGroups.{sound_groups}
 use Rattle.board_laws.specs.Meaning.{State, Meaning}
-use Rattle.board_laws.specs.Runs.{sound_groups}
 use Rattle.added_laws.specs.GoingOn.{GoesOn}
 
 -- ---- the board

@@ -4,9 +4,9 @@ use Rattle.std.specs.Prelude.{◌≡◌, ◌⊎◌, ℕ, ◌<◌, ◌≤◌, Lis
 use Rattle.source_feed.specs.declared.fault.FeedFault.{FeedFault}
 use Rattle.source_feed.specs.Planned.{FeedValue}
 use Rattle.source_feed.specs.Prepared.{IsSameOn}
+use Rattle.source_feed.specs.SoundGroups.{sound_groups}
 use Rattle.source_feed.specs.Touches.{PreparedValue, prepared}
 use Rattle.board_laws.specs.Meaning.{State}
-use Rattle.board_laws.specs.Runs.{sound_groups}
 
 -- the first so many groups of a feed are sound, and are those of the read list but for touches of further tables
 pub record GoesOnTo (feed : FeedValue) (state : State) (number : ℕ) : Type 0 where

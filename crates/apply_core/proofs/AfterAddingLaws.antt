@@ -6,9 +6,10 @@ use Rattle.filter_rule.specs.PlanValue.{PlanValue}
 use Rattle.filter_rule.specs.WellFormed.{IsPlan}
 use Rattle.source_feed.specs.declared.fault.FeedFault.{FeedFault}
 use Rattle.source_feed.specs.Planned.{FeedValue}
+use Rattle.source_feed.specs.SoundGroups.{sound_groups}
+use Rattle.source_feed.proofs.PositionLaws.{one_number}
 use Rattle.board_laws.specs.Event.{restart}
 use Rattle.board_laws.specs.Meaning.{State, Meaning}
-use Rattle.board_laws.specs.Runs.{sound_groups}
 use Rattle.board_laws.specs.StateAfter.{state_after}
 use Rattle.board_laws.proofs.Lookups.{Ties}
 use Rattle.added_laws.specs.Extended.{extended_state, extended_states, extended_board, MayExtend}
@@ -22,7 +23,7 @@ use Rattle.checkpoint_laws.specs.Resumed.{IsResumedBoard}
 use Rattle.checkpoint_laws.specs.Said.{IsCheckpoint}
 use Rattle.checkpoint_laws.specs.Saved.{SavedStream, saved_of}
 use Rattle.checkpoint_laws.proofs.MoreLaws.{StandsAt, stands_at, as_many_feeds, known_at_stream, resumed_go_on}
-use Rattle.checkpoint_laws.proofs.RestartedLaws.{one_number, saved_long}
+use Rattle.checkpoint_laws.proofs.RestartedLaws.{saved_long}
 use Rattle.checkpoint_laws.proofs.ResumedLaws.{at_same_place}
 use Rattle.checkpoint_laws.proofs.SaidLaws.{under_long}
 use Rattle.std.proofs.lemmas.List.{length-map}

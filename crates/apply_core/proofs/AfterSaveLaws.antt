@@ -13,9 +13,10 @@ use Rattle.pk_copy.specs.KeyValue.{KeyValue}
 use Rattle.target_tables.specs.Contents.{value_at}
 use Rattle.source_feed.specs.History.{RowValue}
 use Rattle.source_feed.specs.Planned.{FeedValue, IsFeed}
+use Rattle.source_feed.specs.SoundGroups.{sound_groups}
+use Rattle.source_feed.proofs.PositionLaws.{one_number}
 use Rattle.board_laws.specs.Cut.{cut_of}
 use Rattle.board_laws.specs.Meaning.{State, TargetRows, Meaning}
-use Rattle.board_laws.specs.Runs.{sound_groups}
 use Rattle.board_laws.proofs.Lookups.{Ties}
 use Rattle.join_laws.specs.Compatible.{AreApart, plans_of_board}
 use Rattle.join_laws.specs.Joined.{rows_from}
@@ -29,7 +30,7 @@ use Rattle.checkpoint_laws.specs.Resumed.{resumed_state, IsResumedAt, AreResumed
 use Rattle.checkpoint_laws.specs.Refused.{plans_of_feeds, IsRefusedSaved, IsRefusedCheckpoint}
 use Rattle.checkpoint_laws.specs.Laws.{AreFeeds, restarted, SavedBoardsAreSaid, CheckpointsSayOneThing, RestartedBoardsAreResumed}
 use Rattle.checkpoint_laws.proofs.ResumedLaws.{at_same_place}
-use Rattle.checkpoint_laws.proofs.RestartedLaws.{one_number, same_at_places}
+use Rattle.checkpoint_laws.proofs.RestartedLaws.{same_at_places}
 use Rattle.apply_core.specs.Feeds.{AreWholeFeeds, AreFed}
 use Rattle.apply_core.specs.Private.Resuming.{AreOthers, HaveClash, IsUnfed}
 use Rattle.apply_core.specs.Private.Together.{AreTogether}

@@ -20,11 +20,13 @@ use Rattle.target_tables.specs.Touches.{last_at, IsLeastClash}
 use Rattle.source_feed.specs.declared.fault.FeedFault.{FeedFault}
 use Rattle.source_feed.specs.declared.fault.FeedFault.TheVariants as faults
 use Rattle.source_feed.specs.FaultNumber.{meant_of}
-use Rattle.source_feed.specs.GroupValue.{Position}
 use Rattle.source_feed.specs.History.{RowValue, IsPassed}
 use Rattle.source_feed.specs.Image.{ImageRows, row_in, lent_row}
 use Rattle.source_feed.specs.Planned.{FeedValue, IsFeed}
+use Rattle.source_feed.specs.Positions.{IsNumberAt}
+use Rattle.source_feed.specs.SoundGroups.{sound_groups, AreFirst, StopsBefore}
 use Rattle.source_feed.specs.Touches.{PreparedValue}
+use Rattle.source_feed.proofs.PositionLaws.{one_number}
 use Rattle.vevent.specs.CheckpointPart.{StreamPartValue}
 use Rattle.vdiff_core.specs.Report.{IsFirstDifference}
 use Rattle.vdiff_core.proofs.ReportLaws.{IsSameSoFar, stops_at_source, stops_at_target, stops_at_rows, same_for_longer, rest_of_source, rest_of_target}
@@ -33,7 +35,6 @@ use Rattle.board_laws.specs.KeptRows.{passed_rows, kept_row}
 use Rattle.board_laws.specs.Laws.{PassedRowsAreOneList}
 use Rattle.board_laws.specs.Lawful.{IsSoundState}
 use Rattle.board_laws.specs.Meaning.{State, TargetRows}
-use Rattle.board_laws.specs.Runs.{sound_groups}
 use Rattle.board_laws.specs.Step.{due_at}
 use Rattle.board_laws.proofs.Lookups.{Ties, none_above}
 use Rattle.join_laws.specs.Joined.{cut_rows, rows_from}
@@ -42,13 +43,10 @@ use Rattle.checkpoint_laws.specs.declared.fault.ResumeFault.{ResumeFault}
 use Rattle.checkpoint_laws.specs.declared.fault.ResumeFault.TheVariants.{FeedCount, WrongPlan, CheckpointBad, PositionUnknown, Unsound, CheckpointDiffers, OwnedByOther, Memory}
 use Rattle.checkpoint_laws.specs.Saved.{SavedStream}
 use Rattle.checkpoint_laws.specs.Said.{IsSaved}
-use Rattle.board_laws.specs.Sources.{IsNumberAt}
 use Rattle.checkpoint_laws.specs.Resumed.{IsKnown, IsResumedAt, AgreesWith, AtEachPlace}
 use Rattle.checkpoint_laws.specs.Refused.{plans_of_feeds, IsFirstOff, IsLeastDifference, IsRefusedSaved}
 use Rattle.checkpoint_laws.proofs.OwnRows.{cut-at, cut-rising}
 use Rattle.checkpoint_laws.proofs.ResumedLaws.{at_same_place, resumed-sound}
-use Rattle.checkpoint_laws.proofs.RestartedLaws.{one_number}
-use Rattle.checkpoint_core.specs.Groups.{AreFirst, StopsBefore}
 use Rattle.apply_core.specs.Feeds.{AreWholeFeeds}
 use Rattle.apply_core.specs.Private.Changes.{IsOfTable, found_row, put_row}
 use Rattle.apply_core.specs.Private.Resuming.{AtEachOfThree, IsNumberOf, AreNumbers, AreSaid, IsUnsoundAt, refusal_of_feed, AreOthers, AllRise}
@@ -103,12 +101,6 @@ all_known : (feeds : List FeedValue) (saved : List SavedStream) (numbers : List 
 all_known feeds saved numbers h s x y p q =
     let number = place_of numbers s (subst (λ m. s < m) (sym h.count) (slice_get_within feeds s x p)) in
     (number.0, h.each_stream s x y number.0 p q number.1)
-
--- a number at a position is that of a group, or none
-pub number_within : (feed : FeedValue) (position : Position) (number : ℕ) → IsNumberAt feed position number → number ≤ length feed.groups
-number_within feed position number (inl none) = subst (λ n. n ≤ length feed.groups) (sym none.1) (omega arith)
-number_within feed position zero (inr has) = omega arith
-number_within feed position (suc i) (inr has) = let inside : i < length feed.groups = slice_get_within feed.groups i has.group has.there in omega (arith, inside)
 
 -- ---- streams
 

@@ -3,16 +3,16 @@
 ghost use Rattle.std.specs.Prelude.{◌≡◌, ◌≤◌, ◌++◌, ◌∷◌, [], length, IfOk, IfErr, OnOk};
 ghost use Rattle.checkpoint_laws.specs.declared.fault.ResumeFault.TheVariants.{Memory};
 ghost use Rattle.checkpoint_laws.specs.Said.{IsSaved};
-ghost use Rattle.board_laws.specs.Sources.{IsNumberAt};
+ghost use Rattle.source_feed.specs.Positions.{IsNumberAt};
 ghost use Rattle.checkpoint_laws.specs.Resumed.{IsResumedAt, AreResumed};
 ghost use Rattle.checkpoint_laws.specs.Refused.{IsRefusedSaved};
 ghost use Rattle.apply_core.specs.Feeds.{AreWholeFeeds};
 ghost use Rattle.apply_core.specs.Private.Resuming.{AreNumbers, AreSaid, IsUnsoundAt, refusal_of_feed};
 
 use crate::stream::{Stream, cursor_behind};
-use checkpoint_core::{ReadStream, groups_up_to, number_at};
+use checkpoint_core::ReadStream;
 use checkpoint_laws::ResumeFault;
-use source_feed::{Feed, FeedFault, Image};
+use source_feed::{Feed, FeedFault, Image, groups_up_to, number_at};
 use std::alloc::Global;
 use std::sync::Arc;
 

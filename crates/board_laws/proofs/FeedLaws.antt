@@ -1,12 +1,11 @@
 -- Streams that read their feeds, step by step, and feeds that share no key.
-use Rattle.std.proofs.Common.{◌≡◌, ◌≢◌, ◌==◌, ℕ, zero, suc, ◌+◌, ◌<◌, ◌≤◌, inl, inr, Bool, true, false, cond, List, [], ◌∷◌, ◌++◌, length, map, take, drop, Option, Some, None, Result, Ok, Err, slice_get, set, refl, sym, ap, subst, ◌∙◌, arith}
+use Rattle.std.proofs.Common.{◌≡◌, ◌≢◌, ◌==◌, ℕ, zero, suc, ◌+◌, ◌<◌, inl, inr, Bool, true, false, cond, List, [], ◌∷◌, ◌++◌, length, map, take, drop, Option, Some, None, Result, Ok, Err, slice_get, refl, sym, ap, subst, ◌∙◌, arith}
 use Rattle.std.proofs.lemmas.Bool.{eqb-false, true≢false}
 use Rattle.std.proofs.lemmas.Grind.{flat_map-append}
 use Rattle.std.proofs.lemmas.List.{take-append-drop}
 use Rattle.std.proofs.lemmas.Option.{same_Some, none-some, slice_get-map}
 use borrow.Author.Tests.{eqb-true, eq-eqb, leb-false}
 use Rattle.std.specs.Prelude.{MatchOption, nat_le}
-use Rattle.std.specs.List.{AllByRecursion}
 use Rattle.std.specs.Option.{option_or, option_map, option_and_then}
 use Rattle.std.specs.Result.{result_ok}
 use Rattle.list_laws.proofs.Fronts.{front_of}
@@ -24,11 +23,9 @@ use Rattle.source_feed.specs.declared.fault.FeedFault.{FeedFault}
 use Rattle.source_feed.specs.Planned.{PlannedGroupValue, FeedValue}
 use Rattle.source_feed.specs.Touches.{PutValue, TouchValue, PreparedValue, touches_of, prepared, prepared_if, prepared_at}
 use Rattle.source_feed.specs.History.{RowValue, touches_in, passing, kept_of, kept_at}
+use Rattle.source_feed.specs.SoundGroups.{sound_groups}
 use Rattle.source_feed.proofs.ImageLaws.{last_at-append}
-use Rattle.board_laws.specs.declared.answer.Answer.{Answer}
-use Rattle.board_laws.specs.declared.refusal.Refusal.{Refusal}
 use Rattle.board_laws.specs.declared.refusal.Refusal.TheVariants.{NoStream, WrongPlan, Diverged, Core, OwnedByOther, FeedCount, Memory}
-use Rattle.board_laws.specs.declared.step_refusal.StepRefusal.{StepRefusal}
 use Rattle.board_laws.specs.declared.step_refusal.StepRefusal.TheVariants.{Unprepared, Refused}
 use Rattle.board_laws.specs.Meaning.{State, Meaning}
 use Rattle.board_laws.specs.Cut.{cut_of, cut_in, own_row}
@@ -37,15 +34,15 @@ use Rattle.board_laws.specs.Event.{Event, offer, advance, open_at, copy_rows, cl
 use Rattle.board_laws.specs.Chunk.{takes_all, rows_taken, marks_behind}
 use Rattle.board_laws.specs.StateAfter.{state_after}
 use Rattle.board_laws.specs.Allowed.{IsAllowed, IsNext}
-use Rattle.board_laws.specs.Step.{due_at, IsMade, IsRefusedFor, IsClash}
-use Rattle.board_laws.specs.Runs.{event_of_step, sound_groups, IsTouchedIn, AreDisjoint}
+use Rattle.board_laws.specs.Step.{IsMade, IsRefusedFor, IsClash}
+use Rattle.board_laws.specs.Runs.{event_of_step, IsTouchedIn, AreDisjoint}
 use Rattle.board_laws.specs.Schedule.{Reply, IsEventStep, IsReplyBy, IsReply, IsRun}
 use Rattle.board_laws.specs.Lone.{is_hindrance, is_hindered}
-use Rattle.board_laws.specs.Reading.{ReadsFeed, HasFeed, AllReadTheirFeeds}
+use Rattle.board_laws.specs.Reading.{HasFeed, AllReadTheirFeeds}
 use Rattle.board_laws.specs.RunLaws.{IsClashReply, NoneClashes}
 use Rattle.board_laws.proofs.Lists.{slice_get-set}
 use Rattle.board_laws.proofs.Making.{plan-after}
-use Rattle.board_laws.proofs.Following.{refused_by, answered, unchanged, answered_by, one-lawful}
+use Rattle.board_laws.proofs.Following.{refused_by, unchanged, answered_by, one-lawful}
 
 -- ---- beginnings of lists
 

@@ -1,5 +1,5 @@
 -- A lawful board whose streams read their feeds shows their sources.
-use Rattle.std.proofs.Common.{◌≡◌, ℕ, zero, suc, ◌≤◌, inl, inr, List, [], ◌∷◌, length, take, min, Option, Some, None, slice_get, IsTrue, refl, sym, ap, subst, ◌∙◌, arith}
+use Rattle.std.proofs.Common.{◌≡◌, ℕ, zero, suc, ◌≤◌, inl, inr, List, [], ◌∷◌, length, take, min, Option, Some, slice_get, IsTrue, refl, sym, ap, subst, ◌∙◌, arith}
 use Rattle.std.proofs.lemmas.List.{length-take, length-take-le}
 use Rattle.std.proofs.lemmas.Option.{same_Some}
 use Rattle.std.specs.Prelude.{◌↔◌}
@@ -13,14 +13,16 @@ use Rattle.target_tables.specs.Contents.{value_at}
 use Rattle.target_tables.specs.Touches.{last_at}
 use Rattle.source_feed.specs.History.{RowValue, touches_in, passing, passed_at, kept_of, kept_at}
 use Rattle.source_feed.specs.Planned.{FeedValue}
+use Rattle.source_feed.specs.Positions.{IsNumberAt}
+use Rattle.source_feed.specs.SoundGroups.{sound_groups}
 use Rattle.source_feed.specs.Touches.{PreparedValue}
+use Rattle.source_feed.proofs.SoundGroupLaws.{IsGroupOf, group_of}
 use Rattle.board_laws.specs.Allowed.{last_position}
 use Rattle.board_laws.specs.Lawful.{IsLawful}
 use Rattle.board_laws.specs.Meaning.{State, Meaning}
 use Rattle.board_laws.specs.Reading.{HasFeed, AllReadTheirFeeds, IsReplayed}
-use Rattle.board_laws.specs.Runs.{sound_groups}
-use Rattle.board_laws.specs.Sources.{IsNumberAt, ShowsSource, ShowsItsSource, AllShowTheirSources}
-use Rattle.board_laws.proofs.FeedGroups.{IsGroupOf, group_of, last_of}
+use Rattle.board_laws.specs.Sources.{ShowsItsSource, AllShowTheirSources}
+use Rattle.board_laws.proofs.FeedGroups.{last_of}
 use Rattle.board_laws.proofs.Replays.{replayed}
 
 -- the first ones of a front that has them are those of the whole

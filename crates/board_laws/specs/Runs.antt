@@ -1,8 +1,8 @@
 -- Steps one after another: those of one stream, and the state that they leave by themselves (this profile).
-use Rattle.std.specs.Prelude.{◌≡◌, ◌≢◌, ℕ, ◌==◌, ◌&&◌, List, [], ◌∷◌, map, Option, Some, None, Result, is_ok, slice_get, if◌then◌else◌}
+use Rattle.std.specs.Prelude.{◌≡◌, ◌≢◌, ℕ, ◌==◌, ◌&&◌, List, [], ◌∷◌, Option, Some, None, Result, is_ok, slice_get, if◌then◌else◌}
 use Rattle.std.specs.List.{filter_map}
 use Rattle.std.specs.Option.{option_map}
-use Rattle.std.specs.Result.{result_ok, ok_prefix}
+use Rattle.std.specs.Result.{result_ok}
 use Rattle.pk_copy.specs.KeyOrder.{key_cmp}
 use Rattle.pk_copy.specs.KeyValue.{KeyValue}
 use Rattle.stream_core.specs.declared.step.Step.{Step}
@@ -10,7 +10,8 @@ use Rattle.stream_core.specs.declared.step.Step.TheVariants.{Offer, Advance, Ope
 use Rattle.target_tables.specs.Touches.{last_at}
 use Rattle.source_feed.specs.History.{touches_in}
 use Rattle.source_feed.specs.Planned.{FeedValue}
-use Rattle.source_feed.specs.Touches.{PreparedValue, prepared, prepared_at}
+use Rattle.source_feed.specs.SoundGroups.{sound_groups}
+use Rattle.source_feed.specs.Touches.{PreparedValue, prepared_at}
 use Rattle.board_laws.specs.Meaning.{State}
 use Rattle.board_laws.specs.Event.{Event, offer, advance, open_at, copy_rows, close, restart}
 use Rattle.board_laws.specs.StateAfter.{state_after}
@@ -46,10 +47,6 @@ own s (step ∷ steps) (answer ∷ answers) =
     if step.0 == s && is_ok answer then step.1 ∷ own s steps answers else own s steps answers
 
 -- ---- histories that share no key
-
--- the groups of a feed before the first one that isn't sound, with their touches
-abbrev pub sound_groups : FeedValue → List PreparedValue
-sound_groups feed = ok_prefix (map (prepared feed.plan) feed.groups)
 
 -- a key is touched by groups
 abbrev pub IsTouchedIn : List PreparedValue → KeyValue → Type 0

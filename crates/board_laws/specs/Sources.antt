@@ -1,32 +1,22 @@
 -- The headline: what the target has of each stream is what its source has (this profile).
-use Rattle.std.specs.Prelude.{◌≡◌, ◌⊎◌, ◌↔◌, ℕ, ◌≤◌, List, [], length, take, Some, IsTrue, slice_get}
+use Rattle.std.specs.Prelude.{◌≡◌, ◌↔◌, ℕ, ◌≤◌, List, length, take, Some, IsTrue, slice_get}
 use Rattle.pk_copy.specs.KeyOrder.{key_cmp}
 use Rattle.pk_copy.specs.KeyValue.{KeyValue}
 use Rattle.pk_copy.specs.Marks.{is_inside}
 use Rattle.target_tables.specs.Contents.{value_at}
 use Rattle.source_feed.specs.GroupValue.{Position}
 use Rattle.source_feed.specs.History.{KeptRow, kept_at}
-use Rattle.source_feed.specs.Planned.{PlannedGroupValue, FeedValue}
-use Rattle.source_feed.specs.Touches.{group_at}
+use Rattle.source_feed.specs.Planned.{FeedValue}
+use Rattle.source_feed.specs.Positions.{IsNumberAt}
+use Rattle.source_feed.specs.SoundGroups.{sound_groups}
 use Rattle.board_laws.specs.Allowed.{last_position}
 use Rattle.board_laws.specs.Meaning.{State, Meaning}
-use Rattle.board_laws.specs.Runs.{sound_groups}
 
 -- ---- positions
 
 -- the position at which a stream's rows stand: that of the last applied group; at first the empty set
 abbrev pub applied_position : State → Position
 applied_position state = last_position (take state.applied state.list)
-
--- the feed has a group of this number and position
-pub record HasGroupAt (feed : FeedValue) (position : Position) (number : ℕ) : Type 0 where
-  pub group : PlannedGroupValue
-  pub there : group_at feed number ≡ Some group
-  pub at : group.position ≡ position
-
--- how many groups of a feed a position is behind: none at the empty set, else those up to the group that has it
-abbrev pub IsNumberAt : FeedValue → Position → ℕ → Type 0
-IsNumberAt feed position number = ((position ≡ []) × (number ≡ 0)) ⊎ HasGroupAt feed position number
 
 -- ---- rows
 

@@ -5,4 +5,3 @@ pub mod MarkLaws
 pub mod BehindLaws
 pub mod RowLaws
 pub mod ReadLaws
-pub mod GroupLaws

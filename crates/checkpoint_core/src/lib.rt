@@ -3,7 +3,6 @@
 
 mod fault;
 mod framed;
-mod groups;
 mod head;
 mod marks;
 mod names;
@@ -15,7 +14,6 @@ mod writing;
 mod written_tables;
 
 pub use fault::ReadFault;
-pub use groups::{groups_up_to, number_at};
 pub use reading::read_checkpoint;
 pub use saved::ReadStream;
 pub use writing::put_stream;

@@ -7,12 +7,14 @@ use Rattle.list_laws.proofs.Places.{place_of}
 use Rattle.filter_rule.specs.PlanValue.{PlanValue}
 use Rattle.source_feed.specs.GroupValue.{Position}
 use Rattle.source_feed.specs.Planned.{PlannedGroupValue, FeedValue}
+use Rattle.source_feed.specs.Positions.{IsNumberAt}
+use Rattle.source_feed.specs.SoundGroups.{sound_groups}
 use Rattle.source_feed.specs.Touches.{PreparedValue}
+use Rattle.source_feed.proofs.PositionLaws.{one_number}
 use Rattle.board_laws.specs.Event.{restart}
 use Rattle.board_laws.specs.Lawful.{IsLawful}
 use Rattle.board_laws.specs.Meaning.{State, TargetRows, Meaning}
-use Rattle.board_laws.specs.Runs.{sound_groups}
-use Rattle.board_laws.specs.Sources.{applied_position, IsNumberAt}
+use Rattle.board_laws.specs.Sources.{applied_position}
 use Rattle.board_laws.specs.StateAfter.{state_after}
 use Rattle.board_laws.specs.Allowed.{last_position}
 use Rattle.board_laws.proofs.FeedGroups.{last_of}
@@ -27,7 +29,7 @@ use Rattle.checkpoint_laws.specs.Laws.{AreFeeds, restarted, BeginsWithApplied, B
 use Rattle.checkpoint_laws.specs.Refused.{plans_of_feeds}
 use Rattle.checkpoint_laws.specs.Resumed.{IsResumedAt, AreResumed, IsResumedBoard}
 use Rattle.checkpoint_laws.specs.Saved.{SavedStream, own_rows, saved_stream, saved_from, saved_of}
-use Rattle.checkpoint_laws.proofs.RestartedLaws.{saved_at, saved_long, one_number, restarted_boards}
+use Rattle.checkpoint_laws.proofs.RestartedLaws.{saved_at, saved_long, restarted_boards}
 use Rattle.checkpoint_laws.proofs.ResumedLaws.{at_same_place}
 
 -- ---- what is kept of the board to which tables are added

@@ -1,20 +1,19 @@
 -- What is kept of a board and feeds that begin with its applied groups make the board after a restart of each stream.
-use Rattle.std.proofs.Common.{◌≡◌, ℕ, zero, suc, ◌+◌, ◌≤◌, inl, inr, cond, List, [], ◌∷◌, length, map, take, min, Option, Some, None, slice_get, refl, sym, ap, subst, ◌∙◌, arith}
-use Rattle.std.proofs.lemmas.Bool.{cases_lt}
+use Rattle.std.proofs.Common.{◌≡◌, ℕ, zero, suc, ◌+◌, ◌≤◌, cond, List, [], ◌∷◌, length, map, take, min, Option, Some, None, slice_get, refl, sym, ap, subst, ◌∙◌, arith}
 use Rattle.std.proofs.lemmas.List.{length-map, length-take, length-take-le}
 use Rattle.std.proofs.lemmas.Option.{same_Some, none-some, slice_get-map}
 use Rattle.std.specs.List.{filter, filter_map}
 use Rattle.std.specs.Option.{option_map, option_and_then}
 use Rattle.list_laws.proofs.Places.{no_place}
-use Rattle.gtid_set.specs.Position.{IsWithin}
 use Rattle.pk_copy.specs.KeyOrder.{key_cmp}
 use Rattle.pk_copy.specs.KeyValue.{KeyValue}
 use Rattle.pk_copy.specs.Marks.{is_inside}
 use Rattle.target_tables.specs.Touches.{last_at}
-use Rattle.source_feed.specs.GroupValue.{Position}
 use Rattle.source_feed.specs.History.{RowValue, touches_in, passing, kept_of}
 use Rattle.source_feed.specs.Image.{ImageRows}
-use Rattle.source_feed.specs.Planned.{PlannedGroupValue, FeedValue, IsFeed}
+use Rattle.source_feed.specs.Planned.{FeedValue, IsFeed}
+use Rattle.source_feed.specs.Positions.{IsNumberAt}
+use Rattle.source_feed.specs.SoundGroups.{sound_groups}
 use Rattle.source_feed.specs.Touches.{PreparedValue}
 use Rattle.board_laws.specs.Allowed.{last_position}
 use Rattle.board_laws.specs.Cut.{cut_of}
@@ -22,8 +21,6 @@ use Rattle.board_laws.specs.Event.{restart}
 use Rattle.board_laws.specs.KeptRows.{touched_keys, kept_row}
 use Rattle.board_laws.specs.Lawful.{IsLawful}
 use Rattle.board_laws.specs.Meaning.{State, TargetRows, Meaning}
-use Rattle.board_laws.specs.Runs.{sound_groups}
-use Rattle.board_laws.specs.Sources.{HasGroupAt, IsNumberAt}
 use Rattle.board_laws.specs.StateAfter.{state_after}
 use Rattle.board_laws.proofs.History.{passed_at-take}
 use Rattle.board_laws.proofs.Lists.{take-take}
@@ -92,35 +89,6 @@ saved_at k (x ∷ streams) rows (suc i) state e =
 pub saved_long : (k : ℕ) (streams : List State) (rows : TargetRows) → length (saved_from k streams rows) ≡ length streams
 saved_long k [] rows = refl
 saved_long k (x ∷ streams) rows = ap suc (saved_long (k + 1) streams rows)
-
--- ---- one number at a position
-
-within_itself : (p q : Position) → p ≡ q → IsWithin p q
-within_itself p q e = subst (IsWithin p) e (λ uuid number held. held)
-
-one_place : (feed : FeedValue) (whole : IsFeed feed) (i j : ℕ) (x y : PlannedGroupValue) → slice_get feed.groups i ≡ Some x → slice_get feed.groups j ≡ Some y → x.position ≡ y.position → i ≡ j
-one_place feed whole i j x y p q same = elim (cases_lt i j) [
-  | inl less ↦ absurd ((whole.order.growing i j x y less p q).1 (within_itself y.position x.position (sym same)))
-  | inr most ↦ elim (cases_lt j i) [
-    | inl less ↦ absurd ((whole.order.growing j i y x less q p).1 (within_itself x.position y.position same))
-    | inr least ↦ omega (arith, most, least)
-  ]
-]
-
-none_empty : {P : Type 0} (feed : FeedValue) (whole : IsFeed feed) (position : Position) (n : ℕ) → position ≡ [] → HasGroupAt feed position n → P
-none_empty feed whole position zero none has = let clash : None ≡ Some has.group = has.there in absurd (none-some has.group clash)
-none_empty feed whole position (suc i) none has = absurd ((whole.order.from_empty i has.group has.there).1 (within_itself has.group.position [] (has.at ∙ none)))
-
-same_place : (feed : FeedValue) (whole : IsFeed feed) (position : Position) (a b : ℕ) → HasGroupAt feed position a → HasGroupAt feed position b → a ≡ b
-same_place feed whole position zero b p q = let clash : None ≡ Some p.group = p.there in absurd (none-some p.group clash)
-same_place feed whole position (suc i) zero p q = let clash : None ≡ Some q.group = q.there in absurd (none-some q.group clash)
-same_place feed whole position (suc i) (suc j) p q = ap suc (one_place feed whole i j p.group q.group p.there q.there (p.at ∙ sym q.at))
-
-pub one_number : (feed : FeedValue) (whole : IsFeed feed) (position : Position) (a b : ℕ) → IsNumberAt feed position a → IsNumberAt feed position b → a ≡ b
-one_number feed whole position a b (inl p) (inl q) = p.1 ∙ sym q.1
-one_number feed whole position a b (inl p) (inr q) = none_empty feed whole position b p.0 q
-one_number feed whole position a b (inr p) (inl q) = none_empty feed whole position a q.0 p
-one_number feed whole position a b (inr p) (inr q) = same_place feed whole position a b p q
 
 -- ---- lists that are equal at every place
 

@@ -5,23 +5,25 @@ use Rattle.std.proofs.lemmas.Option.{same_Some, none-some, slice_get-map}
 use Rattle.list_laws.proofs.Places.{no_place, place_of}
 use Rattle.filter_rule.specs.PlanValue.{PlanValue}
 use Rattle.source_feed.specs.Planned.{PlannedGroupValue, FeedValue, IsFeed}
+use Rattle.source_feed.specs.Positions.{IsNumberAt}
+use Rattle.source_feed.specs.SoundGroups.{sound_groups}
 use Rattle.source_feed.specs.Touches.{PreparedValue}
+use Rattle.source_feed.proofs.SoundGroupLaws.{IsGroupOf, group_of}
 use Rattle.vevent.specs.CheckpointPart.{StreamPartValue}
 use Rattle.board_laws.specs.Allowed.{last_position}
 use Rattle.board_laws.specs.Lawful.{IsSoundState, IsLawful}
 use Rattle.board_laws.specs.Meaning.{State, Meaning}
-use Rattle.board_laws.specs.Runs.{sound_groups}
 use Rattle.board_laws.proofs.History.{read-cut}
 use Rattle.board_laws.proofs.Lists.{take-take}
 use Rattle.board_laws.proofs.Lookups.{Ties}
 use Rattle.join_laws.proofs.Rows.{states-lawful}
-use Rattle.board_laws.specs.Sources.{applied_position, IsNumberAt}
+use Rattle.board_laws.specs.Sources.{applied_position}
 use Rattle.checkpoint_laws.specs.Saved.{SavedStream, own_rows, saved_stream, saved_from, saved_of}
 use Rattle.checkpoint_laws.specs.Said.{IsSaved, IsCheckpoint}
 use Rattle.checkpoint_laws.specs.Resumed.{IsResumedAt, IsResumedBoard}
 use Rattle.checkpoint_laws.specs.Refused.{plans_of_feeds}
 use Rattle.checkpoint_laws.specs.Laws.{AreFeeds, ResumedBoardsAreLawful}
-use Rattle.board_laws.proofs.FeedGroups.{IsGroupOf, group_of, last_of, sound-is_read}
+use Rattle.board_laws.proofs.FeedGroups.{last_of, sound-is_read}
 use Rattle.checkpoint_laws.proofs.OwnRows.{own-is_cut}
 
 -- a value at the same place of a list that is as long

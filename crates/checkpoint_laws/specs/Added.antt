@@ -6,10 +6,10 @@ use Rattle.filter_rule.specs.PlanValue.{PlanValue}
 use Rattle.filter_rule.specs.WellFormed.{IsPlan}
 use Rattle.source_feed.specs.Planned.{PlannedGroupValue, FeedValue}
 use Rattle.source_feed.specs.Prepared.{IsSameOn}
+use Rattle.source_feed.specs.SoundGroups.{sound_groups}
 use Rattle.source_feed.specs.Touches.{PreparedValue}
 use Rattle.board_laws.specs.Lawful.{IsLawful}
 use Rattle.board_laws.specs.Meaning.{State, Meaning}
-use Rattle.board_laws.specs.Runs.{sound_groups}
 use Rattle.added_laws.specs.Extended.{marks_of_more, AreExtended, extended_board, MayExtend}
 use Rattle.join_laws.specs.Compatible.{plans_of_board}
 use Rattle.checkpoint_laws.specs.Laws.{AreWithin, AreFeeds}

@@ -7,12 +7,12 @@ use Rattle.gtid_set.specs.Text.{text_limit}
 use Rattle.pk_copy.specs.Lastpk.{lastpk_of}
 use Rattle.row_view.specs.WrittenRow.{IsWithinLimits}
 use Rattle.source_feed.specs.Planned.{FeedValue, IsFeed}
+use Rattle.source_feed.specs.SoundGroups.{sound_groups}
 use Rattle.vevent.specs.CheckpointPart.{StreamPartValue}
 use Rattle.vevent.specs.WrittenPart.{IsSoundStream}
 use Rattle.board_laws.specs.Meaning.{State, Meaning}
 use Rattle.board_laws.specs.Lawful.{IsLawful}
 use Rattle.board_laws.specs.Event.{restart}
-use Rattle.board_laws.specs.Runs.{sound_groups}
 use Rattle.board_laws.specs.StateAfter.{state_after}
 use Rattle.join_laws.specs.Compatible.{plans_of_board}
 use Rattle.checkpoint_laws.specs.declared.version.Version.{Version}

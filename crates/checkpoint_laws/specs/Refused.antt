@@ -1,5 +1,5 @@
 -- Why a checkpoint isn't resumed over feeds: the first of five tests that fails (this profile).
-use Rattle.std.specs.Prelude.{◌≡◌, ◌≢◌, ℕ, ◌<◌, ◌≤◌, List, length, map, Some, Err, slice_get}
+use Rattle.std.specs.Prelude.{◌≡◌, ◌≢◌, ℕ, ◌<◌, ◌≤◌, List, length, map, Some, slice_get}
 use Rattle.std.specs.declared.cmp.Ordering.TheVariants.{Less}
 use Rattle.filter_rule.specs.PlanValue.{PlanValue}
 use Rattle.pk_copy.specs.KeyOrder.{key_cmp}
@@ -7,16 +7,15 @@ use Rattle.pk_copy.specs.KeyValue.{KeyValue}
 use Rattle.source_feed.specs.declared.fault.FeedFault.{FeedFault}
 use Rattle.source_feed.specs.Image.{row_in}
 use Rattle.source_feed.specs.Planned.{FeedValue}
-use Rattle.source_feed.specs.Touches.{prepared}
+use Rattle.source_feed.specs.Positions.{IsNumberAt}
+use Rattle.source_feed.specs.SoundGroups.{sound_groups, IsFirstFault}
 use Rattle.board_laws.specs.Cut.{cut_of}
 use Rattle.board_laws.specs.Meaning.{State}
-use Rattle.board_laws.specs.Runs.{sound_groups}
 use Rattle.join_laws.specs.Refused.{IsFirstClash}
 use Rattle.checkpoint_laws.specs.declared.fault.ResumeFault.{ResumeFault}
 use Rattle.checkpoint_laws.specs.declared.fault.ResumeFault.TheVariants.{FeedCount, WrongPlan, CheckpointBad, PositionUnknown, Unsound, CheckpointDiffers, OwnedByOther, Memory}
 use Rattle.checkpoint_laws.specs.Saved.{SavedStream}
 use Rattle.checkpoint_laws.specs.Said.{IsCheckpoint}
-use Rattle.board_laws.specs.Sources.{IsNumberAt}
 use Rattle.checkpoint_laws.specs.Resumed.{IsKnown, AreResumed, AgreesWith, AtEachPlace}
 
 -- the plans under which feeds were opened
@@ -35,10 +34,6 @@ pub record IsFirstOff {A B : Type 0} (P : A → B → Type 0) (xs : List A) (ys 
 -- the groups of a feed up to the position are sound
 abbrev pub IsSoundUpTo : FeedValue → SavedStream → Type 0
 IsSoundUpTo feed saved = (number : ℕ) → IsNumberAt feed saved.position number → number ≤ length (sound_groups feed)
-
--- the first group of a feed that isn't sound has this fault
-abbrev pub IsFirstFault : FeedValue → FeedFault → Type 0
-IsFirstFault feed fault = slice_get (map (prepared feed.plan) feed.groups) (length (sound_groups feed)) ≡ Some (Err fault)
 
 -- all positions are known; of one stream, and of none before it, a group up to the position isn't sound, the first
 -- such one with this fault

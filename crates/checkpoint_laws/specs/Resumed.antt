@@ -2,9 +2,9 @@
 use Rattle.std.specs.Prelude.{◌≡◌, ℕ, ◌≤◌, List, length, take, Some, None, slice_get}
 use Rattle.pk_copy.specs.Marks.{Marks}
 use Rattle.source_feed.specs.Planned.{FeedValue}
+use Rattle.source_feed.specs.Positions.{IsNumberAt}
+use Rattle.source_feed.specs.SoundGroups.{sound_groups}
 use Rattle.board_laws.specs.Meaning.{State, Meaning}
-use Rattle.board_laws.specs.Runs.{sound_groups}
-use Rattle.board_laws.specs.Sources.{IsNumberAt}
 use Rattle.join_laws.specs.Compatible.{AreApart}
 use Rattle.join_laws.specs.Joined.{cut_rows, board_of}
 use Rattle.checkpoint_laws.specs.Saved.{SavedStream}

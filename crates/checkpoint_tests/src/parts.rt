@@ -1,12 +1,12 @@
 //! The parts of a checkpoint by themselves: a stream's part as it is written, and the groups up to a position.
 
 use crate::feeds::{FOUR_GROUPS, Feeds, ONE, UNSOUND, feeds_of, plans_of};
-use checkpoint_core::{groups_up_to, number_at, put_stream};
+use checkpoint_core::put_stream;
 use filter_rule::Plan;
 use gtid_set::GtidSet;
 use pk_copy::{CopyState, Key, key_of};
 use row_view::{RowBuf, RowView};
-use source_feed::Feed;
+use source_feed::{Feed, groups_up_to, number_at};
 use std::alloc::{AllocError, Global};
 use std::test::*;
 

@@ -1,5 +1,5 @@
 -- Boards that read the same feeds, which share no key; and that no board that can be joined is refused.
-use Rattle.std.proofs.Common.{◌≡◌, ◌≢◌, ◌==◌, ℕ, ◌+◌, ◌≤◌, inl, inr, Bool, true, false, cond, le_of_lt, List, [], length, take, min, Option, Some, None, slice_get, refl, sym, ap, subst, ◌∙◌, arith}
+use Rattle.std.proofs.Common.{◌≡◌, ◌≢◌, ◌==◌, ℕ, ◌+◌, ◌≤◌, inl, inr, Bool, true, false, cond, le_of_lt, List, length, take, min, Option, Some, None, slice_get, refl, sym, ap, subst, ◌∙◌, arith}
 use Rattle.std.proofs.lemmas.Bool.{eqb-false}
 use Rattle.std.proofs.lemmas.Bool.{cases_lt}
 use Rattle.std.proofs.lemmas.List.{take-take, take_min, length-take}
@@ -14,11 +14,12 @@ use Rattle.target_tables.specs.Contents.{value_at}
 use Rattle.target_tables.specs.Touches.{last_at, owner_in_the_way}
 use Rattle.source_feed.specs.History.{RowValue, touches_in, passing, kept_of, kept_at}
 use Rattle.source_feed.specs.Planned.{FeedValue}
+use Rattle.source_feed.specs.SoundGroups.{sound_groups}
 use Rattle.source_feed.specs.Touches.{PutValue, PreparedValue}
 use Rattle.board_laws.specs.Meaning.{State, Meaning}
 use Rattle.board_laws.specs.Cut.{cut_of}
 use Rattle.board_laws.specs.Reading.{HasFeed, AllReadTheirFeeds}
-use Rattle.board_laws.specs.Runs.{sound_groups, IsTouchedIn, AreDisjoint}
+use Rattle.board_laws.specs.Runs.{IsTouchedIn, AreDisjoint}
 use Rattle.board_laws.proofs.Lookups.{Ties}
 use Rattle.join_laws.specs.declared.fault.JoinFault.{JoinFault}
 use Rattle.join_laws.specs.declared.fault.JoinFault.TheVariants.{WrongPlan, HistoriesDiffer, OwnedByOther, Memory}

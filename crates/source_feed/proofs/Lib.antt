@@ -13,6 +13,8 @@ pub mod PlanLaws
 pub mod PlannedLaws
 pub mod PreparedLaws
 pub mod SoundLaws
+pub mod SoundGroupLaws
+pub mod PositionLaws
 pub mod JudgedLaws
 pub mod ImageLaws
 pub mod ChunkLaws

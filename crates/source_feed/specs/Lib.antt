@@ -13,6 +13,8 @@ pub mod Prepared
 pub mod FirstFault
 pub mod Touches
 pub mod Sound
+pub mod SoundGroups
+pub mod Positions
 pub mod History
 pub mod Image
 pub mod Private

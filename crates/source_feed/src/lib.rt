@@ -21,6 +21,7 @@ mod source;
 mod table_widths;
 mod touch;
 mod transaction;
+mod up_to_position;
 
 pub use fault::FeedFault;
 pub use feed::Feed;
@@ -34,3 +35,4 @@ pub use laws::{
 pub use pieces::FeedBuilder;
 pub use prepared::Prepared;
 pub use touch::{Put, Touch};
+pub use up_to_position::{groups_up_to, number_at};

@@ -17,6 +17,7 @@ use Rattle.source_feed.specs.declared.fault.FeedFault.{FeedFault}
 use Rattle.source_feed.specs.GroupOrder.{IsProperPart}
 use Rattle.source_feed.specs.GroupValue.{Position}
 use Rattle.source_feed.specs.Planned.{PlannedGroupValue, FeedValue, IsFeed}
+use Rattle.source_feed.specs.SoundGroups.{sound_groups}
 use Rattle.source_feed.specs.Touches.{TouchValue, PreparedValue, touches_of, prepared, prepared_if, prepared_at}
 use Rattle.board_laws.specs.declared.refusal.Refusal.{Refusal}
 use Rattle.board_laws.specs.declared.refusal.Refusal.TheVariants.{NoStream, WrongPlan, Diverged, Core, OwnedByOther, FeedCount, Memory}
@@ -27,7 +28,7 @@ use Rattle.board_laws.specs.StateAfter.{state_after}
 use Rattle.board_laws.specs.Allowed.{last_position, IsAllowed, IsDiverged, IsInPlace}
 use Rattle.board_laws.specs.Step.{IsRefusedFor}
 use Rattle.board_laws.specs.Reading.{ReadsFeed}
-use Rattle.board_laws.specs.Runs.{event_of_step, sound_groups}
+use Rattle.board_laws.specs.Runs.{event_of_step}
 use Rattle.board_laws.proofs.Lookups.{Ties}
 use Rattle.board_laws.proofs.Sound.{copying}
 use Rattle.stream_worker.specs.Ended.{HasEnded}

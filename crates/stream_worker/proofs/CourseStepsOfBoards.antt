@@ -12,6 +12,7 @@ use Rattle.stream_core.specs.declared.step.Step.TheVariants.{Offer, Advance, Ope
 use Rattle.target_tables.specs.Contents.{value_at}
 use Rattle.source_feed.specs.declared.fault.FeedFault.{FeedFault}
 use Rattle.source_feed.specs.Planned.{FeedValue}
+use Rattle.source_feed.specs.SoundGroups.{sound_groups}
 use Rattle.source_feed.specs.Touches.{prepared_at}
 use Rattle.board_laws.specs.declared.refusal.Refusal.{Refusal}
 use Rattle.board_laws.specs.declared.refusal.Refusal.TheVariants.{NoStream, WrongPlan, Diverged, Core, OwnedByOther, FeedCount, Memory}
@@ -24,7 +25,7 @@ use Rattle.board_laws.specs.Lawful.{standing_of}
 use Rattle.board_laws.specs.StateAfter.{state_after}
 use Rattle.board_laws.specs.Step.{IsRefusedFor, IsClash}
 use Rattle.board_laws.specs.Reading.{HasFeed}
-use Rattle.board_laws.specs.Runs.{sound_groups, IsTouchedIn}
+use Rattle.board_laws.specs.Runs.{IsTouchedIn}
 use Rattle.board_laws.specs.Schedule.{Reply, IsEventStep, IsUnprepared, IsReplyBy, IsReply}
 use Rattle.board_laws.proofs.Lookups.{Ties}
 use Rattle.board_laws.proofs.FeedLaws.{run-reads}

@@ -12,6 +12,7 @@ use Rattle.stream_core.specs.declared.step.Step.TheVariants.{Offer, Advance, Ope
 use Rattle.target_tables.specs.Contents.{value_at}
 use Rattle.source_feed.specs.declared.fault.FeedFault.{FeedFault}
 use Rattle.source_feed.specs.Planned.{FeedValue, IsFeed}
+use Rattle.source_feed.specs.SoundGroups.{sound_groups}
 use Rattle.source_feed.specs.Touches.{prepared_at}
 use Rattle.board_laws.specs.declared.answer.Answer.{Answer}
 use Rattle.board_laws.specs.declared.refusal.Refusal.{Refusal}
@@ -24,7 +25,7 @@ use Rattle.board_laws.specs.Lawful.{standing_of, IsSoundState}
 use Rattle.board_laws.specs.StateAfter.{state_after}
 use Rattle.board_laws.specs.Step.{IsMade, IsRefusedFor, IsClash}
 use Rattle.board_laws.specs.Reading.{ReadsFeed}
-use Rattle.board_laws.specs.Runs.{sound_groups, IsTouchedIn}
+use Rattle.board_laws.specs.Runs.{IsTouchedIn}
 use Rattle.board_laws.specs.Schedule.{Reply, IsUnprepared}
 use Rattle.stream_worker.specs.Knowing.{Laid, Knows, SawStreams, state_seen}
 use Rattle.stream_worker.specs.Rule.{IsSaid}

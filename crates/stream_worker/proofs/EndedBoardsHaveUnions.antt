@@ -20,13 +20,13 @@ use Rattle.target_tables.specs.Touches.{last_at}
 use Rattle.source_feed.specs.History.{RowValue, touches_in, passing, kept_of, kept_at}
 use Rattle.source_feed.specs.Planned.{FeedValue}
 use Rattle.source_feed.specs.Prepared.{IsTouchUnder}
+use Rattle.source_feed.specs.SoundGroups.{sound_groups}
 use Rattle.source_feed.specs.Touches.{PutValue, TouchValue, PreparedValue}
 use Rattle.vdiff_core.specs.DumpRowsValue.{DumpRowsValue, row_with_key}
 use Rattle.board_laws.specs.Meaning.{State, TargetRows, Meaning}
 use Rattle.board_laws.specs.Cut.{cut_of, own_row}
 use Rattle.board_laws.specs.Lawful.{standing_of, IsSoundState}
 use Rattle.board_laws.specs.Reading.{ReadsFeed, HasFeed}
-use Rattle.board_laws.specs.Runs.{sound_groups}
 use Rattle.board_laws.proofs.Lookups.{Ties, is_key, same_key, same_rows}
 use Rattle.board_laws.proofs.History.{passed_at-alike}
 use Rattle.apply_core.specs.Shown.{all_rows}

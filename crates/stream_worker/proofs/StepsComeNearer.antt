@@ -24,12 +24,12 @@ use Rattle.target_tables.specs.Touches.{last_at}
 use Rattle.source_feed.specs.History.{RowValue, touches_in, passing, passed_at}
 use Rattle.source_feed.specs.Image.{ImageRows, row_in}
 use Rattle.source_feed.specs.Planned.{FeedValue}
+use Rattle.source_feed.specs.SoundGroups.{sound_groups}
 use Rattle.source_feed.specs.Touches.{PutValue, TouchValue, PreparedValue, prepared}
 use Rattle.board_laws.specs.Meaning.{State}
 use Rattle.board_laws.specs.Chunk.{rows_left, rows_taken, takes_all, marks_behind, copied_state}
 use Rattle.board_laws.specs.Lawful.{standing_of}
 use Rattle.board_laws.specs.Reading.{ReadsFeed}
-use Rattle.board_laws.specs.Runs.{sound_groups}
 use Rattle.board_laws.proofs.Lists.{parts_of_last, empty_without_last}
 use Rattle.board_laws.proofs.Lookups.{Ties, is_key, is_itself, same_key, lookup-append}
 use Rattle.board_laws.proofs.Chunks.{and-left, and-right, inside-next, inside-moved, last-past, taken-at}

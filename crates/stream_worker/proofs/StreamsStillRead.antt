@@ -15,6 +15,7 @@ use Rattle.target_tables.specs.Touches.{last_at, owner_in_the_way}
 use Rattle.source_feed.specs.declared.fault.FeedFault.{FeedFault}
 use Rattle.source_feed.specs.History.{RowValue, touches_in, passing, kept_of, kept_at}
 use Rattle.source_feed.specs.Planned.{PlannedGroupValue, FeedValue}
+use Rattle.source_feed.specs.SoundGroups.{sound_groups}
 use Rattle.source_feed.specs.Touches.{PutValue, PreparedValue, prepared, prepared_at}
 use Rattle.board_laws.specs.Meaning.{State}
 use Rattle.board_laws.specs.Cut.{cut_of}
@@ -23,7 +24,7 @@ use Rattle.board_laws.specs.Event.{Event, offer, advance, open_at, copy_rows, cl
 use Rattle.board_laws.specs.Chunk.{takes_all, rows_taken, marks_behind}
 use Rattle.board_laws.specs.StateAfter.{state_after}
 use Rattle.board_laws.specs.Reading.{ReadsFeed}
-use Rattle.board_laws.specs.Runs.{event_of_step, sound_groups, IsTouchedIn}
+use Rattle.board_laws.specs.Runs.{event_of_step, IsTouchedIn}
 use Rattle.board_laws.proofs.Making.{plan-after}
 use Rattle.stream_worker.specs.Private.Courses.{LeadsOn}
 use Rattle.stream_worker.proofs.CourseStepsAreAllowed.{plus_one, at_number, of_offer}

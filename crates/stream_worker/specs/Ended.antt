@@ -9,10 +9,10 @@ use Rattle.target_tables.specs.Rising.{IsRising}
 use Rattle.vdiff_core.specs.DumpRowsValue.{DumpRowsValue, row_with_key}
 use Rattle.source_feed.specs.History.{KeptRow, kept_at}
 use Rattle.source_feed.specs.Planned.{FeedValue}
+use Rattle.source_feed.specs.SoundGroups.{sound_groups}
 use Rattle.board_laws.specs.Meaning.{State, Meaning}
 use Rattle.board_laws.specs.Lawful.{standing_of, IsLawful}
 use Rattle.board_laws.specs.Reading.{AllReadTheirFeeds}
-use Rattle.board_laws.specs.Runs.{sound_groups}
 use Rattle.apply_core.specs.Shown.{all_rows}
 
 -- ---- the end of a feed

@@ -5,8 +5,9 @@ use Rattle.pk_copy.specs.KeyValue.{KeyValue}
 use Rattle.source_feed.specs.FaultNumber as feed
 use Rattle.source_feed.specs.declared.fault.FeedFault.{FeedFault}
 use Rattle.source_feed.specs.Planned.{PlannedGroupValue, FeedValue}
+use Rattle.source_feed.specs.SoundGroups.{sound_groups}
 use Rattle.source_feed.specs.Touches.{prepared}
-use Rattle.board_laws.specs.Runs.{sound_groups, IsTouchedIn}
+use Rattle.board_laws.specs.Runs.{IsTouchedIn}
 use Rattle.apply_core.specs.Feeds.{AreFed}
 use Rattle.stream_worker.specs.declared.run_refusal.RunRefusal.{RunRefusal}
 use Rattle.stream_worker.specs.declared.run_refusal.RunRefusal.TheVariants.{FeedCount, WrongPlan, Unsound, OwnedByOther, Memory}

@@ -4,10 +4,11 @@ use Rattle.std.specs.Arc.{arc_value}
 use Rattle.pk_copy.specs.KeyValue.{KeyValue}
 use Rattle.source_feed.specs.History.{RowValue}
 use Rattle.source_feed.specs.Planned.{FeedValue}
+use Rattle.source_feed.specs.SoundGroups.{sound_groups}
 use Rattle.board_laws.specs.Meaning.{State}
 use Rattle.board_laws.specs.Cut.{cut_of}
 use Rattle.board_laws.specs.Reading.{ReadsFeed}
-use Rattle.board_laws.specs.Runs.{sound_groups, IsTouchedIn}
+use Rattle.board_laws.specs.Runs.{IsTouchedIn}
 use Rattle.stream_worker.specs.declared.receipt.Receipt.{Receipt}
 use Rattle.stream_worker.specs.declared.seat.Seat.{Seat}
 use Rattle.stream_worker.specs.declared.run_refusal.RunRefusal.{RunRefusal}

@@ -5,9 +5,9 @@ use Rattle.source_feed.specs.declared.fault.FeedFault.{FeedFault}
 use Rattle.source_feed.specs.declared.fault.FeedFault.TheVariants as feed
 use Rattle.source_feed.specs.Planned.{FeedValue}
 use Rattle.source_feed.specs.Prepared.{IsSameOn}
+use Rattle.source_feed.specs.SoundGroups.{sound_groups}
 use Rattle.source_feed.specs.Touches.{PreparedValue, prepared_at}
 use Rattle.board_laws.specs.Meaning.{State}
-use Rattle.board_laws.specs.Runs.{sound_groups}
 use Rattle.added_laws.specs.declared.fault.AddFault.{AddFault}
 use Rattle.added_laws.specs.declared.fault.AddFault.TheVariants.{HistoriesDiffer, Unsound, Memory}
 use Rattle.added_laws.specs.Extended.{extended_state, extended_states}

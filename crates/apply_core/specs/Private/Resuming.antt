@@ -6,15 +6,16 @@ use Rattle.target_tables.specs.Rising.{IsRising}
 use Rattle.source_feed.specs.declared.fault.FeedFault.{FeedFault}
 use Rattle.source_feed.specs.declared.fault.FeedFault.TheVariants as feed
 use Rattle.source_feed.specs.Planned.{FeedValue}
+use Rattle.source_feed.specs.Positions.{IsNumberAt}
+use Rattle.source_feed.specs.SoundGroups.{IsFirstFault}
 use Rattle.board_laws.specs.Meaning.{State}
 use Rattle.join_laws.specs.Refused.{IsFirstClash}
 use Rattle.checkpoint_laws.specs.declared.fault.ResumeFault.{ResumeFault}
 use Rattle.checkpoint_laws.specs.declared.fault.ResumeFault.TheVariants.{FeedCount, WrongPlan, Unsound, CheckpointDiffers, OwnedByOther, Memory}
 use Rattle.checkpoint_laws.specs.Saved.{SavedStream}
 use Rattle.checkpoint_laws.specs.Said.{IsCheckpoint}
-use Rattle.board_laws.specs.Sources.{IsNumberAt}
 use Rattle.checkpoint_laws.specs.Resumed.{AgreesWith}
-use Rattle.checkpoint_laws.specs.Refused.{plans_of_feeds, IsFirstOff, IsSoundUpTo, IsFirstFault, IsLeastDifference}
+use Rattle.checkpoint_laws.specs.Refused.{plans_of_feeds, IsFirstOff, IsSoundUpTo, IsLeastDifference}
 use Rattle.apply_core.specs.Feeds.{AreFed}
 
 -- a fact of three values at each place of three lists

@@ -8,9 +8,9 @@ use Rattle.stream_core.specs.Standing.{Standing, is_open_at, phase_of}
 use Rattle.pk_copy.specs.Marks.{Marks, is_inside}
 use Rattle.source_feed.specs.History.{touches_in}
 use Rattle.source_feed.specs.Planned.{FeedValue}
+use Rattle.source_feed.specs.SoundGroups.{sound_groups}
 use Rattle.board_laws.specs.Meaning.{State, Meaning}
 use Rattle.board_laws.specs.Lawful.{standing_of}
-use Rattle.board_laws.specs.Runs.{sound_groups}
 
 -- ---- the next step
 

@@ -1,7 +1,7 @@
 use Rattle.std.proofs.Common.{◌∙◌, map, take, ap, sym, subst, arith}
 use Rattle.std.specs.Arc.{arc_value}
 use Rattle.stream_core.specs.Standing.{Standing}
-use Rattle.board_laws.specs.Runs.{sound_groups}
+use Rattle.source_feed.specs.SoundGroups.{sound_groups}
 use Rattle.added_laws.specs.Extended.{marks_of_more}
 use Rattle.apply_core.specs.Private.Adding.{IsExtendedBy}
 use Rattle.apply_core.proofs.AddLaws.{made_extended, made_stream}

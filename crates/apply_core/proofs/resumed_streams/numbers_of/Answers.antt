@@ -1,7 +1,7 @@
 use Rattle.std.proofs.Common.{◌<◌, ℕ, length, refl, sym, subst}
 use Rattle.std.proofs.lemmas.Option.{slice_get_read}
 use Rattle.source_feed.specs.GroupValue.{Position}
-use Rattle.board_laws.specs.Sources.{IsNumberAt}
+use Rattle.source_feed.specs.Positions.{IsNumberAt}
 use Rattle.apply_core.proofs.ResumeLaws.{no_number, number_more}
 use Rattle.apply_core.proofs.resumed_streams.numbers_of.Goals as goal
 

@@ -1,7 +1,7 @@
 use Rattle.std.proofs.Common.{map}
 use Rattle.std.specs.Arc.{arc_value}
-use Rattle.checkpoint_core.specs.Groups.{AreFirst}
-use Rattle.checkpoint_core.proofs.groups.groups_up_to.Given as goal
+use Rattle.source_feed.specs.SoundGroups.{AreFirst}
+use Rattle.source_feed.proofs.up_to_position.groups_up_to.Given as goal
 
 -- the groups so far are the first ones
 abbrev pub invariant-loop-i : goal.invariant-loop-i

@@ -1,8 +1,8 @@
 use Rattle.std.proofs.Common.{◌∙◌, sym, ap}
 use Rattle.std.proofs.lemmas.Bool.{false≢true}
 use Rattle.std.specs.Option.{option_copied}
-use Rattle.checkpoint_core.proofs.GroupLaws.{no_group}
-use Rattle.checkpoint_core.proofs.groups.is_at.Goals as goal
+use Rattle.source_feed.proofs.PositionLaws.{no_group}
+use Rattle.source_feed.proofs.up_to_position.is_at.Goals as goal
 
 pub returns-in-None : goal.returns-in-None
 returns-in-None c = (

@@ -1,7 +1,7 @@
 use Rattle.std.proofs.Common.{◌∙◌, ◌≤◌, length, sym, arith}
 use Rattle.std.proofs.lemmas.Bool.{false≢true}
-use Rattle.checkpoint_core.proofs.GroupLaws.{none_at_all}
-use Rattle.checkpoint_core.proofs.groups.number_at.Goals as goal
+use Rattle.source_feed.proofs.PositionLaws.{none_at_all}
+use Rattle.source_feed.proofs.up_to_position.number_at.Goals as goal
 
 pub returns : goal.returns
 returns c =

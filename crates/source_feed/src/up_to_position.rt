@@ -1,13 +1,15 @@
 //! The groups of a feed up to a position.
 
-ghost use Rattle.std.specs.Prelude.{◌≡◌, ◌≤◌, ◌↔◌, ℕ, length, map, IsTrue, MatchOption, IfOk, IfErr, IfSome};
+ghost use Rattle.std.specs.Prelude.{◌≤◌, ◌↔◌, ℕ, length, map, IsTrue, MatchOption, IfOk, IfErr, IfSome};
 ghost use Rattle.std.specs.Arc.{arc_value};
 ghost use Rattle.source_feed.specs.FaultNumber.{meant_of};
-ghost use Rattle.board_laws.specs.Sources.{HasGroupAt, IsNumberAt};
-ghost use Rattle.checkpoint_core.specs.Groups.{AreFirst, StopsBefore};
+ghost use Rattle.source_feed.specs.Positions.{HasGroupAt, IsNumberAt};
+ghost use Rattle.source_feed.specs.SoundGroups.{AreFirst, StopsBefore};
 
+use crate::fault::FeedFault;
+use crate::feed::Feed;
+use crate::prepared::Prepared;
 use gtid_set::{GtidSet, same_set_is_equality};
-use source_feed::{Feed, FeedFault, Prepared};
 use std::alloc::Global;
 use std::sync::Arc;
 

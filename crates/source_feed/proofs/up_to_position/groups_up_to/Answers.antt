@@ -3,8 +3,8 @@ use Rattle.std.proofs.lemmas.List.{map-append}
 use Rattle.std.proofs.lemmas.Result.{err_from_is_err_and}
 use Rattle.std.specs.Arc.{arc_value}
 use Rattle.source_feed.specs.FaultNumber.{meant_of}
-use Rattle.checkpoint_core.proofs.GroupLaws.{first_more, first_stops, if_meant}
-use Rattle.checkpoint_core.proofs.groups.groups_up_to.Goals as goal
+use Rattle.source_feed.proofs.SoundGroupLaws.{first_more, first_stops, if_meant}
+use Rattle.source_feed.proofs.up_to_position.groups_up_to.Goals as goal
 
 pub returns-in_err-prepare-clause-refused : goal.returns-in_err-prepare-clause-refused
 returns-in_err-prepare-clause-refused c =

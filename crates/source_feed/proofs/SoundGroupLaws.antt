@@ -1,48 +1,61 @@
--- The groups of a feed, one after another.
-use Rattle.std.proofs.Common.{◌≡◌, ℕ, zero, suc, ◌+◌, ◌<◌, ◌≤◌, inl, inr, List, [], ◌∷◌, ◌++◌, length, map, take, Option, Some, None, Result, Ok, Err, slice_get, refl, sym, ap, subst, ◌∙◌, arith}
-use Rattle.std.proofs.lemmas.Bool.{cases_lt}
-use Rattle.std.proofs.lemmas.Option.{same_Some, none-some, slice_get-map, slice_get_within}
+-- The sound groups of a feed, one after another.
+use Rattle.std.proofs.Common.{◌≡◌, ℕ, zero, suc, ◌+◌, ◌<◌, ◌≤◌, List, [], ◌∷◌, ◌++◌, length, map, take, Option, Some, None, Result, Ok, Err, slice_get, refl, sym, ap, subst, ◌∙◌, arith}
+use Rattle.std.proofs.lemmas.Option.{same_Some, none-some, slice_get-map}
 use Rattle.std.specs.Option.{option_map}
 use Rattle.std.specs.Prelude.{IfSome}
 use Rattle.std.specs.Result.{result_ok, ok_prefix}
+use Rattle.list_laws.proofs.Places.{no_place}
+use Rattle.outcome.specs.Outcome.{◌>>=◌}
+use Rattle.filter_rule.specs.PlanValue.{PlanValue}
 use Rattle.source_feed.specs.declared.fault.FeedFault.{FeedFault}
-use Rattle.source_feed.specs.GroupValue.{Position}
 use Rattle.source_feed.specs.Planned.{PlannedGroupValue, FeedValue}
-use Rattle.source_feed.specs.Touches.{PreparedValue, group_at, prepared, prepared_if, prepared_at}
-use Rattle.board_laws.specs.Runs.{sound_groups}
-use Rattle.board_laws.specs.Sources.{HasGroupAt, IsNumberAt}
-use Rattle.checkpoint_core.specs.Groups.{AreFirst, StopsBefore}
+use Rattle.source_feed.specs.SoundGroups.{sound_groups, AreFirst, StopsBefore}
+use Rattle.source_feed.specs.Touches.{TouchValue, PreparedValue, touches_of, prepared, prepared_if, prepared_at}
 
--- ---- positions
+-- ---- what each was made of
 
-abbrev position_of : PlannedGroupValue → Position
-position_of group = group.position
+-- a result before the first error
+in_front : {A E : Type 0} (xs : List (Result A E)) (i : ℕ) (x : A) → slice_get (ok_prefix xs) i ≡ Some x → slice_get xs i ≡ Some (Ok x)
+in_front [] i x e = no_place i x e
+in_front (Err d ∷ xs) i x e = no_place i x e
+in_front {A} {E} (Ok y ∷ xs) zero x e = ap (λ (z : A). Some (Ok z)) (same_Some y x e)
+in_front (Ok y ∷ xs) (suc i) x e = in_front xs i x e
 
-pub no_group : (feed : FeedValue) (position : Position) (number : ℕ) → None ≡ option_map (λ (group : PlannedGroupValue). group.position) (group_at feed number) → ¬ HasGroupAt feed position number
-no_group feed position number is has = none-some has.group.position (is ∙ ap (option_map position_of) has.there)
+-- a group with touches
+abbrev pub of_touches : PlanValue → PlannedGroupValue → List TouchValue → PreparedValue
+of_touches plan planned touches = record { plan = plan; number = planned.number; position = planned.position; touches = touches }
 
--- none of the first groups has this position
-abbrev pub NoneUpTo : FeedValue → Position → ℕ → Type 0
-NoneUpTo feed position i = (j : ℕ) → j < i → ¬ HasGroupAt feed position (j + 1)
+abbrev good : PreparedValue → Result PreparedValue FeedFault
+good group = Ok group
 
-pub one_more : (feed : FeedValue) (position : Position) (i : ℕ) → NoneUpTo feed position i → ¬ HasGroupAt feed position (i + 1) → NoneUpTo feed position (i + 1)
-one_more feed position i before here j less has = elim (cases_lt j i) [
-  | inl earlier ↦ before j earlier has
-  | inr behind ↦ (
-      let is : j ≡ i = omega (arith, less, behind) in
-      here (subst (λ (n : ℕ). HasGroupAt feed position (n + 1)) is has)
-      )
-]
+abbrev bad : FeedFault → Result PreparedValue FeedFault
+bad fault = Err fault
 
-pub none_at_all : (feed : FeedValue) (position : Position) (i : ℕ) → length feed.groups ≤ i → NoneUpTo feed position i → ¬ (position ≡ []) → (number : ℕ) → ¬ IsNumberAt feed position number
-none_at_all feed position i most none filled number (inl empty) = filled empty.0
-none_at_all feed position i most none filled zero (inr has) = none-some has.group has.there
-none_at_all feed position i most none filled (suc j) (inr has) =
-    let inside : j < length feed.groups = slice_get_within feed.groups j has.group has.there in
-    let next : suc j ≡ j + 1 = omega arith in
-    none j (omega (arith, inside, most)) (subst (HasGroupAt feed position) next has)
+-- a group of a feed, and what it was made of
+pub record IsGroupOf (feed : FeedValue) (i : ℕ) (group : PreparedValue) : Type 0 where
+  pub planned : PlannedGroupValue
+  pub there : slice_get feed.groups i ≡ Some planned
+  pub touches : List TouchValue
+  pub made : touches_of feed.plan planned.number planned.changes ≡ Ok touches
+  pub is : of_touches feed.plan planned touches ≡ group
 
--- ---- sound groups
+made_of : (feed : FeedValue) (i : ℕ) (group : PreparedValue) (planned : PlannedGroupValue) → slice_get feed.groups i ≡ Some planned → prepared feed.plan planned ≡ Ok group → IsGroupOf feed i group
+made_of feed i group planned there e = by (touches_of feed.plan planned.number planned.changes) refl e
+  where
+    by : (r : Result (List TouchValue) FeedFault) → touches_of feed.plan planned.number planned.changes ≡ r → (r >>= λ touches. good (of_touches feed.plan planned touches)) ≡ good group → IsGroupOf feed i group
+    by (Ok touches) made e =
+        record { planned = planned; there = there; touches = touches; made = made; is = same_Some (of_touches feed.plan planned touches) group (ap result_ok e) }
+    by (Err fault) made e = absurd (none-some group (ap result_ok e))
+
+pub group_of : (feed : FeedValue) (i : ℕ) (group : PreparedValue) → slice_get (sound_groups feed) i ≡ Some group → IsGroupOf feed i group
+group_of feed i group e =
+    by (slice_get feed.groups i) refl (sym (slice_get-map (prepared feed.plan) feed.groups i) ∙ in_front (map (prepared feed.plan) feed.groups) i group e)
+  where
+    by : (o : Option PlannedGroupValue) → slice_get feed.groups i ≡ o → option_map (prepared feed.plan) (slice_get feed.groups i) ≡ Some (Ok group) → IsGroupOf feed i group
+    by None there h = absurd (none-some (good group) (sym (ap (option_map (prepared feed.plan)) there) ∙ h))
+    by (Some planned) there h = made_of feed i group planned there (same_Some (prepared feed.plan planned) (good group) (sym (ap (option_map (prepared feed.plan)) there) ∙ h))
+
+-- ---- the first ones
 
 -- results before the first error: one more
 front_more : {A E : Type 0} (xs : List (Result A E)) (i : ℕ) (x : A) → i ≤ length (ok_prefix xs) → slice_get xs i ≡ Some (Ok x)

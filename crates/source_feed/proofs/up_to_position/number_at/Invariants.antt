@@ -1,5 +1,5 @@
-use Rattle.checkpoint_core.proofs.GroupLaws.{NoneUpTo}
-use Rattle.checkpoint_core.proofs.groups.number_at.Given as goal
+use Rattle.source_feed.proofs.PositionLaws.{NoneUpTo}
+use Rattle.source_feed.proofs.up_to_position.number_at.Given as goal
 
 -- none of the groups so far has the position
 abbrev pub invariant-loop-i : goal.invariant-loop-i
