@@ -16,7 +16,7 @@ use Rattle.source_feed.specs.Image.{ImageRows}
 use Rattle.board_laws.specs.Meaning.{State, TargetRows}
 use Rattle.board_laws.proofs.Lookups.{all-at}
 use Rattle.join_laws.specs.Compatible.{AreApart}
-use Rattle.join_laws.specs.Joined.{cut_rows, with_row, with_rows}
+use Rattle.join_laws.specs.Joined.{with_row, with_rows}
 use Rattle.checkpoint_laws.specs.Resumed.{AgreesWith, AtEachPlace}
 use Rattle.checkpoint_laws.specs.Saved.{SavedStream}
 use Rattle.apply_core.specs.Private.Resuming.{AllRise}

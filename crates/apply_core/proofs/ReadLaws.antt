@@ -1,5 +1,5 @@
 -- A resumed board reads its feeds.
-use Rattle.std.proofs.Common.{◌≡◌, ℕ, ◌<◌, List, [], length, Some, slice_get, ap, arith}
+use Rattle.std.proofs.Common.{◌≡◌, ◌<◌, List, length, Some, slice_get, ap, arith}
 use Rattle.std.proofs.lemmas.Option.{slice_get_within}
 use Rattle.list_laws.proofs.Places.{place_of}
 use Rattle.source_feed.specs.Planned.{FeedValue}

@@ -1,7 +1,7 @@
 //! Keys and rows in memory of their own, as a step puts them into the target. They are made before the
 //! target is touched, and where it is shared before it is taken.
 
-ghost use Rattle.std.specs.Prelude.{◌≡◌, ◌++◌, [], List, map, reverse, Some, IfOk, IfSome};
+ghost use Rattle.std.specs.Prelude.{◌≡◌, [], map, reverse, Some, IfOk, IfSome};
 ghost use Rattle.std.specs.List.{AllByRecursion, filter};
 ghost use Rattle.std.specs.Option.{option_map, option_and_then, option_copied};
 ghost use Rattle.pk_copy.specs.KeyOrder.{key_cmp};
@@ -13,7 +13,7 @@ ghost use Rattle.source_feed.specs.History.{passing, kept_of};
 ghost use Rattle.source_feed.specs.Image.{lent_row};
 ghost use Rattle.board_laws.specs.KeptRows.{kept_row};
 ghost use Rattle.board_laws.specs.Touching.{left_by, put_by};
-ghost use Rattle.apply_core.specs.Private.Changes.{IsOfTable, AreOfTables, kept_change, change_of, lent_change, put_row};
+ghost use Rattle.apply_core.specs.Private.Changes.{IsOfTable, AreOfTables, kept_change, change_of, lent_change};
 
 use crate::inside::is_inside;
 use crate::kept::copy_kept;

@@ -18,7 +18,7 @@ use Rattle.feed_check.specs.Shared.{SharedValue, shared_of}
 use Rattle.workflow_check.specs.File.{notes_of}
 use Rattle.workflow_check.specs.Notes.{NoteValue}
 use Rattle.workflow_check.specs.Passed.{passed_of}
-use Rattle.check_said.specs.Json.{position_data, part_data, key_data, finding_data, skipped_data, nearest_data, name_data, tables_from, tables_data, stream_data, streams_from, streams_data, shared_data, shared_if, table_or_null, note_data, passed_data, check_data}
+use Rattle.check_said.specs.Json.{position_data, part_data, key_data, finding_data, skipped_data, nearest_data, name_data, tables_from, stream_data, streams_from, shared_if, table_or_null, note_data, passed_data, check_data}
 
 list_no_float : {X : Type 0} (f : X → Data) → ((x : X) → has_float (f x) ≡ false) → (xs : List X) → items_have_float (items_of (map f xs)) ≡ false
 list_no_float f none [] = refl

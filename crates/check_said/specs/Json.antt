@@ -5,7 +5,7 @@ use Rattle.filter_rule.specs.PlanTable.{TableValue, name_of_table}
 use Rattle.filter_rule.specs.PlanValue.{PlanValue, table_of_name}
 use Rattle.gtid_set.specs.Printed.{printed_position}
 use Rattle.pk_copy.specs.KeyValue.{Part, KeyValue}
-use Rattle.serde_json.specs.Data.{Data, null, boolean, number, string, array, object, Members, no_members, member, no_items, item, unsigned}
+use Rattle.serde_json.specs.Data.{Data, null, boolean, number, string, array, object, no_members, member, no_items, item, unsigned}
 use Rattle.serde_json.specs.View.{items_of}
 use Rattle.serde_json.specs.Written.{compact_text}
 use Rattle.source_feed.specs.Image.{ImageRows}

@@ -1,8 +1,7 @@
 //! What is told of a feed's changes, and events that are passed over, as JSON.
 
 ghost use Rattle.std.specs.Prelude.{◌≡◌, ◌++◌, IfOk, OnOk, map};
-ghost use Rattle.serde_json.specs.Data.{array};
-ghost use Rattle.serde_json.specs.View.{items_of, view};
+ghost use Rattle.serde_json.specs.View.{view};
 ghost use Rattle.check_said.specs.Json.{finding_data, list_data, skipped_data};
 
 use crate::json::{key_value, list_of, position_value};

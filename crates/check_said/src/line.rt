@@ -7,7 +7,7 @@ ghost use Rattle.feed_check.specs.Report.{tables_of};
 ghost use Rattle.feed_check.specs.Shared as feeds;
 ghost use Rattle.workflow_check.specs.File as file;
 ghost use Rattle.workflow_check.specs.Passed as passed;
-ghost use Rattle.check_said.specs.Json.{check_data, json_line, list_data, note_data, passed_data, shared_if, streams_data, whole_data};
+ghost use Rattle.check_said.specs.Json.{check_data, json_line, list_data, note_data, passed_data, shared_if, whole_data};
 
 use crate::streams::{shared_value, streams_value};
 use crate::workflow::{notes_value, rules_value};

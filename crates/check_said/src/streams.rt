@@ -2,7 +2,7 @@
 
 ghost use Rattle.std.specs.Prelude.{◌≡◌, ◌++◌, IfOk, OnOk, map};
 ghost use Rattle.std.specs.Option.{option_copied};
-ghost use Rattle.serde_json.specs.View.{items_of, view};
+ghost use Rattle.serde_json.specs.View.{view};
 ghost use Rattle.source_feed.specs.Image.{lent_row};
 ghost use Rattle.feed_check.specs.Report.{file_name};
 ghost use Rattle.check_said.specs.Private.Parts.{ArePartsOf};

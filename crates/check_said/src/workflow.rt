@@ -1,7 +1,7 @@
 //! What a workflow's file says, and what is told of it, as JSON.
 
 ghost use Rattle.std.specs.Prelude.{◌≡◌, ◌++◌, IfOk, OnOk, map};
-ghost use Rattle.serde_json.specs.View.{items_of, view};
+ghost use Rattle.serde_json.specs.View.{view};
 ghost use Rattle.check_said.specs.Json.{flaw_word, list_data, note_data, passed_data, table_or_null};
 
 use crate::json::list_of;

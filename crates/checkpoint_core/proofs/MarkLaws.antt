@@ -1,5 +1,5 @@
 -- How far tables are copied, by the parts of a checkpoint.
-use Rattle.std.proofs.Common.{◌≡◌, ◌≢◌, ◌==◌, ◌&&◌, ℕ, ◌+◌, ◌<◌, ◌≤◌, ◌⊎◌, inl, inr, cond, List, length, Option, Some, None, slice_get, refl, sym, ap, subst, ◌∙◌, arith}
+use Rattle.std.proofs.Common.{◌≡◌, ◌≢◌, ◌==◌, ℕ, ◌+◌, ◌<◌, ◌≤◌, ◌⊎◌, inl, inr, cond, List, length, Option, Some, None, slice_get, refl, sym, ap, subst, ◌∙◌, arith}
 use Rattle.std.proofs.lemmas.Bool.{ne_eqb, cases_lt, le-ltb}
 use Rattle.std.proofs.lemmas.Option.{same_Some, none-some}
 use borrow.Author.Tests.{eq-eqb}
@@ -16,7 +16,7 @@ use Rattle.checkpoint_laws.proofs.OneThing.{done_at}
 use Rattle.list_laws.proofs.Places.{place_of}
 use Rattle.checkpoint_core.specs.declared.marks.MarkRead.{MarkRead}
 use Rattle.checkpoint_core.specs.declared.marks.MarkRead.TheVariants.{Waiting, Upto, Done}
-use Rattle.checkpoint_core.specs.Private.Reading.{mark_read, IsOfPlan, IsMarked, SaysMark, IsOpenAt, IsMarkedMore, AreMarksBefore, AreMarksOf}
+use Rattle.checkpoint_core.specs.Private.Reading.{mark_read, IsOfPlan, SaysMark, IsOpenAt, IsMarkedMore, AreMarksBefore, AreMarksOf}
 
 -- ---- the mark of one table
 

@@ -1,6 +1,6 @@
 //! What all parts of a stream's tables begin with: the columns of their tables, and the stream's position.
 
-ghost use Rattle.std.specs.Prelude.{◌≡◌, ◌<◌, ◌≤◌, ◌↔◌, ℕ, List, Ok, map, length, IsTrue, IfOk, IfErr};
+ghost use Rattle.std.specs.Prelude.{◌≡◌, ◌<◌, ◌≤◌, ◌↔◌, Ok, map, length, IsTrue, IfOk};
 ghost use Rattle.std.specs.Result.{result_ok};
 ghost use Rattle.gtid_set.specs.Text.{position_of_text};
 ghost use Rattle.vevent.specs.ColumnView.{field_value};

@@ -1,9 +1,8 @@
 //! How far a checkpoint says that a stream's tables are copied.
 
-ghost use Rattle.std.specs.Prelude.{◌≡◌, ◌<◌, ◌≤◌, ◌+◌, ◌≢◌, ◌↔◌, ℕ, Some, None, length, slice_get, IsTrue, IfOk, IfErr};
-ghost use Rattle.pk_copy.specs.KeyValue.{KeyValue};
+ghost use Rattle.std.specs.Prelude.{◌≡◌, ◌<◌, ◌≤◌, ◌≢◌, Some, None, length, IsTrue, IfOk, IfErr};
 ghost use Rattle.pk_copy.specs.Lastpk.{IsTableKey};
-ghost use Rattle.pk_copy.specs.Marks.{MarkValue, waiting, mark_of};
+ghost use Rattle.pk_copy.specs.Marks.{MarkValue, waiting};
 ghost use Rattle.checkpoint_core.specs.Fault.{IsNothing};
 ghost use Rattle.checkpoint_core.specs.Private.Reading.{IsLast, SaysMark, AreMarksOf, IsMarked, IsOfTable, IsOfPlan, IsOpenAt, IsMarkedMore, mark_read};
 

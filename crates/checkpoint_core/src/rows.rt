@@ -1,6 +1,6 @@
 //! The rows that a checkpoint says a stream has.
 
-ghost use Rattle.std.specs.Prelude.{◌≡◌, ◌<◌, ◌≤◌, ◌↔◌, [], ◌∷◌, ◌++◌, ℕ, List, map, length, IsTrue, IfOk, IfErr, OnOk, OnErr};
+ghost use Rattle.std.specs.Prelude.{◌<◌, ◌≤◌, ◌↔◌, ◌++◌, ℕ, List, map, length, IsTrue, IfOk, IfErr, OnOk};
 ghost use Rattle.pk_copy.specs.KeyOrder.{key_cmp};
 ghost use Rattle.pk_copy.specs.KeyValue.{KeyValue};
 ghost use Rattle.source_feed.specs.History.{RowValue};

@@ -1,7 +1,6 @@
 //! What is written of a stream's tables.
 
 ghost use Rattle.std.specs.Prelude.{◌≡◌, ◌<◌, ℕ, List, Some, map, length, slice_get, IfOk};
-ghost use Rattle.std.specs.Option.{option_map};
 ghost use Rattle.filter_rule.specs.WellFormed.{AreColumnPlaces};
 ghost use Rattle.pk_copy.specs.MarkView.{mark_value};
 ghost use Rattle.source_feed.specs.Image.{lent_row};

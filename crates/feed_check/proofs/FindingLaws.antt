@@ -1,5 +1,5 @@
 -- Nothing is told exactly where each change is true.
-use Rattle.std.proofs.Common.{◌≡◌, ◌↔◌, List, [], ◌∷◌, ◌++◌, Bool, true, false, cond, Option, Some, None, refl, ap, sym, ◌∙◌}
+use Rattle.std.proofs.Common.{◌≡◌, ◌↔◌, List, [], ◌∷◌, ◌++◌, Bool, true, false, cond, Option, Some, None, refl, ap, sym}
 use Rattle.std.specs.Prelude.{IfSome}
 use Rattle.std.specs.Option.{option_and_then, option_to_list}
 use Rattle.vdiff_core.proofs.ReportLaws.{row_eq-Decides}
@@ -8,9 +8,9 @@ use Rattle.vdiff_core.specs.Report.{row_eq}
 use Rattle.source_feed.specs.History.{RowValue}
 use Rattle.feed_check.specs.KeyedChanges.{KeyedRowValue, KeyedChangeValue}
 use Rattle.feed_check.specs.Replay.{row_left}
-use Rattle.feed_check.specs.Findings.{FindingValue, has_key, why_before, why_after, told, found_before, found_after, findings_in, IsTrueOf, AreTrue}
+use Rattle.feed_check.specs.Findings.{has_key, why_before, why_after, told, found_before, found_after, findings_in, AreTrue}
 use Rattle.feed_check.specs.declared.finding.Doubt.{Doubt}
-use Rattle.feed_check.specs.declared.finding.Doubt.TheVariants.{NoRow, OtherRow, RowThere}
+use Rattle.feed_check.specs.declared.finding.Doubt.TheVariants.{OtherRow}
 
 -- ---- lists and options that are empty
 

@@ -1,12 +1,9 @@
 -- Loops over changes and groups, one on.
-use Rattle.std.proofs.Common.{◌≡◌, ◌<◌, ℕ, suc, ◌+◌, map, get_or, List, [], ◌∷◌, ◌++◌, true, false, length, reverse, Option, Some, None, Result, Ok, Err, refl, ap, sym, ◌∙◌, subst, add-one, arith}
+use Rattle.std.proofs.Common.{◌≡◌, ◌<◌, ℕ, ◌+◌, map, get_or, List, [], ◌∷◌, ◌++◌, length, Some, Result, Ok, Err, refl, ap, sym, ◌∙◌, subst}
 use Rattle.std.specs.Prelude.{slice_get}
-use Rattle.std.specs.List.{flat_map, sum_by}
-use Rattle.std.proofs.lemmas.List.{append_assoc, append-nil, drop_all, get_or-map, length-map, take_more, flat_map_more}
+use Rattle.std.proofs.lemmas.List.{append_assoc, append-nil, get_or-map, length-map}
 use Rattle.std.proofs.lemmas.Option.{slice_get-get_or}
 use Rattle.outcome.specs.Outcome.{◌>>=◌, each}
-use Rattle.source_feed.specs.GroupValue.{GroupValue}
-use Rattle.feed_check.specs.KeyedChanges.{KeyedChangeValue, keyed_in}
 
 -- ---- the changes of a group
 

@@ -1,6 +1,6 @@
 -- The least key that two feeds touch: what touches and groups add to it, and what it is.
-use Rattle.std.proofs.Common.{◌≡◌, ◌≢◌, ◌<◌, ℕ, zero, suc, ◌+◌, add-one, arith, Bool, true, false, cond, List, [], ◌∷◌, ◌++◌, length, drop, take, map, get_or, Option, Some, None, Ordering, refl, sym, ap, subst, ◌∙◌}
-use Rattle.std.specs.Prelude.{slice_get, is_some, IfSome}
+use Rattle.std.proofs.Common.{◌≡◌, ◌≢◌, ◌<◌, ℕ, zero, suc, ◌+◌, arith, Bool, true, false, cond, List, [], ◌∷◌, ◌++◌, length, drop, take, map, get_or, Option, Some, None, Ordering, refl, sym, ap, subst, ◌∙◌}
+use Rattle.std.specs.Prelude.{is_some, IfSome}
 use Rattle.std.specs.List.{AllByRecursion}
 use Rattle.std.specs.Option.{option_map, option_or}
 use Rattle.std.specs.Ordering.{eq_by_cmp, is_lt, ordering_reverse}
@@ -22,7 +22,7 @@ use Rattle.source_feed.proofs.ImageLaws.{last_at-append}
 use Rattle.feed_check.specs.Checked.{CheckedValue}
 use Rattle.feed_check.specs.Replay.{left_at}
 use Rattle.feed_check.specs.Private.Owners.{owner_after, touched_by}
-use Rattle.feed_check.specs.Shared.{History, SharedValue, touches_key, first_touching, lesser, shared_at, shared_among, shared_from, histories_of, TouchesKey, IsOfOne, IsLeastShared, IsTold}
+use Rattle.feed_check.specs.Shared.{History, SharedValue, touches_key, first_touching, lesser, shared_at, shared_among, shared_from, histories_of, TouchesKey, IsOfOne, IsTold}
 
 -- ---- touches of several groups
 

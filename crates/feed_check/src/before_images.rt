@@ -1,7 +1,7 @@
 //! All findings of a feed's groups.
 
 ghost use Rattle.std.specs.Prelude.{◌≡◌, ◌++◌, List, IfOk, OnOk, reverse};
-ghost use Rattle.feed_check.specs.KeyedChanges.{KeyedChangeValue, keyed_in, keyed_changes};
+ghost use Rattle.feed_check.specs.KeyedChanges.{KeyedChangeValue, keyed_changes};
 ghost use Rattle.feed_check.specs.Findings as told;
 ghost use Rattle.feed_check.specs.Private.Replayed.{IsReplayed};
 

@@ -4,7 +4,7 @@ ghost use Rattle.std.specs.Prelude.{◌≡◌, ◌==◌, ◌<◌, ◌++◌, OnOk
 ghost use Rattle.std.specs.Option.{option_copied};
 ghost use Rattle.std.specs.List.{after_first};
 ghost use Rattle.std.specs.String.{string_bytes};
-ghost use Rattle.feed_check.specs.Report.{is_start, kind_text, name_warnings, nearest_text, shown_statement, shown_byte, skipped_count, skipped_head, skipped_lines, skipped_text, skipped_warnings, start_warning, warning};
+ghost use Rattle.feed_check.specs.Report.{is_start, kind_text, name_warnings, nearest_text, shown_statement, shown_byte, skipped_count, skipped_head, skipped_lines, skipped_text, skipped_warnings, start_warning};
 
 use crate::skipped::Skipped;
 use crate::warnings::{TOLD, push_warning};

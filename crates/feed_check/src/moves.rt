@@ -1,7 +1,6 @@
 //! Updates that put a row at another key.
 
 ghost use Rattle.std.specs.Prelude.{◌≡◌, ◌++◌, IfOk, OnOk};
-ghost use Rattle.std.specs.List.{flat_map};
 ghost use Rattle.std.specs.Option.{option_copied, option_to_list};
 ghost use Rattle.feed_check.specs.KeyedChanges.{keyed_changes};
 ghost use Rattle.feed_check.specs.Findings.{found_moved, why_moved};

@@ -1,11 +1,10 @@
 //! The warnings of a stream, as text.
 
 ghost use Rattle.std.specs.Prelude.{◌≡◌, ◌++◌, OnOk, IfOk, map, take};
-ghost use Rattle.std.specs.List.{filter};
 ghost use Rattle.std.specs.Option.{option_copied};
 ghost use Rattle.std.specs.String.{string_bytes};
 ghost use Rattle.filter_rule.specs.PlanTable.{name_of_table};
-ghost use Rattle.feed_check.specs.Report.{change_warnings, count_warning, finding_head, finding_text, group_of, keyed_text, finding_warnings, groups_warning, kind_warnings, numbered, of_kind, same_why, stream_warnings, table_warning, table_warnings, told_warnings, warning, why_text};
+ghost use Rattle.feed_check.specs.Report.{change_warnings, count_warning, finding_head, finding_text, group_of, keyed_text, finding_warnings, groups_warning, numbered, of_kind, same_why, stream_warnings, table_warning, table_warnings, told_warnings, warning, why_text};
 
 use crate::checked::Checked;
 use crate::feed_warnings::{push_name_warnings, push_skipped_warnings, push_start_warning};

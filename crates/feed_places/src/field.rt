@@ -6,9 +6,8 @@ ghost use Rattle.vevent.specs.ColumnView.{field_value};
 ghost use Rattle.vevent.specs.EventValue.{Field};
 ghost use Rattle.vevent.specs.EventView.{event_value};
 ghost use Rattle.vevent.specs.Response.{response_of};
-ghost use Rattle.source_feed.specs.Planned.{same_column, source_of};
+ghost use Rattle.source_feed.specs.Planned.{same_column};
 ghost use Rattle.source_feed.specs.SourceValue.{short_name};
-ghost use Rattle.filter_rule.specs.PlanValue.{columns_of};
 ghost use Rattle.feed_places.specs.Differing.{first_differing, differing_at, event_differing, first_event, first_message, differing_value};
 
 use crate::messages::Message;

@@ -4,7 +4,6 @@ use Rattle.pk_copy.specs.KeyOrder.{key_cmp}
 use Rattle.pk_copy.specs.KeyValue.{KeyValue}
 use Rattle.target_tables.specs.Rising.{AreBelow}
 use Rattle.source_feed.specs.History.{RowValue}
-use Rattle.board_laws.specs.Meaning.{TargetRows}
 use Rattle.apply_core.proofs.FirstRowsLaws.{below_next, first_more}
 use Rattle.apply_core.proofs.resumed_rows.pushed_rows.Goals as goal
 

@@ -1,6 +1,3 @@
-use Rattle.std.proofs.Common.{List}
-use Rattle.board_laws.specs.Meaning.{Meaning}
-use Rattle.board_laws.specs.Schedule.{Reply, IsRun}
 use Rattle.apply_core.proofs.ScheduleLaws.{if-ok-also, on-ok-by}
 use Rattle.apply_core.proofs.board.Board.take_steps.Goals as goal
 
