@@ -1,11 +1,11 @@
 -- Feeds that go on from what a stream has applied, though they were opened under more tables, and where a feed
 -- doesn't (this profile).
-use Rattle.std.specs.Prelude.{◌≡◌, ◌⊎◌, ℕ, ◌<◌, ◌≤◌, List, length, map, Some, Err, slice_get}
+use Rattle.std.specs.Prelude.{◌≡◌, ◌⊎◌, ℕ, ◌<◌, ◌≤◌, List, length, Some, slice_get}
 use Rattle.source_feed.specs.declared.fault.FeedFault.{FeedFault}
 use Rattle.source_feed.specs.Planned.{FeedValue}
 use Rattle.source_feed.specs.Prepared.{IsSameOn}
-use Rattle.source_feed.specs.SoundGroups.{sound_groups}
-use Rattle.source_feed.specs.Touches.{PreparedValue, prepared}
+use Rattle.source_feed.specs.SoundGroups.{sound_groups, IsFirstFault}
+use Rattle.source_feed.specs.Touches.{PreparedValue}
 use Rattle.board_laws.specs.Meaning.{State}
 
 -- the first so many groups of a feed are sound, and are those of the read list but for touches of further tables
@@ -25,7 +25,7 @@ pub record MeetsUnsound (feed : FeedValue) (state : State) (fault : FeedFault) :
   pub enough : state.applied ≤ length feed.groups
   pub inside : length (sound_groups feed) < state.applied
   pub before : GoesOnTo feed state (length (sound_groups feed))
-  pub first : slice_get (map (prepared feed.plan) feed.groups) (length (sound_groups feed)) ≡ Some (Err fault)
+  pub first : IsFirstFault feed fault
 
 -- among them stands a sound one that isn't the same, and those before it are as applied
 pub record MeetsOther (feed : FeedValue) (state : State) : Type 0 where
