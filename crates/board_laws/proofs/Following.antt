@@ -1,5 +1,5 @@
 -- What steps of a schedule leave: each stream's state behind its own steps, a lawful board, and its rows.
-use Rattle.std.proofs.Common.{◌≡◌, ◌==◌, ◌&&◌, ℕ, Bool, true, false, cond, List, [], ◌∷◌, Option, Some, None, Result, Ok, Err, slice_get, set, is_ok, refl, sym, ap, subst, ◌∙◌}
+use Rattle.std.proofs.Common.{◌≡◌, ◌==◌, ◌&&◌, ℕ, Bool, true, false, cond, List, [], ◌∷◌, Option, Some, None, Ok, Err, slice_get, set, is_ok, refl, sym, ap, subst, ◌∙◌}
 use Rattle.std.proofs.lemmas.Bool.{eqb-false, true≢false}
 use Rattle.std.proofs.lemmas.Option.{same_Some}
 use borrow.Author.Tests.{eqb-true, eq-eqb}
@@ -9,7 +9,6 @@ use Rattle.std.specs.Option.{option_and_then}
 use Rattle.list_laws.proofs.Truths.{and-false}
 use Rattle.list_laws.proofs.Places.{slice_get-set_same, slice_get-set_other}
 use Rattle.pk_copy.specs.KeyOrder.{key_cmp}
-use Rattle.pk_copy.specs.KeyValue.{KeyValue}
 use Rattle.stream_core.specs.declared.step.Step.{Step}
 use Rattle.target_tables.specs.Contents.{value_at}
 use Rattle.source_feed.specs.History.{RowValue}
@@ -19,8 +18,8 @@ use Rattle.board_laws.specs.declared.refusal.Refusal.{Refusal}
 use Rattle.board_laws.specs.declared.refusal.Refusal.TheVariants.{NoStream, WrongPlan, Diverged, Core, OwnedByOther, FeedCount, Memory}
 use Rattle.board_laws.specs.declared.step_refusal.StepRefusal.{StepRefusal}
 use Rattle.board_laws.specs.declared.step_refusal.StepRefusal.TheVariants.{Unprepared, Refused}
-use Rattle.board_laws.specs.Meaning.{State, TargetRows, Meaning}
-use Rattle.board_laws.specs.Cut.{cut_of, cut_in, own_row}
+use Rattle.board_laws.specs.Meaning.{State, Meaning}
+use Rattle.board_laws.specs.Cut.{cut_of, own_row}
 use Rattle.board_laws.specs.Lawful.{IsLawful}
 use Rattle.board_laws.specs.Event.{Event}
 use Rattle.board_laws.specs.StateAfter.{state_after}

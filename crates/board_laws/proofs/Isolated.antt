@@ -1,5 +1,5 @@
 -- A stream's own steps on a board where no other stream has a row.
-use Rattle.std.proofs.Common.{◌≡◌, ◌≢◌, ◌==◌, ◌&&◌, ℕ, ◌≤◌, inl, inr, Bool, true, false, not, cond, List, [], ◌∷◌, length, Option, Some, None, Result, Ok, Err, slice_get, set, refl, sym, ap, subst, ◌∙◌}
+use Rattle.std.proofs.Common.{◌≡◌, ◌≢◌, ◌==◌, ◌&&◌, ℕ, ◌≤◌, inl, inr, Bool, true, false, not, cond, List, [], ◌∷◌, Option, Some, None, Ok, Err, slice_get, set, refl, sym, ap, subst, ◌∙◌}
 use Rattle.std.proofs.lemmas.Bool.{eqb-false, true≢false}
 use Rattle.std.proofs.lemmas.List.{length-set}
 use borrow.Author.Tests.{eqb-true}
@@ -12,7 +12,6 @@ use Rattle.pk_copy.specs.KeyOrder.{key_cmp}
 use Rattle.pk_copy.specs.KeyValue.{KeyValue}
 use Rattle.stream_core.specs.declared.step.Step.{Step}
 use Rattle.target_tables.specs.Contents.{value_at}
-use Rattle.source_feed.specs.History.{RowValue}
 use Rattle.source_feed.specs.Planned.{FeedValue}
 use Rattle.board_laws.specs.declared.answer.Answer.{Answer}
 use Rattle.board_laws.specs.declared.refusal.Refusal.{Refusal}
@@ -24,7 +23,7 @@ use Rattle.board_laws.specs.Cut.{cut_of, cut_in, own_row}
 use Rattle.board_laws.specs.Lawful.{IsSoundState, IsLawful}
 use Rattle.board_laws.specs.Event.{Event}
 use Rattle.board_laws.specs.StateAfter.{state_after}
-use Rattle.board_laws.specs.Step.{due_at, IsMade, IsRefusedFor, IsRefusedOn}
+use Rattle.board_laws.specs.Step.{due_at, IsMade, IsRefusedFor}
 use Rattle.board_laws.specs.Schedule.{Reply, IsEventStep, IsRefusedStep, IsReplyBy, IsReply, IsRun}
 use Rattle.board_laws.specs.Lone.{is_hindered, is_lone, lone_steps, lone_replies, IsAloneAs}
 use Rattle.board_laws.proofs.Lists.{slice_get-set}

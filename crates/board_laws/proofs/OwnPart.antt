@@ -1,5 +1,5 @@
 -- The rows of one stream among the rows of a target.
-use Rattle.std.proofs.Common.{◌≡◌, ◌≢◌, ◌==◌, ℕ, Bool, true, false, cond, List, [], ◌∷◌, Option, Some, None, refl, sym, ap, ◌∙◌}
+use Rattle.std.proofs.Common.{◌≡◌, ◌≢◌, ◌==◌, ℕ, Bool, true, false, cond, [], ◌∷◌, Option, Some, None, refl, sym, ap, ◌∙◌}
 use Rattle.std.proofs.lemmas.Bool.{eqb-false}
 use borrow.Author.Tests.{eq-eqb}
 use Rattle.std.specs.declared.cmp.Ordering.TheVariants.{Less}

@@ -1,5 +1,5 @@
 -- The rows of a lawful board as replays, and a stream's board by itself.
-use Rattle.std.proofs.Common.{◌≡◌, ◌≢◌, ◌==◌, ℕ, ◌≤◌, inl, inr, Bool, true, false, cond, List, length, map, Option, Some, None, slice_get, set, refl, sym, ap, subst, ◌∙◌}
+use Rattle.std.proofs.Common.{◌≡◌, ◌≢◌, ◌==◌, ℕ, ◌≤◌, inl, inr, Bool, true, false, cond, map, Option, Some, None, slice_get, set, refl, sym, ap, subst, ◌∙◌}
 use Rattle.std.proofs.lemmas.List.{length-map, length-set}
 use Rattle.std.proofs.lemmas.Option.{same_Some, none-some, slice_get-map}
 use borrow.Author.Tests.{eq-eqb, eqb-true}

@@ -1,5 +1,5 @@
 -- A list of steps on the streams of a board, one after another, each stream reading its own feed (this profile).
-use Rattle.std.specs.Prelude.{◌≡◌, ℕ, List, [], ◌∷◌, Option, Some, MatchOption, IsSomeAnd, Result, Ok, Err, slice_get}
+use Rattle.std.specs.Prelude.{◌≡◌, ℕ, List, [], ◌∷◌, Some, MatchOption, IsSomeAnd, Result, Ok, Err, slice_get}
 use Rattle.stream_core.specs.declared.step.Step.{Step}
 use Rattle.stream_core.specs.declared.step.Step.TheVariants.{Offer}
 use Rattle.source_feed.specs.declared.fault.FeedFault.{FeedFault}
@@ -7,7 +7,7 @@ use Rattle.source_feed.specs.Planned.{FeedValue}
 use Rattle.source_feed.specs.Touches.{prepared_at}
 use Rattle.board_laws.specs.declared.answer.Answer.{Answer}
 use Rattle.board_laws.specs.declared.refusal.Refusal.{Refusal}
-use Rattle.board_laws.specs.declared.refusal.Refusal.TheVariants.{NoStream, WrongPlan, Diverged, Core, OwnedByOther, FeedCount, Memory}
+use Rattle.board_laws.specs.declared.refusal.Refusal.TheVariants.{NoStream, Memory}
 use Rattle.board_laws.specs.declared.step_refusal.StepRefusal.{StepRefusal}
 use Rattle.board_laws.specs.declared.step_refusal.StepRefusal.TheVariants.{Unprepared, Refused}
 use Rattle.board_laws.specs.Meaning.{Meaning}

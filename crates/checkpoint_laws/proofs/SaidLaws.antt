@@ -43,7 +43,7 @@ use Rattle.checkpoint_laws.specs.declared.version.Version.{Version}
 use Rattle.checkpoint_laws.specs.declared.version.Version.TheVariants.{One, Two}
 use Rattle.checkpoint_laws.specs.Added.{under_plan, under_plans, SavedBoardsAreSaidOfMore}
 use Rattle.checkpoint_laws.specs.Saved.{SavedStream, own_rows, saved_stream, saved_of}
-use Rattle.checkpoint_laws.specs.Written.{fields_of_table, position_text, number_of_mark, last_row_of, saved_rows_of_table, table_part, numbers_below, table_parts, stream_part, stream_parts, checkpoint_in}
+use Rattle.checkpoint_laws.specs.Written.{position_text, number_of_mark, last_row_of, saved_rows_of_table, table_part, numbers_below, table_parts, stream_part, stream_parts, checkpoint_in}
 use Rattle.checkpoint_laws.specs.Said.{SaysLast, IsNamed, SaysTable, IsKeyed, IsSaved, AreSoMany, SaysStream, HaveAsMany, IsCheckpoint}
 use Rattle.checkpoint_laws.specs.Laws.{IsStreamWithin, SavedBoardsAreSaid, AreWithin}
 use Rattle.checkpoint_laws.proofs.PartLaws.{checkpoints_read_again}
