@@ -32,11 +32,11 @@ use vrepl_choices::Threading;
 #[derive(Drop)]
 pub struct Followed<'h> {
     /// The plan of the first stream, which has the tables of all.
-    pub plan: Arc<Plan>,
+    pub(crate) plan: Arc<Plan>,
     /// The new checkpoint.
     pub checkpoint: Vec<u8>,
     /// The board that it is of.
-    pub board: Board<'h>,
+    pub(crate) board: Board<'h>,
 }
 
 impl<'h> Model for Followed<'h> {
