@@ -36,6 +36,50 @@ fn the_last_touch_of_a_key_counts(rt: HostRuntime) -> Result<(), Fail> {
     Ok(())
 }
 
+const GROUPS_BETWEEN_ROWS: &[Group<u64, u32>] = &[
+    TWO_ROWS,
+    Group {
+        stream: 1,
+        touches: &[(1, Some(11)), (3, Some(31)), (5, Some(51)), (6, Some(61))],
+        refused: None,
+        left: &[
+            (1, 1, 11),
+            (2, 0, 20),
+            (3, 1, 31),
+            (4, 0, 40),
+            (5, 1, 51),
+            (6, 1, 61),
+        ],
+    },
+    Group {
+        stream: 1,
+        touches: &[
+            (0, Some(1)),
+            (3, None),
+            (5, Some(52)),
+            (7, Some(71)),
+            (8, Some(81)),
+        ],
+        refused: None,
+        left: &[
+            (0, 1, 1),
+            (1, 1, 11),
+            (2, 0, 20),
+            (4, 0, 40),
+            (5, 1, 52),
+            (6, 1, 61),
+            (7, 1, 71),
+            (8, 1, 81),
+        ],
+    },
+];
+
+#[test]
+fn rows_of_a_group_fall_between_those_of_a_page(rt: HostRuntime) -> Result<(), Fail> {
+    assert!(rt; follow(rt.alloc(), GROUPS_BETWEEN_ROWS)?);
+    Ok(())
+}
+
 const A_REFUSED_GROUP: &[Group<u64, u32>] = &[
     TWO_ROWS,
     Group {

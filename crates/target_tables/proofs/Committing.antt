@@ -11,6 +11,7 @@ use Rattle.list_laws.proofs.Choices.{or_none}
 use Rattle.target_tables.specs.Rising.{IsRising, AreAbove}
 use Rattle.target_tables.specs.Contents.{value_at}
 use Rattle.target_tables.specs.Touches.{change_at, touched, is_new, new_keys, IsTouched, IsChanged}
+use Rattle.target_tables.specs.Private.Runs.{Leads}
 use Rattle.target_tables.proofs.Order.{before_middle, ordered_left}
 use Rattle.target_tables.proofs.Values.{lookup-append, none_above, isnt_key}
 
@@ -29,11 +30,6 @@ take_swapped xs i d h = take-take i (length xs - 1) _ (omega arith) ∙ take-set
 pub taken_apart : {X : Type 0} (xs : List X) (n : ℕ) (x : X) → 0 < n → n ≤ length xs → x ≡ get_or xs (n - 1) x → take n xs ≡ take (n - 1) xs ++ x ∷ []
 taken_apart xs n x some most is =
     ap (λ m. take m xs) (let one : n ≡ n - 1 + 1 = omega arith in one) ∙ take_more xs (n - 1) x (omega arith) ∙ ap (λ y. take (n - 1) xs ++ y ∷ []) (sym is)
-
--- the changes that are left lead from here to where all lead from the start
-pub record Leads {K R : Type 0} (cmp : K → K → Ordering) (old : List (K × (ℕ × R))) (stream : ℕ) (all left : List (K × Option R)) (now : List (K × (ℕ × R))) : Type 0 where
-  pub falling : IsRising (flip_args cmp) left
-  pub same : (k : K) → touched stream (change_at cmp left k) (value_at cmp now k) ≡ touched stream (change_at cmp all k) (value_at cmp old k)
 
 module _ {K R : Type 0} {cmp : K → K → Ordering} (o : IsTotalOrder cmp) where
   -- before the first change

@@ -15,7 +15,7 @@ use Rattle.target_tables.specs.Pages.{entries_of, page_at, flat, IsFull, AreFull
 use Rattle.target_tables.proofs.Order.{all_join, before_middle, ordered_left}
 use Rattle.target_tables.proofs.Paging.{before, behind, parts, read, front, rest, up_to}
 
-ordered_right : {K V : Type 0} (R : K → K → Type 0) (xs ys : List (K × V)) → Ordered R (xs ++ ys) → Ordered R ys
+pub ordered_right : {K V : Type 0} (R : K → K → Type 0) (xs ys : List (K × V)) → Ordered R (xs ++ ys) → Ordered R ys
 ordered_right R [] ys h = h
 ordered_right R (e ∷ xs) ys h = ordered_right R xs ys h.1
 
@@ -43,7 +43,7 @@ module _ {K V : Type 0} {cmp : K → K → Ordering} (o : IsTotalOrder cmp) (k :
       (before_middle (λ a b. cmp a b ≡ Less) front x (page ++ back) rising)
 
   -- from a page on that begins past the key all are greater
-  above_page : (page back : List (K × V)) → IsRising cmp (page ++ back) → begins_past cmp k page ≡ true → AreAbove cmp k (page ++ back)
+  pub above_page : (page back : List (K × V)) → IsRising cmp (page ++ back) → begins_past cmp k page ≡ true → AreAbove cmp k (page ++ back)
   above_page [] back rising h = absurd (true≢false (sym h))
   above_page (x ∷ page) back rising h =
       let less : cmp k x.0 ≡ Less = greater_than o k x.0 (cmp x.0 k) refl h in

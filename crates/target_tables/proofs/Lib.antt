@@ -12,6 +12,9 @@ pub mod Sorting
 pub mod Keeping
 pub mod Judging
 pub mod Committing
+pub mod Opening
+pub mod Closing
+pub mod Running
 pub mod Turning
 pub mod Scanning
 pub mod Applying

@@ -8,3 +8,4 @@ pub mod Kept
 pub mod Clashes
 pub mod Merged
 pub mod Common
+pub mod Private

@@ -1,17 +1,20 @@
 //! Changes of rising entries.
 
-ghost use Rattle.std.specs.Prelude.{◌≡◌, ℕ, ◌+◌, ◌<◌, ◌≤◌, [], ◌∷◌, ◌++◌, Some, None, length, if◌then◌else◌};
+ghost use Rattle.std.specs.Prelude.{◌≡◌, ℕ, ◌+◌, ◌<◌, ◌≤◌, [], ◌∷◌, ◌++◌, Some, None, length, take, vec_len, if◌then◌else◌};
 ghost use Rattle.std.specs.List.{insert};
 ghost use Rattle.std.specs.Ordering.{flip_args};
+ghost use Rattle.std.specs.Vec.{vec_capacity};
 ghost use Rattle.target_tables.specs.Contents.{value_at};
 ghost use Rattle.target_tables.specs.Pages.{entries_of, page_at, flat, room_of};
 ghost use Rattle.target_tables.specs.Rising.{IsRising};
+ghost use Rattle.target_tables.specs.Private.Runs.{Leads};
 ghost use Rattle.target_tables.specs.Touches.{change_at, is_new, new_keys, IsTouched, IsChanged};
 
 use crate::drift::{Drift, staged_at};
 use crate::hints::spot_by;
 use crate::page::{FULL, HALF};
 use crate::pages::Pages;
+use crate::runs::{begins_run, is_worth};
 use crate::spots::{Spot, behind, entry_at};
 
 /// Puts an entry with a new key in at its place, and tells the place behind it. A full page is split in
@@ -155,8 +158,90 @@ fn make_change<K: Ord + Drop, R: Drop>(
     }
 }
 
+/// Makes the next of a stream's changes together with those behind it that fall into the same page, where that is
+/// worth it, and tells how many are left. Takes no memory.
+fn merge_next<K: Ord + Drop, R: Drop>(
+    pages: &mut Pages<K, R>,
+    drift: &mut Drift,
+    stream: u8,
+    changes: &mut Vec<(K, Option<R>)>,
+    spots: &[Spot],
+    left: usize,
+) -> usize
+    requires some { 0 < left }
+    requires rising { IsRising K.cmp (entries_of pages.old.pages) }
+    requires left { left ≤ vec_len changes.old }
+    requires falling { IsRising (flip_args K.cmp) (take left changes.old.items) }
+    requires room { new_keys K.cmp (entries_of pages.old.pages) (take left changes.old.items) ≤ room_of pages.old.pages pages.old.spares }
+    ensures rising { IsRising K.cmp (entries_of pages.new.pages) }
+    ensures left { result ≤ vec_len changes.new }
+    ensures fewer { result ≤ left }
+    ensures leads { Leads K.cmp (entries_of pages.old.pages) stream (take left changes.old.items) (take result changes.new.items) (entries_of pages.new.pages) }
+    ensures room { new_keys K.cmp (entries_of pages.new.pages) (take result changes.new.items) ≤ room_of pages.new.pages pages.new.spares }
+{
+    let hint = drift.hint(pages.as_slice(), staged_at(spots, left - 1));
+    if !pages.has_spare() || !is_worth(pages.as_slice(), hint, spots, left) {
+        return left;
+    }
+    if !begins_run(pages.as_slice(), hint, changes, left) {
+        return left;
+    }
+    let run = pages.merge(hint, stream, changes, left);
+    if run.left < left {
+        drift.go_on(
+            staged_at(spots, run.left),
+            Spot {
+                page: hint.page,
+                place: run.behind,
+            },
+        );
+    }
+    run.left
+}
+
+/// Puts an entry behind a list that has a place for it, if there is one.
+fn hand_back<X>(list: &mut Vec<X>, entry: Option<X>)
+    requires { vec_len list.old < vec_capacity list.old }
+    ensures kept { (n : ℕ) → n ≤ vec_len list.old → take n list.new.items ≡ take n list.old.items }
+    ensures more { vec_len list.old ≤ vec_len list.new }
+{
+    if let Some(entry) = entry {
+        list.push_reserved(entry);
+    }
+}
+
+/// Makes the next of a stream's changes, and tells how many are left. Takes no memory. What it replaced or
+/// took away is put behind those that are left.
+fn change_next<K: Ord + Drop, R: Drop>(
+    pages: &mut Pages<K, R>,
+    drift: &mut Drift,
+    stream: u8,
+    changes: &mut Vec<(K, Option<R>)>,
+    spots: &[Spot],
+    left: usize,
+) -> usize
+    requires some { 0 < left }
+    requires rising { IsRising K.cmp (entries_of pages.old.pages) }
+    requires left { left ≤ vec_len changes.old }
+    requires falling { IsRising (flip_args K.cmp) (take left changes.old.items) }
+    requires room { new_keys K.cmp (entries_of pages.old.pages) (take left changes.old.items) ≤ room_of pages.old.pages pages.old.spares }
+    ensures rising { IsRising K.cmp (entries_of pages.new.pages) }
+    ensures left { result ≤ vec_len changes.new }
+    ensures fewer { result < left }
+    ensures leads { Leads K.cmp (entries_of pages.old.pages) stream (take left changes.old.items) (take result changes.new.items) (entries_of pages.new.pages) }
+    ensures room { new_keys K.cmp (entries_of pages.new.pages) (take result changes.new.items) ≤ room_of pages.new.pages pages.new.spares }
+{
+    let last = left - 1;
+    let staged = staged_at(spots, last);
+    let hint = drift.hint(pages.as_slice(), staged);
+    let Made { now, freed } = make_change(pages, hint, stream, changes.swap_remove(last));
+    drift.go_on(staged, now);
+    hand_back(changes, freed);
+    last
+}
+
 /// A stream's changes, each at a key of its own, by rising key. Each is looked for where it was
-/// staged, as far as the changes before it tell where that is now. Takes no memory. What they replaced and took away is handed back, in their places in the list.
+/// staged, as far as the changes before it tell where that is now; those that fall into one page are put into it together. Takes no memory. What they replaced and took away is handed back, in their places in the list.
 pub fn change_all<K: Ord + Drop, R: Drop>(
     pages: &mut Pages<K, R>,
     stream: u8,
@@ -172,14 +257,11 @@ pub fn change_all<K: Ord + Drop, R: Drop>(
     let mut drift = Drift::new(pages.as_slice().len());
     let mut left = changes.len();
     while left > 0 {
-        left -= 1;
-        let staged = staged_at(spots, left);
-        let hint = drift.hint(pages.as_slice(), staged);
-        let Made { now, freed } = make_change(pages, hint, stream, changes.swap_remove(left));
-        drift.go_on(staged, now);
-        if let Some(entry) = freed {
-            changes.push_reserved(entry);
+        left = merge_next(pages, &mut drift, stream, &mut changes, spots, left);
+        if left == 0 {
+            return changes;
         }
+        left = change_next(pages, &mut drift, stream, &mut changes, spots, left);
     }
     changes
 }

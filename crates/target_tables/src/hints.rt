@@ -22,7 +22,7 @@ fn ends_before<K: Ord, R>(pages: &[Page<K, R>], page: usize, key: &K) -> bool
 }
 
 /// The entries before this place have lesser keys. Before the first place of a later page that isn't looked at.
-fn begins_behind<K: Ord, R>(pages: &[Page<K, R>], spot: Spot, key: &K) -> bool
+pub fn begins_behind<K: Ord, R>(pages: &[Page<K, R>], spot: Spot, key: &K) -> bool
     requires rising { IsRising K.cmp (entries_of pages.now) }
     requires inside { spot.page < length pages.now }
     requires within { spot.place ≤ length (page_at pages.now spot.page) }

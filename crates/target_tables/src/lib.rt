@@ -13,6 +13,7 @@ mod merging;
 mod page;
 mod pages;
 mod places;
+mod runs;
 mod scan;
 mod side_part;
 mod spots;

@@ -1,8 +1,10 @@
 //! A page: a run of entries by rising key.
 
-ghost use Rattle.std.specs.Prelude.{◌≡◌, ℕ, ◌<◌, ◌≤◌, [], IfOk, length, take, drop, set, vec_len};
+ghost use Rattle.std.specs.Prelude.{◌≡◌, ℕ, ◌+◌, ◌<◌, ◌≤◌, List, [], ◌∷◌, ◌++◌, IfOk, IsTrue, length, take, drop, reverse, set, vec_len};
 ghost use Rattle.std.specs.List.{insert, remove};
 ghost use Rattle.std.specs.Vec.{vec_capacity};
+ghost use Rattle.std.specs.declared.cmp.Ordering.TheVariants.{Less};
+ghost use Rattle.target_tables.specs.Rising.{AreBelow};
 
 use std::alloc::{AllocError, Global};
 use std::marker::Model;
@@ -31,22 +33,61 @@ impl<K, R> Model for Page<K, R> {
     ghost invariant = { λ p. 128 ≤ vec_capacity p.entries };
 }
 
-/// Moves what stands past 64 entries behind no other ones.
-fn move_upper<X>(lower: &mut Vec<X>, upper: &mut Vec<X>)
-    requires size { 64 ≤ vec_len lower.old }
+/// Moves what stands from a place on behind no other ones, the other way round.
+fn move_upper<X>(lower: &mut Vec<X>, place: usize, upper: &mut Vec<X>)
+    requires within { place ≤ vec_len lower.old }
     requires most { vec_len lower.old ≤ 128 }
     requires none { upper.old.items ≡ [] }
     requires room { 128 ≤ vec_capacity upper.old }
-    ensures lower { lower.new.items ≡ take 64 lower.old.items }
-    ensures upper { upper.new.items ≡ drop 64 lower.old.items }
+    ensures lower { lower.new.items ≡ take place lower.old.items }
+    ensures upper { reverse upper.new.items ≡ drop place lower.old.items }
     ensures lower_room { vec_capacity lower.old ≤ vec_capacity lower.new }
     ensures upper_room { vec_capacity upper.old ≤ vec_capacity upper.new }
 {
-    while lower.len() > HALF {
+    while lower.len() > place {
         let entry = lower.take_last();
         upper.push_reserved(entry);
     }
-    upper.reverse();
+}
+
+/// Moves all of a list that is the other way round behind others.
+fn move_back<X>(lower: &mut Vec<X>, upper: &mut Vec<X>)
+    requires room { vec_len lower.old + vec_len upper.old ≤ vec_capacity lower.old }
+    ensures lower { lower.new.items ≡ lower.old.items ++ reverse upper.old.items }
+    ensures upper { upper.new.items ≡ [] }
+    ensures lower_room { vec_capacity lower.old ≤ vec_capacity lower.new }
+    ensures upper_room { vec_capacity upper.old ≤ vec_capacity upper.new }
+{
+    while upper.len() > 0 {
+        let entry = upper.take_last();
+        lower.push_reserved(entry);
+    }
+}
+
+/// The last of the entries has a lesser key.
+fn ends_below<K: Ord, V>(entries: &[(K, V)], key: &K) -> bool
+    ensures some { IsTrue result → 0 < length entries.now }
+    ensures below { IsTrue result → (front : List (K × V)) (last : K × V) → entries.now ≡ front ++ last ∷ [] → K.cmp last.0 key.now ≡ Less }
+{
+    if entries.is_empty() {
+        return false;
+    }
+    entries[entries.len() - 1].0.cmp(key).is_lt()
+}
+
+/// Moves those with lesser keys of a list that is the other way round behind others.
+fn move_lesser<K: Ord, V>(lower: &mut Vec<(K, V)>, upper: &mut Vec<(K, V)>, key: &K)
+    requires room { vec_len lower.old + vec_len upper.old ≤ vec_capacity lower.old }
+    ensures entries { lower.new.items ++ reverse upper.new.items ≡ lower.old.items ++ reverse upper.old.items }
+    ensures count { vec_len lower.new + vec_len upper.new ≡ vec_len lower.old + vec_len upper.old }
+    ensures below { AreBelow K.cmp key.now lower.old.items → AreBelow K.cmp key.now lower.new.items }
+    ensures lower_room { vec_capacity lower.old ≤ vec_capacity lower.new }
+    ensures upper_room { vec_capacity upper.old ≤ vec_capacity upper.new }
+{
+    while ends_below(upper, key) {
+        let entry = upper.take_last();
+        lower.push_reserved(entry);
+    }
 }
 
 impl<K, R> Page<K, R> {
@@ -94,7 +135,48 @@ impl<K, R> Page<K, R> {
         ensures lower { self.new ≡ take 64 self.old }
         ensures upper { upper.new ≡ drop 64 self.old }
     {
-        move_upper(&mut self.entries, &mut upper.entries);
+        move_upper(&mut self.entries, HALF, &mut upper.entries);
+        upper.entries.reverse();
+    }
+
+    /// Moves the entries from a place on into an empty page, the other way round. Takes no memory.
+    pub fn open(&mut self, place: usize, above: &mut Page<K, R>)
+        requires within { place ≤ length self.old }
+        requires most { length self.old ≤ 128 }
+        requires none { above.old ≡ [] }
+        ensures lower { self.new ≡ take place self.old }
+        ensures above { reverse above.new ≡ drop place self.old }
+    {
+        move_upper(&mut self.entries, place, &mut above.entries);
+    }
+
+    /// Moves the entries of a page that is the other way round behind its own. Takes no memory.
+    pub fn close(&mut self, above: &mut Page<K, R>)
+        requires most { length self.old + length above.old ≤ 128 }
+        ensures entries { self.new ≡ self.old ++ reverse above.old }
+        ensures above { above.new ≡ [] }
+    {
+        move_back(&mut self.entries, &mut above.entries);
+    }
+
+    /// Puts an entry behind the others of a page that isn't full. Takes no memory.
+    pub fn push(&mut self, entry: (K, (u8, R)))
+        requires { length self.old < 128 }
+        ensures { self.new ≡ self.old ++ entry ∷ [] }
+    {
+        self.entries.push_reserved(entry);
+    }
+}
+
+impl<K: Ord, R> Page<K, R> {
+    /// Moves the entries with lesser keys of a page that is the other way round behind its own. Takes no memory.
+    pub fn pass(&mut self, above: &mut Page<K, R>, key: &K)
+        requires most { length self.old + length above.old ≤ 128 }
+        ensures entries { self.new ++ reverse above.new ≡ self.old ++ reverse above.old }
+        ensures count { length self.new + length above.new ≡ length self.old + length above.old }
+        ensures below { AreBelow K.cmp key.now self.old → AreBelow K.cmp key.now self.new }
+    {
+        move_lesser(&mut self.entries, &mut above.entries, key);
     }
 }
 

@@ -1,12 +1,18 @@
 //! The pages of a map, and the empty ones that lie ready for new keys.
 
-ghost use Rattle.std.specs.Prelude.{◌≡◌, ◌↔◌, ℕ, ◌+◌, ◌^◌, ◌<◌, ◌≤◌, [], ◌∷◌, IfOk, IsTrue, OnOk, length, set};
-ghost use Rattle.std.specs.List.{All, insert, remove};
+ghost use Rattle.std.specs.Prelude.{◌≡◌, ◌↔◌, ℕ, ◌+◌, ◌^◌, ◌<◌, ◌≤◌, [], ◌∷◌, IfOk, IsTrue, OnOk, length, take, set};
+ghost use Rattle.std.specs.List.{All, AllByRecursion, insert, remove};
+ghost use Rattle.std.specs.Ordering.{flip_args};
 ghost use Rattle.std.specs.Prelude.{vec_len};
 ghost use Rattle.std.specs.Vec.{vec_capacity};
 ghost use Rattle.target_tables.specs.Pages.{entries_of, page_at, flat, room_of, split_in_two, AreFull};
+ghost use Rattle.target_tables.specs.Rising.{IsRising, AreAbove};
+ghost use Rattle.target_tables.specs.Private.Runs.{Leads};
+ghost use Rattle.target_tables.specs.Touches.{new_keys};
 
 use crate::page::{HALF, Page};
+use crate::runs::{Run, put_run};
+use crate::spots::Spot;
 use std::alloc::{AllocError, Global};
 use std::marker::Model;
 
@@ -84,6 +90,49 @@ impl<K, R> Pages<K, R> {
         ensures few { length self.now.pages ≤ 2 ^ 56 }
     {
         &self.list
+    }
+
+    /// An empty page lies ready. Takes no memory.
+    pub fn has_spare(&self) -> bool
+        ensures { IsTrue result → 0 < self.now.spares }
+    {
+        !self.spares.is_empty()
+    }
+}
+
+impl<K: Ord + Drop, R: Drop> Pages<K, R> {
+    /// Puts rows at rising new keys into one page, from a place on before which all keys are less, for as long as
+    /// they belong there and the page isn't full. What lies behind the place is moved into an empty page, and back
+    /// again behind the last of them. Takes no memory.
+    pub fn merge(
+        &mut self,
+        spot: Spot,
+        stream: u8,
+        changes: &mut Vec<(K, Option<R>)>,
+        left: usize,
+    ) -> Run
+        requires rising { IsRising K.cmp (entries_of self.old.pages) }
+        requires inside { spot.page < length self.old.pages }
+        requires within { spot.place ≤ length (page_at self.old.pages spot.page) }
+        requires spare { 0 < self.old.spares }
+        requires left { left ≤ vec_len changes.old }
+        requires falling { IsRising (flip_args K.cmp) (take left changes.old.items) }
+        requires front { AllByRecursion (λ e. AreAbove K.cmp e.0 (take left changes.old.items)) (take (flat self.old.pages spot.page spot.place) (entries_of self.old.pages)) }
+        ensures rising { IsRising K.cmp (entries_of self.new.pages) }
+        ensures left { result.left ≤ vec_len changes.new }
+        ensures fewer { result.left ≤ left }
+        ensures leads { Leads K.cmp (entries_of self.old.pages) stream (take left changes.old.items) (take result.left changes.new.items) (entries_of self.new.pages) }
+        ensures room { new_keys K.cmp (entries_of self.old.pages) (take left changes.old.items) ≤ room_of self.old.pages self.old.spares
+            → new_keys K.cmp (entries_of self.new.pages) (take result.left changes.new.items) ≤ room_of self.new.pages self.new.spares }
+    {
+        let Spot { page, place } = spot;
+        let mut above = self.spares.take_last();
+        self.list[page].open(place, &mut above);
+        let left = put_run(&mut self.list, page, &mut above, stream, changes, left);
+        let behind = self.list[page].len();
+        self.list[page].close(&mut above);
+        self.spares.push_reserved(above);
+        Run { left, behind }
     }
 }
 

@@ -4,11 +4,10 @@ use Rattle.target_tables.proofs.page.move_upper.Goals as goal
 
 pub returns-clause-lower : goal.returns-clause-lower
 returns-clause-lower g c =
-    let n : length c.loop-lower.lower.items ≡ 64 = omega arith in
-    sym (take_at c.loop-lower.lower.items (reverse c.loop-lower.upper.items) 64 n) ∙ ap (λ (l : List g.row.X.Denot). take 64 l) c.loop-lower.invariant.0
+    let n : length c.loop-lower.lower.items ≡ c.args.place = omega arith in
+    sym (take_at c.loop-lower.lower.items (reverse c.loop-lower.upper.items) c.args.place n) ∙ ap (λ (l : List g.row.X.Denot). take c.args.place l) c.loop-lower.invariant.0
 
 pub returns-clause-upper : goal.returns-clause-upper
 returns-clause-upper g c =
-    let n : length c.loop-lower.lower.items ≡ 64 = omega arith in
-    c.reverse.ensures.items
-    ∙ sym (drop_at c.loop-lower.lower.items (reverse c.loop-lower.upper.items) 64 n) ∙ ap (λ (l : List g.row.X.Denot). drop 64 l) c.loop-lower.invariant.0
+    let n : length c.loop-lower.lower.items ≡ c.args.place = omega arith in
+    sym (drop_at c.loop-lower.lower.items (reverse c.loop-lower.upper.items) c.args.place n) ∙ ap (λ (l : List g.row.X.Denot). drop c.args.place l) c.loop-lower.invariant.0

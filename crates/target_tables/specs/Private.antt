@@ -1,0 +1,2 @@
+-- What serves the changing of a map alone, and no public contract.
+pub mod Runs
