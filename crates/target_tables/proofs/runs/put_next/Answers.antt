@@ -20,7 +20,7 @@ fits-requires-clause-rising g c =
     let inside : i < length pages = c.requires.fit.inside in
     let there : c.index-list-page-2.result ≡ page_at pages i = c.index-list-page-2.is ∙ get_or_default pages i _ [] inside in
     rising_apart g.K.Ord.cmp (set pages i c.pass.new.self) i c.pass.new.above (take n xs)
-    (passed g.met.K.Ord.total c.args.stream i pages over xs n y c.requires.some most c.index-next.ensures.value c.requires.fit c.pass.new.self c.pass.new.above c.index-list-page-2.result there c.pass.ensures.entries c.pass.ensures.count c.pass.ensures.below).fit
+    (passed g.met.K.Ord.total c.args.stream i pages over xs n y c.requires.some most c.index-next.ensures c.requires.fit c.pass.new.self c.pass.new.above c.index-list-page-2.result there c.pass.ensures.entries c.pass.ensures.count c.pass.ensures.below).fit
 
 pub returns-then-not-fits-clause-merges : goal.returns-then-not-fits-clause-merges
 returns-then-not-fits-clause-merges g c =
@@ -34,7 +34,7 @@ returns-then-not-fits-clause-merges g c =
     let most : n ≤ length xs = let l : n ≤ vec_len c.args.changes.now = c.requires.left in omega arith in
     let inside : i < length pages = c.requires.fit.inside in
     let there : c.index-list-page-2.result ≡ page_at pages i = c.index-list-page-2.is ∙ get_or_default pages i _ [] inside in
-    passed g.met.K.Ord.total c.args.stream i pages over xs n y c.requires.some most c.index-next.ensures.value c.requires.fit c.pass.new.self c.pass.new.above c.index-list-page-2.result there c.pass.ensures.entries c.pass.ensures.count c.pass.ensures.below
+    passed g.met.K.Ord.total c.args.stream i pages over xs n y c.requires.some most c.index-next.ensures c.requires.fit c.pass.new.self c.pass.new.above c.index-list-page-2.result there c.pass.ensures.entries c.pass.ensures.count c.pass.ensures.below
 
 pub returns-clause-merges : goal.returns-clause-merges
 returns-clause-merges g c =
@@ -51,7 +51,7 @@ returns-clause-merges g c =
     let x : g.row.K.Denot × Option g.row.R.Denot = c.swap_remove-key.result in
     let mid : List (List (g.row.K.Denot × (ℕ × g.row.R.Denot))) = set pages i c.pass.new.self in
     let last : n - 1 < length xs = let some : 0 < n = c.requires.some in omega arith in
-    let same : y ≡ x = c.index-next.ensures.value ∙ get_or_default xs (n - 1) y x last ∙ sym c.swap_remove-key.ensures.value in
+    let same : y ≡ x = c.index-next.ensures ∙ get_or_default xs (n - 1) y x last ∙ sym c.swap_remove-key.ensures.value in
     let first : c.index-list-page.result ≡ page_at pages i = c.index-list-page.is ∙ get_or_default pages i _ [] inside in
     let a : length c.index-list-page.result ≡ length (page_at pages i) = ap length first in
     let b : length c.index-list-page-2.result ≡ length (page_at pages i) = ap length there in
