@@ -46,7 +46,7 @@ fn put_new<K: Drop, R: Drop>(pages: &mut Pages<K, R>, spot: Spot, entry: (K, (u8
 }
 
 /// Puts an entry behind all others. Takes no memory.
-pub fn put_last<K: Drop, R: Drop>(pages: &mut Pages<K, R>, entry: (K, (u8, R)))
+pub(crate) fn put_last<K: Drop, R: Drop>(pages: &mut Pages<K, R>, entry: (K, (u8, R)))
     requires { 1 ≤ room_of pages.old.pages pages.old.spares }
     ensures entries { entries_of pages.new.pages ≡ entries_of pages.old.pages ++ entry ∷ [] }
     ensures room { (n : ℕ) → n + 1 ≤ room_of pages.old.pages pages.old.spares → n ≤ room_of pages.new.pages pages.new.spares }
@@ -183,15 +183,15 @@ fn merge_next<K: Ord + Drop, R: Drop>(
     if !pages.has_spare() || !is_worth(pages.as_slice(), hint, spots, left) {
         return left;
     }
-    if !begins_run(pages.as_slice(), hint, changes, left) {
+    let Some(start) = begins_run(pages.as_slice(), hint, changes, left) else {
         return left;
-    }
-    let run = pages.merge(hint, stream, changes, left);
+    };
+    let run = pages.merge(start, stream, changes, left);
     if run.left < left {
         drift.go_on(
             staged_at(spots, run.left),
             Spot {
-                page: hint.page,
+                page: start.page,
                 place: run.behind,
             },
         );
@@ -242,7 +242,7 @@ fn change_next<K: Ord + Drop, R: Drop>(
 
 /// A stream's changes, each at a key of its own, by rising key. Each is looked for where it was
 /// staged, as far as the changes before it tell where that is now; those that fall into one page are put into it together. Takes no memory. What they replaced and took away is handed back, in their places in the list.
-pub fn change_all<K: Ord + Drop, R: Drop>(
+pub(crate) fn change_all<K: Ord + Drop, R: Drop>(
     pages: &mut Pages<K, R>,
     stream: u8,
     mut changes: Vec<(K, Option<R>)>,

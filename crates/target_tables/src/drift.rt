@@ -6,7 +6,7 @@ use crate::spots::Spot;
 /// What is known of how places moved since a group was staged. What it tells are hints: a change looks at
 /// the key that stands there.
 #[derive(Clone, Copy)]
-pub struct Drift {
+pub(crate) struct Drift {
     /// how many pages there were
     pages: usize,
     /// the last change's place as it was staged
@@ -17,7 +17,7 @@ pub struct Drift {
 
 impl Drift {
     /// Before the first change, with so many pages.
-    pub fn new(pages: usize) -> Drift {
+    pub(crate) fn new(pages: usize) -> Drift {
         let first = Spot { page: 0, place: 0 };
         Drift {
             pages,
@@ -27,14 +27,14 @@ impl Drift {
     }
 
     /// A change that was staged at a place was made; what stood there stands at another one now.
-    pub fn go_on(&mut self, staged: Spot, now: Spot) {
+    pub(crate) fn go_on(&mut self, staged: Spot, now: Spot) {
         self.staged = staged;
         self.now = now;
     }
 
     /// Where a staged place may be now: as far behind the last change as it was, if it was in the same page, and
     /// past that page's end in the next one; else in its own page, which moved as pages were put in and taken out.
-    pub fn hint<K, R>(&self, pages: &[Page<K, R>], staged: Spot) -> Spot {
+    pub(crate) fn hint<K, R>(&self, pages: &[Page<K, R>], staged: Spot) -> Spot {
         if staged.page != self.staged.page {
             return Spot {
                 page: staged
@@ -61,7 +61,7 @@ impl Drift {
 }
 
 /// The place that was found for the change at `left` in a list of changes: they were found from the list's end.
-pub fn staged_at(spots: &[Spot], left: usize) -> Spot {
+pub(crate) fn staged_at(spots: &[Spot], left: usize) -> Spot {
     match spots.get(spots.len().wrapping_sub(left).wrapping_sub(1)) {
         Some(spot) => *spot,
         None => Spot { page: 0, place: 0 },

@@ -1,10 +1,11 @@
 //! A place that is looked at before a key is sought.
 
-ghost use Rattle.std.specs.Prelude.{◌≡◌, ℕ, ◌+◌, ◌<◌, ◌≤◌, length, take, drop, IfSome, IsTrue, MatchResult};
+ghost use Rattle.std.specs.Prelude.{◌+◌, ◌<◌, ◌≤◌, length, take, drop, IfSome, IsTrue, MatchResult};
 ghost use Rattle.target_tables.specs.Rising.{IsRising, AreBelow, AreAbove};
 ghost use Rattle.target_tables.specs.Pages.{entries_of, page_at, flat, AreFull, StandsAt, WouldStandAt};
 
 use crate::page::Page;
+use crate::places::order;
 use crate::spots::{Spot, entry_at, is_past, spot_of};
 use std::cmp::Ordering;
 
@@ -22,7 +23,7 @@ fn ends_before<K: Ord, R>(pages: &[Page<K, R>], page: usize, key: &K) -> bool
 }
 
 /// The entries before this place have lesser keys. Before the first place of a later page that isn't looked at.
-pub fn begins_behind<K: Ord, R>(pages: &[Page<K, R>], spot: Spot, key: &K) -> bool
+fn begins_behind<K: Ord, R>(pages: &[Page<K, R>], spot: Spot, key: &K) -> bool
     requires rising { IsRising K.cmp (entries_of pages.now) }
     requires inside { spot.page < length pages.now }
     requires within { spot.place ≤ length (page_at pages.now spot.page) }
@@ -36,12 +37,16 @@ pub fn begins_behind<K: Ord, R>(pages: &[Page<K, R>], spot: Spot, key: &K) -> bo
         page: spot.page,
         place: spot.place - 1,
     };
-    entry_at(pages, before).0.cmp(key).is_lt()
+    order(entry_at(pages, before), key).is_lt()
 }
 
 /// The key stands at this place, or would stand there: told by the keys there and before it. None where
 /// it stands, or would stand, elsewhere.
-fn found_at<K: Ord, R>(pages: &[Page<K, R>], hint: Spot, key: &K) -> Option<Result<Spot, Spot>>
+pub(crate) fn found_at<K: Ord, R>(
+    pages: &[Page<K, R>],
+    hint: Spot,
+    key: &K,
+) -> Option<Result<Spot, Spot>>
     requires rising { IsRising K.cmp (entries_of pages.now) }
     requires full { AreFull pages.now }
     ensures { IfSome result (λ found. MatchResult found (λ spot. StandsAt K.cmp pages.now key.now spot.page spot.place) (λ spot. WouldStandAt K.cmp pages.now key.now spot.page spot.place)) }
@@ -51,7 +56,7 @@ fn found_at<K: Ord, R>(pages: &[Page<K, R>], hint: Spot, key: &K) -> Option<Resu
     }
     let all = pages[hint.page].len();
     if hint.place < all {
-        return match entry_at(pages, hint).0.cmp(key) {
+        return match order(entry_at(pages, hint), key) {
             Ordering::Less => None,
             Ordering::Equal => Some(Ok(hint)),
             Ordering::Greater => {
@@ -72,7 +77,7 @@ fn found_at<K: Ord, R>(pages: &[Page<K, R>], hint: Spot, key: &K) -> Option<Resu
 
 /// The place of the entry with the key, or else the place at which it would stand. The hint is looked at first;
 /// where the key isn't told by it, it is sought from the hint's page.
-pub fn spot_by<K: Ord, R>(pages: &[Page<K, R>], hint: Spot, key: &K) -> Result<Spot, Spot>
+pub(crate) fn spot_by<K: Ord, R>(pages: &[Page<K, R>], hint: Spot, key: &K) -> Result<Spot, Spot>
     requires rising { IsRising K.cmp (entries_of pages.now) }
     requires full { AreFull pages.now }
     ensures { MatchResult result (λ spot. StandsAt K.cmp pages.now key.now spot.page spot.place) (λ spot. WouldStandAt K.cmp pages.now key.now spot.page spot.place) }

@@ -3,7 +3,6 @@
 ghost use Rattle.std.specs.Prelude.{◌≡◌, ◌≤◌, ◌+◌, [], length, IfOk, IfErr};
 ghost use Rattle.target_tables.specs.Merged.{AreMerged};
 ghost use Rattle.target_tables.specs.Kept.{TakesLesser, AreMixed};
-ghost use Rattle.target_tables.specs.Rising.{IsRising};
 
 use crate::merge_side::MergeSide;
 use crate::side_part::SidePart;

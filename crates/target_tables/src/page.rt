@@ -6,19 +6,20 @@ ghost use Rattle.std.specs.Vec.{vec_capacity};
 ghost use Rattle.std.specs.declared.cmp.Ordering.TheVariants.{Less};
 ghost use Rattle.target_tables.specs.Rising.{AreBelow};
 
+use crate::places::order;
 use std::alloc::{AllocError, Global};
 use std::marker::Model;
 use std::mem::replace;
 
 /// How many entries a page has at most.
-pub const FULL: usize = 128;
+pub(crate) const FULL: usize = 128;
 
 /// How many entries the first of two pages has where a full one is split.
-pub const HALF: usize = 64;
+pub(crate) const HALF: usize = 64;
 
 /// Up to 128 entries of a map. Seen in contracts as their list. What it can have is reserved from the start.
 #[derive(Drop)]
-pub struct Page<K, R> {
+pub(crate) struct Page<K, R> {
     entries: Vec<(K, (u8, R))>,
 }
 
@@ -72,7 +73,7 @@ fn ends_below<K: Ord, V>(entries: &[(K, V)], key: &K) -> bool
     if entries.is_empty() {
         return false;
     }
-    entries[entries.len() - 1].0.cmp(key).is_lt()
+    order(&entries[entries.len() - 1], key).is_lt()
 }
 
 /// Moves those with lesser keys of a list that is the other way round behind others.
@@ -92,7 +93,7 @@ fn move_lesser<K: Ord, V>(lower: &mut Vec<(K, V)>, upper: &mut Vec<(K, V)>, key:
 
 impl<K, R> Page<K, R> {
     /// No entry, and places for 128. An error is want of memory.
-    pub fn new(alloc: Global) -> Result<Page<K, R>, AllocError>
+    pub(crate) fn new(alloc: Global) -> Result<Page<K, R>, AllocError>
         ensures { IfOk result (λ page. page ≡ []) }
     {
         let entries = Vec::with_capacity(alloc, FULL)?;
@@ -100,28 +101,28 @@ impl<K, R> Page<K, R> {
     }
 
     /// The entries. Takes no memory.
-    pub fn entries(&self) -> &[(K, (u8, R))]
+    pub(crate) fn entries(&self) -> &[(K, (u8, R))]
         ensures { result.now ≡ self.now }
     {
         &self.entries
     }
 
     /// The entries, to be taken out. Takes no memory.
-    pub fn into_entries(self) -> Vec<(K, (u8, R))>
+    pub(crate) fn into_entries(self) -> Vec<(K, (u8, R))>
         ensures { result.items ≡ self }
     {
         self.entries
     }
 
     /// How many entries there are. Takes no memory.
-    pub fn len(&self) -> usize
+    pub(crate) fn len(&self) -> usize
         ensures { result ≡ length self.now }
     {
         self.entries.len()
     }
 
     /// Takes the entry at a place away. Takes no memory.
-    pub fn take_out(&mut self, place: usize) -> (K, (u8, R))
+    pub(crate) fn take_out(&mut self, place: usize) -> (K, (u8, R))
         requires { place < length self.old }
         ensures { self.new ≡ remove self.old place }
     {
@@ -129,7 +130,7 @@ impl<K, R> Page<K, R> {
     }
 
     /// Moves all but the first 64 entries of a full page into an empty one. Takes no memory.
-    pub fn halve(&mut self, upper: &mut Page<K, R>)
+    pub(crate) fn halve(&mut self, upper: &mut Page<K, R>)
         requires size { length self.old ≡ 128 }
         requires none { upper.old ≡ [] }
         ensures lower { self.new ≡ take 64 self.old }
@@ -140,7 +141,7 @@ impl<K, R> Page<K, R> {
     }
 
     /// Moves the entries from a place on into an empty page, the other way round. Takes no memory.
-    pub fn open(&mut self, place: usize, above: &mut Page<K, R>)
+    pub(crate) fn open(&mut self, place: usize, above: &mut Page<K, R>)
         requires within { place ≤ length self.old }
         requires most { length self.old ≤ 128 }
         requires none { above.old ≡ [] }
@@ -151,7 +152,7 @@ impl<K, R> Page<K, R> {
     }
 
     /// Moves the entries of a page that is the other way round behind its own. Takes no memory.
-    pub fn close(&mut self, above: &mut Page<K, R>)
+    pub(crate) fn close(&mut self, above: &mut Page<K, R>)
         requires most { length self.old + length above.old ≤ 128 }
         ensures entries { self.new ≡ self.old ++ reverse above.old }
         ensures above { above.new ≡ [] }
@@ -160,7 +161,7 @@ impl<K, R> Page<K, R> {
     }
 
     /// Puts an entry behind the others of a page that isn't full. Takes no memory.
-    pub fn push(&mut self, entry: (K, (u8, R)))
+    pub(crate) fn push(&mut self, entry: (K, (u8, R)))
         requires { length self.old < 128 }
         ensures { self.new ≡ self.old ++ entry ∷ [] }
     {
@@ -170,7 +171,7 @@ impl<K, R> Page<K, R> {
 
 impl<K: Ord, R> Page<K, R> {
     /// Moves the entries with lesser keys of a page that is the other way round behind its own. Takes no memory.
-    pub fn pass(&mut self, above: &mut Page<K, R>, key: &K)
+    pub(crate) fn pass(&mut self, above: &mut Page<K, R>, key: &K)
         requires most { length self.old + length above.old ≤ 128 }
         ensures entries { self.new ++ reverse above.new ≡ self.old ++ reverse above.old }
         ensures count { length self.new + length above.new ≡ length self.old + length above.old }
@@ -182,7 +183,7 @@ impl<K: Ord, R> Page<K, R> {
 
 impl<K: Drop, R: Drop> Page<K, R> {
     /// Puts an entry in at a place of a page that isn't full. Takes no memory.
-    pub fn put_in(&mut self, place: usize, entry: (K, (u8, R)))
+    pub(crate) fn put_in(&mut self, place: usize, entry: (K, (u8, R)))
         requires within { place ≤ length self.old }
         requires room { length self.old < 128 }
         ensures { self.new ≡ insert self.old place entry }
@@ -191,7 +192,7 @@ impl<K: Drop, R: Drop> Page<K, R> {
     }
 
     /// Puts an entry over the one at a place, which is handed back. Takes no memory.
-    pub fn put_over(&mut self, place: usize, entry: (K, (u8, R))) -> (K, (u8, R))
+    pub(crate) fn put_over(&mut self, place: usize, entry: (K, (u8, R))) -> (K, (u8, R))
         requires { place < length self.old }
         ensures { self.new ≡ set self.old place entry }
     {
@@ -202,7 +203,7 @@ impl<K: Drop, R: Drop> Page<K, R> {
 impl<K: Clone, R: Clone> Page<K, R> {
     /// A copy with equal keys and rows. That a clone equals what it is made of is the caller's; an error is
     /// want of memory.
-    pub fn try_clone(&self, alloc: Global) -> Result<Page<K, R>, AllocError>
+    pub(crate) fn try_clone(&self, alloc: Global) -> Result<Page<K, R>, AllocError>
         requires keys { (key copy : K) → K.is_clone key copy → copy ≡ key }
         requires rows { (row copy : R) → R.is_clone row copy → copy ≡ row }
         ensures { IfOk result (λ copy. copy ≡ self.now) }

@@ -1,13 +1,13 @@
 //! The pages of a map, and the empty ones that lie ready for new keys.
 
-ghost use Rattle.std.specs.Prelude.{◌≡◌, ◌↔◌, ℕ, ◌+◌, ◌^◌, ◌<◌, ◌≤◌, [], ◌∷◌, IfOk, IsTrue, OnOk, length, take, set};
-ghost use Rattle.std.specs.List.{All, AllByRecursion, insert, remove};
+ghost use Rattle.std.specs.Prelude.{◌≡◌, ◌↔◌, ◌+◌, ◌^◌, ◌<◌, ◌≤◌, [], ◌∷◌, IfOk, IsTrue, OnOk, length, take, set};
+ghost use Rattle.std.specs.List.{All, insert, remove};
 ghost use Rattle.std.specs.Ordering.{flip_args};
 ghost use Rattle.std.specs.Prelude.{vec_len};
 ghost use Rattle.std.specs.Vec.{vec_capacity};
 ghost use Rattle.target_tables.specs.Pages.{entries_of, page_at, flat, room_of, split_in_two, AreFull};
-ghost use Rattle.target_tables.specs.Rising.{IsRising, AreAbove};
-ghost use Rattle.target_tables.specs.Private.Runs.{Leads};
+ghost use Rattle.target_tables.specs.Rising.{IsRising};
+ghost use Rattle.target_tables.specs.Private.Runs.{Leads, IsStart};
 ghost use Rattle.target_tables.specs.Touches.{new_keys};
 
 use crate::page::{HALF, Page};
@@ -23,7 +23,7 @@ const MOST: usize = 1 << 56;
 /// all of them, so that none that moves from one list to the other takes memory. Seen in contracts as the
 /// pages' entries and the number of empty ones.
 #[derive(Drop)]
-pub struct Pages<K, R> {
+pub(crate) struct Pages<K, R> {
     list: Vec<Page<K, R>>,
     spares: Vec<Page<K, R>>,
 }
@@ -73,7 +73,7 @@ fn fill<K: Drop, R: Drop>(
 
 impl<K, R> Pages<K, R> {
     /// No page. Takes no memory.
-    pub fn new(alloc: Global) -> Pages<K, R>
+    pub(crate) fn new(alloc: Global) -> Pages<K, R>
         ensures pages { result.pages ≡ [] }
         ensures spares { result.spares ≡ 0 }
     {
@@ -84,7 +84,7 @@ impl<K, R> Pages<K, R> {
     }
 
     /// The pages. Takes no memory.
-    pub fn as_slice(&self) -> &[Page<K, R>]
+    pub(crate) fn as_slice(&self) -> &[Page<K, R>]
         ensures pages { result.now ≡ self.now.pages }
         ensures full { AreFull self.now.pages }
         ensures few { length self.now.pages ≤ 2 ^ 56 }
@@ -93,7 +93,7 @@ impl<K, R> Pages<K, R> {
     }
 
     /// An empty page lies ready. Takes no memory.
-    pub fn has_spare(&self) -> bool
+    pub(crate) fn has_spare(&self) -> bool
         ensures { IsTrue result → 0 < self.now.spares }
     {
         !self.spares.is_empty()
@@ -104,7 +104,7 @@ impl<K: Ord + Drop, R: Drop> Pages<K, R> {
     /// Puts rows at rising new keys into one page, from a place on before which all keys are less, for as long as
     /// they belong there and the page isn't full. What lies behind the place is moved into an empty page, and back
     /// again behind the last of them. Takes no memory.
-    pub fn merge(
+    pub(crate) fn merge(
         &mut self,
         spot: Spot,
         stream: u8,
@@ -112,12 +112,10 @@ impl<K: Ord + Drop, R: Drop> Pages<K, R> {
         left: usize,
     ) -> Run
         requires rising { IsRising K.cmp (entries_of self.old.pages) }
-        requires inside { spot.page < length self.old.pages }
-        requires within { spot.place ≤ length (page_at self.old.pages spot.page) }
         requires spare { 0 < self.old.spares }
         requires left { left ≤ vec_len changes.old }
         requires falling { IsRising (flip_args K.cmp) (take left changes.old.items) }
-        requires front { AllByRecursion (λ e. AreAbove K.cmp e.0 (take left changes.old.items)) (take (flat self.old.pages spot.page spot.place) (entries_of self.old.pages)) }
+        requires start { IsStart K.cmp self.old.pages spot.page spot.place (take left changes.old.items) }
         ensures rising { IsRising K.cmp (entries_of self.new.pages) }
         ensures left { result.left ≤ vec_len changes.new }
         ensures fewer { result.left ≤ left }
@@ -138,7 +136,7 @@ impl<K: Ord + Drop, R: Drop> Pages<K, R> {
 
 impl<K: Drop, R: Drop> Pages<K, R> {
     /// Sees that so many empty pages lie ready. An error is want of memory; 2^56 pages are more than any has.
-    pub fn reserve(&mut self, count: usize) -> Result<(), AllocError>
+    pub(crate) fn reserve(&mut self, count: usize) -> Result<(), AllocError>
         ensures pages { self.new.pages ≡ self.old.pages }
         ensures kept { self.old.spares ≤ self.new.spares }
         ensures ok { OnOk result (count ≤ self.new.spares) }
@@ -156,7 +154,7 @@ impl<K: Drop, R: Drop> Pages<K, R> {
     }
 
     /// Puts the first entry of all into a page of its own. Takes no memory.
-    pub fn start(&mut self, entry: (K, (u8, R)))
+    pub(crate) fn start(&mut self, entry: (K, (u8, R)))
         requires none { self.old.pages ≡ [] }
         requires spare { 0 < self.old.spares }
         ensures pages { self.new.pages ≡ (entry ∷ []) ∷ [] }
@@ -168,7 +166,7 @@ impl<K: Drop, R: Drop> Pages<K, R> {
     }
 
     /// Puts an entry in at a place of a page that isn't full. Takes no memory.
-    pub fn put_in(&mut self, page: usize, place: usize, entry: (K, (u8, R)))
+    pub(crate) fn put_in(&mut self, page: usize, place: usize, entry: (K, (u8, R)))
         requires inside { page < length self.old.pages }
         requires within { place ≤ length (page_at self.old.pages page) }
         requires room { length (page_at self.old.pages page) < 128 }
@@ -179,7 +177,12 @@ impl<K: Drop, R: Drop> Pages<K, R> {
     }
 
     /// Puts an entry over the one at a place of a page, which is handed back. Takes no memory.
-    pub fn put_over(&mut self, page: usize, place: usize, entry: (K, (u8, R))) -> (K, (u8, R))
+    pub(crate) fn put_over(
+        &mut self,
+        page: usize,
+        place: usize,
+        entry: (K, (u8, R)),
+    ) -> (K, (u8, R))
         requires inside { page < length self.old.pages }
         requires within { place < length (page_at self.old.pages page) }
         ensures pages { self.new.pages ≡ set self.old.pages page (set (page_at self.old.pages page) place entry) }
@@ -189,7 +192,7 @@ impl<K: Drop, R: Drop> Pages<K, R> {
     }
 
     /// Splits a full page into two of 64. Takes no memory.
-    pub fn split(&mut self, page: usize)
+    pub(crate) fn split(&mut self, page: usize)
         requires inside { page < length self.old.pages }
         requires full { length (page_at self.old.pages page) ≡ 128 }
         requires spare { 0 < self.old.spares }
@@ -202,7 +205,7 @@ impl<K: Drop, R: Drop> Pages<K, R> {
     }
 
     /// Takes the entry at a place of a page away, and with its last entry the page. Takes no memory.
-    pub fn take_out(&mut self, page: usize, place: usize) -> (K, (u8, R))
+    pub(crate) fn take_out(&mut self, page: usize, place: usize) -> (K, (u8, R))
         requires inside { page < length self.old.pages }
         requires within { place < length (page_at self.old.pages page) }
         ensures entries { entries_of self.new.pages ≡ remove (entries_of self.old.pages) (flat self.old.pages page place) }
@@ -220,7 +223,7 @@ impl<K: Drop, R: Drop> Pages<K, R> {
     }
 
     /// The pages, to be taken out; the empty ones are dropped. Takes no memory.
-    pub fn into_list(self) -> Vec<Page<K, R>>
+    pub(crate) fn into_list(self) -> Vec<Page<K, R>>
         ensures pages { result.items ≡ self.pages }
         ensures full { AreFull self.pages }
     {
@@ -230,7 +233,7 @@ impl<K: Drop, R: Drop> Pages<K, R> {
     }
 
     /// Takes every page away. Takes no memory.
-    pub fn clear(&mut self)
+    pub(crate) fn clear(&mut self)
         ensures { self.new.pages ≡ [] }
     {
         self.list.clear();
@@ -240,7 +243,7 @@ impl<K: Drop, R: Drop> Pages<K, R> {
 impl<K: Clone + Drop, R: Clone + Drop> Pages<K, R> {
     /// A copy with equal keys and rows in equal pages, and no empty ones. That a clone equals what it is made of
     /// is the caller's; an error is want of memory.
-    pub fn try_clone(&self, alloc: Global) -> Result<Pages<K, R>, AllocError>
+    pub(crate) fn try_clone(&self, alloc: Global) -> Result<Pages<K, R>, AllocError>
         requires keys { (key copy : K) → K.is_clone key copy → copy ≡ key }
         requires rows { (row copy : R) → R.is_clone row copy → copy ≡ row }
         ensures { IfOk result (λ copy. copy.pages ≡ self.now.pages) }

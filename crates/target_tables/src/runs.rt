@@ -1,59 +1,66 @@
 //! Rising changes that are put into one page together: its entries behind the first of them are moved once.
 
-ghost use Rattle.std.specs.Prelude.{◌≡◌, ℕ, ◌+◌, ◌<◌, ◌≤◌, ◌++◌, IsTrue, length, take, drop, reverse, vec_len};
-ghost use Rattle.std.specs.List.{AllByRecursion};
+ghost use Rattle.std.specs.Prelude.{◌+◌, ◌<◌, ◌≤◌, ◌++◌, IsTrue, IfSome, length, take, drop, reverse, vec_len};
 ghost use Rattle.std.specs.Ordering.{flip_args};
-ghost use Rattle.target_tables.specs.Pages.{entries_of, page_at, flat};
+ghost use Rattle.target_tables.specs.Pages.{entries_of, AreFull};
 ghost use Rattle.target_tables.specs.Rising.{IsRising, AreAbove};
-ghost use Rattle.target_tables.specs.Private.Runs.{IsOpen, MergesOn};
+ghost use Rattle.target_tables.specs.Private.Runs.{IsStart, IsOpen, MergesOn};
 
 use crate::drift::staged_at;
-use crate::hints::begins_behind;
+use crate::hints::found_at;
 use crate::page::{FULL, Page};
+use crate::places::order;
 use crate::spots::{Spot, is_past};
 
 /// Changes that were put into one page.
 #[derive(Clone, Copy)]
-pub struct Run {
+pub(crate) struct Run {
     /// how many of the list's changes are left
-    pub left: usize,
+    pub(crate) left: usize,
     /// the place behind the last one that was put
-    pub behind: usize,
+    pub(crate) behind: usize,
 }
 
-/// Whether so many of the next changes were staged for one page that its entries behind the first of them are
-/// better moved twice than once for each.
-pub fn is_worth<K, R>(pages: &[Page<K, R>], hint: Spot, spots: &[Spot], left: usize) -> bool {
+/// Whether so many of the next changes were staged for one page that isn't full that its entries behind the first
+/// of them are better moved twice than once for each.
+pub(crate) fn is_worth<K, R>(
+    pages: &[Page<K, R>],
+    hint: Spot,
+    spots: &[Spot],
+    left: usize,
+) -> bool {
     match pages.get(hint.page) {
-        Some(page) => {
+        Some(page) if page.len() < FULL => {
             let ahead = page.len().saturating_sub(hint.place) / 16 + 2;
             left >= ahead && staged_at(spots, left - ahead).page == staged_at(spots, left - 1).page
         }
-        None => false,
+        _ => false,
     }
 }
 
-/// All entries before the place have lesser keys than the changes that are left.
-pub fn begins_run<K: Ord, R>(
+/// Where the next change's row is put, if its key is new and stands at the hint's place: all entries before it have
+/// lesser keys than the changes that are left.
+pub(crate) fn begins_run<K: Ord, R>(
     pages: &[Page<K, R>],
-    spot: Spot,
+    hint: Spot,
     changes: &[(K, Option<R>)],
     left: usize,
-) -> bool
+) -> Option<Spot>
     requires rising { IsRising K.cmp (entries_of pages.now) }
+    requires full { AreFull pages.now }
+    requires some { 0 < left }
     requires left { left ≤ length changes.now }
     requires falling { IsRising (flip_args K.cmp) (take left changes.now) }
-    ensures inside { IsTrue result → spot.page < length pages.now }
-    ensures within { IsTrue result → spot.place ≤ length (page_at pages.now spot.page) }
-    ensures front { IsTrue result → AllByRecursion (λ e. AreAbove K.cmp e.0 (take left changes.now)) (take (flat pages.now spot.page spot.place) (entries_of pages.now)) }
+    ensures { IfSome result (λ spot. IsStart K.cmp pages.now spot.page spot.place (take left changes.now)) }
 {
-    if left == 0 || spot.page >= pages.len() {
-        return false;
+    let next = &changes[left - 1];
+    if next.1.is_none() || pages.is_empty() {
+        return None;
     }
-    if spot.place > pages[spot.page].len() {
-        return false;
+    match found_at(pages, hint, &next.0) {
+        Some(Err(spot)) => Some(spot),
+        _ => None,
     }
-    begins_behind(pages, spot, &changes[left - 1].0)
 }
 
 /// The key is less than those of the entries that lie apart and of the later pages.
@@ -64,7 +71,7 @@ fn fits<K: Ord, R>(list: &[Page<K, R>], page: usize, above: &Page<K, R>, key: &K
 {
     let entries = above.entries();
     if entries.len() > 0 {
-        return entries[entries.len() - 1].0.cmp(key).is_gt();
+        return order(&entries[entries.len() - 1], key).is_gt();
     }
     if page + 1 >= list.len() {
         return true;
@@ -104,7 +111,7 @@ fn put_next<K: Ord + Drop, R: Drop>(
 }
 
 /// Puts changes into the open page, by rising key, until one isn't put, and tells how many are left.
-pub fn put_run<K: Ord + Drop, R: Drop>(
+pub(crate) fn put_run<K: Ord + Drop, R: Drop>(
     list: &mut [Page<K, R>],
     page: usize,
     above: &mut Page<K, R>,

@@ -5,19 +5,19 @@ ghost use Rattle.target_tables.specs.Rising.{IsRising};
 ghost use Rattle.target_tables.specs.Pages.{entries_of, page_at, flat, begins_past, AreFull, IsSpan, FallsInto, StandsAt, WouldStandAt};
 
 use crate::page::Page;
-use crate::places::place_of;
+use crate::places::{order, place_of};
 
 /// A place in a page.
 #[derive(Clone, Copy)]
-pub struct Spot {
+pub(crate) struct Spot {
     /// the page
-    pub page: usize,
+    pub(crate) page: usize,
     /// the entry's place in it
-    pub place: usize,
+    pub(crate) place: usize,
 }
 
 /// The place itself, whether an entry stands or would stand there.
-pub fn spot_in(found: Result<Spot, Spot>) -> Spot {
+pub(crate) fn spot_in(found: Result<Spot, Spot>) -> Spot {
     match found {
         Ok(spot) => spot,
         Err(spot) => spot,
@@ -25,7 +25,7 @@ pub fn spot_in(found: Result<Spot, Spot>) -> Spot {
 }
 
 /// The place behind this one in its page.
-pub fn behind(page: usize, place: usize) -> Spot {
+pub(crate) fn behind(page: usize, place: usize) -> Spot {
     Spot {
         page,
         place: place.wrapping_add(1),
@@ -33,7 +33,7 @@ pub fn behind(page: usize, place: usize) -> Spot {
 }
 
 /// Where a greater key may stand: behind an entry that was found, or where none was.
-pub fn next_to(found: Result<Spot, Spot>) -> Spot {
+pub(crate) fn next_to(found: Result<Spot, Spot>) -> Spot {
     match found {
         Ok(spot) => behind(spot.page, spot.place),
         Err(spot) => spot,
@@ -41,11 +41,11 @@ pub fn next_to(found: Result<Spot, Spot>) -> Spot {
 }
 
 /// The page's first key is greater than this one.
-pub fn is_past<K: Ord, R>(page: &Page<K, R>, key: &K) -> bool
+pub(crate) fn is_past<K: Ord, R>(page: &Page<K, R>, key: &K) -> bool
     ensures { result ≡ begins_past K.cmp key.now page.now }
 {
     match page.entries().first() {
-        Some(entry) => entry.0.cmp(key).is_gt(),
+        Some(entry) => order(entry, key).is_gt(),
         None => false,
     }
 }
@@ -103,7 +103,7 @@ fn page_of<K: Ord, R>(pages: &[Page<K, R>], near: usize, key: &K) -> usize
 
 /// The place of the entry with the key, or else the place at which it would stand. The page `near` is looked at
 /// first; the others are searched by halves, and so is the page.
-pub fn spot_of<K: Ord, R>(pages: &[Page<K, R>], near: usize, key: &K) -> Result<Spot, Spot>
+pub(crate) fn spot_of<K: Ord, R>(pages: &[Page<K, R>], near: usize, key: &K) -> Result<Spot, Spot>
     requires rising { IsRising K.cmp (entries_of pages.now) }
     requires full { AreFull pages.now }
     ensures { MatchResult result (λ spot. StandsAt K.cmp pages.now key.now spot.page spot.place) (λ spot. WouldStandAt K.cmp pages.now key.now spot.page spot.place) }
@@ -119,7 +119,7 @@ pub fn spot_of<K: Ord, R>(pages: &[Page<K, R>], near: usize, key: &K) -> Result<
 }
 
 /// The entry at a place. That it is there is the caller's.
-pub fn entry_at<'t, K, R>(pages: &'t [Page<K, R>], spot: Spot) -> &'t (K, (u8, R))
+pub(crate) fn entry_at<'t, K, R>(pages: &'t [Page<K, R>], spot: Spot) -> &'t (K, (u8, R))
     requires inside { spot.page < length pages.now }
     requires within { spot.place < length (page_at pages.now spot.page) }
     ensures { result.now ≡ get_or (entries_of pages.now) (flat pages.now spot.page spot.place) result.now }

@@ -15,7 +15,7 @@ use crate::spots::{Spot, entry_at, next_to, spot_in};
 
 /// What a change meets.
 #[derive(Clone, Copy)]
-pub enum ChangeVerdict {
+pub(crate) enum ChangeVerdict {
     /// A row is put at a key that is new to the map.
     NewKey,
     /// A row is to be put where a row of this other stream stands.
@@ -26,11 +26,11 @@ pub enum ChangeVerdict {
 
 /// A row of another stream in the way of a change.
 #[derive(Clone, Copy)]
-pub struct Clash {
+pub(crate) struct Clash {
     /// the change's place
-    pub place: usize,
+    pub(crate) place: usize,
     /// the stream that owns the row
-    pub owner: u8,
+    pub(crate) owner: u8,
 }
 
 /// What a change meets, and where.
@@ -79,7 +79,7 @@ fn judge<K: Ord, R>(pages: &[Page<K, R>], hint: Spot, stream: u8, change: &(K, O
 
 /// How many changes put a row at a new key, or the last change that a row of another stream is in
 /// the way of. Looks each key up once, and tells the places that it found, that of the last change first.
-pub fn survey<K: Ord, R>(
+pub(crate) fn survey<K: Ord, R>(
     pages: &[Page<K, R>],
     stream: u8,
     changes: &[(K, Option<R>)],

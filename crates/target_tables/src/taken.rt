@@ -10,7 +10,7 @@ use std::marker::Model;
 
 /// Entries that are still to be taken out of pages, in their order. Seen in contracts as the list of these.
 #[derive(Drop)]
-pub struct Taken<K, R> {
+pub(crate) struct Taken<K, R> {
     entries: VecDeque<(K, (u8, R))>,
     pages: VecDeque<Page<K, R>>,
 }
@@ -35,7 +35,7 @@ fn take_first<X>(list: &mut VecDeque<X>) -> Option<X>
 
 impl<K: Drop, R: Drop> Taken<K, R> {
     /// The entries of pages. Takes no memory.
-    pub fn new(alloc: Global, pages: Vec<Page<K, R>>) -> Taken<K, R>
+    pub(crate) fn new(alloc: Global, pages: Vec<Page<K, R>>) -> Taken<K, R>
         requires { AreFull pages.items }
         ensures { result ≡ entries_of pages.items }
     {
@@ -46,7 +46,7 @@ impl<K: Drop, R: Drop> Taken<K, R> {
     }
 
     /// Takes the first entry out, if one is left. Takes no memory.
-    pub fn pop(&mut self) -> Option<(K, (u8, R))>
+    pub(crate) fn pop(&mut self) -> Option<(K, (u8, R))>
         ensures { MatchOption result ((self.old ≡ []) × (self.new ≡ [])) (λ entry. self.old ≡ entry ∷ self.new) }
     {
         match take_first(&mut self.entries) {

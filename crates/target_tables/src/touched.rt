@@ -1,6 +1,6 @@
 //! The touches of a group, as they are staged.
 
-ghost use Rattle.std.specs.Prelude.{◌≡◌, ℕ, IfOk, IsTrue};
+ghost use Rattle.std.specs.Prelude.{◌≡◌, IfOk, IsTrue};
 ghost use Rattle.std.specs.Ordering.{flip_args};
 ghost use Rattle.target_tables.specs.Kept.{ends_at};
 ghost use Rattle.target_tables.specs.Rising.{IsRising, NeverFalls};

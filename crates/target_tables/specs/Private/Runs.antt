@@ -5,7 +5,7 @@ use Rattle.std.specs.List.{AllByRecursion}
 use Rattle.std.specs.Ordering.{flip_args}
 use Rattle.target_tables.specs.Contents.{value_at}
 use Rattle.target_tables.specs.Rising.{IsRising, AreAbove}
-use Rattle.target_tables.specs.Pages.{entries_of, page_at}
+use Rattle.target_tables.specs.Pages.{entries_of, page_at, flat}
 use Rattle.target_tables.specs.Touches.{change_at, touched, new_keys}
 
 module _ {X : Type 0} where
@@ -22,6 +22,12 @@ module _ {K R : Type 0} (cmp : K → K → Ordering) where
   pub record Leads (old : List (K × (ℕ × R))) (stream : ℕ) (all left : List (K × Option R)) (now : List (K × (ℕ × R))) : Type 0 where
     pub falling : IsRising (flip_args cmp) left
     pub same : (k : K) → touched stream (change_at cmp left k) (value_at cmp now k) ≡ touched stream (change_at cmp all k) (value_at cmp old k)
+
+  -- at place p of page i, before which all keys are less than those of the changes that are left
+  pub record IsStart (pages : List (List (K × (ℕ × R)))) (i p : ℕ) (left : List (K × Option R)) : Type 0 where
+    pub inside : i < length pages
+    pub within : p ≤ length (page_at pages i)
+    pub front : AllByRecursion (λ e. AreAbove cmp e.0 left) (take (flat pages i p) (entries_of pages))
 
   -- page i is open, and the keys of the changes that are left are greater than all before the place
   pub record IsOpen (pages : List (List (K × (ℕ × R)))) (i : ℕ) (above : List (K × (ℕ × R))) (left : List (K × Option R)) : Type 0 where

@@ -5,6 +5,3 @@ use Rattle.target_tables.proofs.changes.merge_next.Goals as goal
 
 pub returns-then-not-has_spare-clause-leads : goal.returns-then-not-has_spare-clause-leads
 returns-then-not-has_spare-clause-leads g c = leads_at_first g.met.K.Ord.total (entries_of c.args.pages.now.pages) c.args.stream (take c.args.left c.args.changes.now.items) c.requires.falling
-
-pub returns-then-not-begins_run-clause-leads : goal.returns-then-not-begins_run-clause-leads
-returns-then-not-begins_run-clause-leads g c = leads_at_first g.met.K.Ord.total (entries_of c.args.pages.now.pages) c.args.stream (take c.args.left c.args.changes.now.items) c.requires.falling

@@ -12,7 +12,7 @@ returns-in-Equal g c =
     let n : c.len-all.result ≡ length (page_at pages c.args.hint.page) = c.len-all.ensures ∙ ap length there in
     let within : c.args.hint.place < length (page_at pages c.args.hint.page) = omega arith in
     stands_there g.met.K.Ord.total c.args.key.now pages c.requires.rising c.args.hint.page c.args.hint.place inside c.entry_at.result.now within c.entry_at.ensures
-    (sym c.cmp.ensures ∙ c.in-Equal.is)
+    (sym c.order.ensures ∙ c.in-Equal.is)
 
 pub returns-then-begins_behind : goal.returns-then-begins_behind
 returns-then-begins_behind g c =
@@ -22,7 +22,7 @@ returns-then-begins_behind g c =
     let n : c.len-all.result ≡ length (page_at pages c.args.hint.page) = c.len-all.ensures ∙ ap length there in
     let within : c.args.hint.place < length (page_at pages c.args.hint.page) = omega arith in
     would_stand_there g.met.K.Ord.total c.args.key.now pages c.requires.rising c.args.hint.page c.args.hint.place inside c.entry_at.result.now within c.entry_at.ensures
-    (sym c.cmp.ensures ∙ c.in-Greater.is) (c.if-begins_behind.ensures.below refl) (c.if-begins_behind.ensures.first refl)
+    (sym c.order.ensures ∙ c.in-Greater.is) (c.if-begins_behind.ensures.below refl) (c.if-begins_behind.ensures.first refl)
 
 pub returns-then-begins_behind-2 : goal.returns-then-begins_behind-2
 returns-then-begins_behind-2 g c =

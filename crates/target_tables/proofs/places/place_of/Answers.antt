@@ -6,16 +6,16 @@ pub loop-low-preserved-in-Less : goal.loop-low-preserved-in-Less
 loop-low-preserved-in-Less g c =
     let m : ℕ = c.loop-low.low + (c.loop-low.high - c.loop-low.low) / 2 in
     let inside : m < length c.args.entries.now = omega arith in
-    (omega arith, c.loop-low.invariant.1, below_read g.met.K.Ord.total c.args.entries.now m _ inside c.requires c.args.key.now (sym c.cmp.ensures ∙ c.in-Less.is), c.loop-low.invariant.3)
+    (omega arith, c.loop-low.invariant.1, below_read g.met.K.Ord.total c.args.entries.now m _ inside c.requires c.args.key.now (sym c.order.ensures ∙ c.in-Less.is), c.loop-low.invariant.3)
 
 pub returns-in-Equal : goal.returns-in-Equal
 returns-in-Equal g c =
     let m : ℕ = c.loop-low.low + (c.loop-low.high - c.loop-low.low) / 2 in
     let inside : m < length c.args.entries.now = omega arith in
-    at_read g.met.K.Ord.total c.args.entries.now m _ inside c.requires c.args.key.now (sym c.cmp.ensures ∙ c.in-Equal.is)
+    at_read g.met.K.Ord.total c.args.entries.now m _ inside c.requires c.args.key.now (sym c.order.ensures ∙ c.in-Equal.is)
 
 pub loop-low-preserved : goal.loop-low-preserved
 loop-low-preserved g c =
     let m : ℕ = c.loop-low.low + (c.loop-low.high - c.loop-low.low) / 2 in
     let inside : m < length c.args.entries.now = omega arith in
-    (omega arith, omega arith, c.loop-low.invariant.2, above_read g.met.K.Ord.total c.args.entries.now m _ inside c.requires c.args.key.now (sym c.cmp.ensures ∙ c.in-Greater.is))
+    (omega arith, omega arith, c.loop-low.invariant.2, above_read g.met.K.Ord.total c.args.entries.now m _ inside c.requires c.args.key.now (sym c.order.ensures ∙ c.in-Greater.is))
