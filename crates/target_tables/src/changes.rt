@@ -14,7 +14,7 @@ use crate::drift::{Drift, staged_at};
 use crate::hints::spot_by;
 use crate::page::{FULL, HALF};
 use crate::pages::Pages;
-use crate::runs::{begins_run, is_worth};
+use crate::runs::{begins_run, is_worth, page_with_places};
 use crate::spots::{Spot, behind, entry_at};
 
 /// Puts an entry with a new key in at its place, and tells the place behind it. A full page is split in
@@ -180,22 +180,26 @@ fn merge_next<K: Ord + Drop, R: Drop>(
     ensures room { new_keys K.cmp (entries_of pages.new.pages) (take result changes.new.items) ≤ room_of pages.new.pages pages.new.spares }
 {
     let hint = drift.hint(pages.as_slice(), staged_at(spots, left - 1));
-    if !pages.has_spare() || !is_worth(pages.as_slice(), hint, spots, left) {
+    if !pages.has_spare() || drift.is_closed(hint.page) {
+        return left;
+    }
+    if !is_worth(pages.as_slice(), hint, spots, left) {
         return left;
     }
     let Some(start) = begins_run(pages.as_slice(), hint, changes, left) else {
         return left;
     };
     let run = pages.merge(start, stream, changes, left);
-    if run.left < left {
-        drift.go_on(
-            staged_at(spots, run.left),
-            Spot {
-                page: start.page,
-                place: run.behind,
-            },
-        );
+    if page_with_places(pages.as_slice(), start.page).is_some() {
+        drift.close(start.page);
     }
+    drift.go_on(
+        staged_at(spots, run.left),
+        Spot {
+            page: start.page,
+            place: run.behind,
+        },
+    );
     run.left
 }
 
@@ -240,8 +244,9 @@ fn change_next<K: Ord + Drop, R: Drop>(
     last
 }
 
-/// A stream's changes, each at a key of its own, by rising key. Each is looked for where it was
-/// staged, as far as the changes before it tell where that is now; those that fall into one page are put into it together. Takes no memory. What they replaced and took away is handed back, in their places in the list.
+/// A stream's changes, each at a key of its own, by rising key. Each is looked for where it was staged, as far as
+/// the changes before it tell where that is now; rows at new keys that fall into one page are put into it together.
+/// Takes no memory. What they replaced and took away is handed back, behind the changes that are left in the list.
 pub(crate) fn change_all<K: Ord + Drop, R: Drop>(
     pages: &mut Pages<K, R>,
     stream: u8,

@@ -13,6 +13,8 @@ pub(crate) struct Drift {
     staged: Spot,
     /// where what stood there stands now
     now: Spot,
+    /// the page that isn't opened again, if there is one
+    closed: Option<usize>,
 }
 
 impl Drift {
@@ -23,6 +25,7 @@ impl Drift {
             pages,
             staged: first,
             now: first,
+            closed: None,
         }
     }
 
@@ -30,6 +33,16 @@ impl Drift {
     pub(crate) fn go_on(&mut self, staged: Spot, now: Spot) {
         self.staged = staged;
         self.now = now;
+    }
+
+    /// Rows were put into this page together, up to a change that can't be.
+    pub(crate) fn close(&mut self, page: usize) {
+        self.closed = Some(page);
+    }
+
+    /// The next changes aren't put into this page together.
+    pub(crate) fn is_closed(&self, page: usize) -> bool {
+        self.closed == Some(page)
     }
 
     /// Where a staged place may be now: as far behind the last change as it was, if it was in the same page, and

@@ -21,20 +21,28 @@ pub(crate) struct Run {
     pub(crate) behind: usize,
 }
 
-/// Whether so many of the next changes were staged for one page that isn't full that its entries behind the first
-/// of them are better moved twice than once for each.
+/// A page that has places left.
+pub(crate) fn page_with_places<K, R>(pages: &[Page<K, R>], page: usize) -> Option<&Page<K, R>> {
+    match pages.get(page) {
+        Some(found) if found.len() < FULL => Some(found),
+        _ => None,
+    }
+}
+
+/// Whether so many of the next changes were staged for one page that has places left that its entries behind the
+/// first of them are better moved twice than once for each.
 pub(crate) fn is_worth<K, R>(
     pages: &[Page<K, R>],
     hint: Spot,
     spots: &[Spot],
     left: usize,
 ) -> bool {
-    match pages.get(hint.page) {
-        Some(page) if page.len() < FULL => {
+    match page_with_places(pages, hint.page) {
+        Some(page) => {
             let ahead = page.len().saturating_sub(hint.place) / 16 + 2;
             left >= ahead && staged_at(spots, left - ahead).page == staged_at(spots, left - 1).page
         }
-        _ => false,
+        None => false,
     }
 }
 
