@@ -12,13 +12,13 @@ returns-in-Some-Err g c =
     let pages : List (List (g.row.K.Denot × (ℕ × g.row.R.Denot))) = c.args.pages.now in
     let xs : List (g.row.K.Denot × Option g.row.R.Denot) = c.args.changes.now in
     let n : ℕ = c.args.left in
-    let x : g.row.K.Denot × Option g.row.R.Denot = c.index-next.result in
+    let x : g.row.K.Denot × Option g.row.R.Denot = c.index-changes-left.result in
     let i : ℕ = c.in-Some-Err.spot.page in
     let p : ℕ = c.in-Some-Err.spot.place in
     let at : WouldStandAt g.K.Ord.cmp pages x.0 i p = c.in-Some-Err.ensures in
     let some : 0 < length pages = omega arith in
     let es : List (g.row.K.Denot × (ℕ × g.row.R.Denot)) = take (flat pages i p) (entries_of pages) in
-    let parts : take n xs ≡ take (n - 1) xs ++ x ∷ [] = taken_apart xs n x c.requires.some c.requires.left c.index-next.is in
+    let parts : take n xs ≡ take (n - 1) xs ++ x ∷ [] = taken_apart xs n x c.requires.some c.requires.left c.index-changes-left.is in
     let P : List (g.row.K.Denot × Option g.row.R.Denot) → Type 0 = λ l. AllByRecursion (λ (e : g.row.K.Denot × (ℕ × g.row.R.Denot)). AreAbove g.K.Ord.cmp e.0 l) es in
     record {
       inside = (at.falls some).inside;

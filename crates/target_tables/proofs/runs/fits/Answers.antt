@@ -10,7 +10,7 @@ returns-then-entries-gt0 g c = λ h.
     let there : c.entries-entries.result.now ≡ c.args.above.now = c.entries-entries.ensures in
     let size : length c.entries-entries.result.now ≡ length c.args.above.now = ap length there in
     let greatest : g.K.Ord.cmp c.index-entries-entries.result.0 c.args.key.now ≡ Greater =
-    ap (λ (e : g.row.K.Denot × (ℕ × g.row.R.Denot)). g.K.Ord.cmp e.0 c.args.key.now) c.index-entries-entries.is ∙ sym c.order.ensures ∙ only_greater c.order.result (sym c.is_gt.ensures ∙ h) in
+    sym c.order.ensures ∙ only_greater c.order.result (sym c.is_gt.ensures ∙ h) in
     above_read g.met.K.Ord.total c.args.key.now c.args.above.now (entries_of (drop (c.args.page + 1) c.args.list.now)) c.index-entries-entries.result (omega arith)
     (c.index-entries-entries.is ∙ ap (λ (l : List (g.row.K.Denot × (ℕ × g.row.R.Denot))). get_or l (length l - 1) c.index-entries-entries.result) there) c.requires.rising greatest
 
