@@ -1,5 +1,4 @@
-use Rattle.std.proofs.Common.{ℕ, ◌≤◌, List, Option, take, ◌+◌, arith}
-use Rattle.target_tables.specs.Private.Runs.{MergesOn}
+use Rattle.std.proofs.Common.{◌≤◌, take, arith}
 use Rattle.target_tables.proofs.Opening.{merges_none, merges_then}
 use Rattle.target_tables.proofs.runs.put_run.Goals as goal
 

@@ -1,11 +1,10 @@
-use Rattle.std.proofs.Common.{◌≡◌, ℕ, ◌+◌, ◌-◌, ◌^◌, ◌<◌, ◌≤◌, List, [], ◌∷◌, ◌++◌, Option, length, take, drop, get_or, set, reverse, vec_len, refl, sym, ap, subst, ◌∙◌, arith}
-use Rattle.std.proofs.lemmas.List.{get_or_default, length-append, take_at}
+use Rattle.std.proofs.Common.{◌≡◌, ℕ, ◌+◌, ◌^◌, ◌<◌, ◌≤◌, List, [], ◌∷◌, ◌++◌, Option, length, take, drop, set, reverse, vec_len, refl, sym, ap, subst, ◌∙◌, arith}
+use Rattle.std.proofs.lemmas.List.{get_or_default, take_at}
 use Rattle.std.proofs.lemmas.List.Elements.{All-take, All-same, All-push}
 use Rattle.std.specs.List.{All, AllByRecursion}
-use Rattle.std.specs.Ordering.{flip_args}
 use Rattle.std.specs.Vec.{vec_capacity}
 use Rattle.target_tables.specs.Rising.{IsRising, AreAbove}
-use Rattle.target_tables.specs.Pages.{Book, entries_of, page_at, flat, room_of, IsFull, AreFull}
+use Rattle.target_tables.specs.Pages.{Book, entries_of, page_at, flat, room_of, AreFull}
 use Rattle.target_tables.specs.Touches.{new_keys}
 use Rattle.target_tables.specs.Private.Runs.{Leads, IsOpen, MergesOn}
 use Rattle.target_tables.proofs.Falling.{size_at}
