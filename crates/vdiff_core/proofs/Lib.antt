@@ -9,3 +9,4 @@ mod ReadingLaws
 mod DigitValues
 mod SpanLaws
 mod StandLaws
+mod KnownLaws

@@ -4,3 +4,4 @@ pub mod Tables
 pub mod Reading
 pub mod Spans
 pub mod Lent
+pub mod Known

@@ -1,21 +1,24 @@
 //! Reading of dumps.
 
 ghost use Rattle.std.specs.Prelude.{◌≡◌, ◌⊎◌, ℕ, ◌+◌, ◌<◌, ◌≤◌, ◌++◌, IfOk, Ok, Err, length, MatchOption, IfSome, IsErr, IsOk, List};
+ghost use Rattle.std.specs.List.{AllByRecursion};
 ghost use Rattle.filter_rule.specs.PlanValue.{kept_columns_of, table_name};
 ghost use Rattle.pk_copy.specs.KeyOfKept.{key_of_kept};
 ghost use Rattle.vdiff_core.specs.Dump.{table_line};
-ghost use Rattle.vdiff_core.specs.DumpReading.{IsDump, IsFirstBad, NoLineStands, MayHaveRow, AreReadOnce};
+ghost use Rattle.vdiff_core.specs.DumpReading.{FitsPlan, IsDump, IsFirstBad, NoLineStands, MayHaveRow, AreReadOnce, at_front};
 ghost use Rattle.vdiff_core.specs.DumpFaults.{number_of};
 ghost use Rattle.vdiff_core.specs.DumpRowsValue.{DumpRowsValue};
+ghost use Rattle.vdiff_core.specs.Private.Known.{TakesKnown};
 ghost use Rattle.vdiff_core.specs.Private.Reading.{TakesLine, TakesRowLine, NoRowStands};
 
 use crate::line_fault::LineFault;
+use crate::lined_rows::{LinedRows, keep_line};
 use crate::row_cells::{RowCells, take_row};
 use crate::rows::DumpRows;
 use filter_rule::Plan;
-use pk_copy::{Key, key_of_kept};
+use pk_copy::Key;
 use row_view::{RowBuf, RowBytes};
-use std::alloc::Global;
+use std::alloc::{AllocError, Global};
 use std::marker::Model;
 
 /// Why a text isn't read as a dump.
@@ -58,6 +61,72 @@ impl DumpFault {
 }
 
 impl LinesRead {
+    /// No line.
+    fn new(alloc: Global) -> LinesRead
+        ensures { result ≡ at_front }
+    {
+        LinesRead {
+            begun: 0,
+            rows: DumpRows::new(alloc),
+            cells: RowCells::new(alloc),
+            message: Vec::new(alloc),
+        }
+    }
+
+    /// Takes a line off the front as `take_line` does, but doesn't decode it where it is the known one at the place,
+    /// and leaves the place where the next line is looked for among the known ones. Whatever place it is, the same
+    /// is read.
+    fn take_next<'t>(
+        &mut self,
+        alloc: Global,
+        plan: &Plan,
+        known: &LinedRows<'_>,
+        place: &mut usize,
+        text: &'t [u8],
+    ) -> Result<&'t [u8], LineFault>
+        requires { AllByRecursion (FitsPlan plan.now) known.now }
+        ensures taken { IfOk result (λ rest. TakesLine plan.now self.old self.new text.now rest.now) }
+        ensures bad { result ≡ Err LineFault.Bad → NoLineStands plan.now self.old text.now }
+        ensures memory { result ≡ Err LineFault.Memory → 1 ≤ self.old.begun }
+    {
+        if let Some(rest) = self.take_known(alloc, known, *place, text)? {
+            *place = place.wrapping_add(1);
+            return Ok(rest);
+        }
+        let rest = self.take_line(alloc, plan, text)?;
+        *place = known.place_behind(*place, &self.rows);
+        Ok(rest)
+    }
+
+    /// Takes the known line at a place off the front, if it is there and its row can stand there: the row is copied. An
+    /// error is want of memory.
+    fn take_known<'t>(
+        &mut self,
+        alloc: Global,
+        known: &LinedRows<'_>,
+        place: usize,
+        text: &'t [u8],
+    ) -> Result<Option<&'t [u8]>, AllocError>
+        ensures taken { IfOk result (λ taken. MatchOption taken (self.new ≡ self.old) (λ rest. TakesKnown known.now self.old self.new text.now rest.now)) }
+        ensures memory { IsErr result → 1 ≤ self.old.begun }
+    {
+        let Some((key, row, line)) = known.line_at(place) else {
+            return Ok(None);
+        };
+        let Some(rest) = behind(text, line) else {
+            return Ok(None);
+        };
+        if usize::from(key.table()) + 1 != self.begun {
+            return Ok(None);
+        }
+        if !self.rows.is_behind_all(key) {
+            return Ok(None);
+        }
+        let copy = row.try_clone(alloc)?;
+        self.rows.push(key.try_clone(alloc)?, copy)?;
+        Ok(Some(rest))
+    }
+
     /// Takes a line off the front: that of the next table's name, or of a row.
     fn take_line<'t>(
         &mut self,
@@ -114,8 +183,8 @@ fn key_of_row(alloc: Global, plan: &Plan, t: u8, row: &RowBytes<'_>) -> Result<K
     ensures bad { result ≡ Err LineFault.Bad → IsErr (key_of_kept plan.now t row.now) }
     ensures memory { result ≡ Err LineFault.Memory → IsOk (key_of_kept plan.now t row.now) }
 {
-    match key_of_kept(plan, t, &row.view()) {
-        Ok(key) => Ok(Key::from_view(alloc, &key)?),
+    match Key::of_kept(alloc, plan, t, row)? {
+        Ok(key) => Ok(key),
         Err(_) => Err(LineFault::Bad),
     }
 }
@@ -134,17 +203,76 @@ pub fn read_dump(alloc: Global, plan: &Plan, bytes: &[u8]) -> Result<DumpRows, D
     // Memory is wanted for rows alone, which stand behind the name of a table.
     ensures memory { result ≡ Err DumpFault.Memory → MayHaveRow plan.now bytes.now }
 {
-    let mut read = LinesRead {
-        begun: 0,
-        rows: DumpRows::new(alloc),
-        cells: RowCells::new(alloc),
-        message: Vec::new(alloc),
-    };
+    match read_lines(alloc, plan, bytes, &LinedRows::none(alloc), false) {
+        Ok(read) => Ok(read.into_rows()),
+        Err(fault) => Err(fault),
+    }
+}
+
+/// Reads a dump as `read_dump` does, and keeps the text of its rows' lines, so that another dump can be read beside it.
+/// Where there is no memory for a text, it isn't kept, nor is one behind it.
+pub fn read_lined_dump<'t>(
+    alloc: Global,
+    plan: &Plan,
+    bytes: &'t [u8],
+) -> Result<LinedRows<'t>, DumpFault>
+    ensures ok { IfOk result (λ rows. IsDump plan.now rows bytes.now) }
+    ensures only { (rows : DumpRowsValue) → IsDump plan.now rows bytes.now → (result ≡ Ok rows) ⊎ (result ≡ Err DumpFault.Memory) }
+    ensures bad { (n : ℕ) → (result ≡ Err (DumpFault.BadDump n)) → IsFirstBad plan.now bytes.now n }
+    ensures first { (n : ℕ) → IsFirstBad plan.now bytes.now n → (result ≡ Err (DumpFault.BadDump n)) ⊎ (result ≡ Err DumpFault.Memory) }
+    ensures memory { result ≡ Err DumpFault.Memory → MayHaveRow plan.now bytes.now }
+{
+    read_lines(alloc, plan, bytes, &LinedRows::none(alloc), true)
+}
+
+/// Reads a dump as `read_dump` does, beside the rows of another one under the plan: a row whose line stands there as the
+/// same text, behind those found so far, is copied and isn't decoded.
+pub fn read_dump_beside(
+    alloc: Global,
+    plan: &Plan,
+    bytes: &[u8],
+    known: &LinedRows<'_>,
+) -> Result<DumpRows, DumpFault>
+    requires { AllByRecursion (FitsPlan plan.now) known.now }
+    ensures ok { IfOk result (λ rows. IsDump plan.now rows bytes.now) }
+    ensures only { (rows : DumpRowsValue) → IsDump plan.now rows bytes.now → (result ≡ Ok rows) ⊎ (result ≡ Err DumpFault.Memory) }
+    ensures bad { (n : ℕ) → (result ≡ Err (DumpFault.BadDump n)) → IsFirstBad plan.now bytes.now n }
+    ensures first { (n : ℕ) → IsFirstBad plan.now bytes.now n → (result ≡ Err (DumpFault.BadDump n)) ⊎ (result ≡ Err DumpFault.Memory) }
+    ensures memory { result ≡ Err DumpFault.Memory → MayHaveRow plan.now bytes.now }
+{
+    match read_lines(alloc, plan, bytes, known, false) {
+        Ok(read) => Ok(read.into_rows()),
+        Err(fault) => Err(fault),
+    }
+}
+
+/// Reads a dump, beside known rows, and keeps its lines or not.
+fn read_lines<'t>(
+    alloc: Global,
+    plan: &Plan,
+    bytes: &'t [u8],
+    known: &LinedRows<'_>,
+    keeps: bool,
+) -> Result<LinedRows<'t>, DumpFault>
+    requires { AllByRecursion (FitsPlan plan.now) known.now }
+    ensures ok { IfOk result (λ rows. IsDump plan.now rows bytes.now) }
+    ensures only { (rows : DumpRowsValue) → IsDump plan.now rows bytes.now → (result ≡ Ok rows) ⊎ (result ≡ Err DumpFault.Memory) }
+    ensures bad { (n : ℕ) → (result ≡ Err (DumpFault.BadDump n)) → IsFirstBad plan.now bytes.now n }
+    ensures first { (n : ℕ) → IsFirstBad plan.now bytes.now n → (result ≡ Err (DumpFault.BadDump n)) ⊎ (result ≡ Err DumpFault.Memory) }
+    ensures memory { result ≡ Err DumpFault.Memory → MayHaveRow plan.now bytes.now }
+{
+    let mut read = LinesRead::new(alloc);
+    let mut lines = Vec::new(alloc);
+    let mut place = 0;
     let mut rest = bytes;
     let mut line: usize = 1;
     while !rest.is_empty() {
-        match read.take_line(alloc, plan, rest) {
-            Ok(behind) => rest = behind,
+        let count = read.rows.len();
+        match read.take_next(alloc, plan, known, &mut place, rest) {
+            Ok(behind) => {
+                keep_line(&mut lines, keeps, count, &read.rows, rest, behind);
+                rest = behind;
+            }
             Err(LineFault::Bad) => return Err(DumpFault::BadDump { line }),
             Err(LineFault::Memory) => return Err(DumpFault::Memory),
         }
@@ -153,7 +281,7 @@ pub fn read_dump(alloc: Global, plan: &Plan, bytes: &[u8]) -> Result<DumpRows, D
     if read.begun < plan.tables().len() {
         return Err(DumpFault::BadDump { line });
     }
-    Ok(read.rows)
+    Ok(LinedRows::new(read.rows, lines))
 }
 
 /// Each text is read as one thing alone: a dump determines its rows and has no line that can't stand, and in

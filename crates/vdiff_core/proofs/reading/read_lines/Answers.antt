@@ -2,39 +2,46 @@ use Rattle.std.proofs.Common.{◌≡◌, ◌<◌, ◌≤◌, ◌∙◌, ℕ, len
 use Rattle.vdiff_core.specs.declared.reading.DumpFault.TheVariants.{BadDump}
 use Rattle.vdiff_core.specs.DumpReading.{Behind, IsDump, IsFirstBad}
 use Rattle.vdiff_core.specs.DumpRowsValue.{DumpRowsValue}
+use Rattle.vdiff_core.proofs.KnownLaws.{lines_follow, rest_within}
 use Rattle.vdiff_core.proofs.StandLaws.{bad_line, missing_line, read_all, read_more, no_dump, one_bad, dumps_determine, is_zero, is_more}
-use Rattle.vdiff_core.proofs.reading.read_dump.Goals as goal
+use Rattle.vdiff_core.proofs.reading.read_lines.Goals as goal
+
+pub keep_line-requires : goal.keep_line-requires
+keep_line-requires c = rest_within _ _ _ _ _ c.in-Ok.ensures.taken
 
 pub loop-rest-preserved : goal.loop-rest-preserved
-loop-rest-preserved c = read_more _ _ _ _ _ _ _ c.loop-rest.invariant c.in-Ok.ensures.taken
+loop-rest-preserved c = (
+  read_more _ _ _ _ _ _ _ c.loop-rest.invariant.0 c.in-Ok.ensures.taken,
+  lines_follow c.args.plan.now _ _ _ _ _ _ _ c.loop-rest.invariant.1 c.len-count.ensures c.in-Ok.ensures.taken c.keep_line.ensures,
+)
 
 pub returns-in-Err-Bad-clause-only : goal.returns-in-Err-Bad-clause-only
 returns-in-Err-Bad-clause-only c =
-    let bad = bad_line _ _ _ _ _ c.loop-rest.invariant (c.in-Err-Bad.ensures.bad (ap Err c.in-Err-Bad.field-0-is)) (is_more _ _ c.is_empty.ensures c.loop-rest-test.true) in
+    let bad = bad_line _ _ _ _ _ c.loop-rest.invariant.0 (c.in-Err-Bad.ensures.bad (ap Err c.in-Err-Bad.field-0-is)) (is_more _ _ c.is_empty.ensures c.loop-rest-test.true) in
     λ rows dump. absurd (no_dump _ _ _ _ bad dump)
 
 pub returns-in-Err-Bad-clause-bad : goal.returns-in-Err-Bad-clause-bad
 returns-in-Err-Bad-clause-bad c =
-    let bad = bad_line _ _ _ _ _ c.loop-rest.invariant (c.in-Err-Bad.ensures.bad (ap Err c.in-Err-Bad.field-0-is)) (is_more _ _ c.is_empty.ensures c.loop-rest-test.true) in
+    let bad = bad_line _ _ _ _ _ c.loop-rest.invariant.0 (c.in-Err-Bad.ensures.bad (ap Err c.in-Err-Bad.field-0-is)) (is_more _ _ c.is_empty.ensures c.loop-rest-test.true) in
     λ n e.
     let is : c.loop-rest.line ≡ n = cc in
     subst (IsFirstBad c.args.plan.now c.args.bytes.now) is bad
 
 pub returns-in-Err-Bad-clause-first : goal.returns-in-Err-Bad-clause-first
 returns-in-Err-Bad-clause-first c =
-    let bad = bad_line _ _ _ _ _ c.loop-rest.invariant (c.in-Err-Bad.ensures.bad (ap Err c.in-Err-Bad.field-0-is)) (is_more _ _ c.is_empty.ensures c.loop-rest-test.true) in
+    let bad = bad_line _ _ _ _ _ c.loop-rest.invariant.0 (c.in-Err-Bad.ensures.bad (ap Err c.in-Err-Bad.field-0-is)) (is_more _ _ c.is_empty.ensures c.loop-rest-test.true) in
     λ n other. inl (ap (λ (k : ℕ). Err (BadDump k)) (one_bad _ _ _ _ bad other))
 
 pub returns-then-read-tables-clause-only : goal.returns-then-read-tables-clause-only
 returns-then-read-tables-clause-only c =
     let lt : c.loop-rest.read.begun < length c.args.plan.now.tables = omega (arith, c.if-read-tables.true, ap (λ (s : Behind). s.begun) c.read-2.view_is, ap length c.tables.ensures.tables) in
-    let bad = missing_line _ _ _ _ _ c.loop-rest.invariant (is_zero _ _ c.is_empty.ensures c.loop-rest-test.false) lt in
+    let bad = missing_line _ _ _ _ _ c.loop-rest.invariant.0 (is_zero _ _ c.is_empty.ensures c.loop-rest-test.false) lt in
     λ rows dump. absurd (no_dump _ _ _ _ bad dump)
 
 pub returns-then-read-tables-clause-bad : goal.returns-then-read-tables-clause-bad
 returns-then-read-tables-clause-bad c =
     let lt : c.loop-rest.read.begun < length c.args.plan.now.tables = omega (arith, c.if-read-tables.true, ap (λ (s : Behind). s.begun) c.read-2.view_is, ap length c.tables.ensures.tables) in
-    let bad = missing_line _ _ _ _ _ c.loop-rest.invariant (is_zero _ _ c.is_empty.ensures c.loop-rest-test.false) lt in
+    let bad = missing_line _ _ _ _ _ c.loop-rest.invariant.0 (is_zero _ _ c.is_empty.ensures c.loop-rest-test.false) lt in
     λ n e.
     let is : c.loop-rest.line ≡ n = cc in
     subst (IsFirstBad c.args.plan.now c.args.bytes.now) is bad
@@ -42,23 +49,23 @@ returns-then-read-tables-clause-bad c =
 pub returns-then-read-tables-clause-first : goal.returns-then-read-tables-clause-first
 returns-then-read-tables-clause-first c =
     let lt : c.loop-rest.read.begun < length c.args.plan.now.tables = omega (arith, c.if-read-tables.true, ap (λ (s : Behind). s.begun) c.read-2.view_is, ap length c.tables.ensures.tables) in
-    let bad = missing_line _ _ _ _ _ c.loop-rest.invariant (is_zero _ _ c.is_empty.ensures c.loop-rest-test.false) lt in
+    let bad = missing_line _ _ _ _ _ c.loop-rest.invariant.0 (is_zero _ _ c.is_empty.ensures c.loop-rest-test.false) lt in
     λ n other. inl (ap (λ (k : ℕ). Err (BadDump k)) (one_bad _ _ _ _ bad other))
 
 pub returns-clause-ok : goal.returns-clause-ok
 returns-clause-ok c =
     let all : length c.args.plan.now.tables ≤ c.loop-rest.read.begun = omega (arith, c.if-read-tables.false, ap (λ (s : Behind). s.begun) c.read-2.view_is, ap length c.tables.ensures.tables) in
-    let dump = read_all _ _ _ _ _ c.loop-rest.invariant (is_zero _ _ c.is_empty.ensures c.loop-rest-test.false) all in
+    let dump = read_all _ _ _ _ _ c.loop-rest.invariant.0 (is_zero _ _ c.is_empty.ensures c.loop-rest-test.false) all in
     subst (λ (rows : DumpRowsValue). IsDump c.args.plan.now rows c.args.bytes.now) (sym (ap (λ (s : Behind). s.rows) c.read-2.view_is)) dump
 
 pub returns-clause-only : goal.returns-clause-only
 returns-clause-only c =
     let all : length c.args.plan.now.tables ≤ c.loop-rest.read.begun = omega (arith, c.if-read-tables.false, ap (λ (s : Behind). s.begun) c.read-2.view_is, ap length c.tables.ensures.tables) in
-    let dump = read_all _ _ _ _ _ c.loop-rest.invariant (is_zero _ _ c.is_empty.ensures c.loop-rest-test.false) all in
+    let dump = read_all _ _ _ _ _ c.loop-rest.invariant.0 (is_zero _ _ c.is_empty.ensures c.loop-rest-test.false) all in
     λ rows other. inl (ap Ok (ap (λ (s : Behind). s.rows) c.read-2.view_is ∙ dumps_determine _ _ _ _ dump other))
 
 pub returns-clause-first : goal.returns-clause-first
 returns-clause-first c =
     let all : length c.args.plan.now.tables ≤ c.loop-rest.read.begun = omega (arith, c.if-read-tables.false, ap (λ (s : Behind). s.begun) c.read-2.view_is, ap length c.tables.ensures.tables) in
-    let dump = read_all _ _ _ _ _ c.loop-rest.invariant (is_zero _ _ c.is_empty.ensures c.loop-rest-test.false) all in
+    let dump = read_all _ _ _ _ _ c.loop-rest.invariant.0 (is_zero _ _ c.is_empty.ensures c.loop-rest-test.false) all in
     λ n bad. absurd (no_dump _ _ _ _ bad dump)

@@ -1,9 +1,0 @@
-use Rattle.std.proofs.Common.{length}
-use Rattle.vdiff_core.specs.Private.Reading.{IsReadSoFar}
-use Rattle.vdiff_core.proofs.reading.read_dump.Given as goal
-
-abbrev pub invariant-loop-rest : goal.invariant-loop-rest
-invariant-loop-rest l = IsReadSoFar l.fn.plan l.fn.bytes l.read l.rest l.line
-
-abbrev pub decreases-loop-rest : goal.decreases-loop-rest
-decreases-loop-rest l = length l.rest
