@@ -13,8 +13,8 @@ use filter_rule::{Plan, Table};
 use pk_copy::Key;
 use std::alloc::Global;
 use vdiff_core::{
-    DumpRows, Gathered, Out, OutFailed, Report, compare, first_difference, read_dump,
-    texts_are_read_once,
+    DumpRows, Gathered, Out, OutFailed, Report, compare, first_difference, read_dump_beside,
+    read_lined_dump, texts_are_read_once,
 };
 
 /// How two dumps compare.
@@ -65,9 +65,9 @@ fn print_vdiff<W: Out>(
 {
     let plans = Plan::read_all(alloc, workflow)?;
     let plan = &plans[0];
-    let source = read_dump(alloc, plan, source)?;
-    let target = read_dump(alloc, plan, target)?;
-    let verdict = print_comparison(out, plan, &source, &target)?;
+    let source = read_lined_dump(alloc, plan, source)?;
+    let target = read_dump_beside(alloc, plan, target, &source)?;
+    let verdict = print_comparison(out, plan, source.rows(), &target)?;
     Ok(verdict)
 }
 

@@ -1,18 +1,19 @@
 //! The subcommand `vdiff` with options.
 
 ghost use Rattle.std.specs.Prelude.{◌≡◌, ◌≢◌, IfErr, IfOk};
+ghost use Rattle.std.specs.List.{AllByRecursion};
 ghost use Rattle.vrepl_vdiff.specs.Shown.{IsShownAs};
 ghost use Rattle.vrepl_vdiff.specs.Told.{IsTold, ShownEnds};
 ghost use Rattle.vrepl_vdiff.specs.ToldValue.{error_text};
 ghost use Rattle.vrepl_vdiff.specs.Reading.{IsNamedBad};
-ghost use Rattle.vdiff_core.specs.DumpReading.{IsDump};
+ghost use Rattle.vdiff_core.specs.DumpReading.{FitsPlan, IsDump};
 
 use crate::inputs::{Dump, VdiffInputs};
 use crate::showing::{print_shown, verdict_of};
 use crate::told::{Told, refuse_told, told_of, told_of_workflow};
 use filter_rule::Plan;
 use std::alloc::Global;
-use vdiff_core::{DumpRows, Out, read_dump};
+use vdiff_core::{DumpRows, LinedRows, Out, read_dump_beside, read_lined_dump};
 use vrepl_choices::ReportForm;
 use vrepl_main::Verdict;
 
@@ -47,22 +48,46 @@ fn show_vdiff<W: Out>(alloc: Global, inputs: &VdiffInputs<'_>, out: &mut W) -> R
     };
     let plan = &plans[0];
     let ours = read_named(alloc, inputs.options.report_form, plan, &inputs.source)?;
-    let theirs = read_named(alloc, inputs.options.report_form, plan, &inputs.target)?;
-    print_shown(alloc, &inputs.options, plan, &ours, &theirs, out)?;
-    Ok(verdict_of(&ours, &theirs))
+    let theirs = read_beside(
+        alloc,
+        inputs.options.report_form,
+        plan,
+        &inputs.target,
+        &ours,
+    )?;
+    print_shown(alloc, &inputs.options, plan, ours.rows(), &theirs, out)?;
+    Ok(verdict_of(ours.rows(), &theirs))
 }
 
-/// The rows of a dump, or what is told of it.
-fn read_named(
+/// The rows of a dump with their lines, or what is told of it.
+fn read_named<'d>(
+    alloc: Global,
+    form: ReportForm,
+    plan: &Plan,
+    dump: &'d Dump<'_>,
+) -> Result<LinedRows<'d>, Told>
+    ensures read { IfOk result (λ rows. IsDump plan.now rows dump.now.text) }
+    ensures refused { IfErr result (λ told. IsNamedBad form plan.now dump.now told) }
+{
+    match read_lined_dump(alloc, plan, &dump.text) {
+        Ok(rows) => Ok(rows),
+        Err(fault) => Err(told_of(alloc, form, dump.name, fault)),
+    }
+}
+
+/// The rows of a dump, which is read beside another one, or what is told of it.
+fn read_beside(
     alloc: Global,
     form: ReportForm,
     plan: &Plan,
     dump: &Dump<'_>,
+    known: &LinedRows<'_>,
 ) -> Result<DumpRows, Told>
+    requires { AllByRecursion (FitsPlan plan.now) known.now }
     ensures read { IfOk result (λ rows. IsDump plan.now rows dump.now.text) }
     ensures refused { IfErr result (λ told. IsNamedBad form plan.now dump.now told) }
 {
-    match read_dump(alloc, plan, &dump.text) {
+    match read_dump_beside(alloc, plan, &dump.text, known) {
         Ok(rows) => Ok(rows),
         Err(fault) => Err(told_of(alloc, form, dump.name, fault)),
     }

@@ -12,6 +12,9 @@ returns-in_err-plans-clause-refused g c =
     let p = err_from_is_err_and c.from_residual.result c.from_residual.ensures.1 in
     rw (p.1, p.2) (refuses_workflow c.in_err-plans.field-0.0 c.args.workflow.now c.args.source.now c.args.target.now _ c.in_err-plans.ensures.reads)
 
+pub read_dump_beside-requires : goal.read_dump_beside-requires
+read_dump_beside-requires g c = rw c.deref-2.ensures (rw c.deref.ensures at c.in_ok-source.ensures.ok).rows_of_plan.each_row
+
 pub returns-in_err-source-clause-refused : goal.returns-in_err-source-clause-refused
 returns-in_err-source-clause-refused g c =
     let plan = arc_value c.index-plan.result.now in
@@ -38,7 +41,7 @@ returns-in_err-verdict-clause-refused g c =
       target_read = rw c.deref-2.ensures at c.in_ok-target.ensures.ok;
     } in
     let p = err_from_is_err_and c.from_residual-in_err-verdict.result c.from_residual-in_err-verdict.ensures.1 in
-    rw p.1 (unwritten_comparison c.args.workflow.now c.args.source.now c.args.target.now compared p.0 _ _ dumps (rw c.deref-3.ensures at c.in_err-verdict.ensures) p.2)
+    rw p.1 (unwritten_comparison c.args.workflow.now c.args.source.now c.args.target.now compared p.0 _ _ dumps (rw (c.deref-3.ensures, c.rows.ensures) at c.in_err-verdict.ensures) p.2)
 
 pub returns-clause-compared : goal.returns-clause-compared
 returns-clause-compared g c =
@@ -51,4 +54,4 @@ returns-clause-compared g c =
       source_read = rw c.deref.ensures at c.in_ok-source.ensures.ok;
       target_read = rw c.deref-2.ensures at c.in_ok-target.ensures.ok;
     } in
-    (compared, dumps, rw c.deref-3.ensures at c.in_ok-verdict.ensures)
+    (compared, dumps, rw (c.deref-3.ensures, c.rows.ensures) at c.in_ok-verdict.ensures)

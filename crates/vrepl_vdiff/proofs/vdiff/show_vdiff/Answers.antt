@@ -12,6 +12,9 @@ pub returns-in-Err-clause-refused : goal.returns-in-Err-clause-refused
 returns-in-Err-clause-refused g c =
     rw (c.told_of_workflow.ensures.0, c.told_of_workflow.ensures.1) (told_workflow c.args.inputs.now c.in-Err.fault _ _ refl (rw c.deref.ensures.value at c.in-Err.ensures.reads))
 
+pub read_beside-requires : goal.read_beside-requires
+read_beside-requires g c = rw c.deref-3.ensures (rw c.deref-2.ensures at c.in_ok-ours.ensures.read).rows_of_plan.each_row
+
 pub returns-in_err-ours-clause-refused : goal.returns-in_err-ours-clause-refused
 returns-in_err-ours-clause-refused g c =
     let plan = arc_value c.index-plan.result.now in
@@ -40,7 +43,7 @@ returns-in_err-print_shown-clause-refused g c =
       target_read = rw c.deref-3.ensures at c.in_ok-theirs.ensures.read;
     } in
     let p = err_from_is_err_and c.from_residual-in_err-print_shown.result c.from_residual-in_err-print_shown.ensures.1 in
-    rw (p.1, p.2.0, p.2.1) (told_shown c.args.inputs.now compared c.in_err-print_shown.field-0.0 _ _ _ dumps (rw c.deref-4.ensures at c.in_err-print_shown.ensures) refl)
+    rw (p.1, p.2.0, p.2.1) (told_shown c.args.inputs.now compared c.in_err-print_shown.field-0.0 _ _ _ dumps (rw (c.deref-4.ensures, c.rows.ensures) at c.in_err-print_shown.ensures) refl)
 
 pub returns-clause-shown : goal.returns-clause-shown
 returns-clause-shown g c =
@@ -53,5 +56,5 @@ returns-clause-shown g c =
       source_read = rw c.deref-2.ensures at c.in_ok-ours.ensures.read;
       target_read = rw c.deref-3.ensures at c.in_ok-theirs.ensures.read;
     } in
-    let printed = rw c.deref-4.ensures at c.in_ok-print_shown.ensures in
-    record { compared = compared; dumps = dumps; is_verdict = c.verdict_of.ensures; text = printed.0; shown = printed.1; printed = printed.2 }
+    let printed = rw (c.deref-4.ensures, c.rows.ensures) at c.in_ok-print_shown.ensures in
+    record { compared = compared; dumps = dumps; is_verdict = rw c.rows-2.ensures at c.verdict_of.ensures; text = printed.0; shown = printed.1; printed = printed.2 }
