@@ -10,3 +10,4 @@ mod DigitValues
 mod SpanLaws
 mod StandLaws
 mod KnownLaws
+mod PairLaws

@@ -1,12 +1,12 @@
 //! The columns of a row's line in a dump.
 
-ghost use Rattle.std.specs.Prelude.{◌≡◌, ◌-◌, ◌<◌, ◌≤◌, ◌+◌, ℕ, List, [], take, MatchOption, IfSome, IfOk, IfErr, OnOk, Some, None, Ok, Err, length, map};
+ghost use Rattle.std.specs.Prelude.{◌≡◌, ◌-◌, ◌<◌, ◌≤◌, ◌+◌, ℕ, List, [], take, IfSome, IfOk, IfErr, OnOk, Some, None, Ok, Err, length, map};
 ghost use Rattle.std.specs.Option.{option_map};
 ghost use Rattle.row_view.specs.ColumnValue.{column_value};
 ghost use Rattle.row_view.specs.Row.{row_of_message};
 ghost use Rattle.row_view.specs.WrittenRow.{IsWithinLimits};
 ghost use Rattle.vdiff_core.specs.DumpRowsValue.{RowValue};
-ghost use Rattle.vdiff_core.specs.Private.Reading.{digit_of, pair_front, bytes_front, with_bytes, cell_front, behind_byte, cells_front, row_front, TakesCell, TakesCells, TakesMessage, NoRowIn};
+ghost use Rattle.vdiff_core.specs.Private.Reading.{digit_of, pair_of, pair_front, bytes_front, with_bytes, cell_front, behind_byte, cells_front, row_front, TakesCell, TakesCells, TakesMessage, NoRowIn};
 ghost use Rattle.vdiff_core.specs.Private.Spans.{bytes_at, columns_at, EndsWithin, AreWithin};
 
 use crate::line_fault::LineFault;
@@ -228,28 +228,24 @@ fn take_piece<'t>(room: &mut [u8], text: &'t [u8]) -> (usize, &'t [u8])
     ensures all { result.0 < length room.old → pair_front result.1.now ≡ None }
     ensures parts { length result.1.now + result.0 ≤ length text.now }
 {
-    let mut rest = text;
-    for i in 0..room.len() {
-        let Some((byte, behind)) = pair_in_front(rest) else {
-            return (i, rest);
+    let count = room.len().min(text.len() / 2);
+    for i in 0..count {
+        let Some(byte) = pair_value(text[2 * i], text[2 * i + 1]) else {
+            return (i, text.split_at(2 * i).1);
         };
         room[i] = byte;
-        rest = behind;
     }
-    (room.len(), rest)
+    (count, text.split_at(2 * count).1)
 }
 
-/// The byte of a pair of digits in front, and what stands behind them.
+/// The byte that a pair of digits spells.
 #[inline(always)]
-fn pair_in_front(text: &[u8]) -> Option<(u8, &[u8])>
-    ensures pair { MatchOption result (pair_front text.now ≡ None) (λ pair. pair_front text.now ≡ Some (pair.0, pair.1.now)) }
-    ensures shorter { IfSome result (λ pair. length pair.1.now < length text.now) }
+fn pair_value(first: u8, second: u8) -> Option<u8>
+    ensures { result ≡ pair_of (digit_of first) (digit_of second) }
 {
-    let (first, others) = text.split_first()?;
-    let (second, behind) = others.split_first()?;
-    let high = digit_value(*first)?;
-    let low = digit_value(*second)?;
-    Some((high * 16 + low, behind))
+    let high = digit_value(first)?;
+    let low = digit_value(second)?;
+    Some(high * 16 + low)
 }
 
 /// The value of a digit in lower case, below 16.

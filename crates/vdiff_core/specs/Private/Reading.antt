@@ -30,6 +30,10 @@ bytes_front (high ∷ low ∷ rest) = with_pair (digit_of high) (digit_of low) (
 abbrev pub with_bytes : List ℕ → List ℕ × List ℕ → List ℕ × List ℕ
 with_bytes bytes front = (bytes ++ front.0, front.1)
 
+-- the byte that a pair of digits spells
+abbrev pub pair_of : Option ℕ → Option ℕ → Option ℕ
+pair_of high low = option_and_then (λ h. option_map (λ l. h * 16 + l) low) high
+
 -- the byte of a pair of digits in front, and what stands behind them
 abbrev pub pair_front : List ℕ → Option (ℕ × List ℕ)
 pair_front [] = None
