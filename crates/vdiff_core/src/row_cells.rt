@@ -10,12 +10,16 @@ ghost use Rattle.vdiff_core.specs.Private.Reading.{digit_of, pair_of, pair_front
 ghost use Rattle.vdiff_core.specs.Private.Spans.{bytes_at, columns_at, EndsWithin, AreWithin};
 
 use crate::line_fault::LineFault;
+use arrayvec::ArrayVec;
 use row_view::{Column, ROW_BYTES, ROW_COLUMNS, rows_are_read_again, write_columns};
 use std::alloc::{AllocError, Global};
 use std::marker::Model;
 
 /// The most bytes that are read at once.
 const PIECE: usize = 64;
+
+/// The most columns that are lent in place.
+const FEW: usize = 8;
 
 /// The value of each character as a digit in lower case, 16 where it is none.
 static DIGITS: [u8; 256] =
@@ -110,10 +114,26 @@ impl RowCells {
         ensures row { OnOk result ((row_of_message message.new.items ≡ Ok self.now) × IsWithinLimits self.now) }
         ensures bad { result ≡ Err LineFault.Bad → IsWithinLimits self.now → ⊥ }
     {
+        if self.spans.len() <= FEW {
+            let few = few_columns_of(&self.values, &self.spans);
+            return write_row(message, few.as_slice());
+        }
         let columns = columns_of(alloc, &self.values, &self.spans)?;
-        write_row(message, &columns)?;
-        Ok(())
+        write_row(message, &columns)
     }
+}
+
+/// The columns of a few spans of these values, lent, without memory.
+fn few_columns_of<'c>(values: &'c [u8], spans: &[Option<Span>]) -> ArrayVec<Column<'c>, FEW>
+    requires within { AreWithin (length values.now) spans.now }
+    requires few { length spans.now ≤ FEW }
+    ensures { map column_value result.items ≡ columns_at values.now spans.now }
+{
+    let mut columns = ArrayVec::new();
+    for span in spans {
+        columns.push(column_of(values, span));
+    }
+    columns
 }
 
 /// The columns of spans of these values, lent.
