@@ -3,7 +3,7 @@ use Rattle.std.proofs.Common.{◌≡◌, ℕ, zero, suc, ◌+◌, ◌-◌, Bool,
 use Rattle.std.proofs.lemmas.List.{length-map, take-append-drop, take-take}
 use Rattle.std.proofs.lemmas.Option.{slice_get-map, same_Some, get_or_from_slice_get}
 use Rattle.std.specs.List.{AllByRecursion, filter, take-map}
-use Rattle.std.specs.Prelude.{IsTrue, IfSome, nat_le}
+use Rattle.std.specs.Prelude.{Err, IsTrue, IfSome, IsSomeAnd, MatchOption, nat_le}
 use Rattle.std.specs.Option.{option_map, option_map_or}
 use Rattle.filter_rule.specs.PlanValue.{PlanValue}
 use Rattle.pk_copy.specs.KeyOrder.{key_cmp}
@@ -15,7 +15,8 @@ use Rattle.target_tables.specs.Touches.{last_at}
 use Rattle.source_feed.specs.History.{RowValue, kept_of}
 use Rattle.source_feed.specs.Image.{ImageRows, row_in, lent_row}
 use Rattle.board_laws.specs.declared.answer.Copied.{Copied}
-use Rattle.board_laws.specs.Meaning.{State}
+use Rattle.board_laws.specs.declared.refusal.Refusal.TheVariants.{NoStream, Memory}
+use Rattle.board_laws.specs.Meaning.{State, Meaning}
 use Rattle.board_laws.specs.Lawful.{IsSoundState}
 use Rattle.board_laws.specs.Event.{copy_rows}
 use Rattle.board_laws.specs.Chunk.{rows_left, rows_taken, takes_all, marks_behind}
@@ -23,12 +24,13 @@ use Rattle.board_laws.specs.KeptRows.{passed_rows, kept_row}
 use Rattle.board_laws.specs.StateAfter.{state_after}
 use Rattle.board_laws.specs.Touching.{touch_of, put_by}
 use Rattle.board_laws.specs.Allowed.{IsAllowed}
+use Rattle.board_laws.specs.Step.{IsRefusedFor, IsStep}
 use Rattle.board_laws.specs.Laws.{StatesStaySound, OneMoreTells}
 use Rattle.board_laws.proofs.KeptRowList.{lookup-kept}
 use Rattle.board_laws.proofs.Lookups.{Ties, rising-left}
 use Rattle.board_laws.proofs.Chunks.{left-rising, last-past}
 use Rattle.board_laws.proofs.RowsUnder.{IsRowUnder, passed-under}
-use Rattle.apply_core.specs.Chunks.{last_key_of, IsMoveOf, IsTakenChunk, IsChunkFor}
+use Rattle.apply_core.specs.Private.Chunks.{last_key_of, IsMoveOf, IsTakenChunk, IsChunkFor}
 use Rattle.apply_core.specs.Private.Changes.{IsOfTable}
 use Rattle.apply_core.specs.Private.StreamState.{IsStream, IsStreamAt}
 use Rattle.apply_core.specs.Private.StreamStep.{MayMake, ArePutsOf}
@@ -207,5 +209,15 @@ module _ (items streams : List State) (is : items ≡ streams) (s c : ℕ) (take
     left = subst (λ (o : Option State). IfSome o (λ state. (key : KeyValue) → last_at key_cmp taken.puts.items key ≡ touch_of state (copy_rows c) key)) (sym there) h.chunk.puts;
   }
 
+  -- a copy of the marks that are then, of the stream that there is
+  pub chunk_marks : (marks : Marks) → IfSome (slice_get items s) (λ state. marks ≡ (state_after state (copy_rows c)).marks) → IsSomeAnd (slice_get items s) (λ state. marks ≡ (state_after state (copy_rows c)).marks)
+  chunk_marks marks h =
+      subst (λ (o : Option State). IsSomeAnd o (λ state. marks ≡ (state_after state (copy_rows c)).marks)) (sym there)
+      (subst (λ (o : Option State). IfSome o (λ state. marks ≡ (state_after state (copy_rows c)).marks)) there h)
+
   pub chunk_moves : IfSome (slice_get items s) (λ state. IsMoveOf state c taken.step)
   chunk_moves = subst (λ (o : Option State). IfSome o (λ state. IsMoveOf state c taken.step)) (sym there) h.chunk.step
+
+-- one that may be copied, and wants memory
+pub chunk_wants : (old : Meaning) (s c : ℕ) (chunk : Chunk) → IsChunkFor old.streams s c chunk → IsStep old s (copy_rows c) (Err Memory) old
+chunk_wants old s c chunk h = (subst (λ (o : Option State). MatchOption o (Memory ≡ NoStream) (λ state. IsRefusedFor old s state (copy_rows c) Memory)) (sym h.stream) (h.allowed, refl), refl)

@@ -44,13 +44,19 @@ module _ (streams : List State) (s : ℕ) (d : State) (inside : s < length strea
   )
 
   -- the stream's own step is a step on the streams
-  pub own-step : (event : Event) (result : Result Answer Refusal) (new : State) → IsOwnStep x event result new → IsStreamStep streams s event result (set streams s new)
+  own-step : (event : Event) (result : Result Answer Refusal) (new : State) → IsOwnStep x event result new → IsStreamStep streams s event result (set streams s new)
   own-step event (Ok answer) new h = makes event answer new h.allowed h.answered h.left
   own-step event (Err refusal) new h = refuses event refusal new h.0 h.1
 
-module _ (streams : List State) (s : ℕ) (state : State) (inside : s < length streams) (is : state ≡ get_or streams s state) where
-  there : slice_get streams s ≡ Some state
-  there = slice_get-get_or streams s state inside ∙ ap (λ (x : State). Some x) (sym is)
+-- the same of a stream at a place that is its number
+pub step-at : (streams : List State) (place s : ℕ) (d : State) → place ≡ s → place < length streams → (event : Event) (result : Result Answer Refusal) (new : State)
+    → IsOwnStep (get_or streams place d) event result new → IsStreamStep streams s event result (set streams place new)
+step-at streams place s d is inside event result new h =
+    subst (λ (n : ℕ). IsStreamStep streams n event result (set streams place new)) is (own-step streams place d inside event result new h)
+
+module _ (streams : List State) (s : ℕ) (state : State) (there : slice_get streams s ≡ Some state) where
+  is : state ≡ get_or streams s state
+  is = sym (get_or_from_slice_get streams s state state there)
 
   -- a step that is made, and leaves the stream as it was
   makes-still : (event : Event) (answer : Answer) → IsAllowed state event → answer ≡ answer_to state event → state ≡ state_after state event → MakesStep streams s event answer streams

@@ -1,7 +1,6 @@
 pub mod Fresh
 pub mod Feeds
 pub mod Schedules
-pub mod Chunks
 pub mod Putting
 pub mod Private
 pub mod Shown

@@ -1,5 +1,6 @@
 -- What serves the crate's own code alone.
 pub mod Changes
+pub mod Chunks
 pub mod StreamState
 pub mod StreamStep
 pub mod Beside

@@ -19,7 +19,7 @@ ghost use Rattle.apply_core.specs.Private.StreamStep.{MayMake, MakesStep, IsMove
 use crate::board::Board;
 use crate::clashing::refusal_by;
 use crate::puts::Puts;
-use crate::stream::Stream;
+use crate::stream::{Stream, stream_of};
 use board_laws::{Refusal, steps_keep_boards_lawful};
 use pk_copy::Key;
 use row_view::RowBuf;
@@ -57,10 +57,7 @@ fn puts_of_next_on(alloc: Global, streams: &[Stream<'_>], s: u8) -> Result<Puts,
     ensures puts { IfOk result (λ puts. ArePutsOf streams.now s advance puts.changes.items) }
     ensures refused { IfErr result (IsRefusedAlone streams.now s advance) }
 {
-    if s as usize >= streams.len() {
-        return Err(Refusal::NoStream);
-    }
-    let stream = &streams[s as usize];
+    let stream = stream_of(streams, s)?;
     stream.judge(Step::Advance)?;
     let puts = stream.puts_of_next(alloc)?;
     Ok(puts)
@@ -73,10 +70,8 @@ fn judge_advance(streams: &[Stream<'_>], s: u8) -> Result<Move, Refusal>
     ensures made { IfOk result (IsMoveFor streams.now s Advance) }
     ensures refused { IfErr result (IsRefusedAlone streams.now s advance) }
 {
-    if s as usize >= streams.len() {
-        return Err(Refusal::NoStream);
-    }
-    let made = streams[s as usize].judge(Step::Advance)?;
+    let stream = stream_of(streams, s)?;
+    let made = stream.judge(Step::Advance)?;
     Ok(made)
 }
 

@@ -7,12 +7,12 @@ ghost use Rattle.board_laws.specs.StateAfter.{state_after};
 ghost use Rattle.board_laws.specs.Allowed.{IsAllowed};
 ghost use Rattle.board_laws.specs.declared.refusal.Refusal.TheVariants.{NoStream};
 ghost use Rattle.board_laws.specs.Step.{answered, IsRefusedOn, IsStep};
-ghost use Rattle.apply_core.specs.Chunks.{IsMoveOf, IsChunkFor};
+ghost use Rattle.apply_core.specs.Private.Chunks.{IsMoveOf, IsChunkFor};
 ghost use Rattle.apply_core.specs.Private.StreamStep.{MayMake, MakesStep, IsRefusedAlone};
 
 use crate::board::Board;
 use crate::clashing::refusal_by;
-use crate::stream::Stream;
+use crate::stream::{Stream, stream_of};
 use crate::taking::{Chunk, MarkMove};
 use board_laws::{Copied, Refusal, steps_keep_boards_lawful};
 use pk_copy::{CopyState, Key, keys_tie_where_they_are_equal};
@@ -107,10 +107,7 @@ fn chunk_on(alloc: Global, streams: &[Stream<'_>], s: u8, c: u32) -> Result<Chun
     ensures chunk { IfOk result (IsChunkFor streams.now s c) }
     ensures refused { IfErr result (IsRefusedAlone streams.now s (copy_rows c)) }
 {
-    if s as usize >= streams.len() {
-        return Err(Refusal::NoStream);
-    }
-    let stream = &streams[s as usize];
+    let stream = stream_of(streams, s)?;
     stream.judge(Step::CopyRows(c))?;
     let chunk = stream.take_chunk(alloc, c)?;
     Ok(chunk)
@@ -143,9 +140,28 @@ impl<'h> Board<'h> {
         Ok(copied)
     }
 
+    /// The same, with a copy of the marks that the stream then has, made before the target is touched. With them comes
+    /// what the rows replaced, to be dropped.
+    pub fn copy_with_marks(
+        &mut self,
+        alloc: Global,
+        s: u8,
+        c: u32,
+    ) -> Result<(Copied, CopyState, Freed<Key, RowBuf>), Refusal>
+        ensures step { IsStep self.old s (copy_rows c) (answered (λ made. answers.Answer.Copied made.0) result) self.new }
+        ensures marks { IfOk result (λ made. IsSomeAnd (slice_get self.old.streams s) (λ state. made.1 ≡ (state_after state (copy_rows c)).marks)) }
+    {
+        let chunk = self.next_chunk(alloc, s, c)?;
+        let Ok(marks) = self.marks_behind(alloc, s, c, &chunk) else {
+            return Err(Refusal::Memory);
+        };
+        let (copied, freed) = self.copy_by(alloc, s, c, chunk)?;
+        Ok((copied, marks, freed))
+    }
+
     /// The next chunk of stream `s`, of up to `c` rows, in memory of its own. Refused as `copy_chunk` is, a
     /// row of another stream aside.
-    pub fn next_chunk(&self, alloc: Global, s: u8, c: u32) -> Result<Chunk, Refusal>
+    fn next_chunk(&self, alloc: Global, s: u8, c: u32) -> Result<Chunk, Refusal>
         ensures chunk { IfOk result (IsChunkFor self.now.streams s c) }
         ensures refused { IfErr result (IsRefusedOn self.now s (copy_rows c)) }
     {
@@ -154,7 +170,7 @@ impl<'h> Board<'h> {
 
     /// A copy of the marks that stream `s` has once the chunk is copied. That it is the stream's next chunk
     /// is the caller's. An error is want of memory.
-    pub fn marks_behind(
+    fn marks_behind(
         &self,
         alloc: Global,
         s: u8,
@@ -172,7 +188,7 @@ impl<'h> Board<'h> {
     /// The same as `copy_chunk` with a chunk that was taken before. That it is the stream's next chunk is the
     /// caller's. Refused 71 where a row is due where a row of another stream stands. Takes memory for new
     /// rows' places alone. With what was copied comes what the step replaced, to be dropped.
-    pub fn copy_by(
+    fn copy_by(
         &mut self,
         alloc: Global,
         s: u8,

@@ -41,4 +41,3 @@ pub use puts::Puts;
 pub use resuming::resume;
 pub use saving::save;
 pub use schedule::{fed_board, run_schedule};
-pub use taking::{Chunk, MarkMove};

@@ -16,7 +16,7 @@ ghost use Rattle.board_laws.specs.Step.{answered, IsStep};
 ghost use Rattle.apply_core.specs.Private.StreamStep.{TakesOffer, IsOwnStep, IsStreamStep, RefusesByItself};
 
 use crate::board::Board;
-use crate::stream::Stream;
+use crate::stream::{Stream, place_of, stream_of};
 use board_laws::{Offered, Refusal, kept_rows_are_one_list, steps_keep_boards_lawful};
 use source_feed::Prepared;
 use std::alloc::{AllocError, Global};
@@ -39,8 +39,8 @@ impl<'h> Stream<'h> {
         match self.list.last() {
             None => true,
             Some(last) => {
-                last.position().is_within(group.position())
-                    && !group.position().is_within(last.position())
+                let (last, next) = (last.position(), group.position());
+                last.is_within(next) && !next.is_within(last)
             }
         }
     }
@@ -141,10 +141,8 @@ fn offer_to<'h>(
 ) -> Result<Offered, Refusal>
     ensures { IsStreamStep streams.old s (offer (arc_value group.entry)) (answered answers.Answer.Offered result) streams.new }
 {
-    if s as usize >= streams.len() {
-        return Err(Refusal::NoStream);
-    }
-    let stream = &mut streams[s as usize];
+    let place = place_of(streams, s)?;
+    let stream = &mut streams[place];
     stream.offer(group)
 }
 
@@ -152,10 +150,7 @@ fn offer_to<'h>(
 fn judge_offer_to(streams: &[Stream<'_>], s: u8, group: &Prepared<'_>) -> Result<Offered, Refusal>
     ensures { IsStreamStep streams.now s (offer group.now) (answered answers.Answer.Offered result) streams.now }
 {
-    if s as usize >= streams.len() {
-        return Err(Refusal::NoStream);
-    }
-    let stream = &streams[s as usize];
+    let stream = stream_of(streams, s)?;
     stream.judge_offer(group)
 }
 

@@ -107,9 +107,10 @@ fn lent_changes<'g, 'h>(
 {
     let mut changes = Vec::new(alloc);
     for touch in touches {
-        if is_inside(marks, touch.key()) {
+        let key = touch.key();
+        if is_inside(marks, key) {
             room_with_first(&mut changes, touches.len())?;
-            changes.push((touch.key(), passing_row(touch)))?;
+            changes.push((key, passing_row(touch)))?;
         }
     }
     Ok(changes)

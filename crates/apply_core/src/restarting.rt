@@ -6,7 +6,7 @@ ghost use Rattle.board_laws.specs.Step.{answered, IsStep};
 ghost use Rattle.apply_core.specs.Private.StreamStep.{IsOwnStep, IsStreamStep};
 
 use crate::board::Board;
-use crate::stream::Stream;
+use crate::stream::{Stream, place_of};
 use board_laws::{Refusal, steps_keep_boards_lawful};
 use stream_core::Step;
 
@@ -30,10 +30,8 @@ impl<'h> Stream<'h> {
 fn restart_on(streams: &mut [Stream<'_>], s: u8) -> Result<u32, Refusal>
     ensures { IsStreamStep streams.old s restart (answered answers.Answer.Restarted result) streams.new }
 {
-    if s as usize >= streams.len() {
-        return Err(Refusal::NoStream);
-    }
-    let stream = &mut streams[s as usize];
+    let place = place_of(streams, s)?;
+    let stream = &mut streams[place];
     stream.restart()
 }
 

@@ -7,7 +7,7 @@ ghost use Rattle.apply_core.specs.Private.StreamStep.{IsOwnStep, IsStreamStep};
 
 use crate::board::Board;
 use crate::bringing::bring;
-use crate::stream::Stream;
+use crate::stream::{Stream, place_of};
 use board_laws::{Refusal, steps_keep_boards_lawful};
 use std::alloc::Global;
 use stream_core::Step;
@@ -40,10 +40,8 @@ impl<'h> Stream<'h> {
 fn open_on(alloc: Global, streams: &mut [Stream<'_>], s: u8, group: u32) -> Result<(), Refusal>
     ensures { IsStreamStep streams.old s (open_at group) (answered (λ _. answers.Answer.Opened group) result) streams.new }
 {
-    if s as usize >= streams.len() {
-        return Err(Refusal::NoStream);
-    }
-    let stream = &mut streams[s as usize];
+    let place = place_of(streams, s)?;
+    let stream = &mut streams[place];
     stream.open_at(alloc, group)
 }
 
@@ -51,10 +49,8 @@ fn open_on(alloc: Global, streams: &mut [Stream<'_>], s: u8, group: u32) -> Resu
 fn close_on(streams: &mut [Stream<'_>], s: u8) -> Result<(), Refusal>
     ensures { IsStreamStep streams.old s close (answered (λ _. answers.Answer.Closed) result) streams.new }
 {
-    if s as usize >= streams.len() {
-        return Err(Refusal::NoStream);
-    }
-    let stream = &mut streams[s as usize];
+    let place = place_of(streams, s)?;
+    let stream = &mut streams[place];
     stream.close()
 }
 

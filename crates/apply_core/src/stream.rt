@@ -1,10 +1,13 @@
 //! One stream of a board.
 
-ghost use Rattle.std.specs.Prelude.{◌≡◌, None, map, IsOk, Err, IfOk, MatchResult};
+ghost use Rattle.std.specs.Prelude.{◌≡◌, ◌<◌, None, Some, map, length, slice_get, IsOk, Err, IfOk, IfErr, MatchResult};
 ghost use Rattle.std.specs.Arc.{arc_value};
 ghost use Rattle.stream_core.specs.StepTable.{row_of, decided};
+ghost use Rattle.board_laws.specs.Event.{Event};
 ghost use Rattle.board_laws.specs.Lawful.{start_of, standing_of, IsSoundState};
+ghost use Rattle.apply_core.specs.Private.StreamStep.{IsRefusedAlone};
 
+use board_laws::Refusal;
 use filter_rule::Plan;
 use pk_copy::CopyState;
 use source_feed::{Image, Prepared};
@@ -96,4 +99,25 @@ impl<'h> Stream<'h> {
         let made = decide(&self.cursor, step)?;
         Ok(made)
     }
+}
+
+/// Stream `s` of these. Refused 115 where there is none. Takes no memory.
+pub(crate) fn stream_of<'s, 'h>(streams: &'s [Stream<'h>], s: u8) -> Result<&'s Stream<'h>, Refusal>
+    ensures stream { IfOk result (λ stream. slice_get streams.now s ≡ Some stream.now) }
+    ensures refused { IfErr result (λ refusal. (event : Event) → IsRefusedAlone streams.now s event refusal) }
+{
+    match streams.get(s as usize) {
+        None => Err(Refusal::NoStream),
+        Some(stream) => Ok(stream),
+    }
+}
+
+/// The place of stream `s` among these. Refused 115 where there is none. Takes no memory.
+pub(crate) fn place_of(streams: &[Stream<'_>], s: u8) -> Result<usize, Refusal>
+    ensures place { IfOk result (λ place. place ≡ s) }
+    ensures within { IfOk result (λ place. place < length streams.now) }
+    ensures refused { IfErr result (λ refusal. (event : Event) → IsRefusedAlone streams.now s event refusal) }
+{
+    stream_of(streams, s)?;
+    Ok(s as usize)
 }

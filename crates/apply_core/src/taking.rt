@@ -5,7 +5,7 @@ ghost use Rattle.source_feed.specs.Image.{lent_row};
 ghost use Rattle.board_laws.specs.Allowed.{IsAllowed};
 ghost use Rattle.board_laws.specs.Chunk.{rows_left};
 ghost use Rattle.board_laws.specs.Event.{copy_rows};
-ghost use Rattle.apply_core.specs.Chunks.{last_key_of, IsTakenChunk};
+ghost use Rattle.apply_core.specs.Private.Chunks.{last_key_of, IsTakenChunk};
 
 use crate::puts::puts_of_rows;
 use crate::stream::Stream;
@@ -16,20 +16,20 @@ use std::alloc::{AllocError, Global};
 
 /// A chunk in memory of its own, before its rows are put into the target.
 #[derive(Drop)]
-pub struct Chunk {
+pub(crate) struct Chunk {
     /// the rows as they are put
-    pub puts: Vec<(Key, Option<RowBuf>)>,
+    pub(crate) puts: Vec<(Key, Option<RowBuf>)>,
     /// how the mark moves
-    pub step: MarkMove,
+    pub(crate) step: MarkMove,
 }
 
 /// How a chunk moves the mark of its table.
 #[derive(Drop)]
-pub struct MarkMove {
+pub(crate) struct MarkMove {
     /// how many rows the chunk has, and whether the table is then done
-    pub copied: Copied,
+    pub(crate) copied: Copied,
     /// the last row's key
-    pub last: Option<Key>,
+    pub(crate) last: Option<Key>,
 }
 
 /// The key up to which the first table that isn't done is copied, if there is one.

@@ -4,7 +4,7 @@ use crate::alike::are_alike;
 use crate::feeds::Change;
 use crate::setup::{ONE, board_behind, made};
 use crate::shown::shows;
-use apply_core::{Board, Chunk, Copied};
+use apply_core::{Board, Copied};
 use pk_copy::{Key, KeyPart, Mark};
 use std::alloc::Global;
 use std::test::*;
@@ -72,31 +72,17 @@ fn is_copied_in_two(alloc: Global, board: &mut Board<'_>) -> bool {
         && matches!(board.mark(0, 0), Ok(Mark::Done))
 }
 
-/// Whether a chunk is the first one.
-fn is_first(chunk: &Chunk) -> bool {
-    let ends = match &chunk.step.last {
-        Some(key) => has_number(key, 2),
-        None => false,
-    };
-    ends && chunk.puts.len() == 2 && chunk.step.copied == FIRST
-}
-
-/// Whether the first chunk is taken, moves the mark as it should, and is then put.
-fn is_put_as_taken(alloc: Global, board: &mut Board<'_>) -> bool {
-    let Ok(chunk) = board.next_chunk(alloc, 0, 2) else {
+/// Whether the first chunk is copied, and hands back the marks that are then.
+fn tells_marks(alloc: Global, board: &mut Board<'_>) -> bool {
+    let Ok((copied, marks, _)) = board.copy_with_marks(alloc, 0, 2) else {
         return false;
     };
-    let Ok(marks) = board.marks_behind(alloc, 0, 2, &chunk) else {
-        return false;
-    };
-    is_first(&chunk)
-        && is_up_to(marks.mark(0), 2)
-        && matches!(board.copy_by(alloc, 0, 2, chunk), Ok((copied, _)) if copied == FIRST)
+    copied == FIRST && is_up_to(marks.mark(0), 2)
 }
 
-/// Whether the board is the same behind the first chunk, taken and put, as where it is copied at once.
+/// Whether the board is the same behind the first chunk with its marks as behind the chunk alone.
 fn are_put_alike<'h>(alloc: Global, board: &mut Board<'h>, other: &mut Board<'h>) -> bool {
-    is_put_as_taken(alloc, board)
+    tells_marks(alloc, board)
         && copies(alloc, other, FIRST)
         && are_alike(alloc, board, other)
         && is_copied_further(alloc, board)

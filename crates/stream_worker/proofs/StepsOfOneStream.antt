@@ -30,9 +30,7 @@ use Rattle.board_laws.specs.declared.answer.Answer.TheVariants.{Applied}
 use Rattle.board_laws.specs.Cut.{own_row}
 use Rattle.board_laws.specs.Touching.{left_by, passed_by, touch_of}
 use Rattle.board_laws.specs.Step.{IsMade, IsRefusedFor, IsRefusedOn, IsStep}
-use Rattle.apply_core.specs.Chunks.{IsChunkFor}
 use Rattle.apply_core.specs.Putting.{DoAsStep}
-use Rattle.apply_core.specs.declared.taking.Chunk.{Chunk}
 use Rattle.stream_worker.specs.Knowing.{Laid, names}
 use Rattle.stream_worker.specs.Rule.{StateGoesOn, AllGoOn, IsOwnChange}
 use Rattle.stream_worker.specs.Outlines.{IsNextOf}
@@ -262,9 +260,3 @@ pub advance_wants : (old : Meaning) (now : Laid) (given s : ℕ) (cursor : Stand
     → IsOk (decided cursor Advance) → IsBoardStep now s advance (Err Memory) now
 advance_wants old now given s cursor is lawful numbers allowed =
     advance_refused old now given s cursor Memory is lawful numbers (λ state same. (record { plan = tt; place = tt; table = subst (λ (x : Standing). IsOk (decided x Advance)) (sym same) allowed }, refl))
-
--- ---- a chunk
-
--- one that may be copied, and wants memory
-pub chunk_wants : (old : Meaning) (s c : ℕ) (chunk : Chunk) → IsChunkFor old.streams s c chunk → IsStep old s (copy_rows c) (Err Memory) old
-chunk_wants old s c chunk h = (subst (λ (o : Option State). MatchOption o (Memory ≡ NoStream) (λ state. IsRefusedFor old s state (copy_rows c) Memory)) (sym h.stream) (h.allowed, refl), refl)

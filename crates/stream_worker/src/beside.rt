@@ -9,7 +9,7 @@ use crate::run_refusal::RunRefusal;
 use crate::seat::Seat;
 use crate::seat_run::{Ran, RunContext};
 use crate::working::work;
-use feed_readers::{Named, OfFeed, Reading, WorkerEnd, read_ahead, reader_ends};
+use feed_readers::{OfFeed, Reading, WorkerEnd, read_ahead, reader_ends};
 use source_feed::Feed;
 use std::sync::Wait;
 use std::thread;
@@ -20,9 +20,10 @@ use std::thread::Threads;
 struct Working<'a, 'h, F: OfFeed, R, G> {
     run: &'a RunContext<'a, 'h, R, G>,
     seat: Seat<'h>,
-    feed: Named<'a, 'h, F>,
+    feed: &'a Feed<'h>,
     end: WorkerEnd<'h, F>,
     ghost at_board: { IsSeatOf run.now.shared.now seat },
+    ghost of_feed: { feed.now ≡ F.feed },
 }
 
 /// A seat's stream runs to the feed's end, and then its end of the channel is given up.
@@ -38,14 +39,7 @@ fn work_behind<'a, 'h, F: OfFeed + 'h, R: Wait, G: Gate>(
         mut end,
     } = working;
     let (_, refusal) = work(
-        run.rt,
-        run.alloc,
-        run.shared,
-        &mut seat,
-        feed.feed(),
-        run.policy,
-        run.gate,
-        &mut end,
+        run.rt, run.alloc, run.shared, &mut seat, feed, run.policy, run.gate, &mut end,
     );
     drop(end);
     Ran { seat, refusal }
@@ -84,18 +78,17 @@ pub(crate) fn beside_reader<
             refusal: Some(RunRefusal::Memory),
         },
         Ok((reader, worker)) => {
-            let of_reader = Named::new(feed);
             let reading = Reading {
                 rt: run.rt,
                 alloc: run.alloc,
-                feed: of_reader,
+                feed,
                 read: seat.read(),
                 end: reader,
             };
             let working = Working {
                 run,
                 seat,
-                feed: Named::new(feed),
+                feed,
                 end: worker,
             };
             run_both(reading, working)

@@ -1,6 +1,6 @@
 //! The six calls of a board that a seat makes while it holds it.
 
-ghost use Rattle.std.specs.Prelude.{◌≡◌, ℕ, Option, IsSome, IsSomeAnd, IfOk, ⊤, slice_get};
+ghost use Rattle.std.specs.Prelude.{◌≡◌, ℕ, Option, IsSomeAnd, IfOk, ⊤, slice_get};
 ghost use Rattle.std.specs.Arc.{arc_value};
 ghost use Rattle.board_laws.specs.declared.answer.Answer.{Answer};
 ghost use Rattle.board_laws.specs.declared.answer.Answer as answers;
@@ -151,7 +151,7 @@ impl<'h> BoardCall<'h> for CopyRows {
 
     ghost answer = { λ _ made. answers.Answer.Copied made.0 };
 
-    ghost ready = { λ _ before. IsSome before };
+    ghost ready = { λ _ _. ⊤ };
 
     ghost gives = { λ call _ before made _. IsSomeAnd before (λ state. made.1 ≡ (state_after state (copy_rows call.rows)).marks) };
 
@@ -160,19 +160,7 @@ impl<'h> BoardCall<'h> for CopyRows {
         board: &mut Board<'h>,
         s: u8,
     ) -> Result<(Copied, CopyState, Freed<Key, RowBuf>), Refusal> {
-        let CopyRows { alloc, rows } = self;
-        let chunk = match board.next_chunk(alloc, s, rows) {
-            Err(refusal) => return Err(refusal),
-            Ok(chunk) => chunk,
-        };
-        let Ok(marks) = board.marks_behind(alloc, s, rows, &chunk) else {
-            return Err(Refusal::Memory);
-        };
-        let result = board.copy_by(alloc, s, rows, chunk);
-        match result {
-            Err(refusal) => Err(refusal),
-            Ok((copied, freed)) => Ok((copied, marks, freed)),
-        }
+        board.copy_with_marks(self.alloc, s, self.rows)
     }
 }
 

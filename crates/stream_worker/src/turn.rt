@@ -15,6 +15,7 @@ use crate::ready::Ready;
 use crate::receipt::Receipt;
 use crate::seat::Seat;
 use crate::shared::Shared;
+use crate::working::know_feed;
 use apply_core::Refusal;
 use pk_copy::Key;
 use row_view::RowBuf;
@@ -61,7 +62,7 @@ impl<'h> Deal<'h> {
         ensures kept { KeepsOutlines s self.old readies.entry.items self.new }
         ensures refused { StreamIs self.old s (ReadsFeed feed.now) → IfErr result (EndsByItsBoard feed.now (knows_left s self.new) s) }
     {
-        let _plan = feed.plan();
+        know_feed(feed);
         for ready in readies {
             let (receipt, replaced) = self.take_in(alloc, s, ready)?;
             receipts.push_reserved(receipt);

@@ -3,6 +3,7 @@
 ghost use Rattle.std.specs.Prelude.{◌≡◌, ◌+◌, ◌≤◌, true, false, Ok, Err, IfOk, IfSome, IfNone, IfErr, length};
 ghost use Rattle.stream_core.specs.declared.step.Step as steps;
 ghost use Rattle.stream_core.specs.Standing.{IsSound};
+ghost use Rattle.source_feed.specs.Planned.{IsFeed};
 ghost use Rattle.stream_worker.specs.SeatOf.{known, IsSeatOf, IsSeatFor, SawNoOther};
 ghost use Rattle.stream_worker.specs.Worked.{Follows, HasCome, EndsSeat, AreReceipts, GoesOn};
 ghost use Rattle.stream_worker.specs.Private.SeatSteps.{IsSeatReply, AreBehind, EndsSeatStep};
@@ -35,6 +36,13 @@ struct Bench<'a, 'h, R, G> {
     feed: &'a Feed<'h>,
     policy: &'a Policy,
     gate: &'a G,
+}
+
+/// What is true of every feed, as that it has fewer than 2^31 groups: a fact for contracts. Takes no memory.
+pub(crate) fn know_feed(feed: &Feed<'_>)
+    ensures { IsFeed feed.now }
+{
+    feed.plan();
 }
 
 /// Group `number` of the feed is taken of those that stand ready, or prepared, the gate is told of it, and it is
@@ -94,7 +102,7 @@ fn turn_end(feed: &Feed<'_>, number: u32) -> u32
     requires { number ≤ length feed.now.groups }
     ensures { result ≤ length feed.now.groups + 1 }
 {
-    let _plan = feed.plan();
+    know_feed(feed);
     let behind = feed.len() as u32 + 1;
     if behind - number < TURN {
         behind
@@ -174,7 +182,7 @@ fn take_in<'a, 'h, R: Wait, G: Gate, A: Ahead<'h>>(
     ensures goes { IfOk result (λ went. went ≡ true) }
     ensures refused { Follows bench.now.feed.now seat.old → IfErr result (EndsSeat bench.now.feed.now seat.new) }
 {
-    let _plan = bench.feed.plan();
+    know_feed(bench.feed);
     let readies = match ready_groups(bench, seat, ahead, number) {
         Ok(readies) => readies,
         Err(refusal) => return Err(ended_by(bench.feed, seat, refusal)),
@@ -295,7 +303,7 @@ fn go_on<'a, 'h, R: Wait, G: Gate, A: Ahead<'h>>(
     ensures ended { Follows bench.now.feed.now seat.old → result ≡ Ok false → HasCome bench.now.feed.now seat.new }
     ensures refused { Follows bench.now.feed.now seat.old → IfErr result (EndsSeat bench.now.feed.now seat.new) }
 {
-    let _plan = bench.feed.plan();
+    know_feed(bench.feed);
     let groups = bench.feed.len() as u32;
     is_sound(&seat.cursor);
     if seat.cursor.read() > groups {

@@ -133,6 +133,12 @@ pub then_adds : {X E : Type 0} (result : Result X E) (old : Written) (waited : L
 then_adds (Ok x) old waited now waiting new waits text more first second = added_more old waited now waiting new waits text more first second
 then_adds (Err fault) old waited now waiting new waits text more first second = added_breaks old waited now waiting new text more first second
 
+-- the last part of what is left is added
+pub adding_last : {X E : Type 0} (result : Result X E) (old : Written) (waited : List ℕ) (now : Written) (waiting : List ℕ) (new : Written) (waits text left last : List ℕ) → left ≡ last
+    → IsAddedTo old waited now waiting text left → Adds result now waiting new waits last → Adds result old waited new waits text
+adding_last result old waited now waiting new waits text left last is before second =
+    subst (Adds result old waited new waits) (sym (before.parts ∙ ap (λ l. before.done ++ l) is)) (then_adds result old waited now waiting new waits before.done last before.added second)
+
 -- what is printed where nothing waits is added there
 pub prints_adds : {X E : Type 0} (result : Result X E) (old new : Written) (text : List ℕ) → Prints result old new text → Adds result old [] new [] text
 prints_adds (Ok x) old new text printed = record { gone = text; parts = sym (append-nil text); written = printed }

@@ -8,7 +8,7 @@ ghost use Rattle.vdiff_core.specs.Printing.{Prints, Adds};
 ghost use Rattle.vdiff_core.specs.Private.Tables.{AreFrom, behind_table};
 ghost use Rattle.vdiff_core.specs.DumpRowsValue.{all_rows};
 
-use crate::cells::{add_cell, add_cells};
+use crate::cells::add_cell;
 use crate::gathered::Gathered;
 use crate::lent_rows::{Later, LentRows};
 use crate::rows::DumpRows;
@@ -96,19 +96,14 @@ fn add_table_line<O: Out>(out: &mut O, text: &mut Gathered, name: &str) -> Resul
 }
 
 /// Adds the line of a row.
-fn add_row<O: Out>(
-    out: &mut O,
-    text: &mut Gathered,
-    mut columns: Columns<'_>,
-) -> Result<(), OutFailed>
+fn add_row<O: Out>(out: &mut O, text: &mut Gathered, columns: Columns<'_>) -> Result<(), OutFailed>
     ensures { Adds result (O.written out.old) text.old (O.written out.new) text.new (row_line columns.entry) }
 {
-    match columns.next() {
-        None => text.put(out, b"\n"),
-        Some(first) => {
-            add_cell(out, text, &first)?;
-            add_cells(out, text, columns)?;
-            text.put(out, b"\n")
-        }
+    let mut parting: &[u8] = b"";
+    for column in columns {
+        text.put(out, parting)?;
+        add_cell(out, text, &column)?;
+        parting = b"\t";
     }
+    text.put(out, b"\n")
 }

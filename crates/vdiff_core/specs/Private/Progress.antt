@@ -1,5 +1,6 @@
 -- How far a text is written.
-use Rattle.std.specs.Prelude.{◌≡◌, ℕ, List, ◌++◌}
+use Rattle.std.specs.Prelude.{◌≡◌, ℕ, List, [], ◌∷◌, ◌++◌, Option}
+use Rattle.vdiff_core.specs.Cells.{cell, cells}
 use Rattle.vdiff_core.specs.Printing.{Written, IsWritten, IsAdded}
 
 -- a part of the text was written, and this rest of it is left
@@ -13,3 +14,8 @@ pub record IsAddedTo (old : Written) (waited : List ℕ) (new : Written) (waits 
   pub done : List ℕ
   pub parts : text ≡ done ++ rest
   pub added : IsAdded old waited new waits done
+
+-- the cells of a row that are left, of which this parts the first from those before
+abbrev pub cells_left : List ℕ → List (Option (List ℕ)) → List ℕ
+cells_left parting [] = []
+cells_left parting (column ∷ others) = parting ++ cell column ++ cells others

@@ -1,5 +1,5 @@
-use Rattle.apply_core.proofs.StepLaws.{own-step}
+use Rattle.apply_core.proofs.StepLaws.{step-at}
 use Rattle.apply_core.proofs.snapshots.close_on.Goals as goal
 
 pub returns : goal.returns
-returns c = own-step _ _ c.index-streams-s.result c.if-s-streams.false _ _ _ c.close.ensures
+returns c = step-at _ c.in_ok-place.place _ c.index-streams-place.result c.in_ok-place.ensures.place c.in_ok-place.ensures.within _ _ _ c.close.ensures

@@ -6,5 +6,5 @@ use Rattle.stream_worker.proofs.working.take_in.Goals as goal
 pub returns-in-Err-clause-refused : goal.returns-in-Err-clause-refused
 returns-in-Err-clause-refused g c = λ follows.
     c.ended_by.ensures
-    (sits-refused c.args.bench.now.feed.now c.args.seat.now (Offer c.args.number) c.args.seat.now refl c.plan-plan.ensures.whole follows 0 0
+    (sits-refused c.args.bench.now.feed.now c.args.seat.now (Offer c.args.number) c.args.seat.now refl c.know_feed.ensures follows 0 0
     (c.requires.leads.number, c.requires.leads.within, c.requires.leads.closed, refl) c.in-Err.refusal c.in-Err.ensures.refused)

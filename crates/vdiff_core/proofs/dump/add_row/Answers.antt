@@ -1,23 +1,55 @@
-use Rattle.std.proofs.Common.{◌++◌, [], ◌∷◌, List, ℕ, Option}
+use Rattle.std.proofs.Common.{◌≡◌, ◌++◌, [], ◌∷◌, List, ℕ, Option, refl, sym, ap, ◌∙◌, append_assoc}
+use Rattle.std.proofs.lemmas.List.Concat.{flat_map-cons}
 use Rattle.std.proofs.lemmas.Result.{err_from_is_err_and}
 use Rattle.row_view.specs.ColumnValue.{column_value}
 use Rattle.vdiff_core.specs.Cells.{cell, cells}
-use Rattle.vdiff_core.proofs.PrintLaws.{adding_breaks, added_breaks, added_more, then_adds}
+use Rattle.vdiff_core.specs.Dump.{row_line}
+use Rattle.vdiff_core.specs.Private.Progress.{cells_left}
+use Rattle.vdiff_core.proofs.PrintLaws.{adding_breaks, added_breaks, added_more, adding_starts, adding_moves, adding_stops, adding_last}
 use Rattle.vdiff_core.proofs.dump.add_row.Goals as goal
 
-pub returns-in_err-add_cell-in-Some : goal.returns-in_err-add_cell-in-Some
-returns-in_err-add_cell-in-Some g c =
-    let value : Option (List ℕ) = column_value c.in-Some.first in
+-- nothing parts the first cell of a line
+whole_line : (columns : List (Option (List ℕ))) → row_line columns ≡ cells_left [] columns ++ 10 ∷ []
+whole_line [] = refl
+whole_line (column ∷ others) = sym (append_assoc (cell column) (cells others) (10 ∷ []))
+
+-- a tab parts every other
+behind_tabs : (columns : List (Option (List ℕ))) → cells columns ≡ cells_left (9 ∷ []) columns
+behind_tabs [] = refl
+behind_tabs (column ∷ others) = flat_map-cons (λ column. 9 ∷ cell column) column others
+
+-- the first cell of what is left
+first_cell : (parting : List ℕ) (left rest : List (Option (List ℕ))) (value : Option (List ℕ)) → left ≡ value ∷ rest
+    → cells_left parting left ++ 10 ∷ [] ≡ (parting ++ cell value) ++ (cells_left (9 ∷ []) rest ++ 10 ∷ [])
+first_cell parting left rest value is =
+    ap (λ (columns : List (Option (List ℕ))). cells_left parting columns ++ 10 ∷ []) is
+    ∙ ap (λ l. l ++ 10 ∷ []) (sym (append_assoc parting (cell value) (cells rest)))
+    ∙ append_assoc (parting ++ cell value) (cells rest) (10 ∷ [])
+    ∙ ap (λ l. (parting ++ cell value) ++ (l ++ 10 ∷ [])) (behind_tabs rest)
+
+pub loop-column-init : goal.loop-column-init
+loop-column-init g c = rw (c.into_iter-column-iterator.ensures.into_iter_gives, ← whole_line c.args.columns) (adding_starts _ _ _)
+
+pub returns-in_err-put : goal.returns-in_err-put
+returns-in_err-put g c =
+    let value : Option (List ℕ) = column_value c.in-Some.column in
+    let parts = first_cell c.loop-column.parting c.loop-column.column-iterator c.next.new.self value c.in-Some.ensures.steps in
     let p = err_from_is_err_and c.from_residual.result c.from_residual.ensures.1 in
-    rw (p.1, c.in-Some.ensures.steps) (adding_breaks _ _ c.args.text.now (cell value ++ cells c.next.new.self) (10 ∷ []) (adding_breaks _ _ c.args.text.now (cell value) (cells c.next.new.self) c.in_err-add_cell-in-Some.ensures))
+    rw p.1 (adding_stops _ _ _ _ _ _ _ _ _ parts c.loop-column.invariant (adding_breaks _ _ c.loop-column.text c.loop-column.parting (cell value) c.in_err-put.ensures))
 
-pub returns-in_err-add_cells-in-Some : goal.returns-in_err-add_cells-in-Some
-returns-in_err-add_cells-in-Some g c =
-    let value : Option (List ℕ) = column_value c.in-Some.first in
-    let p = err_from_is_err_and c.from_residual-in_err-add_cells-in-Some.result c.from_residual-in_err-add_cells-in-Some.ensures.1 in
-    rw (p.1, c.in-Some.ensures.steps) (adding_breaks _ _ c.args.text.now (cell value ++ cells c.next.new.self) (10 ∷ []) (added_breaks _ _ _ _ _ (cell value) (cells c.next.new.self) c.in_ok-add_cell-in-Some.ensures c.in_err-add_cells-in-Some.ensures))
+pub loop-column-preserved : goal.loop-column-preserved
+loop-column-preserved g c =
+    let value : Option (List ℕ) = column_value c.in-Some.column in
+    let parts = first_cell c.loop-column.parting c.loop-column.column-iterator c.next.new.self value c.in-Some.ensures.steps in
+    adding_moves _ _ _ _ _ _ _ _ _ _ parts c.loop-column.invariant (added_more _ _ _ _ _ _ c.loop-column.parting (cell value) c.in_ok-put.ensures c.in_ok-add_cell.ensures)
 
-pub returns-in_ok-add_cells-in-Some : goal.returns-in_ok-add_cells-in-Some
-returns-in_ok-add_cells-in-Some g c =
-    let value : Option (List ℕ) = column_value c.in-Some.first in
-    rw c.in-Some.ensures.steps (then_adds c.put-in-Some.result _ _ _ _ _ _ (cell value ++ cells c.next.new.self) (10 ∷ []) (added_more _ _ _ _ _ _ (cell value) (cells c.next.new.self) c.in_ok-add_cell-in-Some.ensures c.in_ok-add_cells-in-Some.ensures) c.put-in-Some.ensures)
+pub returns-in_err-add_cell : goal.returns-in_err-add_cell
+returns-in_err-add_cell g c =
+    let value : Option (List ℕ) = column_value c.in-Some.column in
+    let parts = first_cell c.loop-column.parting c.loop-column.column-iterator c.next.new.self value c.in-Some.ensures.steps in
+    let p = err_from_is_err_and c.from_residual-in_err-add_cell.result c.from_residual-in_err-add_cell.ensures.1 in
+    rw p.1 (adding_stops _ _ _ _ _ _ _ _ _ parts c.loop-column.invariant (added_breaks _ _ _ _ _ c.loop-column.parting (cell value) c.in_ok-put.ensures c.in_err-add_cell.ensures))
+
+pub returns : goal.returns
+returns g c =
+    adding_last c.put-2.result _ _ _ _ _ _ _ _ (ap (λ (columns : List (Option (List ℕ))). cells_left c.loop-column.parting columns ++ 10 ∷ []) c.in_default.ensures.1) c.loop-column.invariant c.put-2.ensures
