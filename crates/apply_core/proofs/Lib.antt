@@ -21,3 +21,10 @@ pub mod FirstRowsLaws
 pub mod ReadLaws
 pub mod AfterSaveLaws
 pub mod AfterAddingLaws
+pub mod PhasesTellNumbers
+pub mod EndedBoardsHaveUnions
+pub mod StepsComeNearer
+pub mod CourseStepsAreAllowed
+pub mod StreamsStillRead
+pub mod CourseStepsOfBoards
+pub mod StreamsThatStandSo

@@ -2,6 +2,9 @@ pub mod Fresh
 pub mod Feeds
 pub mod Schedules
 pub mod Putting
+pub mod Courses
+pub mod Ended
+pub mod RunRefused
 pub mod Private
 pub mod Shown
 pub mod Resuming

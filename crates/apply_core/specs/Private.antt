@@ -9,3 +9,4 @@ pub mod Together
 pub mod Saving
 pub mod Resuming
 pub mod Adding
+pub mod AllowedSteps

@@ -3,12 +3,11 @@
 use crate::feeds::{Change, NO_NUMBER, Source};
 use crate::setup::{ONE, OTHER_TABLE, TWO, feeds_of, made, plans_of};
 use crate::shown::{Stand, shows, stands};
-use apply_core::Board;
+use apply_core::{Board, Policy, RunRefusal, run_alone};
 use source_feed::Feed;
 use std::alloc::Global;
 use std::test::*;
 use stream_core::Phase;
-use stream_worker::{Policy, RunRefusal, run_alone};
 
 /// Three groups: two new rows; one changed and one new; one that goes.
 const ROWS: &[&[Change]] = &[

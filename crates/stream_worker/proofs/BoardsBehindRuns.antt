@@ -7,9 +7,9 @@ use Rattle.board_laws.specs.Lawful.{IsLawful}
 use Rattle.stream_worker.specs.declared.seat.Seat.{Seat}
 use Rattle.stream_worker.specs.declared.shared.Shared.{Shared}
 use Rattle.stream_worker.specs.declared.seat_run.Ran.{Ran}
-use Rattle.stream_worker.specs.declared.run_refusal.RunRefusal.{RunRefusal}
-use Rattle.stream_worker.specs.Ended.{IsFedBoard, AllHaveEnded}
-use Rattle.stream_worker.specs.RunRefused.{EndsRun, IsLowest}
+use Rattle.apply_core.specs.declared.run_refusal.RunRefusal.{RunRefusal}
+use Rattle.apply_core.specs.Ended.{IsFedBoard, AllHaveEnded}
+use Rattle.apply_core.specs.RunRefused.{EndsRun, IsLowest}
 use Rattle.stream_worker.specs.SeatOf.{AreApartSeats, AreStatesOf, AllGoOnFromSeen, SawAsMany, IsOpened}
 use Rattle.stream_worker.specs.Private.SeatRuns.{AreRan, first_refusal}
 use Rattle.stream_worker.proofs.PassesTakeSeats.{apart_in_order}

@@ -29,15 +29,15 @@ use Rattle.board_laws.specs.Runs.{IsTouchedIn}
 use Rattle.board_laws.specs.Schedule.{Reply, IsUnprepared}
 use Rattle.stream_worker.specs.Knowing.{Laid, Knows, SawStreams, state_seen}
 use Rattle.stream_worker.specs.Rule.{IsSaid}
-use Rattle.stream_worker.specs.RunRefused.{IsFirstUnsoundGroup}
+use Rattle.apply_core.specs.RunRefused.{IsFirstUnsoundGroup}
 use Rattle.stream_worker.specs.Seats.{IsSeatStep}
-use Rattle.stream_worker.specs.Private.Courses.{LeadsOn}
+use Rattle.apply_core.specs.Courses.{LeadsOn}
 use Rattle.stream_worker.specs.Worked.{MeetsRow}
 use Rattle.stream_worker.specs.Private.SeatSteps.{IsSeatEvent, IsSeatReply, EndsByItsBoard, EndsSeatStep}
 use Rattle.stream_worker.proofs.StepsOfOneStream.{step_changes}
 use Rattle.stream_worker.proofs.SeatsTakeAndPut.{own_as_seen}
-use Rattle.stream_worker.proofs.CourseStepsAreAllowed.{plus_one, first-unsound, Hinders, none-alone, allowed-on}
-use Rattle.stream_worker.proofs.StreamsStillRead.{cut_front, read_touched, IsInTheWay, in_the_way, reads-on}
+use Rattle.apply_core.proofs.CourseStepsAreAllowed.{plus_one, first-unsound, Hinders, none-alone, allowed-on}
+use Rattle.apply_core.proofs.StreamsStillRead.{cut_front, read_touched, IsInTheWay, in_the_way, reads-on}
 
 -- ---- a step of a seat
 

@@ -9,13 +9,6 @@ pub mod ReadGroupsAreAnswered
 pub mod SeatsAreClaimed
 pub mod PassesTakeSeats
 pub mod CallsKeepGroups
-pub mod PhasesTellNumbers
-pub mod EndedBoardsHaveUnions
-pub mod StepsComeNearer
-pub mod CourseStepsAreAllowed
-pub mod StreamsStillRead
-pub mod CourseStepsOfBoards
-pub mod StreamsThatStandSo
 pub mod CourseStepsOfSeats
 pub mod ReceiptsFollowSteps
 pub mod SeatsGoOn

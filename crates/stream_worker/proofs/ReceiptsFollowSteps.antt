@@ -17,9 +17,9 @@ use Rattle.board_laws.specs.Runs.{event_of_step}
 use Rattle.stream_worker.specs.declared.receipt.Receipt.{Receipt}
 use Rattle.stream_worker.specs.Seats.{IsReceiptOf}
 use Rattle.stream_worker.specs.Worked.{IsReceiptBehind, AreReceiptsSince}
-use Rattle.stream_worker.specs.Private.Courses.{LeadsOn}
+use Rattle.apply_core.specs.Courses.{LeadsOn}
 use Rattle.stream_worker.proofs.SeatsAreClaimed.{each_pushed}
-use Rattle.stream_worker.proofs.CourseStepsAreAllowed.{of_offer}
+use Rattle.apply_core.proofs.CourseStepsAreAllowed.{of_offer}
 
 -- ---- how far a stream comes by a step
 

@@ -16,18 +16,18 @@ use Rattle.board_laws.specs.Runs.{IsTouchedIn}
 use Rattle.stream_worker.specs.declared.seat.Seat.{Seat}
 use Rattle.stream_worker.specs.declared.shared.Shared.{Shared}
 use Rattle.stream_worker.specs.declared.seat_run.Ran.{Ran}
-use Rattle.stream_worker.specs.declared.run_refusal.RunRefusal.{RunRefusal}
-use Rattle.stream_worker.specs.declared.run_refusal.RunRefusal.TheVariants.{FeedCount, WrongPlan, Unsound, OwnedByOther, Memory}
-use Rattle.stream_worker.specs.Ended.{HasEnded, IsFedBoard, AllHaveEnded}
+use Rattle.apply_core.specs.declared.run_refusal.RunRefusal.{RunRefusal}
+use Rattle.apply_core.specs.declared.run_refusal.RunRefusal.TheVariants.{FeedCount, WrongPlan, Unsound, OwnedByOther, Memory}
+use Rattle.apply_core.specs.Ended.{HasEnded, IsFedBoard, AllHaveEnded}
 use Rattle.stream_worker.specs.Knowing.{Laid}
 use Rattle.stream_worker.specs.Rule.{StateGoesOn}
-use Rattle.stream_worker.specs.RunRefused.{BothTouch, EndsRun, IsLowest, refused_stream}
+use Rattle.apply_core.specs.RunRefused.{BothTouch, EndsRun, IsLowest, refused_stream}
 use Rattle.stream_worker.specs.SeatOf.{known, seat_state, IsSeatOf, AreSeatsOf, AreStatesOf, AllGoOnFromSeen, SawAsMany, IsOpened}
 use Rattle.stream_worker.specs.Worked.{HasCome, MeetsRow, EndsSeat}
 use Rattle.stream_worker.specs.Private.SeatRuns.{IsSeated, IsRan, AreSeated, AreRan, first_refusal}
 use Rattle.stream_worker.proofs.PassesTakeSeats.{seat_saw}
-use Rattle.stream_worker.proofs.StreamsThatStandSo.{the-one}
-use Rattle.stream_worker.proofs.StreamsStillRead.{cut_front, read_touched}
+use Rattle.apply_core.proofs.StreamsThatStandSo.{the-one}
+use Rattle.apply_core.proofs.StreamsStillRead.{cut_front, read_touched}
 
 -- ---- the first refusal
 

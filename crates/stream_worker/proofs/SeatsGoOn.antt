@@ -16,8 +16,8 @@ use Rattle.board_laws.specs.Reading.{ReadsFeed}
 use Rattle.board_laws.specs.Schedule.{Reply}
 use Rattle.board_laws.specs.StateAfter.{state_after}
 use Rattle.stream_worker.specs.declared.receipt.Receipt.{Receipt}
-use Rattle.stream_worker.specs.declared.run_refusal.RunRefusal.{RunRefusal}
-use Rattle.stream_worker.specs.declared.run_refusal.RunRefusal.TheVariants.{Memory}
+use Rattle.apply_core.specs.declared.run_refusal.RunRefusal.{RunRefusal}
+use Rattle.apply_core.specs.declared.run_refusal.RunRefusal.TheVariants.{Memory}
 use Rattle.stream_worker.specs.declared.seat.Seat.{Seat}
 use Rattle.stream_worker.specs.declared.seat_run.Ran.{Ran}
 use Rattle.stream_worker.specs.declared.shared.Shared.{Shared}
@@ -25,12 +25,12 @@ use Rattle.stream_worker.specs.Knowing.{state_seen}
 use Rattle.stream_worker.specs.SeatOf.{known, seat_state, IsSeatOf, IsSeatFor, SawNoOther}
 use Rattle.stream_worker.specs.Seats.{IsReceiptOf}
 use Rattle.stream_worker.specs.Worked.{Follows, HasCome, EndsSeat, AreReceiptsSince, AreReceipts, GoesOn}
-use Rattle.stream_worker.specs.Private.Courses.{LeadsOn}
+use Rattle.apply_core.specs.Courses.{LeadsOn}
 use Rattle.stream_worker.specs.Private.SeatSteps.{IsSeatReply, IsOneMore, AreBehind, EndsSeatStep}
 use Rattle.stream_worker.specs.Private.SeatRuns.{IsSeated, IsLeft, IsRan}
 use Rattle.stream_worker.proofs.PassesTakeSeats.{seat_has}
-use Rattle.stream_worker.proofs.StreamsThatStandSo.{the-one}
-use Rattle.stream_worker.proofs.StepsComeNearer.{read-most}
+use Rattle.apply_core.proofs.StreamsThatStandSo.{the-one}
+use Rattle.apply_core.proofs.StepsComeNearer.{read-most}
 use Rattle.stream_worker.proofs.ReceiptsFollowSteps.{IsNoAdvance, Comes, same-list, comes, receipts-stay, receipts-more}
 use Rattle.stream_worker.proofs.CourseStepsOfSeats.{next-state, reply-many, reply-stays, reply-follows, reply-ends}
 

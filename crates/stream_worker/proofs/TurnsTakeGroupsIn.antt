@@ -30,18 +30,18 @@ use Rattle.stream_worker.specs.Outlines.{Outlined, outline_of, IsNextOf}
 use Rattle.stream_worker.specs.Rule.{IsSaid, IsOwnChange, IsBoardTaken, IsBoardPut}
 use Rattle.stream_worker.specs.Seats.{IsBoardStep, IsSeatStep, IsReceiptOf}
 use Rattle.stream_worker.specs.Worked.{AreReceiptsSince}
-use Rattle.stream_worker.specs.Private.Courses.{LeadsOn}
+use Rattle.apply_core.specs.Courses.{LeadsOn}
 use Rattle.stream_worker.specs.Private.SeatSteps.{IsSeatEvent, EndsByItsBoard}
 use Rattle.stream_worker.specs.Private.Turns.{IsReady, AreReady, IsNextReady, groups_of, IsCaughtUp, IsTakenIn, IsOfferedAlone, IsNotTakenIn, knows_left, IsTurn, AreReceiptsOn, IsAhead, BeginsWith}
 use Rattle.stream_worker.proofs.StepsOfOneStream.{step_changes, step_leaves}
-use Rattle.stream_worker.proofs.StreamsThatStandSo.{the-one}
+use Rattle.apply_core.proofs.StreamsThatStandSo.{the-one}
 use Rattle.stream_worker.proofs.OutlinesStayTrue.{outlined}
 use Rattle.stream_worker.proofs.ReceiptsFollowSteps.{receipts-stay, receipts-more}
 use Rattle.stream_worker.proofs.CourseStepsOfSeats.{reply-ends}
 use Rattle.stream_worker.proofs.SeatsTakeAndPut.{own_as_seen}
 use Rattle.stream_worker.proofs.StreamsGoOn.{all_go_on-refl, all_go_on-trans}
-use Rattle.stream_worker.proofs.CourseStepsAreAllowed.{plus_one}
-use Rattle.stream_worker.proofs.StreamsStillRead.{reads-on}
+use Rattle.apply_core.proofs.CourseStepsAreAllowed.{plus_one}
+use Rattle.apply_core.proofs.StreamsStillRead.{reads-on}
 
 -- ---- a group that is taken in
 

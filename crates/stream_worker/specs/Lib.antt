@@ -4,7 +4,5 @@ pub mod Outlines
 pub mod Seats
 pub mod SeatOf
 pub mod Calls
-pub mod Ended
-pub mod RunRefused
 pub mod Worked
 pub mod Private

@@ -1,6 +1,4 @@
 -- What serves the crate's own code alone.
-pub mod Courses
-pub mod AllowedSteps
 pub mod FoundGroups
 pub mod SeatSteps
 pub mod SeatRuns

@@ -11,11 +11,11 @@ use Rattle.board_laws.specs.Reading.{ReadsFeed}
 use Rattle.board_laws.specs.Runs.{IsTouchedIn}
 use Rattle.stream_worker.specs.declared.receipt.Receipt.{Receipt}
 use Rattle.stream_worker.specs.declared.seat.Seat.{Seat}
-use Rattle.stream_worker.specs.declared.run_refusal.RunRefusal.{RunRefusal}
-use Rattle.stream_worker.specs.declared.run_refusal.RunRefusal.TheVariants.{FeedCount, WrongPlan, Unsound, OwnedByOther, Memory}
-use Rattle.stream_worker.specs.Ended.{HasEnded}
+use Rattle.apply_core.specs.declared.run_refusal.RunRefusal.{RunRefusal}
+use Rattle.apply_core.specs.declared.run_refusal.RunRefusal.TheVariants.{FeedCount, WrongPlan, Unsound, OwnedByOther, Memory}
+use Rattle.apply_core.specs.Ended.{HasEnded}
 use Rattle.stream_worker.specs.Knowing.{Laid, Knows}
-use Rattle.stream_worker.specs.RunRefused.{IsFirstUnsoundGroup}
+use Rattle.apply_core.specs.RunRefused.{IsFirstUnsoundGroup}
 use Rattle.stream_worker.specs.SeatOf.{known, seat_state, SawNoOther}
 use Rattle.stream_worker.specs.Seats.{IsReceiptOf}
 

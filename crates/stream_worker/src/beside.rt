@@ -5,10 +5,10 @@ ghost use Rattle.stream_worker.specs.SeatOf.{IsSeatOf};
 ghost use Rattle.stream_worker.specs.Private.SeatRuns.{IsLeft};
 
 use crate::gate::Gate;
-use crate::run_refusal::RunRefusal;
 use crate::seat::Seat;
 use crate::seat_run::{Ran, RunContext};
 use crate::working::work;
+use apply_core::RunRefusal;
 use feed_readers::{OfFeed, Reading, WorkerEnd, read_ahead, reader_ends};
 use source_feed::Feed;
 use std::sync::Wait;

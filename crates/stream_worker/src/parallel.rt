@@ -4,19 +4,15 @@ ghost use Rattle.std.specs.Prelude.{◌≡◌, ◌≤◌, length, map, MatchOpti
 ghost use Rattle.std.specs.Arc.{arc_value};
 ghost use Rattle.apply_core.specs.Feeds.{AreFed};
 ghost use Rattle.apply_core.specs.Shown.{all_rows};
-ghost use Rattle.stream_worker.specs.Ended.{IsFedBoard, AllHaveEnded, IsRowsUnion};
-ghost use Rattle.stream_worker.specs.RunRefused.{EndsRun, IsRefusedRun, IsLowest};
+ghost use Rattle.apply_core.specs.Ended.{IsFedBoard, AllHaveEnded, IsRowsUnion};
+ghost use Rattle.apply_core.specs.RunRefused.{EndsRun, IsRefusedRun, IsLowest};
 ghost use Rattle.stream_worker.specs.Private.SeatRuns.{IsSeated, IsRan, AreSeated, AreJobs, AreRan, first_refusal};
 
-use crate::alone::board_over;
 use crate::gate::Gate;
-use crate::policy::Policy;
-use crate::run_laws::ended_boards_have_the_union;
-use crate::run_refusal::RunRefusal;
 use crate::seat::Seat;
 use crate::seat_run::{Job, Ran, RunContext, run_seat};
 use crate::shared::Shared;
-use apply_core::Board;
+use apply_core::{Board, Policy, RunRefusal, board_to_run, ended_boards_have_the_union};
 use filter_rule::Plan;
 use source_feed::Feed;
 use std::alloc::{AllocError, Global};
@@ -149,7 +145,7 @@ pub fn run_parallel<'h, R: Threads + Wait + Sync, G: Gate + Sync>(
     // Every lower stream has come to its feed's end.
     ensures lowest { IfErr result (IsLowest feeds.now) }
 {
-    let board = board_over(alloc, plans, feeds)?;
+    let board = board_to_run(alloc, plans, feeds)?;
     let board = run_board_parallel(rt, alloc, board, feeds, policy, gate)?;
     Ok(board)
 }

@@ -4,10 +4,9 @@ ghost use Rattle.stream_worker.specs.Private.SeatRuns.{IsSeated, IsRan};
 
 use crate::beside::beside_reader;
 use crate::gate::Gate;
-use crate::policy::Policy;
-use crate::run_refusal::RunRefusal;
 use crate::seat::Seat;
 use crate::shared::Shared;
+use apply_core::{Policy, RunRefusal};
 use source_feed::Feed;
 use std::alloc::Global;
 use std::marker::Brand;

@@ -9,14 +9,12 @@ ghost use Rattle.stream_worker.specs.Worked.{Follows, HasCome, EndsSeat, AreRece
 ghost use Rattle.stream_worker.specs.Private.SeatSteps.{IsSeatReply, AreBehind, EndsSeatStep};
 ghost use Rattle.stream_worker.specs.Private.Turns.{IsReady, AreReady, IsNextOffer};
 
-use crate::course::Course;
 use crate::gate::Gate;
-use crate::policy::Policy;
 use crate::ready::Ready;
 use crate::receipt::Receipt;
-use crate::run_refusal::RunRefusal;
 use crate::seat::Seat;
 use crate::shared::Shared;
+use apply_core::{Course, Policy, RunRefusal};
 use board_laws::{Answer, Refusal, StepRefusal};
 use feed_readers::{Ahead, group_of};
 use source_feed::{Feed, FeedFault};

@@ -13,10 +13,10 @@ use Rattle.board_laws.specs.Lawful.{IsLawful, start_of}
 use Rattle.board_laws.specs.Reading.{AllReadTheirFeeds}
 use Rattle.apply_core.specs.Feeds.{AreFed}
 use Rattle.apply_core.specs.Fresh.{fresh_board}
-use Rattle.stream_worker.specs.Ended.{IsNamedStream, IsFedBoard}
-use Rattle.stream_worker.specs.RunRefused.{EndsRun, IsRefusedRun}
-use Rattle.stream_worker.specs.declared.run_refusal.RunRefusal.{RunRefusal}
-use Rattle.stream_worker.specs.declared.run_refusal.RunRefusal.TheVariants.{FeedCount, WrongPlan, Unsound, OwnedByOther, Memory}
+use Rattle.apply_core.specs.Ended.{IsNamedStream, IsFedBoard}
+use Rattle.apply_core.specs.RunRefused.{EndsRun, IsRefusedRun}
+use Rattle.apply_core.specs.declared.run_refusal.RunRefusal.{RunRefusal}
+use Rattle.apply_core.specs.declared.run_refusal.RunRefusal.TheVariants.{FeedCount, WrongPlan, Unsound, OwnedByOther, Memory}
 use Rattle.board_laws.specs.Meaning.{Meaning}
 use Rattle.checkpoint_laws.specs.Written.{checkpoint_of}
 use Rattle.vrepl_main.specs.Followed.{FollowedValue, IsAtFeedsEnds, IsEndedRun, IsFollowed, IsTakenUp, RefusesFollow}

@@ -5,9 +5,9 @@ use Rattle.filter_rule.specs.PlanValue.{PlanValue}
 use Rattle.vdiff_core.specs.Dump.{dump_of}
 use Rattle.vdiff_core.specs.Printing.{Written, BreaksOff}
 use Rattle.vdiff_core.specs.DumpRowsValue.{DumpRowsValue}
-use Rattle.stream_worker.specs.Ended.{IsRowsUnion}
-use Rattle.stream_worker.specs.RunRefused.{IsRefusedRun}
-use Rattle.stream_worker.specs.declared.run_refusal.RunRefusal.{RunRefusal}
+use Rattle.apply_core.specs.Ended.{IsRowsUnion}
+use Rattle.apply_core.specs.RunRefused.{IsRefusedRun}
+use Rattle.apply_core.specs.declared.run_refusal.RunRefusal.{RunRefusal}
 use Rattle.vrepl_main.specs.declared.refusal.CommandRefusal.{CommandRefusal}
 use Rattle.vrepl_main.specs.Command.{RefusesCommand, IsUnwritten}
 use Rattle.vrepl_choices.specs.declared.feed_form.FeedForm.{FeedForm}

@@ -9,9 +9,9 @@ use Rattle.checkpoint_laws.specs.Written.{checkpoint_of}
 use Rattle.checkpoint_laws.specs.declared.fault.ResumeFault.{ResumeFault}
 use Rattle.apply_core.specs.Resuming.{IsResumed}
 use Rattle.apply_core.specs.Shown.{all_rows}
-use Rattle.stream_worker.specs.Ended.{IsFedBoard, AllHaveEnded, IsRowsUnion}
-use Rattle.stream_worker.specs.RunRefused.{EndsRun}
-use Rattle.stream_worker.specs.declared.run_refusal.RunRefusal.{RunRefusal}
+use Rattle.apply_core.specs.Ended.{IsFedBoard, AllHaveEnded, IsRowsUnion}
+use Rattle.apply_core.specs.RunRefused.{EndsRun}
+use Rattle.apply_core.specs.declared.run_refusal.RunRefusal.{RunRefusal}
 use Rattle.vrepl_main.specs.declared.following.Unfollowed.{Unfollowed}
 use Rattle.vrepl_main.specs.declared.following.Unfollowed.TheVariants.{Given, Checkpoint, Stream}
 use Rattle.vrepl_main.specs.JoinedRun.{IsOpenedAnd}

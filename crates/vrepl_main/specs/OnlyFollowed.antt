@@ -10,7 +10,7 @@ use Rattle.board_laws.specs.Sources.{AllShowTheirSources}
 use Rattle.checkpoint_laws.specs.Written.{checkpoint_of}
 use Rattle.apply_core.specs.Fresh.{fresh_board}
 use Rattle.apply_core.specs.Resuming.{IsResumed}
-use Rattle.stream_worker.specs.Ended.{IsFedBoard, HaveEnded, AreAsBefore}
+use Rattle.apply_core.specs.Ended.{IsFedBoard, HaveEnded, AreAsBefore}
 use Rattle.vrepl_main.specs.Followed.{FollowedValue, saved_asked}
 use Rattle.vrepl_main.specs.JoinedRun.{IsOpenedAnd}
 use Rattle.vrepl_main.specs.Opening.{OpenedValue, opened_with, said_plans}

@@ -8,10 +8,10 @@ use Rattle.vdiff_core.specs.DumpRowsValue.{DumpRowsValue}
 use Rattle.board_laws.specs.declared.refusal.Refusal.TheVariants as refusals
 use Rattle.board_laws.specs.declared.step_refusal.StepRefusal.{StepRefusal}
 use Rattle.board_laws.specs.declared.step_refusal.StepRefusal.TheVariants.{Unprepared, Refused}
-use Rattle.stream_worker.specs.Ended.{IsRowsUnion}
-use Rattle.stream_worker.specs.RunRefused.{IsRefusedRun}
-use Rattle.stream_worker.specs.declared.run_refusal.RunRefusal.{RunRefusal}
-use Rattle.stream_worker.specs.declared.run_refusal.RunRefusal.TheVariants.{FeedCount, WrongPlan, Unsound, OwnedByOther, Memory}
+use Rattle.apply_core.specs.Ended.{IsRowsUnion}
+use Rattle.apply_core.specs.RunRefused.{IsRefusedRun}
+use Rattle.apply_core.specs.declared.run_refusal.RunRefusal.{RunRefusal}
+use Rattle.apply_core.specs.declared.run_refusal.RunRefusal.TheVariants.{FeedCount, WrongPlan, Unsound, OwnedByOther, Memory}
 use Rattle.vrepl_main.specs.Command.{RefusesCommand, Ends}
 use Rattle.vrepl_main.specs.Opening.{OpenedValue, opened}
 use Rattle.vrepl_main.specs.Printing.{PrintsOrBreaks}

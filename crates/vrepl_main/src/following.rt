@@ -5,8 +5,8 @@ ghost use Rattle.std.specs.Arc.{arc_value};
 ghost use Rattle.vdiff_core.specs.Dump.{dump_of};
 ghost use Rattle.vdiff_core.specs.Printing.{Prints};
 ghost use Rattle.apply_core.specs.Shown.{all_rows};
-ghost use Rattle.stream_worker.specs.Ended.{IsFedBoard};
-ghost use Rattle.stream_worker.specs.RunRefused.{EndsRun};
+ghost use Rattle.apply_core.specs.Ended.{IsFedBoard};
+ghost use Rattle.apply_core.specs.RunRefused.{EndsRun};
 ghost use Rattle.vrepl_main.specs.Followed.{IsAtFeedsEnds, IsFollowed, RefusesFollow, follow_refusal_line, follow_asked, saved_asked, HasTakenUp, HasNotFollowed};
 ghost use Rattle.vrepl_main.specs.Printing.{PrintsOrBreaks};
 
@@ -17,14 +17,16 @@ use crate::refusal::{CommandRefusal, refuse};
 use crate::refusal_line::refuse_over;
 use crate::running::{open_streams, refuse_run, run_streams};
 use crate::stepping::first_plan;
-use apply_core::{Board, ResumeFault, resume as resumed_board, save as checkpoint_of};
+use apply_core::{
+    Board, ResumeFault, RunRefusal, resume as resumed_board, run_board_alone, save as checkpoint_of,
+};
 use filter_rule::Plan;
 use source_feed::Feed;
 use std::alloc::{AllocError, Global};
 use std::marker::Model;
 use std::sync::{Arc, Wait};
 use std::thread::Threads;
-use stream_worker::{RunRefusal, run_board_alone, run_board_parallel};
+use stream_worker::run_board_parallel;
 use vdiff_core::{Out, OutFailed};
 use vrepl_choices::Threading;
 

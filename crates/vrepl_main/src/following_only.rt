@@ -6,7 +6,7 @@ ghost use Rattle.std.specs.List.{list_all};
 ghost use Rattle.filter_rule.specs.WellFormed.{ArePlans};
 ghost use Rattle.apply_core.specs.Feeds.{AreFed};
 ghost use Rattle.apply_core.specs.Fresh.{fresh_board};
-ghost use Rattle.stream_worker.specs.Ended.{IsNamedStream, IsFedBoard};
+ghost use Rattle.apply_core.specs.Ended.{IsNamedStream, IsFedBoard};
 ghost use Rattle.vrepl_main.specs.Followed.{RefusesFollow, saved_asked, HasNotFollowed, IsEndedRun};
 ghost use Rattle.vrepl_main.specs.Given.{given_value};
 ghost use Rattle.vrepl_main.specs.OnlyFollowed.{IsMovedOn, IsOnlyFollowed, have_streams, named_plans, opened_for, only_asked, AreThere, HasMovedOn};
@@ -20,13 +20,14 @@ use crate::named_inputs::FollowInputs;
 use crate::opened::{Opened, open_feeds};
 use crate::refusal::CommandRefusal;
 use crate::stepping::first_plan;
-use apply_core::{Board, fed_board, resume as resumed_board, save as checkpoint_of};
+use apply_core::{
+    Board, Policy, fed_board, resume as resumed_board, run_streams_alone, save as checkpoint_of,
+};
 use filter_rule::Plan;
 use source_feed::Feed;
 use std::alloc::{AllocError, Global};
 use std::sync::Arc;
 use std::thread::Threads;
-use stream_worker::{Policy, run_streams_alone};
 use vrepl_choices::Threading;
 
 /// Moves these streams of a checkpoint on, over a workflow and its feeds, one in the order of the streams each: from the

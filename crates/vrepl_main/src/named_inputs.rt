@@ -8,8 +8,8 @@ use crate::given::GivenFeed;
 use crate::input::{InputName, read_input, read_inputs};
 use crate::input_list::{file_names, run_inputs};
 use crate::refusal::CommandRefusal;
+use apply_core::Policy;
 use std::rt::Files;
-use stream_worker::Policy;
 use vrepl_choices::{FeedForm, Threading};
 
 /// How streams are run.

@@ -6,14 +6,14 @@ ghost use Rattle.stream_worker.specs.SeatOf.{IsSeatOf};
 use crate::feeds::{FOUR, UPPER, WORKFLOW, open_feeds};
 use crate::gates::Open;
 use crate::seats::{ended, is_found, two_of};
-use apply_core::Board;
+use apply_core::{Board, Policy, run_alone};
 use feed_readers::Ahead;
 use filter_rule::Plan;
 use source_feed::{Feed, Prepared};
 use std::alloc::{AllocError, Global};
 use std::sync::{Arc, Wait};
 use std::test::*;
-use stream_worker::{Policy, Receipt, Seat, Shared, run_alone, work};
+use stream_worker::{Receipt, Seat, Shared, work};
 use vdiff_core::first_difference;
 
 /// Groups of a feed that stand ready, by their numbers; before them group 1 of another feed, if any.

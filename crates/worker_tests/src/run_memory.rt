@@ -5,7 +5,7 @@
 
 use crate::feeds::{LOWER, UPPER, WORKFLOW, open_feeds};
 use crate::gates::{Counting, Open};
-use apply_core::{Board, fed_board};
+use apply_core::{Board, Policy, RunRefusal, fed_board, run_alone};
 use filter_rule::Plan;
 use source_feed::Feed;
 use std::alloc::{AllocError, Global};
@@ -13,7 +13,7 @@ use std::sync::{Arc, Wait};
 use std::test::*;
 use std::thread::Threads;
 use stream_core::Step;
-use stream_worker::{Gate, Policy, RunRefusal, Shared, run_alone, run_parallel};
+use stream_worker::{Gate, Shared, run_parallel};
 
 /// How streams are run.
 #[derive(Clone, Copy)]

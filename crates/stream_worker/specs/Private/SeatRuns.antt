@@ -6,7 +6,7 @@ use Rattle.stream_worker.specs.declared.seat.Seat.{Seat}
 use Rattle.stream_worker.specs.declared.shared.Shared.{Shared}
 use Rattle.stream_worker.specs.declared.seat_run.Job.{Job}
 use Rattle.stream_worker.specs.declared.seat_run.Ran.{Ran}
-use Rattle.stream_worker.specs.declared.run_refusal.RunRefusal.{RunRefusal}
+use Rattle.apply_core.specs.declared.run_refusal.RunRefusal.{RunRefusal}
 use Rattle.stream_worker.specs.Knowing.{SawStreams}
 use Rattle.stream_worker.specs.SeatOf.{known, IsSeatOf, SawNoOther}
 use Rattle.stream_worker.specs.Worked.{Follows, HasCome, EndsSeat}

@@ -14,7 +14,7 @@ use Rattle.board_laws.specs.Schedule.{Reply, IsUnprepared}
 use Rattle.stream_worker.specs.declared.receipt.Receipt.{Receipt}
 use Rattle.stream_worker.specs.declared.seat.Seat.{Seat}
 use Rattle.stream_worker.specs.Knowing.{Knows}
-use Rattle.stream_worker.specs.RunRefused.{IsFirstUnsoundGroup}
+use Rattle.apply_core.specs.RunRefused.{IsFirstUnsoundGroup}
 use Rattle.stream_worker.specs.Seats.{IsSeatStep}
 use Rattle.stream_worker.specs.Worked.{MeetsRow, IsLastReceipt}
 

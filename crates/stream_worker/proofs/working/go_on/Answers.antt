@@ -1,5 +1,5 @@
 use Rattle.std.proofs.Common.{Ok, Err, subst, arith}
-use Rattle.stream_worker.specs.Private.Courses.{LeadsOn}
+use Rattle.apply_core.specs.Courses.{LeadsOn}
 use Rattle.stream_worker.proofs.SeatsGoOn.{sits-on, sits-refused, sits-within}
 use Rattle.stream_worker.proofs.working.go_on.Goals as goal
 
