@@ -21,10 +21,10 @@ PARTS = [
     ("opening the feeds", ["source_feed::feed::Feed::open"]),
     ("preparing groups", ["source_feed::feed::Feed::prepare"]),
     ("the rows' own copies", ["apply_core::puts::Puts::of_group"]),
-    ("the board's steps", [f"apply_core::board::Board::{it}" for it in ("advance_by", "offer", "next_chunk", "copy_by")] + ["apply_core::bringing::bring"]),
+    ("the board's steps", [f"apply_core::board::Board::{it}" for it in ("advance_by", "offer", "copy_with_marks")] + ["apply_core::bringing::bring"]),
     ("... seeking places", ["target_tables::spots::spot_of", "target_tables::hints::spot_by"]),
     ("taking the board and putting it back", ["stream_worker::lock::Lock::take", "stream_worker::lock::Lock::put_back"]),
-    ("the dump", ["apply_core::board::Board::write_dump"]),
+    ("the dump", ["vrepl_main::dump::write_rows"]),
     ("malloc and free, wherever called", ["rattle_alloc", "rattle_realloc", "rattle_dealloc"]),
 ]
 LINE = re.compile(r"\s*([\d,]+) \([ \d.]+%\)\s+([*>])\s+(\S*?:)?(\S.*?)(?: \([\d,]+x\))?(?: \[.*)?$")

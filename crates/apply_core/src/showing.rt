@@ -6,20 +6,17 @@ ghost use Rattle.pk_copy.specs.Marks.{mark_of};
 ghost use Rattle.pk_copy.specs.MarkView.{mark_value};
 ghost use Rattle.board_laws.specs.declared.refusal.Refusal.TheVariants.{NoStream, Memory};
 ghost use Rattle.board_laws.specs.Sources.{applied_position};
-ghost use Rattle.vdiff_core.specs.Dump.{dump_of};
-ghost use Rattle.vdiff_core.specs.Printing.{Prints};
 ghost use Rattle.apply_core.specs.Shown.{all_rows, rows_of_stream};
 
 use crate::board::Board;
 use crate::stream::Stream;
 use board_laws::Refusal;
-use filter_rule::Plan;
 use gtid_set::GtidSet;
 use pk_copy::{Key, Mark};
 use row_view::RowBuf;
 use std::alloc::{AllocError, Global};
 use target_tables::Tables;
-use vdiff_core::{DumpRows, Out, OutFailed, write_target_dump};
+use vdiff_core::DumpRows;
 
 /// Copies of all rows. An error is want of memory.
 fn copies_of_all(alloc: Global, rows: &Tables<Key, RowBuf>) -> Result<DumpRows, AllocError>
@@ -92,13 +89,11 @@ impl<'h> Board<'h> {
         }
     }
 
-    /// Writes the dump of all rows of the target, by the tables of the plan, as they lie there: none is copied.
-    /// After a fault, which comes only of a write that failed in this call, what was written is a beginning of
-    /// the dump. Takes no memory.
-    pub fn write_dump<O: Out>(&self, out: &mut O, plan: &Plan) -> Result<(), OutFailed>
-        ensures { Prints result (O.written out.old) (O.written out.new) (dump_of plan.now (all_rows self.now.rows)) }
+    /// The rows of the target as they lie there, each with the stream that owns it. Takes no memory.
+    pub fn target(&self) -> &Tables<Key, RowBuf>
+        ensures { result.now.entries ≡ self.now.rows }
     {
-        write_target_dump(out, plan, &self.rows)
+        &self.rows
     }
 
     /// Copies of all rows of the target, by rising key. An error is want of memory.

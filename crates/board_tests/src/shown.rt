@@ -7,7 +7,7 @@ use row_view::Column;
 use source_feed::Feed;
 use std::alloc::{AllocError, Global};
 use stream_core::{Cursor, Phase};
-use vdiff_core::{DumpRows, Out, OutFailed, write_dump};
+use vdiff_core::{DumpRows, Out, OutFailed, write_dump, write_target_dump};
 
 /// A stream's phase, how many groups are read and applied, the open snapshot and how many tables are done.
 pub(crate) type Stand = (Phase, u32, u32, Option<u32>, u8);
@@ -110,7 +110,7 @@ fn writes(alloc: Global, board: &Board<'_>, feeds: &[Feed<'_>], wanted: &[u8]) -
         bytes: Vec::new(alloc),
         failures: 0,
     };
-    match board.write_dump(&mut page, feed.plan()) {
+    match write_target_dump(&mut page, feed.plan(), board.target()) {
         Ok(()) => page.bytes.as_slice() == wanted,
         Err(_) => false,
     }

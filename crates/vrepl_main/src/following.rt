@@ -10,6 +10,7 @@ ghost use Rattle.apply_core.specs.RunRefused.{EndsRun};
 ghost use Rattle.vrepl_main.specs.Followed.{IsAtFeedsEnds, IsFollowed, RefusesFollow, follow_refusal_line, follow_asked, saved_asked, HasTakenUp, HasNotFollowed};
 ghost use Rattle.vrepl_main.specs.Printing.{PrintsOrBreaks};
 
+use crate::dump::write_rows;
 use crate::named_inputs::{Course, FollowInputs};
 use crate::opened::Opened;
 use crate::progress::{Progress, tell_feeds};
@@ -56,7 +57,7 @@ impl<'h> Followed<'h> {
     pub fn write_dump<W: Out>(&self, out: &mut W) -> Result<(), OutFailed>
         ensures { Prints result (W.written out.old) (W.written out.new) (dump_of self.now.plan (all_rows self.now.board.rows)) }
     {
-        self.board.write_dump(out, &self.plan)
+        write_rows(out, &self.plan, &self.board)
     }
 }
 

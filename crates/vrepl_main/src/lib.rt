@@ -4,6 +4,7 @@
 mod answer_text;
 mod at_once;
 mod comparing;
+mod dump;
 mod following;
 mod following_only;
 mod given;

@@ -9,6 +9,7 @@ ghost use Rattle.vrepl_main.specs.ScriptRun.{AnswersStep, answers, byte_of, repl
 ghost use Rattle.vrepl_main.specs.ScriptPrinting.{Replies};
 
 use crate::answer_text::print_answer;
+use crate::dump::write_rows;
 use crate::refusal_line::print_refused;
 use crate::state_text::print_state;
 use apply_core::{Answer, Board, Refusal, StepRefusal};
@@ -137,5 +138,5 @@ fn print_rows<W: Out>(
     ensures { AddsText result (at (W.written out.old) text.old) (at (W.written out.new) text.new) (dump_of plan.now (all_rows board.now.rows)) }
 {
     text.finish(out)?;
-    board.write_dump(out, plan)
+    write_rows(out, plan, board)
 }

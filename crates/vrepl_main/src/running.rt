@@ -18,6 +18,7 @@ ghost use Rattle.vrepl_main.specs.RefusedText.{refused_text};
 ghost use Rattle.vrepl_main.specs.Running.{IsFilled, IsUnfilled, PrintsDump, RefusesRun, as_step, opened_asked, RunEnds};
 
 use crate::at_once::open_at_once;
+use crate::dump::write_rows;
 use crate::given::{GivenFeed, given_feeds};
 use crate::named_inputs::{Course, RunInputs};
 use crate::opened::{Opened, open_workflow};
@@ -134,7 +135,7 @@ fn print_rows<W: Out>(
     ensures printed { Prints result (W.written out.old) (W.written out.new) (dump_of plan.now (all_rows board.now.rows)) }
     ensures refused { IfErr result IsUnwritten }
 {
-    board.write_dump(out, plan)?;
+    write_rows(out, plan, board)?;
     Ok(())
 }
 

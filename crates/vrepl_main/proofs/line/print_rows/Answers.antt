@@ -16,7 +16,7 @@ pub returns : goal.returns
 returns g c =
     let text = dump_of c.args.plan.now (all_rows c.args.board.now.rows) in
     rw c.in_ok-finish.ensures.empty
-    (added c.write_dump.result _ c.args.text.now _ [] text
-    (then_adds c.write_dump.result _ c.args.text.now _ [] _ [] [] text
+    (added c.write_rows.result _ c.args.text.now _ [] text
+    (then_adds c.write_rows.result _ c.args.text.now _ [] _ [] [] text
     (adds_none_written _ _ c.args.text.now c.in_ok-finish.ensures.printed)
-    (prints_adds c.write_dump.result _ _ text c.write_dump.ensures)))
+    (prints_adds c.write_rows.result _ _ text c.write_rows.ensures)))
