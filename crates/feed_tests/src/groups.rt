@@ -61,7 +61,7 @@ fn one_inserted_row_is_a_group(rt: HostRuntime) {
 /// A feed of a million groups has a million of each.
 #[test]
 fn changes_and_groups_are_small(rt: HostRuntime) {
-    assert!(rt; size_of::<Change<'static>>() <= 32 && size_of::<Group<'static>>() <= 96);
+    assert!(rt; size_of::<Change<'static>>() <= 48 && size_of::<Group<'static>>() <= 96);
 }
 
 /// The feed has one group under a workflow's plan, which has so many touches.

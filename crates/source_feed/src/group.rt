@@ -7,8 +7,8 @@ use row_view::{RowBytes, RowView};
 use std::marker::Model;
 use vevent::RowChange;
 
-/// A change of one row of a table. Nothing is copied: its name and its rows are slices of the feed's
-/// buffer, and a view of a row is made when it is asked for.
+/// A change of one row of a table, in 48 bytes. Nothing is copied: its name and its rows are slices of the
+/// feed's buffer, and a view of a row is made when it is asked for.
 #[derive(Drop)]
 pub struct Change<'h> {
     pub(crate) table: &'h str,

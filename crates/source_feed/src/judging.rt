@@ -47,9 +47,8 @@ fn judge_change(plan: &Plan, group: u32, change: &PlannedChange<'_>) -> Result<(
 {
     let table = change.table();
     let place = Place { plan, group, table };
-    let (before, after) = change.images();
-    place.judge_before(before)?;
-    place.judge_after(after)?;
+    place.judge_before(change.before())?;
+    place.judge_after(change.after())?;
     Ok(())
 }
 

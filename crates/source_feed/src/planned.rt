@@ -19,8 +19,8 @@ use std::marker::Model;
 use std::sync::Arc;
 use vevent::RowChange;
 
-/// A change of one row of a planned table, in 24 bytes: the table's number in the plan, and the slice of
-/// the row change. A view of a row is made when it is asked for.
+/// A change of one row of a planned table, in 40 bytes: the table's number in the plan, and the slices of
+/// the two rows. A view of a row is made when it is asked for.
 #[derive(Drop)]
 pub(crate) struct PlannedChange<'h> {
     table: u8,
@@ -43,21 +43,25 @@ impl<'h> PlannedChange<'h> {
         self.table
     }
 
-    /// The bytes of the rows before and after the change, found by one walk over it: `None` before an insert
-    /// and after a delete. Reads no row.
-    pub(crate) fn images(&self) -> (Option<RowBytes<'h>>, Option<RowBytes<'h>>)
-        ensures before { result.0 ≡ self.now.before }
-        ensures after { result.1 ≡ self.now.after }
+    /// The bytes of the row before the change, or `None` for an insert. Reads no row.
+    pub(crate) fn before(&self) -> Option<RowBytes<'h>>
+        ensures { result ≡ self.now.before }
     {
-        self.rows.images()
+        self.rows.before_bytes()
+    }
+
+    /// The bytes of the row after the change, or `None` for a delete. Reads no row.
+    pub(crate) fn after(&self) -> Option<RowBytes<'h>>
+        ensures { result ≡ self.now.after }
+    {
+        self.rows.after_bytes()
     }
 
     /// How many rows the change has. Reads no row.
     pub(crate) fn row_count(&self) -> usize
         ensures { result ≡ rows_in_change self.now }
     {
-        let (before, after) = self.images();
-        usize::from(before.is_some()) + usize::from(after.is_some())
+        usize::from(self.rows.has_before()) + usize::from(self.rows.has_after())
     }
 }
 

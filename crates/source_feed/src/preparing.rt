@@ -143,9 +143,8 @@ fn put_change<'h>(
 {
     let table = change.table();
     let place = Place { plan, group, table };
-    let (before, after) = change.images();
-    place.put_before(alloc, before, touches)?;
-    place.put_after(alloc, after, touches)?;
+    place.put_before(alloc, change.before(), touches)?;
+    place.put_after(alloc, change.after(), touches)?;
     Ok(())
 }
 

@@ -1,6 +1,6 @@
 //! The open transaction of a feed.
 
-ghost use Rattle.std.specs.Prelude.{◌≡◌, ℕ, Option, ◌++◌, None, Some, OnOk, IfErr, length, min};
+ghost use Rattle.std.specs.Prelude.{◌≡◌, ℕ, Option, ◌++◌, None, Some, OnOk, IfErr};
 ghost use Rattle.std.specs.Option.{option_map};
 ghost use Rattle.std.specs.List.{list_all};
 ghost use Rattle.outcome.specs.Outcome.{IsFault};
@@ -69,32 +69,17 @@ fn push_change<'h>(
     ensures pushed { OnOk result (changes.new.items ≡ changes.old.items ++ change_in table.now rows.entry) }
     ensures err { IfErr result (λ fault. fault ≡ Memory) }
 {
-    let (before, after) = rows.images();
-    if before.is_some() || after.is_some() {
+    if rows.has_before() || rows.has_after() {
         changes.push(Change { table, rows })?;
     }
     Ok(())
 }
 
-/// For how many row changes room is taken at once: for all, up to 256. Reads no row.
-fn room_for(rows: RowChanges<'_>) -> usize
-    ensures { result ≡ min (length rows.entry) 256 }
-{
-    let mut room: usize = 0;
-    for _change in rows {
-        if room == 256 {
-            return room;
-        }
-        room += 1;
-    }
-    room
-}
-
-/// Takes room for row changes behind others.
-fn take_room(changes: &mut Vec<Change<'_>>, rows: RowChanges<'_>) -> Result<(), AllocError>
+/// Takes room for the row changes of a ROW event behind others: for all, up to 256. Looks into none of them.
+fn take_room(changes: &mut Vec<Change<'_>>, row: &RowEvent<'_>) -> Result<(), AllocError>
     ensures { changes.new.items ≡ changes.old.items }
 {
-    let room = room_for(rows);
+    let room = row.count_up_to(256);
     if changes.len() < 2 {
         // most transactions have one ROW event, or two of one change; behind them the room doubles
         changes.reserve_exact(room)
@@ -127,7 +112,7 @@ fn put_changes<'h>(
     ensures pushed { OnOk result (changes.new.items ≡ changes.old.items ++ changes_in table.now row.now.changes) }
     ensures err { IfErr result (λ fault. fault ≡ Memory) }
 {
-    take_room(changes, row.changes())?;
+    take_room(changes, row)?;
     push_changes(changes, table, row.changes())
 }
 

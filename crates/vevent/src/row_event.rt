@@ -1,17 +1,17 @@
 //! Row events: changes of one table's rows.
 
-ghost use Rattle.std.specs.Prelude.{◌≡◌, ◌⊎◌, None, IfSome, IsOk, option_copied, option_map, is_some};
+ghost use Rattle.std.specs.Prelude.{◌≡◌, None, IfSome, IsOk, length, min, option_copied, option_map, is_some};
 ghost use Rattle.std.specs.Iterator.{YieldsFirstBy, item_count};
 ghost use Rattle.std.specs.List.{list_all};
 ghost use Rattle.proto_wire.specs.Parts.{parts, single};
 ghost use Rattle.row_view.specs.Row.{row_of_message};
 ghost use Rattle.vevent.specs.Fault.{change_fault, first_row_fault};
-ghost use Rattle.vevent.specs.Message.{image_of, changes_of};
+ghost use Rattle.vevent.specs.Message.{image_of, change_of, changes_of};
 ghost use Rattle.vevent.specs.Columns.{have_columns};
 ghost use Rattle.vevent.specs.Private.ColumnCount.{IsCountOf};
 
 use crate::column_count::ColumnCount;
-use proto_wire::{Fields, Parts, single_of};
+use proto_wire::{Fields, Parts};
 use row_view::{RowBytes, RowView};
 use std::marker::Model;
 
@@ -70,7 +70,15 @@ impl<'b> RowEvent<'b> {
         self.columns.all_have(columns)
     }
 
-    /// The row changes, in the order of the bytes. Takes no memory, and reads no row.
+    /// How many row changes there are; of more than `most`, so many. Looks into none of them.
+    pub fn count_up_to(&self, most: usize) -> usize
+        ensures { result ≡ min (length self.now.changes) most }
+    {
+        count_up_to(Parts::new(self.message, 2), most)
+    }
+
+    /// The row changes, in the order of the bytes. Takes no memory, and reads no row: the rows of a change
+    /// are found when the change is taken.
     pub fn changes(&self) -> RowChanges<'b>
         ensures { result ≡ self.now.changes }
     {
@@ -108,31 +116,26 @@ impl<'b> Iterator for RowChanges<'b> {
 
     #[inline(always)]
     fn next(&mut self) -> Option<RowChange<'b>> {
-        Some(RowChange {
-            message: self.parts.next()?,
-        })
+        Some(row_change(self.parts.next()?))
     }
 }
 
 /// A row change (`binlogdata.proto`, RowChange): only `after` is an insert, both are an update, only
 /// `before` is a delete. Seen in contracts as these two. It is made by reading an event alone, so each
-/// of its rows can be read; a view of a row is made when it is asked for.
+/// of its rows can be read; a view of a row is made when it is asked for. It keeps the slices of its two
+/// rows, in 32 bytes: where there is no row its slice has no place, so nothing more tells that.
 #[derive(Drop)]
 pub struct RowChange<'b> {
-    message: &'b [u8],
+    before: Option<RowBytes<'b>>,
+    after: Option<RowBytes<'b>>,
 }
 
 impl<'b> Model for RowChange<'b> {
-    ghost use Rattle.std.specs.Prelude.{◌≡◌, None};
     ghost use Rattle.vevent.specs.EventValue.{ChangeValue};
-    ghost use Rattle.vevent.specs.Fault.{change_fault};
-    ghost use Rattle.vevent.specs.Message.{change_of};
 
     ghost Value = { ChangeValue };
 
-    ghost view = { λ a. change_of a.message.now };
-
-    ghost invariant = { λ a. change_fault a.message.now ≡ None };
+    ghost view = { λ a. record { before = a.before; after = a.after } };
 }
 
 impl<'b> RowChange<'b> {
@@ -140,38 +143,28 @@ impl<'b> RowChange<'b> {
     pub fn has_before(&self) -> bool
         ensures { result ≡ is_some self.now.before }
     {
-        self.before_bytes().is_some()
+        self.before.is_some()
     }
 
     /// Whether there is a row after the change. Reads no row.
     pub fn has_after(&self) -> bool
         ensures { result ≡ is_some self.now.after }
     {
-        self.after_bytes().is_some()
+        self.after.is_some()
     }
 
     /// The bytes of the row before the change, or `None` for an insert. Reads no row.
     pub fn before_bytes(&self) -> Option<RowBytes<'b>>
         ensures { result ≡ self.now.before }
     {
-        row_under(self.message, 1)
+        once_more(&self.before)
     }
 
     /// The bytes of the row after the change, or `None` for a delete. Reads no row.
     pub fn after_bytes(&self) -> Option<RowBytes<'b>>
         ensures { result ≡ self.now.after }
     {
-        row_under(self.message, 2)
-    }
-
-    /// The bytes of the rows before and after the change, as `before_bytes` and `after_bytes` answer them, in
-    /// one walk over the change. Reads no row.
-    pub fn images(&self) -> (Option<RowBytes<'b>>, Option<RowBytes<'b>>)
-        ensures before { result.0 ≡ self.now.before }
-        ensures after { result.1 ≡ self.now.after }
-    {
-        let (before, after) = rows_in(self.message);
-        (row_found(before), row_found(after))
+        once_more(&self.after)
     }
 
     /// The row before the change, or `None` for an insert. Reads its lengths once more, and takes no
@@ -193,15 +186,42 @@ impl<'b> RowChange<'b> {
     }
 }
 
-/// The row under one of the two numbers of rows.
+/// The bytes of the same row once more, if there is one.
 #[inline(always)]
-fn row_under(change: &[u8], number: u32) -> Option<RowBytes<'_>>
-    requires number { (number ≡ 1) ⊎ (number ≡ 2) }
-    requires sound { change_fault change.now ≡ None }
-    ensures { result ≡ option_map image_of (single number change.now) }
+fn once_more<'b>(row: &Option<RowBytes<'b>>) -> Option<RowBytes<'b>>
+    ensures { result ≡ row.now }
 {
-    let row = single_of(change, number)?;
-    Some(RowBytes::of_row(row))
+    match row {
+        None => None,
+        Some(row) => Some(row.copy()),
+    }
+}
+
+/// How many parts there are; of more than `most`, so many.
+fn count_up_to(parts: Parts<'_>, most: usize) -> usize
+    ensures { result ≡ min (length parts.entry) most }
+{
+    let mut count: usize = 0;
+    for _part in parts {
+        if count == most {
+            return count;
+        }
+        count += 1;
+    }
+    count
+}
+
+/// The row change of a message whose rows can be read: both are found by one walk over it.
+#[inline(always)]
+fn row_change(message: &[u8]) -> RowChange<'_>
+    requires { change_fault message.now ≡ None }
+    ensures { result ≡ change_of message.now }
+{
+    let (before, after) = rows_in(message);
+    RowChange {
+        before: row_found(before),
+        after: row_found(after),
+    }
 }
 
 /// What a row change holds under the two numbers of rows, the first of several.
