@@ -10,7 +10,7 @@ use crate::keyed::{KeyedChange, keyed_group};
 use crate::keyed_rows::KeyedRows;
 use crate::replay::Replay;
 use filter_rule::Plan;
-use source_feed::Group;
+use source_feed::Groups;
 use std::alloc::{AllocError, Global};
 
 /// Goes on by changes, one after another. An error is want of memory.
@@ -34,16 +34,16 @@ fn take_all<'h>(
 pub fn findings_of<'h>(
     alloc: Global,
     plan: &Plan,
-    groups: &[Group<'h>],
+    groups: &Groups<'h>,
 ) -> Result<Vec<Finding<'h>>, AllocError>
-    ensures { IfOk result (λ found. found.items ≡ told.findings_of (keyed_changes plan.now groups.now)) }
+    ensures { IfOk result (λ found. found.items ≡ told.findings_of (keyed_changes plan.now groups.now.items)) }
 {
     let mut replay = Replay {
         rows: KeyedRows::new(alloc),
         findings: Vec::new(alloc),
     };
-    for group in groups {
-        let changes = keyed_group(alloc, plan, group)?;
+    for group in groups.iter() {
+        let changes = keyed_group(alloc, plan, &group)?;
         take_all(alloc, &mut replay, changes)?;
     }
     Ok(replay.findings)

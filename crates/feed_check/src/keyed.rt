@@ -89,7 +89,7 @@ fn keyed_change<'h>(
     t: u8,
     group: u32,
     place: usize,
-    change: &Change<'h>,
+    change: &Change<'_, 'h>,
 ) -> Result<KeyedChange<'h>, AllocError>
     requires { t < length plan.now.tables }
     ensures { IfOk result (λ keyed. keyed ≡ record { group = group; place = place; before = keyed_image plan.now t change.now.before; after = keyed_image plan.now t change.now.after }) }
@@ -110,7 +110,7 @@ fn push_keyed<'h>(
     plan: &Plan,
     group: u32,
     place: usize,
-    change: &Change<'h>,
+    change: &Change<'_, 'h>,
     keyed: &mut Vec<KeyedChange<'h>>,
 ) -> Result<(), AllocError>
     ensures { OnOk result (keyed.new.items ≡ keyed.old.items ++ keyed_at plan.now group place change.now (table_of_name plan.now change.now.table)) }
@@ -126,15 +126,18 @@ fn push_keyed<'h>(
 pub(crate) fn keyed_group<'h>(
     alloc: Global,
     plan: &Plan,
-    group: &Group<'h>,
+    group: &Group<'_, 'h>,
 ) -> Result<Vec<KeyedChange<'h>>, AllocError>
     ensures { IfOk result (λ keyed. keyed.items ≡ keyed_in plan.now group.now) }
 {
     let number = group.number();
     let changes = group.changes();
-    let mut keyed = Vec::with_capacity(alloc, changes.len())?;
-    for i in 0..changes.len() {
-        push_keyed(alloc, plan, number, i + 1, &changes[i], &mut keyed)?;
+    let count = changes.len();
+    let mut keyed = Vec::with_capacity(alloc, count)?;
+    let mut place: usize = 0;
+    for change in changes {
+        place += 1;
+        push_keyed(alloc, plan, number, place, &change, &mut keyed)?;
     }
     Ok(keyed)
 }

@@ -10,7 +10,7 @@ use crate::finding::{Doubt, Finding};
 use crate::keyed::{KeyedChange, KeyedRow, keyed_group};
 use filter_rule::Plan;
 use pk_copy::LentKey;
-use source_feed::Group;
+use source_feed::Groups;
 use std::alloc::{AllocError, Global};
 
 /// Whether a row that there may be has another key.
@@ -78,13 +78,13 @@ fn push_all<'h>(
 pub fn moves_of<'h>(
     alloc: Global,
     plan: &Plan,
-    groups: &[Group<'h>],
+    groups: &Groups<'h>,
 ) -> Result<Vec<Finding<'h>>, AllocError>
-    ensures { IfOk result (λ moves. moves.items ≡ told.moves_of (keyed_changes plan.now groups.now)) }
+    ensures { IfOk result (λ moves. moves.items ≡ told.moves_of (keyed_changes plan.now groups.now.items)) }
 {
     let mut moves = Vec::new(alloc);
-    for group in groups {
-        let changes = keyed_group(alloc, plan, group)?;
+    for group in groups.iter() {
+        let changes = keyed_group(alloc, plan, &group)?;
         push_all(alloc, &changes, &mut moves)?;
     }
     Ok(moves)

@@ -6,7 +6,7 @@ ghost use Rattle.std.specs.Str.{bytes_eq};
 ghost use Rattle.feed_check.specs.Unknown.{is_known, with_name, unknown_in, unknown_tables};
 
 use filter_rule::Plan;
-use source_feed::{Change, Group};
+use source_feed::{GroupChanges, Groups};
 use std::alloc::{AllocError, Global};
 
 /// Whether a name is among others.
@@ -41,10 +41,10 @@ fn push_name<'h>(plan: &Plan, name: &'h str, told: &mut Vec<&'h str>) -> Result<
 /// Puts the unknown names of changes behind the others.
 fn push_changes<'h>(
     plan: &Plan,
-    changes: &[Change<'h>],
+    changes: GroupChanges<'_, 'h>,
     told: &mut Vec<&'h str>,
 ) -> Result<(), AllocError>
-    ensures { OnOk result (map (λ one. one.now) told.new.items ≡ unknown_in plan.now (map (λ one. one.now) told.old.items) changes.now) }
+    ensures { OnOk result (map (λ one. one.now) told.new.items ≡ unknown_in plan.now (map (λ one. one.now) told.old.items) changes.entry) }
 {
     for change in changes {
         push_name(plan, change.table(), told)?;
@@ -57,12 +57,12 @@ fn push_changes<'h>(
 pub fn unknown_tables<'h>(
     alloc: Global,
     plan: &Plan,
-    groups: &[Group<'h>],
+    groups: &Groups<'h>,
 ) -> Result<Vec<&'h str>, AllocError>
-    ensures { IfOk result (λ told. map (λ one. one.now) told.items ≡ unknown_tables plan.now groups.now) }
+    ensures { IfOk result (λ told. map (λ one. one.now) told.items ≡ unknown_tables plan.now groups.now.items) }
 {
     let mut told = Vec::new(alloc);
-    for group in groups {
+    for group in groups.iter() {
         push_changes(plan, group.changes(), &mut told)?;
     }
     Ok(told)

@@ -7,7 +7,7 @@ use crate::opening::opened;
 use crate::slow::slow_row;
 use pk_copy::LentKey;
 use row_view::{Column, RowBytes, RowView};
-use source_feed::{Change, Feed, FeedFault, Group, Image, Prepared, read_groups};
+use source_feed::{Change, Feed, FeedFault, Group, Groups, Image, Prepared, read_groups};
 use std::alloc::{AllocError, Global};
 use std::sync::Arc;
 use std::test::Fail;
@@ -65,7 +65,7 @@ fn byte_at(row: &RowView<'_>, place: usize) -> u8 {
 }
 
 /// What a change leaves at a digit, the value of a row or 0 for nothing; `None` where it doesn't touch it.
-fn left_by(change: &Change<'_>, digit: u8) -> Option<u8> {
+fn left_by(change: &Change<'_, '_>, digit: u8) -> Option<u8> {
     if let Some(row) = change.after() {
         if byte_at(&row, 0) == digit {
             return Some(byte_at(&row, 1));
@@ -78,20 +78,21 @@ fn left_by(change: &Change<'_>, digit: u8) -> Option<u8> {
 }
 
 /// What the latest change of a group that touches a digit leaves there.
-fn left_by_group(group: &Group<'_>, digit: u8) -> Option<u8> {
-    for change in group.changes().iter().rev() {
-        let left = left_by(change, digit);
-        if left.is_some() {
-            return left;
-        }
+fn left_by_group(group: &Group<'_, '_>, digit: u8) -> Option<u8> {
+    let mut latest = None;
+    for change in group.changes() {
+        latest = left_by(&change, digit).or(latest);
     }
-    None
+    latest
 }
 
-/// The value that stands at a digit after some groups, if it passes; else 0.
-fn slow_value(groups: &[Group<'_>], digit: u8) -> u8 {
-    for group in groups.iter().rev() {
-        match left_by_group(group, digit) {
+/// The value that stands at a digit after so many groups, if it passes; else 0.
+fn slow_value(groups: &Groups<'_>, number: usize, digit: u8) -> u8 {
+    for place in (0..number).rev() {
+        let Some(group) = groups.get(place) else {
+            return 0;
+        };
+        match left_by_group(&group, digit) {
             None => {}
             Some(left) if left == b'a' || left == b'c' => return left,
             Some(_) => return 0,
@@ -111,10 +112,10 @@ fn image_value(rows: &[(&LentKey<'_>, &RowBytes<'_>)], digit: u8) -> u8 {
     0
 }
 
-/// The image's rows and the changes say the same of every digit.
-fn agree(rows: &[(&LentKey<'_>, &RowBytes<'_>)], groups: &[Group<'_>]) -> bool {
+/// The image's rows and the changes of so many groups say the same of every digit.
+fn agree(rows: &[(&LentKey<'_>, &RowBytes<'_>)], groups: &Groups<'_>, number: usize) -> bool {
     for digit in b'1'..=b'5' {
-        if image_value(rows, digit) != slow_value(groups, digit) {
+        if image_value(rows, digit) != slow_value(groups, number, digit) {
             return false;
         }
     }
@@ -168,13 +169,13 @@ fn is_image<'h>(
     image: &Image<'h>,
     number: usize,
     prepared: &[Arc<Prepared<'h>>],
-    groups: &[Group<'_>],
+    groups: &Groups<'_>,
 ) -> Result<bool, AllocError> {
-    let (Some(prepared), Some(groups)) = (prepared.get(..number), groups.get(..number)) else {
+    let Some(prepared) = prepared.get(..number) else {
         return Ok(false);
     };
     let rows = image.chunk(alloc, 1, None, 9)?;
-    Ok(agree(&rows, groups) && is_kept(&rows, prepared))
+    Ok(agree(&rows, groups, number) && is_kept(&rows, prepared))
 }
 
 /// Adds a group of a feed with its touches.
@@ -202,7 +203,7 @@ fn nine_groups<'h>(alloc: Global, feed: &Feed<'h>) -> Result<Vec<Arc<Prepared<'h
 fn agrees<'h>(
     alloc: Global,
     prepared: &[Arc<Prepared<'h>>],
-    groups: &[Group<'_>],
+    groups: &Groups<'_>,
 ) -> Result<bool, AllocError> {
     let mut image = Image::new(alloc);
     let mut number = 0usize;

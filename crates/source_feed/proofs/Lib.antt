@@ -2,6 +2,7 @@ pub mod Options
 pub mod Names
 pub mod Blocks
 pub mod Steps
+pub mod ReaderSteps
 pub mod EventByEventLaws
 pub mod Messages
 pub mod GrammarLaws
@@ -11,6 +12,7 @@ pub mod DefinedLaws
 pub mod KeptLaws
 pub mod PlanLaws
 pub mod PlannedLaws
+pub mod NumberedLaws
 pub mod PreparedLaws
 pub mod SoundLaws
 pub mod SoundGroupLaws

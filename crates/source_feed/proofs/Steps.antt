@@ -1,5 +1,5 @@
 -- One event more, for the events that may end a block.
-use Rattle.std.proofs.Common.{◌≡◌, ℕ, List, [], ◌∷◌, true, false, cond, Option, None, Some, Result, Ok, Err, refl, sym, ◌∙◌, ap, inl, inr}
+use Rattle.std.proofs.Common.{◌≡◌, ℕ, List, [], ◌∷◌, ◌++◌, map, true, false, cond, Option, None, Some, Result, Ok, Err, refl, sym, ◌∙◌, ap, inl, inr}
 use Rattle.std.proofs.lemmas.Bool.{cases_Bool, cond-true, cond-false}
 use Rattle.std.specs.Option.{option_map, option_or}
 use Rattle.gtid_set.specs.Position.{IsCanonical}
@@ -15,7 +15,8 @@ use Rattle.source_feed.specs.SourceValue.{SourceValue, own_gtid}
 use Rattle.source_feed.specs.PastEvents.{PastEvents, is_open, width_of, past_set, past_set_of_text, body_position, body_changes}
 use Rattle.source_feed.specs.Groups.{block_at, block_at_position, block_fault, position_fault, entry_fault, commit_fault, fault_at}
 use Rattle.source_feed.specs.Private.BlockEnd.{block_end}
-use Rattle.source_feed.specs.Private.TableWidths.{width_in, counted}
+use Rattle.source_feed.specs.Private.FeedTables.{width_in, names_in, counted}
+use Rattle.source_feed.specs.Private.KeptGroups.{KeptChangeValue, named, named_group}
 use Rattle.source_feed.specs.Private.ReaderState.{Body, body_of, body_held, IsBehind, TakesEvent}
 use Rattle.source_feed.specs.Private.SetLaws.{SetLaws}
 use Rattle.source_feed.proofs.Blocks.{Ends, BlockEnds, block_end-ends}
@@ -48,8 +49,17 @@ pub fault_from : {Y : Type 0} (fault : FeedFault) (definition : Result Y FeedFau
 fault_from Memory definition expected h r = tt
 fault_from fault definition expected h r = h r
 
-pub ends_before : (source : SourceValue) (earlier : PastEvents) (old : GroupReader) → IsBehind source earlier old → Ends source earlier old.groups.items
-ends_before source earlier old m = record { groups = m.groups; last = m.last; canonical = m.seen_canonical }
+-- the names of a reader's tables, and of those that the feed names later
+abbrev pub names_with : GroupReader → List (List ℕ) → List (List ℕ)
+names_with reader later = names_in reader.tables ++ later
+
+pub ends_before : (source : SourceValue) (earlier : PastEvents) (old : GroupReader) → IsBehind source earlier old → (later : List (List ℕ)) → Ends (names_with old later) source earlier old.groups.items
+ends_before source earlier old m later = record { groups = m.groups later; last = m.last; canonical = m.seen_canonical }
+
+-- groups say the same where the tables have the same names
+pub same_groups : (old new : GroupReader) (later : List (List ℕ)) → names_in new.tables ≡ names_in old.tables
+    → map (named_group (names_with new later)) new.groups.items ≡ map (named_group (names_with old later)) new.groups.items
+same_groups old new later t = ap (λ names. map (named_group (names ++ later)) new.groups.items) t
 
 -- ---- COMMIT
 
@@ -66,35 +76,41 @@ commit_faults : (source : SourceValue) (earlier : PastEvents) (position : Positi
     → fault_at source earlier Commit ≡ block_fault source earlier position
 commit_faults source earlier position changes o = cond-true (is_open earlier) _ _ o.opened ∙ ap (commit_fault source earlier) o.position
 
-pub commit-puts : SetLaws → {X : Type 0} (source : SourceValue) (earlier : PastEvents) (old new : GroupReader) (result : Result X FeedFault) (position : Position) (changes : List TableChangeValue)
-    → IsBehind source earlier old → body_held old.transaction ≡ Some (record { position = Some position; changes = changes })
-    → body_held new.transaction ≡ None → ((table : List ℕ) → width_in new.widths table ≡ width_in old.widths table)
+pub commit-puts : SetLaws → {X : Type 0} (source : SourceValue) (earlier : PastEvents) (old new : GroupReader) (result : Result X FeedFault) (position : Position) (changes : List KeptChangeValue)
+    → IsBehind source earlier old → ((names : List (List ℕ)) → body_held names old.transaction ≡ Some (record { position = Some position; changes = map (named names) changes }))
+    → ((names : List (List ℕ)) → body_held names new.transaction ≡ None) → ((table : List ℕ) → width_in new.tables table ≡ width_in old.tables table) → names_in new.tables ≡ names_in old.tables
     → GivesUnless meant_of (λ _. new.groups.items) result (block_end old.groups.items position changes)
     → TakesEvent source earlier Commit result new
-commit-puts laws source earlier old new (Ok x) position changes m b n w g =
-    let o : Opened source earlier (record { position = Some position; changes = changes }) = opened_from source earlier _ (sym b ∙ m.body) in
-    let p : IsCanonical position = m.body_canonical position o.position in
-    let all : BlockEnds source earlier Commit old.groups.items position changes (block_end old.groups.items position changes)
-    = block_end-ends laws source earlier Commit old.groups.items position changes (commit_block source earlier position changes o) p (ends_before source earlier old m) in
-    let ends : BlockEnds source earlier Commit old.groups.items position changes (Ok new.groups.items) = rw g at all in (
-      commit_faults source earlier position changes o ∙ ends.0,
-      record {
-        body = n;
-        widths = λ table. w table ∙ m.widths table;
-        groups = ends.1.groups;
-        last = ends.1.last;
-        seen_canonical = ends.1.canonical;
-        body_canonical = m.body_canonical;
-      },
-    )
-commit-puts laws source earlier old new (Err fault) position changes m b n w g =
-    let o : Opened source earlier (record { position = Some position; changes = changes }) = opened_from source earlier _ (sym b ∙ m.body) in
-    let p : IsCanonical position = m.body_canonical position o.position in
-    let all : BlockEnds source earlier Commit old.groups.items position changes (block_end old.groups.items position changes)
-    = block_end-ends laws source earlier Commit old.groups.items position changes (commit_block source earlier position changes o) p (ends_before source earlier old m) in
-    fault_from fault (block_end old.groups.items position changes) (fault_at source earlier Commit)
-    (λ e. (let ends : BlockEnds source earlier Commit old.groups.items position changes (Err fault) = rw e at all in commit_faults source earlier position changes o ∙ ends))
-    g
+commit-puts laws {X = X} source earlier old new result position changes m b n w t g =
+    let o : (later : List (List ℕ)) → Opened source earlier (record { position = Some position; changes = map (named (names_with old later)) changes })
+    = λ later. opened_from source earlier _ (sym (b (names_with old later)) ∙ m.body later) in
+    let p : IsCanonical position = m.body_canonical position (o []).position in
+    let all : (later : List (List ℕ)) → BlockEnds (names_with old later) source earlier Commit old.groups.items position changes (block_end old.groups.items position changes)
+    = λ later. block_end-ends laws (names_with old later) source earlier Commit old.groups.items position changes (commit_block source earlier position (map (named (names_with old later)) changes) (o later)) p (ends_before source earlier old m later) in
+    let fault : fault_at source earlier Commit ≡ block_fault source earlier position = commit_faults source earlier position (map (named (names_with old [])) changes) (o []) in
+    by_result result g all fault
+  where
+    by_result : (result : Result X FeedFault)
+        → GivesUnless meant_of (λ _. new.groups.items) result (block_end old.groups.items position changes)
+        → ((later : List (List ℕ)) → BlockEnds (names_with old later) source earlier Commit old.groups.items position changes (block_end old.groups.items position changes))
+        → fault_at source earlier Commit ≡ block_fault source earlier position
+        → TakesEvent source earlier Commit result new
+    by_result (Ok x) g all fault =
+        let ends : (later : List (List ℕ)) → BlockEnds (names_with old later) source earlier Commit old.groups.items position changes (Ok new.groups.items) = λ later. rw g at all later in (
+          fault ∙ (ends []).0,
+          record {
+            body = λ later. n (names_with new later);
+            widths = λ table. w table ∙ m.widths table;
+            groups = λ later. same_groups old new later t ∙ (ends later).1.groups;
+            last = (ends []).1.last;
+            seen_canonical = (ends []).1.canonical;
+            body_canonical = m.body_canonical;
+          },
+        )
+    by_result (Err f) g all fault =
+        fault_from f (block_end old.groups.items position changes) (fault_at source earlier Commit)
+        (λ e. (let ends : BlockEnds (names_with old []) source earlier Commit old.groups.items position changes (Err f) = rw e at all [] in fault ∙ ends))
+        g
 
 -- ---- a position
 
@@ -103,57 +119,59 @@ pub record Carries (source : SourceValue) (event : EventValue) (text : List ℕ)
   pub same_open : (earlier : PastEvents) → is_open (event ∷ earlier) ≡ is_open earlier
   pub widths : (earlier : PastEvents) (table : List ℕ) → width_of source (event ∷ earlier) table ≡ width_of source earlier table
   pub position : (earlier : PastEvents) → body_position source (event ∷ earlier) ≡ option_or (past_set (position_of_text text)) (body_position source earlier)
+  pub changes : (earlier : PastEvents) → body_changes source (event ∷ earlier) ≡ body_changes source earlier
   pub block : (earlier : PastEvents) → block_at source earlier event ≡ cond (is_open earlier) None (block_at_position (past_set (position_of_text text)) [])
   pub fault : (earlier : PastEvents) → fault_at source earlier event ≡ position_fault source earlier (position_of_text text)
 
 pub carries-gtid : (source : SourceValue) (text : List ℕ) → Carries source (Gtid text) text
-carries-gtid source text = record { same_open = λ earlier. refl; widths = λ earlier table. refl; position = λ earlier. refl; block = λ earlier. refl; fault = λ earlier. refl }
+carries-gtid source text = record { same_open = λ earlier. refl; widths = λ earlier table. refl; position = λ earlier. refl; changes = λ earlier. refl; block = λ earlier. refl; fault = λ earlier. refl }
 
 pub carries-vgtid : (source : SourceValue) (entries : List ShardGtidValue) (text : List ℕ) → own_gtid source entries ≡ Some text → Carries source (Vgtid entries) text
 carries-vgtid source entries text own = record {
   same_open = λ earlier. refl;
   widths = λ earlier table. refl;
   position = λ earlier. ap (λ o. option_or (past_set_of_text o) (body_position source earlier)) own;
+  changes = λ earlier. refl;
   block = λ earlier. ap (λ o. cond (is_open earlier) None (block_at_position (past_set_of_text o) [])) own;
   fault = λ earlier. ap (entry_fault source earlier) own;
 }
 
 pub position-puts : SetLaws → {X : Type 0} (source : SourceValue) (earlier : PastEvents) (event : EventValue) (text : List ℕ) (old new : GroupReader) (result : Result X FeedFault) (position : Position)
     → Carries source event text → position_of_text text ≡ Ok position → IsCanonical position
-    → IsBehind source earlier old → body_held old.transaction ≡ None
-    → body_held new.transaction ≡ None → ((table : List ℕ) → width_in new.widths table ≡ width_in old.widths table)
+    → IsBehind source earlier old → ((names : List (List ℕ)) → body_held names old.transaction ≡ None)
+    → ((names : List (List ℕ)) → body_held names new.transaction ≡ None) → ((table : List ℕ) → width_in new.tables table ≡ width_in old.tables table) → names_in new.tables ≡ names_in old.tables
     → GivesUnless meant_of (λ _. new.groups.items) result (block_end old.groups.items position [])
     → TakesEvent source earlier event result new
-position-puts laws {X = X} source earlier event text old new result position carries read p m b n w g =
-    let closed : is_open earlier ≡ false = closed_from source earlier (sym b ∙ m.body) in
+position-puts laws {X = X} source earlier event text old new result position carries read p m b n w t g =
+    let closed : is_open earlier ≡ false = closed_from source earlier (sym (b (names_with old [])) ∙ m.body []) in
     let block : block_at source earlier event ≡ Some (record { position = position; changes = [] })
     = carries.block earlier ∙ cond-false (is_open earlier) _ _ closed ∙ ap (λ r. block_at_position (past_set r) []) read in
     let fault : fault_at source earlier event ≡ block_fault source earlier position
     = carries.fault earlier ∙ ap (position_fault source earlier) read ∙ cond-false (is_open earlier) _ _ closed in
-    let all : BlockEnds source earlier event old.groups.items position [] (block_end old.groups.items position [])
-    = block_end-ends laws source earlier event old.groups.items position [] block p (ends_before source earlier old m) in
+    let all : (later : List (List ℕ)) → BlockEnds (names_with old later) source earlier event old.groups.items position [] (block_end old.groups.items position [])
+    = λ later. block_end-ends laws (names_with old later) source earlier event old.groups.items position [] block p (ends_before source earlier old m later) in
     by_result result g all closed fault
   where
     by_result : (result : Result X FeedFault)
         → GivesUnless meant_of (λ _. new.groups.items) result (block_end old.groups.items position [])
-        → BlockEnds source earlier event old.groups.items position [] (block_end old.groups.items position [])
+        → ((later : List (List ℕ)) → BlockEnds (names_with old later) source earlier event old.groups.items position [] (block_end old.groups.items position []))
         → is_open earlier ≡ false
         → fault_at source earlier event ≡ block_fault source earlier position
         → TakesEvent source earlier event result new
     by_result (Ok x) g all closed fault =
-        let ends : BlockEnds source earlier event old.groups.items position [] (Ok new.groups.items) = rw g at all in
+        let ends : (later : List (List ℕ)) → BlockEnds (names_with old later) source earlier event old.groups.items position [] (Ok new.groups.items) = λ later. rw g at all later in
         let last : body_position source (event ∷ earlier) ≡ Some position = carries.position earlier ∙ ap (λ r. option_or (past_set r) (body_position source earlier)) read in (
-          fault ∙ ends.0,
+          fault ∙ (ends []).0,
           record {
-            body = n ∙ sym (cond-false (is_open (event ∷ earlier)) _ _ (carries.same_open earlier ∙ closed));
+            body = λ later. n (names_with new later) ∙ sym (cond-false (is_open (event ∷ earlier)) _ _ (carries.same_open earlier ∙ closed));
             widths = λ table. w table ∙ m.widths table ∙ sym (ap (option_map counted) (carries.widths earlier table));
-            groups = ends.1.groups;
-            last = ends.1.last;
-            seen_canonical = ends.1.canonical;
+            groups = λ later. same_groups old new later t ∙ (ends later).1.groups;
+            last = (ends []).1.last;
+            seen_canonical = (ends []).1.canonical;
             body_canonical = λ other e. (let same : Some position ≡ Some other = sym last ∙ e in let equal : position ≡ other = cc in rw (← equal) p);
           },
         )
     by_result (Err f) g all closed fault =
         fault_from f (block_end old.groups.items position []) (fault_at source earlier event)
-        (λ e. (let ends : BlockEnds source earlier event old.groups.items position [] (Err f) = rw e at all in fault ∙ ends))
+        (λ e. (let ends : BlockEnds (names_with old []) source earlier event old.groups.items position [] (Err f) = rw e at all [] in fault ∙ ends))
         g

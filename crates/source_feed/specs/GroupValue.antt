@@ -18,3 +18,7 @@ pub record GroupValue : Type 0 where
   pub number : ℕ
   pub position : Position
   pub changes : List TableChangeValue
+
+-- the groups of a feed, in order
+pub record GroupsValue : Type 0 where
+  pub items : List GroupValue

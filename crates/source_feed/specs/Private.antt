@@ -1,7 +1,9 @@
 -- What serves the loops over a feed alone, and no public contract.
 pub mod SetLaws
 pub mod EventByEvent
-pub mod TableWidths
+pub mod FeedTables
+pub mod KeptGroups
+pub mod NamedGroups
 pub mod KeptChanges
 pub mod BlockEnd
 pub mod ReaderState

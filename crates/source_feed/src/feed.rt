@@ -62,11 +62,11 @@ impl<'h> Feed<'h> {
             shard: plan.shard(),
         };
         let mut field_check = FieldCheck::new(Some(plan));
-        let groups = read(alloc, feed, &source, &mut field_check)?;
+        let kept = read(alloc, feed, &source, &mut field_check)?;
         if field_check.differs {
             return Err(FeedFault::FieldsDiffer);
         }
-        let groups = planned_groups(alloc, plan, groups)?;
+        let groups = planned_groups(alloc, kept)?;
         Ok(Feed {
             plan: Arc::clone(plan)?,
             groups,

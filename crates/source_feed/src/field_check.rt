@@ -4,6 +4,7 @@ ghost use Rattle.std.specs.Prelude.{◌≡◌, ◌||◌, option_copied, None, So
 ghost use Rattle.vevent.specs.EventValue as value;
 ghost use Rattle.vevent.specs.EventView.{event_value};
 ghost use Rattle.source_feed.specs.Planned.{same_columns, differs, differs_from};
+ghost use Rattle.source_feed.specs.Private.FeedTables.{number_under};
 
 use crate::source::Source;
 use filter_rule::{ColumnDef, Plan};
@@ -26,6 +27,16 @@ impl<'p> FieldCheck<'p> {
         FieldCheck {
             plan,
             differs: false,
+        }
+    }
+
+    /// A table's number in the plan, where there is a plan that has it.
+    pub(crate) fn number(&self, table: &str) -> Option<u8>
+        ensures { result ≡ number_under (option_copied self.now.plan) table.now }
+    {
+        match self.plan {
+            None => None,
+            Some(plan) => plan.table(table),
         }
     }
 

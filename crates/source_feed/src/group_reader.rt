@@ -1,6 +1,6 @@
 //! The groups of the events of a feed, event after event.
 
-ghost use Rattle.std.specs.Prelude.{◌≡◌, List, Option, ◌+◌, ◌^◌, ◌<◌, ◌≤◌, [], Some, None, Ok, IfOk, length};
+ghost use Rattle.std.specs.Prelude.{◌≡◌, List, Option, ◌+◌, ◌^◌, ◌<◌, ◌≤◌, [], Some, None, Ok, OnOk, IfOk, length, option_copied};
 ghost use Rattle.vevent.specs.EventValue as value;
 ghost use Rattle.vevent.specs.EventValue.{ShardGtidValue};
 ghost use Rattle.source_feed.specs.SourceValue.{SourceValue, own_gtid};
@@ -9,13 +9,14 @@ ghost use Rattle.outcome.specs.Outcome.{GivesUnless};
 ghost use Rattle.source_feed.specs.FaultNumber.{meant_of};
 ghost use Rattle.source_feed.specs.PastEvents.{PastEvents};
 ghost use Rattle.source_feed.specs.Private.EventByEvent.{groups_at_end};
-ghost use Rattle.source_feed.specs.Private.TableWidths.{counted};
+ghost use Rattle.source_feed.specs.Private.FeedTables.{counted};
 
 use crate::fault::FeedFault;
-use crate::group::{Change, Group};
+use crate::feed_tables::FeedTables;
+use crate::field_check::FieldCheck;
+use crate::kept::{KeptChange, KeptGroup, KeptGroups};
 use crate::set_laws::set_laws;
 use crate::source::Source;
-use crate::table_widths::TableWidths;
 use crate::transaction::Transaction;
 use gtid_set::GtidSet;
 use std::alloc::Global;
@@ -26,10 +27,10 @@ use vevent::{ColumnFields, Event, FieldEvent, RowEvent};
 pub(crate) struct GroupReader<'h> {
     /// the open transaction, if one is open
     transaction: Option<Transaction<'h>>,
-    /// the number of columns of each table's last FIELD
-    widths: TableWidths<'h>,
+    /// the tables that FIELD events have named
+    tables: FeedTables<'h>,
     /// the groups so far; the last one's position contains all earlier positions
-    groups: Vec<Group<'h>>,
+    groups: Vec<KeptGroup<'h>>,
 }
 
 /// The number of columns of a FIELD event; more than 65,535 count as 65,535.
@@ -44,7 +45,7 @@ fn column_count(fields: ColumnFields<'_>) -> u16
 }
 
 /// The position of the last group, or the empty one.
-fn last_position<'g>(groups: &'g [Group<'_>], empty: &'g GtidSet) -> &'g GtidSet
+fn last_position<'g>(groups: &'g [KeptGroup<'_>], empty: &'g GtidSet) -> &'g GtidSet
     requires { empty.now ≡ [] }
     ensures { result.now ≡ last_position groups.now }
 {
@@ -58,9 +59,9 @@ fn last_position<'g>(groups: &'g [Group<'_>], empty: &'g GtidSet) -> &'g GtidSet
 #[inline(always)]
 fn end_block<'h>(
     alloc: Global,
-    groups: &mut Vec<Group<'h>>,
+    groups: &mut Vec<KeptGroup<'h>>,
     position: GtidSet,
-    changes: Vec<Change<'h>>,
+    changes: Vec<KeptChange<'h>>,
 ) -> Result<(), FeedFault>
     requires { length groups.old.items + 1 < 2 ^ 32 }
     ensures block { GivesUnless meant_of (λ _. groups.new.items) result (block_end groups.old.items position changes.entry.items) }
@@ -77,7 +78,7 @@ fn end_block<'h>(
     }
     let mut changes = changes;
     changes.shrink_to_fit();
-    groups.push(Group {
+    groups.push(KeptGroup {
         number,
         position,
         changes,
@@ -86,6 +87,10 @@ fn end_block<'h>(
 }
 
 impl<'h> GroupReader<'h> {
+    ghost use Rattle.filter_rule.specs.PlanValue.{PlanValue};
+    ghost use Rattle.source_feed.specs.Private.FeedTables.{AreNumbered, names_in};
+    ghost use Rattle.source_feed.specs.Private.KeptGroups.{AreOfTables};
+    ghost use Rattle.source_feed.specs.Private.NamedGroups.{all_named};
     ghost use Rattle.source_feed.specs.Private.ReaderState.{IsBehind, TakesEvent};
     ghost use Rattle.vevent.specs.EventView.{event_value};
 
@@ -93,10 +98,11 @@ impl<'h> GroupReader<'h> {
     pub(crate) fn new(alloc: Global) -> GroupReader<'h>
         ensures meaning { (source : SourceValue) → IsBehind source [] result }
         ensures none { result.groups.items ≡ [] }
+        ensures numbers { (plan : Option PlanValue) → AreNumbered plan result.tables }
     {
         GroupReader {
             transaction: None,
-            widths: TableWidths::new(alloc),
+            tables: FeedTables::new(alloc),
             groups: Vec::new(alloc),
         }
     }
@@ -106,11 +112,13 @@ impl<'h> GroupReader<'h> {
         &mut self,
         alloc: Global,
         source: &Source<'_>,
+        field_check: &FieldCheck<'_>,
         event: Event<'h>,
     ) -> Result<(), FeedFault>
         requires { length self.old.groups.items + 1 < 2 ^ 32 }
         ensures meaning { (earlier : PastEvents) → IsBehind source.now earlier self.old → TakesEvent source.now earlier (event_value event.entry) result self.new }
         ensures grows { length self.new.groups.items ≤ length self.old.groups.items + 1 }
+        ensures numbers { OnOk result (AreNumbered (option_copied field_check.now.plan) self.old.tables → AreNumbered (option_copied field_check.now.plan) self.new.tables) }
     {
         match event {
             Event::Begin => self.begin(alloc),
@@ -120,7 +128,7 @@ impl<'h> GroupReader<'h> {
                 Ok(())
             }
             Event::Row(row) => self.put_row(source, &row),
-            Event::Field(field) => self.put_field(source, &field),
+            Event::Field(field) => self.put_field(source, field_check, &field),
             Event::Gtid(text) => self.put_position(alloc, text),
             Event::Vgtid(vgtid) => match source.own_gtid(&vgtid) {
                 Some(text) => self.put_position(alloc, text),
@@ -130,26 +138,28 @@ impl<'h> GroupReader<'h> {
         }
     }
 
-    /// The groups, where no transaction is open.
-    pub(crate) fn end(self) -> Result<Vec<Group<'h>>, FeedFault>
-        ensures groups { (source : SourceValue) (history : PastEvents) → IsBehind source history self.entry → GivesUnless meant_of (λ all. all.items) result (groups_at_end source (Ok history)) }
-        ensures held { IfOk result (λ all. all.items ≡ self.entry.groups.items) }
+    /// The groups with the feed's tables, where no transaction is open.
+    pub(crate) fn end(self) -> Result<KeptGroups<'h>, FeedFault>
+        ensures groups { (source : SourceValue) (history : PastEvents) → IsBehind source history self.entry → GivesUnless meant_of all_named result (groups_at_end source (Ok history)) }
+        ensures tables { (source : SourceValue) (history : PastEvents) → IsBehind source history self.entry → IfOk result (λ all. AreOfTables (names_in all.tables) all.groups.items) }
+        ensures held { IfOk result (λ all. (all.groups.items ≡ self.entry.groups.items) × (all.tables ≡ self.entry.tables)) }
     {
         let GroupReader {
             transaction,
-            widths: _,
+            tables,
             groups,
         } = self;
         if transaction.is_some() {
             return Err(FeedFault::OpenAtEnd);
         }
-        Ok(groups)
+        Ok(KeptGroups { tables, groups })
     }
 
     /// BEGIN opens a transaction; inside of one it is refused.
     fn begin(&mut self, alloc: Global) -> Result<(), FeedFault>
         ensures meaning { (source : SourceValue) (earlier : PastEvents) → IsBehind source earlier self.old → TakesEvent source earlier value.Begin result self.new }
         ensures same { self.new.groups.items ≡ self.old.groups.items }
+        ensures tables { self.new.tables ≡ self.old.tables }
     {
         if self.transaction.is_some() {
             return Err(FeedFault::Misplaced);
@@ -166,6 +176,7 @@ impl<'h> GroupReader<'h> {
         requires { length self.old.groups.items + 1 < 2 ^ 32 }
         ensures meaning { (source : SourceValue) (earlier : PastEvents) → IsBehind source earlier self.old → TakesEvent source earlier value.Commit result self.new }
         ensures grows { length self.new.groups.items ≤ length self.old.groups.items + 1 }
+        ensures tables { self.new.tables ≡ self.old.tables }
     {
         let Some(Transaction { position, changes }) = self.transaction.take() else {
             return Ok(());
@@ -181,23 +192,33 @@ impl<'h> GroupReader<'h> {
     fn put_row(&mut self, source: &Source<'_>, row: &RowEvent<'h>) -> Result<(), FeedFault>
         ensures meaning { (earlier : PastEvents) → IsBehind source.now earlier self.old → TakesEvent source.now earlier (value.Row row.now.table_name row.now.changes) result self.new }
         ensures same { self.new.groups.items ≡ self.old.groups.items }
+        ensures tables { self.new.tables ≡ self.old.tables }
     {
-        let table = source.table(row.table_name());
-        let width = self.widths.get(table);
-        match &mut self.transaction {
-            Some(transaction) => transaction.put_row(table, width, row),
-            None => Err(FeedFault::Misplaced),
-        }
+        let Some(transaction) = &mut self.transaction else {
+            return Err(FeedFault::Misplaced);
+        };
+        let Some((place, width)) = self.tables.find(source.table(row.table_name())) else {
+            return Err(FeedFault::NoFields);
+        };
+        transaction.put_row(place, width, row)
     }
 
     /// FIELD sets the columns of its table from here on.
-    fn put_field(&mut self, source: &Source<'_>, field: &FieldEvent<'h>) -> Result<(), FeedFault>
+    fn put_field(
+        &mut self,
+        source: &Source<'_>,
+        field_check: &FieldCheck<'_>,
+        field: &FieldEvent<'h>,
+    ) -> Result<(), FeedFault>
         ensures meaning { (earlier : PastEvents) → IsBehind source.now earlier self.old → TakesEvent source.now earlier (value.Field field.now.table_name field.now.fields) result self.new }
         ensures same { self.new.groups.items ≡ self.old.groups.items }
+        ensures numbers { OnOk result (AreNumbered (option_copied field_check.now.plan) self.old.tables → AreNumbered (option_copied field_check.now.plan) self.new.tables) }
     {
-        self.widths.set(
-            source.table(field.table_name()),
+        let table = source.table(field.table_name());
+        self.tables.set(
+            table,
             column_count(field.fields()),
+            field_check.number(table),
         )?;
         Ok(())
     }
@@ -208,6 +229,7 @@ impl<'h> GroupReader<'h> {
         ensures gtid { (source : SourceValue) (earlier : PastEvents) → IsBehind source earlier self.old → TakesEvent source earlier (value.Gtid text.now) result self.new }
         ensures vgtid { (source : SourceValue) (earlier : PastEvents) (entries : List ShardGtidValue) → own_gtid source entries ≡ Some text.now → IsBehind source earlier self.old → TakesEvent source earlier (value.Vgtid entries) result self.new }
         ensures grows { length self.new.groups.items ≤ length self.old.groups.items + 1 }
+        ensures tables { self.new.tables ≡ self.old.tables }
     {
         set_laws();
         let position = GtidSet::parse(alloc, text)?;

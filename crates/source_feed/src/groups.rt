@@ -14,12 +14,16 @@ ghost use Rattle.source_feed.specs.Groups.{groups};
 ghost use Rattle.source_feed.specs.FirstFault.{StandsIn};
 ghost use Rattle.source_feed.specs.Private.EventByEvent.{past_behind};
 ghost use Rattle.source_feed.specs.Planned.{differs_from};
+ghost use Rattle.source_feed.specs.Private.FeedTables.{AreNumbered, names_in};
+ghost use Rattle.source_feed.specs.Private.KeptGroups.{AreOfTables};
+ghost use Rattle.source_feed.specs.Private.NamedGroups.{all_named};
 ghost use Rattle.source_feed.specs.Private.ReaderState.{IsBehind, TakesEvents};
 
+use crate::all_groups::Groups;
 use crate::fault::FeedFault;
 use crate::field_check::FieldCheck;
-use crate::group::Group;
 use crate::group_reader::GroupReader;
+use crate::kept::KeptGroups;
 use crate::set_laws::set_laws;
 use crate::source::Source;
 use proto_wire::Frames;
@@ -41,13 +45,14 @@ fn put_message<'h>(
     ensures meaning { (earlier : PastEvents) → IsBehind source.now earlier reader.old →
         TakesEvents source.now (past_behind source.now earlier (response_of message.now).items (end_of_message (response_of message.now).fault)) result reader.new }
     ensures grows { length reader.new.groups.items ≤ length reader.old.groups.items + length (response_of message.now).items }
+    ensures numbers { OnOk result (AreNumbered (option_copied field_check.old.plan) reader.old.tables → AreNumbered (option_copied field_check.old.plan) reader.new.tables) }
     ensures plan { option_copied field_check.new.plan ≡ option_copied field_check.old.plan }
     ensures seen { OnOk result (field_check.new.differs ≡ (field_check.old.differs || list_any (differs_from (option_copied field_check.old.plan)) (response_of message.now).items)) }
 {
     let mut events = Response::new(message);
     while let Some(event) = events.next_event()? {
         field_check.see(&event);
-        reader.put(alloc, source, event)?;
+        reader.put(alloc, source, field_check, event)?;
     }
     Ok(())
 }
@@ -62,6 +67,7 @@ fn put_feed<'h>(
     requires { length feed.now < 2 ^ 31 }
     ensures ok { IfOk result (λ reader. TakesEvents source.now (past_behind source.now [] (events_of_feed feed.now).items (events_of_feed feed.now).fault) result reader) }
     ensures few { IfOk result (λ reader. length reader.groups.items < 2 ^ 31) }
+    ensures numbers { IfOk result (λ reader. AreNumbered (option_copied field_check.old.plan) reader.tables) }
     ensures err { IfErr result (λ fault. Refuses meant_of fault (past_behind source.now [] (events_of_feed feed.now).items (events_of_feed feed.now).fault)) }
     ensures seen { OnOk result (field_check.new.differs ≡ (field_check.old.differs || list_any (differs_from (option_copied field_check.old.plan)) (events_of_feed feed.now).items)) }
 {
@@ -73,16 +79,19 @@ fn put_feed<'h>(
     Ok(reader)
 }
 
-/// The groups of a feed, or its fault; each event is checked against the plan, where there is one.
+/// The groups of a feed with its tables, or its fault; each event is checked against the plan, where there is
+/// one.
 pub(crate) fn read<'h>(
     alloc: Global,
     feed: &'h [u8],
     source: &Source<'_>,
     field_check: &mut FieldCheck<'_>,
-) -> Result<Vec<Group<'h>>, FeedFault>
-    ensures groups { GivesUnless meant_of (λ all. all.items) result (groups feed.now source.now) }
-    ensures order { IfOk result (λ all. AreInOrder (λ (g : GroupValue). g.number) (λ (g : GroupValue). g.position) all.items) }
-    ensures few { IfOk result (λ all. length all.items < 2 ^ 31) }
+) -> Result<KeptGroups<'h>, FeedFault>
+    ensures groups { GivesUnless meant_of all_named result (groups feed.now source.now) }
+    ensures order { IfOk result (λ all. AreInOrder (λ (g : GroupValue). g.number) (λ (g : GroupValue). g.position) (all_named all)) }
+    ensures few { IfOk result (λ all. length (all_named all) < 2 ^ 31) }
+    ensures tables { IfOk result (λ all. AreOfTables (names_in all.tables) all.groups.items) }
+    ensures numbers { IfOk result (λ all. AreNumbered (option_copied field_check.old.plan) all.tables) }
     ensures seen { OnOk result (field_check.new.differs ≡ (field_check.old.differs || list_any (differs_from (option_copied field_check.old.plan)) (events_of_feed feed.now).items)) }
     ensures too_long { 2 ^ 31 ≤ length feed.now → result ≡ Err FeedTooLong }
 {
@@ -110,7 +119,7 @@ pub fn read_groups<'h>(
     feed: &'h [u8],
     keyspace: &str,
     shard: &str,
-) -> Result<Vec<Group<'h>>, FeedFault>
+) -> Result<Groups<'h>, FeedFault>
     // The groups are given exactly where they are defined, and else the fault.
     ensures exact { GivesUnless meant_of (λ all. all.items) result (groups feed.now (record { keyspace = keyspace.now; shard = shard.now })) }
     // They are numbered 1, 2, .., their positions grow from the empty set, and they are fewer than 2^31.
@@ -122,5 +131,6 @@ pub fn read_groups<'h>(
     ensures first { IfErr result (λ fault. IfSome (meant_of fault) (StandsIn feed.now (record { keyspace = keyspace.now; shard = shard.now }))) }
 {
     let source = Source { keyspace, shard };
-    read(alloc, feed, &source, &mut FieldCheck::new(None))
+    let kept = read(alloc, feed, &source, &mut FieldCheck::new(None))?;
+    Ok(Groups::new(kept))
 }

@@ -1,16 +1,19 @@
 //! The groups of a recorded feed: the changes that are applied together, with the position after them.
 #![tactic(auto)]
 
+mod all_groups;
 mod changes;
 mod chunk;
 mod fault;
 mod feed;
+mod feed_tables;
 mod field_check;
 mod group;
 mod group_reader;
 mod groups;
 mod image;
 mod judging;
+mod kept;
 mod laws;
 mod pieces;
 mod planned;
@@ -18,14 +21,14 @@ mod prepared;
 mod preparing;
 mod set_laws;
 mod source;
-mod table_widths;
 mod touch;
 mod transaction;
 mod up_to_position;
 
+pub use all_groups::{EachGroup, Groups};
 pub use fault::FeedFault;
 pub use feed::Feed;
-pub use group::{Change, Group};
+pub use group::{Change, Group, GroupChanges};
 pub use groups::{FEED_BYTES, read_groups};
 pub use image::Image;
 pub use laws::{

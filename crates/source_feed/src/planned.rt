@@ -4,14 +4,15 @@ ghost use Rattle.std.specs.Prelude.{◌≡◌, map, IfOk, IfErr};
 ghost use Rattle.std.specs.Arc.{arc_value};
 ghost use Rattle.std.specs.List.{filter_map};
 ghost use Rattle.source_feed.specs.declared.fault.FeedFault.TheVariants.{Memory};
-ghost use Rattle.source_feed.specs.Planned.{planned_change, planned_group};
+ghost use Rattle.source_feed.specs.Private.FeedTables.{numbers_in};
 ghost use Rattle.source_feed.specs.Private.KeptChanges.{listed};
+ghost use Rattle.source_feed.specs.Private.KeptGroups.{numbered, numbered_group};
 ghost use Rattle.source_feed.specs.Private.RowCounts.{rows_in_change};
 
 use crate::changes::Changes;
 use crate::fault::FeedFault;
-use crate::group::{Change, Group};
-use filter_rule::Plan;
+use crate::feed_tables::FeedTables;
+use crate::kept::{KeptChange, KeptGroup, KeptGroups};
 use gtid_set::GtidSet;
 use row_view::RowBytes;
 use std::alloc::{AllocError, Global};
@@ -115,25 +116,25 @@ impl<'h> PlannedGroup<'h> {
 }
 
 /// The change under the plan, if its table is one of the plan's.
-fn planned<'h>(plan: &Plan, change: Change<'h>) -> Option<PlannedChange<'h>>
-    ensures { result ≡ planned_change plan.now change.entry }
+fn planned<'h>(tables: &FeedTables<'_>, change: KeptChange<'h>) -> Option<PlannedChange<'h>>
+    ensures { result ≡ numbered (numbers_in tables.now) change.entry }
 {
-    let table = plan.table(change.table())?;
-    let Change { table: _, rows } = change;
+    let KeptChange { place, rows } = change;
+    let table = tables.number(place)?;
     Some(PlannedChange { table, rows })
 }
 
 /// The changes of the plan's tables, in a block with room for all changes.
 fn planned_list<'h>(
     alloc: Global,
-    plan: &Plan,
-    changes: Vec<Change<'h>>,
+    tables: &FeedTables<'_>,
+    changes: Vec<KeptChange<'h>>,
 ) -> Result<Vec<PlannedChange<'h>>, AllocError>
-    ensures { IfOk result (λ under. under.items ≡ filter_map (planned_change plan.now) changes.entry.items) }
+    ensures { IfOk result (λ under. under.items ≡ filter_map (numbered (numbers_in tables.now)) changes.entry.items) }
 {
     let mut under = Vec::with_capacity(alloc, changes.len())?;
     for change in changes {
-        if let Some(change) = planned(plan, change) {
+        if let Some(change) = planned(tables, change) {
             under.push(change)?;
         }
     }
@@ -143,19 +144,19 @@ fn planned_list<'h>(
 /// The changes of the plan's tables as a group keeps them. Of a single change none takes a block.
 fn planned_changes<'h>(
     alloc: Global,
-    plan: &Plan,
-    changes: Vec<Change<'h>>,
+    tables: &FeedTables<'_>,
+    changes: Vec<KeptChange<'h>>,
 ) -> Result<Changes<'h>, AllocError>
-    ensures { IfOk result (λ under. listed under ≡ filter_map (planned_change plan.now) changes.entry.items) }
+    ensures { IfOk result (λ under. listed under ≡ filter_map (numbered (numbers_in tables.now)) changes.entry.items) }
 {
     if changes.len() > 1 {
-        return Ok(Changes::from_vec(planned_list(alloc, plan, changes)?));
+        return Ok(Changes::from_vec(planned_list(alloc, tables, changes)?));
     }
     let mut changes = changes;
     let Some(only) = changes.pop() else {
         return Ok(Changes::Many(Vec::new(alloc)));
     };
-    match planned(plan, only) {
+    match planned(tables, only) {
         Some(only) => Ok(Changes::One(only)),
         None => Ok(Changes::Many(Vec::new(alloc))),
     }
@@ -164,13 +165,13 @@ fn planned_changes<'h>(
 /// The group under the plan.
 fn planned_of<'h>(
     alloc: Global,
-    plan: &Plan,
-    group: Group<'h>,
+    tables: &FeedTables<'_>,
+    group: KeptGroup<'h>,
 ) -> Result<PlannedGroup<'h>, FeedFault>
-    ensures ok { IfOk result (λ under. under ≡ planned_group plan.now group.entry) }
+    ensures ok { IfOk result (λ under. under ≡ numbered_group (numbers_in tables.now) group.entry) }
     ensures err { IfErr result (λ fault. fault ≡ Memory) }
 {
-    let Group {
+    let KeptGroup {
         number,
         position,
         changes,
@@ -178,22 +179,22 @@ fn planned_of<'h>(
     Ok(PlannedGroup {
         number,
         position: Arc::new(alloc, position)?,
-        changes: planned_changes(alloc, plan, changes)?,
+        changes: planned_changes(alloc, tables, changes)?,
     })
 }
 
-/// The groups under the plan.
+/// The groups under the plan in which the feed's tables have their numbers.
 pub(crate) fn planned_groups<'h>(
     alloc: Global,
-    plan: &Plan,
-    groups: Vec<Group<'h>>,
+    kept: KeptGroups<'h>,
 ) -> Result<Vec<PlannedGroup<'h>>, FeedFault>
-    ensures ok { IfOk result (λ under. under.items ≡ map (planned_group plan.now) groups.entry.items) }
+    ensures ok { IfOk result (λ under. under.items ≡ map (numbered_group (numbers_in kept.entry.tables)) kept.entry.groups.items) }
     ensures err { IfErr result (λ fault. fault ≡ Memory) }
 {
+    let KeptGroups { tables, groups } = kept;
     let mut under = Vec::with_capacity(alloc, groups.len())?;
     for group in groups {
-        under.push(planned_of(alloc, plan, group)?)?;
+        under.push(planned_of(alloc, &tables, group)?)?;
     }
     Ok(under)
 }

@@ -1,18 +1,17 @@
 //! The open transaction of a feed.
 
-ghost use Rattle.std.specs.Prelude.{◌≡◌, ℕ, Option, ◌++◌, None, Some, OnOk, IfErr};
-ghost use Rattle.std.specs.Option.{option_map};
+ghost use Rattle.std.specs.Prelude.{◌≡◌, ℕ, ◌++◌, None, Some, OnOk, IfErr};
 ghost use Rattle.std.specs.List.{list_all};
 ghost use Rattle.outcome.specs.Outcome.{IsFault};
 ghost use Rattle.vevent.specs.Columns.{has_columns, have_columns};
 ghost use Rattle.source_feed.specs.FaultNumber.{meant_of};
 ghost use Rattle.source_feed.specs.declared.fault.FeedFault.TheVariants.{Memory};
-ghost use Rattle.source_feed.specs.PastEvents.{change_in, changes_in};
-ghost use Rattle.source_feed.specs.Private.TableWidths.{counted};
+ghost use Rattle.source_feed.specs.Private.FeedTables.{counted};
+ghost use Rattle.source_feed.specs.Private.KeptGroups.{kept_in, all_kept};
 ghost use Rattle.source_feed.specs.Groups.{row_fault};
 
 use crate::fault::FeedFault;
-use crate::group::Change;
+use crate::kept::KeptChange;
 use gtid_set::GtidSet;
 use row_view::RowView;
 use std::alloc::AllocError;
@@ -23,7 +22,7 @@ use vevent::{RowChange, RowChanges, RowEvent};
 pub(crate) struct Transaction<'h> {
     /// its last position
     pub(crate) position: Option<GtidSet>,
-    pub(crate) changes: Vec<Change<'h>>,
+    pub(crate) changes: Vec<KeptChange<'h>>,
 }
 
 /// A row has so many columns, if there is one.
@@ -62,21 +61,21 @@ fn rows_fit(row: &RowEvent<'_>, width: u16) -> bool
 
 /// Puts a row change behind others, if it has a row.
 fn push_change<'h>(
-    changes: &mut Vec<Change<'h>>,
-    table: &'h str,
+    changes: &mut Vec<KeptChange<'h>>,
+    place: usize,
     rows: RowChange<'h>,
 ) -> Result<(), FeedFault>
-    ensures pushed { OnOk result (changes.new.items ≡ changes.old.items ++ change_in table.now rows.entry) }
+    ensures pushed { OnOk result (changes.new.items ≡ changes.old.items ++ kept_in place rows.entry) }
     ensures err { IfErr result (λ fault. fault ≡ Memory) }
 {
     if rows.has_before() || rows.has_after() {
-        changes.push(Change { table, rows })?;
+        changes.push(KeptChange { place, rows })?;
     }
     Ok(())
 }
 
 /// Takes room for the row changes of a ROW event behind others: for all, up to 256. Looks into none of them.
-fn take_room(changes: &mut Vec<Change<'_>>, row: &RowEvent<'_>) -> Result<(), AllocError>
+fn take_room(changes: &mut Vec<KeptChange<'_>>, row: &RowEvent<'_>) -> Result<(), AllocError>
     ensures { changes.new.items ≡ changes.old.items }
 {
     let room = row.count_up_to(256);
@@ -90,52 +89,49 @@ fn take_room(changes: &mut Vec<Change<'_>>, row: &RowEvent<'_>) -> Result<(), Al
 
 /// Puts row changes behind others.
 fn push_changes<'h>(
-    changes: &mut Vec<Change<'h>>,
-    table: &'h str,
+    changes: &mut Vec<KeptChange<'h>>,
+    place: usize,
     rows: RowChanges<'h>,
 ) -> Result<(), FeedFault>
-    ensures pushed { OnOk result (changes.new.items ≡ changes.old.items ++ changes_in table.now rows.entry) }
+    ensures pushed { OnOk result (changes.new.items ≡ changes.old.items ++ all_kept place rows.entry) }
     ensures err { IfErr result (λ fault. fault ≡ Memory) }
 {
     for change in rows {
-        push_change(changes, table, change)?;
+        push_change(changes, place, change)?;
     }
     Ok(())
 }
 
 /// Puts the changes of a ROW event behind others, in room that is taken at once.
 fn put_changes<'h>(
-    changes: &mut Vec<Change<'h>>,
-    table: &'h str,
+    changes: &mut Vec<KeptChange<'h>>,
+    place: usize,
     row: &RowEvent<'h>,
 ) -> Result<(), FeedFault>
-    ensures pushed { OnOk result (changes.new.items ≡ changes.old.items ++ changes_in table.now row.now.changes) }
+    ensures pushed { OnOk result (changes.new.items ≡ changes.old.items ++ all_kept place row.now.changes) }
     ensures err { IfErr result (λ fault. fault ≡ Memory) }
 {
     take_room(changes, row)?;
-    push_changes(changes, table, row.changes())
+    push_changes(changes, place, row.changes())
 }
 
 impl<'h> Transaction<'h> {
-    /// Puts the changes of a ROW event behind the others, under the number of columns that its table
-    /// has, if that is known. All rows are judged before the first is put.
+    /// Puts the changes of a ROW event behind the others, of the table at a place that has so many columns.
+    /// All rows are judged before the first is put.
     pub(crate) fn put_row(
         &mut self,
-        table: &'h str,
-        width: Option<u16>,
+        place: usize,
+        width: u16,
         row: &RowEvent<'h>,
     ) -> Result<(), FeedFault>
-        ensures fits { (columns : Option ℕ) → width ≡ option_map counted columns → OnOk result (row_fault columns row.now.changes ≡ None) }
+        ensures fits { (columns : ℕ) → width ≡ counted columns → OnOk result (row_fault (Some columns) row.now.changes ≡ None) }
         ensures position { OnOk result (self.new.position ≡ self.old.position) }
-        ensures changes { OnOk result (self.new.changes.items ≡ self.old.changes.items ++ changes_in table.now row.now.changes) }
-        ensures err { (columns : Option ℕ) → width ≡ option_map counted columns → IfErr result (λ fault. IsFault meant_of fault (row_fault columns row.now.changes)) }
+        ensures changes { OnOk result (self.new.changes.items ≡ self.old.changes.items ++ all_kept place row.now.changes) }
+        ensures err { (columns : ℕ) → width ≡ counted columns → IfErr result (λ fault. IsFault meant_of fault (row_fault (Some columns) row.now.changes)) }
     {
-        let Some(width) = width else {
-            return Err(FeedFault::NoFields);
-        };
         if !rows_fit(row, width) {
             return Err(FeedFault::ColumnCount);
         }
-        put_changes(&mut self.changes, table, row)
+        put_changes(&mut self.changes, place, row)
     }
 }

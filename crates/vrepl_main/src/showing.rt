@@ -10,14 +10,14 @@ ghost use Rattle.vrepl_main.specs.Command.{PrintsText, TextEnds};
 use crate::hex_text::bytes_of_hex;
 use crate::refusal::{CommandRefusal, refuse};
 use crate::shown::print_groups;
-use source_feed::{Group, read_groups};
+use source_feed::{Groups, read_groups};
 use std::alloc::Global;
 use vdiff_core::{Gathered, Out, OutFailed};
 use vrepl_choices::FeedForm;
 
 /// Prints all the groups.
-fn print_whole<W: Out>(out: &mut W, groups: &[Group<'_>]) -> Result<(), OutFailed>
-    ensures { Prints result (W.written out.old) (W.written out.new) (shown groups.now) }
+fn print_whole<W: Out>(out: &mut W, groups: &Groups<'_>) -> Result<(), OutFailed>
+    ensures { Prints result (W.written out.old) (W.written out.new) (shown groups.now.items) }
 {
     let mut text = Gathered::new();
     print_groups(out, &mut text, groups)?;

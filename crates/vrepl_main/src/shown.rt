@@ -8,7 +8,7 @@ ghost use Rattle.vrepl_main.specs.Shown.{shown_row_line, shown_row_lines, change
 use crate::output::{print_cells, put_all, put_number, put_str};
 use gtid_set::{GtidSet, Interval, uuid_text};
 use row_view::{Columns, RowBytes};
-use source_feed::{Change, Group};
+use source_feed::{Change, Group, GroupChanges, Groups};
 use vdiff_core::{Gathered, Out, OutFailed};
 
 /// Prints groups in small pieces: for each group the line `group NUMBER POSITION`, then for each
@@ -17,18 +17,22 @@ use vdiff_core::{Gathered, Out, OutFailed};
 pub(crate) fn print_groups<W: Out>(
     out: &mut W,
     text: &mut Gathered,
-    groups: &[Group<'_>],
+    groups: &Groups<'_>,
 ) -> Result<(), OutFailed>
-    ensures { AddsText result (at (W.written out.old) text.old) (at (W.written out.new) text.new) (shown groups.now) }
+    ensures { AddsText result (at (W.written out.old) text.old) (at (W.written out.new) text.new) (shown groups.now.items) }
 {
-    for group in groups {
-        print_group(out, text, group)?;
+    for group in groups.iter() {
+        print_group(out, text, &group)?;
     }
     Ok(())
 }
 
 /// Prints a group.
-fn print_group<W: Out>(out: &mut W, text: &mut Gathered, group: &Group<'_>) -> Result<(), OutFailed>
+fn print_group<W: Out>(
+    out: &mut W,
+    text: &mut Gathered,
+    group: &Group<'_, '_>,
+) -> Result<(), OutFailed>
     ensures { AddsText result (at (W.written out.old) text.old) (at (W.written out.new) text.new) (group_text group.now) }
 {
     print_group_line(out, text, group)?;
@@ -39,7 +43,7 @@ fn print_group<W: Out>(out: &mut W, text: &mut Gathered, group: &Group<'_>) -> R
 fn print_group_line<W: Out>(
     out: &mut W,
     text: &mut Gathered,
-    group: &Group<'_>,
+    group: &Group<'_, '_>,
 ) -> Result<(), OutFailed>
     ensures { AddsText result (at (W.written out.old) text.old) (at (W.written out.new) text.new) (group_line group.now) }
 {
@@ -123,12 +127,12 @@ fn print_numbers<W: Out>(
 fn print_changes<W: Out>(
     out: &mut W,
     text: &mut Gathered,
-    changes: &[Change<'_>],
+    changes: GroupChanges<'_, '_>,
 ) -> Result<(), OutFailed>
-    ensures { AddsText result (at (W.written out.old) text.old) (at (W.written out.new) text.new) (changes_text changes.now) }
+    ensures { AddsText result (at (W.written out.old) text.old) (at (W.written out.new) text.new) (changes_text changes.entry) }
 {
     for change in changes {
-        print_change(out, text, change)?;
+        print_change(out, text, &change)?;
     }
     Ok(())
 }
@@ -137,7 +141,7 @@ fn print_changes<W: Out>(
 fn print_change<W: Out>(
     out: &mut W,
     text: &mut Gathered,
-    change: &Change<'_>,
+    change: &Change<'_, '_>,
 ) -> Result<(), OutFailed>
     ensures { AddsText result (at (W.written out.old) text.old) (at (W.written out.new) text.new) (change_text change.now) }
 {

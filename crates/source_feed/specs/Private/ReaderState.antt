@@ -1,5 +1,5 @@
 -- What the reader over a feed's events keeps, against all events before.
-use Rattle.std.specs.Prelude.{◌≡◌, ℕ, List, ◌∷◌, Option, None, Some, Result, Ok, Err, if◌then◌else◌}
+use Rattle.std.specs.Prelude.{◌≡◌, ℕ, List, ◌∷◌, ◌++◌, Option, None, Some, Result, Ok, Err, map, if◌then◌else◌}
 use Rattle.std.specs.Option.{option_map}
 use Rattle.gtid_set.specs.Position.{IsCanonical}
 use Rattle.vevent.specs.EventValue.{EventValue}
@@ -13,7 +13,8 @@ use Rattle.source_feed.specs.GroupValue.{Position, TableChangeValue}
 use Rattle.source_feed.specs.SourceValue.{SourceValue}
 use Rattle.source_feed.specs.PastEvents.{PastEvents, is_open, width_of, body_position, body_changes}
 use Rattle.source_feed.specs.Groups.{seen, groups_of, fault_at}
-use Rattle.source_feed.specs.Private.TableWidths.{width_in, counted}
+use Rattle.source_feed.specs.Private.FeedTables.{width_in, names_in, counted}
+use Rattle.source_feed.specs.Private.KeptGroups.{named, named_group}
 
 -- what an open transaction has so far
 pub record Body : Type 0 where
@@ -23,16 +24,17 @@ pub record Body : Type 0 where
 abbrev pub body_of : SourceValue → PastEvents → Option Body
 body_of source history = if is_open history then Some (record { position = body_position source history; changes = body_changes source history }) else None
 
-abbrev pub body_held : Option Transaction → Option Body
-body_held None = None
-body_held (Some transaction) = Some (record { position = transaction.position; changes = transaction.changes.items })
+-- what is kept of it, where the tables have these names
+abbrev pub body_held : List (List ℕ) → Option Transaction → Option Body
+body_held names None = None
+body_held names (Some transaction) = Some (record { position = transaction.position; changes = map (named names) transaction.changes.items })
 
--- The reader keeps what these events say, with the last group's position alone in place of the union of
--- all earlier positions.
+-- The reader keeps what these events say, whatever tables the feed names later, with the last group's
+-- position alone in place of the union of all earlier positions.
 pub record IsBehind (source : SourceValue) (history : PastEvents) (reader : GroupReader) : Type 0 where
-  pub body : body_held reader.transaction ≡ body_of source history
-  pub widths : (table : List ℕ) → width_in reader.widths table ≡ option_map counted (width_of source history table)
-  pub groups : reader.groups.items ≡ groups_of source history
+  pub body : (later : List (List ℕ)) → body_held (names_in reader.tables ++ later) reader.transaction ≡ body_of source history
+  pub widths : (table : List ℕ) → width_in reader.tables table ≡ option_map counted (width_of source history table)
+  pub groups : (later : List (List ℕ)) → map (named_group (names_in reader.tables ++ later)) reader.groups.items ≡ groups_of source history
   pub last : last_position reader.groups.items ≡ seen source history
   pub seen_canonical : IsCanonical (seen source history)
   pub body_canonical : (position : Position) → body_position source history ≡ Some position → IsCanonical position

@@ -1,14 +1,23 @@
-use Rattle.std.proofs.Common.{List, subst, take}
-use Rattle.std.specs.List.{flat_map}
-use Rattle.feed_check.specs.KeyedChanges.{KeyedChangeValue, keyed_in}
+use Rattle.std.proofs.Common.{◌≡◌, ◌++◌, [], List, ap, sym, ◌∙◌, refl, reverse, subst, append_assoc}
+use Rattle.std.proofs.lemmas.List.Concat.{flat_map-cons}
+use Rattle.feed_check.specs.KeyedChanges.{KeyedChangeValue, keyed_in, keyed_changes}
+use Rattle.feed_check.specs.Findings.{findings_of}
 use Rattle.feed_check.specs.Private.Replayed.{IsReplayed}
-use Rattle.feed_check.proofs.ReplayLaws.{past-group}
+use Rattle.feed_check.proofs.ReplayLaws.{one-group, all-groups}
 use Rattle.feed_check.proofs.before_images.findings_of.Goals as goal
+
+pub loop-group-init : goal.loop-group-init
+loop-group-init c = ([], ap (keyed_changes c.args.plan.now) c.iter.ensures, c.loop-group-init-replayed)
 
 pub loop-group-preserved : goal.loop-group-preserved
 loop-group-preserved c =
-    let i = c.loop-group.group-index in
-    let f = keyed_in c.args.plan.now in
-    subst (λ (past : List KeyedChangeValue). IsReplayed past c.take_all.new.replay.rows c.take_all.new.replay.findings.items)
-    (past-group f c.args.groups.now i c.group-item.result c.in_ok-changes.changes.items c.loop-group-test.true c.group-item.is c.in_ok-changes.ensures)
-    (c.in_ok-take_all.ensures (flat_map f (take i c.args.groups.now)) c.loop-group.invariant)
+    let past = c.loop-group.invariant in (
+      past.0 ++ c.in_ok-changes.changes.items,
+      one-group (keyed_in c.args.plan.now) past.0 c.in_ok-changes.changes.items _ _ c.in-Some.group c.in-Some.ensures.steps c.in_ok-changes.ensures past.1,
+      c.in_ok-take_all.ensures past.0 past.2,
+    )
+
+pub returns : goal.returns
+returns c =
+    let past = c.loop-group.invariant in
+    all-groups (keyed_in c.args.plan.now) past.0 _ _ c.in-None.ensures.steps.0 past.1 past.2.found

@@ -1,5 +1,5 @@
 use Rattle.std.proofs.Common.{◌≡◌, ◌+◌, ◌≤◌, length}
-use Rattle.source_feed.specs.Private.TableWidths.{counted}
+use Rattle.source_feed.specs.Private.FeedTables.{counted}
 use Rattle.source_feed.proofs.group_reader.column_count.Given as goal
 
 -- what is counted and what is still to come are all

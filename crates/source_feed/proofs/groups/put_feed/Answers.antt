@@ -15,6 +15,7 @@ pub loop-reader-init : goal.loop-reader-init
 loop-reader-init c = record {
   meaning = ([], ap (λ (r : Reading (List ℕ) FrameFault). past_behind c.args.source.now [] (events_in_messages r.items r.fault).items (events_in_messages r.items r.fault).fault) (sym c.new-frames.ensures.reading), c.new-reader.ensures.meaning c.args.source.now);
   room = omega (arith, length-feed c.args.feed.now c.new-frames.result c.new-frames.ensures.spelled, ap length c.new-reader.ensures.none);
+  numbers = c.new-reader.ensures.numbers (option_copied c.args.field_check.now.plan);
   plan = refl;
   seen = ap (λ (r : Reading (List ℕ) FrameFault). c.args.field_check.now.differs || list_any (differs_from (option_copied c.args.field_check.now.plan)) (events_in_messages r.items r.fault).items) c.new-frames.ensures.reading;
 }
@@ -32,6 +33,7 @@ loop-reader-preserved c =
         c.loop-reader.invariant.room,
         events_behind c.args.source.now before.0 after.0 c.in-Some.message.now c.loop-reader.frames c.next_frame.new.self frame.0 frame.1 after.1,
       );
+      numbers = rw c.loop-reader.invariant.plan at c.in_ok-put_message.ensures.numbers (rw (← c.loop-reader.invariant.plan) c.loop-reader.invariant.numbers);
       plan = c.put_message.ensures.plan ∙ c.loop-reader.invariant.plan;
       seen = rw c.put_message.ensures.plan
           (seen_more c.loop-reader.field_check.differs c.put_message.new.field_check.differs _ _ _ _ c.loop-reader.invariant.seen

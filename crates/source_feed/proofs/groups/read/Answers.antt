@@ -12,6 +12,7 @@ use Rattle.source_feed.specs.declared.fault.FeedFault.{FeedFault}
 use Rattle.source_feed.specs.FaultNumber.{meant_of}
 use Rattle.source_feed.specs.GroupValue.{GroupValue}
 use Rattle.source_feed.specs.PastEvents.{PastEvents}
+use Rattle.source_feed.specs.Private.NamedGroups.{all_named}
 use Rattle.source_feed.proofs.groups.read.Goals as goal
 
 pub returns-in_err-reader-clause-groups : goal.returns-in_err-reader-clause-groups
@@ -32,10 +33,10 @@ given feed source short view result history e g = gives_along view result (group
 pub returns-clause-groups : goal.returns-clause-groups
 returns-clause-groups c =
     let all = c.in_ok-reader.ensures.ok in
-    given c.args.feed.now c.args.source.now (omega arith) (λ all. all.items) c.end.result all.0 all.1 (c.end.ensures.groups c.args.source.now all.0 all.2)
+    given c.args.feed.now c.args.source.now (omega arith) all_named c.end.result all.0 all.1 (c.end.ensures.groups c.args.source.now all.0 all.2)
 
 pub returns-clause-order : goal.returns-clause-order
 returns-clause-order c =
     let all = c.in_ok-reader.ensures.ok in
-    in_order c.set_laws.ensures (λ all. all.items) c.args.feed.now c.args.source.now c.end.result
-    (given c.args.feed.now c.args.source.now (omega arith) (λ all. all.items) c.end.result all.0 all.1 (c.end.ensures.groups c.args.source.now all.0 all.2))
+    in_order c.set_laws.ensures all_named c.args.feed.now c.args.source.now c.end.result
+    (given c.args.feed.now c.args.source.now (omega arith) all_named c.end.result all.0 all.1 (c.end.ensures.groups c.args.source.now all.0 all.2))

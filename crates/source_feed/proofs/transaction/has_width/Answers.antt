@@ -1,6 +1,6 @@
 use Rattle.std.proofs.Common.{◌≡◌, ◌≤◌, ◌==◌, ℕ, length, nat_eq, sym, ◌∙◌, ap, arith}
 use Rattle.std.proofs.lemmas.Bool.Decides.{nat_tests}
-use Rattle.source_feed.specs.Private.TableWidths.{counted}
+use Rattle.source_feed.specs.Private.FeedTables.{counted}
 use Rattle.vevent.specs.Columns.{has_columns}
 use Rattle.source_feed.proofs.transaction.has_width.Goals as goal
 

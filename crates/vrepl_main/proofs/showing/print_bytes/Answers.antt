@@ -13,7 +13,7 @@ returns-in_err-groups g c =
 pub returns-in_err-print_whole : goal.returns-in_err-print_whole
 returns-in_err-print_whole g c =
     let p = err_from_is_err_and c.from_residual-in_err-print_whole.result c.from_residual-in_err-print_whole.ensures.1 in
-    rw p.1 (refuses_unwritten IsGivenText p.0 _ _ _ _ _ (ap shown_groups c.in_ok-groups.ensures.exact) refl (rw c.deref.ensures.value at c.in_err-print_whole.ensures) p.2)
+    rw p.1 (refuses_unwritten IsGivenText p.0 _ _ _ _ _ (ap shown_groups c.in_ok-groups.ensures.exact) refl c.in_err-print_whole.ensures p.2)
 
 pub returns : goal.returns
-returns g c = PrintsWhole-text _ _ _ _ (ap shown_groups c.in_ok-groups.ensures.exact) (rw c.deref.ensures.value at c.in_ok-print_whole.ensures)
+returns g c = PrintsWhole-text _ _ _ _ (ap shown_groups c.in_ok-groups.ensures.exact) c.in_ok-print_whole.ensures

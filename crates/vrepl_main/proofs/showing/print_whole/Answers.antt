@@ -7,4 +7,4 @@ use Rattle.vrepl_main.proofs.showing.print_whole.Goals as goal
 pub returns : goal.returns
 returns g c =
     let put = rw c.new-text.ensures at c.in_ok-print_groups.ensures in
-    then_finishes c.finish.result (at _ []) (at _ c.print_groups.new.text) _ (shown c.args.groups.now) put c.finish.ensures.printed
+    then_finishes c.finish.result (at _ []) (at _ c.print_groups.new.text) _ (shown c.args.groups.now.items) put c.finish.ensures.printed

@@ -1,10 +1,13 @@
-use Rattle.std.proofs.Common.{◌≡◌, rules, map, Some, Ok}
+use Rattle.std.proofs.Common.{◌≡◌, rules, map, Some, Ok, ◌∙◌}
 use Rattle.std.specs.Prelude.{option_copied}
 use Rattle.std.specs.Arc.{arc_value}
 use Rattle.filter_rule.specs.PlanValue.{PlanValue}
 use Rattle.filter_rule.specs.WellFormed.{IsPlan}
 use Rattle.source_feed.specs.Groups.{groups}
 use Rattle.source_feed.specs.Planned.{source_of, planned_group}
+use Rattle.source_feed.specs.Private.FeedTables.{AreNumbered}
+use Rattle.source_feed.specs.Private.NamedGroups.{all_named}
+use Rattle.source_feed.proofs.NumberedLaws.{kept_under}
 use Rattle.source_feed.proofs.PlanLaws.{opened_feed}
 use Rattle.source_feed.proofs.feed.Feed.open.Goals as goal
 
@@ -13,21 +16,32 @@ invariant_of-result c =
     let plan : PlanValue = arc_value c.args.plan.now in
     let planned : IsPlan plan = search rules in
     let given : arc_value c.in_ok-clone.field-0 ≡ plan = search rules in
-    let whole : groups c.args.feed.now (source_of plan) ≡ Ok c.in_ok-groups.groups.items = search rules in
-    let under : c.in_ok-groups-2.groups.items ≡ map (planned_group plan) c.in_ok-groups.groups.items = search rules in
+    let whole : groups c.args.feed.now (source_of plan) ≡ Ok (all_named c.in_ok-kept.kept) = search rules in
     let checked : option_copied c.new-field_check.result.plan ≡ Some plan = search rules in
-    opened_feed plan (arc_value c.in_ok-clone.field-0) c.args.feed.now c.in_ok-groups.groups.items c.in_ok-groups-2.groups.items (option_copied c.new-field_check.result.plan)
-    c.new-field_check.result.differs c.read.new.field_check.differs planned given under c.in_ok-groups.ensures.order c.in_ok-groups.ensures.few whole checked c.if-field_check.false
-    c.in_ok-groups.ensures.seen
+    let numbers : AreNumbered (Some plan) c.in_ok-kept.kept.tables = rw checked at c.in_ok-kept.ensures.numbers in
+    let under : c.in_ok-groups.groups.items ≡ map (planned_group plan) (all_named c.in_ok-kept.kept) = c.in_ok-groups.ensures ∙ kept_under plan c.in_ok-kept.kept numbers c.in_ok-kept.ensures.tables in
+    opened_feed plan (arc_value c.in_ok-clone.field-0) c.args.feed.now (all_named c.in_ok-kept.kept) c.in_ok-groups.groups.items (option_copied c.new-field_check.result.plan)
+    c.new-field_check.result.differs c.read.new.field_check.differs planned given under c.in_ok-kept.ensures.order c.in_ok-kept.ensures.few whole checked c.if-field_check.false
+    c.in_ok-kept.ensures.seen
 
 pub returns-clause-whole : goal.returns-clause-whole
 returns-clause-whole c =
     let plan : PlanValue = arc_value c.args.plan.now in
     let planned : IsPlan plan = search rules in
     let given : arc_value c.in_ok-clone.field-0 ≡ plan = search rules in
-    let whole : groups c.args.feed.now (source_of plan) ≡ Ok c.in_ok-groups.groups.items = search rules in
-    let under : c.in_ok-groups-2.groups.items ≡ map (planned_group plan) c.in_ok-groups.groups.items = search rules in
+    let whole : groups c.args.feed.now (source_of plan) ≡ Ok (all_named c.in_ok-kept.kept) = search rules in
     let checked : option_copied c.new-field_check.result.plan ≡ Some plan = search rules in
-    opened_feed plan (arc_value c.in_ok-clone.field-0) c.args.feed.now c.in_ok-groups.groups.items c.in_ok-groups-2.groups.items (option_copied c.new-field_check.result.plan)
-    c.new-field_check.result.differs c.read.new.field_check.differs planned given under c.in_ok-groups.ensures.order c.in_ok-groups.ensures.few whole checked c.if-field_check.false
-    c.in_ok-groups.ensures.seen
+    let numbers : AreNumbered (Some plan) c.in_ok-kept.kept.tables = rw checked at c.in_ok-kept.ensures.numbers in
+    let under : c.in_ok-groups.groups.items ≡ map (planned_group plan) (all_named c.in_ok-kept.kept) = c.in_ok-groups.ensures ∙ kept_under plan c.in_ok-kept.kept numbers c.in_ok-kept.ensures.tables in
+    opened_feed plan (arc_value c.in_ok-clone.field-0) c.args.feed.now (all_named c.in_ok-kept.kept) c.in_ok-groups.groups.items (option_copied c.new-field_check.result.plan)
+    c.new-field_check.result.differs c.read.new.field_check.differs planned given under c.in_ok-kept.ensures.order c.in_ok-kept.ensures.few whole checked c.if-field_check.false
+    c.in_ok-kept.ensures.seen
+
+pub returns-clause-groups : goal.returns-clause-groups
+returns-clause-groups c =
+    let plan : PlanValue = arc_value c.args.plan.now in
+    let whole : groups c.args.feed.now (source_of plan) ≡ Ok (all_named c.in_ok-kept.kept) = search rules in
+    let checked : option_copied c.new-field_check.result.plan ≡ Some plan = search rules in
+    let numbers : AreNumbered (Some plan) c.in_ok-kept.kept.tables = rw checked at c.in_ok-kept.ensures.numbers in
+    let under : c.in_ok-groups.groups.items ≡ map (planned_group plan) (all_named c.in_ok-kept.kept) = c.in_ok-groups.ensures ∙ kept_under plan c.in_ok-kept.kept numbers c.in_ok-kept.ensures.tables in
+    search rules

@@ -1,0 +1,86 @@
+//! The tables that a feed names, with what is known of each.
+
+ghost use Rattle.std.specs.Prelude.{◌≡◌, ℕ, List, Option, [], ◌++◌, None, Some, OnOk, IfSome, option_map, get_or, if◌then◌else◌};
+ghost use Rattle.std.specs.Str.{bytes_eq};
+ghost use Rattle.filter_rule.specs.PlanValue.{PlanValue};
+
+use indexmap::IndexMap;
+use std::alloc::{AllocError, Global};
+
+/// What is known of a table.
+#[derive(Clone, Copy)]
+pub(crate) struct FeedTable {
+    /// how many columns its last FIELD has; more than 65,535 count as 65,535, since no row has more than 256
+    columns: u16,
+    /// its number in the plan, where there is a plan that has it
+    number: Option<u8>,
+}
+
+/// The tables that FIELD events have named, in the order in which each was first seen; found by the table's
+/// name, and then by its place in that order.
+#[derive(Drop)]
+pub(crate) struct FeedTables<'h> {
+    first_seen: IndexMap<&'h str, FeedTable>,
+}
+
+impl<'h> FeedTables<'h> {
+    ghost use Rattle.source_feed.specs.Private.FeedTables.{width_in, names_in, numbers_in, names_behind, number_under, AreNumbered};
+
+    /// No table is known. Takes no memory.
+    pub(crate) fn new(alloc: Global) -> FeedTables<'h>
+        ensures widths { (name : List ℕ) → width_in result name ≡ None }
+        ensures order { names_in result ≡ [] }
+        ensures numbers { (plan : Option PlanValue) → AreNumbered plan result }
+    {
+        FeedTables {
+            first_seen: IndexMap::new(alloc),
+        }
+    }
+
+    /// A table's place and its number of columns, if it is known. However many tables follow, the place has
+    /// the table's name.
+    pub(crate) fn find(&self, table: &str) -> Option<(usize, u16)>
+        ensures columns { option_map (λ found. found.1) result ≡ width_in self.now table.now }
+        ensures place { IfSome result (λ found. (later : List (List ℕ)) → get_or (names_in self.now ++ later) found.0 [] ≡ table.now) }
+    {
+        let (place, _, known) = self.first_seen.get_full(table)?;
+        Some((place, known.columns))
+    }
+
+    /// The name of the table at a place; the empty one behind the last.
+    pub(crate) fn name(&self, place: usize) -> &'h str
+        ensures { result.now ≡ get_or (names_in self.now) place [] }
+    {
+        match self.first_seen.get_index(place) {
+            None => "",
+            Some((name, _)) => *name,
+        }
+    }
+
+    /// The number in the plan of the table at a place, where the plan has it.
+    pub(crate) fn number(&self, place: usize) -> Option<u8>
+        ensures { result ≡ get_or (numbers_in self.now) place None }
+    {
+        match self.first_seen.get_index(place) {
+            None => None,
+            Some((_, known)) => known.number,
+        }
+    }
+
+    /// Sets a table's number of columns, and its number in the plan. A new table goes behind the others; a
+    /// known one keeps its place.
+    pub(crate) fn set(
+        &mut self,
+        table: &'h str,
+        columns: u16,
+        number: Option<u8>,
+    ) -> Result<(), AllocError>
+        ensures widths { OnOk result ((name : List ℕ) → width_in self.new name ≡ (if bytes_eq table.now name then Some columns else width_in self.old name)) }
+        ensures order { OnOk result (names_in self.new ≡ names_behind (names_in self.old) table.now) }
+        ensures numbers { OnOk result ((plan : Option PlanValue) → number ≡ number_under plan table.now → AreNumbered plan self.old → AreNumbered plan self.new) }
+    {
+        self.first_seen
+            .insert(table, FeedTable { columns, number })?;
+        Ok(())
+    }
+}
