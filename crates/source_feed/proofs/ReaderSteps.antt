@@ -29,9 +29,9 @@ use Rattle.source_feed.proofs.TableLaws.{later_behind, names-behind}
 
 -- ---- no block ends
 
-pub nothing_twice : {A : Type 0} (b : Bool) → cond b None None ≡ (None : Option A)
-nothing_twice true = refl
-nothing_twice false = refl
+same_twice : {A : Type 0} (b : Bool) (x : A) → cond b x x ≡ x
+same_twice true x = refl
+same_twice false x = refl
 
 groups_stay : (source : SourceValue) (earlier : PastEvents) (event : EventValue) → block_at source earlier event ≡ None → groups_of source (event ∷ earlier) ≡ groups_of source earlier
 groups_stay source earlier event b =
@@ -64,7 +64,7 @@ stays source earlier event old new m k b w body canonical = record {
 
 pub ignored-puts : (source : SourceValue) (earlier : PastEvents) (which : IgnoredEvent) (reader : GroupReader) → IsBehind source earlier reader → IsBehind source (Ignored which ∷ earlier) reader
 ignored-puts source earlier which reader m =
-    stays source earlier (Ignored which) reader reader m (record { names = refl; widths = λ table. refl; groups = refl }) (nothing_twice (is_open earlier)) (λ table. refl) m.body m.body_canonical
+    stays source earlier (Ignored which) reader reader m (record { names = refl; widths = λ table. refl; groups = refl }) (same_twice (is_open earlier) _) (λ table. refl) m.body m.body_canonical
 
 -- ---- BEGIN, and COMMIT and ROLLBACK that end no block
 
@@ -80,7 +80,7 @@ pub begin-puts : (source : SourceValue) (earlier : PastEvents) (old new : GroupR
     → (fault_at source earlier Begin ≡ None) × IsBehind source (Begin ∷ earlier) new
 begin-puts source earlier old new m k b n = (
   cond-false _ _ _ (closed_at source earlier old m b),
-  stays source earlier Begin old new m k (nothing_twice (is_open earlier)) (λ table. refl) (λ later. n (names_with new later)) (λ position e. cc),
+  stays source earlier Begin old new m k (same_twice (is_open earlier) _) (λ table. refl) (λ later. n (names_with new later)) (λ position e. cc),
 )
 
 pub begin-refused : (source : SourceValue) (earlier : PastEvents) (old : GroupReader) (was : Transaction) → IsBehind source earlier old → old.transaction ≡ Some was → fault_at source earlier Begin ≡ Some Misplaced
@@ -99,7 +99,7 @@ pub rollback-puts : (source : SourceValue) (earlier : PastEvents) (old new : Gro
     → ((names : List (List ℕ)) → body_held names new.transaction ≡ None)
     → IsBehind source (Rollback ∷ earlier) new
 rollback-puts source earlier old new m k n =
-    stays source earlier Rollback old new m k (nothing_twice (is_open earlier)) (λ table. refl) (λ later. n (names_with new later)) m.body_canonical
+    stays source earlier Rollback old new m k (same_twice (is_open earlier) _) (λ table. refl) (λ later. n (names_with new later)) m.body_canonical
 
 -- ---- a position inside of a transaction
 
@@ -112,15 +112,15 @@ position-counts source earlier event text old new was now position carries read 
     let last : body_position source (event ∷ earlier) ≡ Some position = carries.position earlier ∙ ap (λ r. option_or (past_set r) (body_position source earlier)) read in
     let body : (later : List (List ℕ)) → body_held (names_with new later) new.transaction ≡ body_of source (event ∷ earlier)
     = λ later.
-        ap (body_held (names_with new later)) will
-        ∙ ap (λ names. Some (record { position = now.position; changes = map (named (names ++ later)) now.changes.items })) k.names
-        ∙ ap (λ all. Some (record { position = now.position; changes = map (named (names_with old later)) all })) same
-        ∙ ap (λ changes. Some (record { position = now.position; changes = changes })) (sym (o later).changes ∙ sym (carries.changes earlier))
-        ∙ ap (λ at. Some (record { position = at; changes = body_changes source (event ∷ earlier) })) (at ∙ sym last)
-        ∙ sym (cond-true (is_open (event ∷ earlier)) _ _ (carries.same_open earlier ∙ (o []).opened)) in (
+    ap (body_held (names_with new later)) will
+    ∙ ap (λ names. Some (record { position = now.position; changes = map (named (names ++ later)) now.changes.items })) k.names
+    ∙ ap (λ all. Some (record { position = now.position; changes = map (named (names_with old later)) all })) same
+    ∙ ap (λ changes. Some (record { position = now.position; changes = changes })) (sym (o later).changes ∙ sym (carries.changes earlier))
+    ∙ ap (λ at. Some (record { position = at; changes = body_changes source (event ∷ earlier) })) (at ∙ sym last)
+    ∙ sym (cond-true (is_open (event ∷ earlier)) _ _ (carries.same_open earlier ∙ (o []).opened)) in (
       carries.fault earlier ∙ ap (position_fault source earlier) read ∙ cond-true (is_open earlier) _ _ (o []).opened,
       stays source earlier event old new m k (carries.block earlier ∙ cond-true (is_open earlier) _ _ (o []).opened) (carries.widths earlier) body
-      (λ other e. (let both : Some position ≡ Some other = sym last ∙ e in let equal : position ≡ other = cc in rw (← equal) p)),
+          (λ other e. (let both : Some position ≡ Some other = sym last ∙ e in let equal : position ≡ other = cc in rw (← equal) p)),
     )
 
 -- ---- ROW
@@ -131,6 +131,7 @@ one_named names place change = by change.before change.after
   where
     rows : Option (List (Option (List ℕ))) → Option (List (Option (List ℕ))) → ChangeValue
     rows before after = record { before = before; after = after }
+
     by : (before after : Option (List (Option (List ℕ)))) → map (named names) (kept_in place (rows before after)) ≡ change_in (get_or names place []) (rows before after)
     by None None = refl
     by None (Some after) = refl
@@ -173,30 +174,35 @@ row-puts {X = X} source earlier name changes old new was now place width result 
   where
     table : List ℕ
     table = table_in_source source name
+
     o : (later : List (List ℕ)) → Opened source earlier (record { position = was.position; changes = map (named (names_with old later)) was.changes.items })
     o = open_at source earlier old was m is
+
     found : (n : ℕ) × (width_of source earlier table ≡ Some n) × (width ≡ counted n)
     found = counted_from (width_of source earlier table) width (sym (m.widths table) ∙ w)
+
     told : fault_at source earlier (Row name changes) ≡ row_fault (Some found.0) changes
     told = cond-true _ _ _ (o []).opened ∙ ap (λ columns. row_fault columns changes) found.1.0
+
     body : now.position ≡ was.position → now.changes.items ≡ was.changes.items ++ all_kept place changes → (later : List (List ℕ)) → body_held (names_with new later) new.transaction ≡ body_of source (Row name changes ∷ earlier)
     body at put later =
         ap (body_held (names_with new later)) will
         ∙ ap (λ names. Some (record { position = now.position; changes = map (named (names ++ later)) now.changes.items })) k.names
         ∙ ap (λ all. Some (record { position = now.position; changes = map (named (names_with old later)) all })) put
         ∙ ap (λ all. Some (record { position = now.position; changes = all })) (
-            map-append (named (names_with old later)) was.changes.items (all_kept place changes)
-            ∙ ap (λ (front : List TableChangeValue). front ++ map (named (names_with old later)) (all_kept place changes)) (sym (o later).changes)
-            ∙ ap (λ (others : List TableChangeValue). body_changes source earlier ++ others) (all_named (names_with old later) place changes ∙ ap (λ one. changes_in one changes) (stands later)))
+        map-append (named (names_with old later)) was.changes.items (all_kept place changes)
+        ∙ ap (λ (front : List TableChangeValue). front ++ map (named (names_with old later)) (all_kept place changes)) (sym (o later).changes)
+        ∙ ap (λ (others : List TableChangeValue). body_changes source earlier ++ others) (all_named (names_with old later) place changes ∙ ap (λ one. changes_in one changes) (stands later)))
         ∙ ap (λ position. Some (record { position = position; changes = body_changes source earlier ++ changes_in table changes })) (at ∙ sym (o later).position)
         ∙ sym (cond-true (is_open earlier) _ _ (o later).opened)
+
     by : (result : Result X FeedFault) → ((columns : ℕ) → width ≡ counted columns → OnOk result (row_fault (Some columns) changes ≡ None))
         → OnOk result (now.position ≡ was.position) → OnOk result (now.changes.items ≡ was.changes.items ++ all_kept place changes)
         → ((columns : ℕ) → width ≡ counted columns → IfErr result (λ fault. IsFault meant_of fault (row_fault (Some columns) changes)))
         → TakesEvent source earlier (Row name changes) result new
     by (Ok x) fits at put refused = (
       told ∙ fits found.0 found.1.1,
-      stays source earlier (Row name changes) old new m k (nothing_twice (is_open earlier)) (λ table. refl) (body at put) m.body_canonical,
+      stays source earlier (Row name changes) old new m k (same_twice (is_open earlier) _) (λ table. refl) (body at put) m.body_canonical,
     )
     by (Err fault) fits at put refused = subst (IsFault meant_of fault) (sym told) (refused found.0 found.1.1)
 
@@ -218,11 +224,14 @@ field-puts source earlier name fields old new columns m same groups count widths
     }
   where
     none : block_at source earlier (Field name fields) ≡ None
-    none = nothing_twice (is_open earlier)
+    none = same_twice (is_open earlier) _
+
     after : List (List ℕ) → List (List ℕ)
     after later = later_behind (names_in old.tables) (table_in_source source name) later
+
     grows : (later : List (List ℕ)) → names_with new later ≡ names_with old (after later)
     grows later = ap (λ (names : List (List ℕ)). names ++ later) order ∙ names-behind (names_in old.tables) (table_in_source source name) later
+
     width : (table : List ℕ) (b : Bool) → cond b (Some columns) (width_in old.tables table) ≡ option_map counted (option_map length (cond b (Some fields) (last_field source earlier table)))
     width table true = ap (λ n. Some n) count
     width table false = m.widths table

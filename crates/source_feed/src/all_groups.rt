@@ -10,6 +10,7 @@ use crate::feed_tables::FeedTables;
 use crate::group::Group;
 use crate::kept::{KeptGroup, KeptGroups};
 use std::marker::Model;
+use std::slice::Iter;
 
 /// The groups of a feed, which are lent one after another or by their place. Seen in contracts as the list of
 /// them. A group takes 96 bytes at most and each of its changes 40: a change has its table's place among the
@@ -63,7 +64,7 @@ impl<'h> Groups<'h> {
     {
         EachGroup {
             tables: &self.kept.tables,
-            rest: self.kept.groups.as_slice(),
+            left: self.kept.groups.iter(),
         }
     }
 }
@@ -86,7 +87,7 @@ fn group_at<'g, 'h>(
 #[derive(Drop)]
 pub struct EachGroup<'g, 'h> {
     tables: &'g FeedTables<'h>,
-    rest: &'g [KeptGroup<'h>],
+    left: Iter<'g, KeptGroup<'h>>,
 }
 
 impl<'g, 'h> Model for EachGroup<'g, 'h> {
@@ -97,7 +98,7 @@ impl<'g, 'h> Model for EachGroup<'g, 'h> {
 
     ghost Value = { List GroupValue };
 
-    ghost view = { λ a. map (named_group (names_in a.tables.now)) a.rest.now };
+    ghost view = { λ a. map (named_group (names_in a.tables.now)) a.left.rest.now };
 }
 
 impl<'g, 'h> Iterator for EachGroup<'g, 'h> {
@@ -109,8 +110,7 @@ impl<'g, 'h> Iterator for EachGroup<'g, 'h> {
 
     #[inline(always)]
     fn next(&mut self) -> Option<Group<'g, 'h>> {
-        let (kept, rest) = self.rest.split_first()?;
-        self.rest = rest;
+        let kept = self.left.next()?;
         Some(Group::new(self.tables, kept))
     }
 }

@@ -10,6 +10,7 @@ use crate::kept::{KeptChange, KeptGroup};
 use gtid_set::GtidSet;
 use row_view::{RowBytes, RowView};
 use std::marker::Model;
+use std::slice::Iter;
 use vevent::RowChange;
 
 /// A change of one row of a table, lent. Nothing is copied: its name and its rows are slices of the feed's
@@ -69,7 +70,7 @@ impl<'g, 'h> Change<'g, 'h> {
 #[derive(Drop)]
 pub struct GroupChanges<'g, 'h> {
     tables: &'g FeedTables<'h>,
-    rest: &'g [KeptChange<'h>],
+    left: Iter<'g, KeptChange<'h>>,
 }
 
 impl<'g, 'h> Model for GroupChanges<'g, 'h> {
@@ -80,7 +81,7 @@ impl<'g, 'h> Model for GroupChanges<'g, 'h> {
 
     ghost Value = { List TableChangeValue };
 
-    ghost view = { λ a. map (named (names_in a.tables.now)) a.rest.now };
+    ghost view = { λ a. map (named (names_in a.tables.now)) a.left.rest.now };
 }
 
 impl<'g, 'h> GroupChanges<'g, 'h> {
@@ -88,7 +89,7 @@ impl<'g, 'h> GroupChanges<'g, 'h> {
     pub fn len(&self) -> usize
         ensures { result ≡ length self.now }
     {
-        self.rest.len()
+        self.left.len()
     }
 }
 
@@ -101,8 +102,7 @@ impl<'g, 'h> Iterator for GroupChanges<'g, 'h> {
 
     #[inline(always)]
     fn next(&mut self) -> Option<Change<'g, 'h>> {
-        let (kept, rest) = self.rest.split_first()?;
-        self.rest = rest;
+        let kept = self.left.next()?;
         Some(change_of(self.tables, kept))
     }
 }
@@ -163,7 +163,7 @@ impl<'g, 'h> Group<'g, 'h> {
     {
         GroupChanges {
             tables: self.tables,
-            rest: self.kept.changes(),
+            left: self.kept.changes().iter(),
         }
     }
 }
