@@ -9,7 +9,7 @@ use Rattle.filter_rule.specs.PlanValue.{PlanValue}
 use Rattle.pk_copy.specs.KeyValue.{KeyValue}
 use Rattle.vdiff_core.specs.Dump.{row_line}
 use Rattle.vdiff_core.specs.DumpReading.{FitsPlan, Behind, CanStand}
-use Rattle.vdiff_core.specs.Private.Known.{AreLinesOf, KeepsLine, TakesKnown}
+use Rattle.vdiff_core.specs.Private.Known.{AreLinesOf, KeepsLine, StandsKnown}
 use Rattle.vdiff_core.specs.Private.Reading.{TakesLine}
 use Rattle.vdiff_core.specs.DumpRowsValue.{RowValue, DumpRowsValue}
 
@@ -94,9 +94,9 @@ fits_there plan known i row all at =
     subst (FitsPlan plan) (same_Some (get_or known i row) row (sym (slice_get-get_or known i row inside) ∙ at)) (All-from_recursion (FitsPlan plan) known all i row inside)
 
 -- it is the line of a row that can stand there
-pub known_stands : (plan : PlanValue) (known : DumpRowsValue) (old new : Behind) (text rest : List ℕ) → AllByRecursion (FitsPlan plan) known → TakesKnown known old new text rest → TakesLine plan old new text rest
-known_stands plan known old new text rest all taken = record {
-  line = row_line taken.row.1;
-  parts = taken.parts;
-  can = inr record { row = taken.row; fits = fits_there plan known taken.place taken.row all taken.stands; begun_last = taken.begun_last; above = taken.above; is_line = refl; is_new = taken.is_new };
+pub known_stands : (plan : PlanValue) (known : DumpRowsValue) (old : Behind) (text rest : List ℕ) (row : KeyValue × RowValue) → AllByRecursion (FitsPlan plan) known → StandsKnown known old text row rest → TakesLine plan old (record { begun = old.begun; rows = old.rows ++ row ∷ [] }) text rest
+known_stands plan known old text rest row all found = record {
+  line = row_line row.1;
+  parts = found.parts;
+  can = inr record { row = row; fits = fits_there plan known found.place row all found.stands; begun_last = found.begun_last; above = found.above; is_line = refl; is_new = refl };
 }

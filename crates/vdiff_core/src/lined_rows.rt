@@ -58,7 +58,7 @@ impl<'t> LinedRows<'t> {
 
     /// The rows without their lines.
     pub(crate) fn into_rows(self) -> DumpRows
-        ensures { result ≡ self }
+        ensures { result ≡ self.entry }
     {
         self.rows
     }

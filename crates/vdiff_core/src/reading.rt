@@ -8,7 +8,7 @@ ghost use Rattle.vdiff_core.specs.Dump.{table_line};
 ghost use Rattle.vdiff_core.specs.DumpReading.{FitsPlan, IsDump, IsFirstBad, NoLineStands, MayHaveRow, AreReadOnce, at_front};
 ghost use Rattle.vdiff_core.specs.DumpFaults.{number_of};
 ghost use Rattle.vdiff_core.specs.DumpRowsValue.{DumpRowsValue};
-ghost use Rattle.vdiff_core.specs.Private.Known.{TakesKnown};
+ghost use Rattle.vdiff_core.specs.Private.Known.{StandsKnown};
 ghost use Rattle.vdiff_core.specs.Private.Reading.{TakesLine, TakesRowLine, NoRowStands};
 
 use crate::line_fault::LineFault;
@@ -18,7 +18,7 @@ use crate::rows::DumpRows;
 use filter_rule::Plan;
 use pk_copy::Key;
 use row_view::{RowBuf, RowBytes};
-use std::alloc::{AllocError, Global};
+use std::alloc::Global;
 use std::marker::Model;
 
 /// Why a text isn't read as a dump.
@@ -89,42 +89,42 @@ impl LinesRead {
         ensures bad { result ≡ Err LineFault.Bad → NoLineStands plan.now self.old text.now }
         ensures memory { result ≡ Err LineFault.Memory → 1 ≤ self.old.begun }
     {
-        if let Some(rest) = self.take_known(alloc, known, *place, text)? {
-            *place = place.wrapping_add(1);
-            return Ok(rest);
+        match self.known_in_front(known, *place, text) {
+            Some((key, row, rest)) => {
+                let copy = row.try_clone(alloc)?;
+                let again = key.try_clone(alloc)?;
+                self.rows.push(again, copy)?;
+                *place = place.wrapping_add(1);
+                Ok(rest)
+            }
+            None => {
+                let outcome = self.take_line(alloc, plan, text);
+                *place = known.place_behind(*place, &self.rows);
+                outcome
+            }
         }
-        let rest = self.take_line(alloc, plan, text)?;
-        *place = known.place_behind(*place, &self.rows);
-        Ok(rest)
     }
 
-    /// Takes the known line at a place off the front, if it is there and its row can stand there: the row is copied. An
-    /// error is want of memory.
-    fn take_known<'t>(
-        &mut self,
-        alloc: Global,
-        known: &LinedRows<'_>,
+    /// The known row at a place with its key, and what stands behind its line, if that is in front and the row can
+    /// stand there.
+    fn known_in_front<'k, 't>(
+        &self,
+        known: &'k LinedRows<'_>,
         place: usize,
         text: &'t [u8],
-    ) -> Result<Option<&'t [u8]>, AllocError>
-        ensures taken { IfOk result (λ taken. MatchOption taken (self.new ≡ self.old) (λ rest. TakesKnown known.now self.old self.new text.now rest.now)) }
-        ensures memory { IsErr result → 1 ≤ self.old.begun }
+    ) -> Option<(&'k Key, &'k RowBuf, &'t [u8])>
+        ensures { IfSome result (λ found. StandsKnown known.now self.now text.now (found.0.now, found.1.now) found.2.now) }
     {
-        let Some((key, row, line)) = known.line_at(place) else {
-            return Ok(None);
-        };
-        let Some(rest) = behind(text, line) else {
-            return Ok(None);
-        };
-        if usize::from(key.table()) + 1 != self.begun {
-            return Ok(None);
+        let (key, row, line) = known.line_at(place)?;
+        let rest = behind(text, line)?;
+        let begun = usize::from(key.table()) + 1;
+        if begun != self.begun {
+            return None;
         }
         if !self.rows.is_behind_all(key) {
-            return Ok(None);
+            return None;
         }
-        let copy = row.try_clone(alloc)?;
-        self.rows.push(key.try_clone(alloc)?, copy)?;
-        Ok(Some(rest))
+        Some((key, row, rest))
     }
 
     /// Takes a line off the front: that of the next table's name, or of a row.

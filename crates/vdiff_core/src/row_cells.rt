@@ -10,7 +10,6 @@ ghost use Rattle.vdiff_core.specs.Private.Reading.{digit_of, pair_of, pair_front
 ghost use Rattle.vdiff_core.specs.Private.Spans.{bytes_at, columns_at, EndsWithin, AreWithin};
 
 use crate::line_fault::LineFault;
-use arrayvec::ArrayVec;
 use row_view::{Column, ROW_BYTES, ROW_COLUMNS, rows_are_read_again, write_columns};
 use std::alloc::{AllocError, Global};
 use std::marker::Model;
@@ -114,26 +113,29 @@ impl RowCells {
         ensures row { OnOk result ((row_of_message message.new.items ≡ Ok self.now) × IsWithinLimits self.now) }
         ensures bad { result ≡ Err LineFault.Bad → IsWithinLimits self.now → ⊥ }
     {
-        if self.spans.len() <= FEW {
-            let few = few_columns_of(&self.values, &self.spans);
-            return write_row(message, few.as_slice());
+        let count = self.spans.len();
+        if count <= FEW {
+            let mut room = [Column::Null; FEW];
+            lend_columns(&mut room, &self.values, &self.spans);
+            return write_row(message, &room[..count]);
         }
         let columns = columns_of(alloc, &self.values, &self.spans)?;
         write_row(message, &columns)
     }
 }
 
-/// The columns of a few spans of these values, lent, without memory.
-fn few_columns_of<'c>(values: &'c [u8], spans: &[Option<Span>]) -> ArrayVec<Column<'c>, FEW>
+/// Writes the columns of spans of these values, lent, over room for them.
+fn lend_columns<'c>(room: &mut [Column<'c>], values: &'c [u8], spans: &[Option<Span>])
     requires within { AreWithin (length values.now) spans.now }
-    requires few { length spans.now ≤ FEW }
-    ensures { map column_value result.items ≡ columns_at values.now spans.now }
+    requires few { length spans.now ≤ length room.old }
+    ensures columns { map column_value (take (length spans.now) room.new) ≡ columns_at values.now spans.now }
+    ensures room { length room.new ≡ length room.old }
 {
-    let mut columns = ArrayVec::new();
+    let mut place = 0;
     for span in spans {
-        columns.push(column_of(values, span));
+        room[place] = column_of(values, span);
+        place += 1;
     }
-    columns
 }
 
 /// The columns of spans of these values, lent.

@@ -25,13 +25,11 @@ pub record KeepsLine (count now : ℕ) (old new : List (List ℕ)) (line : List 
   pub added : count < now
   pub kept : new ≡ old ++ line ∷ []
 
--- the line of one of the known rows was taken off the front: of the table that began last, at a greater key than
--- those so far
-pub record TakesKnown (known : DumpRowsValue) (old new : Behind) (text rest : List ℕ) : Type 0 where
-  pub row : KeyValue × RowValue
+-- the line of one of the known rows is in front, before this rest: of the table that began last, at a greater key
+-- than those so far
+pub record StandsKnown (known : DumpRowsValue) (old : Behind) (text : List ℕ) (row : KeyValue × RowValue) (rest : List ℕ) : Type 0 where
   pub place : ℕ
   pub stands : slice_get known place ≡ Some row
   pub begun_last : row.0.table + 1 ≡ old.begun
   pub above : AreBelow key_cmp row.0 old.rows
   pub parts : text ≡ row_line row.1 ++ rest
-  pub is_new : new ≡ record { begun = old.begun; rows = old.rows ++ row ∷ [] }

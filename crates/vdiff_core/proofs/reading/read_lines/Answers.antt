@@ -2,6 +2,7 @@ use Rattle.std.proofs.Common.{◌≡◌, ◌<◌, ◌≤◌, ◌∙◌, ℕ, len
 use Rattle.vdiff_core.specs.declared.reading.DumpFault.TheVariants.{BadDump}
 use Rattle.vdiff_core.specs.DumpReading.{Behind, IsDump, IsFirstBad}
 use Rattle.vdiff_core.specs.DumpRowsValue.{DumpRowsValue}
+use Rattle.vdiff_core.specs.Private.Known.{AreLinesOf, texts_of}
 use Rattle.vdiff_core.proofs.KnownLaws.{lines_follow, rest_within}
 use Rattle.vdiff_core.proofs.StandLaws.{bad_line, missing_line, read_all, read_more, no_dump, one_bad, dumps_determine, is_zero, is_more}
 use Rattle.vdiff_core.proofs.reading.read_lines.Goals as goal
@@ -12,8 +13,11 @@ keep_line-requires c = rest_within _ _ _ _ _ c.in-Ok.ensures.taken
 pub loop-rest-preserved : goal.loop-rest-preserved
 loop-rest-preserved c = (
   read_more _ _ _ _ _ _ _ c.loop-rest.invariant.0 c.in-Ok.ensures.taken,
-  lines_follow c.args.plan.now _ _ _ _ _ _ _ c.loop-rest.invariant.1 c.len-count.ensures c.in-Ok.ensures.taken c.keep_line.ensures,
+  lines_follow c.args.plan.now _ _ _ _ _ _ _ c.loop-rest.invariant.1 (c.len-count.ensures ∙ ap (λ (s : Behind). length s.rows) c.read.view_is) c.in-Ok.ensures.taken (rw (ap (λ (s : Behind). s.rows) c.read-in-Ok.view_is) at c.keep_line.ensures),
 )
+
+pub new-requires : goal.new-requires
+new-requires c = subst (AreLinesOf (texts_of c.loop-rest.lines.items)) (sym (ap (λ (s : Behind). s.rows) c.read-2.view_is)) c.loop-rest.invariant.1
 
 pub returns-in-Err-Bad-clause-only : goal.returns-in-Err-Bad-clause-only
 returns-in-Err-Bad-clause-only c =
@@ -56,13 +60,13 @@ pub returns-clause-ok : goal.returns-clause-ok
 returns-clause-ok c =
     let all : length c.args.plan.now.tables ≤ c.loop-rest.read.begun = omega (arith, c.if-read-tables.false, ap (λ (s : Behind). s.begun) c.read-2.view_is, ap length c.tables.ensures.tables) in
     let dump = read_all _ _ _ _ _ c.loop-rest.invariant.0 (is_zero _ _ c.is_empty.ensures c.loop-rest-test.false) all in
-    subst (λ (rows : DumpRowsValue). IsDump c.args.plan.now rows c.args.bytes.now) (sym (ap (λ (s : Behind). s.rows) c.read-2.view_is)) dump
+    subst (λ (rows : DumpRowsValue). IsDump c.args.plan.now rows c.args.bytes.now) (sym (c.new.ensures ∙ ap (λ (s : Behind). s.rows) c.read-2.view_is)) dump
 
 pub returns-clause-only : goal.returns-clause-only
 returns-clause-only c =
     let all : length c.args.plan.now.tables ≤ c.loop-rest.read.begun = omega (arith, c.if-read-tables.false, ap (λ (s : Behind). s.begun) c.read-2.view_is, ap length c.tables.ensures.tables) in
     let dump = read_all _ _ _ _ _ c.loop-rest.invariant.0 (is_zero _ _ c.is_empty.ensures c.loop-rest-test.false) all in
-    λ rows other. inl (ap Ok (ap (λ (s : Behind). s.rows) c.read-2.view_is ∙ dumps_determine _ _ _ _ dump other))
+    λ rows other. inl (ap Ok (c.new.ensures ∙ ap (λ (s : Behind). s.rows) c.read-2.view_is ∙ dumps_determine _ _ _ _ dump other))
 
 pub returns-clause-first : goal.returns-clause-first
 returns-clause-first c =
