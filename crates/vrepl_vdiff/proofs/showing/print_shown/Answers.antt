@@ -8,13 +8,13 @@ returns-in_err-put_all-in-Json g c =
     let compared : Compared = record { plan = c.args.plan.now; source = c.args.source.now; target = c.args.target.now } in
     let p = err_from_is_err_and c.from_residual-in_err-put_all-in-Json.result c.from_residual-in_err-put_all-in-Json.ensures.1 in
     let line = c.in_ok-line-in-Json.ensures in
-    rw p.1 (unwritten_shown c.args.options.now p.0 compared _ _ _ (shown_json c.args.options.now compared _ _ c.in-Json.is c.unwrap_or-count-in-Json.ensures (record { found = line.0; are_first = line.1; is_text = line.2 })) (rw c.as_bytes.ensures.value at c.in_err-put_all-in-Json.ensures) p.2)
+    rw p.1 (unwritten_shown c.args.options.now p.0 compared _ _ _ (shown_json c.args.options.now compared _ _ c.in-Json.is c.unwrap_or-count.ensures (record { found = line.0; are_first = line.1; is_text = line.2 })) (rw c.as_bytes.ensures.value at c.in_err-put_all-in-Json.ensures) p.2)
 
 pub returns-in_ok-put_all-in-Json : goal.returns-in_ok-put_all-in-Json
 returns-in_ok-put_all-in-Json g c =
     let compared : Compared = record { plan = c.args.plan.now; source = c.args.source.now; target = c.args.target.now } in
     let line = c.in_ok-line-in-Json.ensures in
-    (_, shown_json c.args.options.now compared _ _ c.in-Json.is c.unwrap_or-count-in-Json.ensures (record { found = line.0; are_first = line.1; is_text = line.2 }), rw c.as_bytes.ensures.value at c.in_ok-put_all-in-Json.ensures)
+    (_, shown_json c.args.options.now compared _ _ c.in-Json.is c.unwrap_or-count.ensures (record { found = line.0; are_first = line.1; is_text = line.2 }), rw c.as_bytes.ensures.value at c.in_ok-put_all-in-Json.ensures)
 
 pub returns-in_err-print_text-in-Lines : goal.returns-in_err-print_text-in-Lines
 returns-in_err-print_text-in-Lines g c =
