@@ -10,7 +10,7 @@ use std::thread::Threads;
 use stream_worker::Policy;
 use vdiff_core::Writer;
 use vrepl_choices::{FeedForm, Threading};
-use vrepl_main::{Course, RunInputs, Untold, run};
+use vrepl_main::{RunCourse, RunInputs, Untold, run};
 
 /// The run was refused with this beginning of a line, and has printed nothing; an error where memory was wanting.
 fn is_refused(status: u8, out: &[u8], err: &[u8], line: &[u8]) -> Result<bool, AllocError> {
@@ -31,7 +31,7 @@ fn meets_a_foreign_row<R: Threads + Wait + Sync>(
         return Ok(false);
     };
     let inputs = RunInputs {
-        course: Course { threading, policy },
+        course: RunCourse { threading, policy },
         feed_form: FeedForm::Hex,
         workflow: Vec::from_slice(alloc, TWO.as_bytes())?,
         feeds: feeds_of(alloc, &[LOWER, SAME_KEY])?,

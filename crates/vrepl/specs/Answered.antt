@@ -4,7 +4,7 @@ use Rattle.vdiff_core.specs.Printing.{Written}
 use Rattle.vrepl_main.specs.Inputs.{IsUnread, IsUnreadAmong}
 use Rattle.vrepl_main.specs.Running.{opened_asked, RunEnds}
 use Rattle.vrepl_main.specs.declared.input.InputName.TheVariants.{File, Standard}
-use Rattle.vrepl_main.specs.declared.named_inputs.Course.{Course}
+use Rattle.vrepl_main.specs.declared.named_inputs.RunCourse.{RunCourse}
 use Rattle.vrepl_main.specs.declared.refusal.CommandRefusal.{CommandRefusal}
 use Rattle.vrepl_words.specs.declared.words.Run.{Run}
 use Rattle.vrepl_words.specs.declared.words.Words.{Words}
@@ -34,7 +34,7 @@ IsAnswering (ways.Check words) = Unit {0}
 IsAnswering words = ⊥
 
 -- the streams are run as the words ask for it: one after another or in threads, and in these portions
-abbrev pub IsCourseOf : Run → Course → Type 0
+abbrev pub IsCourseOf : Run → RunCourse → Type 0
 IsCourseOf words course =
     (course.threading ≡ words.threading) × (course.policy.rows ≡ words.portions.rows) × (course.policy.ahead ≡ words.portions.ahead) × (course.policy.chunks ≡ words.portions.chunks)
 

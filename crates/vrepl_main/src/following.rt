@@ -11,7 +11,7 @@ ghost use Rattle.vrepl_main.specs.Followed.{IsAtFeedsEnds, IsFollowed, RefusesFo
 ghost use Rattle.vrepl_main.specs.Printing.{PrintsOrBreaks};
 
 use crate::dump::write_rows;
-use crate::named_inputs::{Course, FollowInputs};
+use crate::named_inputs::{FollowInputs, RunCourse};
 use crate::opened::Opened;
 use crate::progress::{Progress, tell_feeds};
 use crate::refusal::{CommandRefusal, refuse};
@@ -174,7 +174,7 @@ fn board_at_ends<'h, R: Threads + Wait + Sync, G: Progress + Sync>(
 fn run_on_from<'h, R: Threads + Wait + Sync, G: Progress + Sync>(
     rt: &R,
     alloc: Global,
-    course: Course,
+    course: RunCourse,
     gate: &G,
     board: Board<'h>,
     feeds: &[Feed<'h>],

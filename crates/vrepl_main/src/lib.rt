@@ -44,7 +44,7 @@ pub use input_list::run_inputs;
 pub use joining::join;
 pub use keeping::keep_file;
 pub use named_inputs::{
-    Course, FollowInputs, Inputs, JoinFiles, JoinInputs, ResumeInputs, RunInputs, read_join,
+    FollowInputs, Inputs, JoinFiles, JoinInputs, ResumeInputs, RunCourse, RunInputs, read_join,
     read_resume, read_run, read_step,
 };
 pub use opened::open_workflow;

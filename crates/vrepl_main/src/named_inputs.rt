@@ -14,7 +14,7 @@ use vrepl_choices::{FeedForm, Threading};
 
 /// How streams are run.
 #[derive(Clone, Copy)]
-pub struct Course {
+pub struct RunCourse {
     /// One after another, or in threads.
     pub threading: Threading,
     /// In what portions.
@@ -25,7 +25,7 @@ pub struct Course {
 #[derive(Drop)]
 pub struct RunInputs {
     /// How the streams are run.
-    pub course: Course,
+    pub course: RunCourse,
     /// How the feeds are given.
     pub feed_form: FeedForm,
     /// The workflow's file.
@@ -60,7 +60,7 @@ pub struct ResumeInputs {
 #[derive(Clone, Copy)]
 pub struct FollowInputs<'h, 'f> {
     /// How the streams are run.
-    pub course: Course,
+    pub course: RunCourse,
     /// The checkpoint that is moved on, never hexadecimal text; none for one from the beginning.
     pub checkpoint: Option<&'h [u8]>,
     /// The workflow's file.
@@ -103,7 +103,7 @@ pub struct JoinFiles<'n, 'w> {
 /// then no later one is asked for.
 pub fn read_run<'w, R: Files + Input + AllocGlobal>(
     rt: &R,
-    course: Course,
+    course: RunCourse,
     feed_form: FeedForm,
     workflow: &'w str,
     feeds: &[&'w str],

@@ -20,7 +20,7 @@ ghost use Rattle.vrepl_main.specs.Running.{IsFilled, IsUnfilled, PrintsDump, Ref
 use crate::at_once::open_at_once;
 use crate::dump::write_rows;
 use crate::given::{GivenFeed, given_feeds};
-use crate::named_inputs::{Course, RunInputs};
+use crate::named_inputs::{RunCourse, RunInputs};
 use crate::opened::{Opened, open_workflow};
 use crate::progress::{Progress, tell_feeds};
 use crate::refusal::{CommandRefusal, refuse};
@@ -189,7 +189,7 @@ pub(crate) fn open_streams<'h, R: Threads + Sync>(
 pub(crate) fn run_streams<'h, R: Threads + Wait + Sync, G: Progress + Sync>(
     rt: &R,
     alloc: Global,
-    course: Course,
+    course: RunCourse,
     gate: &G,
     plans: Vec<Arc<Plan>>,
     feeds: &[Feed<'h>],
