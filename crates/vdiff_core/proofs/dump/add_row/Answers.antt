@@ -1,4 +1,4 @@
-use Rattle.std.proofs.Common.{◌≡◌, ◌++◌, [], ◌∷◌, List, ℕ, Option, refl, sym, ap, ◌∙◌, append_assoc}
+use Rattle.std.proofs.Common.{◌≡◌, ◌++◌, [], ◌∷◌, List, ℕ, Option, refl, ap, ◌∙◌, append_assoc}
 use Rattle.std.proofs.lemmas.List.Concat.{flat_map-cons}
 use Rattle.std.proofs.lemmas.Result.{err_from_is_err_and}
 use Rattle.row_view.specs.ColumnValue.{column_value}
@@ -11,7 +11,7 @@ use Rattle.vdiff_core.proofs.dump.add_row.Goals as goal
 -- nothing parts the first cell of a line
 whole_line : (columns : List (Option (List ℕ))) → row_line columns ≡ cells_left [] columns ++ 10 ∷ []
 whole_line [] = refl
-whole_line (column ∷ others) = sym (append_assoc (cell column) (cells others) (10 ∷ []))
+whole_line (column ∷ others) = refl
 
 -- a tab parts every other
 behind_tabs : (columns : List (Option (List ℕ))) → cells columns ≡ cells_left (9 ∷ []) columns
@@ -23,7 +23,6 @@ first_cell : (parting : List ℕ) (left rest : List (Option (List ℕ))) (value 
     → cells_left parting left ++ 10 ∷ [] ≡ (parting ++ cell value) ++ (cells_left (9 ∷ []) rest ++ 10 ∷ [])
 first_cell parting left rest value is =
     ap (λ (columns : List (Option (List ℕ))). cells_left parting columns ++ 10 ∷ []) is
-    ∙ ap (λ l. l ++ 10 ∷ []) (sym (append_assoc parting (cell value) (cells rest)))
     ∙ append_assoc (parting ++ cell value) (cells rest) (10 ∷ [])
     ∙ ap (λ l. (parting ++ cell value) ++ (l ++ 10 ∷ [])) (behind_tabs rest)
 
@@ -33,23 +32,23 @@ loop-column-init g c = rw (c.into_iter-column-iterator.ensures.into_iter_gives, 
 pub returns-in_err-put : goal.returns-in_err-put
 returns-in_err-put g c =
     let value : Option (List ℕ) = column_value c.in-Some.column in
-    let parts = first_cell c.loop-column.parting c.loop-column.column-iterator c.next.new.self value c.in-Some.ensures.steps in
+    let parts = first_cell c.loop-column.parting.now c.loop-column.column-iterator c.next.new.self value c.in-Some.ensures.steps in
     let p = err_from_is_err_and c.from_residual.result c.from_residual.ensures.1 in
-    rw p.1 (adding_stops _ _ _ _ _ _ _ _ _ parts c.loop-column.invariant (adding_breaks _ _ c.loop-column.text c.loop-column.parting (cell value) c.in_err-put.ensures))
+    rw p.1 (adding_stops _ _ _ _ _ _ _ _ _ parts c.loop-column.invariant (adding_breaks _ _ c.loop-column.text c.loop-column.parting.now (cell value) c.in_err-put.ensures))
 
 pub loop-column-preserved : goal.loop-column-preserved
 loop-column-preserved g c =
     let value : Option (List ℕ) = column_value c.in-Some.column in
-    let parts = first_cell c.loop-column.parting c.loop-column.column-iterator c.next.new.self value c.in-Some.ensures.steps in
-    adding_moves _ _ _ _ _ _ _ _ _ _ parts c.loop-column.invariant (added_more _ _ _ _ _ _ c.loop-column.parting (cell value) c.in_ok-put.ensures c.in_ok-add_cell.ensures)
+    let parts = first_cell c.loop-column.parting.now c.loop-column.column-iterator c.next.new.self value c.in-Some.ensures.steps in
+    adding_moves _ _ _ _ _ _ _ _ _ _ parts c.loop-column.invariant (added_more _ _ _ _ _ _ c.loop-column.parting.now (cell value) c.in_ok-put.ensures c.in_ok-add_cell.ensures)
 
 pub returns-in_err-add_cell : goal.returns-in_err-add_cell
 returns-in_err-add_cell g c =
     let value : Option (List ℕ) = column_value c.in-Some.column in
-    let parts = first_cell c.loop-column.parting c.loop-column.column-iterator c.next.new.self value c.in-Some.ensures.steps in
+    let parts = first_cell c.loop-column.parting.now c.loop-column.column-iterator c.next.new.self value c.in-Some.ensures.steps in
     let p = err_from_is_err_and c.from_residual-in_err-add_cell.result c.from_residual-in_err-add_cell.ensures.1 in
-    rw p.1 (adding_stops _ _ _ _ _ _ _ _ _ parts c.loop-column.invariant (added_breaks _ _ _ _ _ c.loop-column.parting (cell value) c.in_ok-put.ensures c.in_err-add_cell.ensures))
+    rw p.1 (adding_stops _ _ _ _ _ _ _ _ _ parts c.loop-column.invariant (added_breaks _ _ _ _ _ c.loop-column.parting.now (cell value) c.in_ok-put.ensures c.in_err-add_cell.ensures))
 
 pub returns : goal.returns
 returns g c =
-    adding_last c.put-2.result _ _ _ _ _ _ _ _ (ap (λ (columns : List (Option (List ℕ))). cells_left c.loop-column.parting columns ++ 10 ∷ []) c.in-None.ensures.steps.0) c.loop-column.invariant c.put-2.ensures
+    adding_last c.put-2.result _ _ _ _ _ _ _ _ (ap (λ (columns : List (Option (List ℕ))). cells_left c.loop-column.parting.now columns ++ 10 ∷ []) c.in-None.ensures.steps.0) c.loop-column.invariant c.put-2.ensures
