@@ -51,4 +51,4 @@ returns-in_err-add_cell g c =
 
 pub returns : goal.returns
 returns g c =
-    adding_last c.put-2.result _ _ _ _ _ _ _ _ (ap (λ (columns : List (Option (List ℕ))). cells_left c.loop-column.parting.now columns ++ 10 ∷ []) c.in-None.ensures.steps.0) c.loop-column.invariant c.put-2.ensures
+    adding_last c.put-2.result _ _ _ _ _ _ _ _ _ (ap (λ (columns : List (Option (List ℕ))). cells_left c.loop-column.parting.now columns ++ 10 ∷ []) c.in-None.ensures.steps.0) c.loop-column.invariant c.put-2.ensures
