@@ -62,7 +62,7 @@ pub(crate) fn begins_run<K: Ord, R>(
     ensures { IfSome result (λ spot. IsStart K.cmp pages.now spot.page spot.place (take left changes.now)) }
 {
     let next = &changes[left - 1];
-    if next.1.is_none() || pages.is_empty() {
+    if next.1.is_none() || hint.page >= pages.len() {
         return None;
     }
     match found_at(pages, hint, &next.0) {
