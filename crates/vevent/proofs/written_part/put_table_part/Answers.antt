@@ -1,4 +1,4 @@
-use Rattle.std.proofs.Common.{◌≡◌, [], ◌∷◌, ◌++◌, sym, ap, ◌∙◌, append_assoc}
+use Rattle.std.proofs.Common.{[], ◌∷◌, ◌++◌, sym, ap, ◌∙◌, append_assoc}
 use Rattle.proto_wire.specs.Writing.{written_fields, number_field, text_field, message_field}
 use Rattle.vevent.specs.ContentView.{answer_content}
 use Rattle.vevent.specs.CheckpointPart.{mark_number}
