@@ -2,6 +2,7 @@
 #![tactic(auto)]
 
 mod answer_parts;
+mod change_rows;
 mod checkpoint_part;
 mod column_count;
 mod event;

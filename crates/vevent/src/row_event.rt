@@ -3,15 +3,16 @@
 ghost use Rattle.std.specs.Prelude.{◌≡◌, None, IfSome, IsOk, length, min, option_copied, option_map, is_some};
 ghost use Rattle.std.specs.Iterator.{YieldsFirstBy, item_count};
 ghost use Rattle.std.specs.List.{list_all};
-ghost use Rattle.proto_wire.specs.Parts.{parts, single};
+ghost use Rattle.proto_wire.specs.Parts.{parts};
 ghost use Rattle.row_view.specs.Row.{row_of_message};
 ghost use Rattle.vevent.specs.Fault.{change_fault, first_row_fault};
 ghost use Rattle.vevent.specs.Message.{image_of, change_of, changes_of};
 ghost use Rattle.vevent.specs.Columns.{have_columns};
 ghost use Rattle.vevent.specs.Private.ColumnCount.{IsCountOf};
 
+use crate::change_rows::rows_in;
 use crate::column_count::ColumnCount;
-use proto_wire::{Fields, Parts};
+use proto_wire::Parts;
 use row_view::{RowBytes, RowView};
 use std::marker::Model;
 
@@ -217,27 +218,11 @@ fn row_change(message: &[u8]) -> RowChange<'_>
     requires { change_fault message.now ≡ None }
     ensures { result ≡ change_of message.now }
 {
-    let (before, after) = rows_in(message);
+    let rows = rows_in(message);
     RowChange {
-        before: row_found(before),
-        after: row_found(after),
+        before: row_found(rows.before),
+        after: row_found(rows.after),
     }
-}
-
-/// What a row change holds under the two numbers of rows, the first of several.
-#[inline(always)]
-fn rows_in(change: &[u8]) -> (Option<&[u8]>, Option<&[u8]>)
-    ensures before { option_copied result.0 ≡ single 1 change.now }
-    ensures after { option_copied result.1 ≡ single 2 change.now }
-{
-    let mut before: Option<&[u8]> = None;
-    let mut after: Option<&[u8]> = None;
-    let mut fields = Fields::new(change);
-    while let Ok(Some(field)) = fields.next_field() {
-        before = before.or(field.part(1));
-        after = after.or(field.part(2));
-    }
-    (before, after)
 }
 
 /// The bytes of a row that was found in a row change.

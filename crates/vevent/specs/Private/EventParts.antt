@@ -1,12 +1,13 @@
 -- What the walk over an event, a row event or a row change has met so far, and the fields that are
 -- still to come, are together what the message holds.
-use Rattle.std.specs.Prelude.{◌≡◌, ◌||◌, ◌&&◌, ℕ, List, [], ◌∷◌, None, unwrap_or}
+use Rattle.std.specs.Prelude.{◌≡◌, ◌||◌, ◌&&◌, ℕ, List, [], ◌∷◌, None, unwrap_or, option_copied}
 use Rattle.std.specs.List.{filter_map, list_any}
 use Rattle.proto_wire.specs.Field.{WireField, fields_of}
 use Rattle.vevent.specs.declared.event_parts.EventParts.{EventParts}
 use Rattle.vevent.specs.declared.row_parts.RowParts.{RowParts}
 use Rattle.vevent.specs.declared.images.Images.{Images}
-use Rattle.proto_wire.specs.Parts.{part_in, count_in, last_of, text, scalar, parts, single, is_repeated}
+use Rattle.vevent.specs.declared.change_rows.ChangeRows.{ChangeRows}
+use Rattle.proto_wire.specs.Parts.{part_in, count_in, last_of, text, scalar, parts, first_of, single, is_repeated}
 use Rattle.std.specs.Option.{option_or}
 use Rattle.vevent.specs.Fault.{first_in, in_change, change_fault, is_other_field, repeats_a_row, is_partial, first_row_fault}
 use Rattle.vevent.specs.Private.Singular.{message_behind, repeats_behind}
@@ -21,6 +22,11 @@ pub record AreImages (change : List ℕ) (met : Images) (more : List WireField) 
   pub partial : (met.is_partial || list_any is_other_field more) ≡ is_partial change
   pub fault : option_or met.fault (first_in in_change more None) ≡ change_fault change
   pub columns : (wanted : ℕ) → (all_have met.columns wanted && images_have wanted more) ≡ images_have wanted (fields_of change).items
+
+-- of its rows
+pub record AreChangeRows (change : List ℕ) (met : ChangeRows) (more : List WireField) : Type 0 where
+  pub before : option_or (option_copied met.before) (first_of (filter_map (part_in 1) more)) ≡ single 1 change
+  pub after : option_or (option_copied met.after) (first_of (filter_map (part_in 2) more)) ≡ single 2 change
 
 -- ---- a row event
 
