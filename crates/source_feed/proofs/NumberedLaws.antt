@@ -17,7 +17,7 @@ use Rattle.source_feed.specs.Private.NamedGroups.{all_named}
 place_within : (names : List (List ℕ)) (place : ℕ) → ((later : List (List ℕ)) → get_or (names ++ later) place [] ≡ get_or names place []) → place < length names
 place_within names place same =
     elim (slice_get_cases names place).1 [
-      | inl there ↦ there.1.0
+      | inl there ↦ there.1
       | inr past ↦
           let k : ℕ = place - length names in
           let later : List (List ℕ) = replicate (k + 1) (0 ∷ []) in

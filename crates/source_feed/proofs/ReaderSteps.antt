@@ -1,7 +1,7 @@
 -- One event more, for the events that end no block.
 use Rattle.std.proofs.Common.{◌≡◌, ℕ, List, [], ◌∷◌, ◌++◌, map, get_or, true, false, cond, Bool, Option, None, Some, Result, Ok, Err, OnOk, IfErr, length, is_some, refl, sym, ◌∙◌, ap, subst}
 use Rattle.std.proofs.lemmas.Bool.{cond-true, cond-false}
-use Rattle.std.proofs.lemmas.List.{map-append}
+use Rattle.std.proofs.lemmas.List.{map-append, append-nil}
 use Rattle.std.specs.Option.{option_map, option_or}
 use Rattle.std.specs.Str.{bytes_eq}
 use Rattle.outcome.specs.Outcome.{IsFault}
@@ -11,15 +11,16 @@ use Rattle.row_view.specs.FieldValue.{FieldValue}
 use Rattle.vevent.specs.declared.ignored.IgnoredEvent.{IgnoredEvent}
 use Rattle.vevent.specs.EventValue.{ChangeValue, EventValue, Begin, Commit, Rollback, Row, Field, Ignored}
 use Rattle.source_feed.specs.declared.fault.FeedFault.{FeedFault}
-use Rattle.source_feed.specs.declared.fault.FeedFault.TheVariants.{Misplaced, NoFields}
+use Rattle.source_feed.specs.declared.fault.FeedFault.TheVariants.{Misplaced, NoFields, NoPosition, OpenAtEnd}
 use Rattle.source_feed.specs.declared.transaction.Transaction.{Transaction}
 use Rattle.source_feed.specs.declared.group_reader.GroupReader.{GroupReader}
 use Rattle.source_feed.specs.FaultNumber.{meant_of}
 use Rattle.source_feed.specs.GroupValue.{Position, TableChangeValue, GroupValue}
 use Rattle.source_feed.specs.SourceValue.{SourceValue, table_in_source}
 use Rattle.source_feed.specs.PastEvents.{PastEvents, is_open, last_field, width_of, past_set, body_position, body_changes, change_in, changes_in}
-use Rattle.source_feed.specs.Groups.{block_at, seen, with_block, groups_of, group_of_block, row_fault, position_fault, fault_at}
+use Rattle.source_feed.specs.Groups.{block_at, seen, with_block, groups_of, group_of_block, row_fault, position_fault, commit_fault, fault_at}
 use Rattle.source_feed.specs.Private.BlockEnd.{last_position}
+use Rattle.source_feed.specs.Private.EventByEvent.{groups_at_end}
 use Rattle.source_feed.specs.Private.FeedTables.{width_in, names_in, names_behind, counted}
 use Rattle.source_feed.specs.Private.KeptGroups.{KeptChangeValue, KeptGroupValue, kept_in, all_kept, named, named_group}
 use Rattle.source_feed.specs.Private.ReaderState.{Body, body_of, body_held, IsBehind, TakesEvent}
@@ -182,7 +183,7 @@ row-puts {X = X} source earlier name changes old new was now place width result 
     found = counted_from (width_of source earlier table) width (sym (m.widths table) ∙ w)
 
     told : fault_at source earlier (Row name changes) ≡ row_fault (Some found.0) changes
-    told = cond-true _ _ _ (o []).opened ∙ ap (λ columns. row_fault columns changes) found.1.0
+    told = cond-true _ _ _ (o []).opened ∙ ap (λ columns. row_fault columns changes) found.1
 
     body : now.position ≡ was.position → now.changes.items ≡ was.changes.items ++ all_kept place changes → (later : List (List ℕ)) → body_held (names_with new later) new.transaction ≡ body_of source (Row name changes ∷ earlier)
     body at put later =
@@ -201,10 +202,10 @@ row-puts {X = X} source earlier name changes old new was now place width result 
         → ((columns : ℕ) → width ≡ counted columns → IfErr result (λ fault. IsFault meant_of fault (row_fault (Some columns) changes)))
         → TakesEvent source earlier (Row name changes) result new
     by (Ok x) fits at put refused = (
-      told ∙ fits found.0 found.1.1,
+      told ∙ fits found.0 found.2,
       stays source earlier (Row name changes) old new m k (same_twice (is_open earlier) _) (λ table. refl) (body at put) m.body_canonical,
     )
-    by (Err fault) fits at put refused = subst (IsFault meant_of fault) (sym told) (refused found.0 found.1.1)
+    by (Err fault) fits at put refused = subst (IsFault meant_of fault) (sym told) (refused found.0 found.2)
 
 -- ---- FIELD
 
@@ -235,3 +236,42 @@ field-puts source earlier name fields old new columns m same groups count widths
     width : (table : List ℕ) (b : Bool) → cond b (Some columns) (width_in old.tables table) ≡ option_map counted (option_map length (cond b (Some fields) (last_field source earlier table)))
     width table true = ap (λ n. Some n) count
     width table false = m.widths table
+
+-- ---- what a test of the transaction has told
+
+pub empty_from : {A : Type 0} (held : Option A) → ((x : A) → held ≡ Some x → ⊥) → held ≡ None
+empty_from None h = refl
+empty_from (Some x) h = absurd (h x refl)
+
+pub untested : {A : Type 0} (held : Option A) → is_some held ≡ false → held ≡ None
+untested None e = refl
+untested (Some x) e = cc
+
+pub tested : {A : Type 0} (held : Option A) → is_some held ≡ true → (x : A) × (held ≡ Some x)
+tested None e = cc
+tested (Some x) e = (x, refl)
+
+pub commit-refused : (source : SourceValue) (earlier : PastEvents) (old : GroupReader) (was : Transaction) → IsBehind source earlier old → old.transaction ≡ Some was → was.position ≡ None → fault_at source earlier Commit ≡ Some NoPosition
+commit-refused source earlier old was m is none =
+    let o = open_at source earlier old was m is [] in
+    cond-true _ _ _ o.opened ∙ ap (commit_fault source earlier) (o.position ∙ none)
+
+-- ---- the end
+
+-- the groups, under the names of all tables
+said : (source : SourceValue) (history : PastEvents) (reader : GroupReader) → IsBehind source history reader → map (named_group (names_in reader.tables)) reader.groups.items ≡ groups_of source history
+said source history reader m = ap (λ names. map (named_group names) reader.groups.items) (sym (append-nil (names_in reader.tables))) ∙ m.groups []
+
+pub ends-open : (source : SourceValue) (history : PastEvents) (reader : GroupReader) → IsBehind source history reader → is_some reader.transaction ≡ true → groups_at_end source (Ok history) ≡ Err OpenAtEnd
+ends-open source history reader m e =
+    let was = tested reader.transaction e in
+    cond-true _ _ _ (open_at source history reader was.0 m was.1 []).opened
+
+pub ends-closed : (source : SourceValue) (history : PastEvents) (reader : GroupReader) → IsBehind source history reader → is_some reader.transaction ≡ false
+    → groups_at_end source (Ok history) ≡ Ok (map (named_group (names_in reader.tables)) reader.groups.items)
+ends-closed source history reader m e =
+    cond-false _ _ _ (closed_at source history reader m (λ names. ap (body_held names) (untested reader.transaction e))) ∙ ap (λ all. Ok all) (sym (said source history reader m))
+
+pub ends-of_tables : (source : SourceValue) (history : PastEvents) (reader : GroupReader) → IsBehind source history reader → (later : List (List ℕ))
+    → map (named_group (names_in reader.tables ++ later)) reader.groups.items ≡ map (named_group (names_in reader.tables)) reader.groups.items
+ends-of_tables source history reader m later = m.groups later ∙ sym (said source history reader m)

@@ -60,7 +60,7 @@ found_name es name place e later =
     let within : place < length (names es) = subst (λ n. place < n) (sym (length-map (keys_of es) (λ (key : Bor (List ℕ)). key.now))) at.0 in
     get_or_append_left (names es) later [] place within
     ∙ get_or-map (λ (key : Bor (List ℕ)). key.now) (keys_of es) place nobody [] at.0
-    ∙ sym (equal_bytes name (get_or (keys_of es) place nobody).now at.1.0)
+    ∙ sym (equal_bytes name (get_or (keys_of es) place nobody).now at.1)
 
 -- the tables' numbers in a plan
 abbrev pub numbers : List (Bor (List ℕ) × FeedTable) → List (Option ℕ)

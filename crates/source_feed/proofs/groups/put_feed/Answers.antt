@@ -1,4 +1,4 @@
-use Rattle.std.proofs.Common.{[], List, ℕ, ◌||◌, length, refl, sym, ap, ◌∙◌, arith}
+use Rattle.std.proofs.Common.{[], List, ℕ, ◌||◌, length, refl, sym, ap, subst, ◌∙◌, arith}
 use Rattle.std.specs.Prelude.{option_copied}
 use Rattle.std.specs.List.{list_any}
 use Rattle.std.proofs.lemmas.Result.{err_from_is_err_and}
@@ -8,6 +8,7 @@ use Rattle.vevent.specs.Response.{response_of}
 use Rattle.source_feed.specs.EventList.{end_of_message, events_in_messages}
 use Rattle.source_feed.specs.Private.EventByEvent.{past_behind}
 use Rattle.source_feed.specs.Planned.{differs_from}
+use Rattle.source_feed.specs.Private.FeedTables.{AreNumbered}
 use Rattle.source_feed.proofs.Messages.{refuses_along, took_message, refused_message, length-feed, events_behind, any_behind, seen_more}
 use Rattle.source_feed.proofs.groups.put_feed.Goals as goal
 
@@ -33,7 +34,7 @@ loop-reader-preserved c =
         c.loop-reader.invariant.room,
         events_behind c.args.source.now before.0 after.0 c.in-Some.message.now c.loop-reader.frames c.next_frame.new.self frame.0 frame.1 after.1,
       );
-      numbers = rw c.loop-reader.invariant.plan at c.in_ok-put_message.ensures.numbers (rw (← c.loop-reader.invariant.plan) c.loop-reader.invariant.numbers);
+      numbers = subst (λ plan. AreNumbered plan c.put_message.new.reader.tables) c.loop-reader.invariant.plan (c.in_ok-put_message.ensures.numbers (subst (λ plan. AreNumbered plan c.loop-reader.reader.tables) (sym c.loop-reader.invariant.plan) c.loop-reader.invariant.numbers));
       plan = c.put_message.ensures.plan ∙ c.loop-reader.invariant.plan;
       seen = rw c.put_message.ensures.plan
           (seen_more c.loop-reader.field_check.differs c.put_message.new.field_check.differs _ _ _ _ c.loop-reader.invariant.seen

@@ -19,7 +19,7 @@ invariant_of-result c =
     let whole : groups c.args.feed.now (source_of plan) ≡ Ok (all_named c.in_ok-kept.kept) = search rules in
     let checked : option_copied c.new-field_check.result.plan ≡ Some plan = search rules in
     let numbers : AreNumbered (Some plan) c.in_ok-kept.kept.tables = rw checked at c.in_ok-kept.ensures.numbers in
-    let under : c.in_ok-groups.groups.items ≡ map (planned_group plan) (all_named c.in_ok-kept.kept) = c.in_ok-groups.ensures ∙ kept_under plan c.in_ok-kept.kept numbers c.in_ok-kept.ensures.tables in
+    let under : c.in_ok-groups.groups.items ≡ map (planned_group plan) (all_named c.in_ok-kept.kept) = c.in_ok-groups.ensures.ok ∙ kept_under plan c.in_ok-kept.kept numbers c.in_ok-kept.ensures.tables in
     opened_feed plan (arc_value c.in_ok-clone.field-0) c.args.feed.now (all_named c.in_ok-kept.kept) c.in_ok-groups.groups.items (option_copied c.new-field_check.result.plan)
     c.new-field_check.result.differs c.read.new.field_check.differs planned given under c.in_ok-kept.ensures.order c.in_ok-kept.ensures.few whole checked c.if-field_check.false
     c.in_ok-kept.ensures.seen
@@ -32,7 +32,7 @@ returns-clause-whole c =
     let whole : groups c.args.feed.now (source_of plan) ≡ Ok (all_named c.in_ok-kept.kept) = search rules in
     let checked : option_copied c.new-field_check.result.plan ≡ Some plan = search rules in
     let numbers : AreNumbered (Some plan) c.in_ok-kept.kept.tables = rw checked at c.in_ok-kept.ensures.numbers in
-    let under : c.in_ok-groups.groups.items ≡ map (planned_group plan) (all_named c.in_ok-kept.kept) = c.in_ok-groups.ensures ∙ kept_under plan c.in_ok-kept.kept numbers c.in_ok-kept.ensures.tables in
+    let under : c.in_ok-groups.groups.items ≡ map (planned_group plan) (all_named c.in_ok-kept.kept) = c.in_ok-groups.ensures.ok ∙ kept_under plan c.in_ok-kept.kept numbers c.in_ok-kept.ensures.tables in
     opened_feed plan (arc_value c.in_ok-clone.field-0) c.args.feed.now (all_named c.in_ok-kept.kept) c.in_ok-groups.groups.items (option_copied c.new-field_check.result.plan)
     c.new-field_check.result.differs c.read.new.field_check.differs planned given under c.in_ok-kept.ensures.order c.in_ok-kept.ensures.few whole checked c.if-field_check.false
     c.in_ok-kept.ensures.seen
@@ -43,5 +43,5 @@ returns-clause-groups c =
     let whole : groups c.args.feed.now (source_of plan) ≡ Ok (all_named c.in_ok-kept.kept) = search rules in
     let checked : option_copied c.new-field_check.result.plan ≡ Some plan = search rules in
     let numbers : AreNumbered (Some plan) c.in_ok-kept.kept.tables = rw checked at c.in_ok-kept.ensures.numbers in
-    let under : c.in_ok-groups.groups.items ≡ map (planned_group plan) (all_named c.in_ok-kept.kept) = c.in_ok-groups.ensures ∙ kept_under plan c.in_ok-kept.kept numbers c.in_ok-kept.ensures.tables in
+    let under : c.in_ok-groups.groups.items ≡ map (planned_group plan) (all_named c.in_ok-kept.kept) = c.in_ok-groups.ensures.ok ∙ kept_under plan c.in_ok-kept.kept numbers c.in_ok-kept.ensures.tables in
     search rules

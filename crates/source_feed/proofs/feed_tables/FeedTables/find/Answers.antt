@@ -4,4 +4,4 @@ use Rattle.source_feed.proofs.TableLaws.{found_name}
 use Rattle.source_feed.proofs.feed_tables.FeedTables.find.Goals as goal
 
 pub returns-clause-place : goal.returns-clause-place
-returns-clause-place c = found_name c.args.self.now.first_seen.entries c.args.table.now _ (sym c.get_full.ensures.index ∙ ap (option_map (λ p. p.0)) c.in_ok-get_full.is)
+returns-clause-place c = found_name c.args.self.now.first_seen.entries c.args.table.now _ (sym c.get_full.ensures.index ∙ ap (option_map (λ p. p.0)) c.in_ok-place.was)

@@ -1,5 +1,18 @@
-use Rattle.std.proofs.Common.{rules}
+use Rattle.std.proofs.Common.{◌≡◌, None, Some, refl, sym, ap, ◌∙◌, map}
+use Rattle.source_feed.specs.Private.KeptGroups.{named}
+use Rattle.source_feed.specs.Private.ReaderState.{body_held}
+use Rattle.source_feed.proofs.ReaderSteps.{begin-puts, begin-refused, tested, untested}
 use Rattle.source_feed.proofs.group_reader.GroupReader.begin.Goals as goal
 
 pub returns-clause-meaning : goal.returns-clause-meaning
-returns-clause-meaning c = search rules
+returns-clause-meaning c = λ source earlier m.
+    let none : c.args.self.now.transaction ≡ None = untested c.args.self.now.transaction (sym c.is_some.ensures ∙ c.if-is_some.false) in
+    begin-puts source earlier c.args.self.now (record { transaction = Some (record { position = None; changes = c.new.result }); tables = c.args.self.now.tables; groups = c.args.self.now.groups }) m
+    (record { names = refl; widths = λ table. refl; groups = refl })
+    (λ names. ap (body_held names) none)
+    (λ names. ap (λ all. Some (record { position = None; changes = map (named names) all })) c.new.ensures.items)
+
+pub returns-then-is_some-clause-meaning : goal.returns-then-is_some-clause-meaning
+returns-then-is_some-clause-meaning c = λ source earlier m.
+    let was = tested c.args.self.now.transaction (sym c.is_some.ensures ∙ c.if-is_some.true) in
+    begin-refused source earlier c.args.self.now was.0 m was.1

@@ -2,6 +2,7 @@ use Rattle.std.proofs.Common.{◌≡◌, ℕ, List, Some, refl, sym, ◌∙◌, 
 use Rattle.source_feed.specs.Private.KeptGroups.{named}
 use Rattle.source_feed.specs.Private.ReaderState.{Body, body_held}
 use Rattle.source_feed.proofs.Steps.{commit-puts}
+use Rattle.source_feed.proofs.ReaderSteps.{commit-skips, commit-refused, empty_from}
 use Rattle.source_feed.proofs.group_reader.GroupReader.commit.Goals as goal
 
 pub returns-clause-meaning : goal.returns-clause-meaning
@@ -15,3 +16,15 @@ returns-clause-meaning c = λ source earlier m.
     (λ table. refl)
     refl
     c.end_block.ensures.block
+
+pub returns-in_default-clause-meaning : goal.returns-in_default-clause-meaning
+returns-in_default-clause-meaning c = λ source earlier m.
+    commit-skips source earlier c.args.self.now (record { transaction = c.take.new.self; tables = c.args.self.now.tables; groups = c.args.self.now.groups }) m
+    (record { names = refl; widths = λ table. refl; groups = refl })
+    (λ names. ap (body_held names) (sym c.take.ensures.value ∙ empty_from c.take.result c.in_default.not-Some))
+    (λ names. ap (body_held names) c.take.ensures.after)
+
+pub returns-in_default-position-clause-meaning : goal.returns-in_default-position-clause-meaning
+returns-in_default-position-clause-meaning c = λ source earlier m.
+    let at : c.in-Some.position ≡ c.in-Some.field-0.position = cc in
+    commit-refused source earlier c.args.self.now c.in-Some.field-0 m (sym c.take.ensures.value ∙ c.in-Some.is) (sym at ∙ empty_from c.in-Some.position c.in_default-position.not-Some)

@@ -1,6 +1,8 @@
-use Rattle.std.proofs.Common.{refl, ap, rules}
+use Rattle.std.proofs.Common.{Some, refl, ap}
 use Rattle.vevent.specs.EventValue.{Gtid, Vgtid}
 use Rattle.source_feed.specs.Private.ReaderState.{body_held}
+use Rattle.source_feed.specs.declared.transaction.Transaction.{Transaction}
+use Rattle.source_feed.proofs.ReaderSteps.{position-counts}
 use Rattle.source_feed.proofs.Steps.{position-puts, carries-gtid, carries-vgtid}
 use Rattle.source_feed.proofs.group_reader.GroupReader.put_position.Goals as goal
 
@@ -17,7 +19,13 @@ returns-in-None-clause-vgtid c = λ source earlier entries own m.
     (λ names. ap (body_held names) c.in-None.is) (λ names. ap (body_held names) c.in-None.is) (λ table. refl) refl (rw c.new.ensures.items at c.end_block.ensures.block)
 
 pub returns-in-Some-clause-gtid : goal.returns-in-Some-clause-gtid
-returns-in-Some-clause-gtid c = search rules
+returns-in-Some-clause-gtid c = λ source earlier m.
+    let now : Transaction = record { position = Some c.in_ok-position.position; changes = c.in-Some.transaction.changes } in
+    position-counts source earlier (Gtid c.args.text.now) c.args.text.now c.args.self.now (record { transaction = Some now; tables = c.args.self.now.tables; groups = c.args.self.now.groups }) c.in-Some.transaction now c.in_ok-position.position
+    (carries-gtid source c.args.text.now) c.in_ok-position.ensures.exact c.in_ok-position.ensures.canonical m (record { names = refl; widths = λ table. refl; groups = refl }) c.in-Some.is refl refl refl
 
 pub returns-in-Some-clause-vgtid : goal.returns-in-Some-clause-vgtid
-returns-in-Some-clause-vgtid c = search rules
+returns-in-Some-clause-vgtid c = λ source earlier entries own m.
+    let now : Transaction = record { position = Some c.in_ok-position.position; changes = c.in-Some.transaction.changes } in
+    position-counts source earlier (Vgtid entries) c.args.text.now c.args.self.now (record { transaction = Some now; tables = c.args.self.now.tables; groups = c.args.self.now.groups }) c.in-Some.transaction now c.in_ok-position.position
+    (carries-vgtid source entries c.args.text.now own) c.in_ok-position.ensures.exact c.in_ok-position.ensures.canonical m (record { names = refl; widths = λ table. refl; groups = refl }) c.in-Some.is refl refl refl
