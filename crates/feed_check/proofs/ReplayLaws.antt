@@ -1,8 +1,9 @@
 -- A replay, one change on.
-use Rattle.std.proofs.Common.{◌≡◌, ℕ, ◌+◌, ◌<◌, length, take, get_or, List, [], ◌∷◌, ◌++◌, Option, Some, None, refl, ap, sym, ◌∙◌, reverse}
+use Rattle.std.proofs.Common.{◌≡◌, List, [], ◌∷◌, ◌++◌, Option, Some, None, refl, ap, sym, ◌∙◌, reverse}
 use Rattle.std.specs.List.{flat_map}
 use Rattle.std.specs.Option.{option_and_then, option_to_list}
-use Rattle.std.proofs.lemmas.List.{append_assoc, reverse-append, flat_map_more, take_more}
+use Rattle.std.proofs.lemmas.List.{append_assoc, append-nil, reverse-append}
+use Rattle.std.proofs.lemmas.List.Concat.{flat_map-cons}
 use Rattle.pk_copy.specs.KeyOrder.{key_cmp}
 use Rattle.pk_copy.specs.KeyValue.{KeyValue}
 use Rattle.target_tables.specs.Touches.{last_at}
@@ -48,9 +49,16 @@ replayed_more change past old new found between more before after b a bs ends to
 pub past-pushed : (earlier done : List KeyedChangeValue) (change : KeyedChangeValue) → reverse (earlier ++ (done ++ change ∷ [])) ≡ change ∷ reverse (earlier ++ done)
 past-pushed earlier done change = ap reverse (sym (append_assoc earlier done (change ∷ []))) ∙ reverse-append (earlier ++ done) (change ∷ [])
 
--- the changes of some groups and of one more
-pub past-group : {G : Type 0} (f : G → List KeyedChangeValue) (groups : List G) (i : ℕ) (group : G) (changes : List KeyedChangeValue) → i < length groups → group ≡ get_or groups i group → changes ≡ f group
-    → reverse (flat_map f (take i groups) ++ changes) ≡ reverse (flat_map f (take (i + 1) groups))
-past-group f groups i group changes within is e =
-    ap (λ (cs : List KeyedChangeValue). reverse (flat_map f (take i groups) ++ cs)) (e ∙ ap f is)
-    ∙ ap reverse (flat_map_more f [] (take i groups) (get_or groups i group) ∙ ap (flat_map f) (sym (take_more groups i group within)))
+-- the changes of one more group, and those of the groups that are left
+pub one-group : {G : Type 0} (f : G → List KeyedChangeValue) (past changes : List KeyedChangeValue) (left later : List G) (group : G) (all : List KeyedChangeValue)
+    → left ≡ group ∷ later → changes ≡ f group → past ++ flat_map f left ≡ all → (past ++ changes) ++ flat_map f later ≡ all
+one-group {G} f past changes left later group all steps is whole =
+    append_assoc past changes (flat_map f later)
+    ∙ ap (λ (front : List KeyedChangeValue). past ++ (front ++ flat_map f later)) is
+    ∙ ap (λ (cs : List KeyedChangeValue). past ++ cs) (sym (flat_map-cons f group later))
+    ∙ ap (λ (gs : List G). past ++ flat_map f gs) (sym steps)
+    ∙ whole
+
+-- no group is left
+pub all-groups : {G : Type 0} (f : G → List KeyedChangeValue) (past : List KeyedChangeValue) (left : List G) (all : List KeyedChangeValue) → left ≡ [] → past ++ flat_map f left ≡ all → past ≡ all
+all-groups {G} f past left all none whole = sym (append-nil past) ∙ ap (λ (gs : List G). past ++ flat_map f gs) (sym none) ∙ whole
