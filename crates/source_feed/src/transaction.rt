@@ -74,17 +74,14 @@ fn push_change<'h>(
     Ok(())
 }
 
-/// Takes room for the row changes of a ROW event behind others: for all, up to 256. Looks into none of them.
-fn take_room(changes: &mut Vec<KeptChange<'_>>, row: &RowEvent<'_>) -> Result<(), AllocError>
+/// Takes room for a transaction's first change, which most have alone; behind it the room doubles.
+fn take_room(changes: &mut Vec<KeptChange<'_>>) -> Result<(), AllocError>
     ensures { changes.new.items ≡ changes.old.items }
 {
-    let room = row.count_up_to(256);
-    if changes.len() < 2 {
-        // most transactions have one ROW event, or two of one change; behind them the room doubles
-        changes.reserve_exact(room)
-    } else {
-        changes.reserve(room)
+    if changes.is_empty() {
+        return changes.reserve_exact(1);
     }
+    Ok(())
 }
 
 /// Puts row changes behind others.
@@ -102,7 +99,7 @@ fn push_changes<'h>(
     Ok(())
 }
 
-/// Puts the changes of a ROW event behind others, in room that is taken at once.
+/// Puts the changes of a ROW event behind others.
 fn put_changes<'h>(
     changes: &mut Vec<KeptChange<'h>>,
     place: usize,
@@ -111,7 +108,7 @@ fn put_changes<'h>(
     ensures pushed { OnOk result (changes.new.items ≡ changes.old.items ++ all_kept place row.now.changes) }
     ensures err { IfErr result (λ fault. fault ≡ Memory) }
 {
-    take_room(changes, row)?;
+    take_room(changes)?;
     push_changes(changes, place, row.changes())
 }
 
