@@ -21,7 +21,7 @@ pub use field::{Field, Payload, field_of};
 pub use fields::Fields;
 pub use frames::Frames;
 pub use laws::{longer_spelling, shortest_spelling};
-pub use parts::{Parts, last_text, last_varint, single_of};
+pub use parts::{Parts, last_text, last_varint, pair_of, single_of};
 pub use sint64::{sint64_of, unzigzag, zigzag};
 pub use sint64s::Sint64s;
 pub use spelling::{put_varint, varint_size};

@@ -5,6 +5,7 @@ pub mod ReadLaws
 pub mod ColumnLaws
 pub mod RowLaws
 pub mod KeptLaws
+pub mod PairLaws
 pub mod MarkLaws
 pub mod FilledLaws
 pub mod WrittenLaws

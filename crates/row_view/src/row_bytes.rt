@@ -9,10 +9,10 @@ ghost use Rattle.row_view.specs.Private.Kept.{IsGood};
 use crate::column::Column;
 use crate::columns::Columns;
 use crate::fault::RowFault;
-use crate::found::{VALUES, found_in};
+use crate::found::{LENGTHS, VALUES, found_in};
 use crate::row::RowView;
 use crate::same::{are_picked, are_same};
-use proto_wire::last_text;
+use proto_wire::{last_text, pair_of};
 use std::marker::Model;
 
 /// The bytes of a message that is known to be a row, in 16 bytes: what is kept of a row. Seen in
@@ -74,7 +74,10 @@ impl<'b> RowBytes<'b> {
     pub fn columns(&self) -> Columns<'b>
         ensures { result ≡ self.now }
     {
-        Columns::new(self.message, last_text(self.message, VALUES))
+        match pair_of(self.message, LENGTHS, VALUES) {
+            Some((packed, values)) => Columns::behind(packed, &[], values),
+            None => Columns::new(self.message, last_text(self.message, VALUES)),
+        }
     }
 
     /// Column `i` of the row: NULL where its length is negative, else its value. Looks for the values once
