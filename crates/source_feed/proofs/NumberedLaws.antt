@@ -24,7 +24,8 @@ place_within names place same =
           let one : 0 ∷ [] ≡ get_or (names ++ later) place []
           = sym (get_or-append_right names later (length names) place [] refl past.0 ∙ get_or-replicate (k + 1) k (0 ∷ []) [] (omega arith)) in
           let none : get_or names place [] ≡ [] = get_or_past names place [] past.0 in
-          let both : 0 ∷ [] ≡ [] = one ∙ same later ∙ none in absurd cc
+          let lengths : 1 ≡ 0 = ap length (one ∙ same later ∙ none) in
+          absurd (omega (arith, lengths))
     ]
 
 changes_under : (plan : PlanValue) (names : List (List ℕ)) (changes : List KeptChangeValue) → ((later : List (List ℕ)) → map (named (names ++ later)) changes ≡ map (named names) changes)

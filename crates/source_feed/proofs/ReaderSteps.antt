@@ -1,5 +1,5 @@
 -- One event more, for the events that end no block.
-use Rattle.std.proofs.Common.{◌≡◌, ℕ, List, [], ◌∷◌, ◌++◌, map, get_or, true, false, cond, Bool, Option, None, Some, Result, Ok, Err, OnOk, IfErr, length, is_some, refl, sym, ◌∙◌, ap, subst}
+use Rattle.std.proofs.Common.{◌≡◌, ◌+◌, ℕ, List, [], ◌∷◌, ◌++◌, map, get_or, true, false, cond, Bool, Option, None, Some, Result, Ok, Err, OnOk, IfErr, length, is_some, refl, sym, ◌∙◌, ap, subst}
 use Rattle.std.proofs.lemmas.Bool.{cond-true, cond-false}
 use Rattle.std.proofs.lemmas.List.{map-append, append-nil}
 use Rattle.std.specs.Option.{option_map, option_or}

@@ -26,5 +26,4 @@ returns-in_default-clause-meaning c = λ source earlier m.
 
 pub returns-in_default-position-clause-meaning : goal.returns-in_default-position-clause-meaning
 returns-in_default-position-clause-meaning c = λ source earlier m.
-    let at : c.in-Some.position ≡ c.in-Some.field-0.position = cc in
-    commit-refused source earlier c.args.self.now c.in-Some.field-0 m (sym c.take.ensures.value ∙ c.in-Some.is) (sym at ∙ empty_from c.in-Some.position c.in_default-position.not-Some)
+    commit-refused source earlier c.args.self.now c.in-Some.field-0 m (sym c.take.ensures.value ∙ c.in-Some.is) (empty_from c.in-Some.field-0.position c.in_default-position.not-Some)
