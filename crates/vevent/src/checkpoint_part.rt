@@ -7,10 +7,11 @@ ghost use Rattle.vevent.specs.Judging.{IsValue, IsAtFault};
 ghost use Rattle.vevent.specs.CheckpointPart.{TablePartValue, StreamPartValue, mark_number, mark_of_number, table_part_of, stream_part_of, table_conditions, table_part_at, stream_conditions, stream_part_at};
 
 use crate::fault::EventFault;
+use crate::messages::Messages;
 use crate::part_contents::{answer_in, stream_contents_of, table_contents_of};
 use crate::rows_answer::RowsAnswer;
 use crate::text::text_of;
-use proto_wire::{Parts, last_text, last_varint};
+use proto_wire::{last_text, last_varint};
 use std::marker::Model;
 
 /// How far a table is copied.
@@ -197,7 +198,7 @@ impl<'b> StreamPart<'b> {
         ensures { result ≡ self.now.tables }
     {
         TableParts {
-            parts: Parts::new(self.message, 2),
+            messages: Messages::new(self.message, 2),
         }
     }
 }
@@ -205,7 +206,7 @@ impl<'b> StreamPart<'b> {
 /// The parts of tables that are still to come. Seen in contracts as the list of them.
 #[derive(Drop)]
 pub struct TableParts<'b> {
-    parts: Parts<'b>,
+    messages: Messages<'b>,
 }
 
 impl<'b> Model for TableParts<'b> {
@@ -215,9 +216,9 @@ impl<'b> Model for TableParts<'b> {
 
     ghost Value = { List TablePartValue };
 
-    ghost view = { λ a. map table_part_of a.parts };
+    ghost view = { λ a. map table_part_of a.messages.items };
 
-    ghost invariant = { λ a. (list_all are_table_texts a.parts ≡ true) × (first_in_tables a.parts ≡ None) };
+    ghost invariant = { λ a. (list_all are_table_texts a.messages.items ≡ true) × (first_in_tables a.messages.items ≡ None) };
 }
 
 impl<'b> Iterator for TableParts<'b> {
@@ -229,7 +230,7 @@ impl<'b> Iterator for TableParts<'b> {
 
     fn next(&mut self) -> Option<TablePart<'b>> {
         Some(TablePart {
-            message: self.parts.next()?,
+            message: self.messages.next()?,
         })
     }
 }

@@ -8,8 +8,9 @@ ghost use Rattle.proto_wire.specs.Parts.{text, parts};
 ghost use Rattle.vevent.specs.Message.{column_field_of, column_fields_of};
 ghost use Rattle.vevent.specs.ColumnView.{field_value};
 
+use crate::messages::Messages;
 use crate::text::text_of;
-use proto_wire::{Parts, last_text, last_varint};
+use proto_wire::{last_text, last_varint};
 use std::marker::Model;
 
 /// A field event (`binlogdata.proto`, FieldEvent). Seen in contracts as the table's name and the
@@ -60,7 +61,7 @@ impl<'b> FieldEvent<'b> {
         ensures { result ≡ self.now.fields }
     {
         ColumnFields {
-            parts: Parts::new(self.message, 2),
+            messages: Messages::new(self.message, 2),
         }
     }
 }
@@ -68,7 +69,7 @@ impl<'b> FieldEvent<'b> {
 /// The columns of a field event that are still to come. Seen in contracts as the list of them.
 #[derive(Drop)]
 pub struct ColumnFields<'b> {
-    parts: Parts<'b>,
+    messages: Messages<'b>,
 }
 
 impl<'b> Model for ColumnFields<'b> {
@@ -81,9 +82,9 @@ impl<'b> Model for ColumnFields<'b> {
 
     ghost Value = { List FieldValue };
 
-    ghost view = { λ a. map column_field_of a.parts };
+    ghost view = { λ a. map column_field_of a.messages.items };
 
-    ghost invariant = { λ a. list_all (λ field. is_utf8 (text 1 field)) a.parts ≡ true };
+    ghost invariant = { λ a. list_all (λ field. is_utf8 (text 1 field)) a.messages.items ≡ true };
 }
 
 impl<'b> ColumnFields<'b> {
@@ -93,7 +94,7 @@ impl<'b> ColumnFields<'b> {
         ensures { result ≡ map column_field_of (parts number message.now) }
     {
         ColumnFields {
-            parts: Parts::new(message, number),
+            messages: Messages::new(message, number),
         }
     }
 }
@@ -106,7 +107,7 @@ impl<'b> Iterator for ColumnFields<'b> {
     ghost remaining = { item_count (λ rest. rest) };
 
     fn next(&mut self) -> Option<ColumnField<'b>> {
-        let field = self.parts.next()?;
+        let field = self.messages.next()?;
         Some(ColumnField {
             name: text_of(last_text(field, 1)),
             type_number: last_varint(field, 2),

@@ -12,6 +12,7 @@ mod field_event;
 mod ignored;
 mod images;
 mod kind;
+mod messages;
 mod part_contents;
 mod response;
 mod row_event;

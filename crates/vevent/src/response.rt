@@ -9,14 +9,14 @@ ghost use Rattle.vevent.specs.Response.{response_of, IsResponse};
 
 use crate::event::Event;
 use crate::fault::EventFault;
-use proto_wire::Fields;
+use crate::messages::Messages;
 use std::marker::Model;
 
 /// The events of a response that are still to come (`binlogdata.proto`, VStreamResponse), in the
 /// order of the bytes. Seen in contracts as that list and the fault that ends it, if one does.
 #[derive(Drop)]
 pub struct Response<'b> {
-    fields: Fields<'b>,
+    messages: Messages<'b>,
     /// the fault of the event that ended the reading
     ended: Option<EventFault>,
 }
@@ -25,12 +25,11 @@ impl<'b> Model for Response<'b> {
     ghost use Rattle.proto_wire.specs.Reading.{Reading};
     ghost use Rattle.vevent.specs.declared.fault.EventFault.{EventFault};
     ghost use Rattle.vevent.specs.EventValue.{EventValue};
-    ghost use Rattle.proto_wire.specs.Parts.{parts_left};
     ghost use Rattle.vevent.specs.Response.{events_in, unless_ended};
 
     ghost Value = { Reading EventValue EventFault };
 
-    ghost view = { λ a. unless_ended a.ended (events_in (parts_left 1 a.fields)) };
+    ghost view = { λ a. unless_ended a.ended (events_in a.messages) };
 }
 
 impl<'b> Response<'b> {
@@ -44,7 +43,7 @@ impl<'b> Response<'b> {
         ensures only { (other : Reading EventValue EventFault) → IsResponse bytes.now other → other ≡ result }
     {
         Response {
-            fields: Fields::new(bytes),
+            messages: Messages::new(bytes, 1),
             ended: None,
         }
     }
@@ -58,7 +57,7 @@ impl<'b> Response<'b> {
         if let Some(fault) = self.ended {
             return Err(fault);
         }
-        let Some(message) = self.fields.next_part(1).map_err(EventFault::Wire)? else {
+        let Some(message) = self.messages.next_message().map_err(EventFault::Wire)? else {
             return Ok(None);
         };
         match Event::read(message) {

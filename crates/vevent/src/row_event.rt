@@ -1,6 +1,6 @@
 //! Row events: changes of one table's rows.
 
-ghost use Rattle.std.specs.Prelude.{◌≡◌, None, IfSome, IsOk, length, min, option_copied, option_map, is_some};
+ghost use Rattle.std.specs.Prelude.{◌≡◌, None, IfSome, IsOk, option_copied, option_map, is_some};
 ghost use Rattle.std.specs.Iterator.{YieldsFirstBy, item_count};
 ghost use Rattle.std.specs.List.{list_all};
 ghost use Rattle.proto_wire.specs.Parts.{parts};
@@ -12,7 +12,7 @@ ghost use Rattle.vevent.specs.Private.ColumnCount.{IsCountOf};
 
 use crate::change_rows::rows_in;
 use crate::column_count::ColumnCount;
-use proto_wire::Parts;
+use crate::messages::Messages;
 use row_view::{RowBytes, RowView};
 use std::marker::Model;
 
@@ -71,20 +71,13 @@ impl<'b> RowEvent<'b> {
         self.columns.all_have(columns)
     }
 
-    /// How many row changes there are; of more than `most`, so many. Looks into none of them.
-    pub fn count_up_to(&self, most: usize) -> usize
-        ensures { result ≡ min (length self.now.changes) most }
-    {
-        count_up_to(Parts::new(self.message, 2), most)
-    }
-
     /// The row changes, in the order of the bytes. Takes no memory, and reads no row: the rows of a change
     /// are found when the change is taken.
     pub fn changes(&self) -> RowChanges<'b>
         ensures { result ≡ self.now.changes }
     {
         RowChanges {
-            parts: Parts::new(self.message, 2),
+            messages: Messages::new(self.message, 2),
         }
     }
 }
@@ -92,7 +85,7 @@ impl<'b> RowEvent<'b> {
 /// The row changes of a row event that are still to come. Seen in contracts as the list of them.
 #[derive(Drop)]
 pub struct RowChanges<'b> {
-    parts: Parts<'b>,
+    messages: Messages<'b>,
 }
 
 impl<'b> Model for RowChanges<'b> {
@@ -103,9 +96,9 @@ impl<'b> Model for RowChanges<'b> {
 
     ghost Value = { List ChangeValue };
 
-    ghost view = { λ a. map change_of a.parts };
+    ghost view = { λ a. map change_of a.messages.items };
 
-    ghost invariant = { λ a. first_row_fault a.parts ≡ None };
+    ghost invariant = { λ a. first_row_fault a.messages.items ≡ None };
 }
 
 impl<'b> Iterator for RowChanges<'b> {
@@ -117,7 +110,7 @@ impl<'b> Iterator for RowChanges<'b> {
 
     #[inline(always)]
     fn next(&mut self) -> Option<RowChange<'b>> {
-        Some(row_change(self.parts.next()?))
+        Some(row_change(self.messages.next()?))
     }
 }
 
@@ -196,20 +189,6 @@ fn once_more<'b>(row: &Option<RowBytes<'b>>) -> Option<RowBytes<'b>>
         None => None,
         Some(row) => Some(row.copy()),
     }
-}
-
-/// How many parts there are; of more than `most`, so many.
-fn count_up_to(parts: Parts<'_>, most: usize) -> usize
-    ensures { result ≡ min (length parts.entry) most }
-{
-    let mut count: usize = 0;
-    for _part in parts {
-        if count == most {
-            return count;
-        }
-        count += 1;
-    }
-    count
 }
 
 /// The row change of a message whose rows can be read: both are found by one walk over it.

@@ -11,8 +11,9 @@ ghost use Rattle.vevent.specs.Answer.{AnswerValue, answer_of, are_answer_texts, 
 use crate::answer_parts::answer_parts_of;
 use crate::fault::EventFault;
 use crate::field_event::ColumnFields;
+use crate::messages::Messages;
 use crate::text::text_of;
-use proto_wire::{Parts, last_text, single_of};
+use proto_wire::{last_text, single_of};
 use row_view::RowBytes;
 use std::marker::Model;
 
@@ -108,7 +109,7 @@ impl<'b> RowsAnswer<'b> {
         ensures { result ≡ self.now.rows }
     {
         AnswerRows {
-            parts: Parts::new(self.message, 4),
+            messages: Messages::new(self.message, 4),
         }
     }
 
@@ -132,7 +133,7 @@ fn lastpk_in(answer: &[u8]) -> Option<RowBytes<'_>>
 /// The rows of an answer that are still to come. Seen in contracts as the list of them.
 #[derive(Drop)]
 pub struct AnswerRows<'b> {
-    parts: Parts<'b>,
+    messages: Messages<'b>,
 }
 
 impl<'b> Model for AnswerRows<'b> {
@@ -143,9 +144,9 @@ impl<'b> Model for AnswerRows<'b> {
 
     ghost Value = { List (List (Option (List ℕ))) };
 
-    ghost view = { λ a. map image_of a.parts };
+    ghost view = { λ a. map image_of a.messages.items };
 
-    ghost invariant = { λ a. AllByRecursion (λ row. IsOk (row_of_message row)) a.parts };
+    ghost invariant = { λ a. AllByRecursion (λ row. IsOk (row_of_message row)) a.messages.items };
 }
 
 impl<'b> Iterator for AnswerRows<'b> {
@@ -156,7 +157,7 @@ impl<'b> Iterator for AnswerRows<'b> {
     ghost remaining = { item_count (λ rest. rest) };
 
     fn next(&mut self) -> Option<RowBytes<'b>> {
-        let row = self.parts.next()?;
+        let row = self.messages.next()?;
         Some(RowBytes::of_row(row))
     }
 }

@@ -9,14 +9,15 @@ ghost use Rattle.vevent.specs.Private.EventParts.{AreAllParts};
 
 use crate::event_parts::EventParts;
 use crate::kind::EventKind;
+use crate::messages::Messages;
 use crate::text::is_text;
-use proto_wire::{Parts, last_text};
+use proto_wire::last_text;
 
 /// The names of all columns of a field event.
 fn are_names(field_event: &[u8]) -> bool
     ensures { result ≡ list_all (λ field. is_utf8 (text 1 field)) (parts 2 field_event.now) }
 {
-    for field in Parts::new(field_event, 2) {
+    for field in Messages::new(field_event, 2) {
         if !is_text(last_text(field, 1)) {
             return false;
         }
@@ -35,7 +36,7 @@ fn are_texts_of_entry(entry: &[u8]) -> bool
 fn are_texts_of_entries(vgtid: &[u8]) -> bool
     ensures { result ≡ list_all are_entry_texts (parts 1 vgtid.now) }
 {
-    for entry in Parts::new(vgtid, 1) {
+    for entry in Messages::new(vgtid, 1) {
         if !are_texts_of_entry(entry) {
             return false;
         }

@@ -8,8 +8,9 @@ ghost use Rattle.vevent.specs.Fault.{are_entry_texts};
 ghost use Rattle.vevent.specs.Message.{shard_gtids_of};
 ghost use Rattle.vevent.specs.ShardGtidView.{shard_gtid_value};
 
+use crate::messages::Messages;
 use crate::text::text_of;
-use proto_wire::{Parts, last_text};
+use proto_wire::last_text;
 use std::marker::Model;
 
 /// The position of each shard of a stream (`binlogdata.proto`, VGtid). Seen in contracts as the list
@@ -48,7 +49,7 @@ impl<'b> VGtid<'b> {
         ensures { result ≡ self.now }
     {
         ShardGtids {
-            parts: Parts::new(self.message, 1),
+            messages: Messages::new(self.message, 1),
         }
     }
 }
@@ -56,7 +57,7 @@ impl<'b> VGtid<'b> {
 /// The entries of a VGTID that are still to come. Seen in contracts as the list of them.
 #[derive(Drop)]
 pub struct ShardGtids<'b> {
-    parts: Parts<'b>,
+    messages: Messages<'b>,
 }
 
 impl<'b> Model for ShardGtids<'b> {
@@ -68,9 +69,9 @@ impl<'b> Model for ShardGtids<'b> {
 
     ghost Value = { List ShardGtidValue };
 
-    ghost view = { λ a. map shard_gtid_of a.parts };
+    ghost view = { λ a. map shard_gtid_of a.messages.items };
 
-    ghost invariant = { λ a. list_all are_entry_texts a.parts ≡ true };
+    ghost invariant = { λ a. list_all are_entry_texts a.messages.items ≡ true };
 }
 
 impl<'b> Iterator for ShardGtids<'b> {
@@ -81,7 +82,7 @@ impl<'b> Iterator for ShardGtids<'b> {
     ghost remaining = { item_count (λ rest. rest) };
 
     fn next(&mut self) -> Option<ShardGtid<'b>> {
-        let entry = self.parts.next()?;
+        let entry = self.messages.next()?;
         Some(ShardGtid {
             keyspace: text_of(last_text(entry, 1)),
             shard: text_of(last_text(entry, 2)),

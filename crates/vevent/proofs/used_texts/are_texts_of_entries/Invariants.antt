@@ -5,4 +5,4 @@ use Rattle.vevent.specs.Fault.{are_entry_texts}
 use Rattle.vevent.proofs.used_texts.are_texts_of_entries.Given as goal
 
 abbrev pub invariant-loop-entry : goal.invariant-loop-entry
-invariant-loop-entry l = list_all are_entry_texts l.entry-iterator ≡ list_all are_entry_texts (parts 1 l.fn.vgtid)
+invariant-loop-entry l = list_all are_entry_texts l.entry-iterator.items ≡ list_all are_entry_texts (parts 1 l.fn.vgtid)
