@@ -1,5 +1,5 @@
 -- Lines that are known as text, and the rows that they are.
-use Rattle.std.proofs.Common.{◌≡◌, ℕ, ◌+◌, ◌-◌, ◌<◌, ◌≤◌, ◌⊎◌, inl, inr, List, [], ◌∷◌, ◌++◌, length, take, map, get_or, refl, sym, ap, ◌∙◌, subst, append_assoc, append-nil, length-append, arith, Some}
+use Rattle.std.proofs.Common.{◌≡◌, ℕ, ◌+◌, ◌-◌, ◌<◌, ◌≤◌, ◌⊎◌, inl, inr, List, [], ◌∷◌, ◌++◌, length, take, map, get_or, refl, sym, ap, ◌∙◌, subst, append_assoc, append-nil, length-append, arith, Some, Result, Ok, Err}
 use Rattle.std.specs.Prelude.{slice_get}
 use Rattle.std.specs.List.{AllByRecursion}
 use Rattle.std.proofs.lemmas.List.{map-append, take_at, get_or-map, get_or_append_left, length-map}
@@ -15,9 +15,6 @@ use Rattle.vdiff_core.specs.DumpRowsValue.{RowValue, DumpRowsValue}
 
 abbrev lines_of : DumpRowsValue → List (List ℕ)
 lines_of rows = map (λ row. row_line row.1) rows
-
-pub no_lines : AreLinesOf [] []
-no_lines = record { front = []; others = []; parts = refl; lines_are = refl }
 
 -- ---- the line at a place
 
@@ -100,3 +97,9 @@ known_stands plan known old text rest row all found = record {
   parts = found.parts;
   can = inr record { row = row; fits = fits_there plan known found.place row all found.stands; begun_last = found.begun_last; above = found.above; is_line = refl; is_new = refl };
 }
+
+-- ---- results
+
+pub no_fault : {X E : Type 0} (x : X) (a b : E) → (◌≡◌ {A = Result X E} (Ok x) (Err a)) ⊎ (◌≡◌ {A = Result X E} (Ok x) (Err b)) → ⊥
+no_fault x a b (inl e) = cc
+no_fault x a b (inr e) = cc

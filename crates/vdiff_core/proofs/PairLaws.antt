@@ -6,7 +6,7 @@ use Rattle.std.proofs.lemmas.List.{drop_more}
 use Rattle.std.proofs.lemmas.Option.{same_Some}
 use Rattle.vdiff_core.specs.Private.Reading.{digit_of, pair_of, pair_front}
 
-pair_there : (h l : Option ℕ) (rest : List ℕ) (byte : ℕ) → pair_of h l ≡ Some byte → option_and_then (λ x. option_map (λ y. (x * 16 + y, rest)) l) h ≡ Some (byte, rest)
+pair_there : (h l : Option ℕ) (rest : List ℕ) (byte : ℕ) → pair_of h l ≡ Some byte → option_and_then {U = ℕ × List ℕ} (λ x. option_map (λ y. (x * 16 + y, rest)) l) h ≡ Some (byte, rest)
 pair_there None None rest byte e = cc
 pair_there None (Some y) rest byte e = cc
 pair_there (Some x) None rest byte e = cc

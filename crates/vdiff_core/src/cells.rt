@@ -1,6 +1,5 @@
 //! The columns of a row as text.
 
-ghost use Rattle.std.specs.Prelude.{◌≡◌, ◌∷◌, ◌++◌};
 ghost use Rattle.row_view.specs.ColumnValue.{column_value};
 ghost use Rattle.vdiff_core.specs.Cells.{cell, cells};
 ghost use Rattle.vdiff_core.specs.Printing.{Adds};

@@ -1,6 +1,6 @@
 //! Rows of a dump with the text of their lines.
 
-ghost use Rattle.std.specs.Prelude.{◌≡◌, ◌<◌, ◌≤◌, ◌⊎◌, ◌-◌, List, ◌∷◌, ◌++◌, [], IfSome, Some, length, slice_get, take, map};
+ghost use Rattle.std.specs.Prelude.{◌≡◌, ◌<◌, ◌≤◌, ◌⊎◌, ◌-◌, [], IfSome, Some, length, slice_get, take};
 ghost use Rattle.vdiff_core.specs.Dump.{row_line};
 ghost use Rattle.vdiff_core.specs.Private.Known.{AreLinesOf, texts_of, KeepsLine};
 

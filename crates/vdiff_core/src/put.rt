@@ -1,6 +1,5 @@
 //! The one loop over `write`.
 
-ghost use Rattle.std.specs.Prelude.{◌≡◌};
 ghost use Rattle.vdiff_core.specs.Printing.{Prints};
 
 use crate::writer::{Out, OutFailed};

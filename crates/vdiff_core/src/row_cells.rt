@@ -1,6 +1,6 @@
 //! The columns of a row's line in a dump.
 
-ghost use Rattle.std.specs.Prelude.{◌≡◌, ◌-◌, ◌<◌, ◌≤◌, ◌+◌, ℕ, List, [], take, IfSome, IfOk, IfErr, OnOk, Some, None, Ok, Err, length, map};
+ghost use Rattle.std.specs.Prelude.{◌≡◌, ◌-◌, ◌<◌, ◌≤◌, ◌+◌, [], take, IfSome, IfOk, IfErr, OnOk, Some, None, Ok, Err, length, map};
 ghost use Rattle.std.specs.Option.{option_map};
 ghost use Rattle.row_view.specs.ColumnValue.{column_value};
 ghost use Rattle.row_view.specs.Row.{row_of_message};
@@ -117,10 +117,12 @@ impl RowCells {
         if count <= FEW {
             let mut room = [Column::Null; FEW];
             lend_columns(&mut room, &self.values, &self.spans);
-            return write_row(message, &room[..count]);
+            write_row(message, &room[..count])?;
+            return Ok(());
         }
         let columns = columns_of(alloc, &self.values, &self.spans)?;
-        write_row(message, &columns)
+        write_row(message, &columns)?;
+        Ok(())
     }
 }
 

@@ -13,7 +13,7 @@ keep_line-requires c = rest_within _ _ _ _ _ c.in-Ok.ensures.taken
 pub loop-rest-preserved : goal.loop-rest-preserved
 loop-rest-preserved c = (
   read_more _ _ _ _ _ _ _ c.loop-rest.invariant.0 c.in-Ok.ensures.taken,
-  lines_follow c.args.plan.now _ _ _ _ _ _ _ c.loop-rest.invariant.1 (c.len-count.ensures ∙ ap (λ (s : Behind). length s.rows) c.read.view_is) c.in-Ok.ensures.taken (rw (ap (λ (s : Behind). s.rows) c.read-in-Ok.view_is) at c.keep_line.ensures),
+  lines_follow c.args.plan.now _ _ _ _ _ _ _ c.loop-rest.invariant.1 (c.len-count.ensures ∙ ap (λ (s : Behind). length s.rows) c.read.view_is) c.in-Ok.ensures.taken (rw (ap (λ (s : Behind). s.rows) c.read-in-loop-rest.view_is) at c.keep_line.ensures),
 )
 
 pub new-requires : goal.new-requires
