@@ -22,7 +22,7 @@ use Rattle.pk_copy.specs.KeyValue.{KeyValue}
 use Rattle.target_tables.specs.Rising.{IsRising}
 use Rattle.vdiff_core.specs.Dump.{row_line, row_lines, rows_of_table, table_line, table_lines}
 use Rattle.vdiff_core.specs.Private.Tables.{AreFrom, behind_table, IsOtherFirst, IsTakenOf}
-use Rattle.vdiff_core.specs.DumpRowsValue.{RowValue, DumpRowsValue, unowned, all_rows}
+use Rattle.vdiff_core.specs.DumpRowsValue.{RowValue, DumpRowsValue, all_rows}
 
 -- a lesser key is of the same table or of one before
 lesser_table : (a b : KeyValue) → (b.table < a.table) ⊎ (a.table ≤ b.table) → key_cmp a b ≡ Less → a.table ≤ b.table

@@ -1,10 +1,9 @@
-use Rattle.std.proofs.Common.{ℕ, refl, sym, ap, subst, ◌∙◌, arith, length}
+use Rattle.std.proofs.Common.{refl, sym, ap, subst, ◌∙◌}
 use Rattle.std.proofs.lemmas.Result.{err_from_is_err_and}
 use Rattle.pk_copy.specs.KeyOrder.{key_cmp}
 use Rattle.target_tables.specs.Rising.{IsRising}
 use Rattle.vdiff_core.specs.Dump.{row_lines}
 use Rattle.vdiff_core.specs.Private.Tables.{AreFrom}
-use Rattle.vdiff_core.specs.DumpRowsValue.{DumpRowsValue}
 use Rattle.vdiff_core.proofs.PrintLaws.{adding_starts, adding_moves, adding_stops, adding_ends}
 use Rattle.vdiff_core.proofs.TableLaws.{taken_line, taken_behind, none_taken}
 use Rattle.vdiff_core.proofs.dump.add_rows_of.Goals as goal

@@ -1,7 +1,7 @@
 use Rattle.std.proofs.Common.{◌≡◌, ◌+◌, ◌*◌, ◌<◌, ◌++◌, ◌∷◌, ◌∙◌, [], List, ℕ, length, take, drop, sym, ap, arith, slice_set, Some}
-use Rattle.std.proofs.lemmas.List.{take_more_set, length-set, length-drop}
+use Rattle.std.proofs.lemmas.List.{take_more_set, length-set}
 use Rattle.vdiff_core.specs.Private.Reading.{bytes_front}
-use Rattle.vdiff_core.proofs.PairLaws.{pair_at, no_pair_at, no_pair_left}
+use Rattle.vdiff_core.proofs.PairLaws.{pair_at}
 use Rattle.vdiff_core.proofs.ReadingLaws.{bytes_more}
 use Rattle.vdiff_core.proofs.row_cells.take_piece.Goals as goal
 
