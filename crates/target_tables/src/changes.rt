@@ -14,7 +14,7 @@ use crate::drift::{Drift, staged_at};
 use crate::hints::spot_by;
 use crate::page::{FULL, HALF};
 use crate::pages::Pages;
-use crate::runs::{begins_run, is_worth, page_with_places};
+use crate::runs::{begins_run, is_worth, page_with_places, share_page};
 use crate::spots::{Spot, behind, entry_at};
 
 /// Puts an entry with a new key in at its place, and tells the place behind it. A full page is split in
@@ -179,14 +179,15 @@ fn merge_next<K: Ord + Drop, R: Drop>(
     ensures leads { Leads K.cmp (entries_of pages.old.pages) stream (take left changes.old.items) (take result changes.new.items) (entries_of pages.new.pages) }
     ensures room { new_keys K.cmp (entries_of pages.new.pages) (take result changes.new.items) ≤ room_of pages.new.pages pages.new.spares }
 {
-    let hint = drift.hint(pages.as_slice(), staged_at(spots, left - 1));
-    if !pages.has_spare() || drift.is_closed(hint.page) {
+    if !pages.has_spare() || !share_page(spots, left) {
         return left;
     }
-    if !is_worth(pages.as_slice(), hint, spots, left) {
+    let hint = drift.hint(pages.as_slice(), staged_at(spots, left - 1));
+    if drift.is_closed(hint.page) || !is_worth(pages.as_slice(), hint, spots, left) {
         return left;
     }
     let Some(start) = begins_run(pages.as_slice(), hint, changes, left) else {
+        drift.close(hint.page);
         return left;
     };
     let run = pages.merge(start, stream, changes, left);

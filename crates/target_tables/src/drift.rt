@@ -35,7 +35,7 @@ impl Drift {
         self.now = now;
     }
 
-    /// Rows were put into this page together, up to a change that can't be.
+    /// A change of this page can't be made together with others.
     pub(crate) fn close(&mut self, page: usize) {
         self.closed = Some(page);
     }

@@ -21,6 +21,11 @@ pub(crate) struct Run {
     pub(crate) behind: usize,
 }
 
+/// The next change and the one behind it were staged for one page.
+pub(crate) fn share_page(spots: &[Spot], left: usize) -> bool {
+    left > 1 && staged_at(spots, left - 2).page == staged_at(spots, left - 1).page
+}
+
 /// A page that has places left.
 pub(crate) fn page_with_places<K, R>(pages: &[Page<K, R>], page: usize) -> Option<&Page<K, R>> {
     match pages.get(page) {
