@@ -11,6 +11,7 @@ use Rattle.source_feed.specs.Prepared.{IsPrepared}
 use Rattle.source_feed.specs.SoundGroups.{sound_groups}
 use Rattle.source_feed.specs.Touches.{PreparedValue}
 use Rattle.source_feed.proofs.PreparedLaws.{group_whole}
+use Rattle.source_feed.proofs.SoundGroupLaws.{IsGroupOf, group_of}
 use Rattle.board_laws.specs.Allowed.{last_position}
 use Rattle.board_laws.specs.Lawful.{IsReadList}
 
