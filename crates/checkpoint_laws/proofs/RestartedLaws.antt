@@ -15,6 +15,7 @@ use Rattle.source_feed.specs.Planned.{FeedValue, IsFeed}
 use Rattle.source_feed.specs.Positions.{IsNumberAt}
 use Rattle.source_feed.specs.SoundGroups.{sound_groups}
 use Rattle.source_feed.specs.Touches.{PreparedValue}
+use Rattle.source_feed.proofs.PositionLaws.{one_number}
 use Rattle.board_laws.specs.Allowed.{last_position}
 use Rattle.board_laws.specs.Cut.{cut_of}
 use Rattle.board_laws.specs.Event.{restart}
