@@ -8,6 +8,7 @@ use crate::channel::OfFeed;
 use crate::ends::ReaderEnd;
 use source_feed::Feed;
 use std::alloc::Global;
+use std::marker::PhantomData;
 use std::sync::Wait;
 
 /// What the thread works with that prepares a feed's groups.
@@ -17,8 +18,10 @@ pub struct Reading<'a, 'h, F: OfFeed, R> {
     pub rt: &'a R,
     /// where its groups lie
     pub alloc: Global,
-    /// the feed, the one of `F`
+    /// the feed
     pub feed: &'a Feed<'h>,
+    /// by which proofs know the feed
+    pub of: PhantomData<F>,
     /// how many groups are read before it begins
     pub read: u32,
     /// where its groups go, of which none was sent yet
@@ -35,6 +38,7 @@ pub fn read_ahead<'a, 'h, F: OfFeed + 'h, R: Wait>(reading: Reading<'a, 'h, F, R
         rt,
         alloc,
         feed,
+        of: _,
         read,
         mut end,
     } = reading;

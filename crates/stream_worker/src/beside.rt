@@ -11,6 +11,7 @@ use crate::working::work;
 use apply_core::RunRefusal;
 use feed_readers::{OfFeed, Reading, WorkerEnd, read_ahead, reader_ends};
 use source_feed::Feed;
+use std::marker::PhantomData;
 use std::sync::Wait;
 use std::thread;
 use std::thread::Threads;
@@ -21,6 +22,7 @@ struct Working<'a, 'h, F: OfFeed, R, G> {
     run: &'a RunContext<'a, 'h, R, G>,
     seat: Seat<'h>,
     feed: &'a Feed<'h>,
+    of: PhantomData<F>,
     end: WorkerEnd<'h, F>,
     ghost at_board: { IsSeatOf run.now.shared.now seat },
     ghost of_feed: { feed.now ≡ F.feed },
@@ -36,6 +38,7 @@ fn work_behind<'a, 'h, F: OfFeed + 'h, R: Wait, G: Gate>(
         run,
         mut seat,
         feed,
+        of: _,
         mut end,
     } = working;
     let (_, refusal) = work(
@@ -82,6 +85,7 @@ pub(crate) fn beside_reader<
                 rt: run.rt,
                 alloc: run.alloc,
                 feed,
+                of: PhantomData,
                 read: seat.read(),
                 end: reader,
             };
@@ -89,6 +93,7 @@ pub(crate) fn beside_reader<
                 run,
                 seat,
                 feed,
+                of: PhantomData,
                 end: worker,
             };
             run_both(reading, working)
