@@ -9,4 +9,4 @@ mod reading;
 pub use ahead::{Ahead, group_of};
 pub use channel::OfFeed;
 pub use ends::{ReaderEnd, WorkerEnd, reader_ends};
-pub use reading::{Reading, read_ahead};
+pub use reading::{Named, Reading, read_ahead};

@@ -11,6 +11,40 @@ use std::alloc::Global;
 use std::marker::PhantomData;
 use std::sync::Wait;
 
+/// A feed, of which it is known in proofs that it is the one of `F`.
+#[derive(Drop)]
+pub struct Named<'a, 'h, F: OfFeed> {
+    feed: &'a Feed<'h>,
+    name: PhantomData<F>,
+    pub ghost is: { feed.now ≡ F.feed },
+}
+
+impl<'a, 'h, F: OfFeed> Named<'a, 'h, F> {
+    /// The feed under this name.
+    fn new(feed: &'a Feed<'h>) -> Named<'a, 'h, F>
+        requires { feed.now ≡ F.feed }
+    {
+        Named {
+            feed,
+            name: PhantomData,
+        }
+    }
+
+    /// The feed under this name, for the thread that prepares its groups and for the one that needs them.
+    pub fn for_both(feed: &'a Feed<'h>) -> (Named<'a, 'h, F>, Named<'a, 'h, F>)
+        requires { feed.now ≡ F.feed }
+    {
+        (Named::new(feed), Named::new(feed))
+    }
+
+    /// The feed.
+    pub fn feed(&self) -> &'a Feed<'h>
+        ensures { result.now ≡ F.feed }
+    {
+        self.feed
+    }
+}
+
 /// What the thread works with that prepares a feed's groups.
 #[derive(Drop)]
 pub struct Reading<'a, 'h, F: OfFeed, R> {
@@ -19,14 +53,11 @@ pub struct Reading<'a, 'h, F: OfFeed, R> {
     /// where its groups lie
     pub alloc: Global,
     /// the feed
-    pub feed: &'a Feed<'h>,
-    /// by which proofs know the feed
-    pub of: PhantomData<F>,
+    pub feed: Named<'a, 'h, F>,
     /// how many groups are read before it begins
     pub read: u32,
     /// where its groups go, of which none was sent yet
     pub end: ReaderEnd<'h, F>,
-    pub ghost of_feed: { feed.now ≡ F.feed },
     pub ghost none: { last_sent (view end.pass) ≡ None },
 }
 
@@ -38,10 +69,10 @@ pub fn read_ahead<'a, 'h, F: OfFeed + 'h, R: Wait>(reading: Reading<'a, 'h, F, R
         rt,
         alloc,
         feed,
-        of: _,
         read,
         mut end,
     } = reading;
+    let feed = feed.feed();
     let _plan = feed.plan();
     let groups = feed.len() as u32;
     for before in read..groups {

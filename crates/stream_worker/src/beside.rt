@@ -9,9 +9,8 @@ use crate::seat::Seat;
 use crate::seat_run::{Ran, RunContext};
 use crate::working::work;
 use apply_core::RunRefusal;
-use feed_readers::{OfFeed, Reading, WorkerEnd, read_ahead, reader_ends};
+use feed_readers::{Named, OfFeed, Reading, WorkerEnd, read_ahead, reader_ends};
 use source_feed::Feed;
-use std::marker::PhantomData;
 use std::sync::Wait;
 use std::thread;
 use std::thread::Threads;
@@ -21,11 +20,9 @@ use std::thread::Threads;
 struct Working<'a, 'h, F: OfFeed, R, G> {
     run: &'a RunContext<'a, 'h, R, G>,
     seat: Seat<'h>,
-    feed: &'a Feed<'h>,
-    of: PhantomData<F>,
+    feed: Named<'a, 'h, F>,
     end: WorkerEnd<'h, F>,
     ghost at_board: { IsSeatOf run.now.shared.now seat },
-    ghost of_feed: { feed.now ≡ F.feed },
 }
 
 /// A seat's stream runs to the feed's end, and then its end of the channel is given up.
@@ -38,11 +35,17 @@ fn work_behind<'a, 'h, F: OfFeed + 'h, R: Wait, G: Gate>(
         run,
         mut seat,
         feed,
-        of: _,
         mut end,
     } = working;
     let (_, refusal) = work(
-        run.rt, run.alloc, run.shared, &mut seat, feed, run.policy, run.gate, &mut end,
+        run.rt,
+        run.alloc,
+        run.shared,
+        &mut seat,
+        feed.feed(),
+        run.policy,
+        run.gate,
+        &mut end,
     );
     drop(end);
     Ran { seat, refusal }
@@ -81,19 +84,18 @@ pub(crate) fn beside_reader<
             refusal: Some(RunRefusal::Memory),
         },
         Ok((reader, worker)) => {
+            let (of_reader, of_worker) = Named::for_both(feed);
             let reading = Reading {
                 rt: run.rt,
                 alloc: run.alloc,
-                feed,
-                of: PhantomData,
+                feed: of_reader,
                 read: seat.read(),
                 end: reader,
             };
             let working = Working {
                 run,
                 seat,
-                feed,
-                of: PhantomData,
+                feed: of_worker,
                 end: worker,
             };
             run_both(reading, working)

@@ -6,5 +6,5 @@ use Rattle.stream_worker.proofs.beside.work_behind.Goals as goal
 
 pub returns : goal.returns
 returns g c =
-    subst (λ (feed : FeedValue). IsLeft c.args.working.run.now.shared.now feed c.args.working.seat (record { seat = c.work-refusal.new.seat; refusal = c.work-refusal.result.1 })) c.args.working.of_feed
+    subst (λ (feed : FeedValue). IsLeft c.args.working.run.now.shared.now feed c.args.working.seat (record { seat = c.work-refusal.new.seat; refusal = c.work-refusal.result.1 })) c.feed.ensures
     (left-by c.args.working.run.now.shared.now _ c.args.working.seat c.work-refusal.new.seat c.work-refusal.result.1 c.work-refusal.ensures.is_at c.work-refusal.ensures.many c.work-refusal.ensures.follows c.work-refusal.ensures.ended c.work-refusal.ensures.refused)
