@@ -9,6 +9,7 @@ use Rattle.stream_core.specs.declared.step.Step.{Step}
 use Rattle.stream_core.specs.StepTable.{row_of}
 use Rattle.board_laws.specs.declared.answer.Answer.{Answer}
 use Rattle.board_laws.specs.declared.answer.Answer.TheVariants.{Offered}
+use Rattle.board_laws.specs.declared.answer.Offered.{Offered as OfferAnswer}
 use Rattle.board_laws.specs.declared.answer.Offered.TheVariants.{Read, Repeat}
 use Rattle.board_laws.specs.declared.refusal.Refusal.{Refusal}
 use Rattle.board_laws.specs.declared.refusal.Refusal.TheVariants.{NoStream}
