@@ -5,6 +5,7 @@ ghost use Rattle.pk_copy.specs.KeyOrder.{key_cmp};
 ghost use Rattle.target_tables.specs.Rising.{IsRising};
 ghost use Rattle.vdiff_core.specs.Dump.{row_line, row_lines, rows_of_table, table_line, table_lines, dump_of};
 ghost use Rattle.vdiff_core.specs.Printing.{Prints, Adds};
+ghost use Rattle.vdiff_core.specs.Private.Progress.{parting};
 ghost use Rattle.vdiff_core.specs.Private.Tables.{AreFrom, behind_table};
 ghost use Rattle.vdiff_core.specs.DumpRowsValue.{all_rows};
 
@@ -95,15 +96,26 @@ fn add_table_line<O: Out>(out: &mut O, text: &mut Gathered, name: &str) -> Resul
     text.put(out, b"\n")
 }
 
+/// Adds a tab, but none before the first cell of a line.
+#[inline(always)]
+fn add_parting<O: Out>(out: &mut O, text: &mut Gathered, is_first: bool) -> Result<(), OutFailed>
+    ensures { Adds result (O.written out.old) text.old (O.written out.new) text.new (parting is_first) }
+{
+    if is_first {
+        return Ok(());
+    }
+    text.put(out, b"\t")
+}
+
 /// Adds the line of a row.
 fn add_row<O: Out>(out: &mut O, text: &mut Gathered, columns: Columns<'_>) -> Result<(), OutFailed>
     ensures { Adds result (O.written out.old) text.old (O.written out.new) text.new (row_line columns.entry) }
 {
-    let mut parting: &[u8] = b"";
+    let mut is_first = true;
     for column in columns {
-        text.put(out, parting)?;
+        add_parting(out, text, is_first)?;
         add_cell(out, text, &column)?;
-        parting = b"\t";
+        is_first = false;
     }
     text.put(out, b"\n")
 }
