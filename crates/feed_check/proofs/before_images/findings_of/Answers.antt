@@ -5,7 +5,7 @@ use Rattle.feed_check.proofs.ReplayLaws.{one-group, all-groups}
 use Rattle.feed_check.proofs.before_images.findings_of.Goals as goal
 
 pub loop-group-init : goal.loop-group-init
-loop-group-init c = ([], ap (keyed_changes c.args.plan.now) c.iter.ensures, search rules)
+loop-group-init c = ([], search rules, search rules)
 
 pub loop-group-preserved : goal.loop-group-preserved
 loop-group-preserved c =
