@@ -1,5 +1,5 @@
 -- Pairs of digits at a place of a text.
-use Rattle.std.proofs.Common.{◌≡◌, ℕ, ◌+◌, ◌*◌, ◌<◌, List, [], ◌∷◌, length, drop, refl, sym, ap, ◌∙◌, Option, Some, None, arith}
+use Rattle.std.proofs.Common.{◌≡◌, ℕ, ◌+◌, ◌*◌, ◌<◌, List, ◌∷◌, length, drop, sym, ap, ◌∙◌, Option, Some, None, arith}
 use Rattle.std.specs.Prelude.{slice_index}
 use Rattle.std.specs.Option.{option_and_then, option_map}
 use Rattle.std.proofs.lemmas.List.{drop_more}
@@ -12,12 +12,6 @@ pair_there None (Some y) rest byte e = cc
 pair_there (Some x) None rest byte e = cc
 pair_there (Some x) (Some y) rest byte e = ap (λ (b : ℕ). Some (b, rest)) (same_Some (x * 16 + y) byte e)
 
-no_pair_there : (h l : Option ℕ) (rest : List ℕ) → pair_of h l ≡ None → option_and_then {U = ℕ × List ℕ} (λ x. option_map (λ y. (x * 16 + y, rest)) l) h ≡ None
-no_pair_there None None rest e = refl
-no_pair_there None (Some y) rest e = refl
-no_pair_there (Some x) None rest e = refl
-no_pair_there (Some x) (Some y) rest e = cc
-
 two_first : (text : List ℕ) (n : ℕ) → n + 1 < length text → drop n text ≡ slice_index text n ∷ slice_index text (n + 1) ∷ drop (n + 2) text
 two_first text n lt =
     let next : n + 1 + 1 ≡ n + 2 = omega arith in
@@ -29,13 +23,3 @@ two_first text n lt =
 -- the pair that stands at a place
 pub pair_at : (text : List ℕ) (n byte : ℕ) → n + 1 < length text → Some byte ≡ pair_of (digit_of (slice_index text n)) (digit_of (slice_index text (n + 1))) → pair_front (drop n text) ≡ Some (byte, drop (n + 2) text)
 pair_at text n byte lt e = ap pair_front (two_first text n lt) ∙ pair_there (digit_of (slice_index text n)) (digit_of (slice_index text (n + 1))) (drop (n + 2) text) byte (sym e)
-
--- there is none
-pub no_pair_at : (text : List ℕ) (n : ℕ) → n + 1 < length text → None ≡ pair_of (digit_of (slice_index text n)) (digit_of (slice_index text (n + 1))) → pair_front (drop n text) ≡ None
-no_pair_at text n lt e = ap pair_front (two_first text n lt) ∙ no_pair_there (digit_of (slice_index text n)) (digit_of (slice_index text (n + 1))) (drop (n + 2) text) (sym e)
-
--- nor in front of less than two characters
-pub no_pair_left : (text : List ℕ) → length text < 2 → pair_front text ≡ None
-no_pair_left [] lt = refl
-no_pair_left (last ∷ []) lt = refl
-no_pair_left (high ∷ low ∷ rest) lt = absurd (omega arith)

@@ -1,10 +1,7 @@
 -- Text that is written piece by piece: what is written and what is left are the whole.
-use Rattle.std.proofs.Common.{◌≡◌, ℕ, ◌+◌, ◌-◌, ◌/◌, ◌%◌, ◌<◌, ◌≤◌, add-one, get_or, List, [], ◌∷◌, ◌++◌, length, take, drop, take-append-drop, sym, ap, ◌∙◌, subst, refl, append_assoc, append-nil, Result, Ok, Err}
+use Rattle.std.proofs.Common.{◌≡◌, ℕ, ◌+◌, ◌-◌, ◌/◌, ◌%◌, List, [], ◌∷◌, ◌++◌, length, take, drop, take-append-drop, sym, ap, ◌∙◌, subst, refl, append_assoc, append-nil, Result, Ok, Err}
 use Rattle.std.proofs.KnownBytes.{Appends-nil, Appends-trans}
-use Rattle.std.proofs.lemmas.List.{take_rest, drop_all}
-use Rattle.std.proofs.lemmas.List.Concat.{flat_map-cons}
-use Rattle.std.proofs.Math.Seq.{drop-cons}
-use Rattle.std.specs.List.{flat_map}
+use Rattle.std.proofs.lemmas.List.{take_rest}
 use Rattle.vdiff_core.specs.Printing.{Written, IsWritten, BreaksOff, Prints, IsAdded, Adds, one_more}
 use Rattle.std.specs.Prelude.{slice_index}
 use Rattle.hex.specs.Hex.{encode_lower, encode_with, lower_digits}
@@ -143,17 +140,6 @@ adding_last result old waited now waiting new waits text left last is before sec
 pub prints_adds : {X E : Type 0} (result : Result X E) (old new : Written) (text : List ℕ) → Prints result old new text → Adds result old [] new [] text
 prints_adds (Ok x) old new text printed = record { gone = text; parts = sym (append-nil text); written = printed }
 prints_adds (Err fault) old new text broken = broken
-
--- ---- texts of many pieces
-
--- the first piece of what is left
-pub first_piece : {X : Type 0} (f : X → List ℕ) (xs : List X) (k : ℕ) (x : X) → k < length xs → x ≡ get_or xs k x → flat_map f (drop k xs) ≡ f x ++ flat_map f (drop (k + 1) xs)
-first_piece {X} f xs k x lt is =
-    let e : drop k xs ≡ get_or xs k x ∷ drop (k + 1) xs = rw add-one (drop-cons xs k x lt) in
-    ap (λ (ys : List X). flat_map f ys) e ∙ flat_map-cons f (get_or xs k x) (drop (k + 1) xs) ∙ ap (λ (y : X). f y ++ flat_map f (drop (k + 1) xs)) (sym is)
-
-pub no_piece : {X : Type 0} (f : X → List ℕ) (xs : List X) (k : ℕ) → length xs ≤ k → flat_map f (drop k xs) ≡ []
-no_piece {X} f xs k le = ap (λ (ys : List X). flat_map f ys) (drop_all k xs le)
 
 -- ---- hexadecimal digits
 
