@@ -9,8 +9,9 @@ use Rattle.row_view.proofs.ReadLaws.{no_fields}
 -- the message is these lengths and these values
 abbrev pub IsPair : List ℕ → List ℕ → List ℕ → Type 0
 IsPair message packed values = fields_of message ≡ record {
-    items = record { number = LENGTHS; value = Bytes packed } ∷ record { number = VALUES; value = Bytes values } ∷ [];
-    fault = None }
+  items = record { number = LENGTHS; value = Bytes packed } ∷ record { number = VALUES; value = Bytes values } ∷ [];
+  fault = None;
+}
 
 pub pair_lengths : (message packed values : List ℕ) → IsPair message packed values → lengths_left packed [] ≡ row_lengths message
 pair_lengths message packed values e = rw (no_fields, e) refl
