@@ -77,6 +77,47 @@ fn digests_and_ids(rt: HostRuntime) {
     assert!(rt; matches!(are_ids(rt.alloc(), IDS), Ok(true)));
 }
 
+/// Values under a vindex, and whether the lower half of all ids has their ids.
+const HELD: &[(Vindex, Column<'static>, Result<bool, VindexFault>)] = &[
+    (
+        Vindex::Numeric,
+        Column::Bytes(b"9223372036854775807"),
+        Ok(true),
+    ),
+    (
+        Vindex::Numeric,
+        Column::Bytes(b"9223372036854775808"),
+        Ok(false),
+    ),
+    (Vindex::ReverseBits, Column::Bytes(b"1"), Ok(false)),
+    (Vindex::BinaryMd5, Column::Bytes(b"a"), Ok(true)),
+    (
+        Vindex::Numeric,
+        Column::Bytes(b"1x"),
+        Err(VindexFault::NotANumber),
+    ),
+    (Vindex::Binary, Column::Null, Err(VindexFault::NullValue)),
+];
+
+/// Whether the lower half of all ids has each value's id or not, or refuses the value, as it says beside it.
+fn are_held(
+    alloc: Global,
+    rows: &[(Vindex, Column<'_>, Result<bool, VindexFault>)],
+) -> Result<bool, VindexFault> {
+    let low = KeyRange::parse(alloc, "-80")?;
+    for (vindex, value, wanted) in rows {
+        if low.holds_value(*vindex, *value) != *wanted {
+            return Ok(false);
+        }
+    }
+    Ok(true)
+}
+
+#[test]
+fn ids_of_values_in_a_range(rt: HostRuntime) {
+    assert!(rt; matches!(are_held(rt.alloc(), HELD), Ok(true)));
+}
+
 /// Whether a range begins at 40 and ends before 80.
 fn is_middle(alloc: Global, text: &str) -> bool {
     match KeyRange::parse(alloc, text) {

@@ -186,3 +186,86 @@ fn are_zigzag(rows: &[(i64, u64)]) -> bool {
 fn zigzag_of_small_numbers(rt: HostRuntime) {
     assert!(rt; are_zigzag(ZIGZAG));
 }
+
+/// Messages, and the bytes under 1 and 2 where the message holds these two fields alone, one behind the other.
+const PAIRS: &[(&[u8], Option<(&[u8], &[u8])>)] = &[
+    (b"\x0a\x01a\x12\x02bc", Some((b"a", b"bc"))),
+    (b"\x0a\x00\x12\x00", Some((b"", b""))),
+    // a tag that isn't the shortest
+    (b"\x8a\x00\x01a\x12\x01b", Some((b"a", b"b"))),
+    // turned
+    (b"\x12\x01b\x0a\x01a", None),
+    // one twice, alone and before the other, and behind it
+    (b"\x0a\x01a\x0a\x01b", None),
+    (b"\x0a\x01a\x0a\x01b\x12\x01c", None),
+    (b"\x0a\x01a\x12\x01b\x12\x01c", None),
+    // another field behind both and between
+    (b"\x0a\x01a\x12\x01b\x18\x05", None),
+    (b"\x0a\x01a\x18\x05\x12\x01b", None),
+    // a number under 2, one field, none
+    (b"\x0a\x01a\x10\x05", None),
+    (b"\x0a\x01a", None),
+    (b"", None),
+    // no field behind both
+    (b"\x0a\x01a\x12\x01b\x1a", None),
+];
+
+/// Whether each message is the pair beside it, or none.
+fn are_pairs(rows: &[(&[u8], Option<(&[u8], &[u8])>)]) -> bool {
+    for (message, wanted) in rows {
+        if pair_of(message, 1, 2) != *wanted {
+            return false;
+        }
+    }
+    true
+}
+
+#[test]
+fn two_fields_alone(rt: HostRuntime) {
+    assert!(rt; are_pairs(PAIRS));
+}
+
+/// Messages, and the signed numbers that they hold under 1.
+const SINT64S: &[(&[u8], &[i64])] = &[
+    // packed and single ones in turn, another field between, an empty part
+    (
+        b"\x0a\x02\x02\x01\x08\x04\x10\x07\x0a\x00\x0a\x03\xac\x02\x00\x08\x03",
+        &[1, -1, 2, 150, 0, -2],
+    ),
+    // a packed part behind another one
+    (b"\x0a\x02\x02\x04\x0a\x01\x06", &[1, 2, 3]),
+    // the least one, behind four bytes under the same number
+    (
+        b"\x0d0000\x08\xff\xff\xff\xff\xff\xff\xff\xff\xff\x01",
+        &[i64::MIN],
+    ),
+    // under another number alone, and none
+    (b"\x12\x02\x02\x01\x10\x04", &[]),
+    (b"", &[]),
+];
+
+/// Whether a message holds just these numbers under 1.
+fn holds_sint64s(message: &[u8], wanted: &[i64]) -> bool {
+    let mut numbers = Sint64s::new(message, 1);
+    for number in wanted {
+        if numbers.next() != Some(*number) {
+            return false;
+        }
+    }
+    numbers.next().is_none()
+}
+
+/// Whether each message holds just the numbers beside it.
+fn hold_sint64s(rows: &[(&[u8], &[i64])]) -> bool {
+    for (message, wanted) in rows {
+        if !holds_sint64s(message, wanted) {
+            return false;
+        }
+    }
+    true
+}
+
+#[test]
+fn packed_and_single_numbers(rt: HostRuntime) {
+    assert!(rt; hold_sint64s(SINT64S));
+}
