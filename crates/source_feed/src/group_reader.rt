@@ -19,7 +19,7 @@ use crate::set_laws::set_laws;
 use crate::source::Source;
 use crate::transaction::Transaction;
 use gtid_set::GtidSet;
-use std::alloc::Global;
+use std::alloc::{AllocError, Global};
 use vevent::{ColumnFields, Event, FieldEvent, RowEvent};
 
 /// What is known behind some events of a feed.
@@ -55,6 +55,26 @@ fn last_position<'g>(groups: &'g [KeptGroup<'_>], empty: &'g GtidSet) -> &'g Gti
     }
 }
 
+/// The changes in a block of their own size. What grew while they came is given back whole, so that the next
+/// transaction's changes grow where these did, and nothing lies between the blocks that are kept.
+fn in_own_size<'h>(
+    alloc: Global,
+    changes: Vec<KeptChange<'h>>,
+) -> Result<Vec<KeptChange<'h>>, AllocError>
+    ensures { IfOk result (λ kept. kept.items ≡ changes.entry.items) }
+{
+    if changes.len() < 2 {
+        let mut changes = changes;
+        changes.shrink_to_fit();
+        return Ok(changes);
+    }
+    let mut kept = Vec::with_capacity(alloc, changes.len())?;
+    for change in changes {
+        kept.push(change)?;
+    }
+    Ok(kept)
+}
+
 /// Ends a block: it is kept behind the groups, or skipped as a repeat, or refused as diverged.
 #[inline(always)]
 fn end_block<'h>(
@@ -76,8 +96,7 @@ fn end_block<'h>(
     if !last.is_within(&position) {
         return Err(FeedFault::Diverged(number));
     }
-    let mut changes = changes;
-    changes.shrink_to_fit();
+    let changes = in_own_size(alloc, changes)?;
     groups.push(KeptGroup {
         number,
         position,
