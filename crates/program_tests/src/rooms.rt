@@ -6,6 +6,7 @@ use std::alloc::{AllocError, Global};
 use std::io::Cursor;
 use std::test::Fail;
 use vdiff_core::Writer;
+use vrepl_choices::FeedForm;
 use vrepl_main::{show, vdiff};
 
 /// What is shown of the feed of one row.
@@ -16,7 +17,15 @@ fn show_is_cut(alloc: Global, room: &mut [u8]) -> Result<bool, AllocError> {
     let mut err = [0u8; 64];
     let mut out = Writer::new(Cursor::new(&mut room[..]));
     let mut line = Writer::new(Cursor::new(&mut err[..]));
-    let status = show(alloc, true, ONE_ROW.as_bytes(), "", "", &mut out, &mut line);
+    let status = show(
+        alloc,
+        FeedForm::Hex,
+        ONE_ROW.as_bytes(),
+        "",
+        "",
+        &mut out,
+        &mut line,
+    );
     is_cut(status, &room[..], &err, SHOWN)
 }
 

@@ -5,6 +5,7 @@ use std::alloc::{AllocError, Global};
 use std::test::Fail;
 use step_script::{ScriptFault, ScriptStep, read_script};
 use stream_core::Step;
+use vrepl_choices::FeedForm;
 use vrepl_main::{CommandRefusal, GivenFeed, given_feeds, open_workflow};
 
 /// A line for each step, with comments, blanks, tabs, zeros in front, both ends of lines, and no last one.
@@ -90,7 +91,7 @@ fn opened(alloc: Global, given: &[GivenFeed<'_>]) -> Result<[usize; 3], AllocErr
 /// These feeds are opened as this.
 fn opens(alloc: Global, feeds: &[&str], wanted: [usize; 3]) -> Result<bool, AllocError> {
     let feeds = feeds_of(alloc, feeds)?;
-    let given = given_feeds(alloc, true, &feeds)?;
+    let given = given_feeds(alloc, FeedForm::Hex, &feeds)?;
     Ok(opened(alloc, &given)? == wanted)
 }
 
