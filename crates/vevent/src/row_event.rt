@@ -117,7 +117,7 @@ impl<'b> Iterator for RowChanges<'b> {
 /// A row change (`binlogdata.proto`, RowChange): only `after` is an insert, both are an update, only
 /// `before` is a delete. Seen in contracts as these two. It is made by reading an event alone, so each
 /// of its rows can be read; a view of a row is made when it is asked for. It keeps the slices of its two
-/// rows, in 32 bytes: where there is no row its slice has no place, so nothing more tells that.
+/// rows, so neither is looked for again.
 #[derive(Drop)]
 pub struct RowChange<'b> {
     before: Option<RowBytes<'b>>,
