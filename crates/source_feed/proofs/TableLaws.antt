@@ -1,5 +1,5 @@
 -- Tables in first-seen order.
-use Rattle.std.proofs.Common.{◌≡◌, ◌<◌, ℕ, Bool, true, false, cond, List, [], ◌∷◌, ◌++◌, length, get_or, refl, sym, ap, subst, ◌∙◌, append_assoc}
+use Rattle.std.proofs.Common.{◌≡◌, ◌<◌, ◌≤◌, ◌+◌, ℕ, Bool, true, false, cond, List, [], ◌∷◌, ◌++◌, length, get_or, refl, sym, ap, subst, ◌∙◌, append_assoc, arith}
 use Rattle.std.specs.Prelude.{Option, None, Some, map, option_map, position, slice_get, unwrap_or}
 use Rattle.std.specs.List.{list_any}
 use Rattle.std.specs.Map.{keys_of, values_of}
@@ -7,7 +7,7 @@ use Rattle.std.specs.Str.{bytes_eq}
 use Rattle.std.specs.Cmp.Lexicographic.{same_text}
 use denote.Ref.{Bor}
 use Rattle.indexmap.specs.IndexMap.{insert_entry}
-use Rattle.std.proofs.lemmas.List.{length-map, get_or-map, get_or_append_left}
+use Rattle.std.proofs.lemmas.List.{length-append, length-map, get_or-map, get_or_append_left}
 use Rattle.std.proofs.lemmas.List.Quantifiers.{position-Some}
 use Rattle.std.proofs.lemmas.Option.{slice_get-map, unwrap_or-slice_get}
 use Rattle.source_feed.specs.declared.feed_tables.FeedTable.{FeedTable}
@@ -33,6 +33,14 @@ names-insert (e ∷ es) name value = by (bytes_eq name.now e.0.now) refl (names-
     by true same others = rw same refl
     by false same others = rw same (ap (λ (more : List (List ℕ)). e.0.now ∷ more) others ∙ behind_one e.0.now (names es) name.now (list_any (bytes_eq name.now) (names es)) refl)
 
+-- a table adds one name at most
+pub names-grow : (names : List (List ℕ)) (name : List ℕ) → length (names_behind names name) ≤ length names + 1
+names-grow names name = by (list_any (bytes_eq name) names)
+  where
+    by : (b : Bool) → length (cond b names (names ++ name ∷ [])) ≤ length names + 1
+    by true = omega arith
+    by false = omega (arith, length-append names (name ∷ []))
+
 -- the names that follow, before one more table is seen
 abbrev pub later_behind : List (List ℕ) → List ℕ → List (List ℕ) → List (List ℕ)
 later_behind names name later = cond (list_any (bytes_eq name) names) later (name ∷ later)
@@ -52,13 +60,17 @@ equal_bytes xs ys e = same_text xs ys (sym e)
 nobody : Bor (List ℕ)
 nobody = record { ref_ptr = (0, 0); now = [] }
 
+-- the place of a table that is found is one of theirs
+pub found_within : {V : Type 0} (es : List (Bor (List ℕ) × V)) (name : List ℕ) (place : ℕ) → position (λ key. bytes_eq name key.now) (keys_of es) ≡ Some place → place < length (names es)
+found_within es name place e =
+    subst (λ n. place < n) (sym (length-map (keys_of es) (λ (key : Bor (List ℕ)). key.now))) (position-Some (λ (key : Bor (List ℕ)). bytes_eq name key.now) (keys_of es) place nobody e).0
+
 -- where a table is found its name stands, whatever names follow
 pub found_name : {V : Type 0} (es : List (Bor (List ℕ) × V)) (name : List ℕ) (place : ℕ) → position (λ key. bytes_eq name key.now) (keys_of es) ≡ Some place
     → (later : List (List ℕ)) → get_or (names es ++ later) place [] ≡ name
 found_name es name place e later =
     let at = position-Some (λ (key : Bor (List ℕ)). bytes_eq name key.now) (keys_of es) place nobody e in
-    let within : place < length (names es) = subst (λ n. place < n) (sym (length-map (keys_of es) (λ (key : Bor (List ℕ)). key.now))) at.0 in
-    get_or_append_left (names es) later [] place within
+    get_or_append_left (names es) later [] place (found_within es name place e)
     ∙ get_or-map (λ (key : Bor (List ℕ)). key.now) (keys_of es) place nobody [] at.0
     ∙ sym (equal_bytes name (get_or (keys_of es) place nobody).now at.1)
 

@@ -2,6 +2,7 @@
 pub mod SetLaws
 pub mod EventByEvent
 pub mod FeedTables
+pub mod TableRows
 pub mod KeptGroups
 pub mod NamedGroups
 pub mod KeptChanges

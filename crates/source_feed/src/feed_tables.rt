@@ -1,6 +1,6 @@
 //! The tables that a feed names, with what is known of each.
 
-ghost use Rattle.std.specs.Prelude.{◌≡◌, ℕ, List, Option, [], ◌++◌, None, Some, OnOk, IfSome, option_map, get_or, if◌then◌else◌};
+ghost use Rattle.std.specs.Prelude.{◌≡◌, ℕ, List, Option, [], ◌++◌, ◌^◌, ◌≤◌, None, Some, length, OnOk, IfSome, option_map, get_or, if◌then◌else◌};
 ghost use Rattle.std.specs.Str.{bytes_eq};
 ghost use Rattle.filter_rule.specs.PlanValue.{PlanValue};
 
@@ -38,30 +38,31 @@ impl<'h> FeedTables<'h> {
     }
 
     /// A table's place and its number of columns, if it is known. However many tables follow, the place has
-    /// the table's name.
-    pub(crate) fn find(&self, table: &str) -> Option<(usize, u16)>
+    /// the table's name. That there are no more than 2^32 tables is the caller's.
+    pub(crate) fn find(&self, table: &str) -> Option<(u32, u16)>
+        requires { length (names_in self.now) ≤ 2 ^ 32 }
         ensures columns { option_map (λ found. found.1) result ≡ width_in self.now table.now }
         ensures place { IfSome result (λ found. (later : List (List ℕ)) → get_or (names_in self.now ++ later) found.0 [] ≡ table.now) }
     {
         let (place, _, known) = self.first_seen.get_full(table)?;
-        Some((place, known.columns))
+        Some((place as u32, known.columns))
     }
 
     /// The name of the table at a place; the empty one behind the last.
-    pub(crate) fn name(&self, place: usize) -> &'h str
+    pub(crate) fn name(&self, place: u32) -> &'h str
         ensures { result.now ≡ get_or (names_in self.now) place [] }
     {
-        match self.first_seen.get_index(place) {
+        match self.first_seen.get_index(place as usize) {
             None => "",
             Some((name, _)) => *name,
         }
     }
 
     /// The number in the plan of the table at a place, where the plan has it.
-    pub(crate) fn number(&self, place: usize) -> Option<u8>
+    pub(crate) fn number(&self, place: u32) -> Option<u8>
         ensures { result ≡ get_or (numbers_in self.now) place None }
     {
-        match self.first_seen.get_index(place) {
+        match self.first_seen.get_index(place as usize) {
             None => None,
             Some((_, known)) => known.number,
         }

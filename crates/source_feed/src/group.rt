@@ -11,14 +11,13 @@ use gtid_set::GtidSet;
 use row_view::{RowBytes, RowView};
 use std::marker::Model;
 use std::slice::Iter;
-use vevent::RowChange;
 
 /// A change of one row of a table, lent. Nothing is copied: its name and its rows are slices of the feed's
 /// buffer, and a view of a row is made when it is asked for.
 #[derive(Drop)]
 pub struct Change<'g, 'h> {
     table: &'h str,
-    rows: &'g RowChange<'h>,
+    kept: &'g KeptChange<'h>,
 }
 
 impl<'g, 'h> Model for Change<'g, 'h> {
@@ -26,7 +25,7 @@ impl<'g, 'h> Model for Change<'g, 'h> {
 
     ghost Value = { TableChangeValue };
 
-    ghost view = { λ c. record { table = c.table.now; before = c.rows.now.before; after = c.rows.now.after } };
+    ghost view = { λ c. record { table = c.table.now; before = c.kept.now.rows.before; after = c.kept.now.rows.after } };
 }
 
 impl<'g, 'h> Change<'g, 'h> {
@@ -41,28 +40,30 @@ impl<'g, 'h> Change<'g, 'h> {
     pub fn before(&self) -> Option<RowView<'h>>
         ensures { result ≡ self.now.before }
     {
-        self.rows.before()
+        let row = self.before_bytes()?;
+        Some(row.view())
     }
 
     /// The row after the change, or `None` for a delete. The view is made anew.
     pub fn after(&self) -> Option<RowView<'h>>
         ensures { result ≡ self.now.after }
     {
-        self.rows.after()
+        let row = self.after_bytes()?;
+        Some(row.view())
     }
 
     /// The bytes of the row before the change, or `None` for an insert. Reads no row.
     pub fn before_bytes(&self) -> Option<RowBytes<'h>>
         ensures { result ≡ self.now.before }
     {
-        self.rows.before_bytes()
+        self.kept.before()
     }
 
     /// The bytes of the row after the change, or `None` for a delete. Reads no row.
     pub fn after_bytes(&self) -> Option<RowBytes<'h>>
         ensures { result ≡ self.now.after }
     {
-        self.rows.after_bytes()
+        self.kept.after()
     }
 }
 
@@ -113,8 +114,8 @@ fn change_of<'g, 'h>(tables: &'g FeedTables<'h>, kept: &'g KeptChange<'h>) -> Ch
     ensures { result ≡ named (names_in tables.now) kept.now }
 {
     Change {
-        table: tables.name(kept.place),
-        rows: kept.rows(),
+        table: tables.name(kept.place()),
+        kept,
     }
 }
 

@@ -20,6 +20,7 @@ use crate::source::Source;
 use crate::transaction::Transaction;
 use gtid_set::GtidSet;
 use std::alloc::{AllocError, Global};
+use std::mem::replace;
 use vevent::{ColumnFields, Event, FieldEvent, RowEvent};
 
 /// What is known behind some events of a feed.
@@ -31,6 +32,8 @@ pub(crate) struct GroupReader<'h> {
     tables: FeedTables<'h>,
     /// the groups so far; the last one's position contains all earlier positions
     groups: Vec<KeptGroup<'h>>,
+    /// the room in which the next transaction's changes gather
+    room: Vec<KeptChange<'h>>,
 }
 
 /// The number of columns of a FIELD event; more than 65,535 count as 65,535.
@@ -55,36 +58,29 @@ fn last_position<'g>(groups: &'g [KeptGroup<'_>], empty: &'g GtidSet) -> &'g Gti
     }
 }
 
-/// The changes in a block of their own size. What grew while they came is given back whole, so that the next
-/// transaction's changes grow where these did, and nothing lies between the blocks that are kept.
+/// Moves changes into a block of their own size.
 fn in_own_size<'h>(
     alloc: Global,
-    changes: Vec<KeptChange<'h>>,
+    changes: &mut Vec<KeptChange<'h>>,
 ) -> Result<Vec<KeptChange<'h>>, AllocError>
-    ensures { IfOk result (λ kept. kept.items ≡ changes.entry.items) }
+    ensures { IfOk result (λ kept. kept.items ≡ changes.old.items) }
 {
-    if changes.len() < 2 {
-        let mut changes = changes;
-        changes.shrink_to_fit();
-        return Ok(changes);
-    }
     let mut kept = Vec::with_capacity(alloc, changes.len())?;
-    for change in changes {
-        kept.push(change)?;
-    }
+    kept.append(changes)?;
     Ok(kept)
 }
 
-/// Ends a block: it is kept behind the groups, or skipped as a repeat, or refused as diverged.
+/// Ends a block: it is kept behind the groups, in a block of its changes' size, or skipped as a repeat, or
+/// refused as diverged.
 #[inline(always)]
 fn end_block<'h>(
     alloc: Global,
     groups: &mut Vec<KeptGroup<'h>>,
     position: GtidSet,
-    changes: Vec<KeptChange<'h>>,
+    changes: &mut Vec<KeptChange<'h>>,
 ) -> Result<(), FeedFault>
     requires { length groups.old.items + 1 < 2 ^ 32 }
-    ensures block { GivesUnless meant_of (λ _. groups.new.items) result (block_end groups.old.items position changes.entry.items) }
+    ensures block { GivesUnless meant_of (λ _. groups.new.items) result (block_end groups.old.items position changes.old.items) }
     ensures grows { length groups.new.items ≤ length groups.old.items + 1 }
 {
     let empty = GtidSet::new();
@@ -110,19 +106,20 @@ impl<'h> GroupReader<'h> {
     ghost use Rattle.source_feed.specs.Private.FeedTables.{AreNumbered, names_in};
     ghost use Rattle.source_feed.specs.Private.KeptGroups.{AreOfTables};
     ghost use Rattle.source_feed.specs.Private.NamedGroups.{all_named};
-    ghost use Rattle.source_feed.specs.Private.ReaderState.{IsBehind, TakesEvent};
+    ghost use Rattle.source_feed.specs.Private.ReaderState.{IsBehind, TakesEvent, count_of};
     ghost use Rattle.vevent.specs.EventView.{event_value};
 
     /// Nothing is known yet. Takes no memory.
     pub(crate) fn new(alloc: Global) -> GroupReader<'h>
         ensures meaning { (source : SourceValue) → IsBehind source [] result }
-        ensures none { result.groups.items ≡ [] }
+        ensures none { count_of result ≡ 0 }
         ensures numbers { (plan : Option PlanValue) → AreNumbered plan result.tables }
     {
         GroupReader {
             transaction: None,
             tables: FeedTables::new(alloc),
             groups: Vec::new(alloc),
+            room: Vec::new(alloc),
         }
     }
 
@@ -134,9 +131,9 @@ impl<'h> GroupReader<'h> {
         field_check: &FieldCheck<'_>,
         event: Event<'h>,
     ) -> Result<(), FeedFault>
-        requires { length self.old.groups.items + 1 < 2 ^ 32 }
+        requires { count_of self.old + 1 < 2 ^ 32 }
         ensures meaning { (earlier : PastEvents) → IsBehind source.now earlier self.old → TakesEvent source.now earlier (event_value event.entry) result self.new }
-        ensures grows { length self.new.groups.items ≤ length self.old.groups.items + 1 }
+        ensures grows { OnOk result (count_of self.new ≤ count_of self.old + 1) }
         ensures numbers { OnOk result (AreNumbered (option_copied field_check.now.plan) self.old.tables → AreNumbered (option_copied field_check.now.plan) self.new.tables) }
     {
         match event {
@@ -167,6 +164,7 @@ impl<'h> GroupReader<'h> {
             transaction,
             tables,
             groups,
+            ..
         } = self;
         if transaction.is_some() {
             return Err(FeedFault::OpenAtEnd);
@@ -183,32 +181,43 @@ impl<'h> GroupReader<'h> {
         if self.transaction.is_some() {
             return Err(FeedFault::Misplaced);
         }
+        let mut changes = replace(&mut self.room, Vec::new(alloc));
+        changes.clear();
         self.transaction = Some(Transaction {
             position: None,
-            changes: Vec::new(alloc),
+            changes,
         });
         Ok(())
     }
 
     /// COMMIT ends the transaction as a block; outside of one it is ignored.
     fn commit(&mut self, alloc: Global) -> Result<(), FeedFault>
-        requires { length self.old.groups.items + 1 < 2 ^ 32 }
+        requires { count_of self.old + 1 < 2 ^ 32 }
         ensures meaning { (source : SourceValue) (earlier : PastEvents) → IsBehind source earlier self.old → TakesEvent source earlier value.Commit result self.new }
-        ensures grows { length self.new.groups.items ≤ length self.old.groups.items + 1 }
+        ensures grows { OnOk result (count_of self.new ≤ count_of self.old + 1) }
         ensures tables { self.new.tables ≡ self.old.tables }
     {
-        let Some(Transaction { position, changes }) = self.transaction.take() else {
+        let Some(
+            Transaction {
+                position,
+                mut changes,
+            },
+        ) = self.transaction.take()
+        else {
             return Ok(());
         };
         let Some(position) = position else {
             return Err(FeedFault::NoPosition);
         };
         set_laws();
-        end_block(alloc, &mut self.groups, position, changes)
+        end_block(alloc, &mut self.groups, position, &mut changes)?;
+        self.room = changes;
+        Ok(())
     }
 
     /// A ROW needs an open transaction, a FIELD of its table, and rows with as many columns.
     fn put_row(&mut self, source: &Source<'_>, row: &RowEvent<'h>) -> Result<(), FeedFault>
+        requires { count_of self.old + 1 < 2 ^ 32 }
         ensures meaning { (earlier : PastEvents) → IsBehind source.now earlier self.old → TakesEvent source.now earlier (value.Row row.now.table_name row.now.changes) result self.new }
         ensures same { self.new.groups.items ≡ self.old.groups.items }
         ensures tables { self.new.tables ≡ self.old.tables }
@@ -230,7 +239,7 @@ impl<'h> GroupReader<'h> {
         field: &FieldEvent<'h>,
     ) -> Result<(), FeedFault>
         ensures meaning { (earlier : PastEvents) → IsBehind source.now earlier self.old → TakesEvent source.now earlier (value.Field field.now.table_name field.now.fields) result self.new }
-        ensures same { self.new.groups.items ≡ self.old.groups.items }
+        ensures grows { OnOk result (count_of self.new ≤ count_of self.old + 1) }
         ensures numbers { OnOk result (AreNumbered (option_copied field_check.now.plan) self.old.tables → AreNumbered (option_copied field_check.now.plan) self.new.tables) }
     {
         let table = source.table(field.table_name());
@@ -244,10 +253,10 @@ impl<'h> GroupReader<'h> {
 
     /// A position counts for the open transaction if no other follows; outside of one it ends a block.
     fn put_position(&mut self, alloc: Global, text: &str) -> Result<(), FeedFault>
-        requires { length self.old.groups.items + 1 < 2 ^ 32 }
+        requires { count_of self.old + 1 < 2 ^ 32 }
         ensures gtid { (source : SourceValue) (earlier : PastEvents) → IsBehind source earlier self.old → TakesEvent source earlier (value.Gtid text.now) result self.new }
         ensures vgtid { (source : SourceValue) (earlier : PastEvents) (entries : List ShardGtidValue) → own_gtid source entries ≡ Some text.now → IsBehind source earlier self.old → TakesEvent source earlier (value.Vgtid entries) result self.new }
-        ensures grows { length self.new.groups.items ≤ length self.old.groups.items + 1 }
+        ensures grows { OnOk result (count_of self.new ≤ count_of self.old + 1) }
         ensures tables { self.new.tables ≡ self.old.tables }
     {
         set_laws();
@@ -257,7 +266,7 @@ impl<'h> GroupReader<'h> {
                 transaction.position = Some(position);
                 Ok(())
             }
-            None => end_block(alloc, &mut self.groups, position, Vec::new(alloc)),
+            None => { end_block(alloc, &mut self.groups, position, &mut Vec::new(alloc)) }
         }
     }
 }

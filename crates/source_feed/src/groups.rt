@@ -17,7 +17,7 @@ ghost use Rattle.source_feed.specs.Planned.{differs_from};
 ghost use Rattle.source_feed.specs.Private.FeedTables.{AreNumbered, names_in};
 ghost use Rattle.source_feed.specs.Private.KeptGroups.{AreOfTables};
 ghost use Rattle.source_feed.specs.Private.NamedGroups.{all_named};
-ghost use Rattle.source_feed.specs.Private.ReaderState.{IsBehind, TakesEvents};
+ghost use Rattle.source_feed.specs.Private.ReaderState.{IsBehind, TakesEvents, count_of};
 
 use crate::all_groups::Groups;
 use crate::fault::FeedFault;
@@ -41,10 +41,10 @@ fn put_message<'h>(
     field_check: &mut FieldCheck<'_>,
     message: &'h [u8],
 ) -> Result<(), FeedFault>
-    requires { length reader.old.groups.items + length (response_of message.now).items < 2 ^ 32 }
+    requires { count_of reader.old + length (response_of message.now).items < 2 ^ 32 }
     ensures meaning { (earlier : PastEvents) → IsBehind source.now earlier reader.old →
         TakesEvents source.now (past_behind source.now earlier (response_of message.now).items (end_of_message (response_of message.now).fault)) result reader.new }
-    ensures grows { length reader.new.groups.items ≤ length reader.old.groups.items + length (response_of message.now).items }
+    ensures grows { OnOk result (count_of reader.new ≤ count_of reader.old + length (response_of message.now).items) }
     ensures numbers { OnOk result (AreNumbered (option_copied field_check.old.plan) reader.old.tables → AreNumbered (option_copied field_check.old.plan) reader.new.tables) }
     ensures plan { option_copied field_check.new.plan ≡ option_copied field_check.old.plan }
     ensures seen { OnOk result (field_check.new.differs ≡ (field_check.old.differs || list_any (differs_from (option_copied field_check.old.plan)) (response_of message.now).items)) }
@@ -66,7 +66,7 @@ fn put_feed<'h>(
 ) -> Result<GroupReader<'h>, FeedFault>
     requires { length feed.now < 2 ^ 31 }
     ensures ok { IfOk result (λ reader. TakesEvents source.now (past_behind source.now [] (events_of_feed feed.now).items (events_of_feed feed.now).fault) result reader) }
-    ensures few { IfOk result (λ reader. length reader.groups.items < 2 ^ 31) }
+    ensures few { IfOk result (λ reader. count_of reader < 2 ^ 31) }
     ensures numbers { IfOk result (λ reader. AreNumbered (option_copied field_check.old.plan) reader.tables) }
     ensures err { IfErr result (λ fault. Refuses meant_of fault (past_behind source.now [] (events_of_feed feed.now).items (events_of_feed feed.now).fault)) }
     ensures seen { OnOk result (field_check.new.differs ≡ (field_check.old.differs || list_any (differs_from (option_copied field_check.old.plan)) (events_of_feed feed.now).items)) }

@@ -1,34 +1,72 @@
 //! Groups as they are kept.
 
-ghost use Rattle.std.specs.Prelude.{◌≡◌};
+ghost use Rattle.std.specs.Prelude.{◌≡◌, [], ◌∷◌, None, IfSome};
+ghost use Rattle.source_feed.specs.Private.KeptGroups.{kept_in};
+ghost use Rattle.source_feed.specs.Private.TableRows.{table_of, rows_of};
 
 use crate::feed_tables::FeedTables;
+use crate::table_rows::TableRows;
 use gtid_set::GtidSet;
+use row_view::RowBytes;
 use std::marker::Model;
+use std::mem::size_of;
 use vevent::RowChange;
 
-/// A change of one row, in 40 bytes: the place of its table among the feed's tables, and the slices of the two
-/// rows.
+/// A change of one row: its rows, with the place of its table among the feed's tables.
 #[derive(Drop)]
 pub(crate) struct KeptChange<'h> {
-    pub(crate) place: usize,
-    pub(crate) rows: RowChange<'h>,
+    rows: TableRows<'h>,
 }
+
+const _: () = prove!(size_of::<KeptChange<'static>>() == 40);
 
 impl<'h> Model for KeptChange<'h> {
     ghost use Rattle.source_feed.specs.Private.KeptGroups.{KeptChangeValue};
+    ghost use Rattle.source_feed.specs.Private.TableRows.{table_of, rows_of};
 
     ghost Value = { KeptChangeValue };
 
-    ghost view = { λ c. record { place = c.place; rows = c.rows } };
+    ghost view = { λ c. record { place = table_of c.rows; rows = rows_of c.rows } };
 }
 
 impl<'h> KeptChange<'h> {
-    /// The rows before and after the change.
-    pub(crate) fn rows(&self) -> &RowChange<'h>
-        ensures { result.now ≡ self.now.rows }
+    /// A change of the table at a place, if it has a row.
+    #[inline(always)]
+    pub(crate) fn new(place: u32, change: &RowChange<'h>) -> Option<KeptChange<'h>>
+        ensures some { IfSome result (λ kept. kept_in place change.now ≡ kept ∷ []) }
+        ensures none { result ≡ None → kept_in place change.now ≡ [] }
     {
-        &self.rows
+        let rows = TableRows::new(place, change)?;
+        Some(KeptChange { rows })
+    }
+
+    /// The place of the change's table among the feed's tables.
+    pub(crate) fn place(&self) -> u32
+        ensures { result ≡ self.now.place }
+    {
+        self.rows.table()
+    }
+
+    /// The bytes of the row before the change, or `None` for an insert. Reads no row.
+    pub(crate) fn before(&self) -> Option<RowBytes<'h>>
+        ensures { result ≡ self.now.rows.before }
+    {
+        self.rows.before()
+    }
+
+    /// The bytes of the row after the change, or `None` for a delete. Reads no row.
+    pub(crate) fn after(&self) -> Option<RowBytes<'h>>
+        ensures { result ≡ self.now.rows.after }
+    {
+        self.rows.after()
+    }
+
+    /// The change's rows, with its table's place.
+    pub(crate) fn into_rows(self) -> TableRows<'h>
+        ensures table { table_of result ≡ self.place }
+        ensures rows { rows_of result ≡ self.rows }
+    {
+        self.rows
     }
 }
 

@@ -21,6 +21,7 @@ mod prepared;
 mod preparing;
 mod set_laws;
 mod source;
+mod table_rows;
 mod touch;
 mod transaction;
 mod up_to_position;

@@ -13,27 +13,33 @@ use crate::changes::Changes;
 use crate::fault::FeedFault;
 use crate::feed_tables::FeedTables;
 use crate::kept::{KeptChange, KeptGroup, KeptGroups};
+use crate::table_rows::TableRows;
 use gtid_set::GtidSet;
 use row_view::RowBytes;
 use std::alloc::{AllocError, Global};
 use std::marker::Model;
+use std::mem::size_of;
 use std::sync::Arc;
-use vevent::RowChange;
 
-/// A change of one row of a planned table, in 40 bytes: the table's number in the plan, and the slices of
-/// the two rows. A view of a row is made when it is asked for.
+/// A change of one row of a planned table: its rows, with the table's number in the plan. A view of a row is
+/// made when it is asked for.
 #[derive(Drop)]
 pub(crate) struct PlannedChange<'h> {
-    table: u8,
-    rows: RowChange<'h>,
+    rows: TableRows<'h>,
 }
 
+const _: () = prove!(size_of::<PlannedChange<'static>>() == 40);
+
 impl<'h> Model for PlannedChange<'h> {
+    ghost use Rattle.std.specs.Prelude.{◌<◌};
     ghost use Rattle.source_feed.specs.Planned.{PlannedChangeValue};
+    ghost use Rattle.source_feed.specs.Private.TableRows.{table_of, rows_of};
 
     ghost Value = { PlannedChangeValue };
 
-    ghost view = { λ c. record { table = c.table; before = c.rows.before; after = c.rows.after } };
+    ghost view = { λ c. let rows = rows_of c.rows in record { table = table_of c.rows; before = rows.before; after = rows.after } };
+
+    ghost invariant = { λ c. table_of c.rows < 256 };
 }
 
 impl<'h> PlannedChange<'h> {
@@ -41,39 +47,41 @@ impl<'h> PlannedChange<'h> {
     pub(crate) fn table(&self) -> u8
         ensures { result ≡ self.now.table }
     {
-        self.table
+        self.rows.table() as u8
     }
 
     /// The bytes of the row before the change, or `None` for an insert. Reads no row.
     pub(crate) fn before(&self) -> Option<RowBytes<'h>>
         ensures { result ≡ self.now.before }
     {
-        self.rows.before_bytes()
+        self.rows.before()
     }
 
     /// The bytes of the row after the change, or `None` for a delete. Reads no row.
     pub(crate) fn after(&self) -> Option<RowBytes<'h>>
         ensures { result ≡ self.now.after }
     {
-        self.rows.after_bytes()
+        self.rows.after()
     }
 
     /// How many rows the change has. Reads no row.
     pub(crate) fn row_count(&self) -> usize
         ensures { result ≡ rows_in_change self.now }
     {
-        usize::from(self.rows.has_before()) + usize::from(self.rows.has_after())
+        self.rows.count()
     }
 }
 
-/// A group of a feed under a plan, in 48 bytes: the changes of the plan's tables alone, of which a single
-/// one stands in its place. The position is shared.
+/// A group of a feed under a plan: the changes of the plan's tables alone, of which a single one stands in its
+/// place. The position is shared.
 #[derive(Drop)]
 pub(crate) struct PlannedGroup<'h> {
     number: u32,
     position: Arc<GtidSet>,
     changes: Changes<'h>,
 }
+
+const _: () = prove!(size_of::<PlannedGroup<'static>>() == 64);
 
 impl<'h> Model for PlannedGroup<'h> {
     ghost use Rattle.std.specs.Arc.{arc_value};
@@ -119,9 +127,10 @@ impl<'h> PlannedGroup<'h> {
 fn planned<'h>(tables: &FeedTables<'_>, change: KeptChange<'h>) -> Option<PlannedChange<'h>>
     ensures { result ≡ numbered (numbers_in tables.now) change.entry }
 {
-    let KeptChange { place, rows } = change;
-    let table = tables.number(place)?;
-    Some(PlannedChange { table, rows })
+    let table = tables.number(change.place())?;
+    Some(PlannedChange {
+        rows: change.into_rows().of_table(u32::from(table)),
+    })
 }
 
 /// The changes of the plan's tables, in a block with room for all changes.

@@ -14,7 +14,6 @@ use crate::fault::FeedFault;
 use crate::kept::KeptChange;
 use gtid_set::GtidSet;
 use row_view::RowView;
-use std::alloc::AllocError;
 use vevent::{RowChange, RowChanges, RowEvent};
 
 /// What the open transaction has so far.
@@ -62,54 +61,31 @@ fn rows_fit(row: &RowEvent<'_>, width: u16) -> bool
 /// Puts a row change behind others, if it has a row.
 fn push_change<'h>(
     changes: &mut Vec<KeptChange<'h>>,
-    place: usize,
-    rows: RowChange<'h>,
+    place: u32,
+    rows: &RowChange<'h>,
 ) -> Result<(), FeedFault>
-    ensures pushed { OnOk result (changes.new.items ≡ changes.old.items ++ kept_in place rows.entry) }
+    ensures pushed { OnOk result (changes.new.items ≡ changes.old.items ++ kept_in place rows.now) }
     ensures err { IfErr result (λ fault. fault ≡ Memory) }
 {
-    if rows.has_before() || rows.has_after() {
-        changes.push(KeptChange { place, rows })?;
+    if let Some(change) = KeptChange::new(place, rows) {
+        changes.push(change)?;
     }
     Ok(())
 }
 
-/// Takes room for a transaction's first change, which most have alone; behind it the room doubles.
-fn take_room(changes: &mut Vec<KeptChange<'_>>) -> Result<(), AllocError>
-    ensures { changes.new.items ≡ changes.old.items }
-{
-    if changes.is_empty() {
-        return changes.reserve_exact(1);
-    }
-    Ok(())
-}
-
-/// Puts row changes behind others.
+/// Puts row changes of a table behind others.
 fn push_changes<'h>(
     changes: &mut Vec<KeptChange<'h>>,
-    place: usize,
+    place: u32,
     rows: RowChanges<'h>,
 ) -> Result<(), FeedFault>
     ensures pushed { OnOk result (changes.new.items ≡ changes.old.items ++ all_kept place rows.entry) }
     ensures err { IfErr result (λ fault. fault ≡ Memory) }
 {
     for change in rows {
-        push_change(changes, place, change)?;
+        push_change(changes, place, &change)?;
     }
     Ok(())
-}
-
-/// Puts the changes of a ROW event behind others.
-fn put_changes<'h>(
-    changes: &mut Vec<KeptChange<'h>>,
-    place: usize,
-    row: &RowEvent<'h>,
-) -> Result<(), FeedFault>
-    ensures pushed { OnOk result (changes.new.items ≡ changes.old.items ++ all_kept place row.now.changes) }
-    ensures err { IfErr result (λ fault. fault ≡ Memory) }
-{
-    take_room(changes)?;
-    push_changes(changes, place, row.changes())
 }
 
 impl<'h> Transaction<'h> {
@@ -117,7 +93,7 @@ impl<'h> Transaction<'h> {
     /// All rows are judged before the first is put.
     pub(crate) fn put_row(
         &mut self,
-        place: usize,
+        place: u32,
         width: u16,
         row: &RowEvent<'h>,
     ) -> Result<(), FeedFault>
@@ -129,6 +105,6 @@ impl<'h> Transaction<'h> {
         if !rows_fit(row, width) {
             return Err(FeedFault::ColumnCount);
         }
-        put_changes(&mut self.changes, place, row)
+        push_changes(&mut self.changes, place, row.changes())
     }
 }

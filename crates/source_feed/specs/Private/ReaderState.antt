@@ -1,5 +1,5 @@
 -- What the reader over a feed's events keeps, against all events before.
-use Rattle.std.specs.Prelude.{◌≡◌, ℕ, List, ◌∷◌, ◌++◌, Option, None, Some, Result, Ok, Err, map, if◌then◌else◌}
+use Rattle.std.specs.Prelude.{◌≡◌, ℕ, ◌+◌, List, ◌∷◌, ◌++◌, length, Option, None, Some, Result, Ok, Err, map, if◌then◌else◌}
 use Rattle.std.specs.Option.{option_map}
 use Rattle.gtid_set.specs.Position.{IsCanonical}
 use Rattle.vevent.specs.EventValue.{EventValue}
@@ -28,6 +28,10 @@ body_of source history = if is_open history then Some (record { position = body_
 abbrev pub body_held : List (List ℕ) → Option Transaction → Option Body
 body_held names None = None
 body_held names (Some transaction) = Some (record { position = transaction.position; changes = map (named names) transaction.changes.items })
+
+-- how many groups and tables a reader has: an event adds one at most
+abbrev pub count_of : GroupReader → ℕ
+count_of reader = length reader.groups.items + length (names_in reader.tables)
 
 -- The reader keeps what these events say, whatever tables the feed names later, with the last group's
 -- position alone in place of the union of all earlier positions.

@@ -15,7 +15,7 @@ use Rattle.source_feed.proofs.groups.put_feed.Goals as goal
 pub loop-reader-init : goal.loop-reader-init
 loop-reader-init c = record {
   meaning = ([], ap (λ (r : Reading (List ℕ) FrameFault). past_behind c.args.source.now [] (events_in_messages r.items r.fault).items (events_in_messages r.items r.fault).fault) (sym c.new-frames.ensures.reading), c.new-reader.ensures.meaning c.args.source.now);
-  room = omega (arith, length-feed c.args.feed.now c.new-frames.result c.new-frames.ensures.spelled, ap length c.new-reader.ensures.none);
+  room = omega (arith, length-feed c.args.feed.now c.new-frames.result c.new-frames.ensures.spelled, c.new-reader.ensures.none);
   numbers = c.new-reader.ensures.numbers (option_copied c.args.field_check.now.plan);
   plan = refl;
   seen = ap (λ (r : Reading (List ℕ) FrameFault). c.args.field_check.now.differs || list_any (differs_from (option_copied c.args.field_check.now.plan)) (events_in_messages r.items r.fault).items) c.new-frames.ensures.reading;

@@ -5,7 +5,7 @@ use Rattle.source_feed.specs.EventList.{events_of_feed, events_in_messages}
 use Rattle.source_feed.specs.PastEvents.{PastEvents}
 use Rattle.source_feed.specs.Private.EventByEvent.{past_behind}
 use Rattle.source_feed.specs.Private.FeedTables.{AreNumbered}
-use Rattle.source_feed.specs.Private.ReaderState.{IsBehind}
+use Rattle.source_feed.specs.Private.ReaderState.{IsBehind, count_of}
 use Rattle.source_feed.specs.Planned.{differs_from}
 use Rattle.source_feed.proofs.groups.put_feed.Given as goal
 
@@ -15,7 +15,7 @@ invariant-loop-reader l = record {
   meaning : (history : PastEvents)
       × (past_behind l.source [] (events_of_feed l.feed).items (events_of_feed l.feed).fault ≡ past_behind l.source history (events_in_messages l.frames.items l.frames.fault).items (events_in_messages l.frames.items l.frames.fault).fault)
       × IsBehind l.source history l.reader;
-  room : length l.reader.groups.items + length (events_in_messages l.frames.items l.frames.fault).items ≤ length l.feed;
+  room : count_of l.reader + length (events_in_messages l.frames.items l.frames.fault).items ≤ length l.feed;
   numbers : AreNumbered (option_copied l.fn.field_check.plan) l.reader.tables;
   plan : option_copied l.field_check.plan ≡ option_copied l.fn.field_check.plan;
   seen : (l.field_check.differs || list_any (differs_from (option_copied l.field_check.plan)) (events_in_messages l.frames.items l.frames.fault).items)

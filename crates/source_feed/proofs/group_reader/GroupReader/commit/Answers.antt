@@ -10,7 +10,7 @@ returns-clause-meaning c = λ source earlier m.
     let at : c.in-Some.field-0.position ≡ Some c.in-Some-position.position = cc in
     let before : (names : List (List ℕ)) → body_held names c.args.self.now.transaction ≡ Some (record { position = Some c.in-Some-position.position; changes = map (named names) c.in-Some.field-0.changes.items })
     = λ names. ap (body_held names) (sym c.take.ensures.value ∙ c.in-Some.is) ∙ ap (λ p. Some (record { position = p; changes = map (named names) c.in-Some.field-0.changes.items })) at in
-    commit-puts c.set_laws.ensures source earlier c.args.self.now (record { transaction = c.take.new.self; tables = c.args.self.now.tables; groups = c.end_block.new.groups }) c.end_block.result c.in-Some-position.position c.in-Some.field-0.changes.items m
+    commit-puts c.set_laws.ensures source earlier c.args.self.now (record { transaction = c.take.new.self; tables = c.args.self.now.tables; groups = c.end_block.new.groups; room = c.args.self.now.room }) c.end_block.result c.in-Some-position.position c.in-Some.field-0.changes.items m
     before
     (λ names. ap (body_held names) c.take.ensures.after)
     (λ table. refl)
@@ -19,7 +19,7 @@ returns-clause-meaning c = λ source earlier m.
 
 pub returns-in_default-clause-meaning : goal.returns-in_default-clause-meaning
 returns-in_default-clause-meaning c = λ source earlier m.
-    commit-skips source earlier c.args.self.now (record { transaction = c.take.new.self; tables = c.args.self.now.tables; groups = c.args.self.now.groups }) m
+    commit-skips source earlier c.args.self.now (record { transaction = c.take.new.self; tables = c.args.self.now.tables; groups = c.args.self.now.groups; room = c.args.self.now.room }) m
     (record { names = refl; widths = λ table. refl; groups = refl })
     (λ names. ap (body_held names) (sym c.take.ensures.value ∙ empty_from c.take.result c.in_default.not-Some))
     (λ names. ap (body_held names) c.take.ensures.after)

@@ -19,7 +19,7 @@ returns-in_default-find-clause-meaning c = λ earlier m.
 pub returns-clause-meaning : goal.returns-clause-meaning
 returns-clause-meaning c = λ earlier m.
     let table : c.table.result.now ≡ table_in_source c.args.source.now c.args.row.now.table_name = c.table.ensures ∙ ap (table_in_source c.args.source.now) c.table_name.ensures in
-    row-puts c.args.source.now earlier c.args.row.now.table_name c.args.row.now.changes c.args.self.now (record { transaction = Some c.put_row.new.self; tables = c.args.self.now.tables; groups = c.args.self.now.groups })
+    row-puts c.args.source.now earlier c.args.row.now.table_name c.args.row.now.changes c.args.self.now (record { transaction = Some c.put_row.new.self; tables = c.args.self.now.tables; groups = c.args.self.now.groups; room = c.args.self.now.room })
     c.in-Some.transaction c.put_row.new.self c.in-Some-find.place c.in-Some-find.width c.put_row.result m
     (record { names = refl; widths = λ table. refl; groups = refl })
     c.in-Some.is refl
