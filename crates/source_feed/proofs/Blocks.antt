@@ -8,7 +8,7 @@ use Rattle.gtid_set.specs.Position.{union_of, within_of, IsCanonical}
 use Rattle.vevent.specs.EventValue.{EventValue}
 use Rattle.source_feed.specs.declared.fault.FeedFault.{FeedFault}
 use Rattle.source_feed.specs.declared.fault.FeedFault.TheVariants.{Diverged}
-use Rattle.source_feed.specs.GroupValue.{Position, TableChangeValue, GroupValue}
+use Rattle.source_feed.specs.GroupValue.{Position, GroupValue}
 use Rattle.source_feed.specs.SourceValue.{SourceValue}
 use Rattle.source_feed.specs.PastEvents.{PastEvents}
 use Rattle.source_feed.specs.Groups.{block_at, block_fault, seen, with_block, groups_of, group_of_block}

@@ -1,13 +1,11 @@
 -- Whole messages in front of other bytes, and the longest of them.
-use Rattle.std.proofs.Common.{◌≡◌, ◌≢◌, ℕ, zero, suc, ◌+◌, ◌-◌, ◌<◌, ◌≤◌, List, [], ◌∷◌, ◌++◌, length, length-append, take, Option, Some, None, Result, Ok, Err, refl, sym, ap, subst, ◌∙◌, arith}
+use Rattle.std.proofs.Common.{◌≡◌, ℕ, zero, suc, ◌+◌, ◌-◌, ◌<◌, ◌≤◌, List, [], ◌∷◌, ◌++◌, length, length-append, take, Option, Some, None, Result, Ok, Err, refl, sym, ap, subst, ◌∙◌, arith}
 use Rattle.std.specs.Option.{option_map}
 use Rattle.std.proofs.lemmas.List.{append-nil}
 use Rattle.proto_wire.specs.declared.fault.FrameFault.{FrameFault}
-use Rattle.proto_wire.specs.declared.fault.WireFault.{WireFault}
 use Rattle.proto_wire.specs.Reading.{Reading, Spells, reading_of}
-use Rattle.proto_wire.specs.Field.{sized_at}
-use Rattle.proto_wire.specs.Frame.{IsFrame, NoFrame, located, frame_at, frames_of}
-use Rattle.proto_wire.proofs.ReadingLaws.{IsReader, reading-none, reading-first, spells-reading, only_reading}
+use Rattle.proto_wire.specs.Frame.{IsFrame, NoFrame, frame_at, frames_of}
+use Rattle.proto_wire.proofs.ReadingLaws.{reading-none, reading-first, spells-reading, only_reading}
 use Rattle.proto_wire.proofs.FieldLaws.{frame_reader}
 
 append-twice : {A : Type 0} (xs ys zs : List A) → (xs ++ ys) ++ zs ≡ xs ++ (ys ++ zs)

@@ -1,5 +1,5 @@
 -- The blocks of a history are those of the grammar.
-use Rattle.std.proofs.Common.{◌≡◌, ℕ, List, [], ◌∷◌, ◌++◌, IsTrue, Bool, true, false, cond, Option, None, refl, sym, ◌∙◌, ap, subst, rules, append_assoc}
+use Rattle.std.proofs.Common.{◌≡◌, ℕ, List, [], ◌∷◌, ◌++◌, IsTrue, Bool, true, false, cond, Option, None, refl, sym, ◌∙◌, ap, subst, append_assoc}
 use Rattle.std.proofs.lemmas.Bool.{cond-true, cond-false}
 use mathlib.Core.List.{reverse_aux, reverse_aux-eq}
 use Rattle.std.specs.List.{AllByRecursion, flat_map}

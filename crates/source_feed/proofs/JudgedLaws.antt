@@ -1,15 +1,14 @@
 -- A group that is judged without memory is refused as the one whose touches are asked for.
-use Rattle.std.proofs.Common.{◌≡◌, ◌∙◌, ℕ, ◌+◌, ◌<◌, List, ◌∷◌, ◌++◌, length, get_or, drop, Option, None, Some, Result, Ok, Err, refl, sym, ap, subst}
+use Rattle.std.proofs.Common.{◌≡◌, ◌∙◌, ℕ, ◌+◌, ◌<◌, List, ◌∷◌, ◌++◌, length, get_or, drop, None, Some, Result, Ok, Err, refl, sym, ap, subst}
 use Rattle.std.proofs.lemmas.List.{at_drop_more}
 use Rattle.std.specs.Prelude.{IsOk}
 use Rattle.std.specs.Result.{result_err}
 use Rattle.outcome.specs.Outcome.{◌>>=◌}
 use Rattle.filter_rule.specs.PlanValue.{PlanValue}
 use Rattle.source_feed.specs.declared.fault.FeedFault.{FeedFault}
-use Rattle.source_feed.specs.declared.fault.FeedFault.TheVariants.{BadRow}
 use Rattle.source_feed.specs.FaultNumber.{meant_of}
 use Rattle.source_feed.specs.Planned.{FeedValue, PlannedChangeValue, PlannedGroupValue}
-use Rattle.source_feed.specs.Touches.{TouchValue, group_at, prepared_if, prepared_at, touches_of_change, touches_of}
+use Rattle.source_feed.specs.Touches.{group_at, prepared_if, prepared_at, touches_of_change, touches_of}
 use Rattle.source_feed.proofs.SoundLaws.{touches_by_change}
 
 -- ---- of one result

@@ -1,18 +1,17 @@
 -- Where whole messages end, and what one piece more makes of them.
-use Rattle.std.proofs.Common.{◌≡◌, ◌≢◌, ℕ, zero, suc, ◌+◌, ◌-◌, ◌^◌, ◌<◌, ◌≤◌, Bool, true, false, not, cond, nat_lt, List, [], ◌∷◌, ◌++◌, length, length-append, take, drop, Option, Some, None, Result, Ok, Err, refl, sym, ap, subst, ◌∙◌, arith}
+use Rattle.std.proofs.Common.{◌≡◌, ℕ, zero, suc, ◌+◌, ◌-◌, ◌^◌, ◌<◌, ◌≤◌, Bool, true, false, not, cond, nat_lt, List, [], ◌∷◌, ◌++◌, length, length-append, take, drop, Option, Some, None, Ok, Err, refl, sym, ap, subst, ◌∙◌, arith}
 use Rattle.std.specs.Option.{option_map}
 use Rattle.std.proofs.lemmas.Bool.{lt-ltb, ltb-true}
 use Rattle.std.proofs.lemmas.List.{length-drop}
 use Rattle.list_laws.proofs.Fronts.{take-own}
 use Rattle.outcome.specs.Outcome.{◌>>=◌, unless, refused_if, Refuses}
 use Rattle.proto_wire.specs.declared.fault.FrameFault.{FrameFault}
-use Rattle.proto_wire.specs.declared.fault.WireFault.{WireFault}
 use Rattle.proto_wire.specs.Frame.{frames_of}
-use Rattle.source_feed.proofs.FrameLaws.{Ending, frames_end, front_whole, front_none, front_at, longest_front, read_behind, frames_none, moved}
+use Rattle.source_feed.proofs.FrameLaws.{frames_end, front_whole, front_none, front_at, longest_front, read_behind, frames_none, moved}
 use Rattle.source_feed.specs.declared.fault.FeedFault.{FeedFault}
 use Rattle.source_feed.specs.declared.fault.FeedFault.TheVariants.{FeedTooLong, Frame}
 use Rattle.source_feed.specs.FaultNumber.{meant_of}
-use Rattle.source_feed.specs.Pieces.{AreWhole, IsLongestWhole, IsWholeFront, is_no_length, broken_by, messages_in, WholeByBytes}
+use Rattle.source_feed.specs.Pieces.{IsLongestWhole, IsWholeFront, is_no_length, broken_by, messages_in, WholeByBytes}
 
 -- ---- lists
 

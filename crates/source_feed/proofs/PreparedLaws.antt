@@ -8,7 +8,6 @@ use Rattle.list_laws.proofs.Fronts.{All-append}
 use Rattle.outcome.specs.Outcome.{◌>>=◌}
 use Rattle.vindex.specs.FaultNumber as filter
 use Rattle.filter_rule.specs.PlanValue.{PlanValue, columns_of, passes_of}
-use Rattle.pk_copy.specs.declared.fault.KeyFault.{KeyFault}
 use Rattle.pk_copy.specs.declared.fault.KeyFault.TheVariants.{NullKey, BadKey}
 use Rattle.filter_rule.specs.WellFormed.{IsPlan}
 use Rattle.pk_copy.proofs.PartLaws.{key_parts}

@@ -15,15 +15,15 @@ use Rattle.source_feed.specs.declared.fault.FeedFault.TheVariants.{Misplaced, No
 use Rattle.source_feed.specs.declared.transaction.Transaction.{Transaction}
 use Rattle.source_feed.specs.declared.group_reader.GroupReader.{GroupReader}
 use Rattle.source_feed.specs.FaultNumber.{meant_of}
-use Rattle.source_feed.specs.GroupValue.{Position, TableChangeValue, GroupValue}
+use Rattle.source_feed.specs.GroupValue.{Position, TableChangeValue}
 use Rattle.source_feed.specs.SourceValue.{SourceValue, table_in_source}
 use Rattle.source_feed.specs.PastEvents.{PastEvents, is_open, last_field, width_of, past_set, body_position, body_changes, change_in, changes_in}
 use Rattle.source_feed.specs.Groups.{block_at, seen, with_block, groups_of, group_of_block, row_fault, position_fault, commit_fault, fault_at}
 use Rattle.source_feed.specs.Private.BlockEnd.{last_position}
 use Rattle.source_feed.specs.Private.EventByEvent.{groups_at_end}
 use Rattle.source_feed.specs.Private.FeedTables.{width_in, names_in, names_behind, counted}
-use Rattle.source_feed.specs.Private.KeptGroups.{KeptChangeValue, KeptGroupValue, kept_in, all_kept, named, named_group}
-use Rattle.source_feed.specs.Private.ReaderState.{Body, body_of, body_held, IsBehind, TakesEvent}
+use Rattle.source_feed.specs.Private.KeptGroups.{kept_in, all_kept, named, named_group}
+use Rattle.source_feed.specs.Private.ReaderState.{body_of, body_held, IsBehind, TakesEvent}
 use Rattle.source_feed.proofs.Blocks.{append-nothing}
 use Rattle.source_feed.proofs.Steps.{Opened, opened_from, closed_from, names_with, same_groups, Carries}
 use Rattle.source_feed.proofs.TableLaws.{later_behind, names-behind}

@@ -210,9 +210,9 @@ impl<'h> GroupReader<'h> {
             return Err(FeedFault::NoPosition);
         };
         set_laws();
-        end_block(alloc, &mut self.groups, position, &mut changes)?;
+        let ended = end_block(alloc, &mut self.groups, position, &mut changes);
         self.room = changes;
-        Ok(())
+        ended
     }
 
     /// A ROW needs an open transaction, a FIELD of its table, and rows with as many columns.

@@ -63,8 +63,8 @@ impl<'h> KeptChange<'h> {
 
     /// The change's rows, with its table's place.
     pub(crate) fn into_rows(self) -> TableRows<'h>
-        ensures table { table_of result ≡ self.place }
-        ensures rows { rows_of result ≡ self.rows }
+        ensures table { table_of result ≡ self.entry.place }
+        ensures rows { rows_of result ≡ self.entry.rows }
     {
         self.rows
     }

@@ -148,6 +148,7 @@ impl<'b> RowChange<'b> {
     }
 
     /// The bytes of the row before the change, or `None` for an insert. Reads no row.
+    #[inline(always)]
     pub fn before_bytes(&self) -> Option<RowBytes<'b>>
         ensures { result ≡ self.now.before }
     {
@@ -155,6 +156,7 @@ impl<'b> RowChange<'b> {
     }
 
     /// The bytes of the row after the change, or `None` for a delete. Reads no row.
+    #[inline(always)]
     pub fn after_bytes(&self) -> Option<RowBytes<'b>>
         ensures { result ≡ self.now.after }
     {

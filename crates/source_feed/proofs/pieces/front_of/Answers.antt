@@ -1,8 +1,5 @@
-use Rattle.std.proofs.Common.{◌≡◌, ℕ, suc, ◌+◌, List, length, Option, Some, None, Ok, sym, ap, ◌∙◌, arith}
-use Rattle.proto_wire.specs.Reading.{Next}
-use Rattle.proto_wire.specs.Frame.{frames_of}
+use Rattle.std.proofs.Common.{◌≡◌, suc, length, sym, ap, ◌∙◌, arith}
 use Rattle.source_feed.proofs.FrameLaws.{few_messages}
-use Rattle.source_feed.specs.Pieces.{broken_by}
 use Rattle.source_feed.proofs.PiecesLaws.{front_place}
 use Rattle.source_feed.proofs.pieces.front_of.Goals as goal
 

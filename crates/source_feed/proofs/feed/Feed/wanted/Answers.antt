@@ -2,7 +2,6 @@ use Rattle.std.proofs.Common.{◌≡◌, ◌∙◌, Some, ap, sym, subst}
 use Rattle.std.specs.Arc.{arc_value}
 use Rattle.std.specs.Result.{result_err}
 use Rattle.filter_rule.specs.PlanValue.{PlanValue}
-use Rattle.source_feed.specs.FaultNumber.{meant_of}
 use Rattle.source_feed.specs.Planned.{FeedValue, IsFeed, IsChangeUnder}
 use Rattle.source_feed.specs.Touches.{touches_of}
 use Rattle.source_feed.proofs.JudgedLaws.{judged_at, meant_is}

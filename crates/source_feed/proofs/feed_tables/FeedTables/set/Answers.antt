@@ -1,4 +1,4 @@
-use Rattle.std.proofs.Common.{ℕ, List, Option, refl, sym, ap, ◌∙◌}
+use Rattle.std.proofs.Common.{ℕ, List, Option, sym, ap, ◌∙◌}
 use Rattle.std.specs.Prelude.{map, option_map}
 use denote.Ref.{Bor}
 use Rattle.std.proofs.lemmas.Map.Text.{hash_map_updates_str}

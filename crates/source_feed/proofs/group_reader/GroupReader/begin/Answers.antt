@@ -7,10 +7,10 @@ use Rattle.source_feed.proofs.group_reader.GroupReader.begin.Goals as goal
 pub returns-clause-meaning : goal.returns-clause-meaning
 returns-clause-meaning c = λ source earlier m.
     let none : c.args.self.now.transaction ≡ None = untested c.args.self.now.transaction (sym c.is_some.ensures ∙ c.if-is_some.false) in
-    begin-puts source earlier c.args.self.now (record { transaction = Some (record { position = None; changes = c.new.result }); tables = c.args.self.now.tables; groups = c.args.self.now.groups; room = c.args.self.now.room }) m
+    begin-puts source earlier c.args.self.now (record { transaction = Some (record { position = None; changes = c.clear.new.self }); tables = c.args.self.now.tables; groups = c.args.self.now.groups; room = c.replace-changes.new.dest }) m
     (record { names = refl; widths = λ table. refl; groups = refl })
     (λ names. ap (body_held names) none)
-    (λ names. ap (λ all. Some (record { position = None; changes = map (named names) all })) c.new.ensures.items)
+    (λ names. ap (λ all. Some (record { position = None; changes = map (named names) all })) c.clear.ensures.items)
 
 pub returns-then-is_some-clause-meaning : goal.returns-then-is_some-clause-meaning
 returns-then-is_some-clause-meaning c = λ source earlier m.

@@ -1,6 +1,6 @@
 use Rattle.std.proofs.Common.{◌≡◌, ℕ, List, Some, refl, sym, ◌∙◌, ap, map}
 use Rattle.source_feed.specs.Private.KeptGroups.{named}
-use Rattle.source_feed.specs.Private.ReaderState.{Body, body_held}
+use Rattle.source_feed.specs.Private.ReaderState.{body_held}
 use Rattle.source_feed.proofs.Steps.{commit-puts}
 use Rattle.source_feed.proofs.ReaderSteps.{commit-skips, commit-refused, empty_from}
 use Rattle.source_feed.proofs.group_reader.GroupReader.commit.Goals as goal
@@ -10,12 +10,12 @@ returns-clause-meaning c = λ source earlier m.
     let at : c.in-Some.field-0.position ≡ Some c.in-Some-position.position = cc in
     let before : (names : List (List ℕ)) → body_held names c.args.self.now.transaction ≡ Some (record { position = Some c.in-Some-position.position; changes = map (named names) c.in-Some.field-0.changes.items })
     = λ names. ap (body_held names) (sym c.take.ensures.value ∙ c.in-Some.is) ∙ ap (λ p. Some (record { position = p; changes = map (named names) c.in-Some.field-0.changes.items })) at in
-    commit-puts c.set_laws.ensures source earlier c.args.self.now (record { transaction = c.take.new.self; tables = c.args.self.now.tables; groups = c.end_block.new.groups; room = c.args.self.now.room }) c.end_block.result c.in-Some-position.position c.in-Some.field-0.changes.items m
+    commit-puts c.set_laws.ensures source earlier c.args.self.now (record { transaction = c.take.new.self; tables = c.args.self.now.tables; groups = c.end_block-ended.new.groups; room = c.end_block-ended.new.changes }) c.end_block-ended.result c.in-Some-position.position c.in-Some.field-0.changes.items m
     before
     (λ names. ap (body_held names) c.take.ensures.after)
     (λ table. refl)
     refl
-    c.end_block.ensures.block
+    c.end_block-ended.ensures.block
 
 pub returns-in_default-clause-meaning : goal.returns-in_default-clause-meaning
 returns-in_default-clause-meaning c = λ source earlier m.

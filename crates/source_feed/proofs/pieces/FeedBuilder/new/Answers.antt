@@ -1,5 +1,4 @@
-use Rattle.std.proofs.Common.{◌≡◌, ℕ, List, [], length, None, Ok, sym, ap, subst, refl, arith}
-use Rattle.proto_wire.specs.Frame.{frames_of}
+use Rattle.std.proofs.Common.{◌≡◌, ℕ, List, Ok, sym, subst}
 use Rattle.source_feed.specs.Pieces.{IsWholeFront, messages_in}
 use Rattle.source_feed.proofs.PiecesLaws.{empty_front, empty_messages}
 use Rattle.source_feed.proofs.pieces.FeedBuilder.new.Goals as goal

@@ -1,4 +1,4 @@
-use Rattle.std.proofs.Common.{rules, ◌≡◌, ℕ, ◌+◌, ◌-◌, ◌^◌, ◌<◌, ◌≤◌, List, ◌++◌, length, length-append, take, drop, Some, None, Ok, Err, refl, sym, ap, subst, ◌∙◌, arith}
+use Rattle.std.proofs.Common.{rules, ◌≡◌, ℕ, ◌+◌, ◌-◌, ◌^◌, ◌<◌, List, ◌++◌, length, length-append, take, drop, Some, None, Ok, sym, ap, subst, ◌∙◌, arith}
 use Rattle.proto_wire.specs.Frame.{frames_of}
 use Rattle.source_feed.proofs.FrameLaws.{few_messages}
 use Rattle.source_feed.specs.Pieces.{IsWholeFront, broken_by, messages_in}
