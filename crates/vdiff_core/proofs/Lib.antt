@@ -1,4 +1,5 @@
 pub mod DigitPairs
+mod DigitLanes
 mod RowsLaws
 pub mod PrintLaws
 pub mod KeyTextLaws

@@ -1,5 +1,5 @@
 -- Text that is written piece by piece: what is written and what is left are the whole.
-use Rattle.std.proofs.Common.{◌≡◌, ℕ, ◌+◌, ◌-◌, ◌/◌, ◌%◌, List, [], ◌∷◌, ◌++◌, length, take, drop, take-append-drop, sym, ap, ◌∙◌, subst, refl, append_assoc, append-nil, Result, Ok, Err}
+use Rattle.std.proofs.Common.{◌≡◌, ℕ, ◌-◌, ◌/◌, ◌%◌, List, [], ◌∷◌, ◌++◌, length, take, drop, take-append-drop, sym, ap, ◌∙◌, subst, refl, append_assoc, append-nil, Result, Ok, Err}
 use Rattle.std.proofs.KnownBytes.{Appends-nil, Appends-trans}
 use Rattle.std.proofs.lemmas.List.{take_rest}
 use Rattle.vdiff_core.specs.Printing.{Written, IsWritten, BreaksOff, Prints, IsAdded, Adds, one_more}
@@ -148,7 +148,3 @@ pub hex-append : (xs ys : List ℕ) → encode_lower (xs ++ ys) ≡ encode_lower
 unfolding encode_with
 hex-append [] ys = refl
 hex-append (x ∷ xs) ys = ap (λ (t : List ℕ). slice_index lower_digits (x / 16) ∷ slice_index lower_digits (x % 16) ∷ t) (hex-append xs ys)
-
-pub no_hex : (bytes : List ℕ) → bytes ≡ [] → encode_lower bytes ≡ []
-unfolding encode_with
-no_hex bytes none = ap encode_lower none

@@ -1,18 +1,22 @@
 //! Small pieces of text, written together.
 
-ghost use Rattle.std.specs.Prelude.{◌≡◌, ◌+◌, ◌*◌, ◌≤◌, List, [], ◌++◌, OnOk, length};
-ghost use Rattle.hex.specs.Hex.{encode_lower};
+ghost use Rattle.std.specs.Prelude.{◌≡◌, ◌+◌, ◌*◌, ◌/◌, ◌%◌, ◌≤◌, List, [], ◌++◌, OnOk, length, map, slice_index};
+ghost use Rattle.hex.specs.Hex.{encode_lower, lower_digits};
 ghost use Rattle.vdiff_core.specs.Printing.{Prints, Adds};
 
 use crate::put::put_all;
 use crate::writer::{Out, OutFailed};
 use std::marker::Model;
+use std::simd::prelude::*;
 
 /// The most bytes that wait.
 const ROOM: usize = 4096;
 
-/// The most bytes that are spelled at once.
-const PIECE: usize = 64;
+/// How many bytes are spelled at once.
+const BLOCK: usize = 16;
+
+/// The digits in lower case.
+const DIGITS: [u8; 16] = *b"0123456789abcdef";
 
 /// The two hexadecimal digits of each byte in lower case, pair behind pair.
 static PAIRS: [u8; 512] =
@@ -69,12 +73,13 @@ impl Gathered {
         ensures { Adds result (O.written out.old) self.old (O.written out.new) self.new (encode_lower bytes.now) }
     {
         let mut rest = bytes;
-        while !rest.is_empty() {
-            let (piece, behind) = rest.split_at(rest.len().min(PIECE));
-            self.make_room(out, 2 * piece.len())?;
-            self.add_hex(piece);
+        while rest.len() >= BLOCK {
+            let (block, behind) = rest.split_at(BLOCK);
+            self.put(out, &digits_of(block))?;
             rest = behind;
         }
+        self.make_room(out, 2 * rest.len())?;
+        self.add_hex(rest);
         Ok(())
     }
 
@@ -122,6 +127,39 @@ impl Gathered {
         spell(piece, &mut self.bytes[self.len..end]);
         self.len = end;
     }
+}
+
+/// The digits of a block of bytes, which are looked up side by side.
+#[inline(always)]
+fn digits_of(block: &[u8]) -> [u8; 2 * BLOCK]
+    requires { length block.now ≡ BLOCK }
+    ensures { result ≡ encode_lower block.now }
+{
+    let bytes = u8x16::from_slice(block);
+    let high = high_digits(bytes).to_array();
+    let low = low_digits(bytes).to_array();
+    let mut digits = [0; 2 * BLOCK];
+    for i in 0..BLOCK {
+        digits[2 * i] = high[i];
+        digits[2 * i + 1] = low[i];
+    }
+    digits
+}
+
+/// The digit of the high half of each byte.
+#[inline(always)]
+fn high_digits(bytes: u8x16) -> u8x16
+    ensures { result ≡ map (λ byte. slice_index lower_digits (byte / 16)) bytes }
+{
+    u8x16::from_array(DIGITS).swizzle_dyn(bytes >> u8x16::splat(4))
+}
+
+/// The digit of the low half of each byte.
+#[inline(always)]
+fn low_digits(bytes: u8x16) -> u8x16
+    ensures { result ≡ map (λ byte. slice_index lower_digits (byte % 16)) bytes }
+{
+    u8x16::from_array(DIGITS).swizzle_dyn(bytes & u8x16::splat(15))
 }
 
 /// Writes the digits of some bytes over room for them.
