@@ -1,10 +1,9 @@
 -- The rows of a checkpoint's first stream, which nothing stands in the way of.
-use Rattle.std.proofs.Common.{◌≡◌, ℕ, zero, suc, List, [], ◌∷◌, ◌++◌, ◌+◌, length, map, take, Some, slice_get, append_assoc, append-nil, refl, sym, ap, subst, ◌∙◌, arith}
+use Rattle.std.proofs.Common.{◌≡◌, ℕ, zero, suc, List, [], ◌∷◌, ◌++◌, map, take, Some, slice_get, append_assoc, append-nil, refl, sym, ap, subst, ◌∙◌}
 use Rattle.std.proofs.lemmas.List.{map-append}
-use Rattle.std.proofs.lemmas.Option.{none-some}
+use Rattle.std.proofs.lemmas.Option.{same_Some, none-some}
 use Rattle.std.specs.declared.cmp.Ordering.TheVariants.{Less}
 use Rattle.std.specs.List.{AllByRecursion}
-use Rattle.std.specs.Option.{option_map_or}
 use Rattle.std.specs.Ordering.{ordering_reverse, match_ordering}
 use Rattle.pk_copy.specs.KeyOrder.{key_cmp}
 use Rattle.pk_copy.specs.KeyOrderLaws.{key_cmp_total}
@@ -14,14 +13,9 @@ use Rattle.target_tables.proofs.Order.{before_middle}
 use Rattle.source_feed.specs.History.{RowValue}
 use Rattle.source_feed.specs.Image.{ImageRows}
 use Rattle.board_laws.specs.Meaning.{State, TargetRows}
-use Rattle.board_laws.proofs.Lookups.{all-at}
 use Rattle.join_laws.specs.Compatible.{AreApart}
-use Rattle.join_laws.specs.Joined.{with_row, with_rows}
-use Rattle.checkpoint_laws.specs.Resumed.{AgreesWith, AtEachPlace}
-use Rattle.checkpoint_laws.specs.Saved.{SavedStream}
-use Rattle.apply_core.specs.Private.Resuming.{AllRise}
-use Rattle.apply_core.specs.Private.Together.{AreTogether, of_first, first_rows}
-use Rattle.apply_core.proofs.ResumeLaws.{take_next}
+use Rattle.join_laws.specs.Joined.{cut_rows, with_row, with_rows}
+use Rattle.apply_core.specs.Private.Together.{AreTogether, of_first}
 
 -- ---- rows by rising key, one behind another
 
@@ -33,18 +27,25 @@ rising_first : (rows : ImageRows) → IsRising key_cmp rows → IsRising key_cmp
 rising_first [] h = tt
 rising_first (row ∷ rows) h = (above_first row.0 rows h.0, rising_first rows h.1)
 
+-- a fact of all rows is one of the row between two parts of them
+between : (P : KeyValue × RowValue → Type 0) (before : ImageRows) (row : KeyValue × RowValue) (later : ImageRows) → AllByRecursion P (before ++ row ∷ later) → P row
+between P [] row later h = h.0
+between P (first ∷ before) row later h = between P before row later h.1
+
 -- the next row is behind those before it
-pub below_next : (rows : ImageRows) (i : ℕ) (row : KeyValue × RowValue) → IsRising key_cmp rows → slice_get rows i ≡ Some row → AreBelow key_cmp row.0 (map of_first (take i rows))
-below_next [] i row h there = absurd (none-some row there)
-below_next (first ∷ rows) zero row h there = tt
-below_next (first ∷ rows) (suc i) row h there = (all-at (λ (later : KeyValue × RowValue). key_cmp first.0 later.0 ≡ Less) rows i row h.0 there, below_next rows i row h.1 there)
+below_next : (before : ImageRows) (row : KeyValue × RowValue) (later : ImageRows) → IsRising key_cmp (before ++ row ∷ later) → AreBelow key_cmp row.0 (map of_first before)
+below_next [] row later h = tt
+below_next (first ∷ before) row later h = (between (λ (after : KeyValue × RowValue). key_cmp first.0 after.0 ≡ Less) before row later h.0, below_next before row later h.1)
+
+-- the same of rows that are taken one after another
+pub below_taken : (before left later whole : ImageRows) (row : KeyValue × RowValue) → left ≡ row ∷ later → before ++ left ≡ whole → IsRising key_cmp whole → AreBelow key_cmp row.0 (map of_first before)
+below_taken before left later whole row is sum h =
+    below_next before row later (subst (IsRising key_cmp) (sym sum ∙ ap (λ (rows : ImageRows). before ++ rows) is) h)
 
 -- one row more
-pub first_more : (rows : ImageRows) (i : ℕ) (row : KeyValue × RowValue) → slice_get rows i ≡ Some row → (old new : TargetRows) → old ≡ map of_first (take i rows) → new ≡ old ++ of_first row ∷ [] → new ≡ map of_first (take (i + 1) rows)
-first_more rows i row there old new is pushed =
-    let number : suc i ≡ i + 1 = omega arith in
-    pushed ∙ ap (λ (before : TargetRows). before ++ of_first row ∷ []) is ∙ sym (map-append of_first (take i rows) (row ∷ [])) ∙ ap (map of_first) (sym (take_next rows i row there))
-    ∙ ap (λ n. map of_first (take n rows)) number
+pub first_more : (before : ImageRows) (row : KeyValue × RowValue) (old new : TargetRows) → old ≡ map of_first before → new ≡ old ++ of_first row ∷ [] → new ≡ map of_first (before ++ row ∷ [])
+first_more before row old new is pushed =
+    pushed ∙ ap (λ (rows : TargetRows). rows ++ of_first row ∷ []) is ∙ sym (map-append of_first before (row ∷ []))
 
 -- ---- a row that is behind all others is put at the end
 
@@ -74,19 +75,18 @@ one_apart state zero zero x y key p q a b = refl
 one_apart state zero (suc t) x y key p q a b = absurd (none-some y q)
 one_apart state (suc s) t x y key p q a b = absurd (none-some x p)
 
+-- of no stream there is no row
+pub none_together : (states : List State) (rows : TargetRows) → rows ≡ [] → AreTogether (take 0 states) rows
+none_together [] rows is = record { apart = none_apart; target = is }
+none_together (state ∷ states) rows is = record { apart = none_apart; target = is }
+
 -- the rows of the first stream are those of its cut
-pub first_together : (saved : List SavedStream) (states : List State) (rows : TargetRows) → length saved ≡ length states → AllRise saved → AtEachPlace AgreesWith saved states → rows ≡ first_rows saved → AreTogether (take 1 states) rows
-first_together [] [] rows long rise agree is = record { apart = none_apart; target = is }
-first_together [] (state ∷ states) rows long rise agree is = let clash : suc (length states) ≡ 0 = sym long in absurd (omega (arith, clash))
-first_together (one ∷ saved) [] rows long rise agree is = let clash : suc (length saved) ≡ 0 = long in absurd (omega (arith, clash))
-first_together (one ∷ saved) (state ∷ states) rows long rise agree is = record {
-  apart = one_apart state;
+pub first_together : (states : List State) (state : State) (own : ImageRows) (rows : TargetRows) → slice_get states 0 ≡ Some state → IsRising key_cmp own → own ≡ cut_rows state → rows ≡ map of_first own → AreTogether (take 1 states) rows
+first_together [] state own rows here rise agree is = absurd (none-some state here)
+first_together (one ∷ states) state own rows here rise agree is = record {
+  apart = one_apart one;
   target =
       is
-      ∙ sym (with_rising one.rows [] (rising_first one.rows (rise 0 one refl)))
-      ∙ ap (λ (own : ImageRows). with_rows 0 own []) (agree 0 one state refl refl);
+      ∙ sym (with_rising own [] (rising_first own rise))
+      ∙ ap (λ (rows : ImageRows). with_rows 0 rows []) (agree ∙ ap cut_rows (sym (same_Some one state here)));
 }
-
--- the rows of the stream that stands first
-pub first_there : (saved : List SavedStream) (one : SavedStream) → slice_get saved 0 ≡ Some one → first_rows saved ≡ map of_first one.rows
-first_there saved one there = ap (λ found. option_map_or (λ (s : SavedStream). map of_first s.rows) found []) there

@@ -18,6 +18,7 @@ pub mod MeetingLaws
 pub mod FurtherLaws
 pub mod ResumeLaws
 pub mod FirstRowsLaws
+pub mod KeyedLaws
 pub mod ReadLaws
 pub mod AfterSaveLaws
 pub mod AfterAddingLaws

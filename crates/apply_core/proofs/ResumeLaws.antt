@@ -220,10 +220,6 @@ pub found_of_tables : Ties → (state : State) → IsSoundState state → (rows 
 found_of_tables ties state sound rows is =
     subst (AllByRecursion (λ (row : KeyValue × RowValue). IsOfTable state.plan row.0 row.1)) (sym is) (passed_of_tables ties state sound (λ row. is_inside state.marks row.0))
 
--- what is the same is of the table too
-pub of_table_as : (plan : PlanValue) (key other : KeyValue) (row same : RowValue) → key ≡ other → row ≡ same → IsOfTable plan key row → IsOfTable plan other same
-of_table_as plan key other row same key_is row_is h = subst (λ (k : KeyValue). IsOfTable plan k same) key_is (subst (IsOfTable plan key) row_is h)
-
 each_found : (plan : PlanValue) (rows : List (Bor KeyValue × Bor RowValue)) → map (found_row plan) rows ≡ map (kept_row plan) (map lent_row rows)
 each_found plan [] = refl
 each_found plan (row ∷ rows) = ap (λ (later : ImageRows). found_row plan row ∷ later) (each_found plan rows)
@@ -301,14 +297,14 @@ last_of_puts (x ∷ rows) k h =
         ap (λ (v : Option RowValue). option_or (option_map Some v) (Some (Some x.1))) (none_above k x.0 rows (ap is_le tied) h.0)
     by false e = none (row_in rows k)
 
-pub puts_of_saved : (ties : Ties) (saved : SavedStream) (state : State) (puts : List (KeyValue × Option RowValue)) → IsRising key_cmp saved.rows → AgreesWith saved state → puts ≡ map put_row saved.rows → ArePutsOfCut state puts
-puts_of_saved ties saved state puts rising agree is key =
+pub puts_of_saved : (ties : Ties) (own : ImageRows) (state : State) (puts : List (KeyValue × Option RowValue)) → IsRising key_cmp own → own ≡ cut_rows state → puts ≡ map put_row own → ArePutsOfCut state puts
+puts_of_saved ties own state puts rising agree is key =
     ap (λ (ps : List (KeyValue × Option RowValue)). last_at key_cmp ps key) is
-    ∙ last_of_puts saved.rows key rising
+    ∙ last_of_puts own key rising
     ∙ ap (λ (rows : ImageRows). option_map Some (row_in rows key)) agree
     ∙ ap (option_map Some) (cut-at ties state key)
 
-pub take_next : {A : Type 0} (xs : List A) (s : ℕ) (x : A) → slice_get xs s ≡ Some x → take (suc s) xs ≡ take s xs ++ x ∷ []
+take_next : {A : Type 0} (xs : List A) (s : ℕ) (x : A) → slice_get xs s ≡ Some x → take (suc s) xs ≡ take s xs ++ x ∷ []
 take_next [] s x e = absurd (none-some x e)
 take_next {A} (y ∷ xs) zero x e = ap (λ (z : A). z ∷ []) (same_Some y x e)
 take_next {A} (y ∷ xs) (suc s) x e = ap (λ (zs : List A). y ∷ zs) (take_next xs s x e)
@@ -344,6 +340,14 @@ drop_at {A} xs i x e = let next : suc i ≡ i + 1 = omega arith in by xs i e ∙
     by [] j e = absurd (none-some x e)
     by (y ∷ ys) zero e = ap (λ (z : A). z ∷ ys) (same_Some y x e)
     by (y ∷ ys) (suc j) e = by ys j e
+
+-- what stands behind others in a list
+pub stands_behind : {A : Type 0} (before left later whole : List A) (x : A) → left ≡ x ∷ later → before ++ left ≡ whole → slice_get whole (length before) ≡ Some x
+stands_behind {A} before left later whole x is sum = subst (λ (xs : List A). slice_get xs (length before) ≡ Some x) (ap (λ (xs : List A). before ++ xs) (sym is) ∙ sum) (by before)
+  where
+    by : (ys : List A) → slice_get (ys ++ x ∷ later) (length ys) ≡ Some x
+    by [] = refl
+    by (y ∷ ys) = by ys
 
 -- ---- rows that are copied
 
@@ -396,7 +400,3 @@ module _ (source target : ImageRows) (i : ℕ) (w : IsSameSoFar source target (d
   target_longer y there most =
       rest_of_target source target (drop i source) (drop i target) y w (sym (ap (λ (l : ImageRows). slice_get l 0) (drop_all i source most)))
       (sym (ap (λ (l : ImageRows). slice_get l 0) (drop_at target i y there)))
-
--- what is read twice at a place is the same
-pub same_read : {A B : Type 0} (f : A → B) (xs : List A) (i : ℕ) (x y : A) → slice_get xs i ≡ Some x → slice_get xs i ≡ Some y → f x ≡ f y
-same_read f xs i x y p q = ap f (same_Some x y (sym p ∙ q))

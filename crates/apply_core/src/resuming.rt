@@ -92,17 +92,17 @@ fn read_streams<'b>(
 fn made_of<'h>(
     alloc: Global,
     feeds: &[Feed<'h>],
-    saved: &[ReadStream<'_>],
+    saved: Vec<ReadStream<'_>>,
 ) -> Result<Board<'h>, ResumeFault>
     requires feeds { AreFeeds feeds.now }
-    requires said { AreSaid feeds.now saved.now }
-    ensures ok { IfOk result (IsResumedBoard feeds.now saved.now) }
-    ensures err { IfErr result (IsRefusedSaved feeds.now saved.now) }
+    requires said { AreSaid feeds.now saved.items }
+    ensures ok { IfOk result (IsResumedBoard feeds.now saved.entry.items) }
+    ensures err { IfErr result (IsRefusedSaved feeds.now saved.entry.items) }
 {
     resumed_boards_are_lawful();
-    let numbers = numbers_of(alloc, feeds, saved)?;
-    let streams = streams_at(alloc, feeds, saved, &numbers)?;
-    compare_rows(alloc, &streams, saved)?;
+    let numbers = numbers_of(alloc, feeds, &saved)?;
+    let streams = streams_at(alloc, feeds, &saved, &numbers)?;
+    compare_rows(alloc, &streams, &saved)?;
     let rows = rows_together(alloc, &streams, saved)?;
     Ok(Board { streams, rows })
 }
@@ -124,7 +124,7 @@ fn resumed_over<'h>(
 {
     resumed_boards_are_lawful();
     let saved = read_streams(alloc, plans, bytes)?;
-    let board = made_of(alloc, feeds, &saved)?;
+    let board = made_of(alloc, feeds, saved)?;
     board.is_lawful();
     Ok(board)
 }

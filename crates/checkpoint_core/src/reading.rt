@@ -135,7 +135,7 @@ fn read_streams<'b>(
 }
 
 /// Reads a checkpoint of streams under these plans, of version 1 or 2: of each its position, how far its tables
-/// are copied, and its keys and rows by rising key, lent from the bytes. A version 2 may have parts of the first
+/// are copied, and its rows by rising key, lent from the bytes. A version 2 may have parts of the first
 /// tables alone, as many in each stream; the others wait and have no rows. Fields come in any order, and others
 /// are skipped.
 ///
@@ -144,7 +144,8 @@ fn read_streams<'b>(
 /// in version 2 none, more than there are, another number than in the first stream or another name; other columns, a position that can't be read or that differs between its tables, another mark or marks out of
 /// order, a last key that isn't one of its table or stands without its mark, rows of another width, without a
 /// key or whose keys don't rise. Any other error is want of memory; bytes that aren't as many messages as there are
-/// plans are `Broken` whatever memory there is. Takes some words a row, and memory for keys of several parts.
+/// plans are `Broken` whatever memory there is. Takes some words a row, and memory for keys of several parts
+/// or of more than 12 bytes.
 pub fn read_checkpoint<'b>(
     alloc: Global,
     plans: &[Arc<Plan>],

@@ -10,18 +10,13 @@ ghost use Rattle.checkpoint_core.specs.Private.Reading.{IsRowOf, IsNextRow, AreR
 
 use crate::fault::ReadFault;
 use filter_rule::Plan;
-use pk_copy::{LentKey, key_of_kept};
+use pk_copy::Key;
 use row_view::RowBytes;
 use std::alloc::Global;
 use vevent::{AnswerRows, TablePart};
 
-/// The key at which a row of table `t` stands, lent from the row.
-fn key_for<'b>(
-    alloc: Global,
-    plan: &Plan,
-    t: u8,
-    row: &RowBytes<'b>,
-) -> Result<LentKey<'b>, ReadFault>
+/// The key at which a row of table `t` stands, in memory of its own.
+fn key_for(alloc: Global, plan: &Plan, t: u8, row: &RowBytes<'_>) -> Result<Key, ReadFault>
     requires { t < length plan.now.tables }
     ensures ok { IfOk result (IsRowOf plan.now t row.now) }
     ensures err { IfErr result (IsNothing (IsRowOf plan.now t row.now)) }
@@ -30,14 +25,14 @@ fn key_for<'b>(
     if view.len() != plan.kept_columns(t).len() {
         return Err(ReadFault::Broken);
     }
-    match key_of_kept(plan, t, &view) {
+    match Key::of_kept(alloc, plan, t, row)? {
         Err(_) => Err(ReadFault::Broken),
-        Ok(key) => Ok(LentKey::from_view(alloc, &key)?),
+        Ok(key) => Ok(key),
     }
 }
 
 /// Whether a key is greater than that of every row. Looks at the last row alone and takes no memory.
-fn is_behind(rows: &[(LentKey<'_>, RowBytes<'_>)], key: &LentKey<'_>) -> bool
+fn is_behind(rows: &[(Key, RowBytes<'_>)], key: &Key) -> bool
     requires { IsRising key_cmp rows.now }
     ensures { IsTrue result ↔ AreBelow key_cmp key.now rows.now }
 {
@@ -53,7 +48,7 @@ fn put_row<'b>(
     plan: &Plan,
     t: u8,
     row: RowBytes<'b>,
-    rows: &mut Vec<(LentKey<'b>, RowBytes<'b>)>,
+    rows: &mut Vec<(Key, RowBytes<'b>)>,
 ) -> Result<(), ReadFault>
     requires table { t < length plan.now.tables }
     requires rising { IsRising key_cmp rows.old.items }
@@ -76,7 +71,7 @@ fn put_rows<'b>(
     plan: &Plan,
     t: u8,
     found: AnswerRows<'b>,
-    rows: &mut Vec<(LentKey<'b>, RowBytes<'b>)>,
+    rows: &mut Vec<(Key, RowBytes<'b>)>,
 ) -> Result<(), ReadFault>
     requires table { t < length plan.now.tables }
     requires rows { AreRows plan.now (map of_table rows.old.items) rows.old.items }
@@ -94,7 +89,7 @@ pub(crate) fn read_rows<'b>(
     alloc: Global,
     plan: &Plan,
     tables: &[TablePart<'b>],
-) -> Result<Vec<(LentKey<'b>, RowBytes<'b>)>, ReadFault>
+) -> Result<Vec<(Key, RowBytes<'b>)>, ReadFault>
     requires { length tables.now ≤ length plan.now.tables }
     ensures ok { IfOk result (λ rows. AreRows plan.now (rows_from 0 tables.now) rows.items) }
     ensures err { IfErr result (IsNothing (AreRows plan.now (rows_from 0 tables.now))) }

@@ -1,5 +1,6 @@
 -- The streams of a checkpoint, put together with their feeds step by step.
 use Rattle.std.specs.Prelude.{◌≡◌, ◌≢◌, ℕ, List, length, Some, slice_get}
+use Rattle.std.specs.List.{AllByRecursion}
 use Rattle.filter_rule.specs.PlanValue.{PlanValue}
 use Rattle.pk_copy.specs.KeyOrder.{key_cmp}
 use Rattle.target_tables.specs.Rising.{IsRising}
@@ -13,7 +14,7 @@ use Rattle.join_laws.specs.Refused.{IsFirstClash}
 use Rattle.checkpoint_laws.specs.declared.fault.ResumeFault.{ResumeFault}
 use Rattle.checkpoint_laws.specs.declared.fault.ResumeFault.TheVariants.{FeedCount, WrongPlan, Unsound, CheckpointDiffers, OwnedByOther, Memory}
 use Rattle.checkpoint_laws.specs.Saved.{SavedStream}
-use Rattle.checkpoint_laws.specs.Said.{IsCheckpoint}
+use Rattle.checkpoint_laws.specs.Said.{IsCheckpoint, IsKeyed}
 use Rattle.checkpoint_laws.specs.Resumed.{AgreesWith}
 use Rattle.checkpoint_laws.specs.Refused.{plans_of_feeds, IsFirstOff, IsSoundUpTo, IsLeastDifference}
 use Rattle.apply_core.specs.Feeds.{AreFed}
@@ -63,6 +64,10 @@ HaveClash states fault = ⊥
 -- the rows of every stream rise
 abbrev pub AllRise : List SavedStream → Type 0
 AllRise saved = (s : ℕ) (one : SavedStream) → slice_get saved s ≡ Some one → IsRising key_cmp one.rows
+
+-- each row that is said of a stream stands at its own key of the stream's plan
+abbrev pub HasKeysOf : SavedStream → State → Type 0
+HasKeysOf saved state = AllByRecursion (IsKeyed state.plan) saved.rows
 
 -- plans and feeds aren't taken: 119 exactly where there aren't as many feeds as plans, else 111
 abbrev pub IsUnfed : List PlanValue → List FeedValue → ResumeFault → Type 0

@@ -1,6 +1,5 @@
 -- Streams that are put together over one target, in order.
-use Rattle.std.specs.Prelude.{◌≡◌, ℕ, List, [], Option, length, map, slice_get}
-use Rattle.std.specs.Option.{option_map_or}
+use Rattle.std.specs.Prelude.{◌≡◌, ℕ, List, Option, length}
 use Rattle.pk_copy.specs.KeyOrder.{key_cmp}
 use Rattle.pk_copy.specs.KeyValue.{KeyValue}
 use Rattle.target_tables.specs.declared.fault.TableFault.{TableFault}
@@ -15,7 +14,6 @@ use Rattle.join_laws.specs.Chosen.{all_chosen}
 use Rattle.join_laws.specs.Joined.{rows_from}
 use Rattle.join_laws.specs.Compatible.{AreApart, AreCompatible}
 use Rattle.join_laws.specs.Refused.{IsFirstClash}
-use Rattle.checkpoint_laws.specs.Saved.{SavedStream}
 use Rattle.apply_core.specs.Private.Meeting.{AreFurtherSides}
 use Rattle.apply_core.specs.declared.joining.JoinSource.{JoinSource}
 use Rattle.apply_core.specs.declared.joining.JoinSource.TheVariants.{First, Second, Both}
@@ -28,10 +26,6 @@ pub record AreTogether (states : List State) (rows : TargetRows) : Type 0 where
 -- a row of the first stream
 abbrev pub of_first : KeyValue × RowValue → KeyValue × (ℕ × RowValue)
 of_first row = (row.0, (0, row.1))
-
--- the rows that a checkpoint says of the first stream, if there is one
-abbrev pub first_rows : List SavedStream → TargetRows
-first_rows saved = option_map_or (λ one. map of_first one.rows) (slice_get saved 0) []
 
 -- puts are the rows of a stream's cut
 abbrev pub ArePutsOfCut : State → List (KeyValue × Option RowValue) → Type 0

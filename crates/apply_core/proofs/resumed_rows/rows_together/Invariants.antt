@@ -1,7 +1,8 @@
-use Rattle.std.proofs.Common.{take}
+use Rattle.std.proofs.Common.{◌≡◌, ◌++◌, length, take}
+use Rattle.std.specs.Vec.Iter.{into_iter_items}
 use Rattle.apply_core.specs.Private.Together.{AreTogether}
 use Rattle.apply_core.proofs.resumed_rows.rows_together.Given as goal
 
--- the first streams are put together
-abbrev pub invariant-loop-s : goal.invariant-loop-s
-invariant-loop-s l = AreTogether (take l.s l.streams) l.rows.entries
+-- the first streams are put together; these and those to come are the streams
+abbrev pub invariant-loop-one : goal.invariant-loop-one
+invariant-loop-one l = (l.s ≡ length l.yielded) × AreTogether (take l.s l.streams) l.rows.entries × (l.yielded ++ into_iter_items l.one-iterator ≡ l.fn.saved.items)

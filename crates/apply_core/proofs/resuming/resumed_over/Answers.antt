@@ -1,9 +1,7 @@
 use Rattle.std.proofs.Common.{List, sym, subst}
 use Rattle.std.proofs.lemmas.Result.{err_from_is_err_and}
 use Rattle.filter_rule.specs.PlanValue.{PlanValue}
-use Rattle.checkpoint_laws.specs.Saved.{SavedStream}
 use Rattle.checkpoint_laws.specs.Said.{IsCheckpoint}
-use Rattle.checkpoint_laws.specs.Refused.{plans_of_feeds}
 use Rattle.apply_core.proofs.AfterSaveLaws.{saved_refused}
 use Rattle.apply_core.proofs.ReadLaws.{resumed-reads}
 use Rattle.apply_core.proofs.resuming.resumed_over.Goals as goal
@@ -16,18 +14,18 @@ returns-in_err-saved-clause-refused c =
 pub made_of-requires-clause-said : goal.made_of-requires-clause-said
 made_of-requires-clause-said c =
     let said = subst (λ (ps : List PlanValue). IsCheckpoint ps c.args.bytes.now c.in_ok-saved.saved.items) (sym c.requires.fed.opened) c.in_ok-saved.ensures.said in
-    record { bytes = c.args.bytes.now; is = subst (λ (saved : List SavedStream). IsCheckpoint (plans_of_feeds c.args.feeds.now) c.args.bytes.now saved) (sym c.deref.ensures.value) said }
+    record { bytes = c.args.bytes.now; is = said }
 
 pub returns-in_err-board-clause-refused : goal.returns-in_err-board-clause-refused
 returns-in_err-board-clause-refused c =
     let p = err_from_is_err_and c.from_residual-in_err-board.result c.from_residual-in_err-board.ensures.1 in
     let said = subst (λ (ps : List PlanValue). IsCheckpoint ps c.args.bytes.now c.in_ok-saved.saved.items) (sym c.requires.fed.opened) c.in_ok-saved.ensures.said in
-    rw (p.1, p.2) (saved_refused c.args.feeds.now c.args.bytes.now c.in_ok-saved.saved.items c.in_err-board.field-0.0 said (rw c.deref.ensures.value at c.in_err-board.ensures.err))
+    rw (p.1, p.2) (saved_refused c.args.feeds.now c.args.bytes.now c.in_ok-saved.saved.items c.in_err-board.field-0.0 said c.in_err-board.ensures.err)
 
 pub returns-clause-resumed : goal.returns-clause-resumed
 returns-clause-resumed c =
     let said = subst (λ (ps : List PlanValue). IsCheckpoint ps c.args.bytes.now c.in_ok-saved.saved.items) (sym c.requires.fed.opened) c.in_ok-saved.ensures.said in
-    let made = rw c.deref.ensures.value at c.in_ok-board.ensures.ok in
+    let made = c.in_ok-board.ensures.ok in
     record {
       saved = c.in_ok-saved.saved.items;
       said = said;
@@ -36,4 +34,4 @@ returns-clause-resumed c =
     }
 
 pub returns-clause-reads : goal.returns-clause-reads
-returns-clause-reads c = resumed-reads c.args.feeds.now c.in_ok-saved.saved.items c.in_ok-board.board c.requires.feeds (rw c.deref.ensures.value at c.in_ok-board.ensures.ok)
+returns-clause-reads c = resumed-reads c.args.feeds.now c.in_ok-saved.saved.items c.in_ok-board.board c.requires.feeds c.in_ok-board.ensures.ok
