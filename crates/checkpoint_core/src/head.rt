@@ -1,11 +1,12 @@
 //! What all parts of a stream's tables begin with: the columns of their tables, and the stream's position.
 
-ghost use Rattle.std.specs.Prelude.{◌≡◌, ◌<◌, ◌≤◌, ◌↔◌, Ok, map, length, IsTrue, IfOk};
+ghost use Rattle.std.specs.Prelude.{◌≡◌, ◌<◌, ◌≤◌, ◌↔◌, Ok, Some, map, length, slice_get, IsTrue, IfOk};
 ghost use Rattle.std.specs.Result.{result_ok};
 ghost use Rattle.gtid_set.specs.Text.{position_of_text};
+ghost use Rattle.vevent.specs.CheckpointPart.{TablePartValue};
 ghost use Rattle.vevent.specs.ColumnView.{field_value};
 ghost use Rattle.checkpoint_laws.specs.Written.{fields_of_table, key_fields_of};
-ghost use Rattle.checkpoint_core.specs.Private.Reading.{OfEachTable, HasHead};
+ghost use Rattle.checkpoint_core.specs.Private.Reading.{OfEachTable, IsAtPosition, HasHead};
 
 use crate::written_tables::fields_at;
 use filter_rule::Plan;
@@ -81,8 +82,8 @@ fn has_columns(
     Ok(are_fields(answer.pkfields(), &key_columns))
 }
 
-/// Whether the part of table `t` has the columns of the table and of its key, and this position. An error
-/// is want of memory.
+/// Whether the part of table `t` has the columns of the table and of its key, and this position, which is read of the
+/// first table's part. An error is want of memory.
 fn has_head(
     alloc: Global,
     plan: &Plan,
@@ -90,25 +91,30 @@ fn has_head(
     part: &TablePart<'_>,
     position: &GtidSet,
 ) -> Result<bool, AllocError>
-    requires { t < length plan.now.tables }
+    requires table { t < length plan.now.tables }
+    requires first { t ≡ 0 → IsAtPosition position.now 0 part.now }
     ensures { IfOk result (λ yes. IsTrue yes ↔ HasHead plan.now position.now t part.now) }
 {
     let answer = part.answer();
     if !has_columns(alloc, plan, t, &answer)? {
         return Ok(false);
     }
+    if t == 0 {
+        return Ok(true);
+    }
     means(alloc, answer.gtid(), position)
 }
 
-/// Whether the parts of the plan's first tables have the columns of their tables and keys, and this position. An
-/// error is want of memory.
+/// Whether the parts of the plan's first tables have the columns of their tables and keys, and this position, which is
+/// that of the first part. An error is want of memory.
 pub(crate) fn have_heads(
     alloc: Global,
     plan: &Plan,
     tables: &[TablePart<'_>],
     position: &GtidSet,
 ) -> Result<bool, AllocError>
-    requires { length tables.now ≤ length plan.now.tables }
+    requires few { length tables.now ≤ length plan.now.tables }
+    requires first { (part : TablePartValue) → slice_get tables.now 0 ≡ Some part → IsAtPosition position.now 0 part }
     ensures { IfOk result (λ yes. IsTrue yes ↔ OfEachTable (HasHead plan.now position.now) tables.now) }
 {
     plan.tables();

@@ -1,8 +1,13 @@
-use Rattle.std.proofs.Common.{◌<◌, length, arith, refl}
+use Rattle.std.proofs.Common.{◌≡◌, ◌<◌, Some, length, slice_get, arith, refl, subst}
 use Rattle.std.proofs.lemmas.Option.{slice_get_within}
 use Rattle.checkpoint_core.specs.Private.Reading.{HasHead}
 use Rattle.checkpoint_core.proofs.Items.{there_at, up_to_more}
 use Rattle.checkpoint_core.proofs.head.have_heads.Goals as goal
+
+pub has_head-requires-clause-first : goal.has_head-requires-clause-first
+has_head-requires-clause-first c = λ none.
+    let there = there_at c.args.tables.now c.loop-t.t c.index-tables-t.result c.loop-t-test.true c.index-tables-t.is in
+    c.requires.first c.index-tables-t.result (subst (λ n. slice_get c.args.tables.now n ≡ Some c.index-tables-t.result) none there)
 
 pub loop-t-preserved : goal.loop-t-preserved
 loop-t-preserved c =
