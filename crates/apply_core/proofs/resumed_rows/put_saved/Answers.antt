@@ -5,12 +5,12 @@ use Rattle.apply_core.proofs.FirstRowsLaws.{first_together}
 use Rattle.apply_core.proofs.ResumeLaws.{puts_of_saved, front_long, together_more, clash_at}
 use Rattle.apply_core.proofs.resumed_rows.put_saved.Goals as goal
 
-pub returns-then-s-clause-ok : goal.returns-then-s-clause-ok
-returns-then-s-clause-ok c =
+pub returns-then-s-eq0-clause-ok : goal.returns-then-s-eq0-clause-ok
+returns-then-s-eq0-clause-ok c =
     let state = place_of c.args.streams.now c.args.s c.requires.here in
-    let first : slice_get c.args.streams.now 0 ≡ Some state.0 = subst (λ n. slice_get c.args.streams.now n ≡ Some state.0) c.if-s.true state.1 in
-    subst (λ n. AreTogether (take (n + 1) c.args.streams.now) c.in_ok-pushed_rows.field-0.entries) (sym c.if-s.true)
-    (first_together c.args.streams.now state.0 c.args.own.items c.in_ok-pushed_rows.field-0.entries first c.requires.rising (c.requires.agree state.0 state.1) c.in_ok-pushed_rows.ensures)
+    let first : slice_get c.args.streams.now 0 ≡ Some state.0 = subst (λ n. slice_get c.args.streams.now n ≡ Some state.0) c.if-s-eq0.true state.1 in
+    subst (λ n. AreTogether (take (n + 1) c.args.streams.now) c.in_ok-rows.field-0.entries) (sym c.if-s-eq0.true)
+    (first_together c.args.streams.now state.0 c.args.own.items c.in_ok-rows.field-0.entries first c.requires.rising (c.requires.agree state.0 state.1) c.in_ok-rows.ensures)
 
 pub returns-in-Ok-clause-ok : goal.returns-in-Ok-clause-ok
 returns-in-Ok-clause-ok c =
