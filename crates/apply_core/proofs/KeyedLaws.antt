@@ -1,34 +1,30 @@
 -- The rows of a checkpoint and those of its streams stand at their own keys, so rows of one table with the same kept
 -- columns have the same key.
-use Rattle.std.proofs.Common.{◌≡◌, ℕ, ◌+◌, List, [], ◌∷◌, map, drop, Some, slice_get, refl, sym, ap, subst, ◌∙◌}
-use Rattle.std.proofs.lemmas.List.{length-map}
+use Rattle.std.proofs.Common.{◌≡◌, ℕ, ◌+◌, List, drop, Some, slice_get, refl, sym, ap, subst, ◌∙◌}
 use Rattle.std.proofs.lemmas.Option.{same_Some}
-use Rattle.std.specs.Prelude.{None, slice_index_or}
 use Rattle.std.specs.List.{AllByRecursion}
 use Rattle.std.specs.Result.{result_ok}
 use Rattle.std.specs.declared.cmp.Ordering.{Ordering}
 use Rattle.std.specs.declared.cmp.Ordering.TheVariants.{Less, Equal, Greater}
-use Rattle.filter_rule.specs.PlanValue.{PlanValue, kept_columns_of}
+use Rattle.filter_rule.specs.PlanValue.{PlanValue}
 use Rattle.filter_rule.specs.WellFormed.{IsPlan}
 use Rattle.pk_copy.specs.KeyOfKept.{key_of_kept, KeysAreKept}
 use Rattle.pk_copy.specs.KeyOrder.{key_cmp}
 use Rattle.pk_copy.specs.KeyValue.{KeyValue}
-use Rattle.pk_copy.specs.Marks.{is_inside}
 use Rattle.source_feed.specs.History.{RowValue}
 use Rattle.source_feed.specs.Image.{ImageRows}
 use Rattle.source_feed.specs.Planned.{FeedValue}
 use Rattle.vdiff_core.specs.Report.{IsFirstDifference}
 use Rattle.vdiff_core.proofs.ReportLaws.{IsSameSoFar}
-use Rattle.board_laws.specs.KeptRows.{passed_rows, kept_row, kept_rows}
 use Rattle.board_laws.specs.Lawful.{IsSoundState}
 use Rattle.board_laws.specs.Meaning.{State}
-use Rattle.board_laws.proofs.Lookups.{Ties, all-at, all-filter}
-use Rattle.board_laws.proofs.RowsUnder.{IsRowUnder, passed-under}
+use Rattle.board_laws.proofs.Lookups.{Ties, all-at}
 use Rattle.join_laws.specs.Joined.{cut_rows}
 use Rattle.checkpoint_laws.specs.Resumed.{IsResumedAt, AreResumed, AtEachPlace}
 use Rattle.checkpoint_laws.specs.Said.{IsKeyed}
 use Rattle.checkpoint_laws.specs.Saved.{SavedStream}
 use Rattle.checkpoint_laws.proofs.ResumedLaws.{at_same_place}
+use Rattle.checkpoint_laws.proofs.SaidLaws.{cut_keyed}
 use Rattle.apply_core.specs.Private.Resuming.{AreSaid, HasKeysOf}
 use Rattle.apply_core.proofs.ResumeLaws.{said_long, said_of, differs_less, differs_greater, differs_rows, goes_on}
 
@@ -39,23 +35,11 @@ one_key plan x y p q table row =
 
 -- ---- the rows of a cut
 
-row_keyed : KeysAreKept → (plan : PlanValue) → IsPlan plan → (row : KeyValue × RowValue) → IsRowUnder plan row → IsKeyed plan (kept_row plan row)
-row_keyed kept plan well row under = record {
-  table = under.table;
-  width = length-map (kept_columns_of plan row.0.table) (λ place. slice_index_or row.1 place None);
-  key = kept plan row.0.table row.1 well under.table ∙ under.key;
-}
-
-rows_keyed : KeysAreKept → (plan : PlanValue) → IsPlan plan → (rows : ImageRows) → AllByRecursion (IsRowUnder plan) rows → AllByRecursion (IsKeyed plan) (map (kept_row plan) rows)
-rows_keyed kept plan well [] h = tt
-rows_keyed kept plan well (row ∷ rows) h = (row_keyed kept plan well row h.0, rows_keyed kept plan well rows h.1)
-
 -- what is found is the cut of a sound state
 pub found_keyed : KeysAreKept → Ties → (state : State) → IsPlan state.plan → IsSoundState state → (rows : ImageRows) → rows ≡ cut_rows state → AllByRecursion (IsKeyed state.plan) rows
 found_keyed kept ties state well sound rows is =
     subst (AllByRecursion (IsKeyed state.plan)) (sym is)
-    (all-filter (IsKeyed state.plan) (λ row. is_inside state.marks row.0) (kept_rows state.plan state.list state.applied)
-    (rows_keyed kept state.plan well (passed_rows state.list state.applied) (passed-under ties state.plan state.list state.applied sound.list)))
+    (cut_keyed kept ties state well sound)
 
 -- ---- the rows of a checkpoint
 

@@ -385,7 +385,7 @@ rows_keyed kept plan well [] h = tt
 rows_keyed kept plan well (row ∷ rows) h = (row_keyed kept plan well row h.0, rows_keyed kept plan well rows h.1)
 
 -- the rows of a cut stand at their own keys
-cut_keyed : KeysAreKept → (ties : Ties) (state : State) → IsPlan state.plan → IsSoundState state → AllByRecursion (IsKeyed state.plan) (cut_rows state)
+pub cut_keyed : KeysAreKept → (ties : Ties) (state : State) → IsPlan state.plan → IsSoundState state → AllByRecursion (IsKeyed state.plan) (cut_rows state)
 cut_keyed kept ties state well sound =
     all-filter (IsKeyed state.plan) (λ row. is_inside state.marks row.0) (kept_rows state.plan state.list state.applied)
     (rows_keyed kept state.plan well (passed_rows state.list state.applied) (passed-under ties state.plan state.list state.applied sound.list))

@@ -1,5 +1,5 @@
 -- Tables in first-seen order.
-use Rattle.std.proofs.Common.{◌≡◌, ◌<◌, ◌≤◌, ◌+◌, ℕ, Bool, true, false, cond, List, [], ◌∷◌, ◌++◌, length, get_or, refl, sym, ap, subst, ◌∙◌, append_assoc, arith}
+use Rattle.std.proofs.Common.{◌≡◌, ◌<◌, ℕ, Bool, true, false, cond, List, [], ◌∷◌, ◌++◌, length, get_or, refl, sym, ap, subst, ◌∙◌, append_assoc}
 use Rattle.std.specs.Prelude.{Option, None, Some, map, option_map, position, slice_get, unwrap_or}
 use Rattle.std.specs.List.{list_any}
 use Rattle.std.specs.Map.{keys_of, values_of}
@@ -7,7 +7,7 @@ use Rattle.std.specs.Str.{bytes_eq}
 use Rattle.std.specs.Cmp.Lexicographic.{same_text}
 use denote.Ref.{Bor}
 use Rattle.indexmap.specs.IndexMap.{insert_entry}
-use Rattle.std.proofs.lemmas.List.{length-append, length-map, get_or-map, get_or_append_left}
+use Rattle.std.proofs.lemmas.List.{length-map, get_or-map, get_or_append_left}
 use Rattle.std.proofs.lemmas.List.Quantifiers.{position-Some}
 use Rattle.std.proofs.lemmas.Option.{slice_get-map, unwrap_or-slice_get}
 use Rattle.source_feed.specs.declared.feed_tables.FeedTable.{FeedTable}
@@ -32,14 +32,6 @@ names-insert (e ∷ es) name value = by (bytes_eq name.now e.0.now) refl (names-
         → names (insert_entry (λ x y. bytes_eq x.now y.now) (e ∷ es) name value) ≡ names_behind (names (e ∷ es)) name.now
     by true same others = rw same refl
     by false same others = rw same (ap (λ (more : List (List ℕ)). e.0.now ∷ more) others ∙ behind_one e.0.now (names es) name.now (list_any (bytes_eq name.now) (names es)) refl)
-
--- a table adds one name at most
-pub names-grow : (names : List (List ℕ)) (name : List ℕ) → length (names_behind names name) ≤ length names + 1
-names-grow names name = by (list_any (bytes_eq name) names)
-  where
-    by : (b : Bool) → length (cond b names (names ++ name ∷ [])) ≤ length names + 1
-    by true = omega arith
-    by false = omega (arith, length-append names (name ∷ []))
 
 -- the names that follow, before one more table is seen
 abbrev pub later_behind : List (List ℕ) → List ℕ → List (List ℕ) → List (List ℕ)
