@@ -8,3 +8,4 @@ pub mod FormLaws
 pub mod SliceLaws
 pub mod SelectionLaws
 pub mod SpellingLaws
+pub mod SeenLaws

@@ -187,7 +187,7 @@ fn listed_rows<'t>(alloc: Global, list: &'t str, rest: &'t str) -> Result<Filter
         return Err(FilterFault::BadForm);
     };
     let columns = ColumnList::new(list);
-    if columns.has_twice() {
+    if columns.has_twice(alloc) {
         return Err(FilterFault::BadForm);
     }
     table_rows(alloc, Some(columns), tokens.as_slice())

@@ -1,9 +1,11 @@
 //! The columns that a filter lists.
 
-ghost use Rattle.std.specs.Prelude.{◌≡◌, List, ℕ, [], ◌∷◌, IfSome, IfNone, IsSome};
+ghost use Rattle.std.specs.Prelude.{◌≡◌, List, ℕ, [], ◌∷◌, IfOk, IfSome, IfNone, IsSome};
 ghost use Rattle.filter_text.specs.ColumnList.{list_of, listed_in, has_column, has_twice};
 
 use crate::column::first_column;
+use std::alloc::{AllocError, Global};
+use std::collections::BTreeSet;
 use std::marker::Model;
 
 /// The columns that a filter lists and that are still to come, in the listed order and lent from its
@@ -64,8 +66,34 @@ impl<'t> ColumnList<'t> {
         false
     }
 
-    /// Whether some column stands twice.
-    pub(crate) fn has_twice(&self) -> bool
+    /// Whether some column stands twice. Where memory is given, the list is read once; else it is read anew
+    /// for each of its names, which takes none.
+    pub(crate) fn has_twice(&self, alloc: Global) -> bool
+        ensures { result ≡ has_twice self.now }
+    {
+        match self.repeats(alloc) {
+            Ok(repeats) => repeats,
+            Err(_) => self.has_again(),
+        }
+    }
+
+    /// Whether some column stands twice, by the names that were seen before it.
+    fn repeats(&self, alloc: Global) -> Result<bool, AllocError>
+        ensures { IfOk result (λ twice. twice ≡ has_twice self.now) }
+    {
+        let mut seen: BTreeSet<&str> = BTreeSet::new(alloc);
+        let mut left = self.again();
+        while let Some(column) = left.next_column() {
+            let is_new = seen.insert(column)?;
+            if !is_new {
+                return Ok(true);
+            }
+        }
+        Ok(false)
+    }
+
+    /// Whether some column stands twice, by the columns behind each. Takes no memory.
+    fn has_again(&self) -> bool
         ensures { result ≡ has_twice self.now }
     {
         let mut left = self.again();

@@ -68,12 +68,15 @@ fn columns_of<'t>(alloc: Global, texts: &'t [PartText<'_>]) -> Result<Vec<Column
 }
 
 /// The key as a row of just its parts, in key order: numbers in shortest decimal text, other parts as
-/// their bytes. An error is want of memory; a key of a row is no longer than a row may be.
+/// their bytes. An error is want of memory, or a row beyond the limits, which no key of a row is.
 pub fn lastpk_of(alloc: Global, key: &KeyView<'_>) -> Result<RowBuf, AllocError>
     ensures { IfOk result (λ row. row ≡ lastpk_of key.now) }
 {
     let texts = texts_of(alloc, key.parts())?;
     let columns = columns_of(alloc, texts.as_slice())?;
-    let row = RowBuf::of_columns(alloc, columns.as_slice())?;
-    Ok(row)
+    let made = RowBuf::of_columns(alloc, columns.as_slice())?;
+    match made {
+        Some(row) => Ok(row),
+        None => Err(AllocError),
+    }
 }

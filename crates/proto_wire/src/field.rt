@@ -14,11 +14,11 @@ pub enum Payload<'b> {
     /// Wire type 0: a varint.
     Varint(u64),
     /// Wire type 1: eight bytes.
-    Eight(&'b [u8]),
+    Eight(&'b [u8; 8]),
     /// Wire type 2: bytes behind their length; a text, bytes, an embedded message or packed numbers.
     Bytes(&'b [u8]),
     /// Wire type 5: four bytes.
-    Four(&'b [u8]),
+    Four(&'b [u8; 4]),
 }
 
 /// A field of a message.
@@ -37,6 +37,16 @@ fn bytes_of(size: u64, bytes: &[u8]) -> Result<(&[u8], &[u8]), WireFault>
         return Err(WireFault::Truncated);
     }
     Ok(bytes.split_at(size as usize))
+}
+
+/// The first `N` bytes, and those after them.
+fn array_of<const N: usize>(bytes: &[u8]) -> Result<(&[u8; N], &[u8]), WireFault>
+    ensures { Gives (λ x. (x.0.now, x.1.now)) result (bytes_at N bytes.now) }
+{
+    match bytes.split_first_chunk::<N>() {
+        Some(parts) => Ok(parts),
+        None => Err(WireFault::Truncated),
+    }
 }
 
 /// The bytes behind their length, and those after them.
@@ -70,7 +80,7 @@ fn payload_of(kind: u64, body: &[u8]) -> Result<(Option<Payload<'_>>, &[u8]), Wi
             Ok((Some(Payload::Varint(value)), rest))
         }
         1 => {
-            let (eight, rest) = bytes_of(8, body)?;
+            let (eight, rest) = array_of::<8>(body)?;
             Ok((Some(Payload::Eight(eight)), rest))
         }
         2 => {
@@ -78,7 +88,7 @@ fn payload_of(kind: u64, body: &[u8]) -> Result<(Option<Payload<'_>>, &[u8]), Wi
             Ok((Some(Payload::Bytes(bytes)), rest))
         }
         5 => {
-            let (four, rest) = bytes_of(4, body)?;
+            let (four, rest) = array_of::<4>(body)?;
             Ok((Some(Payload::Four(four)), rest))
         }
         _ => Ok((None, body)),

@@ -73,7 +73,8 @@ fn payload_size(payload: &Payload<'_>) -> Result<usize, AllocError>
     match payload {
         Payload::Varint(value) => Ok(varint_size(*value)),
         Payload::Bytes(bytes) => size_of_both(varint_size(bytes.len() as u64), bytes.len()),
-        Payload::Eight(bytes) | Payload::Four(bytes) => Ok(bytes.len()),
+        Payload::Eight(bytes) => Ok(bytes.as_slice().len()),
+        Payload::Four(bytes) => Ok(bytes.as_slice().len()),
     }
 }
 
@@ -105,7 +106,8 @@ fn put_payload(out: &mut Vec<u8>, payload: &Payload<'_>) -> Result<(), AllocErro
             put_varint(out, bytes.len() as u64)?;
             out.extend_from_slice(bytes)
         }
-        Payload::Eight(bytes) | Payload::Four(bytes) => out.extend_from_slice(bytes),
+        Payload::Eight(bytes) => out.extend_from_slice(bytes.as_slice()),
+        Payload::Four(bytes) => out.extend_from_slice(bytes.as_slice()),
     }
 }
 

@@ -10,3 +10,5 @@ pub mod MarkLaws
 pub mod FilledLaws
 pub mod WrittenLaws
 pub mod PickLaws
+pub mod SizeLaws
+pub mod LimitLaws

@@ -4,10 +4,12 @@
 use Rattle.std.specs.Prelude.{◌≡◌, ℕ, ℤ, pos, negsuc, ◌^◌, ◌≤◌, ◌==◌, ◌&&◌, nat_lt, if◌then◌else◌, Bool, List, [], ◌++◌, map, length, Option, Some, None, Ok}
 use Rattle.std.specs.List.{flat_map}
 use Rattle.proto_wire.specs.Field.{WireField, Varint}
+use Rattle.proto_wire.specs.Varint.{AreBytes}
 use Rattle.proto_wire.specs.Writing.{written_numbers, written_fields, text_field}
 use Rattle.proto_wire.specs.Zigzag.{zigzag_of}
 use Rattle.row_view.specs.declared.found.TheConstants.{LENGTHS, VALUES}
-use Rattle.row_view.specs.Row.{row_of_message}
+use Rattle.row_view.specs.Row.{IsRow, row_of_message}
+use Rattle.row_view.specs.Picked.{picked, ArePlaces, AreApart}
 
 -- the length of a column: that of its value, and -1 for NULL
 abbrev pub length_of : Option (List ℕ) → ℤ
@@ -63,3 +65,11 @@ pub record IsWithinLimits (columns : List (Option (List ℕ))) : Type 0 where
 -- a row within the limits that is written is read as this row
 abbrev pub RowsAreReadAgain : Type 0
 RowsAreReadAgain = (columns : List (Option (List ℕ))) → IsWithinLimits columns → row_of_message (written_row columns) ≡ Ok columns
+
+-- a row that was read is within the limits, however it was written
+abbrev pub RowsAreWithinLimits : Type 0
+RowsAreWithinLimits = (bytes : List ℕ) (columns : List (Option (List ℕ))) → AreBytes bytes → IsRow bytes columns → IsWithinLimits columns
+
+-- and so are some of its columns, none of them twice
+abbrev pub PickedAreWithinLimits : Type 0
+PickedAreWithinLimits = (columns : List (Option (List ℕ))) (places : List ℕ) → IsWithinLimits columns → ArePlaces places columns → AreApart places → IsWithinLimits (picked places columns)

@@ -1,6 +1,6 @@
 //! The columns of a row, one after another.
 
-ghost use Rattle.std.specs.Prelude.{◌≡◌, ℕ, ◌+◌, ◌≤◌, List, length};
+ghost use Rattle.std.specs.Prelude.{◌≡◌, ◌≤◌, length};
 ghost use Rattle.std.specs.Iterator.{YieldsFirstBy, item_count};
 ghost use Rattle.row_view.specs.ColumnValue.{column_value};
 ghost use Rattle.row_view.specs.RowFields.{row_lengths};
@@ -9,10 +9,8 @@ ghost use Rattle.row_view.specs.Private.Marks.{lengths_left};
 
 use crate::column::Column;
 use crate::found::LENGTHS;
-use crate::steps::Steps;
 use proto_wire::Sint64s;
 use std::marker::Model;
-use std::sync::ledger::Ledger;
 
 /// The columns of a row that are still to come. Seen in contracts as the list of their values,
 /// `None` for NULL. Takes no memory.
@@ -56,16 +54,6 @@ impl<'b> Columns<'b> {
             lengths: Sint64s::behind(packed, fields, LENGTHS),
             values,
         }
-    }
-
-    /// The next column, a step: one length is decoded.
-    #[inline(always)]
-    pub(crate) fn next_counted<L: Ledger>(&mut self, steps: &mut Steps<L>) -> Option<Column<'b>>
-        ensures column { YieldsFirstBy column_value (λ s. s) self.old result self.new }
-        ensures step { steps.new ≡ steps.old + 1 }
-    {
-        steps.tick();
-        self.next()
     }
 }
 

@@ -4,6 +4,7 @@
 mod column;
 mod columns;
 mod count;
+mod counted_columns;
 mod fault;
 mod found;
 mod marks;
@@ -25,6 +26,6 @@ pub use row_buf::RowBuf;
 pub use row_bytes::RowBytes;
 pub use steps::Steps;
 pub use written_columns::write_columns;
-pub use written_laws::rows_are_read_again;
+pub use written_laws::{rows_are_read_again, rows_are_within_limits};
 pub use written_picked::are_all;
 pub use written_row::{row_size, write_row};

@@ -9,6 +9,7 @@ ghost use Rattle.row_view.specs.Private.Kept.{IsGood};
 
 use crate::column::Column;
 use crate::columns::Columns;
+use crate::counted_columns::CountedColumns;
 use crate::fault::RowFault;
 use crate::found::found_in;
 use crate::marks::{MARKS, Mark, mark_at, no_marks};
@@ -163,11 +164,11 @@ impl<'b> RowView<'b> {
         ensures column { slice_get self.now i ≡ Some (column_value result) }
         ensures steps { (steps.old ≤ steps.new) × (steps.new ≤ steps.old + 16) }
     {
-        let mut columns = self.columns_from(i / 16);
+        let mut columns = CountedColumns::new(self.columns_from(i / 16));
         for _ in 0..i % 16 {
-            columns.next_counted(steps);
+            columns.next(steps);
         }
-        columns.next_counted(steps).unwrap()
+        columns.next(steps).unwrap()
     }
 
     /// The columns from the sixteenth one of this number on.

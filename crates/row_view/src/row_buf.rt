@@ -1,8 +1,9 @@
 //! A row in memory of its own.
 
-ghost use Rattle.std.specs.Prelude.{◌≡◌, ◌↔◌, IsTrue, IfOk, map};
+ghost use Rattle.std.specs.Prelude.{◌≡◌, ◌↔◌, IsTrue, IfOk, IfSome, IsSome, map};
 ghost use Rattle.row_view.specs.ColumnValue.{column_value};
 ghost use Rattle.row_view.specs.Picked.{picked, ArePlaces};
+ghost use Rattle.row_view.specs.WrittenRow.{IsWithinLimits};
 
 use crate::column::Column;
 use crate::columns::Columns;
@@ -41,23 +42,25 @@ impl RowBuf {
         RowBuf::from_bytes(alloc, &row.bytes())
     }
 
-    /// A row of these columns. An error is want of memory, or a row beyond the limits, which has more than
-    /// 256 columns or 2^24 bytes.
-    pub fn of_columns(alloc: Global, columns: &[Column<'_>]) -> Result<RowBuf, AllocError>
-        ensures { IfOk result (λ row. row ≡ map column_value columns.now) }
+    /// A row of these columns; `None` exactly where it would be beyond the limits, which are 256 columns and
+    /// 2^24 bytes as it is written. An error is want of memory.
+    pub fn of_columns(alloc: Global, columns: &[Column<'_>]) -> Result<Option<RowBuf>, AllocError>
+        ensures row { IfOk result (λ made. IfSome made (λ row. row ≡ map column_value columns.now)) }
+        ensures limits { IfOk result (λ made. IsSome made ↔ IsWithinLimits (map column_value columns.now)) }
     {
         rows_are_read_again();
         let mut message = Vec::new(alloc);
         write_columns(&mut message, columns)?;
         if columns.len() > usize::from(ROW_COLUMNS) || message.as_slice().len() > ROW_BYTES {
-            return Err(AllocError);
+            return Ok(None);
         }
-        Ok(RowBuf { message })
+        Ok(Some(RowBuf { message }))
     }
 
     /// A row of some columns of a lent row, in the order of their places. That each place is below the
     /// row's `len`, and that none stands twice, is the caller's. All columns in their order are a copy
-    /// of the bytes. An error is want of memory, or a row beyond the limits, which needs a column twice.
+    /// of the bytes. An error is want of memory, or a row beyond the limits, which needs a column twice: some
+    /// columns of a row within the limits are within them (`rows_are_within_limits`).
     pub fn pick(alloc: Global, row: &RowView<'_>, places: &[u8]) -> Result<RowBuf, AllocError>
         requires { ArePlaces places.now row.now }
         ensures { IfOk result (λ copy. copy ≡ picked places.now row.now) }

@@ -23,8 +23,8 @@ impl<L: Ledger> Model for Steps<L> {
 }
 
 impl<L: Ledger> Steps<L> {
-    /// None yet.
-    pub(crate) fn new(blank: Blank) -> Steps<L>
+    /// None yet, in a ledger's own blank: `Steps::<Brand>::new(Blank::new(1))` where nobody else counts.
+    pub fn new(blank: Blank) -> Steps<L>
         requires name { blank.name ≡ L.name }
         requires parts { blank.parts ≡ L.parts }
         requires some { 0 < blank.parts }

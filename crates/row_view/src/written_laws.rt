@@ -1,6 +1,6 @@
-//! A law of written rows, as the contract of a function that does nothing.
+//! Laws of written rows, each as the contract of a function that does nothing.
 
-ghost use Rattle.row_view.specs.WrittenRow.{RowsAreReadAgain};
+ghost use Rattle.row_view.specs.WrittenRow.{RowsAreReadAgain, RowsAreWithinLimits, PickedAreWithinLimits};
 
 use proto_wire::{fields_are_read_again, numbers_are_read_again};
 
@@ -11,3 +11,10 @@ pub fn rows_are_read_again()
     fields_are_read_again();
     numbers_are_read_again();
 }
+
+/// A row that was read is within the limits as it is written, however long its own spelling was; and so are
+/// some of the columns of such a row, none of them twice, in any order.
+pub fn rows_are_within_limits()
+    ensures rows { RowsAreWithinLimits }
+    ensures picked { PickedAreWithinLimits }
+{}

@@ -1,8 +1,9 @@
 -- What an answer to a text of a key range says.
-use Rattle.std.proofs.Common.{◌≡◌, ◌↔◌, ◌⊎◌, inl, inr, Option, None, Some, Result, Ok, Err, refl}
-use Rattle.std.specs.Prelude.{IfOk, IfErr, IsErrOf, IsSome}
-use Rattle.vindex.specs.Bounds.{Bounds}
+use Rattle.std.proofs.Common.{◌≡◌, ◌≢◌, ◌↔◌, ◌⊎◌, inl, inr, ℕ, List, [], Option, None, Some, Result, Ok, Err, refl, ap}
+use Rattle.std.specs.Prelude.{IfOk, IfErr, IsErrOf}
+use Rattle.vindex.specs.Bounds.{Bounds, whole}
 use Rattle.vindex.specs.Private.RangeAnswers.{AnswersRange}
+use Rattle.vindex.specs.RangeText.{IsBounded}
 use Rattle.vindex.specs.declared.faults.VindexFault.{VindexFault}
 use Rattle.vindex.specs.declared.faults.VindexFault.TheVariants.{BadRange, UnknownVindex, NullValue, NotANumber, Memory}
 
@@ -17,7 +18,7 @@ range-bad (Err UnknownVindex) written h = absurd h
 range-bad (Err NullValue) written h = absurd h
 range-bad (Err NotANumber) written h = absurd h
 range-bad (Err Memory) (Some range) h = (λ e. cc, λ n. cc)
-range-bad (Err Memory) None h = absurd (cc)
+range-bad (Err Memory) None h = absurd h
 
 pub range-refused : (r : Result Bounds VindexFault) (written : Option Bounds) → AnswersRange r written → IfErr r (λ fault. (fault ≡ BadRange) ⊎ (fault ≡ Memory))
 range-refused (Ok range) written h = tt
@@ -27,10 +28,14 @@ range-refused (Err NullValue) written h = absurd h
 range-refused (Err NotANumber) written h = absurd h
 range-refused (Err Memory) written h = inr refl
 
-pub range-memory : (r : Result Bounds VindexFault) (written : Option Bounds) → AnswersRange r written → IsErrOf r Memory → IsSome written
+pub range-memory : (r : Result Bounds VindexFault) (written : Option Bounds) → AnswersRange r written → IsErrOf r Memory → IsBounded written
 range-memory (Ok range) written h e = cc
 range-memory (Err BadRange) written h e = cc
 range-memory (Err UnknownVindex) written h e = absurd h
 range-memory (Err NullValue) written h e = absurd h
 range-memory (Err NotANumber) written h e = absurd h
 range-memory (Err Memory) written h e = h
+
+-- a range that has a start isn't the whole one
+pub with_start : (start : List ℕ) (end : Option (List ℕ)) → start ≢ [] → record { start = start; end = end } ≢ whole
+with_start start end some e = some (ap (λ (bounds : Bounds). bounds.start) e)

@@ -1,6 +1,6 @@
 -- The text of a key range (the Vitess documents on key ranges): `start-end`, each side an even
 -- number of hexadecimal digits of either case, or empty where the range is open. `0` is `-`.
-use Rattle.std.specs.Prelude.{◌≡◌, ℕ, ◌==◌, ◌⊎◌, Bool, IsTrue, List, ◌∷◌, ◌++◌, Ok, Option, None, Some, if◌then◌else◌, codes}
+use Rattle.std.specs.Prelude.{◌≡◌, ◌≢◌, ℕ, ◌==◌, ◌⊎◌, Bool, IsTrue, List, ◌∷◌, ◌++◌, Ok, Option, None, Some, if◌then◌else◌, codes}
 use Rattle.std.specs.List.{before_first, after_first, list_any}
 use Rattle.std.specs.Result.{result_ok}
 use Rattle.std.specs.Str.{bytes_eq}
@@ -27,6 +27,11 @@ key_range_of_text text =
     else if list_any is_hyphen text then
     range_between (bytes_of_hex (before_first is_hyphen text)) (bytes_of_hex (after_first is_hyphen text))
     else None
+
+-- a range is written, and not the whole one: it has a bound
+abbrev pub IsBounded : Option Bounds → Type 0
+IsBounded None = ⊥
+IsBounded (Some bounds) = bounds ≢ whole
 
 -- The text is a hyphen between the hexadecimal digits of two bounds, and the range is the one between
 -- these bounds, which starts below its end.

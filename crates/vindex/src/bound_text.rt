@@ -1,6 +1,6 @@
 //! The text of a key range's bound.
 
-ghost use Rattle.std.specs.Prelude.{◌≡◌, ◌+◌, ◌-◌, ◌*◌, ◌<◌, ◌≤◌, ◌↔◌, ◌==◌, [], IfOk, IsTrue, length, slice_index};
+ghost use Rattle.std.specs.Prelude.{◌≡◌, ◌≢◌, ◌+◌, ◌-◌, ◌*◌, ◌<◌, ◌≤◌, ◌↔◌, ◌==◌, [], IfOk, IsErr, IsTrue, length, slice_index};
 ghost use Rattle.std.specs.Cmp.Lexicographic.{slice_cmp};
 ghost use Rattle.std.specs.List.{list_all, suffix_len};
 ghost use Rattle.std.specs.Option.{option_map};
@@ -60,10 +60,14 @@ impl<'t> BoundText<'t> {
         comes_before(self.digits, other.digits)
     }
 
-    /// Its bytes.
+    /// Its bytes. No bytes take no memory.
     pub(crate) fn bytes(&self, alloc: Global) -> Result<Vec<u8>, AllocError>
-        ensures { IfOk result (λ bytes. bytes.items ≡ self.now) }
+        ensures bytes { IfOk result (λ bytes. bytes.items ≡ self.now) }
+        ensures memory { IsErr result → self.now ≢ [] }
     {
+        if self.is_empty() {
+            return Ok(Vec::new(alloc));
+        }
         match hex::decode(alloc, self.digits) {
             Ok(bytes) => Ok(bytes),
             Err(_) => Err(AllocError),

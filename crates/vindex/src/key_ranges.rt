@@ -1,12 +1,12 @@
 //! Key ranges, which say which keyspace ids a shard has.
 
-ghost use Rattle.std.specs.Prelude.{◌≡◌, ◌⊎◌, ◌↔◌, Some, None, IfOk, IfErr, IsErrOf, IsSome, IsTrue};
+ghost use Rattle.std.specs.Prelude.{◌≡◌, ◌⊎◌, ◌↔◌, Some, None, IfOk, IfErr, IsErrOf, IsTrue};
 ghost use Rattle.std.specs.Option.{option_copied};
 ghost use Rattle.row_view.specs.ColumnValue.{column_value};
 ghost use Rattle.vindex.specs.Bounds.{Bounds, in_range, is_ordered};
 ghost use Rattle.vindex.specs.KeyspaceId.{id_of, id_in};
 ghost use Rattle.vindex.specs.Private.RangeAnswers.{AnswersRange};
-ghost use Rattle.vindex.specs.RangeText.{key_range_of_text, IsRangeText};
+ghost use Rattle.vindex.specs.RangeText.{key_range_of_text, IsBounded, IsRangeText};
 ghost use Rattle.vindex.specs.declared.faults.VindexFault.TheVariants.{BadRange, Memory};
 
 use crate::bound_text::BoundText;
@@ -77,13 +77,13 @@ impl KeyRange {
     /// open; `0` and `-` are the whole range. 00 bytes at the end of a bound are dropped first, so
     /// `80-00` is `80-`. `BadRange` is for every other text, also for one whose start isn't below the
     /// end that it gives, whatever memory there is: the text is judged before any is taken. `Memory`
-    /// where the allocator gave none for the bounds of a key range.
+    /// where the allocator gave none for the bounds of a key range; the whole range has none and takes none.
     pub fn parse(alloc: Global, text: &str) -> Result<KeyRange, VindexFault>
         ensures read { IfOk result (λ range. key_range_of_text text.now ≡ Some range) }
         ensures bad_range { IsErrOf result BadRange ↔ (key_range_of_text text.now ≡ None) }
         ensures refused { IfErr result (λ fault. (fault ≡ BadRange) ⊎ (fault ≡ Memory)) }
-        // Memory is wanted for a key range alone.
-        ensures memory { IsErrOf result Memory → IsSome (key_range_of_text text.now) }
+        // Memory is wanted for the bounds of a key range alone.
+        ensures memory { IsErrOf result Memory → IsBounded (key_range_of_text text.now) }
 
         // The texts that are read as a range are those that write it.
         ensures grammar { (bounds : Bounds)

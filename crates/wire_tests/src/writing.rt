@@ -131,10 +131,9 @@ fn is_written_of(alloc: Global, columns: &[Column<'_>], wanted: &[u8]) -> Result
 
 /// Whether a row that is made of these columns is the one that is read of the bytes.
 fn is_row_of(alloc: Global, columns: &[Column<'_>], bytes: &[u8]) -> Result<bool, AllocError> {
-    let row = RowBuf::of_columns(alloc, columns)?;
-    match RowView::read(bytes) {
-        Ok(read) => Ok(row.view().same(&read)),
-        Err(_) => Ok(false),
+    match (RowBuf::of_columns(alloc, columns)?, RowView::read(bytes)) {
+        (Some(row), Ok(read)) => Ok(row.view().same(&read)),
+        _ => Ok(false),
     }
 }
 
@@ -151,4 +150,19 @@ fn are_written_of(alloc: Global, rows: &[(&[Column<'_>], &[u8])]) -> Result<bool
 #[test]
 fn rows_of_columns(rt: HostRuntime) {
     assert!(rt; matches!(are_written_of(rt.alloc(), COLUMNS), Ok(true)));
+}
+
+/// Whether so many NULLs make a row.
+fn is_row_of_nulls(alloc: Global, count: usize) -> Result<bool, AllocError> {
+    let mut columns = Vec::new(alloc);
+    for _ in 0..count {
+        columns.push(Column::Null)?;
+    }
+    Ok(RowBuf::of_columns(alloc, columns.as_slice())?.is_some())
+}
+
+#[test]
+fn rows_beyond_the_limits(rt: HostRuntime) {
+    assert!(rt; matches!(is_row_of_nulls(rt.alloc(), 256), Ok(true)));
+    assert!(rt; matches!(is_row_of_nulls(rt.alloc(), 257), Ok(false)));
 }

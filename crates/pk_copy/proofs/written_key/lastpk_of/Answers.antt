@@ -8,11 +8,11 @@ some_each : {A : Type 0} (f : A → List ℕ) (xs : List A) → map (λ x. Some 
 some_each f [] = refl
 some_each f (x ∷ xs) = ap (λ (rest : List (Option (List ℕ))). Some (f x) ∷ rest) (some_each f xs)
 
-pub returns : goal.returns
-returns c =
+pub returns-in-Some : goal.returns-in-Some
+returns-in-Some c =
     let texts = c.in_ok-texts.texts.items in
     let parts = c.args.key.now.parts in
     let held : map text_value texts ≡ map part_text parts = c.in_ok-texts.ensures ∙ ap (λ (ps : List Part). map part_text ps) c.parts.ensures.parts in
     let columns = rw c.as_slice.ensures.value at c.in_ok-columns.ensures in
-    let row = rw c.as_slice-2.ensures.value at c.in_ok-row.ensures in
+    let row = rw (c.in-Some.is, c.as_slice-2.ensures.value) at c.in_ok-made.ensures.row in
     row ∙ columns ∙ some_each text_value texts ∙ ap (λ (ts : List (List ℕ)). map (λ (t : List ℕ). Some t) ts) held ∙ sym (some_each part_text parts)

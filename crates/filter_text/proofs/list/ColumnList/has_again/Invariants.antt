@@ -1,6 +1,6 @@
 use Rattle.std.proofs.Common.{◌≡◌, length}
 use Rattle.filter_text.specs.ColumnList.{has_twice}
-use Rattle.filter_text.proofs.list.ColumnList.has_twice.Given as goal
+use Rattle.filter_text.proofs.list.ColumnList.has_again.Given as goal
 
 -- none of those before stands twice
 abbrev pub invariant-loop-column : goal.invariant-loop-column
