@@ -1,0 +1,9 @@
+pub mod Linear
+pub mod Moved
+pub mod Rolled
+pub mod Exchanges
+pub mod BoxValues
+pub mod Mixing
+pub mod KeyHalves
+pub mod RoundHalves
+pub mod StandardFacts

@@ -1,0 +1,4 @@
+pub mod Tables
+pub mod Des
+pub mod Laws
+pub mod Private

@@ -1,0 +1,5 @@
+//! Tests of the cipher.
+#![tactic(auto)]
+
+#[cfg(test)]
+mod vectors;

@@ -1,0 +1,172 @@
+//! Blocks enciphered, beside what another library makes of them (python3-pycryptodome).
+
+use des::Cipher;
+
+/// A key, a block, and this enciphered under it.
+const UNDER_KEYS: &[(u64, u64, u64)] = &[
+    (0x133457799bbcdff1, 0xc8463c2434313881, 0x1249718c5e991981),
+    (0x0101010101010101, 0x8debcfdf78b14339, 0xed36b52464052af4),
+    (0xfefefefefefefefe, 0xc39fea7ce6ed1178, 0x488a85aaa3c26a09),
+    (0xffffffffffffffff, 0xd5cd5f43150c3e14, 0x395619a0fe5c997b),
+    (0x1f1f1f1f0e0e0e0e, 0x36aaeed8d8b63810, 0xe0b341bc11aa61b4),
+    (0xe0fee0fef1fef1fe, 0x869920e3d05c8151, 0x3cfb2702914d1fa6),
+    (0x8000000000000000, 0x2d1479fe11e134f2, 0xc51434f9bca7f26a),
+    (0x0000000000000002, 0x76695c46965058d9, 0xd6cd25ea58eaaada),
+    (0x0101010101010180, 0xf340012bc451c7fa, 0xfdcfb5dec162d1e2),
+    (0x133457799bbcdff1, 0x0123456789abcdef, 0x85e813540f0ab405),
+    (0xffffffffffffffff, 0xffffffffffffffff, 0x7359b2163e4edc58),
+    (0x0101010101010101, 0x8000000000000000, 0x95f8a5e5dd31d900),
+    (0x3d61ef89aa7dbce0, 0x866fda573555a3c7, 0x9bbedb37832b1742),
+    (0xdf998c11802830eb, 0x4b3a126161fdfc8b, 0xebcc84f165ec1108),
+    (0x17affc489a381390, 0xcde0162fab9d3c0d, 0x6c9db8172abdd929),
+    (0xac410f676ecde3a1, 0x2fa423522f5c5885, 0x29a7167ed9d83384),
+    (0xe722bf9632cf1ee6, 0x01b4d5b464d89f83, 0x271733ca89c934f0),
+    (0xf3109091a264d4c1, 0xc4cc01a0f823c061, 0xd592ca1495016528),
+    (0x64799be6b05ba0a7, 0x3f8c15a6956deee9, 0x430f30c13c3c9f9f),
+    (0x4d667554744e65f8, 0x33761e9cb4a22008, 0xf4f1f271cf5fe0ab),
+    (0x8e9fcf7d57eb3808, 0x8398552ee4b8fdda, 0x9aaac5dd69060800),
+    (0xa51b3fac9b81142f, 0xbd1534c2ff921ba3, 0x1792d1498f067745),
+    (0x5425718bbc29d146, 0x34e477f023ccb4aa, 0x12b8b48648778415),
+    (0xd5ba847a9df1d6d8, 0xa931281c3ad54d93, 0x2582e7d5a1308255),
+    (0xef2f9ca0ff88b8d7, 0x430b1dd1a0e4a646, 0x0985438fbb2d3c2e),
+    (0xf306f028178d563e, 0x5093983bcfe408ee, 0x639b3460b949e554),
+    (0x95981b031932e36a, 0x953b8e2e12dccc5e, 0x1097fda72739cd86),
+    (0x7dfdc9f1b1a6ad18, 0x151006ce0c567b89, 0x9360f488e00fedd6),
+    (0x679eb460bf201edb, 0x8f2c6a6317736222, 0x2087f7a39873b42a),
+    (0x8ff6cca14eddb1cc, 0x96bfea505c0bbbfe, 0x41c9938b2a38a8e0),
+    (0x32327599902bf6d2, 0xa5c4025391ed83ab, 0x87d170f7d346f2b4),
+    (0xbcefd9afc806d0e9, 0xf38b7310eb2eb512, 0x47c68903b83fd619),
+    (0x549454c6b8b1e7e9, 0xc5eb75e5c4b42908, 0xe38e2a81dab99c59),
+    (0xbac6a26c1a4f28c5, 0x7e8c0d4265887558, 0xeef52cf71c5159af),
+    (0x7b66cca53f7752af, 0x31e6c6a819c3c2ca, 0xa838d4dccad482d4),
+    (0x6cba11bad210c2b2, 0x78ab1da26c7ac1a7, 0xe7d68d0546165180),
+    (0x8b14f8a8b2a8a928, 0xba97bfb38d1ef133, 0xb9983587514ea76b),
+    (0xb6a79829162e1af6, 0x5583963b744c6af0, 0x90e343f4d7d9ade2),
+    (0x78012daa210a556e, 0x32d78d85efe09e32, 0x068041b34e26f6f7),
+    (0xa0bdec5d50340c8f, 0xc035030248dcaaae, 0xc0fcb6704a049655),
+    (0x586e608046d6dd8f, 0xe29cf9279049965d, 0xc1846b9c1fc935e7),
+    (0xf15b5c1cb17adae9, 0x3567f41e76f52e26, 0x3cd943de10939ba5),
+    (0xdd39b3a4066a244b, 0xa7f0b80fca5a5c5c, 0x971f176e13b4ab91),
+    (0x9da1c3bcd13ef129, 0x4c1b1e300d9c8754, 0xf3ac990297ce76c4),
+    (0xd8b42d82b174a35e, 0x6356b158b7d4c10b, 0x8811212b3f1d0033),
+    (0x4da8fca3e10b683b, 0x3e2296b0c20d3fe2, 0xa63952d8b1cfc6c5),
+    (0x493c5ad44acf3a04, 0x4f10678b286e2821, 0xfa7fffc64adb07d6),
+    (0xf56d993165afd761, 0xefa4a869f0bb8ff7, 0xf4f6379d873f34ea),
+];
+
+/// A block, and this enciphered under the key of zeros.
+const UNDER_THE_NULL_KEY: &[(u64, u64)] = &[
+    (0x0000000000000000, 0x8ca64de9c1b123a7),
+    (0x0000000000000001, 0x166b40b44aba4bd6),
+    (0x0000000000000002, 0x06e7ea22ce92708f),
+    (0x0000000000000003, 0x4eb190c9a2fa169c),
+    (0x0000000000000004, 0xd2fd8867d50d2dfe),
+    (0x0000000000000005, 0x70bb023c810ca87a),
+    (0x0000000000000006, 0xf098480ac4c4be71),
+    (0x0000000000000007, 0xfb8baaad918119b8),
+    (0x0000000000000008, 0xcc083f1e6d9e85f6),
+    (0x0000000000000009, 0x692bb9bf752b0f58),
+    (0x000000000000000a, 0x594764e1a2b2d98e),
+    (0x000000000000000b, 0xaefc44491cfe474c),
+    (0x000000000000000c, 0xd3748269b7058a0e),
+    (0x000000000000000d, 0x62dce203c602f358),
+    (0x000000000000000e, 0xacbfda0d70613fc4),
+    (0x000000000000000f, 0x6a8b56ed414942b8),
+    (0x0000000000000010, 0x5b711bc4ceebf2ee),
+    (0x0000000000000011, 0x799a09fb40df6019),
+    (0x0000000000000012, 0xaffa05c77cbe3c45),
+    (0x0000000000000013, 0xb4b0f64464d8426d),
+    (0x0000000000000014, 0x8b9f06ebafced45c),
+    (0x0000000000000015, 0x52cb7b1b31b2222e),
+    (0x0000000000000016, 0x8d6a621892afb854),
+    (0x0000000000000017, 0xb93a886167cc1dcb),
+    (0x0000000000000018, 0x1af5c17d37c71782),
+    (0x0000000000000039, 0xaf5152b8c8a3e08d),
+    (0x000000000000005a, 0x071269ebf826298b),
+    (0x000000000000007b, 0x1007a22a11d5ab77),
+    (0x000000000000009c, 0x6b5b13042fbb1d6c),
+    (0x00000000000000bd, 0xc4b9112dd39a7c21),
+    (0x00000000000000de, 0x33f4d627e50f4415),
+    (0x00000000000000ff, 0x254e882e6597f41d),
+    (0x0000000000000120, 0x35cb8497d88ff335),
+    (0x0000000000000141, 0x5191622de16b530e),
+    (0x0000000000000162, 0xbe5dd3e97beaa171),
+    (0x0000000000000183, 0x6596dbed942a50fb),
+    (0x00000000000001a4, 0x4ac0e377433e1141),
+    (0x00000000000001c5, 0xcafb224a9b8000b4),
+    (0x00000000000001e6, 0xe4ac412aac9ec48c),
+    (0x00000000000fffff, 0x2c4e07943fca0d03),
+    (0x001fffffffffffff, 0x358a928e341ba5d7),
+    (0x0000000000200000, 0x79e90dbc98f92cca),
+    (0x0040000000000000, 0x424250b37c3dd951),
+    (0x0000000000800001, 0x6319f07453da20c4),
+    (0x0100000000000001, 0xe77944f0354d50d6),
+    (0x00000000d9196ada, 0x78149c7a7eaff3cd),
+    (0xd163b764ae17584a, 0xb9173d3e8a59822c),
+    (0x000000003e0d36b7, 0xeee2ddbc69ff889f),
+    (0x0000000000000065, 0xedb77d7f8d6d9ab1),
+    (0x0000000000002d25, 0x79ebef5004c0fe31),
+    (0x0000000000004cf2, 0x372837bf798df0db),
+    (0x00000000000000c1, 0x15c6c7c1dec6ad19),
+    (0x3627b0ca0fda0caa, 0x3b956906fb9dc19d),
+    (0xd3c0a74a8baf4fff, 0x63074ff6d331c376),
+    (0x0000000082d8c192, 0x438a61547164e64a),
+    (0x000000000000af22, 0x83affc31c8170b14),
+    (0x0eb51c25362321e7, 0x23353996c5735315),
+    (0x58a00493d1ee228a, 0x9cdfbb1969457339),
+    (0x00000000000050b0, 0x5ed07af130281f44),
+    (0xa92553b4ea707266, 0x45144bf1bb5da9d5),
+    (0x00000000a8febe9b, 0x8da4d6e8333a6bb6),
+    (0x0000000000008ff0, 0x74b095f9b4d57b1a),
+    (0x00000000000000b5, 0x4a9e34464308842d),
+    (0x000000000000235e, 0x161d04e01f71a467),
+    (0x3cbcd38919fcd213, 0xe42445e314ed0598),
+    (0x000000000000dc28, 0x6a799671697c31e4),
+    (0x55e268abcb6d0353, 0xdebdb7e144382835),
+    (0xee0b47fac647fc9b, 0x310f74264b95bb6a),
+    (0xcf6ba6f7b6312279, 0x54e2cceabd138d3a),
+    (0x00000000000000cb, 0x207a71a1b89d9cc5),
+    (0x000000005c916911, 0xbf49e9ec72fdeaf8),
+    (0x000000003cf338f5, 0xe84f0dc2c9dcced5),
+    (0x00000000000019c7, 0x9fbc0b57f22dbc41),
+    (0x8fd5a6dcead48878, 0x5a10def62cc87847),
+    (0x00000000000000ac, 0xaa34655bf9694069),
+    (0x0538cd504b9e8a3f, 0x9f5fd9fef782bf71),
+    (0x0f10a71e7bd8937b, 0xfefad653d9cf0650),
+    (0x81a8de0c6a7028ac, 0x5b82ac0a63cd7d58),
+    (0x00000000198bb9c5, 0x12e3163137ea80f1),
+    (0x000000000000001d, 0xd296bfd39d97e832),
+    (0x52c99c22b8a67804, 0xa4eb62b53ae71316),
+    (0x00000000000038da, 0x60a5ff493df04d0a),
+];
+
+fn are_enciphered() -> bool {
+    for (key, block, wanted) in UNDER_KEYS {
+        if Cipher::new(*key).enciphered(*block) != *wanted {
+            return false;
+        }
+    }
+    true
+}
+
+fn are_enciphered_under_the_null_key(cipher: &Cipher) -> bool {
+    for (block, wanted) in UNDER_THE_NULL_KEY {
+        if cipher.enciphered(*block) != *wanted {
+            return false;
+        }
+    }
+    true
+}
+
+#[test]
+fn enciphers_under_a_key(rt: HostRuntime) {
+    assert!(rt; are_enciphered());
+}
+
+#[test]
+fn enciphers_under_the_null_key(rt: HostRuntime) {
+    assert!(rt; are_enciphered_under_the_null_key(&Cipher::of_null_key()));
+    assert!(rt; are_enciphered_under_the_null_key(&Cipher::new(0)));
+    // the last bit of each byte isn't used
+    assert!(rt; are_enciphered_under_the_null_key(&Cipher::new(0x0101_0101_0101_0101)));
+}

@@ -1,0 +1,4 @@
+pub mod NumberLaws
+pub mod CrcLaws
+pub mod EventLaws
+pub mod LogLaws

@@ -1,0 +1,5 @@
+pub mod Number
+pub mod Crc
+pub mod Event
+pub mod Log
+pub mod FaultNumber

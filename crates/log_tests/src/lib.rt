@@ -1,0 +1,9 @@
+//! Tests of the crates that read a server's binary log, over logs and values of a server.
+#![tactic(auto)]
+
+#[cfg(test)]
+mod events;
+#[cfg(test)]
+mod samples;
+#[cfg(test)]
+mod values;

@@ -1,0 +1,9 @@
+pub mod Digits
+pub mod Big
+pub mod Whole
+pub mod Moment
+pub mod Civil
+pub mod TimeOfDay
+pub mod Decimal
+pub mod Labels
+pub mod Value
