@@ -8,11 +8,12 @@ use Rattle.pk_copy.specs.KeyValue.{Part, KeyValue}
 use Rattle.serde_json.specs.Data.{Data, null, boolean, number, string, array, object, no_members, member, no_items, item, unsigned}
 use Rattle.serde_json.specs.View.{items_of}
 use Rattle.serde_json.specs.Written.{compact_text}
+use Rattle.shown_text.specs.Shown.{shown}
 use Rattle.source_feed.specs.Image.{ImageRows}
 use Rattle.source_feed.specs.Touches.{PreparedValue}
 use Rattle.feed_check.specs.Checked.{CheckedValue, touching, passing_groups, rows_of_table}
 use Rattle.feed_check.specs.Findings.{FindingValue}
-use Rattle.feed_check.specs.Report.{file_name, group_of, kind_text, part_cell, shown_statement, tables_of, why_text}
+use Rattle.feed_check.specs.Report.{file_name, group_of, kind_text, part_cell, tables_of, why_text}
 use Rattle.feed_check.specs.Shared.{SharedValue, shared_of}
 use Rattle.feed_check.specs.Skipped.{SkippedValue}
 use Rattle.workflow_check.specs.File.{notes_of}
@@ -58,7 +59,7 @@ abbrev pub skipped_data : SkippedValue → Data
 skipped_data event =
     object (
     member (codes "message") (count_data event.message)
-    (member (codes "statement") (string (shown_statement event.statement))
+    (member (codes "statement") (string (shown event.statement))
     (member (codes "type") (string (kind_text event.kind)) no_members))
     )
 

@@ -5,10 +5,9 @@ ghost use Rattle.serde_json.specs.View.{view};
 ghost use Rattle.check_said.specs.Json.{finding_data, list_data, skipped_data};
 
 use crate::json::{key_value, list_of, position_value};
-use feed_check::{
-    Checked, Finding, Skipped, group_of, kind_text, name_of_table, statement_text, why_text,
-};
+use feed_check::{Checked, Finding, Skipped, group_of, kind_text, name_of_table, why_text};
 use serde_json::{Value, json};
+use shown_text::shown;
 use std::alloc::{AllocError, Global};
 
 /// What is told of a change.
@@ -68,7 +67,7 @@ pub(crate) fn findings_value(
 fn event_value(alloc: Global, event: &Skipped<'_>) -> Result<Value, AllocError>
     ensures { IfOk result (λ made. view made ≡ skipped_data event.now) }
 {
-    let statement = Value::String(statement_text(alloc, event.statement())?);
+    let statement = Value::String(shown(alloc, event.statement())?);
     let message = event.message();
     let kind = kind_text(event.kind());
     json!(in alloc; {"message": message, "statement": statement, "type": kind})

@@ -1,5 +1,6 @@
--- The text of a check, stream by stream: lines of what there is, and behind them all warnings (this profile).
-use Rattle.std.specs.Prelude.{ℕ, zero, suc, ◌+◌, ◌-◌, ◌==◌, ◌&&◌, nat_le, is_some, map, if◌then◌else◌, List, [], ◌∷◌, ◌++◌, Bool, true, false, Option, Some, None, length, take, codes, decimal, slice_get, unwrap_or}
+-- The text of a check, stream by stream: lines of what there is, and behind them all warnings; names of files, shards and
+-- tables as they are shown (this profile).
+use Rattle.std.specs.Prelude.{ℕ, zero, suc, ◌+◌, ◌-◌, ◌==◌, is_some, map, if◌then◌else◌, List, [], ◌∷◌, ◌++◌, Bool, true, false, Option, Some, None, length, take, codes, decimal, slice_get, unwrap_or}
 use Rattle.std.specs.List.{after_first, filter, flat_map}
 use Rattle.hex.specs.Hex.{encode_lower}
 use Rattle.gtid_set.specs.Printed.{printed_position}
@@ -7,6 +8,7 @@ use Rattle.filter_rule.specs.PlanTable.{TableValue, name_of_table}
 use Rattle.filter_rule.specs.PlanValue.{PlanValue, table_of_name}
 use Rattle.pk_copy.specs.KeyValue.{Part}
 use Rattle.pk_copy.specs.Lastpk.{part_text}
+use Rattle.shown_text.specs.Shown.{shown}
 use Rattle.source_feed.specs.GroupValue.{Position}
 use Rattle.source_feed.specs.Touches.{PreparedValue}
 use Rattle.feed_check.specs.Checked.{CheckedValue, touching, passing_groups, rows_of_table}
@@ -47,7 +49,7 @@ file_name files i = unwrap_or (slice_get files i) []
 
 -- a stream: its number, its file, its shard, and how many groups its feed has
 abbrev pub stream_head : ℕ → List ℕ → CheckedValue → List ℕ
-stream_head i file check = codes "stream " ++ decimal i ++ codes " file " ++ file ++ codes " shard " ++ check.plan.shard ++ codes " groups " ++ decimal (length check.history)
+stream_head i file check = codes "stream " ++ decimal i ++ codes " file " ++ shown file ++ codes " shard " ++ shown check.plan.shard ++ codes " groups " ++ decimal (length check.history)
 
 -- behind that the positions of the first group and of the last
 abbrev pub stream_line : ℕ → List ℕ → CheckedValue → List ℕ
@@ -56,7 +58,7 @@ stream_line i file check = stream_head i file check ++ places_text check.history
 -- a table: how many groups touch it, how many put a row that passes the stream's filter, and how many such rows there
 -- are at the feed's end
 abbrev pub counts_line : List ℕ → ℕ → ℕ → ℕ → List ℕ
-counts_line name touching passing rows = codes "table " ++ name ++ codes " groups " ++ decimal touching ++ codes " passing " ++ decimal passing ++ codes " rows " ++ decimal rows ++ 10 ∷ []
+counts_line name touching passing rows = codes "table " ++ shown name ++ codes " groups " ++ decimal touching ++ codes " passing " ++ decimal passing ++ codes " rows " ++ decimal rows ++ 10 ∷ []
 
 -- a table of a stream
 abbrev pub checked_table_line : CheckedValue → ℕ → List ℕ → List ℕ
@@ -87,8 +89,8 @@ groups_warning i (suc n) = []
 
 -- no group touches a table; some do, and none puts a row that passes the filter
 abbrev pub table_warning : ℕ → List ℕ → ℕ → ℕ → List ℕ
-table_warning i name zero m = warning i (codes "table " ++ name ++ codes " untouched")
-table_warning i name (suc n) zero = warning i (codes "table " ++ name ++ codes " passes no row")
+table_warning i name zero m = warning i (codes "table " ++ shown name ++ codes " untouched")
+table_warning i name (suc n) zero = warning i (codes "table " ++ shown name ++ codes " passes no row")
 table_warning i name (suc n) (suc m) = []
 
 abbrev pub table_warnings : ℕ → CheckedValue → ℕ → List TableValue → List ℕ
@@ -107,19 +109,11 @@ start_warning i (Some group) = if is_start group.position then [] else warning i
 
 -- behind the first dot of a name, where that is a table's
 abbrev pub nearest_text : PlanValue → List ℕ → List ℕ
-nearest_text plan name = if is_some (table_of_name plan name) then codes " nearest " ++ name else []
+nearest_text plan name = if is_some (table_of_name plan name) then codes " nearest " ++ shown name else []
 
 -- a name in the feed that no table has
 abbrev pub name_warnings : ℕ → PlanValue → List (List ℕ) → List ℕ
-name_warnings i plan names = flat_map (λ name. warning i (codes "no table " ++ name ++ nearest_text plan (after_first (λ b. b == 46) name))) names
-
--- a byte as it is printed: one that isn't printable in ASCII as a question mark
-abbrev pub shown_byte : ℕ → ℕ
-shown_byte byte = if nat_le 32 byte && nat_le byte 126 then byte else 63
-
--- the first 200 bytes of a statement
-unfoldable pub shown_statement : List ℕ → List ℕ
-shown_statement statement = map shown_byte (take 200 statement)
+name_warnings i plan names = flat_map (λ name. warning i (codes "no table " ++ shown name ++ nearest_text plan (after_first (λ b. b == 46) name))) names
 
 -- the types of events by their names (`binlogdata.proto`, VEventType)
 unfoldable pub kind_text : ℕ → List ℕ
@@ -131,7 +125,7 @@ skipped_head event = codes "skipped message " ++ decimal event.message ++ codes 
 
 -- behind that its statement
 abbrev pub skipped_text : SkippedValue → List ℕ
-skipped_text event = skipped_head event ++ codes " " ++ shown_statement event.statement
+skipped_text event = skipped_head event ++ codes " " ++ shown event.statement
 
 -- how many events are passed over, if any
 abbrev pub skipped_count : ℕ → ℕ → List ℕ
@@ -170,7 +164,7 @@ finding_head found = why_text found.why ++ codes " group " ++ decimal found.grou
 
 -- behind that the table and the key
 abbrev pub keyed_text : List TableValue → FindingValue → List ℕ
-keyed_text tables found = finding_head found ++ codes " table " ++ name_of_table tables found.key.table ++ codes " key " ++ parts_text found.key.parts
+keyed_text tables found = finding_head found ++ codes " table " ++ shown (name_of_table tables found.key.table) ++ codes " key " ++ parts_text found.key.parts
 
 -- the group of a number, from 1
 abbrev pub group_of : List PreparedValue → ℕ → Option PreparedValue
@@ -222,7 +216,7 @@ shared_head shared = decimal shared.one ++ codes " and " ++ decimal shared.other
 
 -- behind that the table and the key that both touch
 abbrev pub shared_text : List TableValue → SharedValue → List ℕ
-shared_text tables shared = shared_head shared ++ codes " table " ++ name_of_table tables shared.key.table ++ codes " key " ++ parts_text shared.key.parts
+shared_text tables shared = shared_head shared ++ codes " table " ++ shown (name_of_table tables shared.key.table) ++ codes " key " ++ parts_text shared.key.parts
 
 -- and the end of the line
 abbrev pub ended : List ℕ → List ℕ

@@ -1,20 +1,19 @@
 //! The warnings of a feed by itself, as text: where it starts, names of no table, events that are passed over.
 
-ghost use Rattle.std.specs.Prelude.{◌≡◌, ◌==◌, ◌<◌, ◌++◌, OnOk, IfOk, codes, decimal, map, take};
+ghost use Rattle.std.specs.Prelude.{◌≡◌, ◌==◌, ◌++◌, OnOk, IfOk, codes, decimal, map, take};
 ghost use Rattle.std.specs.Option.{option_copied};
 ghost use Rattle.std.specs.List.{after_first};
 ghost use Rattle.std.specs.String.{string_bytes};
-ghost use Rattle.feed_check.specs.Report.{is_start, kind_text, name_warnings, nearest_text, shown_statement, shown_byte, skipped_count, skipped_head, skipped_lines, skipped_text, skipped_warnings, start_warning};
+ghost use Rattle.shown_text.specs.Shown as said;
+ghost use Rattle.feed_check.specs.Report.{is_start, kind_text, name_warnings, nearest_text, skipped_count, skipped_head, skipped_lines, skipped_text, skipped_warnings, start_warning};
 
 use crate::skipped::Skipped;
 use crate::warnings::{TOLD, push_warning};
 use filter_rule::Plan;
 use gtid_set::GtidSet;
+use shown_text::shown;
 use source_feed::Prepared;
 use std::alloc::{AllocError, Global};
-
-/// How many bytes of a statement are told.
-const STATEMENT: usize = 200;
 
 /// Whether a position is the first of its source.
 fn is_start(position: &GtidSet) -> bool
@@ -63,15 +62,17 @@ fn nearest_text(alloc: Global, plan: &Plan, name: &str) -> Result<String, AllocE
     if plan.table(name).is_none() {
         return Ok(String::new(alloc));
     }
+    let name = shown(alloc, name.as_bytes())?;
     let text = format!(in alloc; " nearest {name}")?;
     Ok(text)
 }
 
 /// A name that no table has, and the nearest one.
 fn name_text(alloc: Global, plan: &Plan, name: &str) -> Result<String, AllocError>
-    ensures { IfOk result (λ text. string_bytes text ≡ codes "no table " ++ name.now ++ nearest_text plan.now (after_first (λ b. b == 46) name.now)) }
+    ensures { IfOk result (λ text. string_bytes text ≡ codes "no table " ++ said.shown name.now ++ nearest_text plan.now (after_first (λ b. b == 46) name.now)) }
 {
     let nearest = nearest_text(alloc, plan, behind_dot(name))?;
+    let name = shown(alloc, name.as_bytes())?;
     let text = format!(in alloc; "no table {name}{nearest}")?;
     Ok(text)
 }
@@ -91,46 +92,6 @@ pub(crate) fn push_name_warnings(
         push_warning(alloc, i, &warned, text)?;
     }
     Ok(())
-}
-
-/// A byte as it is printed.
-fn shown_byte(byte: u8) -> u8
-    ensures value { result ≡ shown_byte byte }
-    ensures ascii { result < 128 }
-{
-    if byte >= 32 && byte <= 126 {
-        byte
-    } else {
-        b'?'
-    }
-}
-
-/// Puts bytes as they are printed behind a text.
-fn push_shown(bytes: &[u8], text: &mut String) -> Result<(), AllocError>
-    ensures { OnOk result (string_bytes text.new ≡ string_bytes text.old ++ map shown_byte bytes.now) }
-{
-    for byte in bytes {
-        text.push(char::from(shown_byte(*byte)))?;
-    }
-    Ok(())
-}
-
-/// At most so many of the first bytes.
-#[tactic(auto, using(list_laws::proofs::Fronts::front_within))]
-fn front(bytes: &[u8], most: usize) -> &[u8]
-    ensures { result.now ≡ take most bytes.now }
-{
-    &bytes[..bytes.len().min(most)]
-}
-
-/// The beginning of a statement, printable. An error is want of memory.
-#[tactic(auto, unfolding(crate::specs::Report::shown_statement))]
-pub fn statement_text(alloc: Global, statement: &[u8]) -> Result<String, AllocError>
-    ensures { IfOk result (λ text. string_bytes text ≡ shown_statement statement.now) }
-{
-    let mut text = String::new(alloc);
-    push_shown(front(statement, STATEMENT), &mut text)?;
-    Ok(text)
 }
 
 /// The name of the type of an event that is passed over.
@@ -169,7 +130,7 @@ fn skipped_text(alloc: Global, event: &Skipped<'_>) -> Result<String, AllocError
     ensures { IfOk result (λ text. string_bytes text ≡ skipped_text event.now) }
 {
     let mut text = skipped_head(alloc, event)?;
-    let statement = statement_text(alloc, event.statement())?;
+    let statement = shown(alloc, event.statement())?;
     text.push_str(" ")?;
     text.push_str(&statement)?;
     Ok(text)

@@ -23,7 +23,7 @@ mod warnings;
 
 pub use before_images::findings_of;
 pub use checked::{Checked, check_feed, check_feeds};
-pub use feed_warnings::{behind_dot, kind_text, statement_text};
+pub use feed_warnings::{behind_dot, kind_text};
 pub use finding::{Doubt, Finding};
 pub use key_text::part_text;
 pub use last_rows::rows_of_table;

@@ -11,6 +11,7 @@ use crate::shared::shared_of;
 use crate::shared_warning::push_shared_warning;
 use crate::warnings::push_stream_warnings;
 use filter_rule::Table;
+use shown_text::shown;
 use std::alloc::{AllocError, Global};
 use std::marker::Model;
 
@@ -100,7 +101,8 @@ fn stream_head(
 ) -> Result<String, AllocError>
     ensures { IfOk result (λ text. string_bytes text ≡ stream_head i file.now check.now) }
 {
-    let shard = check.shard();
+    let file = shown(alloc, file.as_bytes())?;
+    let shard = shown(alloc, check.shard().as_bytes())?;
     let groups = check.len();
     let text = format!(in alloc; "stream {i} file {file} shard {shard} groups {groups}")?;
     Ok(text)
@@ -132,6 +134,7 @@ fn table_line(
 ) -> Result<String, AllocError>
     ensures { IfOk result (λ text. string_bytes text ≡ counts_line name.now touching passing rows) }
 {
+    let name = shown(alloc, name.as_bytes())?;
     let line = format!(in alloc; "table {name} groups {touching} passing {passing} rows {rows}\n")?;
     Ok(line)
 }

@@ -9,6 +9,7 @@ use crate::key_text::key_text;
 use crate::shared::SharedKey;
 use crate::warnings::name_of_table;
 use filter_rule::Table;
+use shown_text::shown;
 use std::alloc::{AllocError, Global};
 
 /// The two streams.
@@ -30,7 +31,10 @@ fn shared_text(
     ensures { IfOk result (λ text. string_bytes text ≡ shared_text tables.now shared.now) }
 {
     let head = shared_head(alloc, shared)?;
-    let name = name_of_table(tables, shared.key().table());
+    let name = shown(
+        alloc,
+        name_of_table(tables, shared.key().table()).as_bytes(),
+    )?;
     let key = key_text(alloc, shared.key())?;
     let text = format!(in alloc; "{head} table {name} key {key}")?;
     Ok(text)

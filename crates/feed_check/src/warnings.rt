@@ -12,6 +12,7 @@ use crate::finding::{Doubt, Finding};
 use crate::key_text::key_text;
 use crate::places::place_text;
 use filter_rule::Table;
+use shown_text::shown;
 use source_feed::Prepared;
 use std::alloc::{AllocError, Global};
 
@@ -69,9 +70,11 @@ fn push_table_warning(
     ensures { OnOk result (string_bytes text.new ≡ string_bytes text.old ++ table_warning i name.now touching passing) }
 {
     if touching == 0 {
+        let name = shown(alloc, name.as_bytes())?;
         let warned = format!(in alloc; "table {name} untouched")?;
         push_warning(alloc, i, &warned, text)?;
     } else if passing == 0 {
+        let name = shown(alloc, name.as_bytes())?;
         let warned = format!(in alloc; "table {name} passes no row")?;
         push_warning(alloc, i, &warned, text)?;
     }
@@ -187,7 +190,7 @@ fn keyed_text(alloc: Global, tables: &[Table], found: &Finding<'_>) -> Result<St
     ensures { IfOk result (λ text. string_bytes text ≡ keyed_text tables.now found.now) }
 {
     let head = finding_head(alloc, found)?;
-    let name = name_of_table(tables, found.key().table());
+    let name = shown(alloc, name_of_table(tables, found.key().table()).as_bytes())?;
     let key = key_text(alloc, found.key())?;
     let text = format!(in alloc; "{head} table {name} key {key}")?;
     Ok(text)

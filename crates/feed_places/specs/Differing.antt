@@ -7,6 +7,7 @@ use Rattle.row_view.specs.FieldValue.{FieldValue}
 use Rattle.vevent.specs.EventValue.{EventValue, Field}
 use Rattle.vevent.specs.Response.{response_of}
 use Rattle.filter_rule.specs.PlanTable.{TableValue}
+use Rattle.shown_text.specs.Shown.{shown}
 use Rattle.filter_rule.specs.PlanValue.{PlanValue, columns_of, table_of_name}
 use Rattle.source_feed.specs.Planned.{same_column, source_of}
 use Rattle.source_feed.specs.SourceValue.{table_in_source}
@@ -55,25 +56,25 @@ abbrev pub first_message : PlanValue → ℕ → List (List ℕ) → Option (ℕ
 first_message plan i [] = None
 first_message plan i (message ∷ messages) = or_else (option_map (λ found. (i, found)) (first_event plan (response_of message).items)) (first_message plan (i + 1) messages)
 
--- ---- in words
+-- ---- in words, names as they are shown
 
 -- a column of the feed beside that of the workflow
 abbrev pub other_text : FieldValue → FieldValue → List ℕ
 other_text column field =
     if bytes_eq column.name field.name
-    then codes "column " ++ column.name ++ codes " type " ++ decimal field.type_number ++ codes " wanted " ++ decimal column.type_number
-    else codes "column " ++ field.name ++ codes " wanted " ++ column.name
+    then codes "column " ++ shown column.name ++ codes " type " ++ decimal field.type_number ++ codes " wanted " ++ decimal column.type_number
+    else codes "column " ++ shown field.name ++ codes " wanted " ++ shown column.name
 
 -- what the feed has in a column's place, and what the workflow has there
 abbrev pub column_text : Option FieldValue → Option FieldValue → List ℕ
 column_text (Some column) (Some field) = other_text column field
-column_text (Some column) None = codes "column " ++ column.name ++ codes " missing"
-column_text None (Some field) = codes "column " ++ field.name ++ codes " unwanted"
+column_text (Some column) None = codes "column " ++ shown column.name ++ codes " missing"
+column_text None (Some field) = codes "column " ++ shown field.name ++ codes " unwanted"
 column_text None None = []
 
 -- the table and the column in which a FIELD differs
 abbrev pub table_text : DifferingValue → TableValue → List ℕ
-table_text d table = codes "table " ++ table.name ++ codes " " ++ column_text (slice_get table.columns d.place) d.said
+table_text d table = codes "table " ++ shown table.name ++ codes " " ++ column_text (slice_get table.columns d.place) d.said
 
 abbrev pub differing_text : PlanValue → DifferingValue → List ℕ
 differing_text plan d = option_map_or (table_text d) (slice_get plan.tables d.table) []

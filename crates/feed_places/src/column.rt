@@ -1,6 +1,6 @@
 //! The column in which a FIELD event differs, in words.
 
-ghost use Rattle.std.specs.Prelude.{◌≡◌, IfOk, Some, None, slice_get};
+ghost use Rattle.std.specs.Prelude.{◌≡◌, ◌++◌, IfOk, Some, None, codes, decimal, slice_get};
 ghost use Rattle.std.specs.Option.{option_map};
 ghost use Rattle.std.specs.String.{string_bytes};
 ghost use Rattle.vevent.specs.ColumnView.{field_value};
@@ -8,8 +8,17 @@ ghost use Rattle.feed_places.specs.Differing.{other_text, column_text, table_tex
 
 use crate::field::Differing;
 use filter_rule::{ColumnDef, Plan, Table};
+use shown_text::shown;
 use std::alloc::{AllocError, Global};
 use vevent::ColumnField;
+
+/// A column of the feed that has another type than that of the workflow.
+fn type_text(alloc: Global, name: &str, said: u64, wanted: u32) -> Result<String, AllocError>
+    ensures { IfOk result (λ text. string_bytes text ≡ codes "column " ++ name.now ++ codes " type " ++ decimal said ++ codes " wanted " ++ decimal wanted) }
+{
+    let text = format!(in alloc; "column {name} type {said} wanted {wanted}")?;
+    Ok(text)
+}
 
 /// A column of the feed beside that of the workflow.
 fn other_text(
@@ -19,16 +28,14 @@ fn other_text(
 ) -> Result<String, AllocError>
     ensures { IfOk result (λ text. string_bytes text ≡ other_text column.now (field_value field.now)) }
 {
-    let name = column.name();
-    let said = field.name;
-    let said_type = field.type_number;
-    let type_number = column.type_number();
-    let text = if name == said {
-        format!(in alloc; "column {name} type {said_type} wanted {type_number}")?
+    let name = shown(alloc, column.name().as_bytes())?;
+    if column.name() == field.name {
+        type_text(alloc, &name, field.type_number, column.type_number())
     } else {
-        format!(in alloc; "column {said} wanted {name}")?
-    };
-    Ok(text)
+        let said = shown(alloc, field.name.as_bytes())?;
+        let text = format!(in alloc; "column {said} wanted {name}")?;
+        Ok(text)
+    }
 }
 
 /// What the feed has in the place of a column of the workflow, if it has something there.
@@ -42,7 +49,7 @@ fn beside_text(
     match field {
         Some(field) => other_text(alloc, column, &field),
         None => {
-            let name = column.name();
+            let name = shown(alloc, column.name().as_bytes())?;
             let text = format!(in alloc; "column {name} missing")?;
             Ok(text)
         }
@@ -55,7 +62,7 @@ fn unwanted_text(alloc: Global, field: Option<ColumnField<'_>>) -> Result<String
 {
     match field {
         Some(field) => {
-            let said = field.name;
+            let said = shown(alloc, field.name.as_bytes())?;
             let text = format!(in alloc; "column {said} unwanted")?;
             Ok(text)
         }
@@ -81,7 +88,7 @@ fn column_text(
 fn table_text(alloc: Global, table: &Table, found: &Differing<'_>) -> Result<String, AllocError>
     ensures { IfOk result (λ text. string_bytes text ≡ table_text (differing_value found.now) table.now) }
 {
-    let name = table.name();
+    let name = shown(alloc, table.name().as_bytes())?;
     let column = column_text(alloc, table.columns(), found)?;
     let text = format!(in alloc; "table {name} {column}")?;
     Ok(text)

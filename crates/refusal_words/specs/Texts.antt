@@ -8,7 +8,7 @@ use Rattle.refusal_words.specs.declared.workflow.TheConstants.{NOT_JSON, SHAPE, 
 use Rattle.refusal_words.specs.declared.target.TheConstants.{OTHER_ROW, MEMORY}
 use Rattle.refusal_words.specs.declared.feed.TheConstants.{CUT_MESSAGE, BAD_EVENT, NO_POSITION, DIVERGES, FIELDS_DIFFER, NO_FIELDS, ROW_WIDTH, OPEN_AT_END, OTHER_SHARD, BAD_ROW, NO_GROUP, MISPLACED, NOT_HEX, BAD_POSITION, LONG_FEED}
 use Rattle.refusal_words.specs.declared.steps.TheConstants.{GAP, NOTHING_READ, SNAPSHOT_REACHED, NOT_COPYING, SNAPSHOT_OPEN, SNAPSHOT_BEHIND, SNAPSHOT_NOT_READ, NO_SNAPSHOT, NOT_REACHED, OTHER_PLAN, OTHER_GROUP, OTHER_HISTORY, NO_STREAM}
-use Rattle.refusal_words.specs.declared.files.TheConstants.{BAD_CHECKPOINT, OTHER_ROWS, UNKNOWN_POSITION, FEED_COUNT, BAD_SCRIPT, BAD_DUMP, CANNOT_READ, CANNOT_WRITE}
+use Rattle.refusal_words.specs.declared.files.TheConstants.{BAD_CHECKPOINT, OTHER_ROWS, UNKNOWN_POSITION, FEED_COUNT, BAD_SCRIPT, BAD_DUMP, CHANGED, CANNOT_READ, CANNOT_WRITE}
 
 -- the text that stands beside a number
 abbrev pub text_among : List (ℕ × List ℕ) → ℕ → Option (List ℕ)
@@ -114,6 +114,7 @@ files_texts =
     (119, FEED_COUNT.now) ∷
     (120, BAD_SCRIPT.now) ∷
     (121, BAD_DUMP.now) ∷
+    (129, CHANGED.now) ∷
     (131, CANNOT_READ.now) ∷
     (132, CANNOT_WRITE.now) ∷
     []

@@ -14,6 +14,7 @@ pub(crate) fn text_of(number: u64) -> Option<&'static str>
         119 => Some(FEED_COUNT),
         120 => Some(BAD_SCRIPT),
         121 => Some(BAD_DUMP),
+        129 => Some(CHANGED),
         131 => Some(CANNOT_READ),
         132 => Some(CANNOT_WRITE),
         _ => None,
@@ -26,8 +27,9 @@ pub const BAD_CHECKPOINT: &str = "\
 The bytes are no checkpoint of this workflow: cut, changed, or of another one.
 Usual causes: a checkpoint that was being written when the machine stopped; a
 changed workflow: its shards, tables, columns or keys; another file.
-What to do: take the checkpoint before it, or begin without one. Write a
-checkpoint beside the old one and rename it when the status is 0.
+What to do: take the checkpoint before it, or begin without one. Have
+checkpoints written by --save-to, which replaces a file as a whole or not at
+all.
 ";
 
 pub const OTHER_ROWS: &str = "\
@@ -84,6 +86,18 @@ What to do: print a dump with `vrepl run`, or with record/select, which orders
 by bytes. docs/FORMATS.md has the form.
 ";
 
+pub const CHANGED: &str = "\
+129  a file changed before it could be replaced
+
+The file of --save-to isn't the one that was there when the call began: another
+call replaced it, wrote to it or took it away meanwhile, or is about to. It is
+as that call left it. The line has its name.
+Usual causes: two calls on one checkpoint at a time, as of a night's job that
+wasn't done when the next began.
+What to do: let the other call end, and run the command again if it is still
+needed: it goes on from what is there then.
+";
+
 pub const CANNOT_READ: &str = "\
 131  a file can't be read
 
@@ -94,10 +108,12 @@ What to do: `ls -l FILE`.
 ";
 
 pub const CANNOT_WRITE: &str = "\
-132  standard output can't be written
+132  a file or standard output can't be written
 
-Standard output can't be written.
-Usual causes: a full disk, a closed pipe, as of `| head`.
-What to do: what was printed is a beginning and not the whole: throw it away,
-make room, and run the command again.
+The file of --save-to, or standard output as `-`, can't be written.
+Usual causes: a full disk, no right to write in the file's folder, a closed
+pipe, as of `| head`.
+What to do: make room, and run the command again. The file of --save-to is what
+it was. What was printed on standard output is a beginning and not the whole:
+throw it away.
 ";

@@ -69,6 +69,7 @@ pub const LIST: &str = "\
 119  there aren't as many feeds as streams
 120  a line of the script is no step
 121  a line of a dump can't stand there
+129  a file changed before it could be replaced
 131  a file can't be read
-132  standard output can't be written
+132  a file or standard output can't be written
 ";

@@ -1,5 +1,5 @@
 -- What the commands leave that print what their inputs make, each by its own words.
-use Rattle.std.specs.Prelude.{◌≡◌, ℕ, ◌∷◌, ◌++◌, [], map}
+use Rattle.std.specs.Prelude.{◌≡◌, ℕ, None, ◌∷◌, ◌++◌, [], map}
 use Rattle.vdiff_core.specs.Printing.{Written}
 use Rattle.vrepl_main.specs.Inputs.{IsUnread, IsUnreadAmong}
 use Rattle.vrepl_main.specs.Running.{opened_asked, RunEnds}
@@ -21,14 +21,14 @@ use Rattle.vrepl_main.specs.ResumedRun.{ResumeEnds}
 use Rattle.vrepl_main.specs.SavedBoard.{SaveEnds}
 use Rattle.vrepl.specs.Checked.{ReportEnds}
 
--- the command prints what its inputs make and does no more
+-- the command prints what its inputs make and does no more: it puts nothing into a file
 abbrev pub IsAnswering : Words → Type 0
 IsAnswering (ways.Show words) = Unit {0}
 IsAnswering (ways.Step words) = Unit {0}
 IsAnswering (ways.Run words) = Unit {0}
-IsAnswering (ways.Save words) = Unit {0}
+IsAnswering (ways.Save words) = words.save_to ≡ None
 IsAnswering (ways.Resume words) = Unit {0}
-IsAnswering (ways.Join words) = Unit {0}
+IsAnswering (ways.Join words) = words.save_to ≡ None
 IsAnswering (ways.Vdiff words) = Unit {0}
 IsAnswering (ways.Check words) = Unit {0}
 IsAnswering words = ⊥
@@ -43,7 +43,7 @@ abbrev pub IsAskedBy : Words → Asked → Type 0
 IsAskedBy (ways.Show words) (asked.Show of feed) = of.now ≡ words
 IsAskedBy (ways.Step words) (asked.Step inputs) = inputs.feed_form ≡ words.feed_form
 IsAskedBy (ways.Run words) (asked.Run inputs) = IsCourseOf words inputs.course × (inputs.feed_form ≡ words.feed_form)
-IsAskedBy (ways.Save words) (asked.Save inputs) = inputs.feed_form ≡ words.feed_form
+IsAskedBy (ways.Save words) (asked.Save inputs) = inputs.feed_form ≡ words.step.feed_form
 IsAskedBy (ways.Resume words) (asked.Resume inputs) = inputs.step.feed_form ≡ words.step.feed_form
 IsAskedBy (ways.Join words) (asked.Join inputs) = inputs.feed_form ≡ words.feed_form
 IsAskedBy (ways.Vdiff words) (asked.Vdiff inputs) = IsVdiffAsked words inputs
@@ -55,7 +55,7 @@ abbrev pub IsUnreadFor : Words → CommandRefusal → Type 0
 IsUnreadFor (ways.Show words) = IsUnread words.feed.now
 IsUnreadFor (ways.Step words) = IsUnreadAmong (File words.workflow ∷ (map File words.feeds.items ++ Standard ∷ []))
 IsUnreadFor (ways.Run words) = IsUnreadAmong (File words.workflow ∷ map File words.feeds.items)
-IsUnreadFor (ways.Save words) = IsUnreadAmong (File words.workflow ∷ (map File words.feeds.items ++ Standard ∷ []))
+IsUnreadFor (ways.Save words) = IsUnreadAmong (File words.step.workflow ∷ (map File words.step.feeds.items ++ Standard ∷ []))
 IsUnreadFor (ways.Resume words) = IsUnreadAmong (File words.checkpoint ∷ File words.step.workflow ∷ (map File words.step.feeds.items ++ Standard ∷ []))
 IsUnreadFor (ways.Join words) = IsUnreadAmong (File words.workflow ∷ File words.one ∷ File words.other ∷ (map File words.more.items ++ map File words.feeds.items))
 IsUnreadFor (ways.Vdiff words) = IsUnreadAmong (File words.workflow ∷ File words.source ∷ File words.target ∷ [])

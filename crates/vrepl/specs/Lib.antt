@@ -2,3 +2,4 @@ pub mod Answered
 pub mod Asked
 pub mod Checked
 pub mod Compared
+pub mod Kept

@@ -92,7 +92,8 @@ fn read_asked<'a, 'w>(
             Ok(Asked::Run(inputs))
         }
         Words::Save(words) => {
-            let inputs = read_step(rt, words.feed_form, words.workflow, &words.feeds)?;
+            let step = &words.step;
+            let inputs = read_step(rt, step.feed_form, step.workflow, &step.feeds)?;
             Ok(Asked::Save(inputs))
         }
         Words::Resume(words) => {
@@ -112,7 +113,7 @@ fn read_asked<'a, 'w>(
 }
 
 /// The files that the words of `join` name.
-fn files_of<'n, 'w>(words: &'n Join<'w>) -> JoinFiles<'n, 'w>
+pub(crate) fn files_of<'n, 'w>(words: &'n Join<'w>) -> JoinFiles<'n, 'w>
     ensures workflow { result.workflow ≡ words.entry.now.workflow }
     ensures checkpoints { (result.one ≡ words.entry.now.one) × (result.other ≡ words.entry.now.other) × (result.more.now ≡ words.entry.now.more.items) }
     ensures feeds { result.feeds.now ≡ words.entry.now.feeds.items }

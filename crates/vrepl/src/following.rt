@@ -3,40 +3,51 @@
 ghost use Rattle.std.specs.Prelude.{◌≤◌, IfOk};
 
 use crate::course_of;
+use crate::keeping::{Keeping, keep, place_of};
 use crate::reporting::Reporter;
+use kept_file::Place;
 use std::alloc::Global;
 use std::sync::Wait;
 use std::thread::Threads;
 use vdiff_core::Writer;
 use vrepl_main::{
     CommandRefusal, FollowInputs, Followed, InputName, Progress, Unfollowed, Untold, follow,
-    follow_only, given_feeds, keep_file, read_input, read_run, refuse_unfollowed,
+    follow_only, given_feeds, read_input, read_run, refuse_unfollowed,
 };
 use vrepl_words::words::Follow;
 
+/// The file behind standard output, where the system has names for such.
+const STANDARD_OUTPUT: &str = "/dev/stdout";
+
 /// Moves the checkpoint that the words name, or none, on to the feeds' ends, and puts the new one into the file that
-/// they name; then prints the rows where they ask for them. The files are read in this order: the checkpoint, the
-/// workflow, the feeds.
+/// they name, which is looked at before any is read; then prints the rows where they ask for them. The files are read in
+/// this order: the checkpoint, the workflow, the feeds.
 pub(crate) fn run_follow<'w, T: Threads + Wait + Sync>(
     rt: &HostRuntime,
     threads: &T,
     words: &Follow<'w>,
 ) -> Result<u8, CommandRefusal<'w>>
-    ensures status { IfOk result (λ status. status ≤ 1) }
+    ensures status { IfOk result (λ status. status ≤ 2) }
 {
-    if words.run.progress {
-        let reporter = Reporter::new(rt, words.run.feeds.len())?;
-        follow_read(rt, threads, words, &reporter)
+    let run = &words.run;
+    let others = &[STANDARD_OUTPUT];
+    let Keeping::In(place) = place_of(rt, words.save_to, run.workflow, &run.feeds, others)? else {
+        return Ok(2);
+    };
+    if run.progress {
+        let reporter = Reporter::new(rt, run.feeds.len())?;
+        follow_read(rt, threads, words, &place, &reporter)
     } else {
-        follow_read(rt, threads, words, &Untold)
+        follow_read(rt, threads, words, &place, &Untold)
     }
 }
 
-/// The same; in threads the gate is told of each group on its way.
+/// The same with the place of that file; in threads the gate is told of each group on its way.
 fn follow_read<'w, T: Threads + Wait + Sync, G: Progress + Sync>(
     rt: &HostRuntime,
     threads: &T,
     words: &Follow<'w>,
+    place: &Place,
     gate: &G,
 ) -> Result<u8, CommandRefusal<'w>>
     ensures status { IfOk result (λ status. status ≤ 1) }
@@ -52,7 +63,7 @@ fn follow_read<'w, T: Threads + Wait + Sync, G: Progress + Sync>(
         feeds: &given,
     };
     match moved_on(threads, rt.alloc(), words, &inputs, gate) {
-        Ok(followed) => keep(rt, words, &followed),
+        Ok(followed) => keep_followed(rt, words, place, &followed),
         Err(unfollowed) => Ok(refuse_unfollowed(&mut Writer::new(rt.stderr()), unfollowed)),
     }
 }
@@ -85,15 +96,16 @@ fn moved_on<'h, T: Threads + Wait + Sync, G: Progress + Sync>(
     }
 }
 
-/// Puts the new checkpoint into the file that the words name, and prints the rows where they ask for them.
-fn keep<'w>(
+/// Puts the new checkpoint in its place, and prints the rows where the words ask for them.
+fn keep_followed<'w>(
     rt: &HostRuntime,
     words: &Follow<'w>,
+    place: &Place,
     followed: &Followed<'_>,
 ) -> Result<u8, CommandRefusal<'w>>
     ensures status { IfOk result (λ status. status ≤ 1) }
 {
-    keep_file(rt, words.save_to, &followed.checkpoint)?;
+    keep(rt, place, words.save_to, &followed.checkpoint)?;
     if words.dump {
         followed.write_dump(&mut Writer::new(rt.stdout()))?;
     }

@@ -3,6 +3,7 @@
 use crate::inputs::CheckInputs;
 use feed_places::place_of;
 use filter_rule::{Plan, PlanFault};
+use shown_text::shown;
 use source_feed::{Feed, FeedFault};
 use std::alloc::{AllocError, Global};
 use std::sync::Arc;
@@ -25,6 +26,7 @@ fn stream_place(
     file: &str,
     place: &str,
 ) -> Result<Option<String>, AllocError> {
+    let file = shown(alloc, file.as_bytes())?;
     let text = format!(in alloc; "stream {i} file {file} {place}")?;
     Ok(Some(text))
 }

@@ -11,7 +11,7 @@ use Rattle.vrepl_main.specs.Command.{BreaksOffIn, PrintsWhole, RefusesCommand, I
 use Rattle.vrepl_main.specs.RefusalOf.{refusal_of_feed}
 use Rattle.vrepl_main.specs.Show.{shown_groups}
 use Rattle.vrepl_main.specs.declared.refusal.CommandRefusal.{CommandRefusal}
-use Rattle.vrepl_main.specs.declared.refusal.CommandRefusal.TheVariants.{Memory, Workflow, NoStream, FeedCount, Feed, BadHex, BadScript, BadDump, CannotRead, CannotWrite}
+use Rattle.vrepl_main.specs.declared.refusal.CommandRefusal.TheVariants.{Memory, Workflow, NoStream, FeedCount, Feed, BadHex, BadScript, BadDump, Changed, CannotRead, CannotWrite}
 
 -- ---- how a command ends
 
@@ -60,6 +60,7 @@ module _ {X : Type 0} (IsText : X → List ℕ → Type 0) (refusal : CommandRef
       by Memory is = (tt, refl)
       by (Workflow fault) is = (is, refl)
       by NoStream is = (is, refl)
+      by (Changed file) is = (is, refl)
       by FeedCount is = (is, refl)
       by (Feed fault) is = (is, refl)
       by BadHex is = (is, refl)
@@ -77,6 +78,7 @@ module _ {X : Type 0} (IsText : X → List ℕ → Type 0) (refusal : CommandRef
       by Memory unwritten = absurd unwritten
       by (Workflow fault) unwritten = absurd unwritten
       by NoStream unwritten = absurd unwritten
+      by (Changed file) unwritten = absurd unwritten
       by FeedCount unwritten = absurd unwritten
       by (Feed fault) unwritten = absurd unwritten
       by BadHex unwritten = absurd unwritten

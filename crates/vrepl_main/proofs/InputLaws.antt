@@ -8,7 +8,7 @@ use Rattle.vrepl_main.specs.Inputs.{input_name, IsUnread, IsUnreadAmong}
 use Rattle.vrepl_main.specs.declared.input.InputName.{InputName}
 use Rattle.vrepl_main.specs.declared.input.InputName.TheVariants.{Standard}
 use Rattle.vrepl_main.specs.declared.refusal.CommandRefusal.{CommandRefusal}
-use Rattle.vrepl_main.specs.declared.refusal.CommandRefusal.TheVariants.{Memory, Workflow, NoStream, FeedCount, Feed, BadHex, BadScript, BadDump, CannotRead, CannotWrite}
+use Rattle.vrepl_main.specs.declared.refusal.CommandRefusal.TheVariants.{Memory, Workflow, NoStream, FeedCount, Feed, BadHex, BadScript, BadDump, Changed, CannotRead, CannotWrite}
 
 -- a read that finds the end shows that the bytes are all that was left
 pub whole : (old mid new : Option (List ℕ)) (bytes piece : List ℕ) (n : ℕ) → n ≡ 0 → Consumes old mid bytes → Consumes mid new (take n piece) → IsAtEnd new → IfSome old (λ left. bytes ≡ left)
@@ -30,6 +30,7 @@ unread_among names i Memory within unread = tt
 unread_among names i (CannotRead file) within unread = (i, within, unread)
 unread_among names i (Workflow fault) within unread = absurd unread
 unread_among names i NoStream within unread = absurd unread
+unread_among names i (Changed file) within unread = absurd unread
 unread_among names i FeedCount within unread = absurd unread
 unread_among names i (Feed fault) within unread = absurd unread
 unread_among names i BadHex within unread = absurd unread
@@ -53,6 +54,7 @@ unread_later name others Memory unread = tt
 unread_later name others (CannotRead file) (i, within, is) = (suc i, omega (arith, within), is)
 unread_later name others (Workflow fault) unread = absurd unread
 unread_later name others NoStream unread = absurd unread
+unread_later name others (Changed file) unread = absurd unread
 unread_later name others FeedCount unread = absurd unread
 unread_later name others (Feed fault) unread = absurd unread
 unread_later name others BadHex unread = absurd unread
@@ -73,6 +75,7 @@ unread_before some others (CannotRead file) (i, within, is) =
     (i, omega (arith, within, least), is ∙ ap input_name (sym (get_or_append_left some others Standard i within)))
 unread_before some others (Workflow fault) unread = absurd unread
 unread_before some others NoStream unread = absurd unread
+unread_before some others (Changed file) unread = absurd unread
 unread_before some others FeedCount unread = absurd unread
 unread_before some others (Feed fault) unread = absurd unread
 unread_before some others BadHex unread = absurd unread

@@ -27,4 +27,3 @@ pub mod InputList
 pub mod Running
 pub mod Followed
 pub mod OnlyFollowed
-pub mod Keeping

@@ -4,7 +4,7 @@ use Rattle.filter_rule.specs.Faults as plans
 use Rattle.source_feed.specs.FaultNumber as feed
 use Rattle.source_feed.specs.declared.fault.FeedFault.{FeedFault}
 use Rattle.vrepl_main.specs.declared.refusal.CommandRefusal.{CommandRefusal}
-use Rattle.vrepl_main.specs.declared.refusal.CommandRefusal.TheVariants.{Memory, Workflow, NoStream, FeedCount, Feed, BadHex, BadScript, BadDump, CannotRead, CannotWrite}
+use Rattle.vrepl_main.specs.declared.refusal.CommandRefusal.TheVariants.{Memory, Workflow, NoStream, FeedCount, Feed, BadHex, BadScript, BadDump, Changed, CannotRead, CannotWrite}
 
 -- the workflow file has a fault; it has no stream of a number that is named; there aren't as many feeds as streams; a feed
 -- that is to be hexadecimal text is none; a feed is refused; a line of the script is no step; a line of a dump can't stand
@@ -18,7 +18,7 @@ pub data Reason : Type 0 where
   bad_script : ℕ → Reason
   bad_dump : ℕ → Reason
 
--- what a refusal says of the inputs; nothing for want of memory, and where a file can't be read or written
+-- what a refusal says of the inputs; nothing for want of memory, and where a file can't be read, replaced or written
 abbrev pub reason_of : CommandRefusal → Option Reason
 reason_of Memory = None
 reason_of (Workflow fault) = option_map bad_workflow (plans.definition_fault_of fault)
@@ -28,6 +28,7 @@ reason_of (Feed fault) = option_map bad_feed (feed.meant_of fault)
 reason_of BadHex = Some bad_hex
 reason_of (BadScript bad) = Some (bad_script bad)
 reason_of (BadDump bad) = Some (bad_dump bad)
+reason_of (Changed file) = None
 reason_of (CannotRead file) = None
 reason_of (CannotWrite file) = None
 

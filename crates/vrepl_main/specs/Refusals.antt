@@ -10,7 +10,7 @@ use Rattle.source_feed.specs.declared.fault.FeedFault.TheVariants.{Event, Diverg
 use Rattle.vrepl_main.specs.Printing.{named_number}
 use Rattle.vrepl_main.specs.RefusalLine.{line_of}
 use Rattle.vrepl_main.specs.declared.refusal.CommandRefusal.{CommandRefusal}
-use Rattle.vrepl_main.specs.declared.refusal.CommandRefusal.TheVariants.{Memory, Workflow, NoStream, FeedCount, Feed, BadHex, BadScript, BadDump, CannotRead, CannotWrite}
+use Rattle.vrepl_main.specs.declared.refusal.CommandRefusal.TheVariants.{Memory, Workflow, NoStream, FeedCount, Feed, BadHex, BadScript, BadDump, Changed, CannotRead, CannotWrite}
 
 -- the number of each refusal
 abbrev pub number_of : CommandRefusal → ℕ
@@ -22,6 +22,7 @@ number_of (Feed fault) = feed.number_of fault
 number_of BadHex = 93
 number_of (BadScript bad) = 120
 number_of (BadDump bad) = 121
+number_of (Changed file) = 129
 number_of (CannotRead file) = 131
 number_of (CannotWrite file) = 132
 
@@ -62,6 +63,7 @@ details_of (Workflow fault) = workflow_details fault
 details_of (Feed fault) = feed_details fault
 details_of (BadScript bad) = codes " line " ++ decimal bad
 details_of (BadDump bad) = codes " line " ++ decimal bad
+details_of (Changed file) = codes " file " ++ file.now
 details_of (CannotRead file) = codes " file " ++ file.now
 details_of (CannotWrite file) = codes " file " ++ file.now
 details_of _ = []

@@ -24,7 +24,7 @@ use vdiff_core::Out;
 
 /// Why nothing is joined.
 #[derive(Drop)]
-enum Unjoined {
+pub enum Unjoined {
     /// What stands in the workflow or the feeds, want of memory, or that the checkpoint can't be written.
     Given(CommandRefusal<'static>),
     /// The one checkpoint; its line names tables of the plan.
@@ -78,7 +78,7 @@ pub fn join<W: Out, E: Out>(alloc: Global, inputs: &JoinInputs, out: &mut W, err
 }
 
 /// Prints the line of a refusal, whole unless `err` fails, and answers the status 1.
-fn refuse_unjoined<E: Out>(err: &mut E, unjoined: &Unjoined) -> u8
+pub fn refuse_unjoined<E: Out>(err: &mut E, unjoined: &Unjoined) -> u8
     ensures status { result ≡ 1 }
     ensures line { PrintsOrBreaks (E.written err.old) (E.written err.new) (join_refusal_line unjoined.now) }
 {
@@ -95,15 +95,15 @@ fn print_joined<W: Out>(alloc: Global, inputs: &JoinInputs, out: &mut W) -> Resu
     ensures printed { OnOk result (PrintsJoin inputs.now (W.written out.old) (W.written out.new)) }
     ensures refused { IfErr result (λ refusal. RefusesJoin refusal inputs.now (W.written out.old) (W.written out.new)) }
 {
-    let bytes = joined_bytes(alloc, inputs)?;
+    let bytes = joined_checkpoint(alloc, inputs)?;
     match print_bytes(out, &bytes) {
         Ok(()) => Ok(()),
         Err(_) => Err(Unjoined::Given(CommandRefusal::CannotWrite { file: "-" })),
     }
 }
 
-/// The checkpoint of the join.
-fn joined_bytes(alloc: Global, inputs: &JoinInputs) -> Result<Vec<u8>, Unjoined>
+/// The checkpoint that `join` prints.
+pub fn joined_checkpoint(alloc: Global, inputs: &JoinInputs) -> Result<Vec<u8>, Unjoined>
     ensures saved { IfOk result (λ bytes. IsSavedJoin (join_asked inputs.now) inputs.now.one.items (bytes_of inputs.now.others.items) bytes.items) }
     ensures refused { IfErr result (λ refusal. IsUnjoined refusal (join_asked inputs.now) inputs.now.one.items (bytes_of inputs.now.others.items)) }
 {

@@ -13,7 +13,6 @@ mod input;
 mod input_list;
 mod joined_text;
 mod joining;
-mod keeping;
 mod key_text;
 mod line;
 mod lines;
@@ -41,8 +40,7 @@ pub use given::{GivenFeed, given_feeds};
 pub use hex_text::{HexFault, bytes_of_hex};
 pub use input::{InputFault, InputName, read_input, read_inputs, read_whole, read_within};
 pub use input_list::run_inputs;
-pub use joining::join;
-pub use keeping::keep_file;
+pub use joining::{Unjoined, join, joined_checkpoint, refuse_unjoined};
 pub use named_inputs::{
     FollowInputs, Inputs, JoinFiles, JoinInputs, ResumeInputs, RunCourse, RunInputs, read_join,
     read_resume, read_run, read_step,
@@ -52,6 +50,6 @@ pub use progress::{Progress, Untold};
 pub use refusal::{CommandRefusal, refuse};
 pub use resuming::resume;
 pub use running::run;
-pub use saving::save;
+pub use saving::{save, saved_checkpoint};
 pub use showing::show;
 pub use stepping::step;

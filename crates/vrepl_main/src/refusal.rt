@@ -34,9 +34,11 @@ pub enum CommandRefusal<'w> {
     BadScript { line: usize },
     /// 121: a line of a dump, from 1, can't stand there, or is missing where the text ends.
     BadDump { line: usize },
+    /// 129: a file that was to be replaced changed meanwhile.
+    Changed { file: &'w str },
     /// 131: a file, or standard input as `-`, can't be read to its end.
     CannotRead { file: &'w str },
-    /// 132: standard output, `-`, can't be written.
+    /// 132: a file, or standard output as `-`, can't be written.
     CannotWrite { file: &'w str },
 }
 
@@ -54,6 +56,7 @@ impl CommandRefusal<'_> {
             CommandRefusal::BadHex => 93,
             CommandRefusal::BadScript { .. } => 120,
             CommandRefusal::BadDump { .. } => 121,
+            CommandRefusal::Changed { .. } => 129,
             CommandRefusal::CannotRead { .. } => 131,
             CommandRefusal::CannotWrite { .. } => 132,
         }
@@ -260,9 +263,9 @@ impl Telling for CommandRefusal<'_> {
         _tables: &[Table],
     ) -> Result<(), OutFailed> {
         match self {
-            CommandRefusal::CannotRead { file } | CommandRefusal::CannotWrite { file } => {
-                print_file(err, text, file)
-            }
+            CommandRefusal::Changed { file }
+            | CommandRefusal::CannotRead { file }
+            | CommandRefusal::CannotWrite { file } => print_file(err, text, file),
             CommandRefusal::Workflow(fault) => print_workflow_details(err, text, fault),
             CommandRefusal::Feed(fault) => print_feed_details(err, text, fault),
             CommandRefusal::BadScript { line } | CommandRefusal::BadDump { line } => {

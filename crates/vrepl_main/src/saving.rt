@@ -7,7 +7,8 @@ ghost use Rattle.filter_rule.specs.WellFormed.{ArePlans};
 ghost use Rattle.vrepl_main.specs.OpenedFeeds.{scripted_value};
 ghost use Rattle.vrepl_main.specs.ScriptRun.{ScriptReply, answers, IsScriptStep, IsFed, IsTold, script_asked};
 ghost use Rattle.vdiff_core.specs.Printing.{Prints};
-ghost use Rattle.vrepl_main.specs.SavedBoard.{IsSavedBehind, PrintsCheckpoint, SaveEnds, IsBehind};
+ghost use Rattle.vrepl_main.specs.Reasons.{RefusesInputs};
+ghost use Rattle.vrepl_main.specs.SavedBoard.{IsSavedBehind, IsSavedBoard, PrintsCheckpoint, SaveEnds, IsBehind};
 ghost use Rattle.vrepl_main.specs.Command.{RefusesCommand};
 
 use crate::given::given_feeds;
@@ -54,11 +55,20 @@ fn print_checkpoint<W: Out>(
     ensures printed { OnOk result (PrintsCheckpoint (script_asked inputs.now) (W.written out.old) (W.written out.new)) }
     ensures refused { IfErr result (λ refusal. RefusesCommand IsSavedBehind refusal (script_asked inputs.now) (W.written out.old) (W.written out.new)) }
 {
+    let bytes = saved_checkpoint(alloc, inputs)?;
+    print_bytes(out, &bytes)?;
+    Ok(())
+}
+
+/// The checkpoint that `save` prints.
+pub fn saved_checkpoint(alloc: Global, inputs: &Inputs) -> Result<Vec<u8>, CommandRefusal<'static>>
+    ensures saved { IfOk result (λ bytes. IsSavedBoard (script_asked inputs.now) bytes.items) }
+    ensures refused { IfErr result (λ refusal. RefusesInputs refusal (script_asked inputs.now)) }
+{
     let given = given_feeds(alloc, inputs.feed_form, &inputs.feeds)?;
     let scripted = open_scripted(alloc, inputs, &given)?;
     let bytes = saved_bytes(alloc, scripted)?;
-    print_bytes(out, &bytes)?;
-    Ok(())
+    Ok(bytes)
 }
 
 /// Prints bytes.

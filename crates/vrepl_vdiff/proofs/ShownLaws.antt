@@ -7,7 +7,7 @@ use Rattle.vrepl_choices.specs.declared.report_form.ReportForm.{ReportForm}
 use Rattle.vrepl_choices.specs.declared.report_form.ReportForm.TheVariants.{Lines, Json}
 use Rattle.vrepl_main.specs.Command.{IsUnwritten}
 use Rattle.vrepl_main.specs.declared.refusal.CommandRefusal.{CommandRefusal}
-use Rattle.vrepl_main.specs.declared.refusal.CommandRefusal.TheVariants.{Memory, Workflow, NoStream, FeedCount, Feed, BadHex, BadScript, BadDump, CannotRead, CannotWrite}
+use Rattle.vrepl_main.specs.declared.refusal.CommandRefusal.TheVariants.{Memory, Workflow, NoStream, FeedCount, Feed, BadHex, BadScript, BadDump, Changed, CannotRead, CannotWrite}
 use Rattle.vrepl_main.specs.Comparison.{Compared}
 use Rattle.vrepl_vdiff.specs.Shown.{IsJsonOf, IsShown, IsTextOf, PrintsShown, by_form, reports_asked}
 use Rattle.vrepl_vdiff.specs.declared.options.Options.{Options}
@@ -28,6 +28,7 @@ unwritten_shown options (CannotWrite file) compared old new text shown broken is
 unwritten_shown options Memory compared old new text shown broken is = absurd is
 unwritten_shown options (Workflow fault) compared old new text shown broken is = absurd is
 unwritten_shown options NoStream compared old new text shown broken is = absurd is
+unwritten_shown options (Changed file) compared old new text shown broken is = absurd is
 unwritten_shown options FeedCount compared old new text shown broken is = absurd is
 unwritten_shown options (Feed fault) compared old new text shown broken is = absurd is
 unwritten_shown options BadHex compared old new text shown broken is = absurd is

@@ -1,5 +1,5 @@
 -- What the words that were read ask for.
-use Rattle.vrepl_words.specs.Words.{CheckValue, FollowValue, JoinValue, PortionsValue, ResumeValue, RunValue, ShowValue, StepValue, VdiffValue, WordsValue, asks_follow, asks_join, asks_run, asks_show, asks_step, asks_save, asks_resume, asks_vdiff, asks_check, asks_explain}
+use Rattle.vrepl_words.specs.Words.{CheckValue, FollowValue, JoinValue, PortionsValue, ResumeValue, RunValue, SaveValue, ShowValue, StepValue, VdiffValue, WordsValue, asks_follow, asks_join, asks_run, asks_show, asks_step, asks_save, asks_resume, asks_vdiff, asks_check, asks_explain}
 use Rattle.std.specs.Prelude.{◌≡◌, map, option_map, Option, None, Some, Result, Ok, Err}
 use Rattle.vrepl_words.specs.declared.portions.Portions.{Portions}
 use Rattle.vrepl_words.specs.declared.words.Check.{Check}
@@ -7,6 +7,7 @@ use Rattle.vrepl_words.specs.declared.words.Follow.{Follow}
 use Rattle.vrepl_words.specs.declared.words.Join.{Join}
 use Rattle.vrepl_words.specs.declared.words.Resume.{Resume}
 use Rattle.vrepl_words.specs.declared.words.Run.{Run}
+use Rattle.vrepl_words.specs.declared.words.Save.{Save}
 use Rattle.vrepl_words.specs.declared.words.Show.{Show}
 use Rattle.vrepl_words.specs.declared.words.Step.{Step}
 use Rattle.vrepl_words.specs.declared.words.Vdiff.{Vdiff}
@@ -25,6 +26,9 @@ show_value show = record {
 abbrev pub step_value : Step → StepValue
 step_value step = record { feed_form = step.feed_form; workflow = step.workflow.now; feeds = map (λ feed. feed.now) step.feeds.items }
 
+abbrev pub save_value : Save → SaveValue
+save_value save = record { save_to = option_map (λ name. name.now) save.save_to; step = step_value save.step }
+
 abbrev pub resume_value : Resume → ResumeValue
 resume_value resume = record { checkpoint = resume.checkpoint.now; step = step_value resume.step }
 
@@ -38,6 +42,7 @@ join_value join = record {
   one = join.one.now;
   other = join.other.now;
   more = map (λ name. name.now) join.more.items;
+  save_to = option_map (λ name. name.now) join.save_to;
   feeds = map (λ feed. feed.now) join.feeds.items;
 }
 
@@ -78,7 +83,7 @@ abbrev pub value_of_words : Words → WordsValue
 value_of_words (words.Show show) = asks_show (show_value show)
 value_of_words (words.Step step) = asks_step (step_value step)
 value_of_words (words.Run run) = asks_run (run_value run)
-value_of_words (words.Save save) = asks_save (step_value save)
+value_of_words (words.Save save) = asks_save (save_value save)
 value_of_words (words.Resume resume) = asks_resume (resume_value resume)
 value_of_words (words.Join join) = asks_join (join_value join)
 value_of_words (words.Follow follow) = asks_follow (follow_value follow)

@@ -20,7 +20,7 @@ pub record ShowValue : Type 0 where
   pub shard : Text
   pub feed : Text
 
--- `step` and `save`: a workflow, a feed for each of its streams, and how feeds are given
+-- `step`: a workflow, a feed for each of its streams, and how feeds are given
 pub record StepValue : Type 0 where
   pub feed_form : FeedForm
   pub workflow : Text
@@ -56,18 +56,25 @@ pub record ResumeValue : Type 0 where
   pub checkpoint : Text
   pub step : StepValue
 
+-- `save`: the file of the checkpoint, if there is one, and what `step` is given
+pub record SaveValue : Type 0 where
+  pub save_to : Option Text
+  pub step : StepValue
+
 -- `check`: how the report is printed, and what `step` is given
 pub record CheckValue : Type 0 where
   pub report_form : ReportForm
   pub step : StepValue
 
--- `join`: a workflow, two checkpoints, further ones, a feed for each of its streams, and how feeds are given
+-- `join`: a workflow, two checkpoints, further ones, a feed for each of its streams, how feeds are given, and the file of
+-- the new checkpoint, if there is one
 pub record JoinValue : Type 0 where
   pub feed_form : FeedForm
   pub workflow : Text
   pub one : Text
   pub other : Text
   pub more : List Text
+  pub save_to : Option Text
   pub feeds : List Text
 
 -- `vdiff`: a workflow, the dumps of a source and of a target, whether the counts of each table are printed too, how many
@@ -85,7 +92,7 @@ pub data WordsValue : Type 0 where
   asks_show : ShowValue → WordsValue
   asks_step : StepValue → WordsValue
   asks_run : RunValue → WordsValue
-  asks_save : StepValue → WordsValue
+  asks_save : SaveValue → WordsValue
   asks_resume : ResumeValue → WordsValue
   asks_join : JoinValue → WordsValue
   asks_follow : FollowValue → WordsValue
@@ -118,7 +125,7 @@ show_subcommand = record {
   meaning = λ given. Some (asks_show (show_given given));
 }
 
--- what is given to the arguments of `step`, and to those of `save`
+-- what is given to the arguments of `step`
 abbrev pub step_given : List Row → StepValue
 step_given given = record { feed_form = feed_form_given given; workflow = text_given (codes "workflow") given; feeds = texts_given (codes "feed") given }
 
@@ -164,12 +171,16 @@ run_subcommand = record {
   meaning = λ given. option_map (λ portions. asks_run (run_given given portions)) (portions_given given);
 }
 
--- `save [--hex] WORKFLOW FEED..`
+-- what is given to the arguments of `save`
+abbrev pub save_given : List Row → SaveValue
+save_given given = record { save_to = first_of (codes "save-to") given; step = step_given given }
+
+-- `save [--hex] [--save-to TEXT] WORKFLOW FEED..`
 abbrev pub save_subcommand : Subcommand
 save_subcommand = record {
   name = codes "save";
-  rules = flag_rule (codes "hex") ∷ operand_rule (codes "workflow") ∷ operands_rule (codes "feed") ∷ [];
-  meaning = λ given. Some (asks_save (step_given given));
+  rules = flag_rule (codes "hex") ∷ option_rule (codes "save-to") ∷ operand_rule (codes "workflow") ∷ operands_rule (codes "feed") ∷ [];
+  meaning = λ given. Some (asks_save (save_given given));
 }
 
 -- what is given to the arguments of `resume`
@@ -192,14 +203,15 @@ join_given given = record {
   one = text_given (codes "one") given;
   other = text_given (codes "other") given;
   more = texts_given (codes "also") given;
+  save_to = first_of (codes "save-to") given;
   feeds = texts_given (codes "feed") given;
 }
 
--- `join [--hex] [--also TEXT].. WORKFLOW A B FEED..`
+-- `join [--hex] [--also TEXT].. [--save-to TEXT] WORKFLOW A B FEED..`
 abbrev pub join_subcommand : Subcommand
 join_subcommand = record {
   name = codes "join";
-  rules = flag_rule (codes "hex") ∷ further_rule (codes "also") ∷ operand_rule (codes "workflow") ∷ operand_rule (codes "one") ∷ operand_rule (codes "other") ∷ operands_rule (codes "feed") ∷ [];
+  rules = flag_rule (codes "hex") ∷ further_rule (codes "also") ∷ option_rule (codes "save-to") ∷ operand_rule (codes "workflow") ∷ operand_rule (codes "one") ∷ operand_rule (codes "other") ∷ operands_rule (codes "feed") ∷ [];
   meaning = λ given. Some (asks_join (join_given given));
 }
 

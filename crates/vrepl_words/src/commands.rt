@@ -104,7 +104,8 @@ fn save_command<'w>(alloc: Global) -> Result<Command<'w>, AllocError>
 {
     let about = "Writes the checkpoint of the board behind a script";
     let command = Ok(bare(alloc, "save", about, help::SAVE));
-    with_streams(alloc, with_arg(command, hex(alloc)))
+    let command = with_arg(command, hex(alloc));
+    with_streams(alloc, with_arg(command, save_to(alloc)))
 }
 
 fn resume_command<'w>(alloc: Global) -> Result<Command<'w>, AllocError>
@@ -126,6 +127,7 @@ fn join_command<'w>(alloc: Global) -> Result<Command<'w>, AllocError>
     let also_help = "A further checkpoint's file; may be given again";
     let command = with_arg(command, hex(alloc));
     let command = with_arg(command, further(alloc, "also", "FILE", also_help));
+    let command = with_arg(command, save_to(alloc));
     let command = with_arg(command, workflow(alloc));
     let one = operand(alloc, "one", "A", "The one checkpoint's file");
     let command = with_arg(command, one);
@@ -239,6 +241,14 @@ fn hex<'w>(alloc: Global) -> Arg<'w>
     ensures { HasRule (flag_rule (codes "hex")) result }
 {
     flag(alloc, "hex", "Reads feeds as hexadecimal text")
+}
+
+/// The file of what is written, which may be left out.
+fn save_to<'w>(alloc: Global) -> Arg<'w>
+    ensures { HasRule (option_rule (codes "save-to")) result }
+{
+    let help = "The checkpoint's file; standard output unless given";
+    option(alloc, "save-to", "FILE", help)
 }
 
 /// The workflow's file.

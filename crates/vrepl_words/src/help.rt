@@ -19,6 +19,9 @@ Example:
   group 1 3e11fa47-71ca-11e1-9e33-c80aa9429562:1
   + t\tx31\tx6162
 
+Names of tables are printed as they stand, with line feeds and control
+characters: look at a feed that isn't trusted by `| cat -v`.
+
 Status:
   0  the whole feed was printed
   1  refused; `vrepl explain NUMBER` says what the line's number means
@@ -64,9 +67,11 @@ Status:
 pub(crate) const SAVE: &str = "\
 Example:
   $ vrepl save --hex examples/workflows/one_shard.json examples/one_insert.hex \\
-      < examples/copy_one.script > one_row.checkpoint
+      --save-to one_row.checkpoint < examples/copy_one.script
 
-The script comes on standard input. The replies to it aren't printed.
+The script comes on standard input. The replies to it aren't printed. The file
+is replaced once the checkpoint is whole; with `> FILE` in place of --save-to it
+is empty before a refusal is known.
 
 Status:
   0  the whole checkpoint was written
@@ -97,14 +102,15 @@ Status:
 /// A call of `join`.
 pub(crate) const JOIN: &str = "\
 Example:
-  $ vrepl join --hex examples/workflows/two_shards.json \\
+  $ vrepl join --hex --save-to both.checkpoint \\
+      examples/workflows/two_shards.json \\
       examples/checkpoints/lower.checkpoint \\
       examples/checkpoints/upper.checkpoint \\
-      examples/two_shards/lower.hex examples/two_shards/upper.hex \\
-      > both.checkpoint
+      examples/two_shards/lower.hex examples/two_shards/upper.hex
 
 Each stream, with its rows, is that of the checkpoint in which it is further on.
-The order of the checkpoints doesn't matter, and the feeds are read once.
+The order of the checkpoints doesn't matter, and the feeds are read once. The
+file may be one of theirs: it is replaced once the new checkpoint is whole.
 
 Status:
   0  the whole checkpoint was written

@@ -4,7 +4,7 @@ ghost use Rattle.std.specs.Prelude.{◌≡◌, ◌≢◌, [], IfOk, Some, map, s
 ghost use Rattle.clap.specs.Words.{FailsBy, found_of, rows_of, subcommand_rows_of};
 ghost use Rattle.vrepl_words.specs.Built.{HasApp};
 ghost use Rattle.vrepl_words.specs.Meant.{Asks, follow_value, portions_value, run_value, show_value, step_value, value_of_words, vdiff_value};
-ghost use Rattle.vrepl_words.specs.Words.{asked_by, asks_check, asks_join, asks_follow, asks_resume, asks_run, asks_save, asks_step, check_given, explain_subcommand, faults_of, follow_given, follow_subcommand, join_given, program_app, resume_given, run_given, run_subcommand, show_given, step_given, vdiff_given, vdiff_subcommand, words_of};
+ghost use Rattle.vrepl_words.specs.Words.{asked_by, asks_check, asks_join, asks_follow, asks_resume, asks_run, asks_save, asks_step, check_given, explain_subcommand, faults_of, follow_given, follow_subcommand, join_given, program_app, resume_given, run_given, run_subcommand, save_given, show_given, step_given, vdiff_given, vdiff_subcommand, words_of};
 
 use crate::choices::{feed_form_given, report_form_given, threading_given};
 use crate::commands::program;
@@ -12,7 +12,7 @@ use crate::given::{given_portions, has_flag, text, text_if, texts};
 use crate::numbers::{bad_number, count_given, refusal_given};
 use crate::portions::Portions;
 use crate::streams::{gives_streams, streams_given};
-use crate::words::{Check, Follow, Join, Resume, Run, Show, Step, Vdiff, Words};
+use crate::words::{Check, Follow, Join, Resume, Run, Save, Show, Step, Vdiff, Words};
 use clap::{ArgMatches, Command, Error};
 use std::alloc::{AllocError, Global};
 use vrepl_choices::FeedForm;
@@ -104,10 +104,13 @@ fn step_words<'w>(alloc: Global, given: &ArgMatches<'w>) -> Result<Words<'w>, Al
 }
 
 fn save_words<'w>(alloc: Global, given: &ArgMatches<'w>) -> Result<Words<'w>, AllocError>
-    ensures { IfOk result (λ words. value_of_words words ≡ asks_save (step_given (rows_of (found_of given.now)))) }
+    ensures { IfOk result (λ words. value_of_words words ≡ asks_save (save_given (rows_of (found_of given.now)))) }
 {
-    let words = script_words(alloc, given)?;
-    Ok(Words::Save(words))
+    let step = script_words(alloc, given)?;
+    Ok(Words::Save(Save {
+        save_to: text_if(given, "save-to"),
+        step,
+    }))
 }
 
 fn check_words<'w>(alloc: Global, given: &ArgMatches<'w>) -> Result<Words<'w>, AllocError>
@@ -141,6 +144,7 @@ fn join_words<'w>(alloc: Global, given: &ArgMatches<'w>) -> Result<Words<'w>, Al
         one: text(given, "one"),
         other: text(given, "other"),
         more,
+        save_to: text_if(given, "save-to"),
         feeds,
     }))
 }

@@ -13,7 +13,7 @@ pub enum Words<'w> {
     /// `run`: run the streams of a workflow over its feeds to their ends.
     Run(Run<'w>),
     /// `save`: write the checkpoint of the board behind a script.
-    Save(Step<'w>),
+    Save(Save<'w>),
     /// `resume`: take the steps of a script on the board of a checkpoint.
     Resume(Resume<'w>),
     /// `join`: write the checkpoint of the join of two checkpoints' boards.
@@ -69,6 +69,15 @@ pub struct Resume<'w> {
     pub step: Step<'w>,
 }
 
+/// The words of `save`.
+#[derive(Drop)]
+pub struct Save<'w> {
+    /// The file that the checkpoint takes the place of; standard output unless given.
+    pub save_to: Option<&'w str>,
+    /// The other words, which are those of `step`.
+    pub step: Step<'w>,
+}
+
 /// The words of `check`.
 #[derive(Drop)]
 pub struct Check<'w> {
@@ -91,11 +100,13 @@ pub struct Join<'w> {
     pub other: &'w str,
     /// The files of further checkpoints.
     pub more: Vec<&'w str>,
+    /// The file that the new checkpoint takes the place of; standard output unless given.
+    pub save_to: Option<&'w str>,
     /// The feeds' files, in the order of the streams.
     pub feeds: Vec<&'w str>,
 }
 
-/// The words of `step`, and of `save`, which has the same.
+/// The words of `step`.
 #[derive(Drop)]
 pub struct Step<'w> {
     /// How the feeds are given.

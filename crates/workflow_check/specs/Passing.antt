@@ -2,6 +2,7 @@
 use Rattle.std.specs.Prelude.{ℕ, ◌+◌, List, [], ◌∷◌, ◌++◌, codes, decimal, Option, None, Some, option_and_then, option_map}
 use Rattle.std.specs.List.{flat_map}
 use Rattle.serde_json.specs.Data.{Data}
+use Rattle.shown_text.specs.Shown.{printable, shown}
 use Rattle.hex.specs.Hex.{encode_lower}
 use Rattle.vindex.specs.Bounds.{Bounds}
 use Rattle.vindex.specs.KeyspaceId.{vindex_name}
@@ -72,9 +73,9 @@ table_words rules table = said_text (own_vindex table) (said_by (first_rule rule
 
 -- ---- lines
 
--- the line of a table of a stream with these rules
+-- the line of a table of a stream with these rules, printable
 abbrev pub rule_line : ℕ → List RuleSaid → Data → List ℕ
-rule_line i rules table = codes "rule stream " ++ decimal i ++ codes " table " ++ text_at (codes "name") table ++ codes " " ++ table_words rules table ++ 10 ∷ []
+rule_line i rules table = codes "rule stream " ++ decimal i ++ codes " table " ++ shown (text_at (codes "name") table) ++ codes " " ++ printable (table_words rules table) ++ 10 ∷ []
 
 abbrev pub stream_lines : ℕ → List RuleSaid → List Data → List ℕ
 stream_lines i rules tables = flat_map (rule_line i rules) tables

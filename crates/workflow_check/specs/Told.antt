@@ -1,7 +1,7 @@
 -- Where a workflow file has a fault, and what it is (this profile): the path of a value from the file's root on, as
 -- `tables[3].columns[2][1]`, and what is wrong there.
 use Rattle.std.specs.Prelude.{ℕ, List, [], ◌∷◌, ◌++◌, codes, decimal, Option, None, Some, option_map}
-use Rattle.workflow_check.specs.Notes.{shown_text}
+use Rattle.shown_text.specs.Shown.{shown}
 
 pub record ToldValue : Type 0 where
   pub at : List ℕ
@@ -21,4 +21,4 @@ item_step i = codes "[" ++ decimal i ++ codes "]"
 
 -- what is missed, beside what stands there
 abbrev pub quoted : List ℕ → List ℕ → List ℕ
-quoted missed text = missed ++ codes " \"" ++ shown_text text ++ codes "\""
+quoted missed text = missed ++ codes " \"" ++ shown text ++ codes "\""

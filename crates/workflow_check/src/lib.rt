@@ -14,7 +14,6 @@ mod passing;
 mod ranges;
 mod rules;
 mod shape;
-mod shown;
 mod told;
 
 pub use file::{fault_text, note_lines, notes_of, rules_of};

@@ -4,7 +4,7 @@ ghost use Rattle.std.specs.Prelude.{◌≡◌, ◌++◌, IfOk, OnOk, decimal};
 ghost use Rattle.std.specs.String.{string_bytes};
 ghost use Rattle.workflow_check.specs.Notes.{item_place, flaw_text, note_line};
 
-use crate::shown::shown;
+use shown_text::shown;
 use std::alloc::{AllocError, Global};
 use std::marker::Model;
 
@@ -110,8 +110,8 @@ pub(crate) fn flaw_text(flaw: Flaw) -> &'static str
 fn note_line(alloc: Global, note: &Note) -> Result<String, AllocError>
     ensures { IfOk result (λ line. string_bytes line ≡ note_line note.now) }
 {
-    let place = shown(alloc, note.place())?;
-    let table = shown(alloc, note.table())?;
+    let place = shown(alloc, note.place().as_bytes())?;
+    let table = shown(alloc, note.table().as_bytes())?;
     let mut line = String::from_str(alloc, "warning workflow ")?;
     line.push_str(&place)?;
     line.push_str(" ")?;

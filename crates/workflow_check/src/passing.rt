@@ -4,6 +4,7 @@ ghost use Rattle.std.specs.Prelude.{◌≡◌, ◌++◌, IfOk, OnOk, codes, deci
 ghost use Rattle.std.specs.Option.{option_copied, option_map};
 ghost use Rattle.std.specs.String.{string_bytes};
 ghost use Rattle.serde_json.specs.View.{view};
+ghost use Rattle.shown_text.specs.Shown as said;
 ghost use Rattle.vindex.specs.KeyspaceId.{vindex_name};
 ghost use Rattle.filter_text.specs.Views.{meaning, rows_said};
 ghost use Rattle.workflow_check.specs.Passing.{said_by, rows_by, range_said, end_text, range_text, ranged_text, said_text, table_words, rule_line, stream_lines, rule_lines};
@@ -14,6 +15,7 @@ use crate::note::number_text;
 use crate::rules::{Rule, first_rule, rules_in, vindex_in};
 use filter_text::{Filter, FilterFault, Rows};
 use serde_json::Value;
+use shown_text::{printable, shown};
 use std::alloc::{AllocError, Global};
 use std::marker::Model;
 use vindex::{KeyRange, Vindex};
@@ -169,13 +171,13 @@ pub(crate) fn table_words(
 
 /// A stream's number and a table's name.
 fn line_head(alloc: Global, i: usize, name: &str) -> Result<String, AllocError>
-    ensures { IfOk result (λ text. string_bytes text ≡ codes "rule stream " ++ decimal i ++ codes " table " ++ name.now) }
+    ensures { IfOk result (λ text. string_bytes text ≡ codes "rule stream " ++ decimal i ++ codes " table " ++ said.shown name.now) }
 {
     let number = number_text(alloc, i)?;
     let mut text = String::from_str(alloc, "rule stream ")?;
     text.push_str(&number)?;
     text.push_str(" table ")?;
-    text.push_str(name)?;
+    text.push_str(&shown(alloc, name.as_bytes())?)?;
     Ok(text)
 }
 
@@ -190,6 +192,7 @@ fn rule_line(
 {
     let mut line = line_head(alloc, i, text_at(table, "name"))?;
     let words = table_words(alloc, rules, table)?;
+    let words = printable(alloc, words.as_bytes())?;
     line.push_str(" ")?;
     line.push_str(&words)?;
     line.push_str("\n")?;

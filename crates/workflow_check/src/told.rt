@@ -5,7 +5,7 @@ ghost use Rattle.std.specs.String.{string_bytes};
 ghost use Rattle.workflow_check.specs.Told.{told_here, told_within, item_step, quoted};
 
 use crate::note::number_text;
-use crate::shown::shown;
+use shown_text::shown;
 use std::alloc::{AllocError, Global};
 use std::marker::Model;
 
@@ -112,7 +112,7 @@ pub(crate) fn in_item(
 pub(crate) fn quoted(alloc: Global, missed: &str, text: &str) -> Result<String, AllocError>
     ensures { IfOk result (λ what. string_bytes what ≡ quoted missed.now text.now) }
 {
-    let text = shown(alloc, text)?;
+    let text = shown(alloc, text.as_bytes())?;
     let mut what = String::from_str(alloc, missed)?;
     what.push_str(" \"")?;
     what.push_str(&text)?;

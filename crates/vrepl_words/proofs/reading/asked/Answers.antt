@@ -3,7 +3,7 @@ use Rattle.std.specs.Prelude.{IfOk}
 use Rattle.clap.specs.Words.{Row, Text, found_of, rows_of, subcommand_rows_of}
 use Rattle.vrepl_words.specs.Meant.{Asks, value_of_words}
 use Rattle.vrepl_words.specs.declared.words.Words.{Words}
-use Rattle.vrepl_words.specs.Words.{WordsValue, asked_by, check_given, explain_subcommand, asks_check, asks_join, asks_resume, asks_save, asks_show, asks_step, follow_subcommand, join_given, resume_given, run_subcommand, show_given, step_given, vdiff_subcommand}
+use Rattle.vrepl_words.specs.Words.{WordsValue, asked_by, check_given, explain_subcommand, asks_check, asks_join, asks_resume, asks_save, asks_show, asks_step, follow_subcommand, join_given, resume_given, run_subcommand, save_given, show_given, step_given, vdiff_subcommand}
 use Rattle.vrepl_words.proofs.MetSubcommand.{met, none_met, other_text}
 use Rattle.vrepl_words.proofs.reading.asked.Goals as goal
 
@@ -15,7 +15,7 @@ asked_step : (given : List Row) → asked_by (Some (codes "step", given)) ≡ So
 unfolding asked_by
 asked_step given = refl
 
-asked_save : (given : List Row) → asked_by (Some (codes "save", given)) ≡ Some (asks_save (step_given given))
+asked_save : (given : List Row) → asked_by (Some (codes "save", given)) ≡ Some (asks_save (save_given given))
 unfolding asked_by
 asked_save given = refl
 
@@ -108,7 +108,7 @@ pub returns-in-save : goal.returns-in-save
 returns-in-save c =
     let is : subcommand_rows_of c.args.matches.now ≡ Some (c.in_ok-name.name.now, rows_of (found_of c.in_ok-name.given.now)) =
     met c.args.matches.now _ _ c.in_ok-name.ensures.name c.in_ok-name.ensures.rows in
-    asks_read c.save_words.result (asks_save (step_given (rows_of (found_of c.in_ok-name.given.now)))) (asked_by (subcommand_rows_of c.args.matches.now))
+    asks_read c.save_words.result (asks_save (save_given (rows_of (found_of c.in_ok-name.given.now)))) (asked_by (subcommand_rows_of c.args.matches.now))
     (ap asked_by (is ∙ ap (λ n. Some (n, rows_of (found_of c.in_ok-name.given.now))) c.in-save.is) ∙ asked_save (rows_of (found_of c.in_ok-name.given.now)))
     c.save_words.ensures
 

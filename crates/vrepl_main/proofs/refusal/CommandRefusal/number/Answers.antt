@@ -7,6 +7,9 @@ returns-in-BadHex c = search rules
 pub returns-in-BadScript : goal.returns-in-BadScript
 returns-in-BadScript c = search rules
 
+pub returns-in-Changed : goal.returns-in-Changed
+returns-in-Changed c = search rules
+
 pub returns-in-CannotRead : goal.returns-in-CannotRead
 returns-in-CannotRead c = search rules
 

@@ -6,7 +6,7 @@ use Rattle.vrepl_main.specs.Opening.{OpenedValue}
 use Rattle.vrepl_main.specs.Reasons.{Reason, RefusesInputs}
 use Rattle.vrepl_main.proofs.JoinedLaws.{saved_as, refused_as}
 use Rattle.vrepl_main.proofs.RunLaws.{opened_as}
-use Rattle.vrepl_main.proofs.joining.joined_bytes.Goals as goal
+use Rattle.vrepl_main.proofs.joining.joined_checkpoint.Goals as goal
 
 pub returns-in_err-opened-clause-refused : goal.returns-in_err-opened-clause-refused
 returns-in_err-opened-clause-refused c =

@@ -1,0 +1,121 @@
+//! Checkpoints that take the place of a file.
+
+ghost use Rattle.std.specs.Prelude.{◌≡◌, ◌≤◌, IfErr, IfOk};
+ghost use Rattle.vrepl.specs.Kept.{IsUnkept, IsUnplaced};
+
+use crate::answering::files_of;
+use kept_file::{KeepFault, Place, PlaceFault};
+use vdiff_core::Writer;
+use vrepl_main::{
+    CommandRefusal, joined_checkpoint, read_join, read_step, refuse, refuse_unjoined,
+    saved_checkpoint,
+};
+use vrepl_words::words::{Join, Save};
+
+/// The file behind standard input, where the system has names for such.
+const STANDARD_INPUT: &str = "/dev/stdin";
+
+/// Where a command keeps its checkpoint, or that the words name no such place, which was told.
+#[derive(Drop)]
+pub(crate) enum Keeping {
+    /// In this place.
+    In(Place),
+    /// In none: a fault of usage.
+    Nowhere,
+}
+
+/// Where the file of this name is kept by a command with these inputs; the checkpoints that it reads aren't among them,
+/// since the new one may take the place of one of these.
+pub(crate) fn place_of<'w>(
+    rt: &HostRuntime,
+    file: &'w str,
+    workflow: &str,
+    feeds: &[&str],
+    others: &[&str],
+) -> Result<Keeping, CommandRefusal<'w>>
+    ensures refused { IfErr result (IsUnplaced file.now) }
+{
+    let place = match Place::find(rt, file) {
+        Ok(place) => place,
+        Err(PlaceFault::Irregular) => return Ok(misnamed(rt, "is there and no regular file")),
+        Err(PlaceFault::CannotWrite) => return Err(CommandRefusal::CannotWrite { file }),
+        Err(PlaceFault::Memory) => return Err(CommandRefusal::Memory),
+    };
+    if place.is_one_of(rt, &[workflow]) {
+        return Ok(misnamed(rt, "is the workflow's"));
+    }
+    if place.is_one_of(rt, feeds) {
+        return Ok(misnamed(rt, "is a feed's"));
+    }
+    if place.is_one_of(rt, others) {
+        return Ok(misnamed(rt, "is a standard stream's"));
+    }
+    Ok(Keeping::In(place))
+}
+
+/// Tells what is wrong with the file of `--save-to`.
+fn misnamed(rt: &HostRuntime, why: &str) -> Keeping {
+    let _ = rt.eprintln(format_args!("error: the file of --save-to {why}"));
+    Keeping::Nowhere
+}
+
+/// Puts these bytes in the place of the file of this name.
+pub(crate) fn keep<'w>(
+    rt: &HostRuntime,
+    place: &Place,
+    file: &'w str,
+    bytes: &[u8],
+) -> Result<(), CommandRefusal<'w>>
+    ensures refused { IfErr result (IsUnkept file.now) }
+{
+    match place.replace(rt, bytes) {
+        Ok(()) => Ok(()),
+        Err(KeepFault::Changed) => Err(CommandRefusal::Changed { file }),
+        Err(KeepFault::CannotWrite) => Err(CommandRefusal::CannotWrite { file }),
+        Err(KeepFault::Memory) => Err(CommandRefusal::Memory),
+    }
+}
+
+/// `save` into the file of this name.
+pub(crate) fn save_to<'w>(
+    rt: &HostRuntime,
+    words: &Save<'w>,
+    file: &'w str,
+) -> Result<u8, CommandRefusal<'w>>
+    ensures status { IfOk result (λ status. status ≤ 2) }
+{
+    let step = &words.step;
+    let Keeping::In(place) = place_of(rt, file, step.workflow, &step.feeds, &[STANDARD_INPUT])?
+    else {
+        return Ok(2);
+    };
+    let inputs = read_step(rt, step.feed_form, step.workflow, &step.feeds)?;
+    match saved_checkpoint(rt.alloc(), &inputs) {
+        Ok(checkpoint) => {
+            keep(rt, &place, file, &checkpoint)?;
+            Ok(0)
+        }
+        Err(refusal) => Ok(refuse(&mut Writer::new(rt.stderr()), &refusal)),
+    }
+}
+
+/// `join` into the file of this name.
+pub(crate) fn join_to<'w>(
+    rt: &HostRuntime,
+    words: &Join<'w>,
+    file: &'w str,
+) -> Result<u8, CommandRefusal<'w>>
+    ensures status { IfOk result (λ status. status ≤ 2) }
+{
+    let Keeping::In(place) = place_of(rt, file, words.workflow, &words.feeds, &[])? else {
+        return Ok(2);
+    };
+    let inputs = read_join(rt, words.feed_form, &files_of(words))?;
+    match joined_checkpoint(rt.alloc(), &inputs) {
+        Ok(checkpoint) => {
+            keep(rt, &place, file, &checkpoint)?;
+            Ok(0)
+        }
+        Err(unjoined) => Ok(refuse_unjoined(&mut Writer::new(rt.stderr()), &unjoined)),
+    }
+}

@@ -1,0 +1,8 @@
+use Rattle.vrepl_main.proofs.SaveLaws.{saved_as}
+use Rattle.vrepl_main.proofs.saving.saved_checkpoint.Goals as goal
+
+pub open_scripted-requires : goal.open_scripted-requires
+open_scripted-requires c = rw c.deref-2.ensures.value (rw c.deref.ensures.value at c.in_ok-given.ensures)
+
+pub returns-clause-saved : goal.returns-clause-saved
+returns-clause-saved c = saved_as _ _ c.in_ok-bytes.bytes.items c.in_ok-scripted.ensures.scripted c.in_ok-bytes.ensures
