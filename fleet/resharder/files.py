@@ -1,7 +1,9 @@
 """Files that are replaced as a whole, and results that are found again."""
+import glob
 import hashlib
 import json
 import os
+import re
 import uuid
 from collections.abc import Iterator
 from contextlib import contextmanager, suppress
@@ -18,7 +20,9 @@ def replaced(file: str) -> Iterator[str]:
         yield part
         os.replace(part, file)
     finally:
-        for left in (part, f"{part}.part"):
+        folder, name = os.path.split(part)
+        # (what a `follow` that was killed left beside it)
+        for left in (part, *glob.glob(os.path.join(glob.escape(folder), f".{glob.escape(name)}.*.new"))):
             with suppress(FileNotFoundError):
                 os.remove(left)
 
@@ -58,7 +62,7 @@ def note_result(job: Job, target: Target, stream: int) -> None:
 def clear(target: Target) -> None:
     """Takes away what tasks that were killed left beside their files."""
     for name in os.listdir(target.folder) if os.path.isdir(target.folder) else ():
-        beside = name.split(".checkpoint.")[-1].split(".dump.")[-1].removeprefix("json.").removesuffix(".part")
+        beside = re.sub(r"\.\d+-\d+\.new$", "", name).split(".checkpoint.")[-1].split(".dump.")[-1].removeprefix("json.")
         if len(beside) == 32 and set(beside) <= set("0123456789abcdef"):
             with suppress(FileNotFoundError):
                 os.remove(os.path.join(target.folder, name))

@@ -3,19 +3,36 @@
 Modules, from the lowest up; each has one idea:
 
     stop          why a recording ends early, as one line
+    ending        signals, standard output and error, and a command's one line and status
+    files         one lock a file, and new files that take their place whole
     kinds         the numbers of column types
     numbers       decimal numbers and floats, from the log's bytes to the server's text
     cells         a column's value in the log, to the bytes that the server prints
     messages      the messages of a feed, as classes of Google's protobuf library
     position      sets of transactions, from MariaDB's domains to GTID sets
+    words         a statement's text as words
+    alterations   which statements about a table leave it as it is
     statements    what a statement of the log is, and which tables it changes the layout of
     events        the binary log's events, from bytes to values
     server        connections, and the stream of events that a server sends
+    logins        the words that say which server is meant
+    labels        the labels of ENUM and SET columns
     catalogue     tables, columns and keys, and the tables that can't be recorded
+    untold        what no log says, told where a recording or a workflow begins
+    prepared      XA transactions that are prepared where a snapshot stands
     transactions  events to whole transactions of the recorded tables
-    feedfile      the feed's file and the note beside it, replaced as one
+    groups        transactions as the groups of a feed
+    note          the note beside a feed, and the feed's end that it tells of
+    feedfile      the feed's file: made whole, and grown in its place
     snapshot      the rows of one consistent snapshot
     recording     all of these, one behind the other
+    plans         workflow files, and all that a reshard needs
+    forever       a recording that goes on with each transaction as it commits
     filters       a workflow's filters as conditions of SQL
+    gtids         GTID sets, as the program reads them
     vstream       what VTGate sends of one shard, as a feed
+    vcopy         the rows of a keyspace by VStream's own copy, as a feed's first group
+    vcall         the call that asks VTGate, and whether the other side is still there
+    growing       a feed that grows in place
+    vtgate        these five, one behind the other, until a signal ends it
 """

@@ -6,15 +6,18 @@ from pymysql import Connection
 
 from .cells import Printing
 from .kinds import KEYS, WHOLE, Kind, kind_of
+from .labels import read_labels
 from .server import ask
 from .statements import Name
 from .stop import ANEW, Stop
 
-_COLUMNS = """SELECT column_name, data_type, column_type, character_set_name, collation_name, numeric_scale, character_octet_length
-    FROM information_schema.columns WHERE table_schema=%s AND table_name=%s ORDER BY ordinal_position"""
+_COLUMNS = """SELECT column_name, data_type, CONVERT(column_type USING ascii), character_set_name, collation_name, numeric_precision, numeric_scale,
+    character_octet_length FROM information_schema.columns WHERE table_schema=%s AND table_name=%s ORDER BY ordinal_position"""
 _KEY = """SELECT column_name, sub_part FROM information_schema.statistics
     WHERE table_schema=%s AND table_name=%s AND index_name='PRIMARY' ORDER BY seq_in_index"""
-CODECS = {"ascii": "ascii", "utf8mb3": "utf-8", "utf8mb4": "utf-8", "binary": "utf-8", "latin1": "cp1252"}
+_HASHED = "SELECT index_name FROM information_schema.statistics WHERE table_schema=%s AND table_name=%s AND index_type='HASH'"
+BYTE_ORDERED = ("ascii", "utf8mb3", "utf8mb4", "latin1")
+"""Character sets of which a _bin collation is the order of bytes."""
 
 
 @dataclass(frozen=True)
@@ -62,16 +65,47 @@ def split_name(word: str) -> Name:
     return schema, table
 
 
-def read_tables(connection: Connection, names: list[Name]) -> list[Table]:
-    """The tables of these names, in this order. Stops at the first that can't be recorded."""
-    tables = [_table(connection, *name) for name in names]
-    for name in {table.name for table in tables}:
-        if sum(table.name == name for table in tables) > 1:
-            raise Stop(f"two tables {name}", "of several schemas", "a feed's table names have no schema; record one feed of each")
+class OtherOrder(Stop):
+    """A key whose equality or order isn't that of bytes."""
+
+
+def read_tables(connection: Connection, names: list[Name], has_labels: bool = True) -> list[Table]:
+    """The tables of these names, in this order, with the labels of their columns if these are wanted. Stops at the first
+    that can't be recorded; where that is for its key's order, the others of which it is so are named too."""
+    tables, skipped = read_sorted(connection, names, has_labels)
+    if skipped:
+        (_, stop), *others = skipped.items()
+        what, _, todo = str(stop).partition(": ")
+        raise OtherOrder(what, "", todo + (f"; so are keys of {', '.join('.'.join(name) for name, _ in others)}" if others else ""))
     return tables
 
 
-def _table(connection: Connection, schema: str, name: str) -> Table:
+def read_sorted(connection: Connection, names: list[Name], has_labels: bool) -> tuple[list[Table], dict[Name, OtherOrder]]:
+    """The tables of these names, in this order, and those among them that can't be recorded for their keys' order. Stops
+    at the first that can't be for another reason."""
+    tables, skipped = [], {}
+    for name in names:
+        try:
+            tables.append(_table(connection, *name, has_labels))
+        except OtherOrder as stop:
+            skipped[name] = stop
+    for name in {table.name for table in tables}:
+        if sum(table.name == name for table in tables) > 1:
+            raise Stop(f"two tables {name}", "of several schemas", "a feed's table names have no schema; record one feed of each")
+    return tables, skipped
+
+
+def without_skipped(connection: Connection, names: list[Name]) -> tuple[list[Name], list[str]]:
+    """The names of the tables that are left where those go whose keys have another order, and a line for each of these.
+    Stops where none is left."""
+    _, skipped = read_sorted(connection, names, False)
+    lines = [f"{'.'.join(name)} is left out: {str(stop).partition(': ')[0]}" for name, stop in skipped.items()]
+    if len(skipped) == len(names):
+        raise Stop("no table is left", "", "; ".join(lines))
+    return [name for name in names if name not in skipped], lines
+
+
+def _table(connection: Connection, schema: str, name: str, has_labels: bool) -> Table:
     where = f"in {schema}.{name}"
     found = ask(connection, "SELECT table_type, engine FROM information_schema.tables WHERE table_schema=%s AND table_name=%s", schema, name)
     if not found:
@@ -84,7 +118,14 @@ def _table(connection: Connection, schema: str, name: str) -> Table:
     if engine != "InnoDB":
         raise Stop(f"engine {engine}", where, f"ALTER TABLE .. ENGINE=InnoDB, and {ANEW}")
     _check_cascades(connection, schema, name, where)
-    columns = [_column(row, where) for row in ask(connection, _COLUMNS, schema, name)]
+    for (index,) in ask(connection, _HASHED, schema, name):
+        raise Stop(f"unique index {index} over a hash", where,
+                   f"the log has the hash as one more column; give the index's columns a length, and {ANEW}, or leave the table out")  # fmt: skip
+    rows = ask(connection, _COLUMNS, schema, name)
+    columns = [_column(row, where) for row in rows]
+    if has_labels:
+        table = f"{quoted(schema)}.{quoted(name)}"
+        columns = [(_labelled(connection, table, column, *row[2:4]), collation) for row, (column, collation) in zip(rows, columns)]
     if len(columns) > 256:
         raise Stop(f"{len(columns)} columns", where, "a row has at most 256; leave it out")
     key = _key(connection, schema, name, where, columns)
@@ -93,33 +134,34 @@ def _table(connection: Connection, schema: str, name: str) -> Table:
 
 
 def _column(row: tuple, where: str) -> tuple[Column, str | None]:
-    name, data_type, column_type, charset, collation, scale, octets = row
+    name, data_type, column_type, _charset, collation, precision, scale, octets = row
     kind = kind_of(data_type, "unsigned" in column_type)
     if kind is None:
         raise Stop(f"type {data_type} of column {name}, which Vitess has no number for,", where,
                    f"make it BINARY or VARCHAR, and {ANEW}, or leave the table out")  # fmt: skip
+    if kind in (Kind.ENUM, Kind.SET):
+        return Column(name, Printing(kind)), collation
     if "COMPRESSED" in column_type:
         raise Stop(f"compressed column {name}", where, f"make it a plain one, and {ANEW}, or leave the table out")
-    width, labels = 0, ()
-    if "zerofill" in column_type and kind in WHOLE:
-        width = int(re.search(r"\((\d+)\)", column_type)[1])
-    elif kind == Kind.BINARY:
-        width = octets
-    elif kind in (Kind.FLOAT32, Kind.FLOAT64):
-        width = -1 if scale is None else scale
-    elif kind in (Kind.ENUM, Kind.SET):
-        labels = _labels(column_type, CODECS.get(charset), f"of column {name} {where}")
-    if "zerofill" in column_type and not width:
-        raise Stop(f"ZEROFILL of column {name}", where, "only whole numbers have it here; leave the table out")
-    return Column(name, Printing(kind, width, labels)), collation
+    width = octets if kind == Kind.BINARY else 0
+    if kind == Kind.YEAR or "zerofill" in column_type:
+        width = _width(kind, column_type, precision, scale)
+    return Column(name, Printing(kind, width, scale if kind in (Kind.FLOAT32, Kind.FLOAT64) else None)), collation
 
 
-def _labels(column_type: str, codec: str | None, where: str) -> tuple[bytes, ...]:
-    texts = [text.replace("''", "'") for text in re.findall(r"'((?:[^']|'')*)'", column_type)]
-    try:
-        return tuple(text.encode(codec or "ascii") for text in texts)
-    except UnicodeEncodeError:
-        raise Stop("labels of an unread character set", where, "make it utf8mb4, or leave the table out") from None
+def _labelled(connection: Connection, table: str, column: Column, definition: str, charset: str | None) -> Column:
+    """The column with the labels that it has, if it is an ENUM or a SET."""
+    if column.kind not in (Kind.ENUM, Kind.SET):
+        return column
+    labels, comma = read_labels(connection, f"{table}.{quoted(column.name)}", definition, charset)
+    return Column(column.name, Printing(column.kind, labels=labels, comma=comma))
+
+
+def _width(kind: Kind, column_type: str, precision: int, scale: int | None) -> int:
+    """How many characters a YEAR or a column with ZEROFILL has at least."""
+    if kind in (*WHOLE, Kind.YEAR):
+        return int(re.search(r"\((\d+)\)", column_type)[1])
+    return precision + (kind == Kind.DECIMAL and scale > 0)
 
 
 _FOREIGN_KEY = re.compile(r"^  CONSTRAINT (`(?:[^`]|``)+`) FOREIGN KEY .*? REFERENCES .*?\)((?: ON (?:DELETE|UPDATE) [A-Z ]+?)*),?$", re.M)
@@ -128,7 +170,13 @@ _FOREIGN_KEY = re.compile(r"^  CONSTRAINT (`(?:[^`]|``)+`) FOREIGN KEY .*? REFER
 def _check_cascades(connection: Connection, schema: str, name: str, where: str) -> None:
     """Stops at a foreign key by which rows change without the log. SHOW CREATE TABLE says them to whoever may
     read the table, or is refused; information_schema hides them from a user who may only read it."""
-    for constraint, rules in _FOREIGN_KEY.findall(ask(connection, f"SHOW CREATE TABLE {quoted(schema)}.{quoted(name)}")[0][1]):
+    # labels in it may be no UTF-8
+    connection.use_unicode = False
+    try:
+        created = ask(connection, f"SHOW CREATE TABLE {quoted(schema)}.{quoted(name)}")[0][1].decode("utf-8", "replace")
+    finally:
+        connection.use_unicode = True
+    for constraint, rules in _FOREIGN_KEY.findall(created):
         for rule in ("CASCADE", "SET NULL", "SET DEFAULT"):
             if rule in rules:
                 raise Stop(f"foreign key {constraint}{rules}", where, f"its changes aren't in the log; make it RESTRICT, and {ANEW}, or leave the table out")
@@ -149,7 +197,7 @@ def _key(connection: Connection, schema: str, name: str, where: str, columns: li
         if column.kind not in KEYS:
             raise Stop(f"key column {part} of type {column.kind.name}", where,
                        "keys are whole numbers, VARCHAR, CHAR, VARBINARY or BINARY; leave the table out")  # fmt: skip
-        if collation and not (collation.endswith("_bin") and collation.split("_")[0] in CODECS):
-            raise Stop(f"key column {part} of collation {collation}, whose equality or order isn't that of bytes,", where,
-                       f"make it {collation.split('_')[0]}_nopad_bin or VARBINARY, and {ANEW}, or leave the table out")  # fmt: skip
+        if collation and not (collation.endswith("_bin") and collation.split("_")[0] in BYTE_ORDERED):
+            raise OtherOrder(f"key column {part} of collation {collation}, whose equality or order isn't that of bytes,", where,
+                             f"make it {collation.split('_')[0]}_nopad_bin or VARBINARY, and {ANEW}, or leave the table out (--skip)")  # fmt: skip
     return tuple(places.index(part) for part, _ in parts)

@@ -34,9 +34,13 @@ class Printing:
 
     kind: Kind
     width: int = 0
-    """Of ZEROFILL the digits at least, of BINARY the bytes, of a FLOAT or DOUBLE with places these."""
+    """Of ZEROFILL the characters at least, of BINARY the bytes, of YEAR the digits."""
+    places: int | None = None
+    """Of a FLOAT or DOUBLE the digits behind the point, as of FLOAT(7,2), where they were said."""
     labels: tuple[bytes, ...] = ()
     """Of ENUM and SET."""
+    comma: bytes = b","
+    """What parts the labels of a SET, in its character set."""
 
 
 INTEGERS = {
@@ -58,7 +62,7 @@ def _integer(size: int, signed: bool, width: int) -> Reader:
     return read
 
 
-def _counted(size: int, least: int = 0, strip: bool = False) -> Reader:
+def _counted(size: int, least: int = 0) -> Reader:
     """Bytes behind their count, which has `size` bytes; made up with 00 to `least`."""
 
     def read(data: bytes, at: int) -> tuple[bytes, int]:
@@ -66,8 +70,7 @@ def _counted(size: int, least: int = 0, strip: bool = False) -> Reader:
         end = start + int.from_bytes(data[at:start], "little")
         if end > len(data):
             raise IndexError("a value is cut short")
-        value = data[start:end]
-        return (value.rstrip(b" ") if strip else value.ljust(least, b"\0")), end
+        return data[start:end].ljust(least, b"\0"), end
 
     return read
 
@@ -86,8 +89,12 @@ def _date(data: bytes, at: int) -> tuple[bytes, int]:
     return b"%04d-%02d-%02d" % (bits >> 9, bits >> 5 & 15, bits & 31), at + 3
 
 
-def _year(data: bytes, at: int) -> tuple[bytes, int]:
-    return (b"%04d" % (1900 + data[at]) if data[at] else b"0000"), at + 1
+def _year(digits: int) -> Reader:
+    def read(data: bytes, at: int) -> tuple[bytes, int]:
+        year = 1900 + data[at] if data[at] else 0
+        return (b"%02d" % (year % 100) if digits == 2 else b"%04d" % year), at + 1
+
+    return read
 
 
 def _time(digits: int) -> Reader:
@@ -122,25 +129,27 @@ def _timestamp(digits: int) -> Reader:
     def read(data: bytes, at: int) -> tuple[bytes, int]:
         seconds = int.from_bytes(data[at:at + 4], "big")
         end = at + 4 + more
-        text = f"{datetime.fromtimestamp(seconds, UTC):%Y-%m-%d %H:%M:%S}" if seconds else "0000-00-00 00:00:00"
-        return (text + _fraction(int.from_bytes(data[at + 4:end], "big"), digits)).encode(), end
+        fraction = int.from_bytes(data[at + 4:end], "big")
+        text = f"{datetime.fromtimestamp(seconds, UTC):%Y-%m-%d %H:%M:%S}" if seconds or fraction else "0000-00-00 00:00:00"
+        return (text + _fraction(fraction, digits)).encode(), end
 
     return read
 
 
-def _float(pattern: str, digits: int, places: int | None) -> Reader:
-    form = struct.Struct(pattern)
+def _float(pattern: str, digits: int, printing: Printing) -> Reader:
+    form, places, width = struct.Struct(pattern), printing.places, printing.width
 
     def read(data: bytes, at: int) -> tuple[bytes, int]:
         (number,) = form.unpack_from(data, at)
-        return (float_text(number, digits) if places is None else fixed_text(number, places)), at + form.size
+        text = float_text(number, digits) if places is None else fixed_text(number, places)
+        return text.zfill(width), at + form.size
 
     return read
 
 
-def _decimal(precision: int, scale: int) -> Reader:
+def _decimal(precision: int, scale: int, width: int) -> Reader:
     size = decimal_size(precision, scale)
-    return lambda data, at: (decimal_text(data[at:at + size], precision, scale), at + size)
+    return lambda data, at: (decimal_text(data[at:at + size], precision, scale).zfill(width), at + size)
 
 
 def _label(size: int, labels: tuple[bytes, ...]) -> Reader:
@@ -151,10 +160,14 @@ def _label(size: int, labels: tuple[bytes, ...]) -> Reader:
     return read
 
 
-def _labels(size: int, labels: tuple[bytes, ...]) -> Reader:
+def _labels(size: int, labels: tuple[bytes, ...], comma: bytes) -> Reader:
     def read(data: bytes, at: int) -> tuple[bytes, int]:
-        bits = int.from_bytes(data[at:at + size], "little")
-        return b",".join(label for bit, label in enumerate(labels) if bits >> bit & 1), at + size
+        bits, text = int.from_bytes(data[at:at + size], "little"), b""
+        for bit, label in enumerate(labels):
+            if bits >> bit & 1:
+                # the server writes no comma behind nothing, so an empty label at the beginning has none
+                text += comma + label if text else label
+        return text, at + size
 
     return read
 
@@ -184,22 +197,21 @@ def reader(log: LogType, printing: Printing) -> Reader:
         case 254:
             real, length = real_type(log)
             if real == 254 and kind in (Kind.CHAR, Kind.BINARY):
-                size = 2 if length > 255 else 1
-                return _counted(size, printing.width) if kind == Kind.BINARY else _counted(size, strip=True)
+                return _counted(2 if length > 255 else 1, printing.width)
             if real == 247 and kind == Kind.ENUM:
                 return _label(length, printing.labels)
             if real == 248 and kind == Kind.SET:
-                return _labels(length, printing.labels)
+                return _labels(length, printing.labels, printing.comma)
         case 246 if kind == Kind.DECIMAL:
-            return _decimal(*meta)
+            return _decimal(*meta, printing.width)
         case 4 if kind == Kind.FLOAT32:
-            return _float("<f", 6, printing.width if printing.width >= 0 else None)
+            return _float("<f", 6, printing)
         case 5 if kind == Kind.FLOAT64:
-            return _float("<d", 17, printing.width if printing.width >= 0 else None)
+            return _float("<d", 17, printing)
         case 10 if kind == Kind.DATE:
             return _date
         case 13 if kind == Kind.YEAR:
-            return _year
+            return _year(printing.width)
         case 16 if kind == Kind.BIT:
             size = meta[1] + (meta[0] > 0)
             return lambda data, at: (data[at:at + size], at + size)

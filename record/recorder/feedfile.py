@@ -1,147 +1,182 @@
-"""A feed's file and the note beside it: written beside, and renamed when whole.
+"""A feed's file: made whole under a name of its own, and then grown in its place, whole groups behind its end.
 
-The note, FEED.json, says what the feed itself can't: where in which log it ends, MariaDB's names of its
-transactions, the uuids of its positions, and the tables with their columns. A feed whose recording stopped
-stays as it was. The feed is renamed first, so that a note is never ahead of its feed; an append begins at
-the length that the note gives.
+Groups are kept aside until `put`, which writes them behind the feed's end, syncs them, and replaces the note.
+So a reader may follow the file: a whole group that it has seen stays. A writer that was killed amid a `put`
+leaves bytes behind the end that the note gives: a group that isn't whole is cut off at the next start, whole
+ones are held to what the log says again, and stay where that is the same, byte for byte.
 """
-import json
 import os
-import shutil
-from dataclasses import asdict, dataclass, field
+from contextlib import suppress
+from tempfile import SpooledTemporaryFile
 
-from google.protobuf.message import DecodeError
-
-from . import messages
-from .catalogue import Table
-from .messages import EventType, Response
-from .server import Place
+from .ending import Held, tell
+from .files import PIECE, is_at, kind_at, new_file, open_file, put, write_at, writing
+from .groups import Groups
+from .note import Note, ends, note_path, position_of
 from .stop import ANEW, Stop
 from .transactions import Change
 
 MOST = 2**31 - 1
-MOST_OF_ROW = 2**24
-
-
-@dataclass
-class Note:
-    server: str
-    shard: str
-    place: Place
-    begun: int
-    """When that log was begun, in seconds since 1970: a log of the same name that was begun anew is another."""
-    gtids: str
-    snapshot: int
-    position: str
-    size: int
-    uuids: dict[str, str]
-    tables: dict[str, list]
-    """By SCHEMA.TABLE the name and type number of each column."""
-    filled: list[str]
-    """The tables of which rows were recorded."""
-    prepared: list[str] = field(default_factory=list)
-    """XA transactions, in hexadecimal, that are prepared and change none of the tables."""
-
-    @classmethod
-    def read(cls, path: str) -> "Note":
-        try:
-            with open(path, encoding="utf-8") as file:
-                data = json.load(file)
-            return cls(**{**data, "place": Place(**data["place"])})
-        except (OSError, ValueError, TypeError, KeyError) as fault:
-            raise Stop("no note", f"in {path}", f"--append needs it beside the feed ({fault}); {ANEW}") from None
-
-    def write(self, path: str) -> None:
-        with open(path, "w", encoding="utf-8") as file:
-            json.dump(asdict(self), file, indent=1)
-            file.write("\n")
-
-
-def note_path(feed: str) -> str:
-    return feed + ".json"
+KEPT_IN_MEMORY = 2**24
 
 
 class FeedFile:
-    """A feed that is written beside its place. Use it with `with`; only `finish` puts it there."""
+    """Use it with `with`, and begin it in `Held`. `note` is that of the feed that is gone on with; without one a new feed
+    is made, which `over` lets take the place of an old one."""
 
-    def __init__(self, path: str, told: set[str], kept: int = 0) -> None:
-        """`told` are the tables whose FIELD the feed has, `kept` the bytes of the old one that stay."""
-        self.path, self.told, self.size = path, told, kept
-        self._part = f"{path}.part"
-        try:
-            self._file = open(self._part, "wb")  # noqa: SIM115
-            if kept:
-                with open(path, "rb") as old:
-                    shutil.copyfileobj(old, self._file)
-                self._file.truncate(kept)
-                self._file.seek(kept)
-        except OSError as fault:
-            raise Stop("no file can be written", f"at {self._part}", str(fault.strerror)) from None
+    def __init__(self, path: str, told: set[str], note: Note | None = None, over: bool = False) -> None:
+        self.path, self.over = path, over
+        self.size = note.size if note else 0
+        """How many bytes the feed has with all groups, those that are kept aside among them."""
+        self._groups, self._last = Groups(told), note.last if note else 0
+        self._own = ""
+        """The file's own name, until it is put in its place."""
+        self._kept = self._there = self.size
+        """The file's bytes up to which it is as it is to be, and those that it has: what is between was left there."""
+        self._is_sound = True
+        with writing(path):
+            if note:
+                self._file = open_file(path, os.O_RDWR)
+                self._cut_torn()
+                self._aside = self._spool()
+            else:
+                self._file, self._own = new_file(path)
+                self._aside = open(self._file, "wb", closefd=False)
+
+    def _spool(self) -> SpooledTemporaryFile:
+        folder, name = os.path.split(self.path)
+        return SpooledTemporaryFile(KEPT_IN_MEMORY, dir=folder or ".", prefix=f".{name}.{os.getpid()}-", suffix=".new")
+
+    def _cut_torn(self) -> None:
+        """Cuts off what is behind the note's length and isn't a whole group."""
+        length = os.fstat(self._file).st_size
+        for end in ends(self._file, self.size, length):
+            if position_of(os.pread(self._file, end - self._there, self._there)) is None:
+                break
+            self._there = end
+        self._cut(self._there, length)
+
+    def _cut(self, end: int, length: int) -> None:
+        if end < length:
+            os.ftruncate(self._file, end)
+            os.fsync(self._file)
+            tell(f"feed: {self.path}: {length - end} bytes that a killed writer left behind byte {end} are cut off")
 
     def __enter__(self) -> "FeedFile":
         return self
 
     def __exit__(self, *_: object) -> None:
-        self._file.close()
-        for path in (self._part, note_path(self._part)):
-            if os.path.exists(path):
-                os.unlink(path)
+        with Held():
+            for end in (lambda: self._own and os.unlink(self._own)), self._aside.close, (lambda: os.close(self._file)):
+                with suppress(OSError):
+                    end()
+
+    @property
+    def waits(self) -> bool:
+        """Whether there are groups that aren't put yet, and can be."""
+        return self._is_sound and (self._kept < self.size or self._own != "")
+
+    @property
+    def is_beyond(self) -> bool:
+        """Whether the feed's file goes on, as the log does, behind all groups of this writer."""
+        return self._kept == self.size < self._there
 
     def group(self, changes: list[Change], position: str, time: int = 0) -> None:
-        """Appends a transaction, or where nothing changes the position alone."""
-        response = Response()
-        add = response.events.add
-        if changes:
-            add(type=EventType.BEGIN, timestamp=time)
-        for change in changes:
-            self._tell(add, change.table, time)
-            rows = add(type=EventType.ROW, timestamp=time).row_event
-            rows.table_name = change.table.name
-            for before, after in change.rows:
-                one = rows.row_changes.add()
-                for message, row in ((one.before, before), (one.after, after)):
-                    if row is not None and messages.set_row(message, row) > MOST_OF_ROW:
-                        raise Stop(f"a row of more than {MOST_OF_ROW} bytes", f"in {'.'.join(change.table.full)} at {position}", "leave the table out")
-        add(type=EventType.GTID, timestamp=time, gtid=position)
-        if changes:
-            add(type=EventType.COMMIT, timestamp=time)
-        data = messages.framed(response)
-        self.size += len(data)
-        if self.size > MOST:
+        """A transaction, or where nothing changes the position alone."""
+        self._add(self._groups.group(changes, position, time))
+
+    def has_left(self, position: str) -> bool:
+        """Whether a killed writer left a group of this position alone here; it stays."""
+        data = self._groups.group([], position, 0) if self.is_beyond else b""
+        found = bool(data) and self._finds(data)
+        if found:
+            self._add(data)
+        return found
+
+    def _finds(self, data: bytes) -> bool:
+        return self._kept == self.size and self._kept + len(data) <= self._there and os.pread(self._file, len(data), self._kept) == data
+
+    def _add(self, data: bytes) -> None:
+        if self.size + len(data) > MOST:
             raise Stop(f"a feed of more than {MOST} bytes", f"for {self.path}", "record fewer tables, or fewer in each feed")
-        self._file.write(data)
+        self._is_sound = False
+        with writing(self.path):
+            if self._finds(data):
+                self._kept += len(data)
+            else:
+                self._aside.write(data)
+        self._is_sound = True
+        self._last, self.size = self.size, self.size + len(data)
 
-    def _tell(self, add, table: Table, time: int) -> None:
-        """The table's columns, before its first row."""
-        if table.name in self.told:
-            return
-        self.told.add(table.name)
-        fields = add(type=EventType.FIELD, timestamp=time).field_event
-        fields.table_name = table.name
-        for column in table.columns:
-            fields.fields.add(name=column.name, type=column.kind)
+    def put(self, note: Note | None) -> None:
+        """Puts the groups, and then the note where there is one, in their places. No signal may come between."""
+        if note:
+            note.size, note.last = self.size, self._last
+        self._is_sound = False
+        if self._own:
+            self._put_new(note)
+        else:
+            with writing(self.path):
+                self._check_mine()
+                self._cut(self._kept, self._there)
+                self._write_behind()
+            if note:
+                with writing(note_path(self.path), "the feed is whole, its note is as it was"):
+                    note.write(note_path(self.path))
+        self._is_sound = True
 
-    def finish(self, note: Note) -> None:
-        """Puts the feed, and then its note, in their places."""
-        self._file.flush()
-        os.fsync(self._file.fileno())
-        note.size = self.size
-        note.write(note_path(self._part))
-        os.replace(self._part, self.path)
-        os.replace(note_path(self._part), note_path(self.path))
+    def _put_new(self, note: Note) -> None:
+        """The note is whole before the feed has its name, so that `settle` can end what is killed between."""
+        with writing(self.path):
+            self._aside.close()
+            os.fsync(self._file)
+            own_note = note.new_file(note_path(self.path))
+            try:
+                put(self._own, self.path, self.over)
+            except BaseException:
+                if not is_at(self._file, self.path):
+                    os.unlink(own_note)
+                raise
+            self._own = ""
+            put(own_note, note_path(self.path), self.over)
+        self._kept = self._there = self.size
+        self._aside = self._spool()
+
+    def _check_mine(self) -> None:
+        if not is_at(self._file, self.path) or os.fstat(self._file).st_size != self._there:
+            raise Stop("the feed was changed by another program", f"at {self.path}", f"put back the two files of one recording, or {ANEW}")
+
+    def _write_behind(self) -> None:
+        """What was kept aside. Where it can't be written the feed ends with the last group that is whole."""
+        begun = at = self._kept
+        self._aside.seek(0)
+        try:
+            while piece := self._aside.read(PIECE):
+                write_at(self._file, piece, at)
+                at += len(piece)
+            os.fsync(self._file)
+        except OSError:
+            with suppress(OSError):
+                length = os.fstat(self._file).st_size
+                os.ftruncate(self._file, max(ends(self._file, begun, length), default=begun))
+            raise
+        self._kept = self._there = self.size
+        self._aside.close()
+        self._aside = self._spool()
 
 
-def check_end(path: str, note: Note) -> None:
-    """Stops unless the feed has a message's end at the length that the note gives, and the note's position there."""
-    try:
-        with open(path, "rb") as file:
-            feed = file.read(note.size)
-        last = None
-        for last in messages.frames(feed):
-            pass
-        said = Response.FromString(feed[last[0]:last[1]]).events if last else []
-    except (OSError, ValueError, DecodeError) as fault:
-        raise Stop("no feed to append to", f"in {path}", f"{fault}; {ANEW}") from None
-    positions = [event.gtid for event in said if event.type == EventType.GTID]
-    if len(feed) != note.size or (positions or [""])[-1] != note.position:
-        raise Stop("a feed that isn't the one of its note", f"in {path}", f"put back the two files of one recording, or {ANEW}")
+def check_free(path: str, over: bool) -> None:
+    """Stops where a new feed may not be put: it takes the place of nothing, or with `over` of a feed with its note."""
+    note = note_path(path)
+    for one in path, note:
+        with writing(one):
+            kind = kind_at(one)
+        if kind not in ("nothing", "a file"):
+            raise Stop(kind, f"at {one}", "name a file, by no link")
+        if kind == "a file" and not over:
+            raise Stop("a file is there", f"at {one}", "--append goes on with a feed, --replace records one anew in its place")
+        if kind == "a file":
+            try:
+                Note.read(note)
+            except Stop:
+                raise Stop("a file that is no feed of record/feed", f"at {one}", f"no note is in {note}; take it away, or name another one") from None

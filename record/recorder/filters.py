@@ -9,6 +9,8 @@ from dataclasses import dataclass
 from .catalogue import quoted
 from .kinds import BYTES, NAMED, TEXTS, WHOLE, Kind
 
+UNSURE = (Kind.FLOAT32, Kind.FLOAT64, Kind.ENUM, Kind.SET)
+"""What VTGate may print otherwise than a server's SELECT does."""
 BY_NAME = {kind.name: kind for kind in NAMED}
 _BLANKS = r"[ \t\r\n]*"
 _NAME = r"(`[^`]+`|[\w$]+)"
@@ -16,7 +18,7 @@ _QUOTED = r"'([^']*)'"
 _COLUMN = r"(?:`[^`]+`|[\w$]+(?![\w$]))"
 _SELECT = re.compile(
     rf"{_BLANKS}select(?![\w$]){_BLANKS}(\*|{_COLUMN}(?:{_BLANKS},{_BLANKS}{_COLUMN})*){_BLANKS}from(?![\w$]){_BLANKS}{_NAME}"
-    rf"(?:\s+where\s+in_keyrange{_BLANKS}\({_BLANKS}"
+    rf"(?P<where>\s+where\s+in_keyrange{_BLANKS}\({_BLANKS}"
     rf"(?:{_NAME}{_BLANKS},{_BLANKS}{_QUOTED}{_BLANKS},{_BLANKS})?{_QUOTED}{_BLANKS}\))?{_BLANKS}", re.I)  # fmt: skip
 
 
@@ -48,6 +50,15 @@ class Planned:
             return [*self.kinds]
         return [name.strip("`") for name in re.findall(_COLUMN, found[1])]
 
+    def sure(self, filtered: str) -> str:
+        """A filter that passes the same rows, and keeps those columns of it that are printed alike everywhere."""
+        columns = [name for name in self.kept(filtered) if self.kinds[name] not in UNSURE]
+        if "`" in "".join([self.name, *columns]):
+            raise ValueError(f"a backquote in a name of table {self.name}, which no rule can have")
+        found = _SELECT.fullmatch(filtered)
+        where = found["where"] or "" if found else f" where in_keyrange('{filtered}')" if filtered else ""
+        return f"select {', '.join(f'`{name}`' for name in columns)} from `{self.name}`{where}"
+
     def cells(self, columns: list[str]) -> str:
         parts = [f"IF({quoted(name)} IS NULL, 'N', CONCAT('x', LOWER({self._text(name)})))" for name in columns]
         return f"CONCAT_WS(CHAR(9), {', '.join(parts)})"
@@ -77,7 +88,7 @@ class Planned:
         found = _SELECT.fullmatch(filtered)
         if not found:
             return self._in_range(self.vindex, filtered)
-        *_, column, vindex, place = found.groups()
+        column, vindex, place = found.groups()[-3:]
         if place is None:
             return "TRUE"
         return self._in_range((column.strip("`"), vindex) if column else self.vindex, place)
@@ -118,6 +129,18 @@ def dump_query(workflow: dict, schemas: list[str]) -> str:
             union = "\n  UNION ALL ".join(parts)
             lines.append(f"SELECT line FROM (\n  {union}\n) AS dumped ORDER BY {', '.join(order)};")
     return "\n".join(lines) + "\n"
+
+
+def sure_workflow(workflow: dict) -> dict:
+    """The workflow of the same rows without the columns that VTGate may print otherwise than a server does. ValueError
+    where a name can't be written in a rule."""
+    tables = [table for table in map(Planned.read, workflow["tables"]) if set(UNSURE) & set(table.kinds.values())]
+    streams = []
+    for stream in workflow["streams"]:
+        found = [(table, _rule_of(stream, table.name)) for table in tables]
+        rules = [{"match": table.name, "filter": table.sure(filtered)} for table, filtered in found if filtered is not None]
+        streams.append(stream | {"filter": stream["filter"] | {"rules": [*rules, *stream["filter"]["rules"]]}})
+    return workflow | {"streams": streams}
 
 
 def kept_columns(workflow: dict, table: Planned) -> list[str]:

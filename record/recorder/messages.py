@@ -11,22 +11,26 @@ _ONE, _MANY = _F.LABEL_OPTIONAL, _F.LABEL_REPEATED
 
 _MESSAGES = {
     "Row": [("lengths", 1, _MANY, _F.TYPE_SINT64), ("values", 2, _ONE, _F.TYPE_BYTES)],
-    "Field": [("name", 1, _ONE, _F.TYPE_STRING), ("type", 2, _ONE, _F.TYPE_INT32)],
+    "Field": [("name", 1, _ONE, _F.TYPE_STRING), ("type", 2, _ONE, _F.TYPE_INT32), ("flags", 10, _ONE, _F.TYPE_UINT32)],
     "RowChange": [("before", 1, _ONE, "Row"), ("after", 2, _ONE, "Row"), ("data_columns", 3, _ONE, "Unread"),
                   ("json_partial_values", 4, _ONE, "Unread")],
     "RowEvent": [("table_name", 1, _ONE, _F.TYPE_STRING), ("row_changes", 2, _MANY, "RowChange")],
-    "FieldEvent": [("table_name", 1, _ONE, _F.TYPE_STRING), ("fields", 2, _MANY, "Field")],
+    "FieldEvent": [("table_name", 1, _ONE, _F.TYPE_STRING), ("fields", 2, _MANY, "Field"), ("enum_set_string_values", 25, _ONE, _F.TYPE_BOOL)],
     "VEvent": [("type", 1, _ONE, _F.TYPE_INT32), ("timestamp", 2, _ONE, _F.TYPE_INT64), ("gtid", 3, _ONE, _F.TYPE_STRING),
                ("statement", 4, _ONE, _F.TYPE_STRING), ("row_event", 5, _ONE, "RowEvent"), ("field_event", 6, _ONE, "FieldEvent"),
-               ("vgtid", 7, _ONE, "VGtid")],
+               ("vgtid", 7, _ONE, "VGtid"), ("last_p_k_event", 21, _ONE, "LastPKEvent"), ("keyspace", 22, _ONE, _F.TYPE_STRING),
+               ("shard", 23, _ONE, _F.TYPE_STRING)],
     "VStreamResponse": [("events", 1, _MANY, "VEvent")],
     "VGtid": [("shard_gtids", 1, _MANY, "ShardGtid")],
     "ShardGtid": [("keyspace", 1, _ONE, _F.TYPE_STRING), ("shard", 2, _ONE, _F.TYPE_STRING), ("gtid", 3, _ONE, _F.TYPE_STRING),
-                  ("table_p_ks", 4, _MANY, "Unread")],
+                  ("table_p_ks", 4, _MANY, "TableLastPK")],
+    "LastPKEvent": [("table_last_p_k", 1, _ONE, "TableLastPK"), ("completed", 2, _ONE, _F.TYPE_BOOL)],
+    "TableLastPK": [("table_name", 1, _ONE, _F.TYPE_STRING), ("lastpk", 3, _ONE, "QueryResult")],
+    "QueryResult": [("fields", 1, _MANY, "Field"), ("rows", 4, _MANY, "Row")],
     "Unread": [],
     "Rule": [("match", 1, _ONE, _F.TYPE_STRING), ("filter", 2, _ONE, _F.TYPE_STRING)],
     "Filter": [("rules", 1, _MANY, "Rule")],
-    "VStreamFlags": [("stop_on_reshard", 3, _ONE, _F.TYPE_BOOL)],
+    "VStreamFlags": [("heartbeat_interval", 2, _ONE, _F.TYPE_UINT32), ("stop_on_reshard", 3, _ONE, _F.TYPE_BOOL)],
     "VStreamRequest": [("tablet_type", 2, _ONE, _F.TYPE_INT32), ("vgtid", 3, _ONE, "VGtid"), ("filter", 4, _ONE, "Filter"),
                        ("flags", 5, _ONE, "VStreamFlags")],
 }  # fmt: skip
@@ -48,6 +52,10 @@ def _classes() -> dict[str, type]:
     return {name: factory.GetPrototype(pool.FindMessageTypeByName("recorder." + name)) for name in _MESSAGES}
 
 
+MOST_OF_FEED = 2**31 - 1
+MOST_OF_ROW = 2**24
+"""The bytes of a feed, and of a Row message, above which the program refuses them."""
+
 _CLASSES = _classes()
 Response, Request = _CLASSES["VStreamResponse"], _CLASSES["VStreamRequest"]
 
@@ -67,7 +75,9 @@ class EventType(IntEnum):
     HEARTBEAT = 14
     VGTID = 15
     VERSION = 17
+    LASTPK = 18
     SAVEPOINT = 19
+    COPY_COMPLETED = 20
 
 
 def set_row(message, row: Row) -> int:
@@ -78,15 +88,19 @@ def set_row(message, row: Row) -> int:
     return message.ByteSize()
 
 
+def varint(number: int) -> bytes:
+    head = bytearray()
+    while number > 0x7F:
+        head.append(number & 0x7F | 0x80)
+        number >>= 7
+    head.append(number)
+    return bytes(head)
+
+
 def framed(response) -> bytes:
     """A message behind its length as a varint."""
     body = response.SerializeToString(deterministic=True)
-    length, head = len(body), bytearray()
-    while length > 0x7F:
-        head.append(length & 0x7F | 0x80)
-        length >>= 7
-    head.append(length)
-    return bytes(head) + body
+    return varint(len(body)) + body
 
 
 def frames(feed: bytes) -> Iterator[tuple[int, int]]:

@@ -1,6 +1,6 @@
 """Decimal numbers and floats, from the log's bytes to the text that the server prints.
 
-Sources: MariaDB's strings/decimal.c (decimal2bin) and strings/dtoa.c (my_gcvt).
+Sources: MariaDB's strings/decimal.c (decimal2bin) and strings/dtoa.c (my_gcvt, my_fcvt).
 """
 from decimal import Decimal
 
@@ -40,14 +40,14 @@ def decimal_text(data: bytes, precision: int, scale: int) -> bytes:
 
 def float_text(number: float, digits: int) -> bytes:
     """The text of a float: its shortest digits, at most so many (6 of a FLOAT, 17 of a DOUBLE), without an
-    exponent where the point stands at most 15 digits away."""
+    exponent where the point stands at most 15 digits away, or amid the digits."""
     if number == 0:
         return b"-0" if str(number).startswith("-") else b"0"
     shortest = repr(number) if digits >= 17 else f"{number:.{digits - 1}e}"
     sign, places, exponent = Decimal(shortest).normalize().as_tuple()
     text = "".join(map(str, places))
     point = len(text) + int(exponent)
-    if -15 < point <= 15:
+    if -15 < point <= 15 or 0 < point < len(text):
         if point <= 0:
             text = "0." + "0" * -point + text
         elif point >= len(text):
@@ -60,5 +60,8 @@ def float_text(number: float, digits: int) -> bytes:
 
 
 def fixed_text(number: float, places: int) -> bytes:
-    """The text of a float with so many places, as of FLOAT(7,2)."""
-    return f"{number:.{places}f}".encode()
+    """The text of a float with so many places, as of FLOAT(7,2): its shortest digits, filled with zeros, where
+    they have no more places than these; else the number itself, rounded to them. A FLOAT's digits are those
+    of the DOUBLE that it equals."""
+    shortest = Decimal(repr(number)).normalize()
+    return f"{number if -int(shortest.as_tuple().exponent) > places else shortest:.{places}f}".encode()

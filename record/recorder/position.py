@@ -16,6 +16,9 @@ def domain_uuid(domain: int) -> str:
     return f"6d617269-6164-6200-8000-{domain:012x}"
 
 
+_UUID = re.compile(r"6d617269-6164-6200-8000-([0-9a-f]{12}):(?:1-)?(\d+)")
+
+
 @dataclass(frozen=True)
 class Gtid:
     """A transaction's name, as MariaDB prints it: domain-server-sequence."""
@@ -64,3 +67,35 @@ class Position:
         if self.snapshot:
             sets.append((SNAPSHOT_UUID, self.snapshot))
         return "MySQL56/" + ",".join(f"{uuid}:1-{number}" if number > 1 else f"{uuid}:1" for uuid, number in sorted(sets))
+
+
+@dataclass(frozen=True)
+class Until:
+    """A position that a recording is to reach: of some domains the number that each has there."""
+
+    numbers: dict[int, int]
+
+    @classmethod
+    def read(cls, text: str) -> "Until":
+        """Of MariaDB's text or of a feed's. ValueError where it is neither, or names no transaction."""
+        parts = [part.strip() for part in text.removeprefix("MySQL56/").split(",")]
+        numbers = {}
+        for part in parts:
+            if found := _UUID.fullmatch(part):
+                numbers[int(found[1], 16)] = int(found[2])
+            elif not part.startswith(SNAPSHOT_UUID):
+                gtid = Gtid.read(part)
+                numbers[gtid.domain] = gtid.sequence
+        if not numbers:
+            raise ValueError(f"no transaction in {text!r}")
+        return cls(numbers)
+
+    def is_reached(self, position: Position) -> bool:
+        return all(domain in position.last and position.last[domain].sequence >= number for domain, number in self.numbers.items())
+
+    def is_passed(self, position: Position) -> bool:
+        """Whether the position is behind this one."""
+        return self.is_reached(position) and any(position.last[domain].sequence > number for domain, number in self.numbers.items())
+
+    def __str__(self) -> str:
+        return ",".join(f"{domain}-*-{number}" for domain, number in sorted(self.numbers.items()))

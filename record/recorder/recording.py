@@ -1,24 +1,31 @@
-"""A recording: settings and tables are checked, the rows of a snapshot and then the log's are written, and
-the feed takes its place only when all of it is there."""
+"""A recording: settings and tables are checked, the rows of a snapshot and then the log's are read, and they
+take their place in the feed together, when the log was read to its end; then, where that is wanted, each
+transaction as it commits (`forever`)."""
 import sys
+import time
 from collections.abc import Iterator
-from contextlib import closing
+from contextlib import ExitStack, closing, contextmanager
 from dataclasses import dataclass
 
-from pymysql import Connection
-
-from .catalogue import Table, read_tables
+from .catalogue import read_tables
+from .ending import Ended, Held, Last, show, tell
 from .events import Event, LogEvent
-from .feedfile import FeedFile, Note, check_end, note_path
-from .position import SNAPSHOT_UUID, Position, domain_uuid
+from .feedfile import FeedFile, check_free
+from .files import Lock, kind_at, left_files, writing
+from .note import Note, check_end, note_path, settle
+from .position import SNAPSHOT_UUID, Position, Until, domain_uuid
+from .prepared import prepared_at
 from .server import Login, Place, check_schemas, check_settings, end_place, events, first_place, gtids_at, log_sizes
 from .snapshot import Snapshot
 from .statements import Name
-from .stop import ANEW, Stop
-from .transactions import Change, Transactions
+from .stop import AGAIN, ANEW, Lost, Stop
+from .transactions import Change, Transaction, Transactions
+from .untold import told_of
 
 NO_GTIDS = b"\0\0\0\0"
 """How a GTID list begins that has none: it stands at a log's beginning, and lists what is before it."""
+MINUTE = 60
+"""The seconds between two lines that say how far a recording is."""
 
 
 @dataclass(frozen=True)
@@ -31,6 +38,10 @@ class Wanted:
     tables: list[Name]
     from_snapshot: bool = False
     append: bool = False
+    over: bool = False
+    """Whether a new feed may take the place of an old one."""
+    until: Until | None = None
+    """The position behind which nothing is recorded; else all up to the log's end."""
 
 
 @dataclass
@@ -43,125 +54,238 @@ class _Start:
     prepared: dict[bytes, list[Change]]
     written: str = ""
     """The last position that the feed has."""
-    kept: int = 0
-    begun: int | None = None
-    """When the log there was begun, where that is known."""
+    note: Note | None = None
+    """The note of the feed that is gone on with."""
+
+    @property
+    def begun(self) -> int | None:
+        """When the log there was begun, where that is known."""
+        return self.note.begun if self.note else None
 
 
 class Progress:
-    """A bar on standard error, where that is a terminal."""
+    """How far a recording is, on standard error: a bar where that is a terminal, else a line a minute."""
 
     def __init__(self, sizes: dict[str, int], start: Place, end: Place) -> None:
-        self._shown = sys.stderr.isatty()
+        self._is_seen = bool(sys.stderr) and sys.stderr.isatty()
         logs = list(sizes)
         between = logs[logs.index(start.log):logs.index(end.log) + 1] if start.log in sizes and end.log in sizes else []
         self._before = {log: sum(sizes[one] for one in between[:at]) for at, log in enumerate(between)}
         self._start, self._whole = start.offset, max(1, sum(sizes[log] for log in between) - start.offset)
-        self._last = -1
+        self._last, self._told_at = -1, time.monotonic()
 
     def at(self, place: Place, groups: int) -> None:
         part = min(1000, 1000 * (self._before.get(place.log, 0) + place.offset - self._start) // self._whole)
-        if self._shown and part != self._last:
+        if self._is_seen and part != self._last:
             self._last = part
-            print(f"\r[{'#' * (part // 40):25}] {part / 10:5.1f}% {place} {groups} groups", end="", file=sys.stderr, flush=True)
+            show(f"\r[{'#' * (part // 40):25}] {part / 10:5.1f}% {place} {groups} groups")
+        elif not self._is_seen and time.monotonic() >= self._told_at + MINUTE:
+            self._told_at = time.monotonic()
+            tell(f"feed: {time.strftime('%Y-%m-%dT%H:%M:%SZ', time.gmtime())} {part / 10:.1f}% of the log read, at {place}; {groups} groups")
 
     def close(self) -> None:
-        if self._shown and self._last >= 0:
-            print("\r\033[K", end="", file=sys.stderr)
+        if self._is_seen and self._last >= 0:
+            show("\r\033[K")
 
 
 def record(wanted: Wanted) -> Note:
-    """Writes a feed and its note. Stops, with nothing written, where the feed couldn't say what the tables are."""
-    with closing(wanted.login.connect()) as connection:
-        version = check_settings(connection)
-        check_schemas(connection, {schema for schema, _ in wanted.tables})
-        if wanted.append:
-            note = Note.read(note_path(wanted.out))
-            tables = read_tables(connection, wanted.tables)
-            start = _behind(connection, wanted, note, tables)
-            return _write(wanted, connection, version, tables, start)
-        if not wanted.from_snapshot:
-            tables = read_tables(connection, wanted.tables)
-            return _write(wanted, connection, version, tables, _Start(first_place(connection), Position(), set(), {}))
-        with closing(Snapshot(wanted.login)) as snapshot:
-            tables = read_tables(connection, wanted.tables)
-            gtids = gtids_at(connection, snapshot.place)
-            if gtids is None:
-                raise Stop("the snapshot's place isn't in the log", f"at {snapshot.place}", "record again")
-            start = _Start(snapshot.place, Position.read(gtids), set(), {})
-            return _write(wanted, connection, version, tables, start, snapshot)
+    """Writes a feed and its note, or goes on with them, up to where the log ends. Stops, and leaves what is there
+    as it is, where the feed couldn't say what the tables are."""
+    try:
+        with locked(wanted), ExitStack() as opened:
+            recording = Recording(wanted, opened)
+            recording.catch_up()
+            recording.check_whole()
+            with Last():
+                recording.put()
+            return recording.note
+    except Ended as ended:
+        raise Stop(f"ended by {ended}", "", left_as_it_was(wanted)) from None
 
 
-def _behind(connection: Connection, wanted: Wanted, note: Note, tables: list[Table]) -> _Start:
-    """The start of an append, behind what the note's feed has."""
-    check_end(wanted.out, note)
-    if note.shard != wanted.shard:
-        raise Stop(f"shard {wanted.shard}", f"for the feed of {note.shard}", "append to the feed of this shard")
-    layouts = {".".join(table.full): table.layout() for table in tables}
-    for name in note.tables.keys() | layouts.keys():
-        if note.tables.get(name) != layouts.get(name) and (name in note.filled or name not in note.tables or name not in layouts):
-            raise Stop("another table, or other columns, than the feed has", f"in {name}", ANEW)
-    gtids = gtids_at(connection, note.place)
-    if gtids is None:
-        raise Stop("the log was purged or begun anew", f"at {note.place}, where the feed ends", ANEW)
-    if Position.read(gtids).gtids() != note.gtids:
-        raise Stop("another log than the feed's", f"at {note.place}: behind {gtids or 'nothing'} and not {note.gtids or 'nothing'}", ANEW)
-    filled = {table.full for table in tables if ".".join(table.full) in note.filled}
-    prepared = {bytes.fromhex(xa): [] for xa in note.prepared}
-    position = Position.read(note.gtids, note.snapshot)
-    return _Start(note.place, position, filled, prepared, note.position, note.size, note.begun)
+def left_as_it_was(wanted: Wanted) -> str:
+    return f"{wanted.out} is as it was" if wanted.append or wanted.over else "no feed was made"
 
 
-def _write(wanted: Wanted, connection: Connection, version: str, tables: list[Table], start: _Start, snapshot: Snapshot | None = None) -> Note:
-    position, end = start.position, end_place(connection)
-    with FeedFile(wanted.out, {name for _, name in start.filled}, start.kept) as feed:
-        written = start.written
-        if snapshot:
-            written = _write_snapshot(feed, snapshot, tables, start)
-        begun_with = {table.full for table in tables} if snapshot or wanted.append else set()
-        reading = Transactions(tables, position, start.filled, start.prepared, begun_with)
-        progress, groups = Progress(log_sizes(connection), start.place, end), 0
-        with closing(wanted.login.connect()) as stream:
-            checked = _checked(events(stream, start.place), start)
-            for transaction in reading.read(checked, start.place, end):
-                if transaction.changes:
-                    written = position.text()
-                    feed.group(transaction.changes, written, transaction.time)
-                    groups += 1
+@contextmanager
+def locked(wanted: Wanted) -> Iterator[None]:
+    """Holds the feed's lock; new files that a killed recording left are gone. Stops where there is no feed to go on
+    with, or where a file is that mustn't be lost."""
+    _check_there(wanted)
+    with ExitStack() as held:
+        with Held():
+            held.enter_context(Lock(wanted.out))
+            with writing(wanted.out):
+                settle(wanted.out)
+        _check_there(wanted)
+        yield
+
+
+def _check_there(wanted: Wanted) -> None:
+    if not wanted.append:
+        return check_free(wanted.out, wanted.over)
+    note = note_path(wanted.out)
+    with writing(wanted.out):
+        kind = kind_at(wanted.out)
+        if kind != "a file":
+            raise Stop("no feed to append to", f"at {wanted.out}", f"{kind} is there; {ANEW if kind == 'nothing' else 'name a file, by no link'}")
+        if kind_at(note) == "nothing" and not left_files(note):
+            Note.read(note)
+
+
+class Recording:
+    """What one connection records. `note` is the one of all groups; where an XA transaction is `pending` it can't be the
+    feed's. `is_done` where the position is reached up to which is recorded."""
+
+    def __init__(self, wanted: Wanted, opened: ExitStack) -> None:
+        """What is opened is closed with `opened`."""
+        self.wanted = wanted
+        self.connection = opened.enter_context(closing(wanted.login.connect()))
+        self.version = check_settings(self.connection)
+        check_schemas(self.connection, {schema for schema, _ in wanted.tables})
+        snapshot = opened.enter_context(closing(Snapshot(wanted.login))) if wanted.from_snapshot else None
+        self.tables = read_tables(self.connection, wanted.tables)
+        start = self._start = self._behind() if wanted.append else self._first(snapshot)
+        self._end = self._log_end()
+        if not wanted.append:
+            for line in told_of(self.connection, self.tables, wanted.shard):
+                tell(f"feed: warning: {line}")
+        self.position, self.filled = start.position, start.filled
+        self.until, self.is_done = wanted.until, False
+        with Held():
+            self.feed = opened.enter_context(FeedFile(wanted.out, {name for _, name in start.filled}, start.note, wanted.over))
+        self.written = self._write_snapshot(snapshot) if snapshot else start.written
+        begun_with = {table.full for table in self.tables} if snapshot or wanted.append else set()
+        self.reading = Transactions(self.tables, self.position, self.filled, start.prepared, begun_with)
+        self.note, self.pending = self._noted(start.place), None
+
+    def _first(self, snapshot: Snapshot | None) -> _Start:
+        """The start of a new feed: the log's beginning, or the place of a snapshot."""
+        if snapshot is None:
+            return _Start(first_place(self.connection), Position(), set(), {})
+        gtids = gtids_at(self.connection, snapshot.place)
+        if gtids is None:
+            raise Stop("the snapshot's place isn't in the log", f"at {snapshot.place}", AGAIN)
+        prepared = prepared_at(self.wanted.login, self.connection, self.tables, snapshot.place)
+        return _Start(snapshot.place, Position.read(gtids), set(), {xa: [] for xa in prepared})
+
+    def _behind(self) -> _Start:
+        """The start of an append, behind what the note's feed has."""
+        note = Note.read(note_path(self.wanted.out))
+        check_end(self.wanted.out, note)
+        if note.shard != self.wanted.shard:
+            raise Stop(f"shard {self.wanted.shard}", f"for the feed of {note.shard}", "append to the feed of this shard")
+        layouts = {".".join(table.full): table.layout() for table in self.tables}
+        for name in note.tables.keys() | layouts.keys():
+            if note.tables.get(name) != layouts.get(name) and (name in note.filled or name not in note.tables or name not in layouts):
+                raise Stop("another table, or other columns, than the feed has", f"in {name}", ANEW)
+        gtids = gtids_at(self.connection, note.place)
+        if gtids is None:
+            raise Stop("the log was purged or begun anew", f"at {note.place}, where the feed ends", ANEW)
+        if Position.read(gtids).gtids() != note.gtids:
+            raise Stop("another log than the feed's", f"at {note.place}: behind {gtids or 'nothing'} and not {note.gtids or 'nothing'}", ANEW)
+        filled = {table.full for table in self.tables if ".".join(table.full) in note.filled}
+        prepared = {bytes.fromhex(xa): [] for xa in note.prepared}
+        return _Start(note.place, Position.read(note.gtids, note.snapshot), filled, prepared, note.position, note)
+
+    def _log_end(self) -> Place:
+        """Where the log ends, at a time when the tables are as they were read: a statement that alters one stands before it."""
+        end = end_place(self.connection)
+        if read_tables(self.connection, self.wanted.tables) != self.tables:
+            raise Lost("a table was altered just now", f"before {end}", AGAIN)
+        return end
+
+    def _write_snapshot(self, snapshot: Snapshot) -> str:
+        """The snapshot's rows, whose positions say nothing of the log; answers the last one."""
+        position = Position()
+        for change in snapshot.changes(self.tables):
+            position.snapshot += 1
+            self.filled.add(change.table.full)
+            self.feed.group([change], position.text())
+        self.position.snapshot = position.snapshot
+        snapshot.close()
+        return position.text() if position.snapshot else ""
+
+    def catch_up(self) -> None:
+        """Reads up to where the log ended. That no table was altered before is known only there, so nothing of it is in
+        the feed before it is `put`."""
+        if self.until and self.until.is_passed(self.position):
+            raise Stop("the position is passed already", f"at {self.position.gtids()}", "--until takes one that is still to come")
+        self.look(self._start.place)
+        progress, groups = Progress(log_sizes(self.connection), self._start.place, self._end), 0
+        with closing(self.wanted.login.connect()) as stream:
+            for transaction in self.reading.read(self.checked(events(stream, self._start.place)), self._start.place, self._end):
+                if not self.is_done:
+                    self.take(transaction)
+                    self.look(transaction.end)
+                    groups += bool(transaction.changes)
                 progress.at(transaction.end, groups)
         progress.close()
-        if position.last and position.text() != written:
-            # no group says what the last transactions left alone: this one says that they were read
-            written = position.text()
-            feed.group([], written)
-        note = Note(version, wanted.shard, reading.place, reading.begun, position.gtids(), position.snapshot, written, 0,
-                    {str(domain): domain_uuid(domain) for domain in position.last} | ({"snapshot": SNAPSHOT_UUID} if position.snapshot else {}),
-                    {".".join(table.full): table.layout() for table in tables}, sorted(".".join(name) for name in start.filled),
-                    [xa.hex() for xa in start.prepared])  # fmt: skip
-        feed.finish(note)
-        return note
+        if not self.is_done:
+            self.keep(self.reading.place)
+            self.finish()
 
+    def checked(self, read: Iterator[tuple[str, Event]]) -> Iterator[tuple[str, Event]]:
+        """The events, as long as the log is the one that was meant: the feed's own, or one that begins with nothing before it."""
+        begun, behind = self.note.begun, bool(self.position.last)
+        unseen = {LogEvent.FORMAT_DESCRIPTION, LogEvent.GTID_LIST, LogEvent.GTID}
+        for log, event in read:
+            if event.kind in unseen:
+                if event.kind == LogEvent.FORMAT_DESCRIPTION and begun not in (None, event.time):
+                    raise Stop("another log than the feed's", f"in {log}, which was begun anew", ANEW)
+                if event.kind == LogEvent.GTID_LIST and LogEvent.GTID in unseen and not behind and event.body[:4] != NO_GTIDS:
+                    raise Stop("the first log was purged", f"before {log}", ANEW)
+                unseen.discard(event.kind)
+            yield log, event
 
-def _write_snapshot(feed: FeedFile, snapshot: Snapshot, tables: list[Table], start: _Start) -> str:
-    """The snapshot's rows, whose positions say nothing of the log; answers the last one."""
-    position = Position()
-    for change in snapshot.changes(tables):
-        position.snapshot += 1
-        start.filled.add(change.table.full)
-        feed.group([change], position.text())
-    start.position.snapshot = position.snapshot
-    return position.text() if position.snapshot else ""
+    def take(self, transaction: Transaction) -> None:
+        """Appends a transaction to the groups."""
+        position = self.position.text()
+        if transaction.changes:
+            self.feed.group(transaction.changes, position, transaction.time)
+        elif not self.feed.has_left(position):
+            return
+        self.written = position
 
+    def look(self, place: Place) -> None:
+        """Ends here what is recorded, where that is the position up to which it is wanted."""
+        if self.until and self.until.is_reached(self.position):
+            self.is_done = True
+            self.keep(place)
+            self.finish()
+            if self.feed.is_beyond:
+                raise Stop("the feed goes on behind the position", f"in {self.wanted.out}", "append to it without --until")
 
-def _checked(read: Iterator[tuple[str, Event]], start: _Start) -> Iterator[tuple[str, Event]]:
-    """The events, as long as the log is the one that was meant: the feed's own, or one that begins with nothing before it."""
-    begun, behind = start.begun, start.position.last
-    unseen = {LogEvent.FORMAT_DESCRIPTION, LogEvent.GTID_LIST, LogEvent.GTID}
-    for log, event in read:
-        if event.kind in unseen:
-            if event.kind == LogEvent.FORMAT_DESCRIPTION and begun not in (None, event.time):
-                raise Stop("another log than the feed's", f"in {log}, which was begun anew", ANEW)
-            if event.kind == LogEvent.GTID_LIST and LogEvent.GTID in unseen and not behind and event.body[:4] != NO_GTIDS:
-                raise Stop("the first log was purged", f"before {log}", ANEW)
-            unseen.discard(event.kind)
-        yield log, event
+    def keep(self, place: Place) -> None:
+        """Makes the note of the groups up to a place at which no transaction is open."""
+        self.note, self.pending = self._noted(place), self.reading.pending()
+
+    def finish(self) -> None:
+        """Has the groups say how far the note says that the log was read: where none says what the last transactions left
+        alone, a last one does."""
+        position = Position.read(self.note.gtids, self.note.snapshot)
+        if position.last and position.text() != self.written:
+            self.feed.group([], position.text())
+            self.written = self.note.position = position.text()
+
+    def check_begun(self) -> None:
+        """Stops where what was read can't begin a feed."""
+        if self.pending and not self.wanted.append:
+            raise self.pending
+
+    def check_whole(self) -> None:
+        """Stops where what was read can't be all that is recorded."""
+        if self.pending:
+            raise self.pending
+        if self.until and not self.is_done:
+            raise Stop("the log doesn't reach the position", f"at {self.note.gtids or 'its beginning'}", f"{AGAIN} when the server has it, or with --forever")
+
+    def _noted(self, place: Place) -> Note:
+        uuids = {str(domain): domain_uuid(domain) for domain in self.position.last} | ({"snapshot": SNAPSHOT_UUID} if self.position.snapshot else {})
+        return Note(self.version, self.wanted.shard, place, self.reading.begun or self._start.begun, self.position.gtids(), self.position.snapshot,
+                    self.written, self.feed.size, uuids, {".".join(table.full): table.layout() for table in self.tables},
+                    sorted(".".join(name) for name in self.filled), [xa.hex() for xa in self.reading.prepared])  # fmt: skip
+
+    def put(self) -> None:
+        """Puts the groups in their place in the feed, and the note in its."""
+        self.feed.put(None if self.pending else self.note)

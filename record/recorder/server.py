@@ -5,44 +5,91 @@ asks not to wait gets all events up to the log's end, as mariadb-binlog does.
 """
 import getpass
 import os
+import random
+import ssl
 import struct
 import zlib
 from collections.abc import Iterator
-from dataclasses import dataclass
+from dataclasses import dataclass, field
 
 import pymysql
 from pymysql.constants import COMMAND
+from pymysql.cursors import SSCursor
 
 from .events import Event, LogEvent
-from .stop import ANEW, Stop
+from .stop import AGAIN, ANEW, Lost, Stop
 
 WITHOUT_WAITING = 1
 CRC32 = 1
 HEADER_KIND = 4
+PATIENCE = 600
+"""The seconds in which a server has to answer with a byte."""
+HEARTBEAT = 0.5
+"""The seconds without an event after which a server that is waited for says that there is none."""
+SILENCE = 60
+"""The seconds without a greeting, or a heartbeat, after which there is none."""
+LOST = {1040, 1053, 1077, 1080, 1152, 1153, 1158, 1159, 1160, 1161, 1184, 1203, 1317, 1927, 2002, 2003, 2006, 2013, 2055}
+"""The numbers of faults that may pass by themselves: a server that ends, begins or has too many connections, and lost connections."""
+NOT_IN_THE_LOG = 1236
+NO_SERVER = (struct.error, LookupError, ValueError, TypeError, AttributeError, AssertionError)
+"""What the library meets where something else than a server answers."""
 
 
 @dataclass(frozen=True)
 class Login:
-    """A server's socket and a user; the password is the variable MYSQL_PWD of the environment."""
+    """A server and a user; where no password is said it is the variable MYSQL_PWD of the environment."""
 
     socket: str
     user: str
+    host: str = ""
+    """Where there is no socket."""
+    port: int = 0
+    ssl_ca: str = ""
+    """The file of the certificates by one of which the host's has to be signed; without it nothing is encrypted."""
+    password: str = field(default="", repr=False)
 
     @classmethod
     def of(cls, socket: str, user: str | None) -> "Login":
-        return cls(socket, user or getpass.getuser())
+        try:
+            return cls(socket, user or getpass.getuser())
+        except (KeyError, ImportError, OSError):
+            raise Stop("no user", "", "the login has no name here; give --user") from None
+
+    @property
+    def place(self) -> str:
+        return self.socket or f"{self.host}:{self.port}"
+
+    def _way(self) -> dict:
+        """Where the library connects to."""
+        if self.socket:
+            return {"unix_socket": self.socket}
+        return {"host": self.host, "port": self.port} | ({"ssl": {"ca": self.ssl_ca}} if self.ssl_ca else {})
 
     def connect(self, raw: bool = False) -> pymysql.Connection:
         """A connection in UTC and without modes of SQL; `raw` ones answer each cell as the bytes that the server prints, unconverted."""
         how = {"use_unicode": False, "conv": {}} if raw else {}
         try:
-            connection = pymysql.connect(unix_socket=self.socket, user=self.user, password=os.environ.get("MYSQL_PWD", ""),
-                                         charset="utf8mb4", autocommit=True, **how)  # fmt: skip
+            connection = pymysql.connect(**self._way(), user=self.user, password=self.password or os.environ.get("MYSQL_PWD", ""),
+                                         charset="utf8mb4", autocommit=True, read_timeout=SILENCE, **how)  # fmt: skip
         except pymysql.err.MySQLError as fault:
-            raise Stop("no connection", f"at {self.socket}", str(fault.args[-1])) from None
-        with connection.cursor() as cursor:
-            cursor.execute("SET time_zone='+00:00', sql_mode='', sql_quote_show_create=1" + (", character_set_results=NULL" if raw else ""))
+            raise fault_of(fault, "no connection", f"at {self.place}") from None
+        except NO_SERVER as fault:
+            raise Stop("no connection", f"at {self.place}", f"what answers there is no MariaDB server ({fault})") from None
+        if self.ssl_ca and not isinstance(connection._sock, ssl.SSLSocket):
+            # the library goes on in the clear where the server has no TLS
+            connection.close()
+            raise Stop("no TLS", f"at {self.place}", "the server has none; leave --ssl-ca out, or give it a certificate")
+        connection._read_timeout = PATIENCE
+        ask(connection, "SET time_zone='+00:00', sql_mode='', sql_quote_show_create=1" + (", character_set_results=NULL" if raw else ""))
         return connection
+
+
+def fault_of(fault: pymysql.err.MySQLError, what: str, where: str) -> Stop:
+    """The stop that a server's fault, or a lost connection, is."""
+    number, text = fault.args[0] if fault.args else 0, str(fault.args[-1] if fault.args else fault) or "the connection is closed"
+    if number in LOST or isinstance(fault, pymysql.err.InterfaceError) or not isinstance(number, int):
+        return Lost(what, where, f"{text}; {AGAIN}")
+    return Stop(what, where, text)
 
 
 def ask(connection: pymysql.Connection, query: str, *values) -> list[tuple]:
@@ -52,7 +99,25 @@ def ask(connection: pymysql.Connection, query: str, *values) -> list[tuple]:
             cursor.execute(query, values or None)
             return list(cursor.fetchall())
     except pymysql.err.MySQLError as fault:
-        raise Stop("the server refuses a query", f"({query})", str(fault.args[-1])) from None
+        raise fault_of(fault, "the server refuses a query", f"({query})") from None
+    except UnicodeError:
+        raise Stop("a name that is no text", f"({values})", "name it as the server does") from None
+
+
+def rows(connection: pymysql.Connection, query: str, where: str) -> Iterator[tuple]:
+    """The rows that a query answers, as they come. The connection is of no use behind rows that aren't all taken."""
+    cursor = SSCursor(connection)
+    try:
+        cursor.execute(query)
+        while row := cursor.fetchone():
+            yield row
+    except pymysql.err.MySQLError as fault:
+        raise fault_of(fault, "the rows can't be read", where) from None
+    finally:
+        # the library would read the rest of the answer, also from a server that is gone
+        if cursor._result:
+            cursor._result.unbuffered_active = False
+        cursor.connection = None
 
 
 @dataclass(frozen=True)
@@ -104,17 +169,25 @@ def log_sizes(connection: pymysql.Connection) -> dict[str, int]:
     return {name: size for name, size, *_ in ask(connection, "SHOW BINARY LOGS")}
 
 
-def events(connection: pymysql.Connection, start: Place) -> Iterator[tuple[str, Event]]:
-    """The events from a place to the log's end, each with its file's name. Stops where the server refuses."""
-    ask(connection, "SET @master_binlog_checksum='NONE', @mariadb_slave_capability=4")
+def events(connection: pymysql.Connection, start: Place, waits: bool = False) -> Iterator[tuple[str, Event]]:
+    """The events from a place to the log's end, each with its file's name; or where it `waits` all that ever come,
+    with a heartbeat wherever there is none. Stops where the server refuses."""
+    ask(connection, f"SET @master_binlog_checksum='NONE', @mariadb_slave_capability=4, @master_heartbeat_period={int(HEARTBEAT * 1e9)}")
     log, checksums = start.log, False
-    request = struct.pack("<IHI", start.offset, WITHOUT_WAITING, 0) + start.log.encode()
-    connection._execute_command(COMMAND.COM_BINLOG_DUMP, request)
+    # a server ends the older one of two that have one number, and lets nobody wait who has none
+    request = struct.pack("<IHI", start.offset, 0, random.getrandbits(31) | 1 << 31) if waits else struct.pack("<IHI", start.offset, WITHOUT_WAITING, 0)
+    try:
+        connection._execute_command(COMMAND.COM_BINLOG_DUMP, request + start.log.encode())
+    except pymysql.err.MySQLError as fault:
+        raise fault_of(fault, "the log can't be read", f"behind {log}") from None
+    connection._read_timeout = SILENCE if waits else PATIENCE
     while True:
         try:
             packet = connection._read_packet()
         except pymysql.err.MySQLError as fault:
-            raise Stop("the log can't be read", f"behind {log}", f"{fault.args[-1]}; {ANEW}") from None
+            if fault.args[:1] == (NOT_IN_THE_LOG,):
+                raise Stop("the log can't be read", f"behind {log}", f"{fault.args[-1]}; {ANEW}") from None
+            raise fault_of(fault, "the log can't be read", f"behind {log}") from None
         if packet.is_eof_packet():
             return
         data = packet.get_all_data()[1:]

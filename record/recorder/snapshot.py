@@ -4,13 +4,10 @@ MariaDB gives the two together: START TRANSACTION WITH CONSISTENT SNAPSHOT stand
 log, and the variables binlog_snapshot_% say which, without a lock.
 """
 from collections.abc import Iterator
-
-import pymysql
-from pymysql.cursors import SSCursor
+from itertools import islice
 
 from .catalogue import Table, quoted
-from .server import Login, Place, ask
-from .stop import Stop
+from .server import Login, Place, ask, rows
 from .transactions import Change, check_key
 
 PORTION = 1000
@@ -30,17 +27,13 @@ class Snapshot:
         for table in tables:
             names = ", ".join(quoted(column.name) for column in table.columns)
             order = ", ".join(quoted(name) for name in table.key_names)
-            cursor = SSCursor(self._connection)
-            try:
-                cursor.execute(f"SELECT {names} FROM {quoted(table.schema)}.{quoted(table.name)} ORDER BY {order}")
-                while rows := cursor.fetchmany(PORTION):
-                    for row in rows:
-                        check_key(table, row, "in the snapshot")
-                    yield Change(table, [(None, tuple(row)) for row in rows])
-            except pymysql.err.MySQLError as fault:
-                raise Stop("the snapshot can't be read", f"in {table.schema}.{table.name}", f"{fault.args[-1]}; record again") from None
-            finally:
-                cursor.close()
+            query = f"SELECT {names} FROM {quoted(table.schema)}.{quoted(table.name)} ORDER BY {order}"
+            read = rows(self._connection, query, f"in {table.schema}.{table.name}")
+            while portion := list(islice(read, PORTION)):
+                for row in portion:
+                    check_key(table, row, "in the snapshot")
+                yield Change(table, [(None, tuple(row)) for row in portion])
 
     def close(self) -> None:
-        self._connection.close()
+        if self._connection.open:
+            self._connection.close()

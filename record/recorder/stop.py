@@ -4,11 +4,21 @@
 class Stop(Exception):
     """What was met, where, and what to do: one line on standard error, status 1.
 
-    No feed is written, and one that was there stays as it was.
+    Nothing is recorded behind the transaction before it; what a feed has stays as it is.
     """
 
     def __init__(self, what: str, where: str, todo: str) -> None:
-        super().__init__(f"{what} {where}: {todo}" if where else f"{what}: {todo}")
+        super().__init__(on_one_line(f"{what} {where}: {todo}" if where else f"{what}: {todo}"))
+
+
+class Lost(Stop):
+    """A stop that may pass by itself: the server ended, or the connection to it did."""
 
 
 ANEW = "record anew with --from-snapshot"
+AGAIN = "record again"
+
+
+def on_one_line(text: str) -> str:
+    """The text with `?` for each character that a terminal wouldn't print as one."""
+    return "".join(sign if sign.isprintable() else "?" for sign in text)

@@ -16,7 +16,7 @@ from .messages import Row
 from .position import Gtid, Position
 from .server import Place
 from .statements import Does, Name, Statement, read_statement
-from .stop import ANEW, Stop
+from .stop import AGAIN, ANEW, Stop
 
 RowChange = tuple[Row | None, Row | None]
 """A row before and after: an insert, an update or a delete."""
@@ -75,14 +75,17 @@ class Transactions:
         self._open: _Open | None = None
         self.place = Place("", 0)
         """How far the log was read: `position` is the one there, wherever no transaction is open."""
+        self.altered = False
+        """Whether a recorded table, of which no row was recorded, was altered or made since the catalogue was read."""
 
-    def read(self, events: Iterable[tuple[str, Event]], start: Place, end: Place) -> Iterator[Transaction]:
-        """The transactions from a place to another one, none that was committed behind it. Stops where the log can't be told as rows."""
+    def read(self, events: Iterable[tuple[str, Event]], start: Place, end: Place | None) -> Iterator[Transaction]:
+        """The transactions from a place to another one, none that was committed behind it; without that one to where the
+        events end. Stops where the log can't be told as rows."""
         self.place = start
         for log, event in events:
             if event.end:
                 # one that the server made up stands nowhere, and is read wherever the log is
-                if self._has_reached(end) and not self._open:
+                if end and self._has_reached(end) and not self._open:
                     break
                 self.place = Place(log, event.end)
             try:
@@ -95,9 +98,15 @@ class Transactions:
                 self.position.add(gtid)
                 self.filled.update(change.table.full for change in changes)
                 yield Transaction(gtid, event.time, changes, self.place)
-        if not self._has_reached(end):
-            raise Stop(f"the log ends before {end}", self._where(), "record again")
-        self._check_ended()
+        if end and not self._has_reached(end):
+            raise Stop(f"the log ends before {end}", self._where(), AGAIN)
+        if end:
+            self._check_ended()
+
+    @property
+    def is_between(self) -> bool:
+        """Whether no transaction is open."""
+        return self._open is None
 
     def _has_reached(self, end: Place) -> bool:
         return self.place.log == end.log and self.place.offset >= end.offset
@@ -114,10 +123,14 @@ class Transactions:
             self._check_begun(table)
         if self._open:
             raise Stop("a transaction without an end", self._where(), "the log was cut there; record again when the server has written it")
+
+    def pending(self) -> Stop | None:
+        """Why no note can be made here, if it can't: an XA transaction is prepared that changes a recorded table, and none has its rows."""
         for xa, changes in self.prepared.items():
             if changes:
-                raise Stop(f"XA transaction {xa[6:].hex()} is prepared", f"at {self.place}",
-                           "XA COMMIT or XA ROLLBACK it (XA RECOVER lists it), and record again")  # fmt: skip
+                return Stop(f"XA transaction {xa[6:].hex()} is prepared", f"at {self.place}",
+                            f"XA COMMIT or XA ROLLBACK it (XA RECOVER lists it), and {AGAIN}")  # fmt: skip
+        return None
 
     def _changes(self, event: Event) -> list[Change] | None:
         """Takes an event; answers the changes of the transaction that it ends, None where it ends none."""
@@ -195,6 +208,7 @@ class Transactions:
             for full in self.tables:
                 if full[0].lower() != schema.lower() or name and full[1].lower() != name.lower():
                     continue
+                self.altered = True
                 if statement.does == Does.CREATE and full not in filled:
                     self.begun_with.add(full)
                 elif statement.moves or full in filled:

@@ -1,0 +1,149 @@
+"""How a command of the recorder ends: with one line and a status, whatever happens to it.
+
+SIGINT, SIGTERM and SIGHUP raise Ended where the program then is, but not within `Held`: what stands there is
+done as a whole, and they are raised behind it. This module is imported before all others of the recorder,
+none of which it needs, so that a signal finds it also while they are read.
+"""
+import os
+import signal
+import sys
+from collections.abc import Callable
+from types import FrameType
+
+from .stop import Stop, on_one_line
+
+SIGNALS = (signal.SIGINT, signal.SIGTERM, signal.SIGHUP)
+
+
+class Ended(BaseException):
+    """A signal asked for the end; the text is its name."""
+
+
+class _Signals:
+    def __init__(self) -> None:
+        self.asked, self.held, self.over = "", 0, False
+
+    def begin(self) -> None:
+        for number in SIGNALS:
+            # nohup and shells without job control leave some ignored, and so they stay
+            if signal.getsignal(number) != signal.SIG_IGN:
+                signal.signal(number, self._meet)
+
+    def _meet(self, number: int, _: FrameType | None) -> None:
+        self.asked = signal.Signals(number).name
+        self.check()
+
+    def end(self) -> None:
+        """From here on all is done: Python's own end, which gives each signal back its first meaning, has none to meet."""
+        self.over = True
+        for number in SIGNALS:
+            if signal.getsignal(number) == self._meet:
+                signal.signal(number, signal.SIG_IGN)
+
+    def check(self) -> None:
+        if self.asked and not self.held and not self.over:
+            raise Ended(self.asked)
+
+
+_SIGNALS = _Signals()
+
+
+class Held:
+    """Use it with `with`: no signal ends what stands in it. Behind it, one that came is raised."""
+
+    def __enter__(self) -> None:
+        _SIGNALS.held += 1
+
+    def __exit__(self, kind: type | None, *_: object) -> None:
+        _SIGNALS.held -= 1
+        if kind is None:
+            _SIGNALS.check()
+
+
+class Last(Held):
+    """The last thing that a command does: a signal that comes within or behind it is too late."""
+
+    def __exit__(self, kind: type | None, *_: object) -> None:
+        _SIGNALS.over = _SIGNALS.over or kind is None
+        _SIGNALS.held -= 1
+
+
+def tell(text: str) -> None:
+    """Prints a line to standard error, if there still is one."""
+    show(on_one_line(text) + "\n")
+
+
+def show(text: str) -> None:
+    """Prints to standard error what stands, if there still is one."""
+    try:
+        if sys.stderr:
+            print(text, end="", file=sys.stderr, flush=True)
+    except OSError:
+        _drop(sys.stderr)
+
+
+def say(text: str) -> None:
+    """Prints to standard output. Stops where that can't be written."""
+    try:
+        if sys.stdout:
+            print(text, end="", flush=True)
+    except OSError as fault:
+        _drop(sys.stdout)
+        raise Stop("standard output can't be written", "", fault.strerror) from None
+
+
+def _drop(stream) -> None:
+    """What the stream still holds goes nowhere, so that Python's own end doesn't meet the fault again."""
+    os.dup2(os.open(os.devnull, os.O_WRONLY), stream.fileno())
+
+
+def run(name: str, main: Callable[[], int]) -> int:
+    """The status of a command, which ends with one line where it can't do what was asked."""
+    try:
+        _SIGNALS.begin()
+        for number in range(3):
+            _fill(number)
+        for stream in filter(None, (sys.stdout, sys.stderr)):
+            stream.reconfigure(errors="backslashreplace")
+        status = _answered(main)
+        say("")
+        _SIGNALS.end()
+        return status
+    except Stop as stop:
+        line = str(stop)
+    except Ended as ended:
+        line = f"ended by {ended}"
+    except OSError as fault:
+        line = f"{fault.filename or 'a file'}: {fault.strerror or fault}"
+    except MemoryError:
+        line = "no memory is left"
+    except ModuleNotFoundError as missing:
+        line = f"Python has no module {missing.name}: install Debian's python3-pymysql and python3-protobuf"
+    except Exception as fault:  # noqa: BLE001
+        line = f"a fault of record/{name} itself ({_place(fault)}: {fault!r}): report it"
+    _SIGNALS.end()
+    tell(f"{name}: {line}")
+    return 1
+
+
+def _answered(main: Callable[[], int]) -> int:
+    try:
+        return main()
+    except SystemExit as end:
+        # of argparse, which has said why
+        return end.code
+
+
+def _fill(number: int) -> None:
+    """Standard input, output or error, where it is closed, so that no file of ours takes its number."""
+    try:
+        os.fstat(number)
+    except OSError:
+        os.open(os.devnull, os.O_RDWR)
+
+
+def _place(fault: Exception) -> str:
+    trace = fault.__traceback__
+    while trace and trace.tb_next:
+        trace = trace.tb_next
+    return f"{os.path.basename(trace.tb_frame.f_code.co_filename)}:{trace.tb_lineno}" if trace else "nowhere"

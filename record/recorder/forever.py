@@ -1,0 +1,153 @@
+"""A recording that goes on: what the log has, and then each transaction as it commits, until a signal ends it.
+
+Where the connection is lost it begins anew behind the note, with all checks, after a pause that grows. What
+commits within a quarter of a second goes into the feed together.
+"""
+import time
+from collections.abc import Iterator
+from contextlib import ExitStack, closing
+from dataclasses import replace
+
+from .ending import Ended, Held, Last, tell
+from .events import Event, LogEvent
+from .note import Note, note_path
+from .recording import MINUTE, Recording, Wanted, left_as_it_was, locked
+from .server import events
+from .stop import AGAIN, Lost, Stop
+from .transactions import Transaction
+
+TOGETHER = 0.25
+FIRST_PAUSE, LONGEST_PAUSE = 0.5, 30
+
+
+class _Altered(Exception):
+    """A table of which no row was recorded was altered: its columns have to be read anew."""
+
+
+def record_forever(wanted: Wanted) -> Note:
+    """Goes on until a signal or the wanted position ends it; answers the note of a feed that is whole."""
+    forever = _Forever(wanted)
+    try:
+        with locked(wanted):
+            return forever.run()
+    except Ended as ended:
+        if not (wanted.append or forever.has_begun):
+            raise Stop(f"ended by {ended}", "", left_as_it_was(wanted)) from None
+        return Note.read(note_path(wanted.out))
+
+
+class _Forever:
+    """One recording behind the other, each over a connection of its own."""
+
+    def __init__(self, wanted: Wanted) -> None:
+        self._wanted, self._pause, self.has_begun = wanted, FIRST_PAUSE, False
+
+    def run(self) -> Note:
+        while True:
+            try:
+                return self._over_one_connection()
+            except _Altered:
+                continue
+            except Lost as lost:
+                if not self.has_begun:
+                    raise
+                tell(f"feed: {lost} in {self._pause:g} seconds")
+                time.sleep(self._pause)
+                self._pause = min(2 * self._pause, LONGEST_PAUSE)
+
+    def _over_one_connection(self) -> Note:
+        with ExitStack() as opened:
+            recording = Recording(self._wanted, opened)
+            recording.catch_up()
+            recording.check_begun()
+            with Held():
+                recording.put()
+                self._wanted, self._pause, self.has_begun = replace(self._wanted, append=True, from_snapshot=False), FIRST_PAUSE, True
+            _Live(recording).run()
+            return recording.note
+
+
+class _Live:
+    """One connection's reading behind the log's end."""
+
+    def __init__(self, recording: Recording) -> None:
+        self._recording, self._feed = recording, recording.feed
+        self._put_at = self._told_at = time.monotonic()
+        self._groups, self._place, self._behind = 0, recording.note.place, ""
+
+    def run(self) -> None:
+        """Goes on until the wanted position; what was read of whole transactions is in the feed, however it ends."""
+        if self._recording.is_done:
+            return
+        self._tell()
+        try:
+            self._read()
+        except Ended:
+            with Last():
+                self._recording.finish()
+                self._put()
+        except (Stop, _Altered):
+            with Held():
+                self._put()
+            raise
+
+    def _read(self) -> None:
+        reading = self._recording.reading
+        reading.altered = False
+        with closing(self._recording.wanted.login.connect()) as stream:
+            read = self._recording.checked(events(stream, reading.place, waits=True))
+            for transaction in reading.read(self._with_rests(read), reading.place, None):
+                with Held():
+                    self._take(transaction)
+                if self._recording.is_done:
+                    return
+                if reading.altered:
+                    raise _Altered
+        raise Lost("the server ended the log", f"behind {reading.place}", AGAIN)
+
+    def _with_rests(self, read: Iterator[tuple[str, Event]]) -> Iterator[tuple[str, Event]]:
+        """The events; at each heartbeat, and amid a long transaction, what was read before is put."""
+        reading = self._recording.reading
+        for log, event in read:
+            if event.kind == LogEvent.HEARTBEAT and reading.is_between:
+                with Held():
+                    self._recording.keep(reading.place)
+                    self._behind = "at the log's end"
+                    self._put()
+                    self._look_at_clock()
+            elif self._feed.waits and time.monotonic() >= self._put_at + TOGETHER:
+                with Held():
+                    self._put()
+            yield log, event
+
+    def _take(self, transaction: Transaction) -> None:
+        self._recording.take(transaction)
+        self._recording.keep(transaction.end)
+        self._recording.look(transaction.end)
+        self._groups += bool(transaction.changes)
+        self._behind = f"{max(0, int(time.time()) - transaction.time)} seconds behind the log's end"
+        if self._recording.is_done or time.monotonic() >= self._put_at + TOGETHER:
+            self._put()
+        self._look_at_clock()
+
+    def _put(self) -> None:
+        if self._feed.waits:
+            self._recording.put()
+            self._put_at, self._place = time.monotonic(), self._recording.note.place
+
+    def _look_at_clock(self) -> None:
+        """Each minute the feed and the note say how far the log was read, and so does a line."""
+        if time.monotonic() < self._told_at + MINUTE:
+            return
+        self._recording.finish()
+        if self._feed.waits or self._recording.note.place != self._place:
+            self._recording.put()
+            self._put_at, self._place = time.monotonic(), self._recording.note.place
+        self._tell()
+
+    def _tell(self) -> None:
+        note, groups = self._recording.note, self._groups
+        self._told_at, self._groups = time.monotonic(), 0
+        which = f"{groups} groups since the last line, {self._behind}" if self._behind else "going on"
+        tell(f"feed: {time.strftime('%Y-%m-%dT%H:%M:%SZ', time.gmtime())} {self._recording.wanted.out}: {self._feed.size} bytes,"
+             f" up to {note.gtids or 'nothing'} at {note.place}; {which}")

@@ -1,0 +1,180 @@
+"""The note beside a feed, FEED.json: what the feed itself can't say.
+
+Where in which log it ends, MariaDB's names of its transactions, the uuids of its positions, and the tables
+with their columns. It is replaced as a whole, behind its feed, so that it is never ahead of it.
+"""
+import json
+import os
+from collections.abc import Iterator
+from contextlib import suppress
+from dataclasses import asdict, dataclass, field
+
+from google.protobuf.message import DecodeError
+
+from . import messages
+from .files import kind_at, left_files, new_file, open_file, put, read_file, sync_folder, write_at
+from .messages import EventType, Response
+from .position import Position
+from .server import Place
+from .stop import ANEW, Stop
+
+
+@dataclass
+class Note:
+    server: str
+    shard: str
+    place: Place
+    begun: int | None
+    """When that log was begun, in seconds since 1970, where that is known: a log of the same name that was begun anew is another."""
+    gtids: str
+    snapshot: int
+    position: str
+    size: int
+    uuids: dict[str, str]
+    tables: dict[str, list]
+    """By SCHEMA.TABLE the name and type number of each column."""
+    filled: list[str]
+    """The tables of which rows were recorded."""
+    prepared: list[str] = field(default_factory=list)
+    """XA transactions, in hexadecimal, that are prepared and change none of the tables."""
+    last: int = -1
+    """Where the feed's last message begins; -1 in a note that doesn't say so."""
+
+    @classmethod
+    def read(cls, path: str) -> "Note":
+        try:
+            data = json.loads(read_file(path))
+            note = cls(**{**data, "place": Place(**data["place"])})
+            note._check()
+        except (OSError, ValueError, TypeError, KeyError, RecursionError) as fault:
+            raise Stop("no note", f"in {path}", f"--append needs it beside the feed ({_why(fault)}); {ANEW}") from None
+        return note
+
+    def _check(self) -> None:
+        """ValueError where a member isn't of its type."""
+        if type(self.begun) not in (int, type(None)):
+            raise ValueError("a member of another type")
+        of_type: list[tuple[type, list]] = [
+            (str, [self.server, self.shard, self.place.log, self.gtids, self.position]),
+            (int, [self.place.offset, self.snapshot, self.size, self.last]),
+            (dict, [self.uuids, self.tables]),
+            (list, [self.filled, self.prepared]),
+        ]
+        for kind, values in of_type:
+            if any(type(value) is not kind for value in values):
+                raise ValueError("a member of another type")
+        if any(type(value) is not str for value in (*self.filled, *self.prepared)):
+            raise ValueError("a name of another type")
+        Position.read(self.gtids)
+        [bytes.fromhex(xa) for xa in self.prepared]
+
+    def new_file(self, path: str) -> str:
+        """A new file that is to be the note there, written and synced; its own name."""
+        file, own = new_file(path)
+        try:
+            try:
+                write_at(file, (json.dumps(asdict(self), indent=1) + "\n").encode(), 0)
+                os.fsync(file)
+            finally:
+                os.close(file)
+        except BaseException:
+            with suppress(OSError):
+                os.unlink(own)
+            raise
+        return own
+
+    def write(self, path: str) -> None:
+        """Puts the note in the place of the one there."""
+        own = self.new_file(path)
+        try:
+            put(own, path, over=True)
+        except BaseException:
+            with suppress(OSError):
+                os.unlink(own)
+            raise
+
+
+def note_path(feed: str) -> str:
+    return feed + ".json"
+
+
+def _why(fault: Exception) -> str:
+    return fault.strerror if isinstance(fault, OSError) and fault.strerror else str(fault)
+
+
+def check_end(path: str, note: Note) -> None:
+    """Stops unless the feed has a message's end at the length that the note gives, and the note's position there."""
+    try:
+        file = open_file(path, os.O_RDONLY)
+    except OSError as fault:
+        raise Stop("no feed to append to", f"in {path}", f"{_why(fault)}; {ANEW}") from None
+    try:
+        is_its = is_of(file, note)
+    except OSError as fault:
+        raise Stop("no feed to append to", f"in {path}", f"{_why(fault)}; {ANEW}") from None
+    finally:
+        os.close(file)
+    if not is_its:
+        raise Stop("a feed that isn't the one of its note", f"in {path}", f"put back the two files of one recording, or {ANEW}")
+
+
+def is_of(file: int, note: Note) -> bool:
+    """Whether an open feed has, up to the note's length, the last message that the note tells of."""
+    if note.last < 0:
+        note.last = last_message(file, note.size)
+    if not 0 <= note.last <= note.size <= os.fstat(file).st_size or (note.last == note.size) != (note.position == ""):
+        return False
+    return note.size == 0 or position_of(os.pread(file, note.size - note.last, note.last)) == note.position
+
+
+def ends(file: int, start: int, end: int) -> Iterator[int]:
+    """Where each message of a feed ends that is whole between two places."""
+    while start < end:
+        length = shift = 0
+        for at, byte in enumerate(os.pread(file, min(10, end - start), start), start + 1):
+            length |= (byte & 0x7F) << shift
+            shift += 7
+            if byte < 0x80:
+                break
+        else:
+            return
+        start = at + length
+        if start > end:
+            return
+        yield start
+
+
+def last_message(file: int, size: int) -> int:
+    """Where the last message begins of a feed of this size; `size` where none ends there."""
+    before = at = 0
+    for end in ends(file, 0, size):
+        before, at = at, end
+    return before if at == size else size
+
+
+def position_of(data: bytes) -> str | None:
+    """The position of one whole group, None where the bytes aren't one."""
+    try:
+        [(start, end)] = messages.frames(data)
+        [position] = [event.gtid for event in Response.FromString(data[start:end]).events if event.type == EventType.GTID]
+    except (ValueError, DecodeError):
+        return None
+    return position
+
+
+def settle(feed: str) -> None:
+    """Ends what a killed writer began: a note that is whole and of all of the feed takes its place, other new files go."""
+    path = note_path(feed)
+    for own in left_files(path):
+        with suppress(Stop, OSError):
+            note, file = Note.read(own), open_file(feed, os.O_RDONLY)
+            try:
+                is_whole = note.size == os.fstat(file).st_size and is_of(file, note)
+            finally:
+                os.close(file)
+            if is_whole and kind_at(path) in ("a file", "nothing"):
+                os.rename(own, path)
+                sync_folder(path)
+    # (two names of one file are still both there)
+    for own in left_files(path) + left_files(feed):
+        os.unlink(own)

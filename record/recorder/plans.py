@@ -1,0 +1,121 @@
+"""A workflow file (docs/FORMATS.md), and all that a reshard needs: a workflow file for each target, which the program's
+`check` doesn't refuse, and the job of fleet/reshard (fleet/README.md)."""
+import json
+import os
+import re
+import subprocess
+from contextlib import suppress
+from dataclasses import dataclass
+from tempfile import TemporaryDirectory
+
+from .catalogue import Table
+from .kinds import NAMED
+from .stop import Stop
+
+JOB = "job.json"
+NOTHING = "/dev/null"
+"""In place of a feed that isn't there yet."""
+RANGE = re.compile(r"([0-9a-fA-F]{2})*-([0-9a-fA-F]{2})*")
+
+
+@dataclass(frozen=True)
+class Plan:
+    """What the workflow files of all targets have in common."""
+
+    keyspace: str
+    tables: list[Table]
+    shards: list[str]
+    """The source shards, in the order of their feeds."""
+    vindexes: dict[str, list[str]]
+    rules: list[dict[str, str]]
+    """Those of single tables, before that of all others."""
+
+    def workflow(self, filtered: str) -> dict:
+        """The workflow file of the target whose rows are those of a filter."""
+        streams = [self._stream(shard, filtered) for shard in self.shards]
+        return {"keyspace": self.keyspace, "tables": [self._table(table) for table in self.tables], "streams": streams}
+
+    def side_by_side(self, targets: list[str]) -> dict:
+        """A workflow file with a stream for each target: what is said of its streams is said of the targets."""
+        return self.workflow("") | {"streams": [self._stream(target, target) for target in targets]}
+
+    def _stream(self, shard: str, filtered: str) -> dict:
+        return {"shard": shard, "filter": {"rules": [*self.rules, {"match": "/.*", "filter": filtered}]}}
+
+    def _table(self, table: Table) -> dict:
+        columns = [[column.name, column.kind.name if column.kind in NAMED else int(column.kind)] for column in table.columns]
+        said = {"name": table.name, "columns": columns, "key": table.key_names}
+        return said | ({"vindex": self.vindexes[table.name]} if table.name in self.vindexes else {})
+
+
+def printed(said: dict) -> str:
+    return json.dumps(said, ensure_ascii=False) + "\n"
+
+
+@dataclass(frozen=True)
+class Reshard:
+    """A plan for several targets, by the key ranges that they are named for; the feeds of its shards in their order, the
+    folder for all files, and the program that looks at them and fills the targets."""
+
+    plan: Plan
+    targets: list[str]
+    feeds: list[str]
+    folder: str
+    program: str | None
+
+    def write(self) -> list[str]:
+        """Writes the workflow files and the job; answers their names. Stops, with nothing written, where the program
+        refuses a file, and where the targets don't have each row once."""
+        is_new = not os.path.isdir(self.folder)
+        os.makedirs(self.folder, exist_ok=True)
+        try:
+            with TemporaryDirectory(prefix=".plan-", dir=self.folder) as beside:
+                for target in self.targets:
+                    file = _put(os.path.join(beside, f"{target}.json"), self.plan.workflow(target))
+                    self._checked(f"target {target}", file, [feed if os.path.exists(feed) else NOTHING for feed in self.feeds])
+                self._check_targets(beside)
+                _put(os.path.join(beside, JOB), self._job())
+                return [self._moved(beside, name) for name in (*(f"{target}.json" for target in self.targets), JOB)]
+        finally:
+            if is_new:
+                with suppress(OSError):
+                    os.rmdir(self.folder)
+
+    def _job(self) -> dict:
+        feeds = {shard: os.path.relpath(feed, self.folder) for shard, feed in zip(self.plan.shards, self.feeds)}
+        job = {"feeds": feeds, "workflows": {target: f"{target}.json" for target in self.targets}, "results": "results"}
+        return job | ({"program": os.path.abspath(self.program)} if self.program else {})
+
+    def _moved(self, beside: str, name: str) -> str:
+        file = os.path.join(self.folder, name)
+        os.replace(os.path.join(beside, name), file)
+        return file
+
+    def _check_targets(self, beside: str) -> None:
+        """Stops where the targets' ranges leave a gap or overlap, which the program says of streams."""
+        for target in self.targets:
+            if self.targets.count(target) > 1 or len(self.targets) == 1 and target != "-":
+                raise Stop(f"target {target}", "twice" if len(self.targets) > 1 else "alone", "the targets' ranges have to have each row once")
+        file = _put(os.path.join(beside, JOB), self.plan.side_by_side(self.targets))
+        for note in json.loads(self._checked("the targets", file, [NOTHING] * len(self.targets), "--json"))["notes"]:
+            if note["why"] == "untiled":
+                table = self.plan.tables[int(note["path"].strip("tables[]"))].name
+                raise Stop("ranges that leave a gap or overlap", f"of table {table}", f"{', '.join(self.targets)} have to have each row once")
+
+    def _checked(self, who: str, file: str, feeds: list[str], *words: str) -> str:
+        """What `check` prints of a workflow file and feeds. Stops with what it refuses."""
+        program = self.program or os.path.join(os.path.dirname(os.path.abspath(__file__)), "..", "..", "vrepl")
+        try:
+            done = subprocess.run([program, "check", *words, file, *feeds], capture_output=True, text=True, errors="replace")
+        except OSError as fault:
+            raise Stop("no program", f"at {program}", f"{fault.strerror}; --program names another") from None
+        if done.returncode not in (0, 3):
+            line = "; ".join(done.stderr.split("\n")[:2]).rstrip("; ") or f"status {done.returncode}"
+            raise Stop(who, "", line)
+        return done.stdout
+
+
+def _put(file: str, said: dict) -> str:
+    with open(file, "w", encoding="utf-8") as out:
+        out.write(printed(said))
+    return file
