@@ -1,4 +1,4 @@
-"""Libraries in C that are loaded before a program's own: refuse_growth.c and short_calls.c."""
+"""Libraries in C that are loaded before a program's own: refuse_growth.c, short_calls.c and hold_calls.c."""
 import functools
 import os
 import subprocess

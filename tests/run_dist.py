@@ -5,12 +5,13 @@ usage: tests/run_dist.py
 
 Each check runs in copies of the checkout, most of them with no toolchain in the path: what dist/ has
 answers at once, from a read-only folder and through a link too, and the next time behind one command
-that looks at times; a program in dist/ that was cut or changed is never run, nor is one of other sources;
-and scripts/is_released, which ./test calls, refuses both. How ./build goes about its work is tried with a
-stand-in for the toolchain.
+that looks at times; it asks for large pages unless it is told otherwise; a program in dist/ that was cut or
+changed is never run, nor is one of other sources; and scripts/is_released, which ./test calls, refuses both.
+How ./build goes about its work is tried with a stand-in for the toolchain.
 The last line is 'N passed, M failed': one a check.
 """
 import contextlib
+import hashlib
 import os
 import shutil
 import subprocess
@@ -226,14 +227,38 @@ def program_of_other_sources_is_not_run(room):
 
 
 @contextlib.contextmanager
-def without_sums(room):
+def without_sums(room, place=None):
     """Nobody can sum the sources up, for a while: only a note gives an answer."""
-    sums = os.path.join(room.plain, "scripts/sources")
+    sums = os.path.join(place or room.plain, "scripts/sources")
     os.chmod(sums, 0o644)
     try:
         yield
     finally:
         os.chmod(sums, 0o755)
+
+
+# A stand-in for the program: what the C library is told.
+TELLS = "#!/bin/sh\nprintf '%s' \"${GLIBC_TUNABLES-unset}\"\n"
+LARGE_PAGES = b"glibc.malloc.hugetlb=1:glibc.malloc.top_pad=16777216"
+
+
+def asks_for_large_pages_unless_told(room):
+    """Of a program that was looked for, and of one by its note."""
+    place = room.copy("tells")
+    carried = os.path.join(place, CARRIED)
+    write(carried, TELLS)
+    with open(os.path.join(place, "dist/SOURCES"), encoding="utf-8") as file:
+        sources = file.readline()
+    with open(carried, "rb") as file:
+        write(os.path.join(place, "dist/SOURCES"), f"{sources}program {hashlib.sha256(file.read()).hexdigest()}\n")
+    time.sleep(2.1)
+    fault = None
+    for told, said in ({}, LARGE_PAGES), ({"GLIBC_TUNABLES": ""}, b""), ({"GLIBC_TUNABLES": "glibc.malloc.arena_max=1"}, b"glibc.malloc.arena_max=1"):
+        shutil.rmtree(os.path.join(place, "out"), ignore_errors=True)
+        fault = fault or wanted(room.run(place, **told), 0, said)
+        with without_sums(room, place):
+            fault = fault or wanted(room.run(place, **told), 0, said)
+    return fault
 
 
 def next_answer_needs_one_command(room):
@@ -365,7 +390,7 @@ def build_that_fails_leaves_what_was_there(room):
 
 CHECKS = [
     answers_at_once, answers_through_a_link, answers_many_at_a_time, words_and_status_are_the_programs,
-    next_answer_needs_one_command, each_change_is_noticed,
+    next_answer_needs_one_command, asks_for_large_pages_unless_told, each_change_is_noticed,
     changed_program_is_never_run, program_of_other_sources_is_not_run, tests_and_documents_do_not_count,
     gate_refuses_a_changed_program, gate_refuses_changed_sources, gate_compares_no_program_of_another_toolchain, answers_from_a_read_only_folder,
     checkout_without_dist_builds, build_that_fails_leaves_what_was_there,

@@ -8,7 +8,9 @@ file of definitions that public contracts cite, docs/PROMISES.md every must-fail
 that isn't there. A path that a document names is there. Crates of tests and private definitions have no
 rows. Every number of docs/FORMATS.md has a text of `vrepl explain`, and no other has one. The pages in
 share/ are what scripts/pages makes of the program in dist/, which is looked at where that is of these
-sources. The last line is 'N passed, M failed': one a document, one for the paths, the texts and the pages.
+sources. What a CALLING.md quotes is what scripts/contracts makes of its crate's sources, and the change that
+CONTRIBUTING.md tells of can be made. The last line is 'N passed, M failed': one a document, one for the
+paths, the texts, the pages, the quotations and the change.
 """
 import os
 import re
@@ -17,7 +19,11 @@ import sys
 
 ROOT = os.path.dirname(os.path.dirname(os.path.abspath(__file__)))
 CRATES = os.path.join(ROOT, "crates")
-PAGES = ["README.md", "tests/README.md", "examples/README.md", "fleet/README.md", *sorted(f"docs/{it}" for it in os.listdir(os.path.join(ROOT, "docs")))]
+PAGES = [
+    *("README.md", "CONTRIBUTING.md", "CHANGELOG.md", "SECURITY.md", "tests/README.md", "examples/README.md", "fleet/README.md"),
+    *sorted(f"docs/{it}" for it in os.listdir(os.path.join(ROOT, "docs"))),
+    *sorted(f"crates/{it}/CALLING.md" for it in os.listdir(CRATES) if os.path.exists(os.path.join(CRATES, it, "CALLING.md"))),
+]  # fmt: skip
 PATH = re.compile(r"(?<![\w/.])((?:docs|tests|examples|bench|scripts|share|record|fleet|dist|crates)/[\w./-]*\w)")
 
 
@@ -125,9 +131,24 @@ def explanation_faults():
         yield "the list isn't the first lines of all texts by their numbers"
 
 
+def said_by(script):
+    """What a script says where it only checks."""
+    said = subprocess.run([os.path.join(ROOT, script), "--check"], capture_output=True, text=True, check=False)
+    return said.stdout.splitlines() + said.stderr.splitlines() + ([f"status {said.returncode}"] if said.returncode else [])
+
+
 def page_faults():
-    said = subprocess.run([os.path.join(ROOT, "scripts/pages"), "--check"], capture_output=True, text=True, check=False)
-    return said.stdout.splitlines() + said.stderr.splitlines()
+    return said_by("scripts/pages")
+
+
+def quotation_faults():
+    return said_by("scripts/contracts")
+
+
+def first_change_faults():
+    """Whether the change that CONTRIBUTING.md tells of still fits the tree."""
+    said = subprocess.run(["git", "apply", "--check", "-C1", "examples/first_change.patch"], cwd=ROOT, capture_output=True, text=True, check=False)
+    return said.stderr.splitlines()
 
 
 def is_released():
@@ -140,7 +161,7 @@ def is_released():
 
 def main():
     failed = 0
-    checks = {"docs/MAP.md": map_faults, "docs/DEFINITIONS.md": definition_faults, "docs/PROMISES.md": promise_faults, "paths": path_faults, "explain": explanation_faults}
+    checks = {"docs/MAP.md": map_faults, "docs/DEFINITIONS.md": definition_faults, "docs/PROMISES.md": promise_faults, "paths": path_faults, "explain": explanation_faults, "quotations": quotation_faults, "examples/first_change.patch": first_change_faults}
     if is_released():
         checks["pages"] = page_faults
     for name, check in checks.items():

@@ -1,25 +1,31 @@
 #!/usr/bin/env python3
 """Runs `vrepl follow` over feeds that grow, and looks at the files that it leaves.
 
-usage: tests/run_follow.py PROGRAM
+usage: tests/run_follow.py PROGRAM [--keeping]
 
 A checkpoint that was moved on has to be, byte for byte, the one that is made from nothing over the same feeds: wherever
 it stood, one stream after another or in threads, in any portions. Its board's dump is the one that `run` prints. A file is
-replaced as a whole or not at all: after a refusal, where it can't be written, where its size is limited and where the
-program is killed it is what it was before, or the whole new checkpoint. With `--progress` a run that is held for a second
-tells how far its streams are. The last line is 'N passed, M failed': one a
-check.
+replaced as a whole or not at all: after a refusal, where it can't be written, where its size is limited, where a call of
+the system fails and where the program is killed it is what it was before, or the whole new checkpoint; of two calls at a
+time, the one held before each call of the system (tests/hold_calls.c), neither undoes the other. `--save-to` never takes
+the place of an input, a device, a pipe or a folder, and follows no link but that of its own name. With `--progress` a run
+that is held for a second tells how far its streams are. With --keeping what concerns files alone is tried; root tries that
+once more as another user. The last line is 'N passed, M failed': one a check.
 """
 import os
 import random
 import re
 import resource
+import shutil
 import signal
+import stat
 import subprocess
 import sys
 import tempfile
 import time
+from itertools import dropwhile
 
+import preloaded
 from model import checkpoint, making, program
 from model.board import Board
 
@@ -55,7 +61,7 @@ class Room:
         return self.run("follow", "--save-to", "kept", *words, "workflow", "lower", "upper", **how)
 
     def left_beside(self):
-        return sorted(it for it in os.listdir(self.place) if it.startswith("kept"))
+        return sorted(it for it in os.listdir(self.place) if it.startswith(("kept", ".kept")))
 
 
 def groups_of(r, first, count):
@@ -248,7 +254,261 @@ def killed(room, r, rounds=60):
             ran.wait()
         ends[{OLD: "before", whole: "after"}.get(room.get("kept"), "else")] += 1
     yield f"killed {rounds} times: {ends['before']} old files, {ends['after']} new ones", ends["else"] == 0
-    yield "what was left beside it is written over", room.follow() == (0, b"", b"") and room.left_beside() == ["kept"]
+    left = {it: room.get(it) for it in room.left_beside() if it != "kept"}
+    yield "what killed runs left beside it is passed over", room.follow() == (0, b"", b"") and room.get("kept") == whole
+    yield "and stays as it is", left == {it: room.get(it) for it in room.left_beside() if it != "kept"}
+
+
+# ---- what --save-to names
+
+NO_FILE = b"error: the file of --save-to is there and no regular file\n"
+WORKFLOW = b"error: the file of --save-to is the workflow's\n"
+FEED = b"error: the file of --save-to is a feed's\n"
+STREAM = b"error: the file of --save-to is a standard stream's\n"
+
+
+def keeping_calls(room, r):
+    """A room with what `follow`, `save` and `join` read, and these as (words, standard input) without their --save-to."""
+    feeds = two_feeds(r, 6)
+    room.put(workflow=making.workflow("-80", "80-"), **feeds(6))
+    steps = b"offer 0 1\nadvance 0\nopen 0 1\ncopy 0 1000\n"
+    saved = room.run("save", "workflow", "lower", "upper", stdin=steps)[1]
+    room.put(one=saved, other=saved)
+    return {
+        "follow": (["follow", "workflow", "lower", "upper"], b""),
+        "save": (["save", "workflow", "lower", "upper"], steps),
+        "join": (["join", "workflow", "one", "other", "lower", "upper"], b""),
+    }
+
+
+def state_of(place):
+    """All names of a folder with what they are."""
+    found = {}
+    for name in sorted(os.listdir(place)):
+        path = os.path.join(place, name)
+        told = os.lstat(path)
+        of_file = stat.S_ISREG(told.st_mode)
+        found[name] = (told.st_ino, told.st_mode, open(path, "rb").read() if of_file else os.readlink(path) if stat.S_ISLNK(told.st_mode) else None)
+    return found
+
+
+def misnamed(room, r):
+    calls = keeping_calls(room, r)
+    os.mkdir(room.path("folder"))
+    os.mkfifo(room.path("pipe"))
+    os.link(room.path("lower"), room.path("hard"))
+    for link, to in (("soft", "upper"), ("flow", "workflow"), ("nowhere", "no/such/file"), ("null", "/dev/null"), ("loop", "loop")):
+        os.symlink(to, room.path(link))
+    wanted = {
+        "workflow": WORKFLOW, "flow": WORKFLOW, "lower": FEED, "./upper": FEED, "hard": FEED, "soft": FEED,
+        "folder": NO_FILE, "pipe": NO_FILE, "nowhere": NO_FILE, "null": NO_FILE, "/dev/null": NO_FILE, "/dev/full": NO_FILE,
+    }  # fmt: skip
+    before = state_of(room.place)
+    for command, (words, stdin) in calls.items():
+        told = {name: room.run(*words, f"--save-to={name}", stdin=stdin) for name in wanted}
+        yield f"{command} takes the place of no input, device, pipe or folder", all(told[it] == (2, b"", line) for it, line in wanted.items())
+        yield f"{command} through a link to itself", room.run(*words, "--save-to=loop", stdin=stdin) == (1, b"", b"refused 132 file loop\n")
+    yield "and leaves all as it was", state_of(room.place) == before
+    with open(room.path("lower"), "rb") as script:
+        said = subprocess.run([room.built, "save", "--save-to=lower", "workflow", "upper"], stdin=script, cwd=room.place, capture_output=True)
+    yield "nor of the script's file", (said.returncode, said.stderr) == (2, STREAM)
+    with open(room.path("dump"), "wb") as dump:
+        said = room.run(*calls["follow"][0], "--dump", "--save-to=dump", stdout=dump)
+    yield "nor of the dump's", said[0] == 2 and said[2] == STREAM
+    yield "and nothing was written", state_of(room.place) == before | {"dump": state_of(room.place)["dump"]} and room.get("dump") == b""
+
+
+def kept_by_each(room, r):
+    """`save` and `join` keep a file as `follow` does."""
+    for command, (words, stdin) in keeping_calls(room, r).items():
+        wanted = room.run(*words, stdin=stdin) if command != "follow" else None
+        done = room.run(*words, "--save-to=kept", stdin=stdin)
+        wanted = wanted[1] if wanted else room.get("kept")
+        yield f"{command} makes the file", done == (0, b"", b"") and room.get("kept") == wanted
+        room.put(kept=OLD)
+        done = room.run(*words, "--save-to=kept", stdin=stdin)
+        yield f"{command} replaces it", done == (0, b"", b"") and room.get("kept") == wanted and room.left_beside() == ["kept"]
+        room.put(kept=OLD, bad=b"{")
+        refused = room.run(*[{"workflow": "bad"}.get(it, it) for it in words], "--save-to=kept", stdin=stdin)
+        yield f"{command}, refused, leaves it", refused == (1, b"", b"refused 51\n") and room.get("kept") == OLD
+    joined = room.run("join", "--save-to=one", "workflow", "one", "other", "lower", "upper")
+    yield "a join may take the place of one of its own", joined == (0, b"", b"") and room.get("one") == wanted
+
+
+def linked(room, r):
+    """A link is followed to its file, which is replaced in its own folder."""
+    words = keeping_calls(room, r)["follow"][0]
+    os.mkdir(room.path("folder"))
+    room.put(**{"folder/file": OLD})
+    os.symlink("folder/file", room.path("kept"))
+    done = room.run(*words, "--save-to=kept")
+    yield "a link stays a link", done == (0, b"", b"") and os.readlink(room.path("kept")) == "folder/file"
+    yield "and its file is replaced in its folder", room.get("folder/file") != OLD and os.listdir(room.path("folder")) == ["file"]
+    new = room.get("folder/file")
+    os.chmod(room.path("folder"), 0o755)
+    room.put(**{"kept.part": OLD})
+    done = room.run(*words, "--save-to=kept")
+    yield "a file of a name beside it is nobody's", done == (0, b"", b"") and room.get("kept.part") == OLD and room.get("kept") == new
+
+
+def rights(room, r):
+    words = keeping_calls(room, r)["follow"][0]
+    for mode in (0o600, 0o640, 0o444, 0o664):
+        room.put(kept=OLD)
+        os.chmod(room.path("kept"), mode)
+        done = room.run(*words, "--save-to=kept")
+        yield f"mode {mode:o} stays", done == (0, b"", b"") and stat.S_IMODE(os.stat(room.path("kept")).st_mode) == mode
+        os.remove(room.path("kept"))
+    for mask in (0o022, 0o077, 0o002):
+        done = room.run(*words, "--save-to=kept", preexec_fn=lambda: os.umask(mask))
+        yield f"a new file under {mask:o}", done == (0, b"", b"") and stat.S_IMODE(os.stat(room.path("kept")).st_mode) == 0o666 & ~mask
+        os.remove(room.path("kept"))
+    if os.geteuid() == 0:
+        room.put(kept=OLD)
+        os.chown(room.path("kept"), 65534, 65534)
+        done = room.run(*words, "--save-to=kept")
+        told = os.stat(room.path("kept"))
+        yield "owner and group stay, where the caller may give them", done == (0, b"", b"") and (told.st_uid, told.st_gid) == (65534, 65534)
+    else:
+        os.mkdir(room.path("locked"))
+        os.chmod(room.path("locked"), 0o555)
+        said = room.run(*words, "--save-to=locked/kept")
+        yield "a folder without the right to write", said == (1, b"", b"refused 132 file locked/kept\n")
+
+
+def own_names(room, r):
+    """Names beside the file that would be this process's own are taken: a link to another file, and a file."""
+    words = keeping_calls(room, r)["follow"][0]
+
+    def take_names():
+        os.symlink("victim", f".kept.{os.getpid()}-0.new")
+        with open(f".kept.{os.getpid()}-1.new", "wb") as file:
+            file.write(OLD)
+
+    for there in ({}, {"kept": OLD}):
+        room.put(victim=OLD, **there)
+        done = room.run(*words, "--save-to=kept", preexec_fn=take_names)
+        taken = [it for it in room.left_beside() if it != "kept"]
+        yield "names that are taken are passed over", done == (0, b"", b"") and len(taken) == 2 and room.get("kept") != OLD
+        yield "no link is followed to another file", room.get("victim") == OLD and all(room.get(it) == OLD for it in taken)
+        for it in [*taken, "kept"]:
+            os.remove(room.path(it))
+    long = "k" * 255
+    done = room.run(*words, f"--save-to={long}")
+    yield "a name as long as the system lets it be", done == (0, b"", b"") and os.path.getsize(room.path(long)) > 0
+
+
+# ---- two calls, and calls of the system that fail
+
+
+def preloading(room, **told):
+    return {**os.environ, "LD_PRELOAD": preloaded.library(room.place, "hold_calls"), **told}
+
+
+def calls_of(room, *words):
+    """How many calls of the system concern the files of a run."""
+    ran = room.run(*words, env=preloading(room, COUNT_CALLS=room.path("calls")))
+    assert ran[0] == 0, ran
+    return int(room.get("calls"))
+
+
+def held_before(room, call, words, then):
+    """Runs the program, held before that call of the system, while something else is done; answers how it ended, and that."""
+    ran = subprocess.Popen([room.built, *words], cwd=room.place, stdout=subprocess.PIPE, stderr=subprocess.PIPE, env=preloading(room, HOLD_CALL=str(call)))
+    os.waitid(os.P_PID, ran.pid, os.WSTOPPED | os.WEXITED | os.WNOWAIT)
+    between = then(ran)
+    if ran.poll() is None:
+        ran.send_signal(signal.SIGCONT)
+    out, err = ran.communicate(timeout=SECONDS)
+    return (ran.returncode, out, err), between
+
+
+def two_calls(room, r):
+    """One call is held before each of its calls of the system, and another one, over longer feeds, is made meanwhile."""
+    feeds = two_feeds(r, 8)
+    room.put(workflow=making.workflow("-80", "80-"), **feeds(8))
+    room.put(**{f"short_{name}": data for name, data in feeds(4).items()})
+    short = ["follow", "--alone", "--save-to=kept", "workflow", "short_lower", "short_upper"]
+    whole = ["follow", "--alone", "--save-to=kept", "workflow", "lower", "upper"]
+    changed, done = (1, b"", b"refused 129 file kept\n"), (0, b"", b"")
+    # (a checkpoint that is read behind the other call is that of a feed which the shorter one only begins)
+    longer = (1, b"", b"refused 118 stream 0\n")
+    for title, old, extra in (("a new file", None, []), ("a file", OLD, []), ("a checkpoint", "checkpoint", ["--checkpoint=kept"])):
+        if os.path.exists(room.path("kept")):
+            os.remove(room.path("kept"))
+        assert room.run(*whole) == done
+        of_whole = room.get("kept")
+        os.remove(room.path("kept"))
+        assert room.run(*short) == done
+        of_short = room.get("kept")
+
+        def reset():
+            if old is None:
+                if os.path.exists(room.path("kept")):
+                    os.remove(room.path("kept"))
+            else:
+                room.put(kept=of_short if old == "checkpoint" else old)
+
+        reset()
+        count, right, ends = calls_of(room, *short, *extra), 0, []
+        for call in range(1, count + 1):
+            reset()
+            ended, other = held_before(room, call, [*short, *extra], lambda _: room.run(*whole, *extra))
+            now = room.get("kept")
+            if other == done:
+                # the held call began behind the other one, was found out, or had ended its work before
+                right += now == of_whole or (call == 1 and not extra and now == of_short and ended == done)
+                ends.append(ended)
+            else:
+                right += other == changed and now == of_short and ended == done
+            right -= room.left_beside() != ["kept"]
+        # (without a checkpoint the first call is held before it looks at the file; from there on it is found out until it is done)
+        began = longer if extra else done
+        found_out = list(dropwhile(lambda it: it == began, ends))
+        behind = list(dropwhile(lambda it: it == changed, found_out))
+        in_turn = changed in found_out and all(it == done for it in behind)
+        yield f"{title}: held before each of {count} calls of the system, neither undoes the other", right == count and in_turn
+
+
+def failing_calls(room, r):
+    """Each call of the system that concerns files fails in its turn."""
+    words = keeping_calls(room, r)["follow"][0] + ["--save-to=kept"]
+    assert room.run(*words) == (0, b"", b"")
+    new = room.get("kept")
+    for old in (None, OLD):
+
+        def reset():
+            for it in room.left_beside():
+                os.remove(room.path(it))
+            if old:
+                room.put(kept=old)
+
+        reset()
+        count, right = calls_of(room, *words), 0
+        for call in range(1, count + 1):
+            for error in (5, 28):
+                reset()
+                ran = room.run(*words, env=preloading(room, FAIL_CALL=str(call), FAIL_WITH=str(error)))
+                beside = room.left_beside()
+                now = room.get("kept") if "kept" in beside else None
+                whole = now in (old, new) and (ran[0] != 0 or now == new)
+                told = ran in ((0, b"", b""), (1, b"", b"refused 132 file kept\n"), (1, b"", b"refused 129 file kept\n")) or (ran[0] == 1 and ran[2].startswith(b"refused 131 file "))
+                # a name that can't be taken away stays
+                clean = [it for it in beside if it != "kept"] == [] or (ran[0] == 0 and old is None)
+                right += whole and told and clean
+        yield f"each of {count} calls of the system fails: the file is old or whole, and nothing beside it", right == 2 * count
+
+
+def killed_at_each(room, r):
+    words = keeping_calls(room, r)["follow"][0] + ["--save-to=kept"]
+    assert room.run(*words) == (0, b"", b"")
+    new, count, right = room.get("kept"), calls_of(room, *words), 0
+    for call in range(1, count + 1):
+        room.put(kept=OLD)
+        held_before(room, call, words, lambda ran: ran.kill())
+        right += room.get("kept") in (OLD, new)
+    yield f"killed before each of {count} calls of the system: the old file or the new one", right == count
+    yield "and the next call is not in their way", room.run(*words) == (0, b"", b"") and room.get("kept") == new
 
 
 # ---- progress
@@ -299,19 +559,48 @@ def of_listed_columns(room, r, rounds=10):
     yield f"{rounds} checkpoints of listed columns are moved on to the model's", alike == rounds
 
 
-def main(built):
+KEEPING = (misnamed, kept_by_each, linked, rights, own_names, two_calls, failing_calls, killed_at_each)
+PARTS = (from_nothing, from_anywhere, again_and_again, only_some, refused, cut_short, killed, *KEEPING, progress, of_listed_columns)
+NOBODY = 65534
+
+
+def as_another_user(built):
+    """What a file is kept as, once more by a user who may do less than root. Answers how many checks passed and failed; none
+    where that user has no Python."""
+    with tempfile.TemporaryDirectory(prefix="vrepl-follow-") as place:
+        os.chmod(place, 0o755)
+        tests = os.path.join(place, "tests")
+        shutil.copytree(preloaded.TESTS, tests, ignore=shutil.ignore_patterns("cases", "__pycache__"))
+        program = shutil.copy(built, place)
+        folder = os.path.join(place, "temporary")
+        os.mkdir(folder, 0o777)
+        os.chmod(folder, 0o777)
+        words = ["/usr/bin/python3", os.path.join(tests, "run_follow.py"), program, "--keeping"]
+        try:
+            ran = subprocess.run(words, capture_output=True, text=True, user=NOBODY, group=NOBODY, extra_groups=[], env={**os.environ, "TMPDIR": folder}, timeout=900)
+        except OSError as fault:
+            print(f"not run as another user: {fault}")
+            return 0, 0
+        counted = re.search(r"(\d+) passed, (\d+) failed$", ran.stdout.strip())
+        print("as another user:", ran.stdout + ran.stderr[-2000:], sep="\n", end="")
+        return (int(counted[1]), int(counted[2])) if counted else (0, 1)
+
+
+def main(built, parts):
     passed = failed = 0
     r = random.Random(1)
-    for part in (from_nothing, from_anywhere, again_and_again, only_some, refused, cut_short, killed, progress, of_listed_columns):
+    for part in parts:
         with tempfile.TemporaryDirectory(prefix="vrepl-follow-") as place:
             for title, holds in part(Room(built, place), r):
                 passed, failed = passed + bool(holds), failed + (not holds)
                 print(f"  {title}" if holds else f"FAILED {title}")
+    if parts is PARTS and os.geteuid() == 0:
+        passed, failed = (ours + theirs for ours, theirs in zip((passed, failed), as_another_user(built)))
     print(f"{passed} passed, {failed} failed")
     return 1 if failed else 0
 
 
 if __name__ == "__main__":
-    if len(sys.argv) != 2:
+    if len(sys.argv) not in (2, 3) or sys.argv[2:] not in ([], ["--keeping"]):
         sys.exit(__doc__)
-    sys.exit(main(sys.argv[1]))
+    sys.exit(main(sys.argv[1], KEEPING if sys.argv[2:] else PARTS))

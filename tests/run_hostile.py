@@ -8,10 +8,12 @@ byte changed, through `show` and `step`; four checkpoints likewise, through `res
 to be one of the feed's; positions, rows, hexadecimal text, scripts, filters and workflows on both sides of a limit;
 restarts after each step of a script, by `restart` and by `save` and `resume`; dumps and checkpoints into pipes whose
 reader is gone, into a full device and into files of limited size; all cases with reads and writes that are interrupted
-and take one byte (tests/short_calls.c), and signals while the program waits; and feeds that can't be read. The last line is
-'N passed, M failed': one a check.
+and take one byte (tests/short_calls.c), and signals while the program waits; feeds that can't be read; and names that speak
+to a terminal. The last line is 'N passed, M failed': one a check.
 """
+import json
 import os
+import re
 import resource
 import signal
 import subprocess
@@ -291,6 +293,42 @@ def unreadable_feeds(room):
             yield said != (1, b"", f"refused 131 file {name}\n".encode()) and f"{words}: {said}"
 
 
+# What a name may have in it that speaks to a terminal or forges a line: of a feed anything, of a workflow's table or
+# column no byte below 0x20.
+SPEAKING = "\n\x1b[2Jwarning stream 0 no groups\r\x07\u009b31m\u202e"
+LONG = "n" * 250
+
+
+def speaking_names(room):
+    """What `check` and its place print of names, and that the JSON has them whole."""
+    quiet = SPEAKING.replace("\n", "").replace("\x1b", "").replace("\r", "").replace("\x07", "")
+    table, column, shard, unknown, file = f"t{quiet}", f"v{quiet}", f"s{SPEAKING}", f"u{SPEAKING}", "feed\x1b[2J\nwarning"
+    flow = json.loads(making.workflow(shard))
+    flow["tables"][0] |= {"name": table, "columns": [["id", "INT64"], [column, "VARCHAR"]]}
+    flow["tables"].append(flow["tables"][0] | {"name": LONG, "vindex": ["id", "numeric"]})
+    columns = [(b"id", 265), (column.encode(), 6165)]
+    row = [(None, (b"1", b"a"))]
+    feed = making.group(making.U + b":1", row, table.encode(), columns) + making.group(making.U + b":1-2", row, unknown.encode(), columns)
+    files = {"workflow": json.dumps(flow).encode(), file: feed}
+    status, out, err = room.run(["check", "workflow", file], files)
+    yield (status, err) != (3, b"") and f"{status, err}"
+    yield bool(set(out) - {10, *range(32, 127)}) and f"bytes that aren't printable: {out}"
+    lines = [re.sub(rb"\?+", b"?", it) for it in out.splitlines()]
+    wanted = [b"rule stream 0 table ", b"rule stream 0 table ", b"stream 0 file feed?[2J?warning shard s", b"table t", b"table nnn"]
+    wanted += [b"warning stream 0 table nnn", b"warning stream 0 no table u"]
+    yield len(lines) != len(wanted) and f"{len(lines)} lines, wanted {len(wanted)}: {out}"
+    yield next((f"line {it}, wanted {begin}" for it, begin in zip(lines, wanted) if not it.startswith(begin)), None)
+    yield max(map(len, lines)) > 300 and "a name of more than 200 bytes"
+    told = json.loads(room.run(["check", "--json", "workflow", file], {})[1])["streams"][0]
+    whole = told["file"], told["shard"], told["tables"][0]["table"], told["tables"][1]["table"], told["unknown"][0]["name"]
+    yield whole != (file, shard, table, LONG, unknown) and f"in JSON {whole}"
+    wrong = making.group(making.U + b":1", row, table.encode(), [(b"id", 265), (unknown.encode(), 6165)])
+    status, out, err = room.run(["check", "workflow", file], {file: wrong})
+    yield (status, out) != (1, b"") and f"{status, out}"
+    yield (bool(set(err) - {10, *range(32, 127)}) or err.count(b"\n") != 2) and f"the place {err}"
+    yield b" column u?" not in err and f"the place {err}"
+
+
 def of_two_streams():
     """A checkpoint of two streams, of which one is within its table and the other has copied it."""
     script = b"offer 0 1\nadvance 0\nopen 0 1\ncopy 0 1\noffer 1 1\nadvance 1\nopen 1 1\ncopy 1 1\n"
@@ -325,6 +363,7 @@ def checks(room):
     yield "signals while it reads", signals_while_it_reads(room)
     yield "signals while it writes", signals_while_it_writes(room)
     yield "feeds that can't be read", unreadable_feeds(room)
+    yield "names that speak to a terminal", speaking_names(room)
 
 
 def main(built):

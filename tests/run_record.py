@@ -1,9 +1,9 @@
 #!/usr/bin/env python3
 """Records feeds from a private MariaDB server, and holds what the program makes of them to what the server has.
 
-usage: tests/run_record.py [PROGRAM]
+usage: tests/run_record.py [PROGRAM [ROUNDS]]
 
-PROGRAM is a built program, ./vrepl unless one is given. A server is started in a temporary folder (its own socket, no network), clients change the tables of two
+PROGRAM is a built program, ./vrepl unless one is given. With ROUNDS nothing is tried but so many random tables. A server is started in a temporary folder (its own socket, no network), clients change the tables of two
 source shards, and record/feed writes their feeds. The dumps of merges and splits have to be what the
 statements of record/select print, byte for byte; a checkpoint is resumed over a feed that --append made
 longer, each stop of the recorder is shown, and the commands of docs/OPERATE.md print what it says. Where mariadb-server, python3-pymysql and python3-protobuf
@@ -23,6 +23,8 @@ ROOT = os.path.dirname(os.path.dirname(os.path.abspath(__file__)))
 OWN = "/usr/bin/python3"
 MODULES = ("pymysql", "google.protobuf")
 RANGES = ["-40", "40-80", "80-c0", "c0-", "-1080", "33-e1"]
+ROUNDS = 80
+"""How many random tables are tried beside all else."""
 PATIENCE = 600
 """The seconds that a command is given: it ends in two, on a machine with nothing else to do."""
 sys.dont_write_bytecode = True
@@ -57,7 +59,17 @@ class Trial:
         return subprocess.run(words, cwd=ROOT, input=stdin.encode(), capture_output=True, timeout=PATIENCE, env=told)
 
     def record(self, *words: str) -> subprocess.CompletedProcess:
-        return self.run("record/feed", "--socket", self.server.socket, "--user", "root", *words)
+        """What record/feed does, in a fork of this process, which has its modules already."""
+        from record import commands
+
+        done = commands.run(*self.feed_words(*words))
+        return subprocess.CompletedProcess(words, done.status, done.out.encode(), done.err.encode())
+
+    def feed_words(self, *words: str) -> list[str]:
+        """The words of record/feed; a feed that is there is made anew, unless it is gone on with."""
+        out = words[words.index("--out") + 1]
+        anew = ["--replace"] if os.path.exists(out + ".json") and "--append" not in words else []
+        return ["--socket", self.server.socket, "--user", "root", *anew, *words]
 
     def made(self, *words: str) -> bytes:
         """The output of a command that has to succeed. RuntimeError where it doesn't."""
@@ -67,7 +79,7 @@ class Trial:
         return done.stdout
 
     def recorded(self, *words: str) -> None:
-        self.made("record/feed", "--socket", self.server.socket, "--user", "root", *words)
+        self.made("record/feed", *self.feed_words(*words))
 
     def workflow(self, name: str, shards: list[str], tables: list[str], *words: str) -> str:
         """Writes a workflow file; answers its path."""
@@ -97,8 +109,10 @@ def read_file(path: str) -> bytes | None:
 
 def stops(trial: Trial) -> None:
     """Each stop has its line and status 1, and leaves the feed and its note as they were."""
+    from record import commands
     from record.stops import CASES
 
+    commands.command()
     out = trial.path("stop.feed")
     for case in CASES:
         trial.server.sql(case.made)
@@ -107,7 +121,7 @@ def stops(trial: Trial) -> None:
         before = read_file(out), read_file(out + ".json")
         done = trial.record("--shard", "-", "--out", out, *case.words, *case.tables.split())
         said = done.stderr.decode()
-        left = [name for name in os.listdir(trial.server.folder) if ".part" in name]
+        left = [name for name in os.listdir(trial.server.folder) if name.endswith(".new")]
         if not case.line:
             why = said if done.returncode or said else None
         elif done.returncode != 1 or not said.startswith("feed: ") or case.line not in said or said.count("\n") != 1:
@@ -121,6 +135,18 @@ def stops(trial: Trial) -> None:
     done = trial.record("--shard", "-", "--out", out, "--append", "s.t")
     trial.check("stop cut_feed", None if done.returncode == 1 and b"in " + out.encode() in done.stderr else repr(done.stderr))
     trial.server.sql("DROP DATABASE s; DROP DATABASE s2; RESET MASTER")
+
+
+def random_tables(trial: Trial, rounds: int = ROUNDS) -> None:
+    """Tables of random columns with random rows, from the log and from a snapshot."""
+    from record.random_tables import compare
+
+    compare(trial, 0, rounds)
+
+
+def rounds_alone(trial: Trial) -> None:
+    """As many random tables as the command line wants."""
+    random_tables(trial, int(sys.argv[2]))
 
 
 def merged_and_split(trial: Trial) -> None:
@@ -247,12 +273,39 @@ def grown(trial: Trial) -> None:
 def statements(trial: Trial) -> None:
     """What a statement's text says that it does, and to which tables."""
     from recorder.statements import read_statement
-    from record.statements import TEXTS
+    from record.statements import HARMLESS, OTHERS, TEXTS
 
-    for text, does, names in TEXTS:
+    texts = [*TEXTS, *((text, "NOTHING", []) for text in HARMLESS)]
+    for text, does, names in texts:
         read = read_statement(text, "d")
         found = read.does.name, [".".join(name) for name in read.names]
         trial.check(f"statement {text!r}", None if found == (does, names) else f"{found}")
+    for text in OTHERS:
+        read = read_statement(f"ALTER TABLE t {text}", "s")
+        trial.check(f"other alteration {text!r}", None if read.does.name == "LAYOUT" and ("s", "t") in read.names else f"{read}")
+
+
+def prepared(trial: Trial) -> None:
+    """What the log says of XA transactions that are prepared at its places."""
+    from record.prepared import at_places
+
+    at_places(trial)
+
+
+def harmless(trial: Trial) -> None:
+    """DDL that leaves a recorded table as it is, each behind rows and before others: the recording goes on."""
+    from record.statements import HARMLESS, amid_rows
+
+    amid_rows(trial.server, HARMLESS)
+    logs = [line.split()[0].decode() for line in trial.server.sql("SHOW BINARY LOGS").stdout.splitlines()]
+    logged = "".join(trial.server.sql(f"SHOW BINLOG EVENTS IN '{log}'").stdout.decode() for log in logs)
+    lacking = [text for text in HARMLESS if text not in logged]
+    trial.check("statements in the log", f"not {lacking}" if lacking else None)
+    workflow, feed = trial.workflow("harmless.json", ["-"], ["s.t"]), trial.path("harmless.feed")
+    trial.recorded("--shard", "-", "--out", feed, "s.t")
+    dump = trial.made(trial.program, "run", workflow, feed)
+    trial.same(f"rows amidst {len(HARMLESS)} statements", dump, trial.selected(workflow, "s"), len(HARMLESS))
+    trial.server.sql("DROP DATABASE s; RESET MASTER")
 
 
 def late(trial: Trial) -> None:
@@ -296,15 +349,55 @@ def late(trial: Trial) -> None:
     trial.same("late, all of it", trial.made(trial.program, "run", workflow, feed), trial.selected(workflow, "l"), 10)
 
 
+def reached(trial: Trial) -> None:
+    """Servers by the network, by TLS and by a file of options, and tables that are left out."""
+    from record import reach
+
+    for step in reach.in_the_clear, reach.by_tls, reach.left_out:
+        step(trial)
+
+
+def workflows(trial: Trial) -> None:
+    """What is told where a workflow begins, a reshard's files, and what VTGate prints surely."""
+    from record import workflows
+
+    for step in workflows.untold, workflows.targets, workflows.sure:
+        step(trial)
+
+
 def operated(trial: Trial) -> None:
     """What docs/OPERATE.md says."""
     from record import operate
 
-    for step in operate.vtgate, operate.restored, operate.page:
+    for step in operate.restored, operate.page:
         step(trial)
 
 
-STEPS: list[Callable[[Trial], None]] = [statements, stops, merged_and_split, kinds, portions, grown, late, operated]
+def kept(trial: Trial) -> None:
+    """Feeds that are written by two, interrupted at each system call, and given what no recording can go on with."""
+    from record import ended, kept
+
+    kept.kept(trial)
+    ended.ended(trial)
+
+
+def living(trial: Trial) -> None:
+    """Feeds that go on with each transaction."""
+    from record import living
+
+    living.living(trial)
+
+
+def from_vtgate(trial: Trial) -> None:
+    """Feeds from what VTGate sends, by its changes and by a copy, over a stand-in for it."""
+    from record.vtgate_trials import vtgate
+
+    vtgate(trial)
+
+
+STEPS: list[Callable[[Trial], None]] = [
+    statements, stops, prepared, reached, harmless, random_tables, merged_and_split, kinds, portions, grown, late, workflows, from_vtgate, operated, kept, living,
+]  # fmt: skip
 
 
 def main() -> int:
@@ -317,9 +410,11 @@ def main() -> int:
         return 0
     for number in (signal.SIGTERM, signal.SIGHUP):
         signal.signal(number, lambda *_: sys.exit(1))
+    # a shell without job control has what runs aside ignore it, and so would the recorders that are sent it
+    signal.signal(signal.SIGINT, signal.default_int_handler)
     with Server() as server:
         trial = Trial(server, os.path.abspath(sys.argv[1] if len(sys.argv) > 1 else os.path.join(ROOT, "vrepl")))
-        for step in STEPS:
+        for step in [rounds_alone] if len(sys.argv) > 2 else STEPS:
             try:
                 step(trial)
             except Exception as fault:  # noqa: BLE001

@@ -2,6 +2,7 @@
 from . import Refused, told as file, wire
 from .board import Board, key_text
 from .feed import Feed, print_position
+from .shown import printable, shown
 from .vdiff import line as json_line
 
 PASSED_OVER = {5: b"DDL", 11: b"OTHER", 19: b"SAVEPOINT"}
@@ -20,7 +21,7 @@ def skipped(data):
                 said = ([0] + [it for no, wired, it in found if (no, wired) == (1, 0)])[-1]
                 text = data[slice(*([(0, 0)] + [it for no, wired, it in found if (no, wired) == (4, 2)])[-1])]
                 if said in PASSED_OVER:
-                    yield number, PASSED_OVER[said], bytes(it if 32 <= it <= 126 else 63 for it in text[:200])
+                    yield number, PASSED_OVER[said], shown(text)
 
 
 def told(workflow, groups):
@@ -76,10 +77,10 @@ class Stream:
         return touching, sum(any(it[0] == t and it[2] is not None and it[3] for it in group) for group in self.touches)
 
     def lines(self):
-        line = b"stream %d file %s shard %s groups %d" % (self.number, self.name, self.shard, len(self.groups))
+        line = b"stream %d file %s shard %s groups %d" % (self.number, shown(self.name), shown(self.shard), len(self.groups))
         if self.groups:
             line += b" first %s last %s" % (self.places[0], self.places[-1])
-        return [line] + [b"table %s groups %d passing %d rows %d" % it for it in self.tables]
+        return [line] + [b"table %s groups %d passing %d rows %d" % (shown(table), *counts) for table, *counts in self.tables]
 
     def warnings(self):
         warned = []
@@ -91,14 +92,14 @@ class Stream:
                 warned.append(b"starts at " + self.places[0])
         for table, touching, passing, _ in self.tables:
             if not touching:
-                warned.append(b"table %s untouched" % table)
+                warned.append(b"table %s untouched" % shown(table))
             elif not passing:
-                warned.append(b"table %s passes no row" % table)
-        warned += [b"no table " + one + (b" nearest " + it if it else b"") for one, it in self.unknown]
+                warned.append(b"table %s passes no row" % shown(table))
+        warned += [b"no table " + shown(one) + (b" nearest " + shown(it) if it else b"") for one, it in self.unknown]
         for why in WHY:
             count, first = counted([it for it in self.findings if it[0] == why])
             warned += [why + b" " + it for it in count]
-            warned += [b"%s group %d change %d table %s key %s at %s" % (*it[:4], key_text(it[4]), self.places[it[1] - 1]) for it in first]
+            warned += [b"%s group %d change %d table %s key %s at %s" % (*it[:3], shown(it[3]), key_text(it[4]), self.places[it[1] - 1]) for it in first]
         count, first = counted(self.skipped)
         warned += [b"skipped " + it for it in count] + [b"skipped message %d %s %s" % it for it in first]
         return [b"warning stream %d %s" % (self.number, it) for it in warned]
@@ -175,9 +176,9 @@ def check(workflow, feeds, names, datas, text, as_json=False):
     twice = touched_twice(streams)
     if twice:
         (table, key), who = twice
-        warned.append(b"warning streams %d and %d touch table %s key %s" % (*who, workflow.tables[table].name, key_text(key)))
+        warned.append(b"warning streams %d and %d touch table %s key %s" % (*who, shown(workflow.tables[table].name), key_text(key)))
     warned += file.note_lines(file.notes(text))
-    lines = [b"rule stream %d table %s %s" % (i, table.encode(), rows) for i, table, rows in file.rules(text)]
+    lines = [b"rule stream %d table %s %s" % (i, shown(table.encode()), printable(rows)) for i, table, rows in file.rules(text)]
     lines += [line for it in streams for line in it.lines()] + warned
     said = whole_object(workflow, streams, text, bool(warned)) if as_json else b"".join(line + b"\n" for line in lines)
     return (3 if warned else 0), said

@@ -3,15 +3,12 @@ import re
 
 from . import Refused, wire
 from .feed import Feed
+from .shown import shown
 from .workflow import TYPE, VINDEXES, Number, read_filter, read_json
 
 READ = {"file": ("keyspace", "tables", "streams"), "table": ("name", "columns", "key", "vindex"), "stream": ("shard", "filter")}
 READ |= {"filter": ("rules",), "rule": ("match", "filter")}
 ROLLBACK = bytes([4, 10, 2, 8, 4])
-
-
-def shown(text):
-    return bytes(byte if 32 <= byte <= 126 else 63 for byte in text.encode()[:200])
 
 
 def ignored(kind, path, said):
@@ -79,7 +76,7 @@ FLAWS = {"ignored": b"isn't read", "unmatched": b"matches no table", "undecided"
 
 def note_lines(told):
     """The lines of what is told of a file."""
-    return [b"warning workflow %s %s%s" % (shown(path), FLAWS[why], shown(table)) for path, why, table in told]
+    return [b"warning workflow %s %s%s" % (shown(path.encode()), FLAWS[why], shown(table.encode())) for path, why, table in told]
 
 
 def notes(data):
@@ -104,7 +101,7 @@ def notes(data):
 
 
 def quoted(missed, text):
-    return missed + b' "' + shown(text) + b'"'
+    return missed + b' "' + shown(text.encode()) + b'"'
 
 
 def text(said):
@@ -248,13 +245,13 @@ def differing(feed, columns, data, span):
             for i in range(max(len(wanted), len(event.columns))):
                 one, other = (it[i] if i < len(it) else None for it in (event.columns, wanted))
                 if one is None:
-                    return b" table %s column %s missing" % (at, other[0])
+                    return b" table %s column %s missing" % (shown(at), shown(other[0]))
                 if other is None:
-                    return b" table %s column %s unwanted" % (at, one[0])
+                    return b" table %s column %s unwanted" % (shown(at), shown(one[0]))
                 if one[0] != other[0]:
-                    return b" table %s column %s wanted %s" % (at, one[0], other[0])
+                    return b" table %s column %s wanted %s" % (*map(shown, (at, one[0], other[0])),)
                 if one[1] != other[1]:
-                    return b" table %s column %s type %d wanted %d" % (at, *one, other[1])
+                    return b" table %s column %s type %d wanted %d" % (shown(at), shown(one[0]), one[1], other[1])
     return None
 
 
@@ -264,7 +261,7 @@ def feed_place(workflow, s, file, data, number):
         column = differing(empty, workflow.columns, data, span) if number == 85 else None
         if column is None and (number == 85 or is_read(data, span)):
             continue
-        place = b"place stream %d file %s message %d byte %d" % (s, file, m, at)
+        place = b"place stream %d file %s message %d byte %d" % (s, shown(file), m, at)
         try:
             place += b" behind group %d" % len(Feed(data[:at] + ROLLBACK, workflow.keyspace, workflow.shards[s]).groups)
         except Refused:

@@ -1,17 +1,12 @@
-"""What docs/OPERATE.md says, tried: a feed from a stand-in for VTGate, a dump put back as rows, and the page's own commands."""
+"""What docs/OPERATE.md says, tried: a dump put back as rows, and the page's own commands, with a stand-in for VTGate."""
 import os
 import re
 import subprocess
 from collections.abc import Iterator
 from contextlib import contextmanager
 
-from recorder.messages import EventType, Response
-from recorder.stop import Stop
-from recorder.vstream import transactions
-
-from .load import SCHEMAS, SHARDS, VINDEXES, tables_of
+from .load import SCHEMAS, tables_of
 from .server import die_with_parent
-from .vtgate import BEGINNING, answers, position
 
 ROOT = os.path.dirname(os.path.dirname(os.path.dirname(os.path.abspath(__file__))))
 PAGE = "docs/OPERATE.md"
@@ -25,7 +20,7 @@ def stand_in(feed: str) -> Iterator[str]:
     if subprocess.run(["/usr/bin/python3", "-c", "import grpc"], capture_output=True, timeout=PATIENCE).returncode:
         yield ""
         return
-    words = [os.path.join(ROOT, "tests/record/vtgate.py"), feed, "shop", "-"]
+    words = [os.path.join(ROOT, "tests/record/vtgate.py"), feed, "shop", "-", "customer=id", "orders=customer,number"]
     told = {**os.environ, "PYTHONDONTWRITEBYTECODE": "1"}
     with subprocess.Popen(words, stdin=subprocess.DEVNULL, stdout=subprocess.PIPE, text=True, preexec_fn=die_with_parent, env=told) as served:
         try:
@@ -40,60 +35,6 @@ def stand_in(feed: str) -> Iterator[str]:
 def read_file(path: str) -> bytes:
     with open(path, "rb") as file:
         return file.read()
-
-
-def vtgate(trial) -> None:
-    """What VTGate sends of both shards is recorded in two pieces, and joined."""
-    joined = []
-    for schema, shard in zip(SCHEMAS, SHARDS):
-        feed, pieces = read_file(trial.path(f"{schema}.feed")), []
-        whole = list(transactions(answers(feed, "ks", shard), "ks", shard))
-        middle = whole[len(whole) // 2][1]
-        pieces.append(b"".join(messages for messages, _ in whole[:len(whole) // 2 + 1]))
-        pieces.append(b"".join(messages for messages, _ in transactions(answers(feed, "ks", shard, middle), "ks", shard)))
-        joined.append(trial.path(f"{schema}.joined.feed"))
-        with open(joined[-1], "wb") as file:
-            file.write(b"".join(pieces))
-    workflow = trial.workflow("vtgate.json", SHARDS, tables_of(SCHEMAS[0]), *VINDEXES)
-    trial.same("recorded from VTGate", trial.made(trial.program, "run", workflow, *joined), trial.selected(workflow, *SCHEMAS), 100)
-    for name, fault, line in faults():
-        trial.check(f"vtgate stops at {name}", why_not_stopped(fault, line))
-
-
-def faults() -> Iterator[tuple[str, Response, str]]:
-    """What stops a recording of the shard ks/-, by its name, with what the line has to say."""
-    for kind in (0, *range(6, 11), 16, 18, 20, 21, 99):
-        answer = Response()
-        answer.events.add(type=kind)
-        yield f"type {kind}", answer, f"an event of type {kind} at {BEGINNING}: "
-    ddl = position("ks", "-", BEGINNING + "-9")
-    ddl.events.add(type=EventType.DDL, statement="truncate table t")
-    yield "DDL", ddl, f"an event of type 5 (truncate table t) at {BEGINNING}-9: "
-    yield "another shard", position("ks", "-80", BEGINNING), "a position of ks/-80 at "
-    yield "another keyspace", position("other", "-", BEGINNING), "a position of other/- at "
-    resharded = position("ks", "-80", BEGINNING)
-    resharded.events[0].vgtid.shard_gtids.add(keyspace="ks", shard="80-")
-    yield "two shards", resharded, "a position of ks/-80 and ks/80- at "
-    copying = position("ks", "-", BEGINNING)
-    copying.events[0].vgtid.shard_gtids[0].table_p_ks.add()
-    yield "copying", copying, "a position amidst copying at "
-    for field in ("data_columns", "json_partial_values"):
-        partial = Response()
-        getattr(partial.events.add(type=EventType.ROW).row_event.row_changes.add(), field).SetInParent()
-        yield field, partial, "a row image of"
-
-
-def why_not_stopped(fault: Response, line: str) -> str | None:
-    """A transaction before it is written, what has begun isn't, and the line says why."""
-    begun, first = Response(), position("ks", "-", BEGINNING)
-    begun.events.add(type=EventType.BEGIN)
-    written = []
-    try:
-        for messages, _ in transactions([first, begun, fault], "ks", "-"):
-            written.append(messages)
-    except Stop as stop:
-        return None if str(stop).startswith(line) and len(written) == 1 else f"{stop}, behind {len(written)} transactions"
-    return "it goes on"
 
 
 def restored(trial) -> None:

@@ -46,6 +46,8 @@ class Server:
         # a socket's path is short, and the server, which may run as another user, has to reach it
         self.folder = tempfile.mkdtemp(prefix="vrepl-record-", dir="/tmp")
         self.socket = os.path.join(self.folder, "s")
+        # a server that begins takes away what another one has among the temporary files
+        self._told = {**os.environ, "TMPDIR": self.folder}
         self._process = None
         try:
             self._start()
@@ -63,14 +65,26 @@ class Server:
             for path in (self.folder, data):
                 shutil.chown(path, user)
         words = [command("mariadb-install-db"), "--no-defaults", f"--datadir={data}", "--auth-root-authentication-method=normal", "--skip-test-db"]
-        made = subprocess.run([*words, *([f"--user={user}"] if user else [])], stdin=subprocess.DEVNULL, capture_output=True, text=True, timeout=PATIENCE)
+        made = subprocess.run([*words, *([f"--user={user}"] if user else [])], stdin=subprocess.DEVNULL, capture_output=True, text=True, timeout=PATIENCE,
+                              env=self._told)  # fmt: skip
         if made.returncode:
             raise RuntimeError(f"mariadb-install-db: {made.stdout[-500:]}{made.stderr[-500:]}")
         self._log = open(os.path.join(self.folder, "log"), "wb")  # noqa: SIM115
+        self._begin()
+
+    def restart(self) -> None:
+        """Kills the server, and begins it again."""
+        self._process.kill()
+        self._process.wait()
+        self._begin()
+
+    def _begin(self) -> None:
+        user, data = _unprivileged(), os.path.join(self.folder, "data")
+        # (a server that begins takes away what others have in a folder of theirs that it has too)
         how = {"user": user, "group": pwd.getpwnam(user).pw_gid, "extra_groups": []} if user else {}
         self._process = subprocess.Popen(
-            [command("mariadbd"), "--no-defaults", f"--datadir={data}", f"--socket={self.socket}", f"--pid-file={self.folder}/pid", *SETTINGS],
-            stdin=subprocess.DEVNULL, stdout=self._log, stderr=self._log, preexec_fn=die_with_parent, **how)  # fmt: skip
+            [command("mariadbd"), "--no-defaults", f"--datadir={data}", f"--socket={self.socket}", f"--pid-file={self.folder}/pid", f"--tmpdir={data}", *SETTINGS],
+            stdin=subprocess.DEVNULL, stdout=self._log, stderr=self._log, preexec_fn=die_with_parent, env=self._told, **how)  # fmt: skip
         begun = time.monotonic()
         while self._process.poll() is None and time.monotonic() - begun < PATIENCE:
             if self.sql("SELECT 1", check=False).returncode == 0:

@@ -1,0 +1,28 @@
+# make install [PREFIX=/usr/local] [DESTDIR=]     puts the program, man page, completions and licence in place
+# make uninstall [PREFIX=/usr/local] [DESTDIR=]   takes them away again
+#
+# The program is the one in dist/, or what ./build made where a source was changed; nothing is built here.
+PREFIX = /usr/local
+DESTDIR =
+PLACES = bin/vrepl share/man/man1/vrepl.1 share/bash-completion/completions/vrepl share/zsh/site-functions/_vrepl share/doc/vrepl/LICENSE
+
+all:
+	@sed -n '/^#/!q; s/^# \{0,1\}//p' Makefile
+
+# Each file is written beside its place and named at last, so that a program that runs isn't written over.
+install:
+	@set -e; umask 022; program=$$(scripts/program); \
+	put() { \
+	    place='$(DESTDIR)$(PREFIX)'/$$2; \
+	    mkdir -p -- "$${place%/*}"; cp -- "$$1" "$$place.new"; chmod "$$3" -- "$$place.new"; mv -f -- "$$place.new" "$$place"; \
+	}; \
+	put "$$program" bin/vrepl 755; \
+	for page in $(filter share/man/% share/bash% share/zsh%,$(PLACES)); do put "$$page" "$$page" 644; done; \
+	put LICENSE share/doc/vrepl/LICENSE 644; \
+	echo "installed $$program as $(DESTDIR)$(PREFIX)/bin/vrepl, with its man page, completions and licence"
+
+uninstall:
+	@set -e; for place in $(PLACES); do rm -f -- '$(DESTDIR)$(PREFIX)'/"$$place"; done; \
+	[ ! -d '$(DESTDIR)$(PREFIX)/share/doc/vrepl' ] || rmdir -- '$(DESTDIR)$(PREFIX)/share/doc/vrepl'
+
+.PHONY: all install uninstall

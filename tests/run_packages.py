@@ -1,0 +1,174 @@
+#!/usr/bin/env python3
+"""Shows that `make install` puts the program in place, and what is in the packages of ./release --packages.
+
+usage: tests/run_packages.py
+
+Each check runs in copies of the checkout, as another user than root where it may: what is installed is just what
+the Makefile names, runs, and is taken away again; nothing is installed of a program of other sources; packages that
+are built in two places, by two users and with other times are the same byte by byte; what is unpacked of each is the
+program in dist/, and the .deb is installed into a root of its own by dpkg and removed again. Where make or dpkg isn't
+installed the script says so and counts nothing, and where lintian isn't that check alone. The last line is
+'N passed, M failed': one a check.
+"""
+import filecmp
+import os
+import shutil
+import subprocess
+import sys
+import tempfile
+
+import run_dist
+
+INSTALLED = ["bin/vrepl", "share/bash-completion/completions/vrepl", "share/doc/vrepl/LICENSE", "share/man/man1/vrepl.1", "share/zsh/site-functions/_vrepl"]
+IN_DEB = [
+    *("usr/bin/vrepl", "usr/share/bash-completion/completions/vrepl", "usr/share/doc/vrepl/changelog.gz", "usr/share/doc/vrepl/copyright"),
+    *("usr/share/lintian/overrides/vrepl", "usr/share/man/man1/vrepl.1.gz", "usr/share/zsh/vendor-completions/_vrepl"),
+]  # fmt: skip
+CARRIED = os.path.join(run_dist.ROOT, run_dist.CARRIED)
+OTHER = run_dist.NOBODY if os.geteuid() == 0 else None
+
+
+def files_below(folder):
+    return sorted(os.path.relpath(os.path.join(at, name), folder) for at, _, names in os.walk(folder) for name in names)
+
+
+def folder_of(room, name, user=None):
+    """A new folder, of a user."""
+    place = os.path.join(room.folder, name)
+    os.mkdir(place)
+    if user is not None:
+        os.chown(place, user, user)
+    return place
+
+
+def given_to(place, user):
+    """Gives a copy to a user, with all in it."""
+    if user is not None:
+        subprocess.run(["chown", "-R", f"{user}:{user}", place], check=True)
+    return place
+
+
+def is_the_program(path):
+    """What isn't as wanted of an installed program, or nothing."""
+    if not filecmp.cmp(path, CARRIED, shallow=False):
+        return f"{path} isn't the program in dist/"
+    ran = subprocess.run([path, "show", "--hex", os.path.join(run_dist.ROOT, "examples/one_insert.hex")], capture_output=True, user=OTHER, check=False)
+    return run_dist.wanted((ran.returncode, ran.stdout, ran.stderr.decode()))
+
+
+def failed(ran):
+    return None if ran[0] == 0 else f"status {ran[0]}, error {ran[2]}"
+
+
+def installs_as_any_user(room):
+    place, prefix = folder_of(room, "installed by a user", OTHER), os.path.join(room.folder, "installed by a user/a prefix")
+    for _ in range(2):
+        fault = failed(room.run(room.plain, "install", f"PREFIX={prefix}", command="make", user=OTHER))
+        if fault or files_below(prefix) != INSTALLED:
+            return fault or f"there are {files_below(prefix)}"
+    modes = {it: os.stat(os.path.join(prefix, it)).st_mode & 0o777 for it in INSTALLED}
+    if any(mode != (0o755 if it == "bin/vrepl" else 0o644) for it, mode in modes.items()):
+        return f"the modes are {modes}"
+    fault = is_the_program(os.path.join(prefix, "bin/vrepl"))
+    fault = fault or failed(room.run(room.plain, "uninstall", f"PREFIX={prefix}", command="make", user=OTHER))
+    return fault or (f"{files_below(place)} is left" if files_below(place) else None)
+
+
+def installs_no_program_of_other_sources(room):
+    prefix = folder_of(room, "nothing")
+    with run_dist.longer(os.path.join(room.plain, run_dist.SOURCE)):
+        ran = room.run(room.plain, "install", f"PREFIX={prefix}", command="make")
+    is_said = ran[0] != 0 and "no program of these sources" in ran[2]
+    return None if is_said and not files_below(prefix) else f"status {ran[0]}, error {ran[2]}, there are {files_below(prefix)}"
+
+
+def packages_are_the_same(room):
+    one, other = room.copy("one place"), given_to(room.copy("another place with a longer name"), OTHER)
+    subprocess.run(["find", other, "-exec", "touch", "-h", "-d", "2001-02-03", "--", "{}", "+"], check=True)
+    fault = failed(room.run(one, "--packages", command="./release", TZ="Asia/Tokyo"))
+    fault = fault or failed(room.run(other, "-c", "umask 077; exec ./release --packages", command="bash", user=OTHER, LC_ALL="C.UTF-8"))
+    if fault:
+        return fault
+    room.packages = os.path.join(one, "packages")
+    names = files_below(room.packages)
+    if len(names) != 3 or names != files_below(os.path.join(other, "packages")):
+        return f"there are {names}"
+    different = [it for it in names if not filecmp.cmp(os.path.join(room.packages, it), os.path.join(other, "packages", it), shallow=False)]
+    told = subprocess.run(["sha256sum", "--check", "--quiet", "SHA256SUMS"], cwd=room.packages, capture_output=True, text=True, check=False)
+    return f"{different} differ" if different else told.stdout or None
+
+
+def package(room, ending):
+    return next(os.path.join(room.packages, it) for it in os.listdir(room.packages) if it.endswith(ending))
+
+
+def version():
+    said = subprocess.run([CARRIED, "--version"], capture_output=True, text=True, check=True).stdout
+    return said.removeprefix("vrepl ").strip()
+
+
+def tarball_has_the_program(room):
+    place = folder_of(room, "unpacked")
+    subprocess.run(["tar", "-xzf", package(room, ".tar.gz"), "-C", place], check=True)
+    top = f"vrepl-{version()}-x86_64-linux"
+    wanted = [f"{top}/{it}" for it in sorted([*INSTALLED, "share/doc/vrepl/CHANGELOG.md", "share/doc/vrepl/README.md"])]
+    found = files_below(place)
+    return f"there are {found}" if found != wanted else is_the_program(os.path.join(place, top, "bin/vrepl"))
+
+
+def deb_is_installed_and_removed(room):
+    """Into a root of its own, so that it stands beside nothing; without the C library's package there."""
+    root = folder_of(room, "root")
+    for it in "var/lib/dpkg/info", "var/lib/dpkg/updates":
+        os.makedirs(os.path.join(root, it))
+    run_dist.write(os.path.join(root, "var/lib/dpkg/status"), "")
+    dpkg = ["dpkg", f"--root={root}", "--force-not-root", "--force-depends", "--log=/dev/null"]
+    told = os.environ | {"PATH": f"{os.environ['PATH']}:/usr/sbin:/sbin"}
+    how = {"capture_output": True, "text": True, "env": told, "check": False}
+    ran = subprocess.run([*dpkg, "--install", package(room, ".deb")], **how)
+    found = [it for it in files_below(root) if it.startswith("usr/")]
+    if ran.returncode or found != IN_DEB:
+        return f"{ran.stderr} there are {found}"
+    said = subprocess.run([*dpkg, "--status", "vrepl"], **how).stdout
+    fault = None if f"\nVersion: {version()}\n" in said and "\nStatus: install ok installed\n" in said else said
+    fault = fault or subprocess.run([*dpkg, "--verify", "vrepl"], **how).stdout or is_the_program(os.path.join(root, "usr/bin/vrepl"))
+    ran = subprocess.run([*dpkg, "--purge", "vrepl"], **how)
+    left = [it for it in files_below(root) if it.startswith("usr/")]
+    return fault or (f"{ran.stderr} {left} is left" if ran.returncode or left else None)
+
+
+def lintian_finds_no_error(room):
+    ran = subprocess.run(["lintian", "--fail-on", "error,warning", package(room, ".deb")], capture_output=True, text=True, check=False)
+    return ran.stdout or None if ran.returncode else None
+
+
+CHECKS = [installs_as_any_user, installs_no_program_of_other_sources, packages_are_the_same, tarball_has_the_program, deb_is_installed_and_removed]
+
+
+def main():
+    missing = [it for it in ("make", "dpkg-deb", "dpkg") if not shutil.which(it)]
+    if missing:
+        print(f"packages: not tried, since {', '.join(missing)} isn't installed\n0 passed, 0 failed")
+        return 0
+    checks = list(CHECKS)
+    if shutil.which("lintian"):
+        checks.append(lintian_finds_no_error)
+    else:
+        print("lintian_finds_no_error: not tried, since lintian isn't installed")
+    count = 0
+    with tempfile.TemporaryDirectory(prefix="vrepl-packages-") as folder:
+        room = run_dist.Room(folder)
+        for check in checks:
+            try:
+                why = check(room)
+            except (OSError, subprocess.SubprocessError, AttributeError) as fault:
+                why = str(fault)
+            if why:
+                print(f"packages {check.__name__}: {why}")
+            count += bool(why)
+    print(f"{len(checks) - count} passed, {count} failed")
+    return 1 if count else 0
+
+
+if __name__ == "__main__":
+    sys.exit(main())
