@@ -27,7 +27,7 @@ def ended(trial) -> None:
     with Place(trial, "ended") as place:
         place.run()
         moved, size = moved_for_an_append(trial, place), os.path.getsize(place.feed)
-        fine = 500 < moved_for_a_small and moved < moved_for_a_small + 2**14 < size / 40
+        fine = 500 < moved_for_a_small and moved < moved_for_a_small + 2**14 < size / 20
         trial.check("ended, the cost of an append", None if fine else f"{moved_for_a_small}, and {moved} where there are {size} bytes")
         for step in odd_places, odd_notes, odd_words, odd_servers, odd_outputs, lost_connections, interrupted:
             step(trial, place)
