@@ -1,26 +1,29 @@
 -- Names that were seen, and those that are left.
 use Rattle.std.proofs.Common.{◌≡◌, ℕ, ◌+◌, ◌<◌, List, [], ◌∷◌, ◌++◌, length, drop, get_or, map, Bool, true, false, cond, Err, refl, sym, ap, ◌∙◌}
 use Rattle.std.specs.Borrow.{Bor}
+use Rattle.std.specs.Cmp.Lexicographic.{slice_cmp}
 use Rattle.std.specs.List.{list_any}
+use Rattle.std.specs.Ordering.{nat_cmp, is_eq}
 use Rattle.std.specs.Str.{bytes_eq}
 use Rattle.std.specs.Prelude.{not, ◌||◌}
 use Rattle.std.proofs.lemmas.List.Folds.{list_any-append}
+use Rattle.std.proofs.lemmas.Map.Text.{is_eq-slice_cmp}
 use Rattle.std.proofs.lemmas.Slice.Eq.{bytes_eq-Decides}
 use Rattle.filter_rule.specs.Faults.{shape}
 use Rattle.filter_rule.specs.Document.{repeats, has_twice, distinct}
 use Rattle.filter_rule.proofs.EachLaws.{map_drop_at}
 
-not_is : (b c : Bool) → c ≡ not b → c ≡ true → b ≡ false
+pub not_is : (b c : Bool) → c ≡ not b → c ≡ true → b ≡ false
 not_is true c e h = cc
 not_is false c e h = refl
 
-is_not : (b c : Bool) → c ≡ not b → c ≡ false → b ≡ true
+pub is_not : (b c : Bool) → c ≡ not b → c ≡ false → b ≡ true
 is_not true c e h = refl
 is_not false c e h = cc
 
 -- whether a key has the name
 abbrev pub has_name : List ℕ → Bor (List ℕ) → Bool
-has_name s k = bytes_eq s k.now
+has_name s k = is_eq (slice_cmp nat_cmp s k.now)
 
 -- the keys have these names and no others
 abbrev pub HasNames : List (Bor (List ℕ)) → List (List ℕ) → Type 0
@@ -47,11 +50,12 @@ one_more true false = refl
 one_more false true = refl
 one_more false false = refl
 
-put_in : (keys grown : List (Bor (List ℕ))) (k : Bor (List ℕ)) (names : List (List ℕ))
-    → ((q : Bor (List ℕ)) → list_any (has_name q.now) grown ≡ cond (bytes_eq k.now q.now) true (list_any (has_name q.now) keys))
+pub put_in : (keys grown : List (Bor (List ℕ))) (k : Bor (List ℕ)) (names : List (List ℕ))
+    → ((q : Bor (List ℕ)) → list_any (has_name q.now) grown ≡ cond (is_eq (slice_cmp nat_cmp k.now q.now)) true (list_any (has_name q.now) keys))
     → HasNames keys names → HasNames grown (names ++ k.now ∷ [])
 put_in keys grown k names more had q =
     more q
+    ∙ ap (λ b. cond b true (list_any (has_name q.now) keys)) (is_eq-slice_cmp k.now q.now)
     ∙ one_more (bytes_eq k.now q.now) (list_any (has_name q.now) keys)
     ∙ ap (λ b. list_any (has_name q.now) keys || (b || false)) (either_way k.now q.now)
     ∙ ap (λ b. b || (bytes_eq q.now k.now || false)) (had q)
@@ -59,7 +63,7 @@ put_in keys grown k names more had q =
 
 pub name_turn : {C : Type 0} (name : C → List ℕ) (xs : List C) (i : ℕ) (d : C) (keys grown : List (Bor (List ℕ))) (k : Bor (List ℕ)) (is_new whole : Bool)
     → i < length xs → d ≡ get_or xs i d → k.now ≡ name d → is_new ≡ not (list_any (has_name k.now) keys) → is_new ≡ true
-    → ((q : Bor (List ℕ)) → list_any (has_name q.now) grown ≡ cond (bytes_eq k.now q.now) true (list_any (has_name q.now) keys))
+    → ((q : Bor (List ℕ)) → list_any (has_name q.now) grown ≡ cond (is_eq (slice_cmp nat_cmp k.now q.now)) true (list_any (has_name q.now) keys))
     → IsSeen keys (drop i (map name xs)) whole → IsSeen grown (drop (i + 1) (map name xs)) whole
 name_turn name xs i d keys grown k is_new whole within item here new so more so_far =
     let before = so_far.0 in

@@ -2,7 +2,7 @@
 -- document has its shape, the counts are within their limits, then table by table its columns and types,
 -- then stream by stream and rule by rule the rule's form and what it decides, and at last table by table
 -- that all streams with a rule for it keep the same columns.
-use Rattle.std.specs.Prelude.{◌≡◌, IsUtf8, ℕ, ◌+◌, List, [], ◌∷◌, map, slice_get, Bool, true, Option, Some, None, option_and_then, Result, Ok, Err, if◌then◌else◌}
+use Rattle.std.specs.Prelude.{◌≡◌, ◌<◌, IsUtf8, ℕ, ◌+◌, length, List, [], ◌∷◌, map, slice_get, Bool, true, Option, Some, None, option_and_then, Result, Ok, Err, if◌then◌else◌}
 use Rattle.std.specs.List.{list_all}
 use Rattle.std.specs.Option.{ok_or, option_or, option_map_or}
 use Rattle.std.specs.Str.{bytes_eq, is_utf8}
@@ -86,6 +86,11 @@ plan_over keyspace tables stream = record { keyspace = keyspace; shard = stream.
 -- a text that isn't UTF-8 is no JSON
 unfoldable pub json_of : List ℕ → Result Data Fault
 json_of text = if is_utf8 text then ok_or (read text) json else Err json
+
+-- a text in UTF-8 that isn't empty
+pub record IsSomeText (text : List ℕ) : Type 0 where
+  pub utf8 : IsUtf8 text
+  pub some : 0 < length text
 
 -- neither a text nor one that `serde_json` reads
 abbrev pub IsNoJson : List ℕ → Type 0

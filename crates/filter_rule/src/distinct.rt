@@ -6,7 +6,7 @@ ghost use Rattle.filter_rule.specs.Document.{distinct};
 
 use crate::fault::PlanFault;
 use std::alloc::Global;
-use std::collections::HashSet;
+use std::collections::BTreeSet;
 
 /// What goes by a text that no other may have.
 pub(crate) trait HasName {
@@ -19,11 +19,12 @@ pub(crate) trait HasName {
         ensures { result.now ≡ name self.now };
 }
 
-/// Refuses two of the same name.
+/// Refuses two of the same name. The names that were seen are kept in their order, so that no choice of
+/// names makes it slow.
 pub(crate) fn check_distinct<T: HasName>(alloc: Global, items: &[T]) -> Result<(), PlanFault>
     ensures { GivesOrFails (λ _. map T.name items.now) result (distinct (map T.name items.now)) }
 {
-    let mut seen: HashSet<&str> = HashSet::new(alloc);
+    let mut seen: BTreeSet<&str> = BTreeSet::new(alloc);
     for item in items {
         let is_new = seen.insert(item.name())?;
         if !is_new {

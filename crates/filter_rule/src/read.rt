@@ -1,6 +1,6 @@
 //! The workflow file: from its text to a plan for each stream.
 
-ghost use Rattle.std.specs.Prelude.{◌≡◌, ◌⊎◌, IsErrAnd, List, Ok, Err, IfOk, IfErr, IfSome, map, string_bytes};
+ghost use Rattle.std.specs.Prelude.{◌≡◌, ◌<◌, ◌⊎◌, length, IsErrAnd, List, None, Some, Ok, Err, OnOk, IfOk, IfErr, IfSome, map, string_bytes};
 ghost use Rattle.std.specs.Arc.{arc_value};
 ghost use Rattle.outcome.specs.Outcome.{each};
 ghost use Rattle.filter_rule.specs.Faults.{GivesOrFails, definition_fault_of};
@@ -11,7 +11,8 @@ ghost use Rattle.filter_rule.specs.Streams.{FollowStreams};
 ghost use Rattle.filter_rule.specs.WellFormed.{IsPlan, ArePlans};
 ghost use Rattle.filter_rule.specs.PlanValue.{PlanValue};
 ghost use Rattle.filter_rule.specs.Resolving.{resolved};
-ghost use Rattle.filter_rule.specs.Reading.{json_of, decided_by, decided_from, plan_over, plans_of_document, plans_of_value, plans_of, IsNoJson};
+ghost use Rattle.filter_rule.specs.Reading.{json_of, decided_by, decided_from, plan_over, plans_of_document, plans_of_value, plans_of, IsNoJson, IsSomeText};
+ghost use Rattle.serde_json.specs.Read.{read as read_text};
 ghost use Rattle.serde_json.specs.View.{view};
 
 use crate::document::{Document, StreamText, TableText, document_of};
@@ -24,16 +25,31 @@ use crate::streams::decisions_of;
 use crate::table::Table;
 use serde_json::Value;
 use std::alloc::Global;
+use std::str;
 use std::sync::Arc;
 
-/// The JSON value of a text.
-#[tactic(auto, unfolding(crate::specs::Reading::json_of))]
-fn json_of(alloc: Global, text: &[u8]) -> Result<Value, PlanFault>
-    ensures { GivesOrFails view result (json_of text.now) }
+/// The JSON value of a text in UTF-8.
+fn value_of(alloc: Global, text: &str) -> Result<Value, PlanFault>
+    ensures ok { IfOk result (λ value. read_text text.now ≡ Some (view value)) }
+    ensures no_json { result ≡ Err PlanFault.Json → read_text text.now ≡ None }
+    ensures refused { IfErr result (λ fault. (fault ≡ PlanFault.Json) ⊎ (fault ≡ PlanFault.Memory)) }
+    ensures memory { result ≡ Err PlanFault.Memory → 0 < length text.now }
 {
-    match Value::from_slice(alloc, text) {
+    match Value::from_str(alloc, text) {
         Ok(value) => Ok(value),
         Err(e) if e.is_memory() => Err(PlanFault::Memory),
+        Err(_) => Err(PlanFault::Json),
+    }
+}
+
+/// The JSON value of a text. Memory is taken for a text that has a byte alone.
+fn json_of(alloc: Global, text: &[u8]) -> Result<Value, PlanFault>
+    ensures value { GivesOrFails view result (json_of text.now) }
+    ensures read { OnOk result (IsSomeText text.now) }
+    ensures memory { result ≡ Err PlanFault.Memory → IsSomeText text.now }
+{
+    match str::from_utf8(text) {
+        Ok(text) => value_of(alloc, text),
         Err(_) => Err(PlanFault::Json),
     }
 }
@@ -134,7 +150,8 @@ fn plans_of_value(alloc: Global, value: &Value) -> Result<Vec<Arc<Plan>>, PlanFa
 /// The plans of the file's text.
 #[tactic(auto, unfolding(crate::specs::Reading::plans_of))]
 fn plans_of(alloc: Global, text: &[u8]) -> Result<Vec<Arc<Plan>>, PlanFault>
-    ensures { GivesOrFails (λ v. map arc_value v.items) result (plans_of text.now) }
+    ensures plans { GivesOrFails (λ v. map arc_value v.items) result (plans_of text.now) }
+    ensures memory { result ≡ Err PlanFault.Memory → IsSomeText text.now }
 {
     let value = json_of(alloc, text)?;
     plans_of_value(alloc, &value)
@@ -146,8 +163,8 @@ impl Plan {
     /// `Limit`; table by table its absent columns, then its unfit types (`NoSuchColumn`, `KeyType`);
     /// stream by stream and rule by rule the rule's form (`BadRule`), then for each table that it is
     /// first to match `BadRule`, `NoSuchColumn`, `KeyType`; behind all these, table by table, that all
-    /// streams with a rule for it keep the same columns in the same order (`ColumnsDiffer`). `Memory` is for want of memory alone, and
-    /// then stands in place of what would have been found later.
+    /// streams with a rule for it keep the same columns in the same order (`ColumnsDiffer`). `Memory` is for want of memory
+    /// alone, never for an empty text or one that isn't UTF-8, and stands in place of what would have been found later.
     pub fn read_all(alloc: Global, text: &[u8]) -> Result<Vec<Arc<Plan>>, PlanFault>
         ensures reads { GivesOrFails (λ v. map arc_value v.items) result (plans_of text.now) }
         // A text is refused as no JSON exactly where it is none, unless memory ran out.
@@ -161,6 +178,8 @@ impl Plan {
         ensures stands { IfErr result (λ fault. IfSome (definition_fault_of fault) (Stands text.now)) }
         // The first rule of a stream that matches a table decides it.
         ensures first_rule { IfOk result (λ v. FollowFirstRules text.now (map arc_value v.items)) }
+        // Memory is wanted for a text in UTF-8 that isn't empty alone.
+        ensures memory { result ≡ Err PlanFault.Memory → IsSomeText text.now }
     {
         plans_of(alloc, text)
     }

@@ -1,5 +1,5 @@
 -- A primary key as a plain value (this profile).
-use Rattle.std.specs.Prelude.{ℕ, ◌≤◌, ℤ, List, length, All}
+use Rattle.std.specs.Prelude.{ℕ, ◌≤◌, ℤ, List, [], ◌∷◌, length, All}
 use Rattle.vindex.specs.NumberText.{IsNumber}
 
 -- a part of a key: a number by value, or a byte string
@@ -21,3 +21,9 @@ IsPart (bytes text) = Unit {0}
 pub record AreParts (parts : List Part) : Type 0 where
   pub few : length parts ≤ 8
   pub each_part : All IsPart parts
+
+-- a number, or a byte string of up to 12 bytes, alone
+abbrev pub LiesInPlace : List Part → Type 0
+LiesInPlace (number value ∷ []) = Unit {0}
+LiesInPlace (bytes text ∷ []) = length text ≤ 12
+LiesInPlace parts = ⊥

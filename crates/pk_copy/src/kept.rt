@@ -1,7 +1,7 @@
 //! A key as it lies in memory of its own.
 
-ghost use Rattle.std.specs.Prelude.{◌≡◌, ◌<◌, ℕ, [], ◌∷◌, IfOk, map};
-ghost use Rattle.pk_copy.specs.KeyValue.{bytes, IsPart, AreParts};
+ghost use Rattle.std.specs.Prelude.{◌≡◌, ◌<◌, ℕ, [], ◌∷◌, IfOk, IsErr, length, map};
+ghost use Rattle.pk_copy.specs.KeyValue.{bytes, IsPart, AreParts, LiesInPlace};
 ghost use Rattle.pk_copy.specs.KeyFront.{head_of};
 ghost use Rattle.pk_copy.specs.KeyOrder.{key_cmp};
 ghost use Rattle.pk_copy.specs.PartValue.{part_value, owned_value, kept_key, kept_lead, kept_parts, HasRoom, IsKept};
@@ -104,6 +104,7 @@ impl KeptRest {
         ensures lead { IfOk result (λ rest. kept_lead rest ≡ lead) }
         ensures parts { IfOk result (λ rest. (head : ℕ) → kept_parts head rest ≡ bytes text.now ∷ []) }
         ensures room { IfOk result HasRoom }
+        ensures memory { IsErr result → 12 < length text.now }
     {
         if text.len() > 12 {
             let long = Vec::from_slice(alloc, text)?;
@@ -120,6 +121,7 @@ impl KeptRest {
         ensures lead { IfOk result (λ rest. kept_lead rest ≡ front.lead) }
         ensures parts { IfOk result (λ rest. kept_parts front.head rest ≡ small_value part.entry ∷ []) }
         ensures room { IfOk result HasRoom }
+        ensures memory { IsErr result → ¬ LiesInPlace (small_value part.entry ∷ []) }
     {
         match part {
             SmallPart::Negative(_) => Ok(KeptRest::Negative(front.lead)),
@@ -176,6 +178,7 @@ impl KeptKey {
         requires { IsPart (part_value part) }
         ensures key { IfOk result (λ kept. kept_key kept ≡ record { table = table; parts = part_value part.entry ∷ [] }) }
         ensures kept { IfOk result IsKept }
+        ensures memory { IsErr result → ¬ LiesInPlace (part_value part.entry ∷ []) }
     {
         let small = SmallPart::from_part(part);
         let front = Front::of(table, small);

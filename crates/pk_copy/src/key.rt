@@ -1,9 +1,9 @@
 //! A key in memory of its own.
 
-ghost use Rattle.std.specs.Prelude.{◌≡◌, [], ◌∷◌, IfOk};
+ghost use Rattle.std.specs.Prelude.{◌≡◌, [], ◌∷◌, IfOk, IsErr};
 ghost use Rattle.std.specs.Ordering.{eq_by_cmp, as_partial_cmp};
 ghost use Rattle.std.specs.Cmp.{partial_equiv_from_equiv, eq_by_cmp_equiv, partial_order_from_total};
-ghost use Rattle.pk_copy.specs.KeyValue.{IsPart};
+ghost use Rattle.pk_copy.specs.KeyValue.{IsPart, LiesInPlace};
 ghost use Rattle.pk_copy.specs.KeyOrder.{key_cmp};
 ghost use Rattle.pk_copy.specs.KeyOrderLaws.{key_cmp_total};
 ghost use Rattle.pk_copy.specs.PartValue.{part_value};
@@ -41,7 +41,9 @@ impl Key {
     /// A copy of a lent key. Takes no memory for a number or up to 12 bytes alone; an error is want
     /// of it.
     pub fn from_view(alloc: Global, view: &KeyView<'_>) -> Result<Key, AllocError>
-        ensures { IfOk result (λ key. key ≡ view.now) }
+        ensures key { IfOk result (λ key. key ≡ view.now) }
+        // Memory is wanted for several parts or more than 12 bytes alone.
+        ensures memory { IsErr result → ¬ LiesInPlace view.now.parts }
     {
         let table = view.table();
         let kept = match view.parts() {
@@ -55,7 +57,8 @@ impl Key {
     /// want of it.
     pub(crate) fn of_one(alloc: Global, table: u8, part: KeyPart<'_>) -> Result<Key, AllocError>
         requires { IsPart (part_value part) }
-        ensures { IfOk result (λ key. key ≡ record { table = table; parts = part_value part.entry ∷ [] }) }
+        ensures key { IfOk result (λ key. key ≡ record { table = table; parts = part_value part.entry ∷ [] }) }
+        ensures memory { IsErr result → ¬ LiesInPlace (part_value part.entry ∷ []) }
     {
         let kept = KeptKey::of_one(alloc, table, part)?;
         Ok(Key { kept })

@@ -1,6 +1,6 @@
 //! The key of a row.
 
-ghost use Rattle.std.specs.Prelude.{◌≡◌, ◌↔◌, ◌≤◌, ◌<◌, false, length, map, Some, None, Ok, Err, IfSome, IfOk};
+ghost use Rattle.std.specs.Prelude.{◌≡◌, ◌↔◌, ◌≤◌, ◌<◌, false, length, map, Some, None, Ok, Err, IfSome, IfOk, IsOk, IsErr};
 ghost use Rattle.std.specs.Option.{option_map};
 ghost use Rattle.filter_rule.specs.PlanValue.{columns_of, key_columns_of};
 ghost use Rattle.filter_rule.specs.WellFormed.{AreColumnPlaces};
@@ -70,7 +70,9 @@ impl<'b> LentKey<'b> {
     ) -> Result<Result<LentKey<'b>, KeyFault>, AllocError>
         requires table { t < length plan.now.tables }
         requires columns { length row.now ≡ length (columns_of plan.now t) }
-        ensures { IfOk result (λ answer. answer ≡ key_of plan.now t row.now) }
+        ensures answer { IfOk result (λ answer. answer ≡ key_of plan.now t row.now) }
+        // Memory is wanted for a key alone.
+        ensures memory { IsErr result → IsOk (key_of plan.now t row.now) }
     {
         let (columns, places) = key_columns(plan, t);
         lent_at(alloc, t, columns, places, row)
@@ -101,7 +103,8 @@ fn lent_at<'b>(
     requires few { length places.now ≤ 8 }
     requires places { AreColumnPlaces columns.now places.now }
     requires width { length row.now ≡ length columns.now }
-    ensures { IfOk result (λ answer. answer ≡ key_in t (map (cell_at columns.now row.now) places.now)) }
+    ensures answer { IfOk result (λ answer. answer ≡ key_in t (map (cell_at columns.now row.now) places.now)) }
+    ensures memory { IsErr result → IsOk (key_in t (map (cell_at columns.now row.now) places.now)) }
 {
     if let [place] = places {
         return match part_at(columns, row, *place) {
@@ -125,7 +128,8 @@ fn lent_of_several<'b>(
     requires few { length places.now ≤ 8 }
     requires places { AreColumnPlaces columns.now places.now }
     requires width { length row.now ≡ length columns.now }
-    ensures { IfOk result (λ answer. answer ≡ key_in t (map (cell_at columns.now row.now) places.now)) }
+    ensures answer { IfOk result (λ answer. answer ≡ key_in t (map (cell_at columns.now row.now) places.now)) }
+    ensures memory { IsErr result → IsOk (key_in t (map (cell_at columns.now row.now) places.now)) }
 {
     match key_at(t, columns, places, row) {
         Ok(key) => Ok(Ok(LentKey::from_view(alloc, &key)?)),

@@ -1,6 +1,8 @@
 -- What stands in a feed whose groups aren't defined.
+use Rattle.std.specs.List.{list_any}
 use Rattle.std.specs.Option.{option_or}
-use Rattle.std.proofs.Common.{◌≡◌, ℕ, ◌^◌, nat_lt, length, List, [], ◌∷◌, ◌++◌, ◌⊎◌, reverse, None, Some, Result, Ok, Err, IfErr, IfSome, refl, sym, ◌∙◌, ap, inl, inr, append_assoc}
+use Rattle.std.specs.Prelude.{slice_get, ◌||◌}
+use Rattle.std.proofs.Common.{◌≡◌, ℕ, suc, ◌^◌, nat_lt, length, Bool, true, false, List, [], ◌∷◌, ◌++◌, ◌⊎◌, reverse, Option, None, Some, Result, Ok, Err, IfErr, IfSome, refl, sym, ◌∙◌, ap, inl, inr, append_assoc}
 use Rattle.std.proofs.lemmas.Bool.{cases_Bool, cond-true, cond-false, ltb-true, ltb-false}
 use Rattle.std.proofs.lemmas.List.{reverse-append, reverse-reverse}
 use Rattle.std.proofs.lemmas.Option.{same_Some}
@@ -8,7 +10,7 @@ use mathlib.Core.List.{reverse-cons}
 use Rattle.proto_wire.specs.Reading.{Reading}
 use Rattle.vevent.specs.EventValue.{EventValue}
 use Rattle.source_feed.specs.declared.fault.FeedFault.{FeedFault}
-use Rattle.source_feed.specs.declared.fault.FeedFault.TheVariants.{FeedTooLong, OpenAtEnd, Memory}
+use Rattle.source_feed.specs.declared.fault.FeedFault.TheVariants.{FeedTooLong, FieldsDiffer, OpenAtEnd, Memory}
 use Rattle.outcome.specs.Outcome.{GivesUnless, Refuses}
 use Rattle.source_feed.specs.FaultNumber.{meant_of}
 use Rattle.source_feed.specs.GroupValue.{GroupValue}
@@ -16,7 +18,10 @@ use Rattle.source_feed.specs.SourceValue.{SourceValue}
 use Rattle.source_feed.specs.EventList.{events_of_feed}
 use Rattle.source_feed.specs.PastEvents.{PastEvents, is_open}
 use Rattle.source_feed.specs.Groups.{first_fault, fault_at, closed, groups_in, groups_of, groups}
-use Rattle.source_feed.specs.FirstFault.{AtEvent, AtEnd, StandsIn}
+use Rattle.source_feed.specs.FirstFault.{AtEvent, AtEnd, StandsIn, HasDifferent, StandsUnder}
+use Rattle.source_feed.specs.Planned.{source_of, differs, differs_from}
+use Rattle.source_feed.proofs.PlanLaws.{differs-from}
+use Rattle.filter_rule.specs.PlanValue.{PlanValue}
 use Rattle.source_feed.proofs.Options.{option_cases}
 
 abbrev refused : FeedFault → Result (List GroupValue) FeedFault
@@ -113,3 +118,40 @@ pub refusal_stands : {X : Type 0} (view : X → List GroupValue) (feed : List �
     → GivesUnless meant_of view result (groups feed source) → IfErr result (λ fault. IfSome (meant_of fault) (StandsIn feed source))
 refusal_stands view feed source (Ok x) g = tt
 refusal_stands view feed source (Err fault) g = unless_memory feed source fault g
+
+-- some item of a list has what some has
+any_there : {A : Type 0} (f : A → Bool) (xs : List A) → list_any f xs ≡ true → (i : ℕ) × (x : A) × (slice_get xs i ≡ Some x) × (f x ≡ true)
+any_there f [] h = cc
+any_there f (x ∷ xs) h =
+    elim (cases_Bool (f x)) [
+      | inl holds ↦ (0, x, refl, holds)
+      | inr fails ↦
+          let more = any_there f xs (sym (ap (λ b. b || list_any f xs) fails) ∙ h) in
+          (suc more.0, more.1, more.2, more.3)
+    ]
+
+differing : (feed : List ℕ) (plan : PlanValue) (all : List GroupValue) → groups feed (source_of plan) ≡ Ok all → list_any (differs plan) (events_of_feed feed).items ≡ true → HasDifferent feed plan
+differing feed plan all defined h =
+    let there = any_there (differs plan) (events_of_feed feed).items h in
+    record { all = all; defined = defined; place = there.0; event = there.1; there = there.2; differs = there.3 }
+
+-- the FIELD that differs, where a feed without another fault is refused
+pub different : (feed : List ℕ) (plan : PlanValue) (all : List GroupValue) → groups feed (source_of plan) ≡ Ok all → list_any (differs plan) (events_of_feed feed).items ≡ true
+    → StandsUnder feed plan FieldsDiffer
+different feed plan all defined h = inr (refl, differing feed plan all defined h)
+
+seen_differs : (plan : PlanValue) (given : Option PlanValue) (before after : Bool) (events : List EventValue) → given ≡ Some plan → before ≡ false → after ≡ true
+    → after ≡ (before || list_any (differs_from given) events) → list_any (differs plan) events ≡ true
+seen_differs plan given before after events g b a e =
+    sym (differs-from plan events) ∙ ap (λ p. list_any (differs_from p) events) (sym g) ∙ ap (λ c. c || list_any (differs_from given) events) (sym b) ∙ sym e ∙ a
+
+-- the same, where the events were looked at one after another
+pub seen_different : (feed : List ℕ) (plan : PlanValue) (all : List GroupValue) (given : Option PlanValue) (before after : Bool) → groups feed (source_of plan) ≡ Ok all → given ≡ Some plan → before ≡ false → after ≡ true
+    → after ≡ (before || list_any (differs_from given) (events_of_feed feed).items) → StandsUnder feed plan FieldsDiffer
+seen_different feed plan all given before after defined g b a e =
+    different feed plan all defined (seen_differs plan given before after (events_of_feed feed).items g b a e)
+
+-- a refusal that has nothing to do with the plan
+pub refusal_under : (feed : List ℕ) (plan : PlanValue) (fault : FeedFault) → Refuses meant_of fault (groups feed (source_of plan)) → IfSome (meant_of fault) (StandsUnder feed plan)
+refusal_under feed plan Memory r = tt
+refusal_under feed plan fault r = inl (stands feed (source_of plan) fault r)

@@ -242,7 +242,7 @@ is_feed plan feed all p o few e d =
           each_of (IsChangeUnder plan) group.changes j change (each_of (GroupUnder plan) (map (planned_group plan) all) i group (groups_under_plan plan all fit) at) here;
     }
 
-differs-from : (plan : PlanValue) (events : List EventValue) → list_any (differs_from (Some plan)) events ≡ list_any (differs plan) events
+pub differs-from : (plan : PlanValue) (events : List EventValue) → list_any (differs_from (Some plan)) events ≡ list_any (differs plan) events
 differs-from plan [] = refl
 differs-from plan (event ∷ events) = ap (λ b. differs plan event || b) (differs-from plan events)
 

@@ -6,10 +6,14 @@ use Rattle.std.specs.Map.{keys_of, values_of}
 use Rattle.std.specs.Str.{bytes_eq}
 use Rattle.std.specs.Cmp.Lexicographic.{same_text}
 use denote.Ref.{Bor}
+use Rattle.std.specs.Cmp.{on_equiv}
+use Rattle.std.specs.Cmp.Lexicographic.{nat_list_eq_equiv}
+use Rattle.std.specs.HashMap.{HashMap, IsUnique, get_by}
 use Rattle.indexmap.specs.IndexMap.{insert_entry}
+use Rattle.std.proofs.lemmas.Map.Entries.{hash_map_get_place}
 use Rattle.std.proofs.lemmas.List.{length-map, get_or-map, get_or_append_left}
 use Rattle.std.proofs.lemmas.List.Quantifiers.{position-Some}
-use Rattle.std.proofs.lemmas.Option.{slice_get-map, unwrap_or-slice_get}
+use Rattle.std.proofs.lemmas.Option.{slice_get-map, slice_get_within, unwrap_or-slice_get}
 use Rattle.source_feed.specs.declared.feed_tables.FeedTable.{FeedTable}
 use Rattle.source_feed.specs.Private.FeedTables.{names_behind}
 
@@ -125,3 +129,21 @@ number_found es place e h = number_at es place ∙ ap (λ (found : Option (Bor (
 
 pub number_missing : (es : List (Bor (List ℕ) × FeedTable)) (place : ℕ) → slice_get es place ≡ None → get_or (numbers es) place None ≡ None
 number_missing es place h = number_at es place ∙ ap (λ (found : Option (Bor (List ℕ) × FeedTable)). unwrap_or (option_map (λ (e : Bor (List ℕ) × FeedTable). e.1.number) found) None) h
+
+-- ---- a table that is told
+
+-- what is known of the table at a place is known under its name
+pub told_width : {S : Type 0} (m : HashMap (Bor (List ℕ)) FeedTable S) (place : ℕ) (e : Bor (List ℕ) × FeedTable) (table : List ℕ) → IsUnique (λ x y. bytes_eq x.now y.now) m → slice_get m.entries place ≡ Some e
+    → bytes_eq e.0.now table ≡ true → Some e.1.columns ≡ option_map (λ (known : FeedTable). known.columns) (get_by (λ (name : Bor (List ℕ)). bytes_eq table name.now) m)
+told_width m place e table unique at same =
+    let named : e.0.now ≡ table = equal_bytes e.0.now table same in
+    sym (ap (option_map (λ (known : FeedTable). known.columns))
+    (ap (λ t. get_by (λ (name : Bor (List ℕ)). bytes_eq t name.now) m) (sym named) ∙ hash_map_get_place (on_equiv (λ (name : Bor (List ℕ)). name.now) nat_list_eq_equiv) m place e.0 e.1 unique at))
+
+-- and its name stands there, whatever names follow
+pub told_name : {V : Type 0} (es : List (Bor (List ℕ) × V)) (place : ℕ) (e : Bor (List ℕ) × V) (table : List ℕ) → slice_get es place ≡ Some e → bytes_eq e.0.now table ≡ true
+    → (later : List (List ℕ)) → get_or (names es ++ later) place [] ≡ table
+told_name es place e table at same later =
+    let within : place < length es = slice_get_within es place e at in
+    let here : place < length (names es) = subst (λ n. place < n) (sym (length-map (keys_of es) (λ (key : Bor (List ℕ)). key.now) ∙ length-map es (λ e. e.0))) within in
+    get_or_append_left (names es) later [] place here ∙ name_found es place e at ∙ equal_bytes e.0.now table same

@@ -1,11 +1,12 @@
 //! A feed under a plan.
 
-ghost use Rattle.std.specs.Prelude.{◌≡◌, ◌↔◌, [], length, IsTrue, IsOk, IfOk, Err, slice_get};
+ghost use Rattle.std.specs.Prelude.{◌≡◌, ◌↔◌, ◌^◌, ◌≤◌, [], length, IsTrue, IsOk, IfOk, IfErr, IfSome, Err, slice_get};
 ghost use Rattle.std.specs.Result.{result_err};
 ghost use Rattle.std.specs.Option.{option_copied, option_map};
 ghost use Rattle.std.specs.Arc.{arc_value};
 ghost use Rattle.outcome.specs.Outcome.{GivesUnless};
 ghost use Rattle.source_feed.specs.FaultNumber.{meant_of};
+ghost use Rattle.source_feed.specs.FirstFault.{StandsUnder};
 ghost use Rattle.source_feed.specs.Planned.{PlannedGroupValue, groups_under, IsFeed};
 ghost use Rattle.source_feed.specs.Prepared.{IsPrepared};
 ghost use Rattle.source_feed.specs.Touches.{group_at, prepared_at};
@@ -52,6 +53,11 @@ impl<'h> Feed<'h> {
     pub fn open(alloc: Global, feed: &'h [u8], plan: &Arc<Plan>) -> Result<Feed<'h>, FeedFault>
         ensures groups { GivesUnless meant_of (λ opened. opened.groups) result (groups_under feed.now (arc_value plan.now)) }
         ensures plan { IfOk result (λ opened. opened.plan ≡ arc_value plan.now) }
+        // A feed above the limit is refused for that, before all else.
+        ensures too_long { 2 ^ 31 ≤ length feed.now → result ≡ Err FeedFault.FeedTooLong }
+        // What a refusal says stands in the feed: nothing is at fault before it, or a FIELD differs and nothing
+        // else is at fault.
+        ensures first { IfErr result (λ fault. IfSome (meant_of fault) (StandsUnder feed.now (arc_value plan.now))) }
         // Its groups are in order, and each change is of a table of the plan, with rows of its width.
         ensures whole { IfOk result IsFeed }
     {

@@ -6,6 +6,8 @@ ghost use Rattle.filter_rule.specs.PlanValue.{PlanValue};
 
 use indexmap::IndexMap;
 use std::alloc::{AllocError, Global};
+use std::collections::hash_map::DefaultHasher;
+use std::hash::BuildHasherDefault;
 
 /// What is known of a table.
 #[derive(Clone, Copy)]
@@ -17,10 +19,11 @@ pub(crate) struct FeedTable {
 }
 
 /// The tables that FIELD events have named, in the order in which each was first seen; found by the table's
-/// name, and then by its place in that order.
+/// name, and then by its place in that order. Names are hashed by SipHash, under which no one knows how to make
+/// many names of one hash.
 #[derive(Drop)]
 pub(crate) struct FeedTables<'h> {
-    first_seen: IndexMap<&'h str, FeedTable>,
+    first_seen: IndexMap<&'h str, FeedTable, BuildHasherDefault<DefaultHasher>>,
 }
 
 impl<'h> FeedTables<'h> {
@@ -33,17 +36,23 @@ impl<'h> FeedTables<'h> {
         ensures numbers { (plan : Option PlanValue) → AreNumbered plan result }
     {
         FeedTables {
-            first_seen: IndexMap::new(alloc),
+            first_seen: IndexMap::with_hasher(alloc, BuildHasherDefault::new()),
         }
     }
 
     /// A table's place and its number of columns, if it is known. However many tables follow, the place has
-    /// the table's name. That there are no more than 2^32 tables is the caller's.
-    pub(crate) fn find(&self, table: &str) -> Option<(u32, u16)>
+    /// the table's name. The table at a place that is told is looked at before any name is hashed. That there
+    /// are no more than 2^32 tables is the caller's.
+    pub(crate) fn find(&self, told: u32, table: &str) -> Option<(u32, u16)>
         requires { length (names_in self.now) ≤ 2 ^ 32 }
         ensures columns { option_map (λ found. found.1) result ≡ width_in self.now table.now }
         ensures place { IfSome result (λ found. (later : List (List ℕ)) → get_or (names_in self.now ++ later) found.0 [] ≡ table.now) }
     {
+        if let Some((name, known)) = self.first_seen.get_index(told as usize) {
+            if *name == table {
+                return Some((told, known.columns));
+            }
+        }
         let (place, _, known) = self.first_seen.get_full(table)?;
         Some((place as u32, known.columns))
     }

@@ -225,7 +225,8 @@ impl<'h> GroupReader<'h> {
         let Some(transaction) = &mut self.transaction else {
             return Err(FeedFault::Misplaced);
         };
-        let Some((place, width)) = self.tables.find(source.table(row.table_name())) else {
+        let told = transaction.last_table();
+        let Some((place, width)) = self.tables.find(told, source.table(row.table_name())) else {
             return Err(FeedFault::NoFields);
         };
         transaction.put_row(place, width, row)

@@ -7,7 +7,7 @@ ghost use Rattle.vevent.specs.Columns.{has_columns, have_columns};
 ghost use Rattle.source_feed.specs.FaultNumber.{meant_of};
 ghost use Rattle.source_feed.specs.declared.fault.FeedFault.TheVariants.{Memory};
 ghost use Rattle.source_feed.specs.Private.FeedTables.{counted};
-ghost use Rattle.source_feed.specs.Private.KeptGroups.{kept_in, all_kept};
+ghost use Rattle.source_feed.specs.Private.KeptGroups.{kept_in, all_kept, last_table};
 ghost use Rattle.source_feed.specs.Groups.{row_fault};
 
 use crate::fault::FeedFault;
@@ -89,6 +89,16 @@ fn push_changes<'h>(
 }
 
 impl<'h> Transaction<'h> {
+    /// The place of the last change's table, which the next row's mostly is; 0 where there is no change.
+    pub(crate) fn last_table(&self) -> u32
+        ensures { result ≡ last_table self.now.changes.items }
+    {
+        match self.changes.last() {
+            None => 0,
+            Some(change) => change.place(),
+        }
+    }
+
     /// Puts the changes of a ROW event behind the others, of the table at a place that has so many columns.
     /// All rows are judged before the first is put.
     pub(crate) fn put_row(

@@ -1,2 +1,3 @@
 pub mod IgnoredLaws
 pub mod RangeLaws
+pub mod SecondLaws

@@ -1,16 +1,18 @@
 //! Where a workflow file hasn't the shape of a document.
 
-ghost use Rattle.std.specs.Prelude.{◌≡◌, [], IfOk, map};
+ghost use Rattle.std.specs.Prelude.{◌≡◌, [], IfOk, codes, map};
 ghost use Rattle.std.specs.List.{list_any};
 ghost use Rattle.std.specs.Option.{option_map};
 ghost use Rattle.std.specs.Str.{bytes_eq};
 ghost use Rattle.serde_json.specs.Find.{get};
 ghost use Rattle.serde_json.specs.View.{view};
+ghost use Rattle.workflow_check.specs.Told.{told_here, told_within, item_step, quoted};
 ghost use Rattle.workflow_check.specs.Shape.{told_in, told_if, told_from, second_from, told_of_items, list_told, values_in, told_of_pair, told_of_list};
 
 use crate::told::{Told, here, in_item, quoted, said, within};
 use serde_json::Value;
 use std::alloc::{AllocError, Global};
+use std::collections::BTreeSet;
 
 /// A kind of value.
 pub(crate) trait Shape {
@@ -105,17 +107,49 @@ fn is_among(names: &[&str], name: &str) -> bool
     false
 }
 
-/// The first name that stands before it.
-fn second_from(alloc: Global, names: &[&str]) -> Result<Option<Told>, AllocError>
+/// Told of a name that stands before it too.
+fn second_told(alloc: Global, i: usize, name: &str) -> Result<Option<Told>, AllocError>
+    ensures { IfOk result (λ told. told ≡ told_within (item_step i) (told_here (quoted (codes "a second") name.now))) }
+{
+    let what = quoted(alloc, "a second", name)?;
+    in_item(alloc, i, here(alloc, what))
+}
+
+/// The first name that stands before it, by the names that were seen, which are kept in their order.
+fn second_seen(alloc: Global, names: &[&str]) -> Result<Option<Told>, AllocError>
+    ensures { IfOk result (λ told. told ≡ second_from 0 [] (map (λ one. one.now) names.now)) }
+{
+    let mut seen: BTreeSet<&str> = BTreeSet::new(alloc);
+    for i in 0..names.len() {
+        let is_new = seen.insert(names[i])?;
+        if !is_new {
+            return second_told(alloc, i, names[i]);
+        }
+    }
+    Ok(None)
+}
+
+/// The first name that stands before it, where the names before are read anew for each.
+fn second_again(alloc: Global, names: &[&str]) -> Result<Option<Told>, AllocError>
     ensures { IfOk result (λ told. told ≡ second_from 0 [] (map (λ one. one.now) names.now)) }
 {
     for i in 0..names.len() {
         if is_among(&names[..i], names[i]) {
-            let what = quoted(alloc, "a second", names[i])?;
-            return in_item(alloc, i, here(alloc, what));
+            return second_told(alloc, i, names[i]);
         }
     }
     Ok(None)
+}
+
+/// The first name that stands before it. Where memory is given each name is looked up once; else the names
+/// before it are read anew for each.
+fn second_from(alloc: Global, names: &[&str]) -> Result<Option<Told>, AllocError>
+    ensures { IfOk result (λ told. told ≡ second_from 0 [] (map (λ one. one.now) names.now)) }
+{
+    match second_seen(alloc, names) {
+        Ok(told) => Ok(told),
+        Err(_) => second_again(alloc, names),
+    }
 }
 
 /// The names of items.

@@ -1,7 +1,7 @@
 -- Groups as they are kept: a change has its table's place among the feed's tables, and no name.
-use Rattle.std.specs.Prelude.{◌≡◌, ◌||◌, ℕ, List, [], ◌∷◌, ◌++◌, Option, None, map, get_or, is_some, if◌then◌else◌}
+use Rattle.std.specs.Prelude.{◌≡◌, ◌||◌, ◌-◌, ℕ, List, [], ◌∷◌, ◌++◌, length, slice_get, Option, None, map, get_or, is_some, if◌then◌else◌}
 use Rattle.std.specs.List.{filter_map}
-use Rattle.std.specs.Option.{option_map}
+use Rattle.std.specs.Option.{option_map, option_map_or}
 use Rattle.vevent.specs.EventValue.{ChangeValue}
 use Rattle.source_feed.specs.GroupValue.{Position, TableChangeValue, GroupValue}
 use Rattle.source_feed.specs.Planned.{PlannedChangeValue, PlannedGroupValue}
@@ -24,6 +24,10 @@ kept_in place change = if is_some change.before || is_some change.after then rec
 abbrev pub all_kept : ℕ → List ChangeValue → List KeptChangeValue
 all_kept place [] = []
 all_kept place (change ∷ more) = kept_in place change ++ all_kept place more
+
+-- the place of the last change's table; 0 where there is no change
+abbrev pub last_table : List KeptChangeValue → ℕ
+last_table changes = option_map_or (λ change. change.place) (slice_get changes (length changes - 1)) 0
 
 -- ---- what they say
 

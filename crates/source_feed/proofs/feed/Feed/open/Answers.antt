@@ -7,6 +7,10 @@ use Rattle.source_feed.specs.Groups.{groups}
 use Rattle.source_feed.specs.Planned.{source_of, planned_group}
 use Rattle.source_feed.specs.Private.FeedTables.{AreNumbered}
 use Rattle.source_feed.specs.Private.NamedGroups.{all_named}
+use Rattle.std.proofs.lemmas.Result.{err_from_is_err_and}
+use Rattle.outcome.specs.Outcome.{Refuses}
+use Rattle.source_feed.specs.FaultNumber.{meant_of}
+use Rattle.source_feed.proofs.FirstFaultLaws.{refusal_under, seen_different}
 use Rattle.source_feed.proofs.NumberedLaws.{kept_under}
 use Rattle.source_feed.proofs.PlanLaws.{opened_feed}
 use Rattle.source_feed.proofs.feed.Feed.open.Goals as goal
@@ -45,3 +49,18 @@ returns-clause-groups c =
     let numbers : AreNumbered (Some plan) c.in_ok-kept.kept.tables = rw checked at c.in_ok-kept.ensures.numbers in
     let under : c.in_ok-groups.groups.items ≡ map (planned_group plan) (all_named c.in_ok-kept.kept) = c.in_ok-groups.ensures.ok ∙ kept_under plan c.in_ok-kept.kept numbers c.in_ok-kept.ensures.tables in
     search rules
+
+pub returns-in_err-kept-clause-first : goal.returns-in_err-kept-clause-first
+returns-in_err-kept-clause-first c =
+    let plan : PlanValue = arc_value c.args.plan.now in
+    let refused : Refuses meant_of c.in_err-kept.field-0.0 (groups c.args.feed.now (source_of plan)) = search rules in
+    let p = err_from_is_err_and c.from_residual.result c.from_residual.ensures.1 in
+    rw (p.1, p.2) (refusal_under c.args.feed.now plan c.in_err-kept.field-0.0 refused)
+
+pub returns-then-field_check-clause-first : goal.returns-then-field_check-clause-first
+returns-then-field_check-clause-first c =
+    let plan : PlanValue = arc_value c.args.plan.now in
+    let whole : groups c.args.feed.now (source_of plan) ≡ Ok (all_named c.in_ok-kept.kept) = search rules in
+    let checked : option_copied c.new-field_check.result.plan ≡ Some plan = search rules in
+    seen_different c.args.feed.now plan (all_named c.in_ok-kept.kept) (option_copied c.new-field_check.result.plan) c.new-field_check.result.differs c.read.new.field_check.differs
+    whole checked c.new-field_check.ensures.none c.if-field_check.true c.in_ok-kept.ensures.seen

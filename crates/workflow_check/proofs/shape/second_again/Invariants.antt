@@ -1,6 +1,6 @@
 use Rattle.std.proofs.Common.{◌≡◌, [], take, drop, map}
 use Rattle.workflow_check.specs.Shape.{second_from}
-use Rattle.workflow_check.proofs.shape.second_from.Given as goal
+use Rattle.workflow_check.proofs.shape.second_again.Given as goal
 
 -- the first is that of the names that are left, behind those so far
 abbrev pub invariant-loop-i : goal.invariant-loop-i
