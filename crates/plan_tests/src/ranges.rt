@@ -128,7 +128,7 @@ const HASHES: &[(&[u8], u64)] = &[
 fn are_hashes(rows: &[(&[u8], u64)]) -> Result<bool, VindexFault> {
     for (number, wanted) in rows {
         let id = Vindex::Hash.id(Column::Bytes(number))?;
-        if id.bytes() != wanted.to_be_bytes() {
+        if id.bytes() != wanted.to_be_bytes().as_slice() {
             return Ok(false);
         }
     }
