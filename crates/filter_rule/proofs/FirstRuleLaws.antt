@@ -34,7 +34,7 @@ unfolding form_of
 form_match s n r form table is =
     then_ok _ (or_bad s n (scope_of r.matches)) form is (λ scope scope_is h2.
     then_ok _ (or_bad s n (filter_of r.filter)) form h2 (λ filter filter_is h3.
-    then_ok _ (agreeing s n scope filter) form h3 (λ a a_is h4.
+    then_ok _ (agreeing s n r.uses_hash scope filter) form h3 (λ a a_is h4.
     ap (λ (f : RuleForm). is_for f.scope table) (sym (same_ok (record { scope = scope; columns = filter.columns; rows = filter.rows }) form h4))
     ∙ scope_match (bytes_eq r.matches (codes "/.*")) (begins_with_slash r.matches) r.matches table scope refl refl (found_ok s n (scope_of r.matches) scope scope_is))))
 

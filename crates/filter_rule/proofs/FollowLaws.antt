@@ -10,7 +10,7 @@ use Rattle.filter_text.specs.FilterText.{RowsSaid, every_row, in_own_range, in_r
 use Rattle.filter_rule.specs.Document.{RuleSaid, StreamSaid, DocumentSaid, document_of}
 use Rattle.filter_rule.specs.Faults.{limit}
 use Rattle.filter_rule.specs.FirstRule.{first_match, Decides, IsByFirst, AreByFirst, FollowFirstRules}
-use Rattle.filter_rule.specs.Limits.{is_within, within_limits}
+use Rattle.filter_rule.specs.Limits.{is_within, known_vindexes, within_limits}
 use Rattle.filter_rule.specs.PlanTable.{TableValue, keeping}
 use Rattle.filter_rule.specs.PlanValue.{PlanValue}
 use Rattle.filter_rule.specs.Reading.{Decided, decided_from, closed_from, plan_over, json_of, plans_of_document, plans_of}
@@ -60,7 +60,7 @@ limits_keep false d e h = cc
 pub follows_first : (text : List ℕ) (plans : List PlanValue) → plans_of text ≡ Ok plans → FollowFirstRules text plans
 unfolding plans_of plans_of_document
 follows_first text plans is d d_is i s p s_is p_is =
-    then_ok _ (json_of text) plans is (λ value value_is h2. then_ok _ (document_of value) plans h2 (λ e e_is h3. then_ok _ (within_limits e) plans h3 (λ within within_is h4.
+    then_ok _ (json_of text) plans is (λ value value_is h2. then_ok _ (document_of value) plans h2 (λ e e_is h2k. then_ok _ (known_vindexes e) plans h2k (λ known known_is h3. then_ok _ (within_limits e) plans h3 (λ within within_is h4.
     then_ok _ (each resolved within.tables) plans h4 (λ tables tables_is h5. then_ok _ (decided_from tables 0 within.streams) plans h5 (λ decided decided_is h6.
     then_ok _ (closed_from decided 0 tables) plans h6 (λ closed closed_is h7.
     let same : e ≡ d = same_ok e d (sym e_is ∙ ap (λ r. r >>= document_of) (sym value_is) ∙ d_is) in
@@ -71,4 +71,4 @@ follows_first text plans is d d_is i s p s_is p_is =
     let stream : at.stream ≡ s = same_Some at.stream s (sym at.stands ∙ here) in
     subst (λ (q : PlanValue). AreByFirst i q.tables s.rules q.decisions) one.2
     (subst (λ (x : StreamSaid). AreByFirst i closed x.rules one.0.decisions) stream
-    (subst (λ n. AreByFirst n closed at.stream.rules one.0.decisions) (zero-add i) (by_first_closed (0 + i) at.stream.rules decided tables closed one.0.decisions closed_is at.is.first)))))))))
+    (subst (λ n. AreByFirst n closed at.stream.rules one.0.decisions) (zero-add i) (by_first_closed (0 + i) at.stream.rules decided tables closed one.0.decisions closed_is at.is.first))))))))))

@@ -86,7 +86,7 @@ unfolding form_of
 form_apart s n r form is =
     then_ok _ (or_bad s n (scope_of r.matches)) form is (λ scope scope_is h2.
     then_ok _ (or_bad s n (filter_of r.filter)) form h2 (λ filter filter_is h3.
-    then_ok _ (agreeing s n scope filter) form h3 (λ a a_is h4.
+    then_ok _ (agreeing s n r.uses_hash scope filter) form h3 (λ a a_is h4.
     subst AreApart (ap (λ (f : RuleForm). f.columns) (same_ok (record { scope = scope; columns = filter.columns; rows = filter.rows }) form h4))
     (filter_apart r.filter filter (found_ok s n (filter_of r.filter) filter filter_is)))))
 

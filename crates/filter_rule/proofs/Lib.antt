@@ -26,3 +26,4 @@ pub mod StandingRules
 pub mod ShapeFault
 pub mod StandingLaws
 pub mod WholeLaws
+pub mod FurtherLaws

@@ -2,8 +2,7 @@
 use Rattle.std.proofs.Common.{◌≡◌, ℕ, List, [], ◌∷◌, Bool, true, false, cond, map, Option, Some, None, Result, Ok, Err, refl, sym, ap, ◌∙◌, codes}
 use Rattle.serde_json.specs.Data.{Data}
 use Rattle.serde_json.specs.Find.{get, as_str}
-use Rattle.vindex.specs.KeyspaceId.{vindex_of_name}
-use Rattle.filter_rule.specs.Document.{found, member_in, text_of, list_of, text_in, list_in, two_of, pair_of, is_name, name_of, type_by, type_said, column_of, vindex_of, vindex_if, vindex_said, filter_if, filter_in, rule_of, stream_of, has_twice, distinct, list_apart, table_of, document_of}
+use Rattle.filter_rule.specs.Document.{found, member_in, text_of, list_of, text_in, list_in, two_of, pair_of, is_name, name_of, type_by, type_said, column_of, uses_hash, uses_no_other, vindex_named, vindex_of, vindex_if, vindex_said, filter_if, filter_in, rule_of, stream_of, has_twice, distinct, list_apart, table_of, document_of}
 use Rattle.outcome.specs.Outcome.{◌>>=◌, each}
 use Rattle.filter_rule.specs.Faults.{Fault, shape}
 use Rattle.filter_rule.proofs.RefusedSteps.{failed, same_fault}
@@ -69,17 +68,17 @@ column_of_only : (d : Data) → ShapeOnly (column_of d)
 unfolding column_of
 column_of_only d = then_only _ (pair_of d) (pair_only d) (λ p. then_only _ (name_of p.0) (name_only p.0) (λ name. then_only _ (type_said p.1) (kind_only p.1) (λ number. ok_only (record { name = name; type_number = number }))))
 
-vindex_of_only : (d : Data) → ShapeOnly (vindex_of d)
+vindex_of_only : (hash : Bool) (d : Data) → ShapeOnly (vindex_of hash d)
 unfolding vindex_of
-vindex_of_only d = then_only _ (pair_of d) (pair_only d) (λ p. then_only _ (name_of p.0) (name_only p.0) (λ column. then_only _ (text_of p.1) (found_only _) (λ name. then_only _ (found (vindex_of_name name)) (found_only _) (λ vindex. ok_only (column, vindex)))))
+vindex_of_only hash d = then_only _ (pair_of d) (pair_only d) (λ p. then_only _ (name_of p.0) (name_only p.0) (λ column. then_only _ (text_of p.1) (found_only _) (λ name. then_only _ (found (vindex_named hash name)) (found_only _) (λ vindex. ok_only (column, vindex)))))
 
-vindex_if_only : (o : Option Data) → ShapeOnly (vindex_if o)
-vindex_if_only None = ok_only None
-vindex_if_only (Some d) = then_only _ (vindex_of d) (vindex_of_only d) (λ v. ok_only (Some v))
+vindex_if_only : (hash : Bool) (o : Option Data) → ShapeOnly (vindex_if hash o)
+vindex_if_only hash None = ok_only None
+vindex_if_only hash (Some d) = then_only _ (vindex_of hash d) (vindex_of_only hash d) (λ v. ok_only (Some v))
 
-vindex_in_only : (d : Data) → ShapeOnly (vindex_said d)
+vindex_in_only : (hash : Bool) (d : Data) → ShapeOnly (vindex_said hash d)
 unfolding vindex_said
-vindex_in_only d = vindex_if_only (get (codes "vindex") d)
+vindex_in_only hash d = vindex_if_only hash (get (codes "vindex") d)
 
 filter_if_only : (o : Option Data) → ShapeOnly (filter_if o)
 filter_if_only None = ok_only []
@@ -89,13 +88,13 @@ filter_in_only : (d : Data) → ShapeOnly (filter_in d)
 unfolding filter_in
 filter_in_only d = filter_if_only (get (codes "filter") d)
 
-rule_of_only : (d : Data) → ShapeOnly (rule_of d)
+rule_of_only : (hash : Bool) (d : Data) → ShapeOnly (rule_of hash d)
 unfolding rule_of
-rule_of_only d = then_only _ (text_in (codes "match") d) (text_in_only (codes "match") d) (λ m. then_only _ (filter_in d) (filter_in_only d) (λ f. ok_only (record { matches = m; filter = f })))
+rule_of_only hash d = then_only _ (text_in (codes "match") d) (text_in_only (codes "match") d) (λ m. then_only _ (filter_in d) (filter_in_only d) (λ f. ok_only (record { matches = m; filter = f; uses_hash = hash })))
 
-stream_of_only : (d : Data) → ShapeOnly (stream_of d)
+stream_of_only : (hash : Bool) (d : Data) → ShapeOnly (stream_of hash d)
 unfolding stream_of
-stream_of_only d = then_only _ (text_in (codes "shard") d) (text_in_only (codes "shard") d) (λ shard. then_only _ (member_in (codes "filter") d) (found_only _) (λ filter. then_only _ (list_in (codes "rules") filter) (list_in_only (codes "rules") filter) (λ values. then_only _ (each rule_of values) (each_only rule_of values rule_of_only) (λ rs. ok_only (record { shard = shard; rules = rs })))))
+stream_of_only hash d = then_only _ (text_in (codes "shard") d) (text_in_only (codes "shard") d) (λ shard. then_only _ (member_in (codes "filter") d) (found_only _) (λ filter. then_only _ (list_in (codes "rules") filter) (list_in_only (codes "rules") filter) (λ values. then_only _ (each (rule_of hash) values) (each_only (rule_of hash) values (rule_of_only hash)) (λ rs. ok_only (record { shard = shard; rules = rs })))))
 
 distinct_only : (ss : List (List ℕ)) → ShapeOnly (distinct ss)
 distinct_only ss = if_only (has_twice ss) (Err shape) (Ok ss) (shape_only _ refl) (ok_only ss)
@@ -105,9 +104,9 @@ unfolding list_apart
 list_apart_only name reads key d k =
     then_only _ (list_in key d) (list_in_only key d) (λ values. then_only _ (each reads values) (each_only reads values k) (λ items. then_only _ (distinct (map name items)) (distinct_only (map name items)) (λ names. ok_only items)))
 
-table_of_only : (d : Data) → ShapeOnly (table_of d)
+table_of_only : (hash : Bool) (d : Data) → ShapeOnly (table_of hash d)
 unfolding table_of
-table_of_only d = then_only _ (member_in (codes "name") d) (found_only _) (λ a. then_only _ (name_of a) (name_only a) (λ name. then_only _ (vindex_said d) (vindex_in_only d) (λ vindex.
+table_of_only hash d = then_only _ (member_in (codes "name") d) (found_only _) (λ a. then_only _ (name_of a) (name_only a) (λ name. then_only _ (vindex_said hash d) (vindex_in_only hash d) (λ vindex.
     then_only _ (list_apart (λ c. c.name) column_of (codes "columns") d) (list_apart_only (λ c. c.name) column_of (codes "columns") d column_of_only) (λ columns.
     then_only _ (list_apart (λ n. n) name_of (codes "key") d) (list_apart_only (λ n. n) name_of (codes "key") d name_only) (λ key.
     ok_only (record { name = name; columns = columns; key = key; vindex = vindex }))))))
@@ -115,6 +114,6 @@ table_of_only d = then_only _ (member_in (codes "name") d) (found_only _) (λ a.
 pub document_of_only : (d : Data) → ShapeOnly (document_of d)
 unfolding document_of
 document_of_only d = then_only _ (text_in (codes "keyspace") d) (text_in_only (codes "keyspace") d) (λ keyspace.
-    then_only _ (list_apart (λ t. t.name) table_of (codes "tables") d) (list_apart_only (λ t. t.name) table_of (codes "tables") d table_of_only) (λ tables.
-    then_only _ (list_apart (λ s. s.shard) stream_of (codes "streams") d) (list_apart_only (λ s. s.shard) stream_of (codes "streams") d stream_of_only) (λ streams.
-    ok_only (record { keyspace = keyspace; tables = tables; streams = streams }))))
+    then_only _ (list_apart (λ t. t.name) (table_of (uses_hash d)) (codes "tables") d) (list_apart_only (λ t. t.name) (table_of (uses_hash d)) (codes "tables") d (table_of_only (uses_hash d))) (λ tables.
+    then_only _ (list_apart (λ s. s.shard) (stream_of (uses_hash d)) (codes "streams") d) (list_apart_only (λ s. s.shard) (stream_of (uses_hash d)) (codes "streams") d (stream_of_only (uses_hash d))) (λ streams.
+    ok_only (record { keyspace = keyspace; tables = tables; streams = streams; uses_no_other = uses_no_other d }))))

@@ -8,7 +8,7 @@ use Rattle.filter_rule.specs.Document.{DocumentSaid, document_of}
 use Rattle.outcome.specs.Outcome.{◌>>=◌, each}
 use Rattle.filter_rule.specs.Faults.{Fault, json, shape, limit, no_such_column, key_type, bad_rule, columns_differ}
 use Rattle.filter_rule.specs.FirstRule.{document_in}
-use Rattle.filter_rule.specs.Limits.{is_within, within_limits}
+use Rattle.filter_rule.specs.Limits.{is_within, known_vindexes, within_limits}
 use Rattle.filter_rule.specs.Reading.{decided_from, closed_from, json_of, plans_of_document, plans_of}
 use Rattle.filter_rule.specs.Resolving.{resolved}
 use Rattle.filter_rule.specs.Standing.{Stands}
@@ -16,7 +16,7 @@ use Rattle.filter_rule.proofs.JsonText.{no_json}
 use Rattle.filter_rule.proofs.RefusedSteps.{failed, same_fault, then_err, none_from_err}
 use Rattle.filter_rule.proofs.ShapeFault.{document_of_only}
 use Rattle.filter_rule.proofs.StandingRules.{streams_stand, differ_stand}
-use Rattle.filter_rule.proofs.StandingTables.{StandsIn, limits_stand, tables_stand}
+use Rattle.filter_rule.proofs.StandingTables.{StandsIn, known_stand, limits_stand, tables_stand}
 use Rattle.filter_rule.proofs.TableLaws.{limits_kept}
 
 json_fault : (b : Bool) (o : Option Data) (e : Fault) → cond b (ok_or o json) (Err json) ≡ Err e → json ≡ e
@@ -51,13 +51,14 @@ unfolding plans_of plans_of_document
 stands text e h =
     then_err _ (json_of text) e h (λ none. no_value text e none)
     (λ value value_is h2. then_err _ (document_of value) e h2 (λ none. no_document text value e value_is none)
-    (λ said said_is h3.
+    (λ said said_is h2k.
     let says : document_in text ≡ Ok said = ap (λ r. r >>= document_of) value_is ∙ said_is in
-    then_err _ (within_limits said) e h3 (λ bad. in_document text said e says (limits_stand said e bad))
+    then_err _ (known_vindexes said) e h2k (λ bad. in_document text said e says (known_stand said e bad))
+    (λ known known_is h3. then_err _ (within_limits said) e h3 (λ bad. in_document text said e says (limits_stand said e bad))
     (λ document document_is h4.
     let kept = limits_kept (is_within said) said document document_is in
     let says_it : document_in text ≡ Ok document = says ∙ ap Ok kept.1 in
     then_err _ (each resolved document.tables) e h4 (λ bad. in_document text document e says_it (tables_stand document e bad))
     (λ tables tables_are h5. then_err _ (decided_from tables 0 document.streams) e h5 (λ bad. in_document text document e says_it (streams_stand document tables e tables_are bad))
     (λ streams streams_are h6. then_err _ (closed_from streams 0 tables) e h6 (λ bad. in_document text document e says_it (differ_stand document tables streams e tables_are streams_are bad))
-    (λ closed closed_are h7. cc))))))
+    (λ closed closed_are h7. cc)))))))

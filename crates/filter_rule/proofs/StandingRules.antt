@@ -1,5 +1,5 @@
 -- What stands in a file whose rules are refused.
-use Rattle.std.proofs.Common.{◌≡◌, ℕ, zero, suc, ◌+◌, List, [], ◌∷◌, ◌++◌, length, Bool, true, false, cond, Option, Some, None, Ok, Err, refl, sym, ap, subst, ◌∙◌, append_assoc, length-append, arith}
+use Rattle.std.proofs.Common.{◌≡◌, ℕ, zero, suc, ◌+◌, List, [], ◌∷◌, ◌++◌, length, Bool, true, false, cond, ◌&&◌, Option, Some, None, Ok, Err, refl, sym, ap, subst, ◌∙◌, append_assoc, length-append, arith}
 use Rattle.std.specs.Prelude.{slice_get, MatchOption}
 use Rattle.std.specs.Option.{option_map_or}
 use Rattle.std.proofs.lemmas.Option.{same_Some}
@@ -18,7 +18,7 @@ use Rattle.filter_rule.specs.PlanTable.{TableValue}
 use Rattle.filter_rule.specs.PlanValue.{kept_under_rule}
 use Rattle.filter_rule.specs.Reading.{rule_over, decide_in_turn, undecided, decisions_of, Decided, decided_by, decided_from, closed_from}
 use Rattle.filter_rule.specs.Resolving.{all_places, name_at, lists_key, is_vindex_type, place_in, type_in, vindex_place, vindex_type, unfit_key, refuse_type, own_vindex_type, resolved}
-use Rattle.filter_rule.specs.Rules.{RuleForm, form_of, or_bad, agreeing, kept_by, own_decision, decide, decide_once, decide_each}
+use Rattle.filter_rule.specs.Rules.{RuleForm, may_say, form_of, or_bad, agreeing, kept_by, own_decision, decide, decide_once, decide_each}
 use Rattle.filter_rule.specs.Standing.{HasTable, IsFirstFor, by_rule, by_list, under_rule, no_form, no_vindex, key_left_out, KeepsOf}
 use Rattle.filter_rule.specs.declared.decision.Decision.{Decision}
 use Rattle.filter_rule.specs.declared.decision.Decision.TheVariants.{NoRule, EveryRow, InRange}
@@ -43,7 +43,7 @@ unfolding form_of
 no_form_is s n r e h =
     then_err _ (or_bad s n (scope_of r.matches)) e h (λ is. bad_is s n (scope_of r.matches) e is)
     (λ scope scope_is h2. then_err _ (or_bad s n (filter_of r.filter)) e h2 (λ is. bad_is s n (filter_of r.filter) e is)
-    (λ filter filter_is h3. then_err _ (agreeing s n scope filter) e h3 (λ is. disagrees s n (agrees scope filter.table) filter e is) (λ same same_is h4. cc)))
+    (λ filter filter_is h3. then_err _ (agreeing s n r.uses_hash scope filter) e h3 (λ is. disagrees s n (agrees scope filter.table && may_say r.uses_hash filter.rows) filter e is) (λ same same_is h4. cc)))
 
 -- ---- the rule that is refused
 

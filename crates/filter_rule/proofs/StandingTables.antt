@@ -9,9 +9,9 @@ use Rattle.vindex.specs.declared.vindexes.Vindex.{Vindex}
 use Rattle.filter_rule.specs.Document.{TableSaid, DocumentSaid}
 use Rattle.outcome.specs.Outcome.{each}
 use Rattle.filter_rule.specs.Faults.{Fault, json, shape, limit, no_such_column, key_type, bad_rule, columns_differ}
-use Rattle.filter_rule.specs.Limits.{is_up_to, is_table_within, is_within, within_limits}
+use Rattle.filter_rule.specs.Limits.{is_up_to, is_table_within, is_within, known_vindexes, within_limits}
 use Rattle.filter_rule.specs.Resolving.{is_key_type, is_vindex_type, place_in, type_in, unfit_key, refuse_type, vindex_place, vindex_type, own_vindex_type, resolved}
-use Rattle.filter_rule.specs.Standing.{HasTable, LacksColumn, by_key, by_vindex, HasUnfitColumn, in_key, under_vindex, HasBadRule, KeepDifferent, IsOutside, IsPastLimit, streams_past, tables_past, columns_past, key_past}
+use Rattle.filter_rule.specs.Standing.{HasTable, LacksColumn, by_key, by_vindex, HasUnfitColumn, in_key, under_vindex, HasBadRule, KeepDifferent, IsOutside, IsPastLimit, streams_past, tables_past, columns_past, key_past, vindexes_past}
 use Rattle.filter_rule.proofs.RefusedSteps.{same_fault, then_err, each_refused, each_gives, absent, unfit_column, found}
 use Rattle.filter_rule.proofs.StepLaws.{then_ok, read_as}
 
@@ -56,6 +56,13 @@ past_limit document h =
 limit_at : (document : DocumentSaid) (b : Bool) (e : Fault) → is_within document ≡ b → cond b (read_as document) (Err limit) ≡ Err e → StandsIn document e
 limit_at document true e is h = cc
 limit_at document false e is h = subst (StandsIn document) (same_fault {B = DocumentSaid} limit e h) (past_limit document is)
+
+known_at : (document : DocumentSaid) (b : Bool) (e : Fault) → document.uses_no_other ≡ b → cond b (read_as document) (Err limit) ≡ Err e → StandsIn document e
+known_at document true e is h = cc
+known_at document false e is h = subst (StandsIn document) (same_fault {B = DocumentSaid} limit e h) (vindexes_past is)
+
+pub known_stand : (document : DocumentSaid) (e : Fault) → known_vindexes document ≡ Err e → StandsIn document e
+known_stand document e h = known_at document document.uses_no_other e refl h
 
 pub limits_stand : (document : DocumentSaid) (e : Fault) → within_limits document ≡ Err e → StandsIn document e
 limits_stand document e h = limit_at document (is_within document) e refl h

@@ -13,7 +13,7 @@ use Rattle.std.proofs.lemmas.Slice.Eq.{bytes_eq-Decides}
 use Rattle.serde_json.specs.Data.{Data}
 use Rattle.vindex.specs.declared.vindexes.Vindex.{Vindex}
 use Rattle.filter_rule.specs.Private.Accepted.{IsAccepted}
-use Rattle.filter_rule.specs.Document.{StreamSaid, TableSaid, DocumentSaid, member_in, text_in, list_in, name_of, column_of, vindex_said, rule_of, stream_of, list_apart, table_of, distinct, document_of}
+use Rattle.filter_rule.specs.Document.{StreamSaid, TableSaid, DocumentSaid, member_in, text_in, list_in, name_of, column_of, vindex_said, rule_of, stream_of, list_apart, table_of, distinct, document_of, uses_hash, uses_no_other}
 use Rattle.outcome.specs.Outcome.{each}
 use Rattle.filter_rule.specs.Faults.{Fault, key_type, limit, no_such_column}
 use Rattle.filter_rule.specs.Limits.{is_up_to, is_table_within, is_within}
@@ -49,12 +49,12 @@ same_names : (names : List (List ℕ)) → map (λ n. n) names ≡ names
 same_names [] = refl
 same_names (n ∷ names) = ap (λ ns. n ∷ ns) (same_names names)
 
-table_names : (d : Data) (t : TableSaid) → table_of d ≡ Ok t → HasDistinctNames t
+table_names : (hash : Bool) (d : Data) (t : TableSaid) → table_of hash d ≡ Ok t → HasDistinctNames t
 unfolding table_of
-table_names d t h =
+table_names hash d t h =
     then_ok _ (member_in (codes "name") d) t h (λ a a_is h1.
     then_ok _ (name_of a) t h1 (λ name name_is h2.
-    then_ok _ (vindex_said d) t h2 (λ vindex vindex_is h3.
+    then_ok _ (vindex_said hash d) t h2 (λ vindex vindex_is h3.
     then_ok _ (list_apart (λ (c : FieldValue). c.name) column_of (codes "columns") d) t h3 (λ columns columns_is h4.
     then_ok _ (list_apart (λ (n : List ℕ). n) name_of (codes "key") d) t h4 (λ key key_is h5.
     subst HasDistinctNames (same_ok (record { name = name; columns = columns; key = key; vindex = vindex }) t h5) (
@@ -67,12 +67,12 @@ pub record HasTexts (table : TableSaid) : Type 0 where
   pub name_text : is_utf8 table.name ≡ true
   pub each_column : (i : ℕ) (column : FieldValue) → slice_get table.columns i ≡ Some column → IsColumnDef column
 
-texts_of_table : (d : Data) (t : TableSaid) → table_of d ≡ Ok t → HasTexts t
+texts_of_table : (hash : Bool) (d : Data) (t : TableSaid) → table_of hash d ≡ Ok t → HasTexts t
 unfolding table_of
-texts_of_table d t h =
+texts_of_table hash d t h =
     then_ok _ (member_in (codes "name") d) t h (λ a a_is h1.
     then_ok _ (name_of a) t h1 (λ name name_is h2.
-    then_ok _ (vindex_said d) t h2 (λ vindex vindex_is h3.
+    then_ok _ (vindex_said hash d) t h2 (λ vindex vindex_is h3.
     then_ok _ (list_apart (λ (c : FieldValue). c.name) column_of (codes "columns") d) t h3 (λ columns columns_is h4.
     then_ok _ (list_apart (λ (n : List ℕ). n) name_of (codes "key") d) t h4 (λ key key_is h5.
     let said = (list_apart-Ok (λ (c : FieldValue). c.name) column_of (codes "columns") d columns columns_is).1 in
@@ -82,13 +82,13 @@ texts_of_table d t h =
       each_column = λ i c c_is. let from = said i c c_is in column_def from.item c from.gives;
     }))))))
 
-shard_text : (d : Data) (s : StreamSaid) → stream_of d ≡ Ok s → is_utf8 s.shard ≡ true
+shard_text : (hash : Bool) (d : Data) (s : StreamSaid) → stream_of hash d ≡ Ok s → is_utf8 s.shard ≡ true
 unfolding stream_of
-shard_text d s h =
+shard_text hash d s h =
     then_ok _ (text_in (codes "shard") d) s h (λ shard shard_is h1.
     then_ok _ (member_in (codes "filter") d) s h1 (λ filter filter_is h2.
     then_ok _ (list_in (codes "rules") filter) s h2 (λ values values_is h3.
-    then_ok _ (each rule_of values) s h3 (λ rules rules_is h4.
+    then_ok _ (each (rule_of hash) values) s h3 (λ rules rules_is h4.
     subst (λ (x : StreamSaid). is_utf8 x.shard ≡ true) (same_ok (record { shard = shard; rules = rules }) s h4) (text_in_is (codes "shard") d shard shard_is)))))
 
 -- the shards of streams are texts
@@ -108,18 +108,18 @@ pub document_names : (d : Data) (document : DocumentSaid) → document_of d ≡ 
 unfolding document_of
 document_names d document h =
     then_ok _ (text_in (codes "keyspace") d) document h (λ keyspace keyspace_is h1.
-    then_ok _ (list_apart (λ (t : TableSaid). t.name) table_of (codes "tables") d) document h1 (λ tables tables_is h2.
-    then_ok _ (list_apart (λ (s : StreamSaid). s.shard) stream_of (codes "streams") d) document h2 (λ streams streams_is h3.
-    let apart = list_apart-Ok (λ (t : TableSaid). t.name) table_of (codes "tables") d tables tables_is in
-    let sharded = list_apart-Ok (λ (s : StreamSaid). s.shard) stream_of (codes "streams") d streams streams_is in
-    subst HasNames (same_ok (record { keyspace = keyspace; tables = tables; streams = streams }) document h3)
+    then_ok _ (list_apart (λ (t : TableSaid). t.name) (table_of (uses_hash d)) (codes "tables") d) document h1 (λ tables tables_is h2.
+    then_ok _ (list_apart (λ (s : StreamSaid). s.shard) (stream_of (uses_hash d)) (codes "streams") d) document h2 (λ streams streams_is h3.
+    let apart = list_apart-Ok (λ (t : TableSaid). t.name) (table_of (uses_hash d)) (codes "tables") d tables tables_is in
+    let sharded = list_apart-Ok (λ (s : StreamSaid). s.shard) (stream_of (uses_hash d)) (codes "streams") d streams streams_is in
+    subst HasNames (same_ok (record { keyspace = keyspace; tables = tables; streams = streams; uses_no_other = uses_no_other d }) document h3)
     (record {
-      columns = λ i t t_is. let from = apart.1 i t t_is in table_names from.item t from.gives;
+      columns = λ i t t_is. let from = apart.1 i t t_is in table_names (uses_hash d) from.item t from.gives;
       tables = apart.0;
       shards = sharded.0;
       keyspace_text = text_in_is (codes "keyspace") d keyspace keyspace_is;
-      table_texts = λ i t t_is. let from = apart.1 i t t_is in texts_of_table from.item t from.gives;
-      shard_texts = λ i s s_is. let from = sharded.1 i s s_is in shard_text from.item s from.gives;
+      table_texts = λ i t t_is. let from = apart.1 i t t_is in texts_of_table (uses_hash d) from.item t from.gives;
+      shard_texts = λ i s s_is. let from = sharded.1 i s s_is in shard_text (uses_hash d) from.item s from.gives;
     }))))
 
 -- ---- what its counts say

@@ -7,7 +7,7 @@ use Rattle.filter_rule.specs.Document.{StreamSaid, TableSaid, DocumentSaid, docu
 use Rattle.outcome.specs.Outcome.{◌>>=◌, each}
 use Rattle.filter_rule.specs.Faults.{GivesOrFails}
 use Rattle.filter_rule.specs.FirstRule.{document_in}
-use Rattle.filter_rule.specs.Limits.{is_within, within_limits}
+use Rattle.filter_rule.specs.Limits.{is_within, known_vindexes, within_limits}
 use Rattle.filter_rule.specs.PlanTable.{TableValue}
 use Rattle.filter_rule.specs.PlanValue.{PlanValue}
 use Rattle.filter_rule.specs.Reading.{Decided, decided_from, closed_from, plan_over, json_of, plans_of_document, plans_of}
@@ -41,7 +41,7 @@ record Whole (text : List ℕ) (plans : List PlanValue) : Type 0 where
 whole_at : (text : List ℕ) (plans : List PlanValue) → plans_of text ≡ Ok plans → Whole text plans
 unfolding plans_of plans_of_document
 whole_at text plans is =
-    then_ok _ (json_of text) plans is (λ value value_is h2. then_ok _ (document_of value) plans h2 (λ said said_is h3. then_ok _ (within_limits said) plans h3 (λ document document_is h4.
+    then_ok _ (json_of text) plans is (λ value value_is h2. then_ok _ (document_of value) plans h2 (λ said said_is h2k. then_ok _ (known_vindexes said) plans h2k (λ known known_is h3. then_ok _ (within_limits said) plans h3 (λ document document_is h4.
     then_ok _ (each resolved document.tables) plans h4 (λ tables tables_are h5. then_ok _ (decided_from tables 0 document.streams) plans h5 (λ streams streams_are h6.
     then_ok _ (closed_from streams 0 tables) plans h6 (λ closed closed_are h7.
     let kept = limits_kept (is_within said) said document document_is in
@@ -57,7 +57,7 @@ whole_at text plans is =
       closed = closed;
       closed_are = closed_are;
       plans_are = same_ok (map (plan_over document.keyspace closed) streams) plans h7;
-    }))))))
+    })))))))
 
 -- a plan of the text, and the stream that it is of
 plan_there : (text : List ℕ) (plans : List PlanValue) (whole : Whole text plans) (i : ℕ) (plan : PlanValue) → slice_get plans i ≡ Some plan

@@ -15,5 +15,9 @@ is_table_within t = is_up_to 256 (length t.columns) && is_up_to 8 (length t.key)
 abbrev pub is_within : DocumentSaid → Bool
 is_within d = is_up_to 64 (length d.streams) && is_up_to 64 (length d.tables) && list_all is_table_within d.tables
 
+-- a vindex beyond the four that the file says it uses is `hash`
+abbrev pub known_vindexes : DocumentSaid → Result DocumentSaid Fault
+known_vindexes d = if d.uses_no_other then Ok d else Err limit
+
 abbrev pub within_limits : DocumentSaid → Result DocumentSaid Fault
 within_limits d = if is_within d then Ok d else Err limit

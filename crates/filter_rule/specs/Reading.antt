@@ -1,5 +1,5 @@
 -- The plans that a workflow file says, or the first of its faults. The order is: the text is JSON, the
--- document has its shape, the counts are within their limits, then table by table its columns and types,
+-- document has its shape, the counts are within their limits and its further vindexes are known, then table by table its columns and types,
 -- then stream by stream and rule by rule the rule's form and what it decides, and at last table by table
 -- that all streams with a rule for it keep the same columns.
 use Rattle.std.specs.Prelude.{◌≡◌, ◌<◌, IsUtf8, ℕ, ◌+◌, length, List, [], ◌∷◌, map, slice_get, Bool, true, Option, Some, None, option_and_then, Result, Ok, Err, if◌then◌else◌}
@@ -11,7 +11,7 @@ use Rattle.serde_json.specs.Read.{read}
 use Rattle.filter_rule.specs.Document.{RuleSaid, StreamSaid, DocumentSaid, document_of}
 use Rattle.outcome.specs.Outcome.{◌>>=◌, each}
 use Rattle.filter_rule.specs.Faults.{Fault, json, columns_differ}
-use Rattle.filter_rule.specs.Limits.{within_limits}
+use Rattle.filter_rule.specs.Limits.{known_vindexes, within_limits}
 use Rattle.filter_rule.specs.PlanTable.{TableValue, keeping}
 use Rattle.filter_rule.specs.PlanValue.{PlanValue, kept_under_rule}
 use Rattle.filter_rule.specs.Resolving.{resolved}
@@ -107,6 +107,7 @@ plans_of_document d = do
 abbrev pub plans_of_value : Data → Result (List PlanValue) Fault
 plans_of_value value = do
   document ← document_of value
+  known ← known_vindexes document
   within ← within_limits document
   plans_of_document within
 

@@ -4,7 +4,7 @@ use Rattle.std.specs.List.{list_all, range_with_len}
 use Rattle.std.specs.Option.{option_map_or, ok_or}
 use Rattle.std.specs.Str.{bytes_eq}
 use Rattle.vindex.specs.declared.vindexes.Vindex.{Vindex}
-use Rattle.vindex.specs.declared.vindexes.Vindex.TheVariants.{Numeric, ReverseBits, Binary, BinaryMd5}
+use Rattle.vindex.specs.declared.vindexes.Vindex.TheVariants.{Numeric, ReverseBits, Binary, BinaryMd5, Hash}
 use Rattle.filter_text.specs.ColumnList.{has_column}
 use Rattle.filter_rule.specs.Document.{TableSaid}
 use Rattle.outcome.specs.Outcome.{◌>>=◌, each}
@@ -23,6 +23,7 @@ is_vindex_type Numeric n = is_whole_number n
 is_vindex_type ReverseBits n = is_whole_number n
 is_vindex_type Binary n = is_key_type n || is_long_text n
 is_vindex_type BinaryMd5 n = is_key_type n || is_long_text n
+is_vindex_type Hash n = is_whole_number n
 
 -- the places of all columns, in their order
 abbrev pub all_places : List FieldValue → List ℕ

@@ -1,12 +1,12 @@
 -- Filter rules: which tables a rule matches, what its filter says, and what it decides of a table: which
 -- of its rows pass, and which of its columns are kept.
-use Rattle.std.specs.Prelude.{ℕ, List, [], ◌∷◌, Option, Some, None, Result, Ok, Err, if◌then◌else◌}
+use Rattle.std.specs.Prelude.{ℕ, ◌&&◌, Bool, true, List, [], ◌∷◌, Option, Some, None, Result, Ok, Err, if◌then◌else◌}
 use Rattle.std.specs.Option.{ok_or}
 use Rattle.vindex.specs.Bounds.{Bounds}
 use Rattle.vindex.specs.declared.vindexes.Vindex.{Vindex}
 use Rattle.filter_text.specs.FilterText.{RowsSaid, every_row, in_own_range, in_range_of, FilterMeaning, filter_of}
 use Rattle.filter_text.specs.RuleScope.{TablesSaid, scope_of, is_for, agrees}
-use Rattle.filter_rule.specs.Document.{RuleSaid}
+use Rattle.filter_rule.specs.Document.{RuleSaid, may_name}
 use Rattle.outcome.specs.Outcome.{◌>>=◌, each}
 use Rattle.filter_rule.specs.Faults.{Fault, bad_rule}
 use Rattle.filter_rule.specs.PlanTable.{TableValue}
@@ -21,21 +21,27 @@ pub record RuleForm : Type 0 where
   pub columns : Option (List (List ℕ))
   pub rows : RowsSaid
 
+-- the rows are under a vindex that may be named, if they are under one that the rule names
+abbrev pub may_say : Bool → RowsSaid → Bool
+may_say hash every_row = true
+may_say hash (in_own_range range) = true
+may_say hash (in_range_of column vindex range) = may_name hash vindex
+
 module _ (stream rule : ℕ) where
   -- the refusal of this rule
   abbrev pub or_bad : {A : Type 0} → Option A → Result A Fault
   or_bad o = ok_or o (bad_rule stream rule)
 
-  -- a filter that selects from a table stands under that table's name
-  abbrev pub agreeing : TablesSaid → FilterMeaning → Result FilterMeaning Fault
-  agreeing scope filter = if agrees scope filter.table then Ok filter else Err (bad_rule stream rule)
+  -- a filter that selects from a table stands under that table's name, and its vindex may be named
+  abbrev pub agreeing : Bool → TablesSaid → FilterMeaning → Result FilterMeaning Fault
+  agreeing hash scope filter = if agrees scope filter.table && may_say hash filter.rows then Ok filter else Err (bad_rule stream rule)
 
   -- the form of a rule
   unfoldable pub form_of : RuleSaid → Result RuleForm Fault
   form_of r = do
     scope ← or_bad (scope_of r.matches)
     filter ← or_bad (filter_of r.filter)
-    same ← agreeing scope filter
+    same ← agreeing r.uses_hash scope filter
     Ok (record { scope = scope; columns = filter.columns; rows = filter.rows })
 
   -- the places of the columns that a rule keeps of a table; a list has each key column

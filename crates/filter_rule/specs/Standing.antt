@@ -96,12 +96,13 @@ KeepDifferent document table = (one : List ℕ) × (other : List ℕ) × KeepsOf
 abbrev pub IsOutside : ℕ → ℕ → Type 0
 IsOutside most n = (n ≡ 0) ⊎ (most < n)
 
--- a count is past its limits
+-- a count is past its limits, or the file says that it uses a vindex that isn't known
 pub data IsPastLimit (document : DocumentSaid) : Type 0 where
   streams_past : IsOutside 64 (length document.streams) → IsPastLimit document
   tables_past : IsOutside 64 (length document.tables) → IsPastLimit document
   columns_past : (table : TableSaid) → HasTable document table → IsOutside 256 (length table.columns) → IsPastLimit document
   key_past : (table : TableSaid) → HasTable document table → IsOutside 8 (length table.key) → IsPastLimit document
+  vindexes_past : document.uses_no_other ≡ false → IsPastLimit document
 
 -- some document is what the text says, and this stands in it
 abbrev pub SaysSuch : List ℕ → (DocumentSaid → Type 0) → Type 0

@@ -8,6 +8,7 @@ ghost use Rattle.filter_rule.specs.Document.{type_said, column_of, vindex_of, vi
 
 use crate::distinct::{HasName, check_distinct};
 use crate::fault::PlanFault;
+use crate::further::{uses_hash, uses_no_other, vindex_named};
 use crate::json::{list_in, member, pair, text, text_in};
 use crate::name::{Name, name_of};
 use crate::types::type_named;
@@ -16,29 +17,30 @@ use std::alloc::Global;
 use std::marker::Model;
 use vindex::Vindex;
 
-/// A value that a JSON value says.
+/// A value that a JSON value says, in a file that uses the vindex `hash` or doesn't.
 pub(crate) trait FromJson<'v>: Sized {
-    ghost use Rattle.std.specs.Prelude.{Result};
+    ghost use Rattle.std.specs.Prelude.{Bool, Result};
     ghost use Rattle.serde_json.specs.Data.{Data};
     ghost use Rattle.filter_rule.specs.Faults.{Fault};
 
     // what it says, or its fault
-    ghost reads: { Data → Result Self Fault };
+    ghost reads: { Bool → Data → Result Self Fault };
 
-    fn from_json(alloc: Global, value: &'v Value) -> Result<Self, PlanFault>
-        ensures { GivesOrFails (λ x. x) result (reads (view value.now)) };
+    fn from_json(alloc: Global, hash: bool, value: &'v Value) -> Result<Self, PlanFault>
+        ensures { GivesOrFails (λ x. x) result (reads hash (view value.now)) };
 }
 
 /// Each value in order, up to the first fault.
 pub(crate) fn each<'v, T: FromJson<'v> + Drop>(
     alloc: Global,
+    hash: bool,
     values: &'v [Value],
 ) -> Result<Vec<T>, PlanFault>
-    ensures { GivesOrFails (λ v. v.items) result (each T.reads (map view values.now)) }
+    ensures { GivesOrFails (λ v. v.items) result (each (T.reads hash) (map view values.now)) }
 {
     let mut found = Vec::new(alloc);
     for value in values {
-        found.push(T::from_json(alloc, value)?)?;
+        found.push(T::from_json(alloc, hash, value)?)?;
     }
     Ok(found)
 }
@@ -47,13 +49,14 @@ pub(crate) fn each<'v, T: FromJson<'v> + Drop>(
 #[tactic(auto, unfolding(crate::specs::Document::list_apart))]
 fn list_apart<'v, T: FromJson<'v> + HasName + Drop>(
     alloc: Global,
+    hash: bool,
     value: &'v Value,
     key: &str,
 ) -> Result<Vec<T>, PlanFault>
-    ensures { GivesOrFails (λ v. v.items) result (list_apart T.name T.reads key.now (view value.now)) }
+    ensures { GivesOrFails (λ v. v.items) result (list_apart T.name (T.reads hash) key.now (view value.now)) }
 {
     let values = list_in(value, key)?;
-    let items = each(alloc, values)?;
+    let items = each(alloc, hash, values)?;
     check_distinct(alloc, &items)?;
     Ok(items)
 }
@@ -61,9 +64,9 @@ fn list_apart<'v, T: FromJson<'v> + HasName + Drop>(
 impl<'v> FromJson<'v> for Name<'v> {
     ghost use Rattle.filter_rule.specs.Document.{name_of as name_said};
 
-    ghost reads = { name_said };
+    ghost reads = { λ _. name_said };
 
-    fn from_json(_alloc: Global, value: &'v Value) -> Result<Name<'v>, PlanFault> {
+    fn from_json(_alloc: Global, _hash: bool, value: &'v Value) -> Result<Name<'v>, PlanFault> {
         name_of(value)
     }
 }
@@ -103,10 +106,14 @@ impl<'v> Model for ColumnText<'v> {
 impl<'v> FromJson<'v> for ColumnText<'v> {
     ghost use Rattle.filter_rule.specs.Document.{column_of};
 
-    ghost reads = { column_of };
+    ghost reads = { λ _. column_of };
 
     #[tactic(auto, unfolding(crate::specs::Document::column_of))]
-    fn from_json(_alloc: Global, value: &'v Value) -> Result<ColumnText<'v>, PlanFault> {
+    fn from_json(
+        _alloc: Global,
+        _hash: bool,
+        value: &'v Value,
+    ) -> Result<ColumnText<'v>, PlanFault> {
         let (name, number) = pair(value)?;
         let name = name_of(name)?;
         let type_number = type_of(number)?;
@@ -133,33 +140,34 @@ impl<'v> Model for TableText<'v> {
 
 /// A vindex: its column's name, and its own.
 #[tactic(auto, unfolding(crate::specs::Document::vindex_of))]
-fn vindex_of(value: &Value) -> Result<(Name<'_>, Vindex), PlanFault>
-    ensures { GivesOrFails (λ p. p) result (vindex_of (view value.now)) }
+fn vindex_of(hash: bool, value: &Value) -> Result<(Name<'_>, Vindex), PlanFault>
+    ensures { GivesOrFails (λ p. p) result (vindex_of hash (view value.now)) }
 {
     let (column, name) = pair(value)?;
     let column = name_of(column)?;
-    match Vindex::parse(text(name)?) {
-        Ok(vindex) => Ok((column, vindex)),
-        Err(_) => Err(PlanFault::Shape),
+    match vindex_named(hash, text(name)?) {
+        Some(vindex) => Ok((column, vindex)),
+        None => Err(PlanFault::Shape),
     }
 }
 
 /// The vindex of a table, if it has one.
 #[tactic(auto, unfolding(crate::specs::Document::vindex_said))]
-fn vindex_in(value: &Value) -> Result<Option<(Name<'_>, Vindex)>, PlanFault>
-    ensures { GivesOrFails (λ o. o) result (vindex_said (view value.now)) }
+fn vindex_in(hash: bool, value: &Value) -> Result<Option<(Name<'_>, Vindex)>, PlanFault>
+    ensures { GivesOrFails (λ o. o) result (vindex_said hash (view value.now)) }
 {
     match value.get("vindex") {
         None => Ok(None),
-        Some(found) => Ok(Some(vindex_of(found)?)),
+        Some(found) => Ok(Some(vindex_of(hash, found)?)),
     }
 }
 
-/// A rule's `match` and `filter`.
+/// A rule's `match` and `filter`, and whether the file says that it uses the vindex `hash`.
 #[derive(Drop)]
 pub(crate) struct RuleText<'v> {
     pub(crate) matches: &'v str,
     pub(crate) filter: &'v str,
+    pub(crate) uses_hash: bool,
 }
 
 impl<'v> Model for RuleText<'v> {
@@ -167,7 +175,7 @@ impl<'v> Model for RuleText<'v> {
 
     ghost Value = { RuleSaid };
 
-    ghost view = { λ r. record { matches = r.matches.now; filter = r.filter.now } };
+    ghost view = { λ r. record { matches = r.matches.now; filter = r.filter.now; uses_hash = r.uses_hash } };
 }
 
 /// The filter of a rule, nothing where it is absent.
@@ -187,10 +195,14 @@ impl<'v> FromJson<'v> for RuleText<'v> {
     ghost reads = { rule_of };
 
     #[tactic(auto, unfolding(crate::specs::Document::rule_of))]
-    fn from_json(_alloc: Global, value: &'v Value) -> Result<RuleText<'v>, PlanFault> {
+    fn from_json(_alloc: Global, hash: bool, value: &'v Value) -> Result<RuleText<'v>, PlanFault> {
         let matches = text_in(value, "match")?;
         let filter = filter_in(value)?;
-        Ok(RuleText { matches, filter })
+        Ok(RuleText {
+            matches,
+            filter,
+            uses_hash: hash,
+        })
     }
 }
 
@@ -215,10 +227,10 @@ impl<'v> FromJson<'v> for StreamText<'v> {
     ghost reads = { stream_of };
 
     #[tactic(auto, unfolding(crate::specs::Document::stream_of))]
-    fn from_json(alloc: Global, value: &'v Value) -> Result<StreamText<'v>, PlanFault> {
+    fn from_json(alloc: Global, hash: bool, value: &'v Value) -> Result<StreamText<'v>, PlanFault> {
         let shard = text_in(value, "shard")?;
         let filter = member(value, "filter")?;
-        let rules = each(alloc, list_in(filter, "rules")?)?;
+        let rules = each(alloc, hash, list_in(filter, "rules")?)?;
         Ok(StreamText { shard, rules })
     }
 }
@@ -261,11 +273,11 @@ impl<'v> FromJson<'v> for TableText<'v> {
     ghost reads = { table_of };
 
     #[tactic(auto, unfolding(crate::specs::Document::table_of))]
-    fn from_json(alloc: Global, value: &'v Value) -> Result<TableText<'v>, PlanFault> {
+    fn from_json(alloc: Global, hash: bool, value: &'v Value) -> Result<TableText<'v>, PlanFault> {
         let name = name_of(member(value, "name")?)?;
-        let vindex = vindex_in(value)?;
-        let columns = list_apart(alloc, value, "columns")?;
-        let key = list_apart(alloc, value, "key")?;
+        let vindex = vindex_in(hash, value)?;
+        let columns = list_apart(alloc, hash, value, "columns")?;
+        let key = list_apart(alloc, hash, value, "key")?;
         Ok(TableText {
             name,
             columns,
@@ -275,12 +287,14 @@ impl<'v> FromJson<'v> for TableText<'v> {
     }
 }
 
-/// The whole file: its keyspace, tables and streams.
+/// The whole file: its keyspace, tables and streams, and whether it says that it uses no vindex beyond
+/// the four but `hash`.
 #[derive(Drop)]
 pub(crate) struct Document<'v> {
     pub(crate) keyspace: &'v str,
     pub(crate) tables: Vec<TableText<'v>>,
     pub(crate) streams: Vec<StreamText<'v>>,
+    pub(crate) uses_no_other: bool,
 }
 
 impl<'v> Model for Document<'v> {
@@ -288,7 +302,7 @@ impl<'v> Model for Document<'v> {
 
     ghost Value = { DocumentSaid };
 
-    ghost view = { λ d. record { keyspace = d.keyspace.now; tables = d.tables.items; streams = d.streams.items } };
+    ghost view = { λ d. record { keyspace = d.keyspace.now; tables = d.tables.items; streams = d.streams.items; uses_no_other = d.uses_no_other } };
 }
 
 /// What the file's JSON value says, or that it has another shape.
@@ -296,12 +310,14 @@ impl<'v> Model for Document<'v> {
 pub(crate) fn document_of(alloc: Global, value: &Value) -> Result<Document<'_>, PlanFault>
     ensures { GivesOrFails (λ d. d) result (document_of (view value.now)) }
 {
+    let hash = uses_hash(value);
     let keyspace = text_in(value, "keyspace")?;
-    let tables = list_apart(alloc, value, "tables")?;
-    let streams = list_apart(alloc, value, "streams")?;
+    let tables = list_apart(alloc, hash, value, "tables")?;
+    let streams = list_apart(alloc, hash, value, "streams")?;
     Ok(Document {
         keyspace,
         tables,
         streams,
+        uses_no_other: uses_no_other(value),
     })
 }

@@ -6,6 +6,7 @@ mod decision;
 mod distinct;
 mod document;
 mod fault;
+mod further;
 mod json;
 mod keeping;
 mod limits;
@@ -22,6 +23,7 @@ mod types;
 
 pub use decision::Decision;
 pub use fault::PlanFault;
+pub use further::uses_hash;
 pub use places::Places;
 pub use plan::Plan;
 pub use table::{ColumnDef, Table};

@@ -3,7 +3,7 @@
 ghost use Rattle.std.specs.Prelude.{◌≡◌};
 ghost use Rattle.std.specs.List.{list_all};
 ghost use Rattle.filter_rule.specs.Faults.{GivesOrFails};
-ghost use Rattle.filter_rule.specs.Limits.{is_up_to, is_table_within, is_within, within_limits};
+ghost use Rattle.filter_rule.specs.Limits.{is_up_to, is_table_within, is_within, known_vindexes, within_limits};
 
 use crate::document::{Document, TableText};
 use crate::fault::PlanFault;
@@ -44,6 +44,17 @@ fn is_within(document: &Document<'_>) -> bool
     is_up_to(MAX_STREAMS, document.streams.len())
         && is_up_to(MAX_TABLES, document.tables.len())
         && are_tables_within(&document.tables)
+}
+
+/// Refuses a document that says it uses a vindex that isn't known.
+pub(crate) fn check_vindexes(document: &Document<'_>) -> Result<(), PlanFault>
+    ensures { GivesOrFails (λ _. document.now) result (known_vindexes document.now) }
+{
+    if document.uses_no_other {
+        Ok(())
+    } else {
+        Err(PlanFault::Limit)
+    }
 }
 
 /// Refuses a document with too few or too many of something.

@@ -18,7 +18,7 @@ ghost use Rattle.serde_json.specs.View.{view};
 use crate::document::{Document, StreamText, TableText, document_of};
 use crate::fault::PlanFault;
 use crate::keeping::{Decided, closed};
-use crate::limits::within_limits;
+use crate::limits::{check_vindexes, within_limits};
 use crate::plan::{Plan, Schema};
 use crate::resolve::resolved;
 use crate::streams::decisions_of;
@@ -143,6 +143,7 @@ fn plans_of_value(alloc: Global, value: &Value) -> Result<Vec<Arc<Plan>>, PlanFa
     ensures { GivesOrFails (λ v. map arc_value v.items) result (plans_of_value (view value.now)) }
 {
     let said = document_of(alloc, value)?;
+    check_vindexes(&said)?;
     let document = within_limits(said)?;
     plans_of_document(alloc, &document)
 }

@@ -26,7 +26,7 @@ fn is_vindex_type(vindex: Vindex, type_number: u32) -> bool
     ensures { result ≡ is_vindex_type vindex type_number }
 {
     match vindex {
-        Vindex::Numeric | Vindex::ReverseBits => is_whole_number(type_number),
+        Vindex::Numeric | Vindex::ReverseBits | Vindex::Hash => is_whole_number(type_number),
         Vindex::Binary | Vindex::BinaryMd5 => {
             is_key_type(type_number) || is_long_text(type_number)
         }

@@ -2,13 +2,14 @@
 
 ghost use Rattle.std.specs.Prelude.{◌≡◌};
 ghost use Rattle.filter_text.specs.FilterText.{filter_of};
-ghost use Rattle.filter_text.specs.Views.{meaning};
+ghost use Rattle.filter_text.specs.Views.{meaning, rows_said};
 ghost use Rattle.filter_rule.specs.Faults.{GivesOrFails};
 ghost use Rattle.filter_rule.specs.Private.RuleViews.{form_seen};
-ghost use Rattle.filter_rule.specs.Rules.{or_bad, form_of};
+ghost use Rattle.filter_rule.specs.Rules.{or_bad, form_of, may_say};
 
 use crate::document::RuleText;
 use crate::fault::PlanFault;
+use crate::further::may_name;
 use filter_text::{ColumnList, Filter, FilterFault, Rows, Scope};
 use std::alloc::Global;
 
@@ -60,6 +61,16 @@ impl Place {
     }
 }
 
+/// Whether the rows are under a vindex that may be named, if they are under one that the rule names.
+fn may_say(hash: bool, rows: &Rows<'_>) -> bool
+    ensures { result ≡ may_say hash (rows_said rows.now) }
+{
+    match rows {
+        Rows::EveryRow | Rows::OwnVindex { .. } => true,
+        Rows::Named { vindex, .. } => may_name(hash, *vindex),
+    }
+}
+
 /// The form of a rule.
 #[tactic(auto, unfolding(crate::specs::Rules::form_of))]
 pub(crate) fn form_of<'v>(
@@ -75,7 +86,7 @@ pub(crate) fn form_of<'v>(
         columns,
         rows,
     } = place.filter(alloc, rule.filter)?;
-    if !scope.agrees(table) {
+    if !(scope.agrees(table) && may_say(rule.uses_hash, &rows)) {
         return Err(place.fault());
     }
     Ok(RuleForm {

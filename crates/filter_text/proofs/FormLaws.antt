@@ -10,7 +10,7 @@ use Rattle.vindex.specs.Bounds.{Bounds}
 use Rattle.vindex.specs.RangeText.{key_range_of_text}
 use Rattle.vindex.specs.KeyspaceId.{vindex_of_name, vindex_name}
 use Rattle.vindex.specs.declared.vindexes.Vindex.{Vindex}
-use Rattle.vindex.specs.declared.vindexes.Vindex.TheVariants.{Numeric, ReverseBits, Binary, BinaryMd5}
+use Rattle.vindex.specs.declared.vindexes.Vindex.TheVariants.{Numeric, ReverseBits, Binary, BinaryMd5, Hash}
 use Rattle.filter_text.specs.Lexemes.{Lexeme, word, name, quoted, mark, is_key, is_this_mark, named, text_in_quotes}
 use Rattle.filter_text.specs.Tokens.{SpellsTokens, tokens_of}
 use Rattle.filter_text.specs.FilterText.{RowsSaid, every_row, in_own_range, in_range_of, FilterMeaning, without_table, selected, begins_with_select, Place, key, a_name, in_quotes, a_mark, Fill, condition_places, list_places, column_places, selection_places, AreColumns, WritesRange, Says, says_nothing, gives_range, selects, range_in, vindex_in, rows_of_own_range, named_rows, are_between, arguments_of, opens_condition, rows_of, from_table, table_rows, opens_all, all_of, listed_rows, behind_select, selection_of, filter_of}
@@ -27,6 +27,7 @@ vindex_back Numeric = refl
 vindex_back ReverseBits = refl
 vindex_back Binary = refl
 vindex_back BinaryMd5 = refl
+vindex_back Hash = refl
 
 own_read : (r c : Lexeme) (range : List ℕ) (bounds : Bounds) → text_in_quotes r ≡ Some range → is_this_mark 41 c ≡ true → key_range_of_text range ≡ Some bounds → rows_of_own_range r c ≡ Some (in_own_range bounds)
 own_read r c range bounds q m h = rw (m, q, h) refl
@@ -225,17 +226,18 @@ own_parts r c rows h =
 same_text : (q n : List ℕ) → bytes_eq q n ≡ true → q ≡ n
 same_text q n h = (bytes_eq-Decides q n).0 h
 
-vindex_at : (x y z w : Bool) (q : List ℕ) (vindex : Vindex) → bytes_eq q (vindex_name Numeric) ≡ x → bytes_eq q (vindex_name ReverseBits) ≡ y → bytes_eq q (vindex_name Binary) ≡ z → bytes_eq q (vindex_name BinaryMd5) ≡ w
-    → cond x (Some Numeric) (cond y (Some ReverseBits) (cond z (Some Binary) (cond w (Some BinaryMd5) None))) ≡ Some vindex → q ≡ vindex_name vindex
-vindex_at true y z w q vindex e f g h is = same_text q (vindex_name Numeric) e ∙ ap vindex_name (same_Some Numeric vindex is)
-vindex_at false true z w q vindex e f g h is = same_text q (vindex_name ReverseBits) f ∙ ap vindex_name (same_Some ReverseBits vindex is)
-vindex_at false false true w q vindex e f g h is = same_text q (vindex_name Binary) g ∙ ap vindex_name (same_Some Binary vindex is)
-vindex_at false false false true q vindex e f g h is = same_text q (vindex_name BinaryMd5) h ∙ ap vindex_name (same_Some BinaryMd5 vindex is)
-vindex_at false false false false q vindex e f g h is = cc
+vindex_at : (x y z w v : Bool) (q : List ℕ) (vindex : Vindex) → bytes_eq q (vindex_name Numeric) ≡ x → bytes_eq q (vindex_name ReverseBits) ≡ y → bytes_eq q (vindex_name Binary) ≡ z → bytes_eq q (vindex_name BinaryMd5) ≡ w → bytes_eq q (vindex_name Hash) ≡ v
+    → cond x (Some Numeric) (cond y (Some ReverseBits) (cond z (Some Binary) (cond w (Some BinaryMd5) (cond v (Some Hash) None)))) ≡ Some vindex → q ≡ vindex_name vindex
+vindex_at true y z w v q vindex e f g h k is = same_text q (vindex_name Numeric) e ∙ ap vindex_name (same_Some Numeric vindex is)
+vindex_at false true z w v q vindex e f g h k is = same_text q (vindex_name ReverseBits) f ∙ ap vindex_name (same_Some ReverseBits vindex is)
+vindex_at false false true w v q vindex e f g h k is = same_text q (vindex_name Binary) g ∙ ap vindex_name (same_Some Binary vindex is)
+vindex_at false false false true v q vindex e f g h k is = same_text q (vindex_name BinaryMd5) h ∙ ap vindex_name (same_Some BinaryMd5 vindex is)
+vindex_at false false false false true q vindex e f g h k is = same_text q (vindex_name Hash) k ∙ ap vindex_name (same_Some Hash vindex is)
+vindex_at false false false false false q vindex e f g h k is = cc
 
 vindex_name_of : (q : List ℕ) (vindex : Vindex) → vindex_of_name q ≡ Some vindex → q ≡ vindex_name vindex
 vindex_name_of q vindex h =
-    vindex_at (bytes_eq q (vindex_name Numeric)) (bytes_eq q (vindex_name ReverseBits)) (bytes_eq q (vindex_name Binary)) (bytes_eq q (vindex_name BinaryMd5)) q vindex refl refl refl refl h
+    vindex_at (bytes_eq q (vindex_name Numeric)) (bytes_eq q (vindex_name ReverseBits)) (bytes_eq q (vindex_name Binary)) (bytes_eq q (vindex_name BinaryMd5)) (bytes_eq q (vindex_name Hash)) q vindex refl refl refl refl refl h
 
 vindex_found : (o : Option (List ℕ)) (vindex : Vindex) → option_and_then vindex_of_name o ≡ Some vindex → o ≡ Some (vindex_name vindex)
 vindex_found None vindex h = cc

@@ -4,7 +4,7 @@ use Rattle.std.specs.Prelude.{◌==◌, ◌≢◌, not, IsTrue}
 use Rattle.std.specs.List.{list_all}
 use Rattle.vindex.specs.KeyspaceId.{vindex_name}
 use Rattle.vindex.specs.declared.vindexes.Vindex.{Vindex}
-use Rattle.vindex.specs.declared.vindexes.Vindex.TheVariants.{Numeric, ReverseBits, Binary, BinaryMd5}
+use Rattle.vindex.specs.declared.vindexes.Vindex.TheVariants.{Numeric, ReverseBits, Binary, BinaryMd5, Hash}
 use Rattle.filter_text.specs.Lexemes.{Lexeme, word, name, quoted, mark, is_word_byte, is_mark}
 use Rattle.filter_text.specs.Tokens.{tokens_of, with_token, IsTokenText, EndsAt}
 use Rattle.filter_text.specs.FilterText.{RowsSaid, every_row, in_own_range, in_range_of, selected, Place, key, a_name, a_column, in_quotes, a_mark, Fill, condition_places, list_places, column_places, selection_places, Says, selects}
@@ -60,6 +60,7 @@ vindex_quoted Numeric = refl
 vindex_quoted ReverseBits = refl
 vindex_quoted Binary = refl
 vindex_quoted BinaryMd5 = refl
+vindex_quoted Hash = refl
 
 where_fit : (codes "where" ≡ [] → ⊥) × (codes "in_keyrange" ≡ [] → ⊥)
 where_fit = (λ e. (cc), λ e. (cc))

@@ -37,6 +37,11 @@ const FORMS: &[(&str, Option<&str>, Wanted<'static>)] = &[
         Some("t"),
         Wanted::Named("\u{e9}", Vindex::Numeric, "40-80"),
     ),
+    (
+        "select * from t where in_keyrange(id, 'hash', '80-')",
+        Some("t"),
+        Wanted::Named("id", Vindex::Hash, "80-"),
+    ),
 ];
 
 /// The range is that of a text.
@@ -180,7 +185,8 @@ const NO_FILTERS: &[&str] = &[
     "select * from t where in_keyrange('-80'",
     "select * from t where in_keyrange('-80') limit",
     "select * from t where in_keyrange('8-')",
-    "select * from t where in_keyrange(v, 'hash', '-80')",
+    "select * from t where in_keyrange(v, 'xxhash', '-80')",
+    "select * from t where in_keyrange(v, 'Hash', '-80')",
     "select * from t where in_keyrange(v, 'numeric', '-80'",
     "select * from t where in_keyrange(v, numeric, '-80')",
     "select * from t where in_keyrange('v', 'numeric', '-80')",

@@ -11,6 +11,8 @@ mod files;
 #[cfg(test)]
 mod filters;
 #[cfg(test)]
+mod further;
+#[cfg(test)]
 mod limits;
 #[cfg(test)]
 mod lists;

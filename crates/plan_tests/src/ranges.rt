@@ -77,6 +77,69 @@ fn digests_and_ids(rt: HostRuntime) {
     assert!(rt; matches!(are_ids(rt.alloc(), IDS), Ok(true)));
 }
 
+/// Numbers, and their ids under `hash`, beside what another library makes of them (python3-pycryptodome).
+const HASHES: &[(&[u8], u64)] = &[
+    (b"0", 0x8ca64de9c1b123a7),
+    (b"1", 0x166b40b44aba4bd6),
+    (b"2", 0x06e7ea22ce92708f),
+    (b"3", 0x4eb190c9a2fa169c),
+    (b"4", 0xd2fd8867d50d2dfe),
+    (b"5", 0x70bb023c810ca87a),
+    (b"9", 0x692bb9bf752b0f58),
+    (b"79", 0x1b7a3adab05cac7d),
+    (b"149", 0x2d580e4bfb37eeb7),
+    (b"219", 0xbfc9683d45b307d8),
+    (b"289", 0x21663abba71d3826),
+    (b"359", 0xc7dfc66ec0dd043d),
+    (b"429", 0x86cd8afd0b21a9c2),
+    (b"499", 0x6ea3281277d35fa5),
+    (b"32", 0x0953e2258e8e90a1),
+    (b"2049", 0xc20d7eceb5aca238),
+    (b"372452042", 0xe092674632d8e699),
+    (b"2292800934902323875", 0x270496a7fdc6e36e),
+    (b"11557", 0x79ebef5004c0fe31),
+    (b"38", 0x74746d35c277f6f4),
+    (b"216", 0xef409139ea8e0858),
+    (b"19442", 0xd10d22c403959bd0),
+    (b"28401", 0x480f821fb647174a),
+    (b"63887", 0x500c3c050b9fb4ab),
+    (b"139", 0xacbcf24381c13bcc),
+    (b"15134168630603993988", 0xd4debb37f0eac2a7),
+    (b"2445107696832735726", 0xd570058a0ccb8fb8),
+    (b"2976077553", 0x8e9aea6155c3d3b3),
+    (b"12955092895619753483", 0x5023be0c17111bbb),
+    (b"26", 0x3ec83c3ec62c49a0),
+    (b"53931", 0x7db41f5af6119e6e),
+    (b"3738229915030235859", 0xbe311ff2b196ebdb),
+    (b"37179", 0x149e5e63f8e56dcf),
+    (b"2250915737", 0x93da67f186befe08),
+    (b"6303858057050828244", 0x0cd4bfeef97d8939),
+    (b"4294967295", 0xe1eceaa84715eb8e),
+    (b"9223372036854775807", 0xf77d48aadda1f1bb),
+    (b"18446744073709551615", 0x355550b2150e2451),
+    (b"4294967296", 0xaeb5f5ede22d1a36),
+    (b"9223372036854775808", 0x95f8a5e5dd31d900),
+    // minus_zero_and_zeros
+    (b"-0", 0x8ca64de9c1b123a7),
+    (b"0000000000000000000000000000000000001", 0x166b40b44aba4bd6),
+];
+
+/// Whether each number has the id beside it under `hash`.
+fn are_hashes(rows: &[(&[u8], u64)]) -> Result<bool, VindexFault> {
+    for (number, wanted) in rows {
+        let id = Vindex::Hash.id(Column::Bytes(number))?;
+        if id.bytes() != wanted.to_be_bytes().as_slice() {
+            return Ok(false);
+        }
+    }
+    Ok(true)
+}
+
+#[test]
+fn ids_under_hash(rt: HostRuntime) {
+    assert!(rt; matches!(are_hashes(HASHES), Ok(true)));
+}
+
 /// Values under a vindex, and whether the lower half of all ids has their ids.
 const HELD: &[(Vindex, Column<'static>, Result<bool, VindexFault>)] = &[
     (
@@ -91,6 +154,13 @@ const HELD: &[(Vindex, Column<'static>, Result<bool, VindexFault>)] = &[
     ),
     (Vindex::ReverseBits, Column::Bytes(b"1"), Ok(false)),
     (Vindex::BinaryMd5, Column::Bytes(b"a"), Ok(true)),
+    (Vindex::Hash, Column::Bytes(b"1"), Ok(true)),
+    (Vindex::Hash, Column::Bytes(b"4"), Ok(false)),
+    (
+        Vindex::Hash,
+        Column::Bytes(b"-1"),
+        Err(VindexFault::NotANumber),
+    ),
     (
         Vindex::Numeric,
         Column::Bytes(b"1x"),
@@ -221,7 +291,8 @@ const NAMES: &[(&str, Result<Vindex, VindexFault>)] = &[
     ("reverse_bits", Ok(Vindex::ReverseBits)),
     ("binary", Ok(Vindex::Binary)),
     ("binary_md5", Ok(Vindex::BinaryMd5)),
-    ("hash", Err(VindexFault::UnknownVindex)),
+    ("hash", Ok(Vindex::Hash)),
+    ("Hash", Err(VindexFault::UnknownVindex)),
     ("", Err(VindexFault::UnknownVindex)),
     ("Numeric", Err(VindexFault::UnknownVindex)),
     ("numeric ", Err(VindexFault::UnknownVindex)),
@@ -250,6 +321,7 @@ const WITHOUT_ID: &[(Vindex, Column<'static>, VindexFault)] = &[
     (Vindex::ReverseBits, Column::Null, VindexFault::NullValue),
     (Vindex::Binary, Column::Null, VindexFault::NullValue),
     (Vindex::BinaryMd5, Column::Null, VindexFault::NullValue),
+    (Vindex::Hash, Column::Null, VindexFault::NullValue),
 ];
 
 /// Whether no value has an id, for the fault beside it.
@@ -286,6 +358,7 @@ fn are_no_numbers(texts: &[&[u8]]) -> bool {
         if !are_without_id(&[
             (Vindex::Numeric, value, fault),
             (Vindex::ReverseBits, value, fault),
+            (Vindex::Hash, value, fault),
         ]) {
             return false;
         }

@@ -300,7 +300,7 @@ fn answer_of(plan: &Plan, row: &RowView<'_>) -> Option<u8> {
 }
 
 /// The file's only plan answers so of a row.
-fn answers(alloc: Global, text: &[u8], row: &[u8], wanted: u8) -> bool {
+pub(crate) fn answers(alloc: Global, text: &[u8], row: &[u8], wanted: u8) -> bool {
     let (Ok(plans), Ok(row)) = (Plan::read_all(alloc, text), RowView::read(row)) else {
         return false;
     };

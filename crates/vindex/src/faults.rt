@@ -20,7 +20,7 @@ pub enum VindexFault {
     /// NULL under a vindex.
     #[error("NULL has no keyspace id")]
     NullValue,
-    /// A value under `numeric` or `reverse_bits` that is no number from 0 to 2^64 - 1.
+    /// A value under `numeric`, `reverse_bits` or `hash` that is no number from 0 to 2^64 - 1.
     #[error("the value is no number from 0 to 2^64 - 1")]
     NotANumber,
     /// The allocator gave no memory.

@@ -8,7 +8,7 @@ ghost use Rattle.vindex.specs.KeyspaceId.{id_bytes};
 pub enum Id<'b> {
     /// The column's own bytes.
     Slice(&'b [u8]),
-    /// A number, high byte first.
+    /// A number, or 64 bits enciphered, high byte first.
     Eight([u8; 8]),
     /// An MD5 digest.
     Sixteen([u8; 16]),

@@ -11,6 +11,7 @@ ghost use Rattle.vindex.specs.declared.faults.VindexFault.TheVariants.{UnknownVi
 use crate::faults::VindexFault;
 use crate::ids::Id;
 use crate::numbers::number_of;
+use des::Cipher;
 use md5::{Digest, Md5};
 use row_view::Column;
 
@@ -25,11 +26,13 @@ pub enum Vindex {
     Binary,
     /// `binary_md5`: the MD5 of the value's bytes.
     BinaryMd5,
+    /// `hash`: the number's 64 bits enciphered by DES under the key of zeros, in eight bytes, high first.
+    Hash,
 }
 
 impl Vindex {
-    /// The vindex of this name: `numeric`, `reverse_bits`, `binary` or `binary_md5`. Every other
-    /// name is `UnknownVindex`. Takes no memory.
+    /// The vindex of this name: `numeric`, `reverse_bits`, `binary`, `binary_md5` or `hash`. Every
+    /// other name is `UnknownVindex`. Takes no memory.
     pub fn parse(name: &str) -> Result<Vindex, VindexFault>
         ensures value { result ≡ ok_or (vindex_of_name name.now) UnknownVindex }
         ensures named { (vindex : Vindex) → (result ≡ Ok vindex) ↔ (name.now ≡ vindex_name vindex) }
@@ -42,13 +45,15 @@ impl Vindex {
             Ok(Vindex::Binary)
         } else if name == "binary_md5" {
             Ok(Vindex::BinaryMd5)
+        } else if name == "hash" {
+            Ok(Vindex::Hash)
         } else {
             Err(VindexFault::UnknownVindex)
         }
     }
 
-    /// The keyspace id of a column's value. NULL is `NullValue`; under `numeric` and `reverse_bits` a
-    /// value that is no number from 0 to 2^64 - 1 is `NotANumber`. Takes no memory.
+    /// The keyspace id of a column's value. NULL is `NullValue`; under `numeric`, `reverse_bits` and
+    /// `hash` a value that is no number from 0 to 2^64 - 1 is `NotANumber`. Takes no memory.
     #[tactic(auto, unfolding(crate::specs::KeyspaceId::id_of))]
     pub fn id<'b>(self, column: Column<'b>) -> Result<Id<'b>, VindexFault>
         ensures value { result_map_both id_bytes (λ fault. fault) result ≡ id_of self (column_value column.entry) }
@@ -64,6 +69,10 @@ impl Vindex {
             Vindex::ReverseBits => Ok(Id::Eight(unsigned_of(bytes)?.reverse_bits().to_be_bytes())),
             Vindex::Binary => Ok(Id::Slice(bytes)),
             Vindex::BinaryMd5 => Ok(Id::Sixteen(Md5::digest(bytes))),
+            Vindex::Hash => {
+                let id = Cipher::of_null_key().enciphered(unsigned_of(bytes)?);
+                Ok(Id::Eight(id.to_be_bytes()))
+            }
         }
     }
 }
