@@ -127,9 +127,9 @@ body_canonical laws source (event ∷ earlier) position e =
     ]
 
 -- the position of a block that ends without a fault
-record EndsWell (source : SourceValue) (earlier : PastEvents) (block : Block) : Type 0 where
-  canonical : IsCanonical block.position
-  faultless : block_fault source earlier block.position ≡ None
+pub record EndsWell (source : SourceValue) (earlier : PastEvents) (block : Block) : Type 0 where
+  pub canonical : IsCanonical block.position
+  pub faultless : block_fault source earlier block.position ≡ None
 
 ends_with : (source : SourceValue) (earlier : PastEvents) (position : Position) (changes : List TableChangeValue) (block : Block) → block_at_position (Some position) changes ≡ Some block
     → IsCanonical position → block_fault source earlier position ≡ None → EndsWell source earlier block
@@ -160,7 +160,7 @@ outside source earlier block here e =
       | inr shut ↦ (shut, sym (cond-false (is_open earlier) None here shut) ∙ e)
     ]
 
-ends_well : SetLaws → (source : SourceValue) (earlier : PastEvents) (event : EventValue) (block : Block) → block_at source earlier event ≡ Some block → fault_at source earlier event ≡ None → EndsWell source earlier block
+pub ends_well : SetLaws → (source : SourceValue) (earlier : PastEvents) (event : EventValue) (block : Block) → block_at source earlier event ≡ Some block → fault_at source earlier event ≡ None → EndsWell source earlier block
 ends_well laws source earlier Commit block e f =
     elim (cases_Bool (is_open earlier)) [
       | inl opened ↦
@@ -197,7 +197,7 @@ ends_well laws source earlier (Ignored kind) block e f = absurd (no_block block 
 -- ---- all blocks
 
 -- without a fault a position lies within the earlier ones, or else contains them
-around : (source : SourceValue) (earlier : PastEvents) (position : Position) → block_fault source earlier position ≡ None → within_of position (seen source earlier) ≡ false
+pub around : (source : SourceValue) (earlier : PastEvents) (position : Position) → block_fault source earlier position ≡ None → within_of position (seen source earlier) ≡ false
     → within_of (seen source earlier) position ≡ true
 around source earlier position f beyond =
     elim (cases_Bool (within_of (seen source earlier) position)) [

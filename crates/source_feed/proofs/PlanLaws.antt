@@ -51,7 +51,7 @@ agrees plan t (Some u) fields n e =
     sym (as_long same_column (columns_of plan u) fields (not-false _ e)) ∙ ap (λ k. length (columns_of plan k)) same
 
 -- the last FIELD of a planned table has as many columns as the plan
-field_agrees : (plan : PlanValue) (past : PastEvents) (table : List ℕ) (t : ℕ) (fields : List FieldValue) → list_any (differs plan) past ≡ false → table_of_name plan table ≡ Some t
+pub field_agrees : (plan : PlanValue) (past : PastEvents) (table : List ℕ) (t : ℕ) (fields : List FieldValue) → list_any (differs plan) past ≡ false → table_of_name plan table ≡ Some t
     → last_field (source_of plan) past table ≡ Some fields → length fields ≡ length (columns_of plan t)
 field_agrees plan [] table t fields d n e = cc
 field_agrees plan (Field name columns ∷ earlier) table t fields d n e =
