@@ -7,6 +7,7 @@ pub mod EventByEventLaws
 pub mod Messages
 pub mod GrammarLaws
 pub mod FirstFaultLaws
+pub mod MemoryLaws
 pub mod OrderLaws
 pub mod DefinedLaws
 pub mod KeptLaws

@@ -21,6 +21,8 @@ use Rattle.source_feed.specs.SourceValue.{SourceValue}
 use Rattle.source_feed.specs.EventList.{end_of_message, events_then, events_in_messages}
 use Rattle.source_feed.specs.PastEvents.{PastEvents}
 use Rattle.source_feed.specs.Groups.{fault_at}
+use Rattle.source_feed.specs.TakesMemory.{WantsFrom}
+use Rattle.source_feed.proofs.MemoryLaws.{wants_front, wants_behind}
 use Rattle.source_feed.specs.Private.EventByEvent.{past_behind}
 use Rattle.source_feed.proofs.EventByEventLaws.{past_behind-events_then}
 
@@ -166,3 +168,25 @@ or_behind false message behind = refl
 pub seen_more : (before after message behind old all : Bool) → (before || old) ≡ all → old ≡ (message || behind) → after ≡ (before || message) → (after || behind) ≡ all
 seen_more before after message behind old all whole split seen =
     ap (λ b. b || behind) seen ∙ or_behind before message behind ∙ ap (λ b. before || b) (sym split) ∙ whole
+
+-- where memory may be wanted behind a message, it may be wanted from the message on
+pub wants_next : (source : SourceValue) (history next : PastEvents) (message : List ℕ) (old new : Reading (List ℕ) FrameFault) → old.items ≡ message ∷ new.items → old.fault ≡ new.fault
+    → past_behind source history (response_of message).items (end_of_message (response_of message).fault) ≡ Ok next
+    → WantsFrom source next (events_in_messages new.items new.fault).items → WantsFrom source history (events_in_messages old.items old.fault).items
+wants_next source history next message old new i f ok w =
+    rw (split_message message old new i f) (behind (response_of message).items (response_of message).fault (events_in_messages new.items new.fault) ok w)
+  where
+    behind : (items : List EventValue) (fault : Option EventFault) (others : Reading EventValue FeedFault) → past_behind source history items (end_of_message fault) ≡ Ok next
+        → WantsFrom source next others.items → WantsFrom source history (events_then items fault others).items
+    behind items None others e w = wants_behind source history items others.items None next e w
+    behind items (Some fault) others e w = absurd (ended_badly source next items _ history e)
+
+-- and where it may be wanted in a message, too
+pub wants_here : (source : SourceValue) (history : PastEvents) (message : List ℕ) (old new : Reading (List ℕ) FrameFault) → old.items ≡ message ∷ new.items → old.fault ≡ new.fault
+    → WantsFrom source history (response_of message).items → WantsFrom source history (events_in_messages old.items old.fault).items
+wants_here source history message old new i f w =
+    rw (split_message message old new i f) (behind (response_of message).items (response_of message).fault (events_in_messages new.items new.fault) w)
+  where
+    behind : (items : List EventValue) (fault : Option EventFault) (others : Reading EventValue FeedFault) → WantsFrom source history items → WantsFrom source history (events_then items fault others).items
+    behind items None others w = wants_front source history items others.items w
+    behind items (Some fault) others w = w

@@ -1,5 +1,5 @@
 -- What is true of a feed under a plan: where no FIELD differs, each change is one under the plan.
-use Rattle.std.proofs.Common.{◌≡◌, ℕ, zero, suc, ◌+◌, ◌<◌, ◌||◌, List, [], ◌∷◌, length, reverse, map, Option, None, Some, Ok, Bool, true, false, cond, ◌^◌, slice_get, refl, sym, ◌∙◌, ap, subst, arith, inl, inr}
+use Rattle.std.proofs.Common.{◌≡◌, ℕ, zero, suc, ◌+◌, ◌<◌, ◌||◌, List, [], ◌∷◌, length, reverse, map, Option, None, Some, Ok, Bool, true, false, cond, ◌^◌, slice_get, IsOk, refl, sym, ◌∙◌, ap, subst, arith, inl, inr}
 use Rattle.std.proofs.lemmas.Bool.{cases_Bool, cond-true, cond-false, and_parts, not-false, or_parts}
 use Rattle.std.proofs.lemmas.List.Quantifiers.{position-Some}
 use Rattle.std.proofs.lemmas.List.Folds.{list_any-append}
@@ -22,7 +22,7 @@ use Rattle.source_feed.specs.EventList.{events_of_feed}
 use Rattle.source_feed.specs.PastEvents.{PastEvents, is_open, last_field, body_position, body_changes, change_in, changes_in, position_of}
 use Rattle.source_feed.specs.Groups.{Block, block_at, block_at_position, seen, group_of_block, groups_of, row_fault, fault_at, first_fault, groups}
 use Rattle.source_feed.specs.GroupOrder.{AreInOrder}
-use Rattle.source_feed.specs.Planned.{source_of, same_column, differs_at, differs, differs_from, PlannedChangeValue, PlannedGroupValue, planned_change, planned_group, IsChangeUnder, IsFeed}
+use Rattle.source_feed.specs.Planned.{source_of, groups_under, same_column, differs_at, differs, differs_from, PlannedChangeValue, PlannedGroupValue, planned_change, planned_group, IsChangeUnder, IsFeed}
 use Rattle.gtid_set.specs.Position.{within_of}
 use Rattle.source_feed.proofs.Options.{option_or-nothing}
 use Rattle.source_feed.proofs.OrderLaws.{InOrder}
@@ -259,3 +259,8 @@ pub opened_feed : (plan given : PlanValue) (feed : List ℕ) (all : List GroupVa
     → IsFeed (record { plan = given; groups = under })
 opened_feed plan given feed all under checked before after w p u o few e c f d =
     rw (p, u) (is_feed plan feed all w o few e (none_differs plan checked before after (events_of_feed feed).items c f d))
+
+-- the groups under a plan are defined where a feed's are and no event that was checked differs
+pub defined_under : (plan : PlanValue) (feed : List ℕ) (all : List GroupValue) (given : Option PlanValue) (before after : Bool) → groups feed (source_of plan) ≡ Ok all → given ≡ Some plan → after ≡ false
+    → after ≡ (before || list_any (differs_from given) (events_of_feed feed).items) → IsOk (groups_under feed plan)
+defined_under plan feed all given before after whole g f e = rw (whole, none_differs plan given before after (events_of_feed feed).items g f e) refl

@@ -1,13 +1,14 @@
 //! A feed under a plan.
 
-ghost use Rattle.std.specs.Prelude.{◌≡◌, ◌↔◌, ◌^◌, ◌≤◌, [], length, IsTrue, IsOk, IfOk, IfErr, IfSome, Err, slice_get};
+ghost use Rattle.std.specs.Prelude.{◌≡◌, ◌↔◌, ◌⊎◌, ◌^◌, ◌≤◌, [], length, IsTrue, IsOk, IfOk, IfErr, IfSome, Err, slice_get};
 ghost use Rattle.std.specs.Result.{result_err};
 ghost use Rattle.std.specs.Option.{option_copied, option_map};
 ghost use Rattle.std.specs.Arc.{arc_value};
 ghost use Rattle.outcome.specs.Outcome.{GivesUnless};
 ghost use Rattle.source_feed.specs.FaultNumber.{meant_of};
 ghost use Rattle.source_feed.specs.FirstFault.{StandsUnder};
-ghost use Rattle.source_feed.specs.Planned.{PlannedGroupValue, groups_under, IsFeed};
+ghost use Rattle.source_feed.specs.Planned.{PlannedGroupValue, source_of, groups_under, IsFeed};
+ghost use Rattle.source_feed.specs.TakesMemory.{WantsMemory};
 ghost use Rattle.source_feed.specs.Prepared.{IsPrepared};
 ghost use Rattle.source_feed.specs.Touches.{group_at, prepared_at};
 
@@ -58,6 +59,8 @@ impl<'h> Feed<'h> {
         // What a refusal says stands in the feed: nothing is at fault before it, or a FIELD differs and nothing
         // else is at fault.
         ensures first { IfErr result (λ fault. IfSome (meant_of fault) (StandsUnder feed.now (arc_value plan.now))) }
+        // Memory is wanted as `read_groups` wants it, or where the groups are defined under the plan.
+        ensures memory { result ≡ Err FeedFault.Memory → WantsMemory feed.now (source_of (arc_value plan.now)) ⊎ IsOk (groups_under feed.now (arc_value plan.now)) }
         // Its groups are in order, and each change is of a table of the plan, with rows of its width.
         ensures whole { IfOk result IsFeed }
     {

@@ -1,6 +1,7 @@
 //! The groups of the events of a feed, event after event.
 
-ghost use Rattle.std.specs.Prelude.{◌≡◌, List, Option, ◌+◌, ◌^◌, ◌<◌, ◌≤◌, [], Some, None, Ok, OnOk, IfOk, length, option_copied};
+ghost use Rattle.std.specs.Prelude.{◌≡◌, List, Option, ◌+◌, ◌^◌, ◌<◌, ◌≤◌, [], ◌∷◌, true, Some, None, Ok, Err, OnOk, IfOk, IfErr, length, option_copied};
+ghost use Rattle.std.specs.List.{list_any};
 ghost use Rattle.vevent.specs.EventValue as value;
 ghost use Rattle.vevent.specs.EventValue.{ShardGtidValue};
 ghost use Rattle.source_feed.specs.SourceValue.{SourceValue, own_gtid};
@@ -8,6 +9,7 @@ ghost use Rattle.source_feed.specs.Private.BlockEnd.{last_position, block_end};
 ghost use Rattle.outcome.specs.Outcome.{GivesUnless};
 ghost use Rattle.source_feed.specs.FaultNumber.{meant_of};
 ghost use Rattle.source_feed.specs.PastEvents.{PastEvents};
+ghost use Rattle.source_feed.specs.TakesMemory.{takes_memory};
 ghost use Rattle.source_feed.specs.Private.EventByEvent.{groups_at_end};
 ghost use Rattle.source_feed.specs.Private.FeedTables.{counted};
 
@@ -135,6 +137,7 @@ impl<'h> GroupReader<'h> {
         ensures meaning { (earlier : PastEvents) → IsBehind source.now earlier self.old → TakesEvent source.now earlier (event_value event.entry) result self.new }
         ensures grows { OnOk result (count_of self.new ≤ count_of self.old + 1) }
         ensures numbers { OnOk result (AreNumbered (option_copied field_check.now.plan) self.old.tables → AreNumbered (option_copied field_check.now.plan) self.new.tables) }
+        ensures memory { (earlier : PastEvents) → IsBehind source.now earlier self.old → result ≡ Err FeedFault.Memory → list_any takes_memory (event_value event.entry ∷ earlier) ≡ true }
     {
         match event {
             Event::Begin => self.begin(alloc),
@@ -159,6 +162,7 @@ impl<'h> GroupReader<'h> {
         ensures groups { (source : SourceValue) (history : PastEvents) → IsBehind source history self.entry → GivesUnless meant_of all_named result (groups_at_end source (Ok history)) }
         ensures tables { (source : SourceValue) (history : PastEvents) → IsBehind source history self.entry → IfOk result (λ all. AreOfTables (names_in all.tables) all.groups.items) }
         ensures held { IfOk result (λ all. (all.groups.items ≡ self.entry.groups.items) × (all.tables ≡ self.entry.tables)) }
+        ensures refused { IfErr result (λ fault. fault ≡ FeedFault.OpenAtEnd) }
     {
         let GroupReader {
             transaction,
@@ -177,6 +181,7 @@ impl<'h> GroupReader<'h> {
         ensures meaning { (source : SourceValue) (earlier : PastEvents) → IsBehind source earlier self.old → TakesEvent source earlier value.Begin result self.new }
         ensures same { self.new.groups.items ≡ self.old.groups.items }
         ensures tables { self.new.tables ≡ self.old.tables }
+        ensures refused { IfErr result (λ fault. fault ≡ FeedFault.Misplaced) }
     {
         if self.transaction.is_some() {
             return Err(FeedFault::Misplaced);
@@ -196,6 +201,7 @@ impl<'h> GroupReader<'h> {
         ensures meaning { (source : SourceValue) (earlier : PastEvents) → IsBehind source earlier self.old → TakesEvent source earlier value.Commit result self.new }
         ensures grows { OnOk result (count_of self.new ≤ count_of self.old + 1) }
         ensures tables { self.new.tables ≡ self.old.tables }
+        ensures memory { (source : SourceValue) (earlier : PastEvents) → IsBehind source earlier self.old → result ≡ Err FeedFault.Memory → list_any takes_memory earlier ≡ true }
     {
         let Some(
             Transaction {
@@ -221,6 +227,7 @@ impl<'h> GroupReader<'h> {
         ensures meaning { (earlier : PastEvents) → IsBehind source.now earlier self.old → TakesEvent source.now earlier (value.Row row.now.table_name row.now.changes) result self.new }
         ensures same { self.new.groups.items ≡ self.old.groups.items }
         ensures tables { self.new.tables ≡ self.old.tables }
+        ensures memory { (earlier : PastEvents) → IsBehind source.now earlier self.old → result ≡ Err FeedFault.Memory → list_any takes_memory earlier ≡ true }
     {
         let Some(transaction) = &mut self.transaction else {
             return Err(FeedFault::Misplaced);

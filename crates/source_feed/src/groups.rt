@@ -1,6 +1,6 @@
 //! The groups of a feed.
 
-ghost use Rattle.std.specs.Prelude.{◌≡◌, ◌||◌, ◌+◌, ◌^◌, ◌<◌, ◌≤◌, [], length, option_copied, OnOk, IfOk, IfErr, IfSome};
+ghost use Rattle.std.specs.Prelude.{◌≡◌, ◌||◌, ◌+◌, ◌^◌, ◌<◌, ◌≤◌, [], length, option_copied, Err, OnOk, IfOk, IfErr, IfSome};
 ghost use Rattle.std.specs.List.{list_any};
 ghost use Rattle.vevent.specs.Response.{response_of};
 ghost use Rattle.outcome.specs.Outcome.{GivesUnless, Refuses};
@@ -12,6 +12,7 @@ ghost use Rattle.source_feed.specs.GroupValue.{GroupValue};
 ghost use Rattle.source_feed.specs.GroupOrder.{AreInOrder};
 ghost use Rattle.source_feed.specs.Groups.{groups};
 ghost use Rattle.source_feed.specs.FirstFault.{StandsIn};
+ghost use Rattle.source_feed.specs.TakesMemory.{WantsFrom, WantsMemory};
 ghost use Rattle.source_feed.specs.Private.EventByEvent.{past_behind};
 ghost use Rattle.source_feed.specs.Planned.{differs_from};
 ghost use Rattle.source_feed.specs.Private.FeedTables.{AreNumbered, names_in};
@@ -48,6 +49,7 @@ fn put_message<'h>(
     ensures numbers { OnOk result (AreNumbered (option_copied field_check.old.plan) reader.old.tables → AreNumbered (option_copied field_check.old.plan) reader.new.tables) }
     ensures plan { option_copied field_check.new.plan ≡ option_copied field_check.old.plan }
     ensures seen { OnOk result (field_check.new.differs ≡ (field_check.old.differs || list_any (differs_from (option_copied field_check.old.plan)) (response_of message.now).items)) }
+    ensures memory { (earlier : PastEvents) → IsBehind source.now earlier reader.old → result ≡ Err FeedFault.Memory → WantsFrom source.now earlier (response_of message.now).items }
 {
     let mut events = Response::new(message);
     while let Some(event) = events.next_event()? {
@@ -70,6 +72,7 @@ fn put_feed<'h>(
     ensures numbers { IfOk result (λ reader. AreNumbered (option_copied field_check.old.plan) reader.tables) }
     ensures err { IfErr result (λ fault. Refuses meant_of fault (past_behind source.now [] (events_of_feed feed.now).items (events_of_feed feed.now).fault)) }
     ensures seen { OnOk result (field_check.new.differs ≡ (field_check.old.differs || list_any (differs_from (option_copied field_check.old.plan)) (events_of_feed feed.now).items)) }
+    ensures memory { result ≡ Err FeedFault.Memory → WantsMemory feed.now source.now }
 {
     let mut reader = GroupReader::new(alloc);
     let mut frames = Frames::new(feed);
@@ -94,6 +97,7 @@ pub(crate) fn read<'h>(
     ensures numbers { IfOk result (λ all. AreNumbered (option_copied field_check.old.plan) all.tables) }
     ensures seen { OnOk result (field_check.new.differs ≡ (field_check.old.differs || list_any (differs_from (option_copied field_check.old.plan)) (events_of_feed feed.now).items)) }
     ensures too_long { 2 ^ 31 ≤ length feed.now → result ≡ Err FeedTooLong }
+    ensures memory { result ≡ Err FeedFault.Memory → WantsMemory feed.now source.now }
 {
     if feed.len() > FEED_BYTES {
         return Err(FeedFault::FeedTooLong);
@@ -129,6 +133,8 @@ pub fn read_groups<'h>(
     ensures too_long { 2 ^ 31 ≤ length feed.now → result ≡ Err FeedTooLong }
     // What a refusal says stands in the feed, and nothing is at fault before it.
     ensures first { IfErr result (λ fault. IfSome (meant_of fault) (StandsIn feed.now (record { keyspace = keyspace.now; shard = shard.now }))) }
+    // Memory is wanted only where an event that takes memory is read, and nothing before it is at fault.
+    ensures memory { result ≡ Err FeedFault.Memory → WantsMemory feed.now (record { keyspace = keyspace.now; shard = shard.now }) }
 {
     let source = Source { keyspace, shard };
     let kept = read(alloc, feed, &source, &mut FieldCheck::new(None))?;

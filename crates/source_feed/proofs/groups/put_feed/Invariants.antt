@@ -7,6 +7,7 @@ use Rattle.source_feed.specs.Private.EventByEvent.{past_behind}
 use Rattle.source_feed.specs.Private.FeedTables.{AreNumbered}
 use Rattle.source_feed.specs.Private.ReaderState.{IsBehind, count_of}
 use Rattle.source_feed.specs.Planned.{differs_from}
+use Rattle.source_feed.specs.TakesMemory.{WantsFrom}
 use Rattle.source_feed.proofs.groups.put_feed.Given as goal
 
 -- the messages so far are taken and seen, and those to come are what is left of the feed
@@ -14,7 +15,8 @@ abbrev pub invariant-loop-reader : goal.invariant-loop-reader
 invariant-loop-reader l = record {
   meaning : (history : PastEvents)
       × (past_behind l.source [] (events_of_feed l.feed).items (events_of_feed l.feed).fault ≡ past_behind l.source history (events_in_messages l.frames.items l.frames.fault).items (events_in_messages l.frames.items l.frames.fault).fault)
-      × IsBehind l.source history l.reader;
+      × IsBehind l.source history l.reader
+      × (WantsFrom l.source history (events_in_messages l.frames.items l.frames.fault).items → WantsFrom l.source [] (events_of_feed l.feed).items);
   room : count_of l.reader + length (events_in_messages l.frames.items l.frames.fault).items ≤ length l.feed;
   numbers : AreNumbered (option_copied l.fn.field_check.plan) l.reader.tables;
   plan : option_copied l.field_check.plan ≡ option_copied l.fn.field_check.plan;

@@ -7,6 +7,7 @@ use Rattle.source_feed.specs.Private.EventByEvent.{past_behind, groups_at_end}
 use Rattle.source_feed.proofs.EventByEventLaws.{groups-run, gives_along}
 use Rattle.source_feed.proofs.Messages.{refuses_along}
 use Rattle.source_feed.proofs.DefinedLaws.{in_order}
+use Rattle.source_feed.proofs.MemoryLaws.{not_memory_at_end}
 use Rattle.outcome.specs.Outcome.{GivesUnless}
 use Rattle.source_feed.specs.declared.fault.FeedFault.{FeedFault}
 use Rattle.source_feed.specs.FaultNumber.{meant_of}
@@ -40,3 +41,6 @@ returns-clause-order c =
     let all = c.in_ok-reader.ensures.ok in
     in_order c.set_laws.ensures all_named c.args.feed.now c.args.source.now c.end.result
     (given c.args.feed.now c.args.source.now (omega arith) all_named c.end.result all.0 all.1 (c.end.ensures.groups c.args.source.now all.0 all.2))
+
+pub returns-clause-memory : goal.returns-clause-memory
+returns-clause-memory c = λ is. absurd (not_memory_at_end c.end.result c.end.ensures.refused is)

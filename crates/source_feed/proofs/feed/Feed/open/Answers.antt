@@ -1,4 +1,4 @@
-use Rattle.std.proofs.Common.{◌≡◌, rules, map, Some, Ok, ◌∙◌}
+use Rattle.std.proofs.Common.{◌≡◌, rules, map, Some, Ok, ◌∙◌, inr}
 use Rattle.std.specs.Prelude.{option_copied}
 use Rattle.std.specs.Arc.{arc_value}
 use Rattle.filter_rule.specs.PlanValue.{PlanValue}
@@ -12,7 +12,7 @@ use Rattle.outcome.specs.Outcome.{Refuses}
 use Rattle.source_feed.specs.FaultNumber.{meant_of}
 use Rattle.source_feed.proofs.FirstFaultLaws.{refusal_under, seen_different}
 use Rattle.source_feed.proofs.NumberedLaws.{kept_under}
-use Rattle.source_feed.proofs.PlanLaws.{opened_feed}
+use Rattle.source_feed.proofs.PlanLaws.{opened_feed, defined_under}
 use Rattle.source_feed.proofs.feed.Feed.open.Goals as goal
 
 pub invariant_of-result : goal.invariant_of-result
@@ -64,3 +64,17 @@ returns-then-field_check-clause-first c =
     let checked : option_copied c.new-field_check.result.plan ≡ Some plan = search rules in
     seen_different c.args.feed.now plan (all_named c.in_ok-kept.kept) (option_copied c.new-field_check.result.plan) c.new-field_check.result.differs c.read.new.field_check.differs
     whole checked c.new-field_check.ensures.none c.if-field_check.true c.in_ok-kept.ensures.seen
+
+pub returns-in_err-groups-clause-memory : goal.returns-in_err-groups-clause-memory
+returns-in_err-groups-clause-memory c =
+    let plan : PlanValue = arc_value c.args.plan.now in
+    let whole : groups c.args.feed.now (source_of plan) ≡ Ok (all_named c.in_ok-kept.kept) = search rules in
+    let checked : option_copied c.new-field_check.result.plan ≡ Some plan = search rules in
+    λ is. inr (defined_under plan c.args.feed.now (all_named c.in_ok-kept.kept) (option_copied c.new-field_check.result.plan) c.new-field_check.result.differs c.read.new.field_check.differs whole checked c.if-field_check.false c.in_ok-kept.ensures.seen)
+
+pub returns-in_err-clone-clause-memory : goal.returns-in_err-clone-clause-memory
+returns-in_err-clone-clause-memory c =
+    let plan : PlanValue = arc_value c.args.plan.now in
+    let whole : groups c.args.feed.now (source_of plan) ≡ Ok (all_named c.in_ok-kept.kept) = search rules in
+    let checked : option_copied c.new-field_check.result.plan ≡ Some plan = search rules in
+    λ is. inr (defined_under plan c.args.feed.now (all_named c.in_ok-kept.kept) (option_copied c.new-field_check.result.plan) c.new-field_check.result.differs c.read.new.field_check.differs whole checked c.if-field_check.false c.in_ok-kept.ensures.seen)

@@ -1,4 +1,5 @@
 use Rattle.std.proofs.Common.{refl}
+use Rattle.source_feed.proofs.MemoryLaws.{not_memory}
 use Rattle.source_feed.proofs.ReaderSteps.{rollback-puts, ignored-puts}
 use Rattle.source_feed.proofs.group_reader.GroupReader.put.Goals as goal
 
@@ -8,3 +9,18 @@ returns-in-Rollback-clause-meaning c = λ earlier m.
 
 pub returns-in-Ignored-clause-meaning : goal.returns-in-Ignored-clause-meaning
 returns-in-Ignored-clause-meaning c = λ earlier m. rw c.in-Ignored.is (refl, ignored-puts c.args.source.now earlier _ c.args.self.now m)
+
+pub returns-in-Begin-clause-memory : goal.returns-in-Begin-clause-memory
+returns-in-Begin-clause-memory c = λ earlier m is. absurd (not_memory c.begin.result c.begin.ensures.refused is)
+
+pub returns-in-Commit-clause-memory : goal.returns-in-Commit-clause-memory
+returns-in-Commit-clause-memory c = λ earlier m is. rw c.in-Commit.is (c.commit.ensures.memory c.args.source.now earlier m is)
+
+pub returns-in-Row-clause-memory : goal.returns-in-Row-clause-memory
+returns-in-Row-clause-memory c = λ earlier m is. rw c.in-Row.is (c.put_row.ensures.memory earlier m is)
+
+pub returns-in-Field-clause-memory : goal.returns-in-Field-clause-memory
+returns-in-Field-clause-memory c = λ earlier m is. rw c.in-Field.is refl
+
+pub returns-in-Gtid-clause-memory : goal.returns-in-Gtid-clause-memory
+returns-in-Gtid-clause-memory c = λ earlier m is. rw c.in-Gtid.is refl

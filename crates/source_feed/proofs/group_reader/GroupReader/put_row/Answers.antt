@@ -4,6 +4,7 @@ use Rattle.source_feed.specs.SourceValue.{table_in_source}
 use Rattle.source_feed.specs.Private.FeedTables.{width_in}
 use Rattle.source_feed.specs.Private.ReaderState.{body_held}
 use Rattle.source_feed.proofs.ReaderSteps.{row-outside, row-unknown, row-puts, empty_from}
+use Rattle.source_feed.proofs.MemoryLaws.{field_taken}
 use Rattle.source_feed.proofs.group_reader.GroupReader.put_row.Goals as goal
 
 pub returns-in_default-clause-meaning : goal.returns-in_default-clause-meaning
@@ -26,3 +27,6 @@ returns-clause-meaning c = λ earlier m.
     (λ later. c.in-Some-find.ensures.place later ∙ table)
     (ap (width_in c.args.self.now.tables) (sym table) ∙ sym c.in-Some-find.ensures.columns)
     c.put_row.ensures.fits c.put_row.ensures.position c.put_row.ensures.changes c.put_row.ensures.err
+
+pub returns-clause-memory : goal.returns-clause-memory
+returns-clause-memory c = λ earlier m is. field_taken c.args.source.now earlier c.table.result.now c.in-Some-find.width (sym (m.widths c.table.result.now) ∙ sym c.in-Some-find.ensures.columns)
