@@ -4,6 +4,7 @@ use Rattle.std.specs.Option.{option_or}
 use Rattle.std.specs.Result.{result_ok}
 use Rattle.serde_json.specs.Data.{Data}
 use Rattle.filter_rule.specs.Reading.{json_of}
+use Rattle.workflow_check.specs.Further.{file_unsaid, file_further}
 use Rattle.workflow_check.specs.Json.{items_at}
 use Rattle.workflow_check.specs.Shape.{told_from, shape_told}
 use Rattle.workflow_check.specs.Told.{ToldValue, told_here, told_within}
@@ -44,9 +45,9 @@ file_counted d = option_or (streams_counted d) (option_or (tables_counted d) (ea
 
 -- ---- the whole
 
--- where a file is at fault: first by its shape
+-- where a file is at fault: first by its shape, then by its vindexes
 abbrev pub fault_told : Data → Option ToldValue
-fault_told d = option_or (shape_told d) (file_counted d)
+fault_told d = option_or (shape_told d) (option_or (file_unsaid d) (option_or (file_further d) (file_counted d)))
 
 -- the path, and what is wrong there
 abbrev pub told_text : ToldValue → List ℕ

@@ -13,7 +13,7 @@ use Rattle.workflow_check.specs.declared.note.Flaw.TheVariants.{Ignored}
 
 -- the members that are read
 abbrev pub has_meaning : Object → List ℕ → Bool
-has_meaning File key = bytes_eq key (codes "keyspace") || bytes_eq key (codes "tables") || bytes_eq key (codes "streams")
+has_meaning File key = bytes_eq key (codes "keyspace") || bytes_eq key (codes "tables") || bytes_eq key (codes "streams") || bytes_eq key (codes "vindexes")
 has_meaning Table key = bytes_eq key (codes "name") || bytes_eq key (codes "columns") || bytes_eq key (codes "key") || bytes_eq key (codes "vindex")
 has_meaning Stream key = bytes_eq key (codes "shard") || bytes_eq key (codes "filter")
 has_meaning Filter key = bytes_eq key (codes "rules")

@@ -6,6 +6,7 @@ pub mod Passing
 pub mod Ranges
 pub mod Told
 pub mod Shape
+pub mod Further
 pub mod Counts
 pub mod File
 pub mod Passed

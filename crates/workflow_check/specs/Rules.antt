@@ -1,5 +1,5 @@
 -- The rules of a workflow's streams and the tables that they are for, as the file says them.
-use Rattle.std.specs.Prelude.{ℕ, ◌+◌, List, [], ◌∷◌, ◌++◌, Bool, map, find, codes, Option, None, Some, option_and_then, option_map, if◌then◌else◌}
+use Rattle.std.specs.Prelude.{ℕ, ◌+◌, List, [], ◌∷◌, ◌++◌, Bool, true, map, find, codes, Option, None, Some, option_and_then, option_map, if◌then◌else◌}
 use Rattle.std.specs.Option.{option_map_or}
 use Rattle.std.specs.List.{list_any}
 use Rattle.serde_json.specs.Data.{Data}
@@ -15,9 +15,9 @@ use Rattle.workflow_check.specs.declared.note.Flaw.TheVariants.{Unmatched}
 
 -- ---- what the file says
 
--- a rule: its `match`, and its `filter`, empty where there is none
+-- a rule: its `match`, and its `filter`, empty where there is none; that its vindex may be named isn't asked
 abbrev pub rule_in : Data → RuleSaid
-rule_in d = record { matches = text_at (codes "match") d; filter = text_at (codes "filter") d }
+rule_in d = record { matches = text_at (codes "match") d; filter = text_at (codes "filter") d; uses_hash = true }
 
 abbrev pub rules_in_filter : Data → List Data
 rules_in_filter filter = items_at (codes "rules") filter

@@ -8,6 +8,7 @@ ghost use Rattle.workflow_check.specs.Counts.{fault_told, told_text, fault_text}
 ghost use Rattle.workflow_check.specs.File.{value_in, notes_in, notes_of, note_lines, rules_text};
 
 use crate::counts::file_counted;
+use crate::further::{file_further, file_unsaid};
 use crate::ignored::push_ignored;
 use crate::json::items_at;
 use crate::kinds::shape_told;
@@ -86,6 +87,12 @@ fn fault_told(alloc: Global, file: &Value) -> Result<Option<Told>, AllocError>
     ensures { IfOk result (λ told. told ≡ fault_told (view file.now)) }
 {
     if let Some(told) = shape_told(alloc, file)? {
+        return Ok(Some(told));
+    }
+    if let Some(told) = file_unsaid(alloc, file)? {
+        return Ok(Some(told));
+    }
+    if let Some(told) = file_further(alloc, file)? {
         return Ok(Some(told));
     }
     file_counted(alloc, file)

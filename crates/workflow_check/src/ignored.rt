@@ -31,7 +31,9 @@ fn is_read(object: Object, key: &str) -> bool
     ensures { result ≡ has_meaning object key.now }
 {
     match object {
-        Object::File => key == "keyspace" || key == "tables" || key == "streams",
+        Object::File => {
+            key == "keyspace" || key == "tables" || key == "streams" || key == "vindexes"
+        }
         Object::Table => key == "name" || key == "columns" || key == "key" || key == "vindex",
         Object::Stream => key == "shard" || key == "filter",
         Object::Filter => key == "rules",

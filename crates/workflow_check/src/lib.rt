@@ -4,6 +4,7 @@
 
 mod counts;
 mod file;
+mod further;
 mod ignored;
 mod json;
 mod kinds;

@@ -119,6 +119,7 @@ pub(crate) fn vindex_name(vindex: Vindex) -> &'static str
         Vindex::ReverseBits => "reverse_bits",
         Vindex::Binary => "binary",
         Vindex::BinaryMd5 => "binary_md5",
+        Vindex::Hash => "hash",
     }
 }
 

@@ -22,11 +22,12 @@ pub(crate) struct Rule<'v> {
 }
 
 impl<'v> Model for Rule<'v> {
+    ghost use Rattle.std.specs.Prelude.{true};
     ghost use Rattle.filter_rule.specs.Document.{RuleSaid};
 
     ghost Value = { RuleSaid };
 
-    ghost view = { λ r. record { matches = r.matches.now; filter = r.filter.now } };
+    ghost view = { λ r. record { matches = r.matches.now; filter = r.filter.now; uses_hash = true } };
 }
 
 impl<'v> Rule<'v> {
