@@ -8,8 +8,8 @@ byte changed, through `show` and `step`; four checkpoints likewise, through `res
 to be one of the feed's; positions, rows, hexadecimal text, scripts, filters and workflows on both sides of a limit;
 restarts after each step of a script, by `restart` and by `save` and `resume`; dumps and checkpoints into pipes whose
 reader is gone, into a full device and into files of limited size; all cases with reads and writes that are interrupted
-and take one byte (tests/short_calls.c), and signals while the program waits; feeds that can't be read; and names that speak
-to a terminal. The last line is 'N passed, M failed': one a check.
+and take one byte (tests/short_calls.c), and signals while the program waits; feeds that can't be read; names that speak to a
+terminal; and files that would cost the square of their size. The last line is 'N passed, M failed': one a check.
 """
 import json
 import os
@@ -329,6 +329,67 @@ def speaking_names(room):
     yield b" column u?" not in err and f"the place {err}"
 
 
+# Names that have one hash under a hash of words that are multiplied and folded: behind this any eight bytes.
+ONE_HASH = b"tbl00000000055433hf7DMe!"
+COLUMN = [(b"id", 265)]
+
+
+def names_of_one_hash(count):
+    return [ONE_HASH + b"%08d" % i for i in range(count)]
+
+
+def flow_of(columns, text=""):
+    """A workflow of one table with these columns, whose stream has this filter."""
+    flow = json.loads(making.workflow("-80", match="t" if text else "/.*", text=text))
+    flow["tables"][0]["columns"] = [[it, "INT64"] for it in columns]
+    return json.dumps(flow).encode()
+
+
+def feed_of_unknown(names, changes):
+    """A group with a row of each of so many tables that no workflow has, and so many rows more of the last."""
+    tables = [b"u%07d" % i for i in range(names)]
+    events = [it for table in tables for it in (making.field_event(table, COLUMN), making.row_event(table, [(None, (b"1",))]))]
+    more = making.row_event(tables[-1], [(None, (b"2",))] * 1000)
+    return making.frame(making.event(2), *events, *[more] * (changes // 1000), making.gtid(b"MySQL56/" + making.U + b":1"), making.event(3))
+
+
+def costs():
+    """Files that cost much where something is read anew for each of its like: the words, the files, and the beginning of
+    what is refused, or nothing."""
+    many = [b"c%d" % i for i in range(60000)]
+    wide = flow_of([it.decode() for it in many])
+    alike = flow_of([it.decode() for it in names_of_one_hash(60000)])
+    listed = flow_of(["id"], "select " + ",".join(it.decode() for it in many[:40000]) + " from t")
+    fields = [making.frame(making.event(2)), *[making.frame(making.field_event(it, COLUMN)) for it in names_of_one_hash(80000)]]
+    last = making.frame(making.gtid(b"MySQL56/" + making.U + b":1"), making.event(3))
+    yield "tables of one hash in a feed", ["show", "feed"], {"feed": b"".join(fields) + last}, b""
+    yield "tables of one hash, under a plan", ["run", "--alone", "workflow", "feed"], {"feed": b"".join(fields) + last, "workflow": making.ONE}, b""
+    yield "columns of one hash in a workflow", ["run", "workflow", "feed"], {"feed": b"", "workflow": alike}, b"refused 56"
+    yield "a workflow of many columns, looked at", ["check", "workflow", "feed"], {"feed": b"", "workflow": wide}, b"refused 56"
+    yield "a filter that lists many columns", ["run", "workflow", "feed"], {"feed": b"", "workflow": listed}, b"refused 55"
+    yield "many tables that no workflow has", ["check", "workflow", "feed"], {"feed": feed_of_unknown(20000, 200000), "workflow": making.ONE}, b""
+
+
+# What each of these takes at most in the processor's seconds, ten times over. What goes by the square of its size takes
+# more, and the answers differ by nothing that a busy machine does.
+COST, TIMES = 0.4, 10
+
+
+def hostile_costs(room):
+    for title, words, files, refused in costs():
+        before = resource.getrusage(resource.RUSAGE_CHILDREN).ru_utime
+        try:
+            status, _, error = room.run(words, files)
+        except subprocess.TimeoutExpired:
+            yield f"{title}: more than {SECONDS} s"
+            continue
+        took = resource.getrusage(resource.RUSAGE_CHILDREN).ru_utime - before
+        print(f"  {title}: {took:.2f} s")
+        yield not error.startswith(refused) and f"{title}: {status, error[:200]}"
+        yield (not refused and error) and f"{title}: {status, error[:200]}"
+        yield took > COST * TIMES and f"{title}: {took:.1f} s of the processor, {COST * TIMES:.0f} at most"
+
+
 def of_two_streams():
     """A checkpoint of two streams, of which one is within its table and the other has copied it."""
     script = b"offer 0 1\nadvance 0\nopen 0 1\ncopy 0 1\noffer 1 1\nadvance 1\nopen 1 1\ncopy 1 1\n"
@@ -364,6 +425,7 @@ def checks(room):
     yield "signals while it writes", signals_while_it_writes(room)
     yield "feeds that can't be read", unreadable_feeds(room)
     yield "names that speak to a terminal", speaking_names(room)
+    yield "files that cost much", hostile_costs(room)
 
 
 def main(built):

@@ -4,3 +4,4 @@ pub mod FindingLaws
 pub mod ListLaws
 pub mod CheckLaws
 pub mod SharedLaws
+pub mod UnknownLaws

@@ -4,8 +4,6 @@ use Rattle.std.specs.Prelude.{IsUtf8, IfOk, IfErr, OnOk}
 use Rattle.std.specs.Option.{ok_or}
 use Rattle.std.specs.Str.{is_utf8}
 use Rattle.std.proofs.lemmas.Str.{IsUtf8-from_is_utf8}
-use Rattle.json.specs.Json.{value}
-use Rattle.json.specs.Lex.{lex, punctuate}
 use Rattle.serde_json.specs.Data.{Data}
 use Rattle.serde_json.specs.Read.{read}
 use Rattle.filter_rule.specs.Faults.{Fault, Fails, GivesOrFails, json}
@@ -13,6 +11,7 @@ use Rattle.filter_rule.specs.declared.fault.PlanFault.{PlanFault}
 use Rattle.filter_rule.specs.declared.fault.PlanFault.TheVariants as errors
 use Rattle.filter_rule.specs.Reading.{IsNoJson, IsSomeText, json_of}
 use Rattle.filter_rule.proofs.Utf8Laws.{utf8_test}
+use Rattle.json_laws.proofs.EmptyText.{nothing_read}
 
 pub json_read : (text : List ℕ) (d : Data) → IsUtf8 text → read text ≡ Some d → json_of text ≡ Ok d
 unfolding json_of
@@ -38,10 +37,6 @@ no_json_at false text e is utf8 = absurd (true≢false (sym (utf8_test text utf8
 -- a text without a value is no JSON
 pub no_json : (text : List ℕ) → json_of text ≡ Err json → IsNoJson text
 no_json text is = no_json_at (is_utf8 text) text refl is
-
-nothing_read : read [] ≡ None
-unfolding lex punctuate value
-nothing_read = refl
 
 some_at : (text : List ℕ) (d : Data) → read text ≡ Some d → 0 < length text
 some_at [] d is =

@@ -1,8 +1,0 @@
-use Rattle.std.proofs.Common.{◌≡◌, drop, map}
-use Rattle.std.specs.List.{list_any}
-use Rattle.std.specs.Str.{bytes_eq}
-use Rattle.feed_check.proofs.unknown.is_told.Given as goal
-
--- the name is among those that are left, if among any
-abbrev pub invariant-loop-one : goal.invariant-loop-one
-invariant-loop-one l = list_any (bytes_eq l.name) (map (λ one. one.now) (drop l.one-index l.told)) ≡ list_any (bytes_eq l.name) (map (λ one. one.now) l.told)
