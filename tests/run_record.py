@@ -176,6 +176,13 @@ def merged_and_split(trial: Trial) -> None:
     library_reads(trial, feeds[0])
 
 
+def by_hash(trial: Trial) -> None:
+    """A reshard of a keyspace by a vindex that the server can't compute."""
+    from record import hashed
+
+    hashed.resharded(trial)
+
+
 def library_reads(trial: Trial, feed: str) -> None:
     """Google's library reads the feed's messages as groups in the order of `show`, each with its FIELDs first."""
     from recorder.messages import EventType, Response, frames
@@ -396,7 +403,7 @@ def from_vtgate(trial: Trial) -> None:
 
 
 STEPS: list[Callable[[Trial], None]] = [
-    statements, stops, prepared, reached, harmless, random_tables, merged_and_split, kinds, portions, grown, late, workflows, from_vtgate, operated, kept, living,
+    statements, stops, prepared, reached, harmless, random_tables, merged_and_split, by_hash, kinds, portions, grown, late, workflows, from_vtgate, operated, kept, living,
 ]  # fmt: skip
 
 

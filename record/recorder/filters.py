@@ -79,6 +79,8 @@ class Planned:
                 return self._text(column)
             case "binary_md5":
                 return f"UPPER(MD5({name}))"
+            case "hash":
+                raise ValueError(f"the vindex hash of table {self.name} is DES, which the server can't compute: have the program cut a snapshot (docs/RECORD.md)")
         raise ValueError(f"no vindex {vindex}")
 
     def condition(self, filtered: str) -> str:

@@ -13,6 +13,8 @@ from .kinds import NAMED
 from .stop import Stop
 
 JOB = "job.json"
+FURTHER = "hash"
+"""The vindex beyond the four: a file that names it has to say that it uses it."""
 NOTHING = "/dev/null"
 """In place of a feed that isn't there yet."""
 RANGE = re.compile(r"([0-9a-fA-F]{2})*-([0-9a-fA-F]{2})*")
@@ -33,11 +35,17 @@ class Plan:
     def workflow(self, filtered: str) -> dict:
         """The workflow file of the target whose rows are those of a filter."""
         streams = [self._stream(shard, filtered) for shard in self.shards]
-        return {"keyspace": self.keyspace, "tables": [self._table(table) for table in self.tables], "streams": streams}
+        return {"keyspace": self.keyspace, **self._further(), "tables": [self._table(table) for table in self.tables], "streams": streams}
 
     def side_by_side(self, targets: list[str]) -> dict:
         """A workflow file with a stream for each target: what is said of its streams is said of the targets."""
         return self.workflow("") | {"streams": [self._stream(target, target) for target in targets]}
+
+    def _further(self) -> dict:
+        """The member that says that `hash` is used, where a table or a rule names it."""
+        named = [vindex for _, vindex in self.vindexes.values()]
+        named += [word for rule in self.rules for word in re.findall(r"'([^']*)'", rule["filter"])]
+        return {"vindexes": [FURTHER]} if FURTHER in named else {}
 
     def _stream(self, shard: str, filtered: str) -> dict:
         return {"shard": shard, "filter": {"rules": [*self.rules, {"match": "/.*", "filter": filtered}]}}

@@ -46,6 +46,11 @@ FILTERS += [f"select {it} from t" for it in LISTS] + ["select`id`from`t`", "sele
 FILTERS += ["select id from t where in_keyrange(v,'binary','61-62')", "select v from t where in_keyrange(x,'binary','-')", "select id,x from t where in_keyrange(y,'binary','-')"]
 FILTERS += ["select * from t where" + it for it in CONDITIONS] + [f"select * from t where in_keyrange('{it}')" for it in RANGES] + RANGES
 
+# Members of a file, and the vindex of its table.
+FURTHER = [(member, vindex) for member in (
+    None, "[]", '["hash"]', '["hash", "hash"]', '["hash", "numeric"]', '["xxhash"]', '["Hash"]', '["hash", 1]', '["hash", ["hash"]]', '"hash"', "{}", "null", "1", '["\\u0068ash"]',
+) for vindex in ("numeric", "hash", "Hash", "xxhash")]
+
 DOCUMENTS = [
     '{"x": "\\ud83d\\ude00"}', '{"x": "\\ud800"}', '{"x": 1e999}', '{"x": 1e-999}', '{"x": 123456789012345678901234567890}', '{"x": -0}', '{"x":"a\tb"}', '{"x":1.}', '{"x":1E5}',
     '{"x":"\\/"}', '{"x":"\\u0000"}', '{"x": 1.7976931348623159e308}', '{"x": 01}', "{}", "[]", "", " ", "{} ", "{}x", '{"x":1}\f', '{"x":\v1}', "\ufeff{}", '{"x":nul}', "{'x':1}",
@@ -70,6 +75,13 @@ def workflow(tables=1, columns=12, keys=1, streams=1, name="t", rules=1):
     return json.dumps({"keyspace": "ks", "tables": said, "streams": shards}).encode()
 
 
+def by_vindex(member, vindex, filters=""):
+    further = f'"vindexes": {member}, ' if member else ""
+    table = '{"name": "t", "columns": [["id", "INT64"], ["v", "VARCHAR"]], "key": ["id"], "vindex": ["id", "%s"]}' % vindex
+    rules = json.dumps([{"match": "t", "filter": filters}])
+    return f'{{"keyspace": "ks", {further}"tables": [{table}], "streams": [{{"shard": "-80", "filter": {{"rules": {rules}}}}}]}}'.encode()
+
+
 def feed_of_row(message, count):
     change = put_message(2, put_message(2, message))
     fields = making.field_event(b"t", [(b"c%d" % i, 6165) for i in range(count)])
@@ -88,6 +100,10 @@ def cases():
         yield f"script {text[:60]}", ["step", "workflow", "feed"], {"workflow": making.ONE, "feed": making.ONE_ROW}, text
     for text in FILTERS:
         yield f"filter {text}", ["run", "workflow", "feed"], {"workflow": making.workflow("-80", match="t", text=text), "feed": ROWS}, b""
+    for member, vindex in FURTHER:
+        for text in ("-80", "select * from t where in_keyrange(id,'hash','80-')"):
+            for words in (["run"], ["check"]):
+                yield f"vindexes {member} {vindex} {text}", [*words, "workflow", "feed"], {"workflow": by_vindex(member, vindex, text), "feed": ROWS}, b""
     for text in DOCUMENTS:
         yield f"document {text[:60]}", ["run", "workflow", "feed"], {"workflow": text.encode(), "feed": b""}, b""
     for counts in COUNTS:

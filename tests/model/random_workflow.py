@@ -33,18 +33,21 @@ class Chances:
 class Workflows(Chances):
     def workflow(self):
         r = self.r
+        self.by_hash = self.chance(0.2)
         tables = [self.table(name) for name in r.sample(NAMES, r.choices([1, 2, 3], [6, 3, 1])[0])]
         shards = r.sample(["-80", "80-", "0", "", "-40", "ü"], r.choices([1, 2, 3], [5, 4, 1])[0])
         self.lists = {table["name"]: self.list_of(table) for table in tables if self.chance(0.3)}
         streams = [{"shard": it, "filter": {"rules": self.rules(tables)}} for it in shards]
         said = {"keyspace": r.choice(["ks", "ks", "", "k"]), "tables": tables, "streams": streams}
+        if self.by_hash or self.chance(0.05):
+            said["vindexes"] = self.further()
         if self.is_faulty(0.15):
             self.misshape(said)
         text = json.dumps(said, ensure_ascii=self.chance(0.5), indent=r.choice([None, None, 1]))
         if self.is_faulty(0.1):
             text = text.replace('"INT64"', r.choice(SPELLED_TYPES), 1)
         if self.is_faulty(0.1):
-            key = r.choice(["keyspace", "tables", "name", "columns", "key", "vindex", "streams", "shard", "filter", "rules", "match"])
+            key = r.choice(["keyspace", "tables", "name", "columns", "key", "vindex", "vindexes", "streams", "shard", "filter", "rules", "match"])
             text = text.replace(f'"{key}":', f'"{key}": {r.choice(SPELLED_TYPES)}, "{key}":', 1)
         return (text if not self.is_faulty(0.05) else self.scratched(text, '{}[],:" \\u0-e.')).encode()
 
@@ -66,7 +69,14 @@ class Workflows(Chances):
 
     def vindex(self, kind):
         is_whole = TYPE.get(kind, kind) in WHOLE
+        if is_whole and self.by_hash and self.chance(0.7) or self.is_faulty(0.03):
+            return "hash"
         return self.r.choice(["numeric", "reverse_bits"] if is_whole and self.chance(0.7) or self.is_faulty(0.05) else ["binary", "binary_md5"])
+
+    def further(self):
+        """The vindexes that a file says it uses beyond the four: `hash`, but for a fault."""
+        faults = [[], ["xxhash"], ["hash", "numeric"], ["Hash"], "hash", None, {}, [1], ["hash", ["hash"]]]
+        return self.r.choice(faults) if self.is_faulty(0.15) else ["hash"] * self.r.choice([1, 1, 2])
 
     def list_of(self, table):
         """Columns to be kept of a table, in any order: its key and maybe others."""

@@ -4,9 +4,9 @@ import re
 from . import Refused, wire
 from .feed import Feed
 from .shown import shown
-from .workflow import TYPE, VINDEXES, Number, read_filter, read_json
+from .workflow import ALL_VINDEXES, TYPE, Number, read_filter, read_json
 
-READ = {"file": ("keyspace", "tables", "streams"), "table": ("name", "columns", "key", "vindex"), "stream": ("shard", "filter")}
+READ = {"file": ("keyspace", "tables", "streams", "vindexes"), "table": ("name", "columns", "key", "vindex"), "stream": ("shard", "filter")}
 READ |= {"filter": ("rules",), "rule": ("match", "filter")}
 ROLLBACK = bytes([4, 10, 2, 8, 4])
 
@@ -32,7 +32,7 @@ def said_of(table, stream):
     """What a stream's first rule for a table says, if it has one."""
     for rule in stream["filter"]["rules"]:
         if rule["match"] in ("/.*", table["name"]):
-            return read_filter(rule.get("filter", "").encode())
+            return read_filter(rule.get("filter", "").encode(), ALL_VINDEXES)
     return None
 
 
@@ -125,7 +125,7 @@ def kind(said):
 def vindex_name(said):
     if type(said) is not str:
         return "", b"no text"
-    return None if said.encode() in VINDEXES else ("", quoted(b"no vindex", said))
+    return None if said.encode() in ALL_VINDEXES else ("", quoted(b"no vindex", said))
 
 
 def member(said, key, tells, needed=True, dot="."):
@@ -192,6 +192,23 @@ def shape(said):
         or member(said, "tables", lambda it: items(it, table, lambda one: one["name"]), dot="")
         or member(said, "streams", lambda it: items(it, stream, lambda one: one["shard"]), dot="")
     )
+
+
+def unsaid(said):
+    """The first table by `hash`, where the file doesn't say that it uses it."""
+    further = said.get("vindexes", [])
+    if isinstance(further, list) and "hash" in further:
+        return None
+    by_hash = [i for i, one in enumerate(said["tables"]) if one.get("vindex", [""])[-1] == "hash"]
+    return (f"tables[{by_hash[0]}].vindex[1]", b'vindex "hash" without the file\'s member "vindexes": ["hash"]') if by_hash else None
+
+
+def further_name(said):
+    return text(said) or (None if said == "hash" else ("", quoted(b"no further vindex", said)))
+
+
+def further(said):
+    return member(said, "vindexes", lambda it: items(it, further_name), needed=False, dot="")
 
 
 def counted(path, it, what, most):
@@ -275,7 +292,7 @@ def place(data, workflow, names, datas, refused):
     number = int(refused.line.split()[1])
     if number in (52, 56):
         said = read_json(data)
-        path, what = shape(said) or counts(said)
+        path, what = shape(said) or unsaid(said) or further(said) or counts(said)
         return b"place %s: %s\n" % (path.encode(), what)
     if number in (81, 82, 85):
         for s, (file, feed) in enumerate(zip(names, datas)):

@@ -4,13 +4,15 @@ import json
 import math
 import re
 
-from . import Refused
+from . import Refused, des
 
 WHOLE = {257, 259, 261, 263, 265, 770, 772, 774, 776, 778}
 TYPE = dict(INT8=257, INT16=259, INT24=261, INT32=263, INT64=265, UINT8=770, UINT16=772, UINT24=774, UINT32=776, UINT64=778)
 TYPE |= dict(TEXT=6163, VARCHAR=6165, CHAR=6167, BLOB=10260, VARBINARY=10262, BINARY=10264)
 KEY_TYPES = WHOLE | {6165, 6167, 10262, 10264}
 VINDEXES = (b"numeric", b"reverse_bits", b"binary", b"binary_md5")
+ALL_VINDEXES = (*VINDEXES, b"hash")
+NUMBER_VINDEXES = {b"numeric", b"reverse_bits", b"hash"}
 NUMBER = re.compile(rb"-?[0-9]+")
 TOKEN = re.compile(rb"[ \t\r\n]*(?:([A-Za-z0-9_$]+)|`([^`]+)`|'([^']*)'|([*(),]))")
 
@@ -53,7 +55,10 @@ def keyspace_id(vindex, value):
     number = number_of(value)
     if number is None or number < 0:
         return 44
-    number = number if vindex == b"numeric" else int(f"{number:064b}"[::-1], 2)
+    if vindex == b"reverse_bits":
+        number = int(f"{number:064b}"[::-1], 2)
+    if vindex == b"hash":
+        number = des.enciphered(0, number)
     return number.to_bytes(8, "big")
 
 
@@ -92,8 +97,8 @@ def read_list(tokens):
     return columns
 
 
-def read_filter(text):
-    """A filter as (table or nothing, list of columns or nothing, column or nothing, vindex or nothing, range or nothing)."""
+def read_filter(text, vindexes=VINDEXES):
+    """A filter, which may name these vindexes, as (table or nothing, list of columns or nothing, column or nothing, vindex or nothing, range or nothing)."""
     if not text:
         return None, None, None, None, None
     first = TOKEN.match(text)
@@ -122,7 +127,7 @@ def read_filter(text):
         take(("sign", b","))
         vindex = take("quoted")
         take(("sign", b","))
-        if vindex not in VINDEXES:
+        if vindex not in vindexes:
             raise BadForm
     bounds = key_range(take("quoted"))
     take(("sign", b")"))
@@ -171,7 +176,7 @@ def type_of(it):
 
 
 class Table:
-    def __init__(self, it):
+    def __init__(self, it, vindexes):
         need(isinstance(it, dict))
         self.name = name_of(it.get("name"))
         pairs = list_at(it, "columns")
@@ -184,7 +189,7 @@ class Table:
             pair = it["vindex"]
             need(isinstance(pair, list) and len(pair) == 2 and type(pair[1]) is str)
             self.vindex = name_of(pair[0]), pair[1].encode()
-            need(self.vindex[1] in VINDEXES)
+            need(self.vindex[1] in vindexes)
 
     def place(self, column):
         if column not in self.names:
@@ -195,7 +200,7 @@ class Table:
         return self.columns[self.names.index(column)][1]
 
     def judge_vindex(self, column, vindex):
-        fit = WHOLE if vindex in VINDEXES[:2] else set(TYPE.values())
+        fit = WHOLE if vindex in NUMBER_VINDEXES else set(TYPE.values())
         if self.type(column) not in fit:
             raise Refused(54, b" table %s column %s" % (self.name, column))
 
@@ -247,7 +252,7 @@ class Workflow:
         except Shape:
             raise Refused(52) from None
         counts = [len(self.shards), len(self.tables)]
-        if not all(1 <= it <= 64 for it in counts) or any(not (1 <= len(t.columns) <= 256 and 1 <= len(t.key) <= 8) for t in self.tables):
+        if self.further != ["hash"] * len(self.further) or not all(1 <= it <= 64 for it in counts) or any(not (1 <= len(t.columns) <= 256 and 1 <= len(t.key) <= 8) for t in self.tables):
             raise Refused(56)
         for table in self.tables:
             table.judge()
@@ -263,7 +268,10 @@ class Workflow:
     def shape(self, said):
         need(isinstance(said, dict))
         self.keyspace = text_at(said, "keyspace")
-        self.tables = [Table(it) for it in list_at(said, "tables")]
+        self.further = said.get("vindexes", [])
+        self.further = self.further if isinstance(self.further, list) else [None]
+        self.vindexes = ALL_VINDEXES if "hash" in self.further else VINDEXES
+        self.tables = [Table(it, self.vindexes) for it in list_at(said, "tables")]
         distinct([it.name for it in self.tables])
         self.shards, self.rules = [], []
         for stream in list_at(said, "streams"):
@@ -275,7 +283,7 @@ class Workflow:
     def judge_rule(self, stream, rule, match, text):
         bad = Refused(55, b" stream %d rule %d" % (stream, rule))
         try:
-            named, listed, column, vindex, bounds = read_filter(text)
+            named, listed, column, vindex, bounds = read_filter(text, self.vindexes)
         except BadForm:
             raise bad from None
         is_pattern = match.startswith(b"/")

@@ -88,7 +88,7 @@ pub const NUMBER_UNDER_VINDEX: &str = "\
 44   a row has no number in range under its vindex
 
 A row has a value that is no whole number from 0 to 2^64 - 1 in a column under
-the vindex numeric or reverse_bits. It stands as a cause behind 90.
+the vindex numeric, reverse_bits or hash. It stands as a cause behind 90.
 Usual causes: negative numbers in the column; a column that was declared as a
 number in the workflow and is a text at the source.
 What to do: give the table the vindex that the keyspace's VSchema has. The

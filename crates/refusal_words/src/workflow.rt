@@ -38,7 +38,8 @@ The workflow is JSON, but not of the wanted form: a key isn't there or is of
 another kind, a name is unfit, a type or a vindex is unknown, or a name stands
 twice where it may stand once.
 Usual causes: a misspelt key, which counts as one that isn't there; a type such
-as INT in place of INT32; two streams with one shard.
+as INT in place of INT32; two streams with one shard; the vindex hash in a file
+without the member \"vindexes\": [\"hash\"].
 What to do: compare it with examples/workflows/one_shard.json, key by key.
 docs/FORMATS.md, 'Workflow file', has all keys, types and vindexes.
 ";
@@ -60,7 +61,7 @@ pub const COLUMN_TYPE: &str = "\
 
 A column has a type that its use doesn't allow. The line has the table and the
 column. Keys are whole numbers, VARCHAR, CHAR, VARBINARY or BINARY; under
-numeric and reverse_bits whole numbers alone.
+numeric, reverse_bits and hash whole numbers alone.
 Usual causes: a key over TEXT, DECIMAL or DATETIME; a vindex for numbers over a
 text.
 What to do: take another key or vindex. Such a table can't be a target's.
@@ -74,7 +75,8 @@ line has the stream and the rule, both from 0.
 Usual causes: a regular expression other than /.*; a WHERE other than one
 in_keyrange; a key range for a table without a vindex; a range such as 80-40; a
 table in the text that isn't the one of `match`; a list of columns without one
-of the table's key, or with one that stands twice.
+of the table's key, or with one that stands twice; the vindex hash in a file
+without the member \"vindexes\": [\"hash\"].
 What to do: docs/FORMATS.md, 'Workflow file', lists the forms that are read.
 ";
 
@@ -82,8 +84,10 @@ pub const LIMIT: &str = "\
 56   the workflow has none or too many of something
 
 The workflow has none or too many of something: it has 1 to 64 streams and 1 to
-64 tables, a table 1 to 256 columns and a key of 1 to 8.
-Usual causes: an empty list of tables or streams; a table without a key.
+64 tables, a table 1 to 256 columns and a key of 1 to 8. Or its `vindexes`
+isn't a list of \"hash\" alone.
+Usual causes: an empty list of tables or streams; a table without a key; a
+vindex in `vindexes` that isn't known.
 What to do: split a larger workflow by its tables; leave tables without a
 primary key out.
 ";
