@@ -1,4 +1,5 @@
 """A block enciphered as the Data Encryption Standard (FIPS PUB 46-3) says it: a list of bits, tables of places, sixteen rounds."""
+import functools
 
 # Places are counted from 1, and the first bit of a block is its highest.
 INITIAL = [first - 8 * i for first in (58, 60, 62, 64, 57, 59, 61, 63) for i in range(8)]
@@ -40,13 +41,15 @@ def added(one, other):
     return [a ^ b for a, b in zip(one, other)]
 
 
+@functools.cache
 def round_keys(key):
     """The sixteen round keys of a key of 64 bits, of which each eighth isn't used."""
-    bits = selected(CHOICE_1, bits_of(key, 64))
+    bits, keys = selected(CHOICE_1, bits_of(key, 64)), []
     left, right = bits[:28], bits[28:]
     for shift in SHIFTS:
         left, right = left[shift:] + left[:shift], right[shift:] + right[:shift]
-        yield selected(CHOICE_2, left + right)
+        keys.append(selected(CHOICE_2, left + right))
+    return keys
 
 
 def substituted(rows, six):
