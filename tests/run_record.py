@@ -388,6 +388,13 @@ def living(trial: Trial) -> None:
     living.living(trial)
 
 
+def anew(trial: Trial) -> None:
+    """Feeds that go on where the log doesn't."""
+    from record import anew
+
+    anew.anew(trial)
+
+
 def from_vtgate(trial: Trial) -> None:
     """Feeds from what VTGate sends, by its changes and by a copy, over a stand-in for it."""
     from record.vtgate_trials import vtgate
@@ -396,7 +403,7 @@ def from_vtgate(trial: Trial) -> None:
 
 
 STEPS: list[Callable[[Trial], None]] = [
-    statements, stops, prepared, reached, harmless, random_tables, merged_and_split, kinds, portions, grown, late, workflows, from_vtgate, operated, kept, living,
+    statements, stops, prepared, reached, harmless, random_tables, merged_and_split, kinds, portions, grown, late, workflows, from_vtgate, operated, kept, living, anew,
 ]  # fmt: skip
 
 

@@ -80,12 +80,11 @@ class EventType(IntEnum):
     COPY_COMPLETED = 20
 
 
-def set_row(message, row: Row) -> int:
-    """Fills a Row message, which is there from then on also where it has no column's bytes; answers its size."""
-    message.SetInParent()
-    message.lengths.extend(-1 if cell is None else len(cell) for cell in row)
-    message.values = b"".join(cell for cell in row if cell is not None)
-    return message.ByteSize()
+class LongRow(ValueError):
+    """A row of more bytes than the program reads."""
+
+    def __init__(self) -> None:
+        super().__init__(f"a row of more than {MOST_OF_ROW} bytes")
 
 
 def varint(number: int) -> bytes:
@@ -95,6 +94,72 @@ def varint(number: int) -> bytes:
         number >>= 7
     head.append(number)
     return bytes(head)
+
+
+SIZES = [varint(number) for number in range(1 << 14)]
+"""The varints of small numbers."""
+
+
+def sized(number: int) -> bytes:
+    return SIZES[number] if number < len(SIZES) else varint(number)
+
+
+def row_bytes(row: Row) -> bytes:
+    """A Row message. LongRow where it is above the limit."""
+    lengths = b"".join([b"\1" if cell is None else sized(2 * len(cell)) for cell in row])
+    values = b"".join([cell for cell in row if cell])
+    data = b"\x0a" + sized(len(lengths)) + lengths + (b"\x12" + sized(len(values)) + values if values else b"")
+    if len(data) > MOST_OF_ROW:
+        raise LongRow
+    return data
+
+
+def set_row(message, row: Row) -> int:
+    """Fills a Row message, which is there from then on also where it has no column's bytes; answers its size."""
+    message.SetInParent()
+    message.lengths.extend(-1 if cell is None else len(cell) for cell in row)
+    message.values = b"".join(cell for cell in row if cell is not None)
+    return message.ByteSize()
+
+
+def cells_of(row, count: int | None = None) -> Row:
+    """The columns of a Row message, or so many of them."""
+    cells, at, values = [], 0, row.values
+    for length in row.lengths[:count]:
+        if length < 0:
+            cells.append(None)
+        else:
+            cells.append(values[at:at + length])
+            at += length
+    return tuple(cells)
+
+
+def change_bytes(before: bytes | None, after: bytes | None) -> bytes:
+    """A row change among those of a RowEvent, of the Row messages before and after."""
+    body = b"" if before is None else b"\x0a" + sized(len(before)) + before
+    if after is not None:
+        body += b"\x12" + sized(len(after)) + after
+    return b"\x12" + sized(len(body)) + body
+
+
+def event_bytes(kind: EventType, time: int, number: int = 0, *parts: bytes) -> bytes:
+    """An event among those of a VStreamResponse; what stands in its field of this number is in parts."""
+    size = sum(map(len, parts))
+    head = b"\x08" + sized(kind) + (b"\x10" + varint(time) if time else b"") + (sized(number * 8 + 2) + sized(size) if number else b"")
+    return b"".join([b"\x0a", sized(len(head) + size), head, *parts])
+
+
+def text_bytes(number: int, text: str) -> bytes:
+    """A text as the field of this number."""
+    data = text.encode()
+    return sized(number * 8 + 2) + sized(len(data)) + data
+
+
+def position_in(events) -> str | None:
+    """The position that the events of a message say, None where they say none."""
+    said = [event.gtid if event.type == EventType.GTID else event.vgtid.shard_gtids[0].gtid for event in events
+            if event.type == EventType.GTID or event.type == EventType.VGTID and len(event.vgtid.shard_gtids) == 1]  # fmt: skip
+    return said[0] if len(said) == 1 else None
 
 
 def framed(response) -> bytes:

@@ -17,7 +17,7 @@ from pymysql.constants import COMMAND
 from pymysql.cursors import SSCursor
 
 from .events import Event, LogEvent
-from .stop import AGAIN, ANEW, Lost, Stop
+from .stop import AGAIN, BEHIND, Lost, Stop
 
 WITHOUT_WAITING = 1
 CRC32 = 1
@@ -140,8 +140,12 @@ def check_settings(connection: pymysql.Connection) -> str:
         raise Stop("the binary log is off", "", "start the server with --log-bin, and record from a snapshot")
     for name, value, wanted in (("binlog_format", form, "ROW"), ("binlog_row_image", image, "FULL")):
         if value != wanted:
-            raise Stop(f"{name} is {value}", "", f"SET GLOBAL {name}={wanted}, let clients connect anew, and {ANEW}")
+            raise Stop(f"{name} is {value}", "", f"SET GLOBAL {name}={wanted}, let clients connect anew, and {BEHIND}")
     return version
+
+
+def server_id(connection: pymysql.Connection) -> int:
+    return ask(connection, "SELECT @@global.server_id")[0][0]
 
 
 def first_place(connection: pymysql.Connection) -> Place:
@@ -157,7 +161,7 @@ def check_schemas(connection: pymysql.Connection, schemas: set[str]) -> None:
     only, without = (text.split(",") if text else [] for text in ask(connection, "SHOW MASTER STATUS")[0][2:4])
     for schema in sorted(schemas):
         if schema in without or only and schema not in only:
-            raise Stop(f"schema {schema} isn't in the log", "(binlog_do_db, binlog_ignore_db)", f"start the server without these, and {ANEW}")
+            raise Stop(f"schema {schema} isn't in the log", "(binlog_do_db, binlog_ignore_db)", f"start the server without these, and {BEHIND}")
 
 
 def gtids_at(connection: pymysql.Connection, place: Place) -> str | None:
@@ -186,7 +190,7 @@ def events(connection: pymysql.Connection, start: Place, waits: bool = False) ->
             packet = connection._read_packet()
         except pymysql.err.MySQLError as fault:
             if fault.args[:1] == (NOT_IN_THE_LOG,):
-                raise Stop("the log can't be read", f"behind {log}", f"{fault.args[-1]}; {ANEW}") from None
+                raise Stop("the log can't be read", f"behind {log}", f"{fault.args[-1]}; {BEHIND}") from None
             raise fault_of(fault, "the log can't be read", f"behind {log}") from None
         if packet.is_eof_packet():
             return
@@ -199,7 +203,7 @@ def events(connection: pymysql.Connection, start: Place, waits: bool = False) ->
             data = data[:-4] if _is_whole(data) else data
         elif checksums:
             if not _is_whole(data):
-                raise Stop("an event whose checksum is another", f"in {log}", f"the log is damaged there; {ANEW}")
+                raise Stop("an event whose checksum is another", f"in {log}", f"the log is damaged there; {BEHIND}")
             data = data[:-4]
         event = Event.read(data)
         yield log, event

@@ -12,22 +12,12 @@ from dataclasses import dataclass, field
 from .catalogue import Table
 from .cells import Reader, UnknownType, reader
 from .events import DELETES, IGNORABLE, UPDATES, WRITES, Event, GtidEvent, LogEvent, QueryEvent, TableMap, read_rows_head, read_table_map
-from .messages import Row
+from .groups import Change
+from .messages import LongRow, Row, change_bytes, row_bytes
 from .position import Gtid, Position
 from .server import Place
 from .statements import Does, Name, Statement, read_statement
-from .stop import AGAIN, ANEW, Stop
-
-RowChange = tuple[Row | None, Row | None]
-"""A row before and after: an insert, an update or a delete."""
-
-
-@dataclass(frozen=True)
-class Change:
-    """The rows of one table that one event changes."""
-
-    table: Table
-    rows: list[RowChange]
+from .stop import AGAIN, BEHIND, Stop
 
 
 @dataclass(frozen=True)
@@ -116,7 +106,7 @@ class Transactions:
 
     def _check_begun(self, table: Table) -> None:
         if table.full not in self.begun_with:
-            raise Stop(f"a table that was there before the log, {table.schema}.{table.name},", self._where(), ANEW)
+            raise Stop(f"a table that was there before the log, {table.schema}.{table.name},", self._where(), BEHIND)
 
     def _check_ended(self) -> None:
         for table in self.tables.values():
@@ -153,26 +143,26 @@ class Transactions:
             self.begun = event.time
             self._maps.clear()
         elif kind == LogEvent.INCIDENT:
-            raise Stop("an incident: the server lost events", self._where(), ANEW)
+            raise Stop("an incident: the server lost events", self._where(), BEHIND)
         elif kind in STATEMENTS:
-            raise Stop("a LOAD DATA in statement format", self._where(), f"SET GLOBAL binlog_format=ROW, let clients connect anew, and {ANEW}")
+            raise Stop("a LOAD DATA in statement format", self._where(), f"SET GLOBAL binlog_format=ROW, let clients connect anew, and {BEHIND}")
         elif kind not in SKIPPED and not event.flags & IGNORABLE:
-            raise Stop(f"an event of type {kind}, which isn't known,", self._where(), ANEW)
+            raise Stop(f"an event of type {kind}, which isn't known,", self._where(), BEHIND)
         return None
 
     def _begin(self, event: GtidEvent, server: int) -> None:
         gtid = Gtid(event.domain, server, event.sequence)
         if self._open:
-            raise Stop("a transaction without an end", self._where(), ANEW)
+            raise Stop("a transaction without an end", self._where(), BEHIND)
         if self.position.goes_back(gtid):
             raise Stop(f"a position that goes back, from {self.position.last[gtid.domain]} to {gtid},", self._where(),
-                       f"numbers of a domain have to rise (gtid_strict_mode=1); {ANEW}")  # fmt: skip
+                       f"numbers of a domain have to rise (gtid_strict_mode=1); {BEHIND}")  # fmt: skip
         self._open = _Open(gtid, event.alone, event.xa)
 
     def _statement(self, statement: Statement, text: str) -> list[Change] | None:
         now = self._open
         if now is None:
-            raise Stop("a statement without a GTID", self._where(), ANEW)
+            raise Stop("a statement without a GTID", self._where(), BEHIND)
         match statement.does:
             case Does.COMMIT:
                 return now.changes
@@ -182,11 +172,11 @@ class Transactions:
                 now.savepoints[statement.savepoint] = len(now.changes)
             case Does.ROLLBACK_TO:
                 if statement.savepoint not in now.savepoints:
-                    raise Stop(f"no savepoint {statement.savepoint}", self._where(), ANEW)
+                    raise Stop(f"no savepoint {statement.savepoint}", self._where(), BEHIND)
                 del now.changes[now.savepoints[statement.savepoint]:]
             case Does.XA_COMMIT | Does.XA_ROLLBACK if now.xa:
                 if now.xa not in self.prepared:
-                    raise Stop("the end of an XA transaction that was prepared before this recording", self._where(), ANEW)
+                    raise Stop("the end of an XA transaction that was prepared before this recording", self._where(), BEHIND)
                 changes = self.prepared.pop(now.xa)
                 return changes if statement.does == Does.XA_COMMIT else []
             case Does.XA_COMMIT:
@@ -195,7 +185,7 @@ class Transactions:
                 return []
             case Does.ROWS:
                 raise Stop(f"statement or mixed format ({_cut(text)})", self._where(),
-                           f"SET GLOBAL binlog_format=ROW, let clients connect anew, and {ANEW}")  # fmt: skip
+                           f"SET GLOBAL binlog_format=ROW, let clients connect anew, and {BEHIND}")  # fmt: skip
             case Does.CREATE | Does.LAYOUT | Does.TRUNCATE | Does.DROP_SCHEMA:
                 self._check_layout(statement, text)
         return [] if now.alone else None
@@ -212,14 +202,14 @@ class Transactions:
                 if statement.does == Does.CREATE and full not in filled:
                     self.begun_with.add(full)
                 elif statement.moves or full in filled:
-                    raise Stop(f"{what} of a recorded table, {'.'.join(full)} ({_cut(text)}),", self._where(), ANEW)
+                    raise Stop(f"{what} of a recorded table, {'.'.join(full)} ({_cut(text)}),", self._where(), BEHIND)
 
     def _map(self, found: TableMap) -> None:
         table = self.tables.get((found.schema, found.table))
         if table:
             self._check_begun(table)
             if self._open is None:
-                raise Stop(f"rows of {found.schema}.{found.table} without a GTID", self._where(), ANEW)
+                raise Stop(f"rows of {found.schema}.{found.table} without a GTID", self._where(), BEHIND)
         self._maps[found.number] = (found, self._layout(found, table) if table else None)
 
     def _layout(self, found: TableMap, table: Table) -> _Layout:
@@ -233,7 +223,7 @@ class Transactions:
     def _altered(self, table: Table, what: str) -> Stop:
         """The catalogue is read before the log: where they differ, the table was altered between."""
         return Stop(f"DDL of a recorded table, {table.schema}.{table.name}: the log {what},", self._where(),
-                    f"{ANEW}, or leave the table out where that says the same")  # fmt: skip
+                    f"{BEHIND}, or leave the table out where that says the same")  # fmt: skip
 
     def _rows(self, kind: int, body: bytes) -> None:
         found, layout = self._maps[int.from_bytes(body[:6], "little")]
@@ -242,17 +232,22 @@ class Transactions:
         head = read_rows_head(kind, body)
         if not head.whole or head.columns != len(layout.readers):
             raise Stop(f"a row image of {found.schema}.{found.table} that isn't FULL", self._where(),
-                       f"SET GLOBAL binlog_row_image=FULL, let clients connect anew, and {ANEW}")  # fmt: skip
+                       f"SET GLOBAL binlog_row_image=FULL, let clients connect anew, and {BEHIND}")  # fmt: skip
         rows, at = [], 0
-        while at < len(head.rows):
-            before = after = None
-            if kind not in WRITES:
-                before, at = _image(layout.readers, head.rows, at)
-            if kind not in DELETES:
-                after, at = _image(layout.readers, head.rows, at)
-                check_key(layout.table, after, self._where())
-            rows.append((before, after))
-        self._open.changes.append(Change(layout.table, rows))
+        try:
+            while at < len(head.rows):
+                before = after = None
+                if kind not in WRITES:
+                    row, at = _image(layout.readers, head.rows, at)
+                    before = row_bytes(row)
+                if kind not in DELETES:
+                    row, at = _image(layout.readers, head.rows, at)
+                    check_key(layout.table, row, self._where())
+                    after = row_bytes(row)
+                rows.append(change_bytes(before, after))
+        except LongRow as fault:
+            raise Stop(str(fault), f"in {found.schema}.{found.table} {self._where()}", "leave the table out") from None
+        self._open.changes.append(Change(layout.table, b"".join(rows)))
 
 
 def check_key(table: Table, row: Row, where: str) -> None:
@@ -261,7 +256,7 @@ def check_key(table: Table, row: Row, where: str) -> None:
         value = row[at]
         if table.columns[at].pads and value and (value[-1:] == b" " or min(value) < 0x20):
             raise Stop(f"a key of {table.schema}.{table.name} with a blank at its end or a control character, {value[:40]!r},", where,
-                       f"make the collation of column {table.columns[at].name} a _nopad_bin one, or VARBINARY, and {ANEW}")  # fmt: skip
+                       f"make the collation of column {table.columns[at].name} a _nopad_bin one, or VARBINARY, and {BEHIND}")  # fmt: skip
 
 
 def _image(readers: tuple[Reader, ...], data: bytes, at: int) -> tuple[Row, int]:
