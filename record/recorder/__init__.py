@@ -8,7 +8,8 @@ Modules, from the lowest up; each has one idea:
     kinds         the numbers of column types
     numbers       decimal numbers and floats, from the log's bytes to the server's text
     cells         a column's value in the log, to the bytes that the server prints
-    messages      the messages of a feed, as classes of Google's protobuf library
+    messages      the messages of a feed, as bytes
+    protos        the messages of a feed, as classes of Google's protobuf library
     gtids         GTID sets, as the program reads them
     position      sets of transactions, from MariaDB's domains to GTID sets
     words         a statement's text as words
@@ -22,6 +23,7 @@ Modules, from the lowest up; each has one idea:
     untold        what no log says, told where a recording or a workflow begins
     prepared      XA transactions that are prepared where a snapshot stands
     groups        transactions as the groups of a feed
+    rowcode       rows of row events to row changes, by code for the columns of one table
     transactions  events to whole transactions of the recorded tables
     note          the note beside a feed, and the feed's end that it tells of
     feedfile      the feed's file: made whole, and grown in its place

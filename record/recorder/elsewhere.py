@@ -1,7 +1,6 @@
 """A feed that goes on with another server's log, by GTID: the transactions that it has are found there, each with the name that
 it has everywhere, and passed over; those behind them are gone on with."""
 from collections.abc import Iterator
-from dataclasses import replace
 
 from pymysql import Connection
 
@@ -36,7 +35,7 @@ class Elsewhere:
             if event.kind == LogEvent.GTID:
                 is_had = self._meet(GtidEvent.read(event.body), event.server)
             if is_had and event.kind not in OF_THE_LOG:
-                event = replace(event, kind=LogEvent.BINLOG_CHECKPOINT, body=b"")
+                event = event._replace(kind=LogEvent.BINLOG_CHECKPOINT, body=b"")
             yield log, event
 
     def _meet(self, event: GtidEvent, server: int) -> bool:

@@ -11,7 +11,7 @@ from contextlib import suppress
 from tempfile import SpooledTemporaryFile
 
 from .ending import Held, tell
-from .files import PIECE, is_at, kind_at, new_file, open_file, put, write_at, writing
+from .files import PIECE, is_at, kind_at, new_file, not_written, open_file, put, write_at, writing
 from .groups import Change, Groups
 from .note import Note, groups_between, note_path
 from .stop import ANEW, Stop
@@ -97,18 +97,20 @@ class FeedFile:
         return found
 
     def _finds(self, data: bytes) -> bool:
-        return self._kept == self.size and self._kept + len(data) <= self._there and os.pread(self._file, len(data), self._kept) == data
+        return self._kept + len(data) <= self._there and os.pread(self._file, len(data), self._kept) == data
 
     def message(self, data: bytes) -> None:
         """A message, behind which a group needn't end."""
         if self.size + len(data) > MOST:
             raise Stop(f"a feed of more than {MOST} bytes", f"for {self.path}", "record fewer tables, or fewer in each feed")
         self._is_sound = False
-        with writing(self.path):
-            if self._finds(data):
+        try:
+            if self._kept == self.size < self._there and self._finds(data):
                 self._kept += len(data)
             else:
                 self._aside.write(data)
+        except OSError as fault:
+            raise not_written(self.path, fault) from None
         self._is_sound = True
         self._last, self.size = self.size, self.size + len(data)
 

@@ -28,7 +28,11 @@ def writing(path: str, todo: str = "") -> Iterator[None]:
     try:
         yield
     except OSError as fault:
-        raise Stop("no file can be written", f"at {path}", f"{fault.strerror or fault}{todo and '; ' + todo}") from None
+        raise not_written(path, fault, todo) from None
+
+
+def not_written(path: str, fault: OSError, todo: str = "") -> Stop:
+    return Stop("no file can be written", f"at {path}", f"{fault.strerror or fault}{todo and '; ' + todo}")
 
 
 class Lock:

@@ -9,12 +9,10 @@ from collections.abc import Iterator
 from contextlib import suppress
 from dataclasses import asdict, dataclass, field
 
-from google.protobuf.message import DecodeError
-
 from . import messages
 from .files import kind_at, left_files, new_file, open_file, put, read_file, sync_folder, write_at
-from .messages import EventType, Response, position_in
-from .position import Position
+from .messages import EventType
+from .position import Position, sets_of
 from .server import Place
 from .stop import ANEW, Stop
 
@@ -174,9 +172,8 @@ def last_message(file: int, size: int) -> int:
 def position_of(data: bytes) -> str | None:
     """The position of the group that one message ends, None where the bytes aren't such a message."""
     try:
-        [(start, end)] = messages.frames(data)
-        return position_in(Response.FromString(data[start:end]).events)
-    except (ValueError, DecodeError):
+        return messages.position_in(_events(data))
+    except (ValueError, IndexError):
         return None
 
 
@@ -185,20 +182,32 @@ def groups_between(file: int, start: int, end: int) -> Iterator[tuple[int, int, 
     for behind in ends(file, start, end):
         data = os.pread(file, behind - start, start)
         position = position_of(data)
-        if position is None and not _is_part(data):
+        if not (_is_part(data) if position is None else _is_readable(position)):
             return
         if position is not None:
             yield start, behind, position
         start = behind
 
 
+def _is_readable(position: str) -> bool:
+    try:
+        return bool(sets_of(position))
+    except ValueError:
+        return False
+
+
 def _is_part(data: bytes) -> bool:
     """Whether bytes are a message that ends no group."""
     try:
-        [(start, end)] = messages.frames(data)
-        return {event.type for event in Response.FromString(data[start:end]).events} <= {EventType.BEGIN, EventType.FIELD, EventType.ROW}
-    except (ValueError, DecodeError):
+        return {messages.kind_of(event) for event in _events(data)} <= {EventType.BEGIN, EventType.FIELD, EventType.ROW}
+    except (ValueError, IndexError):
         return False
+
+
+def _events(data: bytes) -> list[bytes]:
+    """The events of one message behind its length."""
+    [(start, end)] = messages.frames(data)
+    return [value for number, value in messages.fields(data[start:end]) if number == 1 and isinstance(value, bytes)]
 
 
 def settle(feed: str) -> None:

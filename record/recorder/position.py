@@ -10,6 +10,7 @@ and the domains of that log have other uuids, those of the next turn.
 """
 import re
 from dataclasses import dataclass
+from typing import NamedTuple
 
 from .gtids import GtidSet
 
@@ -34,8 +35,7 @@ def turn_of(uuid: str) -> int | None:
     return None if number == 1 else max(0, number - 1)
 
 
-@dataclass(frozen=True)
-class Gtid:
+class Gtid(NamedTuple):
     """A transaction's name, as MariaDB prints it: domain-server-sequence."""
 
     domain: int
@@ -65,6 +65,8 @@ class Position:
     def __init__(self, last: dict[int, Gtid] | None = None, snapshot: int = 0, turn: int = 0, past: dict[str, int] | None = None) -> None:
         self.last = dict(last or {})
         self.snapshot, self.turn, self.past = snapshot, turn, dict(past or {})
+        self._domain, self._around = -1, None
+        """The domain of the last transaction, and the text around its number."""
 
     @classmethod
     def read(cls, gtids: str, snapshot: int = 0, turn: int = 0, past: dict[str, int] | None = None) -> "Position":
@@ -90,6 +92,8 @@ class Position:
         return gtid.domain in self.last and gtid.sequence <= self.last[gtid.domain].sequence
 
     def add(self, gtid: Gtid) -> None:
+        if gtid.domain != self._domain or gtid.sequence == 1:
+            self._domain, self._around = gtid.domain, None
         self.last[gtid.domain] = gtid
 
     def has(self, other: "Position") -> bool:
@@ -102,6 +106,15 @@ class Position:
 
     def text(self) -> str:
         """The feed's text."""
+        if self._around and self._around[0] == self.snapshot:
+            return f"{self._around[1]}{self.last[self._domain].sequence}{self._around[2]}"
+        text = self._whole_text()
+        if self._domain in self.last and self.last[self._domain].sequence > 1:
+            before, number, behind = text.partition(f"{domain_uuid(self._domain, self.turn)}:1-{self.last[self._domain].sequence}")
+            self._around = self.snapshot, before + number[:39], behind
+        return text
+
+    def _whole_text(self) -> str:
         sets = [(domain_uuid(domain, self.turn), gtid.sequence) for domain, gtid in self.last.items()]
         sets += self.past.items()
         if self.snapshot:

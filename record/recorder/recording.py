@@ -1,6 +1,7 @@
 """A recording: settings and tables are checked, the rows of a snapshot and then the log's are read, and they
 take their place in the feed together, when the log was read to its end; then, where that is wanted, each
 transaction as it commits (`forever`)."""
+import os
 import sys
 import time
 from collections.abc import Iterator
@@ -8,14 +9,13 @@ from contextlib import ExitStack, closing, contextmanager
 from dataclasses import dataclass
 from itertools import chain
 
-from .behind import Behind
 from .catalogue import Table, read_tables
 from .elsewhere import Elsewhere
 from .ending import Ended, Held, Last, show, tell
 from .events import Event, LogEvent
 from .feedfile import FeedFile, check_free
 from .files import Lock, kind_at, left_files, writing
-from .groups import Change, Groups
+from .groups import Change, Changes, Groups
 from .note import Note, check_end, note_path, settle
 from .position import SNAPSHOT_UUID, Position, Until, domain_uuid, sets_of
 from .prepared import prepared_at
@@ -28,6 +28,8 @@ from .untold import check_names, told_of
 
 NO_GTIDS = b"\0\0\0\0"
 """How a GTID list begins that has none: it stands at a log's beginning, and lists what is before it."""
+LOOKS = 16
+"""At each of so many transactions it is looked how far a recording is."""
 MINUTE = 60
 """The seconds between two lines that say how far a recording is."""
 
@@ -59,7 +61,7 @@ class _Start:
     place: Place
     position: Position
     filled: set[Name]
-    prepared: dict[bytes, list[Change]]
+    prepared: dict[bytes, Changes | None]
     written: str = ""
     """The last position that the feed has."""
     begun: int | None = None
@@ -172,7 +174,8 @@ class Recording:
                 self.feed = opened.enter_context(FeedFile(wanted.out, groups, old, wanted.over))
             self._check_left()
             self.written = self._write_snapshot() if wanted.from_snapshot else start.written
-        self.reading = Transactions(self._tables_there(), self.position, self.filled, start.prepared, begun_with)
+        self._folder = os.path.dirname(wanted.out) or "."
+        self.reading = Transactions(self._tables_there(), self.position, self.filled, start.prepared, begun_with, self._folder)
         self.note, self.pending = self._noted(start.place), None
 
     def _tables_there(self) -> list[Table]:
@@ -188,7 +191,7 @@ class Recording:
         if gtids is None:
             raise Stop("the snapshot's place isn't in the log", f"at {snapshot.place}", AGAIN)
         prepared = prepared_at(self.wanted.login, self.connection, self.tables, snapshot.place)
-        return _Start(snapshot.place, Position.read(gtids), set(), {xa: [] for xa in prepared})
+        return _Start(snapshot.place, Position.read(gtids), set(), dict.fromkeys(prepared))
 
     def _old_note(self) -> Note:
         """The note of the feed that is gone on with."""
@@ -211,7 +214,7 @@ class Recording:
             if note.tables.get(name) != layouts.get(name) and (name in note.filled or name not in note.tables or name not in layouts):
                 raise Stop("another table, or other columns, than the feed has", f"in {name}", BEHIND)
         filled = {table.full for table in there if ".".join(table.full) in note.filled}
-        start = _Start(note.place, note.reached(), filled, {bytes.fromhex(xa): [] for xa in note.prepared}, note.position, note.begun)
+        start = _Start(note.place, note.reached(), filled, {bytes.fromhex(xa): None for xa in note.prepared}, note.position, note.begun)
         if note.server_id not in (None, self._server_id):
             start.elsewhere, start.begun = Elsewhere(self.connection, note.reached()), None
             start.place = start.elsewhere.start
@@ -231,6 +234,9 @@ class Recording:
 
     def _go_behind(self, note: Note, opened: ExitStack) -> None:
         """Brings the feed's rows to those of the snapshot."""
+        # it reads messages by Google's library, which takes a while to come
+        from .behind import Behind
+
         behind = opened.enter_context(Behind(self.wanted.out, note, self.tables, self._snapshot))
         with Held():
             self.feed = opened.enter_context(behind.feed())
@@ -274,7 +280,7 @@ class Recording:
     def _read(self, end: Place) -> None:
         """Reads the transactions up to a place."""
         start = self.reading.place if self.reading.place.log else self._start.place
-        progress, groups = Progress(log_sizes(self.connection), start, end), 0
+        progress, groups, seen = Progress(log_sizes(self.connection), start, end), 0, 0
         with closing(self.wanted.login.connect()) as stream:
             read = events(stream, start)
             elsewhere, self._start.elsewhere = self._start.elsewhere, None
@@ -285,7 +291,9 @@ class Recording:
                     self.take(transaction)
                     self.look(transaction.end)
                     groups += bool(transaction.changes)
-                progress.at(transaction.end, groups)
+                seen += 1
+                if seen % LOOKS == 1:
+                    progress.at(transaction.end, groups)
         if elsewhere:
             elsewhere.check()
         progress.close()
@@ -304,8 +312,8 @@ class Recording:
             self.feed.group(chain([first], self._filling(changes)), self.written)
             self.filled.add(first.table.full)
         self._snapshot.close()
-        place, prepared, self._further = self.reading.place, {xa: [] for xa in others} | self.reading.prepared, []
-        self.reading = Transactions(self.tables, self.position, self.filled, prepared, {table.full for table in self.tables})
+        place, prepared, self._further = self.reading.place, dict.fromkeys(others) | self.reading.prepared, []
+        self.reading = Transactions(self.tables, self.position, self.filled, prepared, {table.full for table in self.tables}, self._folder)
         self.reading.place = place
 
     def _filling(self, changes: Iterator[Change]) -> Iterator[Change]:
@@ -325,6 +333,9 @@ class Recording:
                     raise Stop("the first log was purged", f"before {log}", ANEW)
                 unseen.discard(event.kind)
             yield log, event
+            if event.kind == LogEvent.GTID:
+                break
+        yield from read
 
     def take(self, transaction: Transaction) -> None:
         """Appends a transaction to the groups."""

@@ -31,6 +31,12 @@ SILENCE = 60
 LOST = {1040, 1053, 1077, 1080, 1152, 1153, 1158, 1159, 1160, 1161, 1184, 1203, 1317, 1927, 2002, 2003, 2006, 2013, 2055}
 """The numbers of faults that may pass by themselves: a server that ends, begins or has too many connections, and lost connections."""
 NOT_IN_THE_LOG = 1236
+LOST_ONE = 2013
+MOST_OF_PACKET = 2**24 - 1
+END_MARK, FAULT_MARK = 0xFE, 0xFF
+"""The first bytes of packets that aren't events."""
+CHUNK = 2**17
+"""The bytes that are asked for at once."""
 NO_SERVER = (struct.error, LookupError, ValueError, TypeError, AttributeError, AssertionError)
 """What the library meets where something else than a server answers."""
 
@@ -184,34 +190,75 @@ def events(connection: pymysql.Connection, start: Place, waits: bool = False) ->
         connection._execute_command(COMMAND.COM_BINLOG_DUMP, request + start.log.encode())
     except pymysql.err.MySQLError as fault:
         raise fault_of(fault, "the log can't be read", f"behind {log}") from None
-    connection._read_timeout = SILENCE if waits else PATIENCE
+    connection._sock.settimeout(SILENCE if waits else PATIENCE)
+    try:
+        for data, start, end in _packets(connection):
+            kind = data[start + HEADER_KIND]
+            if kind == LogEvent.FORMAT_DESCRIPTION:
+                checksums = data[end - 5] == CRC32
+            elif kind == LogEvent.ROTATE:
+                # the server makes some of these up, with or without a checksum
+                end -= 4 * _is_whole(data, start, end)
+            elif checksums:
+                if not _is_whole(data, start, end):
+                    raise Stop("an event whose checksum is another", f"in {log}", f"the log is damaged there; {BEHIND}")
+                end -= 4
+            event = Event.at(data, start, end)
+            yield log, event
+            if kind == LogEvent.ROTATE:
+                # it stands at the old log's end
+                log = event.body[8:].decode()
+    except pymysql.err.MySQLError as fault:
+        if fault.args[:1] == (NOT_IN_THE_LOG,):
+            raise Stop("the log can't be read", f"behind {log}", f"{fault.args[-1]}; {BEHIND}") from None
+        raise fault_of(fault, "the log can't be read", f"behind {log}") from None
+
+
+def _packets(connection: pymysql.Connection) -> Iterator[tuple[bytes, int, int]]:
+    """What the server sends up to its end mark: of each packet the bytes in which it lies, and where it begins and ends there, the
+    first byte left out. MySQLError where it sends a fault, or the connection is lost."""
+    data, at, parts = b"", 0, []
     while True:
-        try:
-            packet = connection._read_packet()
-        except pymysql.err.MySQLError as fault:
-            if fault.args[:1] == (NOT_IN_THE_LOG,):
-                raise Stop("the log can't be read", f"behind {log}", f"{fault.args[-1]}; {BEHIND}") from None
-            raise fault_of(fault, "the log can't be read", f"behind {log}") from None
-        if packet.is_eof_packet():
+        here = at + 4
+        if here <= len(data):
+            size = data[at] | data[at + 1] << 8 | data[at + 2] << 16
+            at = here + size
+        if here > len(data) or at > len(data):
+            left = here - 4
+            data, at = _filled(connection, data[left:], at - left if at >= here else 4), 0
+            continue
+        if size == MOST_OF_PACKET or parts:
+            # a packet of more bytes comes in several
+            parts.append(data[here:at])
+            if size == MOST_OF_PACKET:
+                continue
+            whole, parts = b"".join(parts), []
+            yield whole, 1, len(whole)
+        elif data[here] == 0:
+            yield data, here + 1, at
+        elif data[here] == END_MARK and size < 9:
             return
-        data = packet.get_all_data()[1:]
-        kind = data[HEADER_KIND]
-        if kind == LogEvent.FORMAT_DESCRIPTION:
-            checksums = data[-5] == CRC32
-        elif kind == LogEvent.ROTATE:
-            # the server makes some of these up, with or without a checksum
-            data = data[:-4] if _is_whole(data) else data
-        elif checksums:
-            if not _is_whole(data):
-                raise Stop("an event whose checksum is another", f"in {log}", f"the log is damaged there; {BEHIND}")
-            data = data[:-4]
-        event = Event.read(data)
-        yield log, event
-        if kind == LogEvent.ROTATE:
-            # it stands at the old log's end
-            log = event.body[8:].decode()
+        elif data[here] == FAULT_MARK:
+            pymysql.err.raise_mysql_exception(data[here:at])
+        else:
+            raise pymysql.err.OperationalError(LOST_ONE, f"a packet that begins with {data[here]}")
 
 
-def _is_whole(data: bytes) -> bool:
+def _filled(connection: pymysql.Connection, data: bytes, least: int) -> bytes:
+    """These bytes, and what the server sends behind them up to so many at least."""
+    parts, size = [data], len(data)
+    while size < least:
+        try:
+            more = connection._sock.recv(max(CHUNK, min(least - size, MOST_OF_PACKET)))
+        except OSError as fault:
+            raise pymysql.err.OperationalError(LOST_ONE, f"Lost connection to server during query ({fault})") from None
+        if not more:
+            raise pymysql.err.OperationalError(LOST_ONE, "Lost connection to server during query")
+        parts.append(more)
+        size += len(more)
+    return b"".join(parts)
+
+
+def _is_whole(data: bytes, start: int, end: int) -> bool:
     """Whether an event ends with its checksum."""
-    return zlib.crc32(data[:-4]) == int.from_bytes(data[-4:], "little")
+    return zlib.crc32(data[start:end - 4]) == int.from_bytes(data[end - 4:end], "little")

@@ -10,7 +10,8 @@ from collections.abc import Iterator, Mapping
 from .gtids import GtidSet
 from .held import HeldRows, key_bytes
 from .kinds import KEYS
-from .messages import EventType, Response, cells_of, framed
+from .messages import EventType, cells_of, framed
+from .protos import Response
 from .stop import Stop
 from .vstream import LABELLED, Columns, Known, Reading, check_rows, read_answer, unread, with_columns
 

@@ -11,7 +11,8 @@ from .ending import Ended, Held, Last, say, tell
 from .files import Lock, kind_at, left_files, open_file, writing
 from .growing import Growing, Told, read_messages
 from .gtids import GtidSet
-from .messages import EventType, Response, framed
+from .messages import EventType, framed
+from .protos import Response
 from .stop import Stop
 from .vcall import Over, Server
 from .vcopy import Copy

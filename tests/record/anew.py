@@ -50,10 +50,10 @@ CASES = [
     Case("a column renamed", "ALTER TABLE anew.t CHANGE n o INT; " + ROWS, "another table, or other columns, than the feed has in anew.t", None),
     Case("a table dropped and made", "DROP TABLE anew.u; CREATE TABLE anew.u (k VARBINARY(9), m INT, PRIMARY KEY (m, k)); INSERT INTO anew.u VALUES ('a', 1); ",
          "another table, or other columns, than the feed has in anew.u", None),
-    Case("a log begun anew", "RESET MASTER; " + ROWS, "the log was purged or begun anew at binlog.0000"),
-    Case("a log begun anew with nothing in it", ROWS + "RESET MASTER; ", "the log was purged or begun anew at binlog.0000"),
-    Case("a log that was purged", ROWS, "the log was purged or begun anew at binlog.0000", purges=True),
-    Case("another domain alone", "RESET MASTER; SET gtid_domain_id=4; " + ROWS, "the log was purged or begun anew at binlog.0000"),
+    Case("a log begun anew", "RESET MASTER; " + ROWS, "the log was purged or begun anew at binlog.000"),
+    Case("a log begun anew with nothing in it", ROWS + "RESET MASTER; ", "the log was purged or begun anew at binlog.000"),
+    Case("a log that was purged", ROWS, "the log was purged or begun anew at binlog.000", purges=True),
+    Case("another domain alone", "RESET MASTER; SET gtid_domain_id=4; " + ROWS, "the log was purged or begun anew at binlog.000"),
     Case("writes without the log", "SET sql_log_bin=0; " + ROWS, ""),
     Case("nothing", "", ""),
 ]  # fmt: skip
@@ -64,7 +64,7 @@ class Living:
 
     def __init__(self, trial, name: str, server: Server | None = None, words: list[str] | None = None) -> None:
         self.trial, self.server, self.name, self.more = trial, server or trial.server, name, words or []
-        self.feed, self.tables = trial.path(f"{name.replace(' ', '-')}.feed"), TABLES
+        self.feed, self.tables = trial.path(f"anew-{name.replace(' ', '-')}.feed"), TABLES
         self.checkpoint = self.feed + ".checkpoint"
 
     def words(self, *words: str) -> list[str]:

@@ -121,7 +121,8 @@ def synced(trial, first: Place, second: Place) -> None:
         log = os.path.join(trial.server.folder, "calls")
         done = place.run("--append", prepare=Logged(log))
         calls = [tuple(line.split()) for line in read_file(log).decode().splitlines()]
-        feed, note, folder = place.feed, f".a.feed.json.{calls[0][0]}-1.new", place.folder
+        feed, folder = place.feed, place.folder
+        note = next(os.path.basename(path) for _, _, path in calls if f".a.feed.json.{calls[0][0]}-" in path)
         named = [(call, os.path.basename(path) if path != folder else "folder") for _, call, path in calls]
         wanted = [("pwrite", os.path.basename(feed)), ("fsync", os.path.basename(feed)), ("pwrite", note), ("fsync", note), ("rename", note), ("fsync", "folder")]
         trial.check("kept, synced", None if done.status == 0 and named == wanted else f"{done}, {named}")
