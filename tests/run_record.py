@@ -395,6 +395,13 @@ def anew(trial: Trial) -> None:
     anew.anew(trial)
 
 
+def large(trial: Trial) -> None:
+    """Large transactions, and positions of a keyspace and a shard."""
+    from record import large
+
+    large.large(trial)
+
+
 def from_vtgate(trial: Trial) -> None:
     """Feeds from what VTGate sends, by its changes and by a copy, over a stand-in for it."""
     from record.vtgate_trials import vtgate
@@ -403,7 +410,7 @@ def from_vtgate(trial: Trial) -> None:
 
 
 STEPS: list[Callable[[Trial], None]] = [
-    statements, stops, prepared, reached, harmless, random_tables, merged_and_split, kinds, portions, grown, late, workflows, from_vtgate, operated, kept, living, anew,
+    statements, stops, prepared, reached, harmless, random_tables, merged_and_split, kinds, portions, grown, late, workflows, from_vtgate, operated, kept, living, anew, large,
 ]  # fmt: skip
 
 
