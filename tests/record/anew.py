@@ -106,7 +106,7 @@ def anew(trial) -> None:
     commands.command()
     for case in CASES:
         goes_on(trial, case)
-    for step in other_keys, other_tables, further_tables, killed, limited, beside_writers, failed_over:
+    for step in other_keys, other_tables, further_tables, forever, killed, limited, beside_writers, failed_over:
         step(trial)
 
 
@@ -224,6 +224,24 @@ def further_tables(trial) -> None:
         trial.server.sql("XA COMMIT 'x'; INSERT INTO anew.last VALUES (2)")
         living.check_run("tables, prepared before", "--append")
         living.same("tables, prepared before")
+
+
+def forever(trial) -> None:
+    """From a snapshot on a feed goes on with each transaction, and connects anew behind its note."""
+    with begun(trial, "forever") as living:
+        trial.server.sql("TRUNCATE anew.u; ")
+        one = Command(*living.words("--anew-behind", "--forever"))
+        one.awaits(lambda: one.has_said("going on\n") and b"Binlog Dump" in trial.server.sql("SHOW PROCESSLIST").stdout, "forever")
+        count = len(groups(read_file(living.feed)))
+        for line in trial.server.sql("SHOW PROCESSLIST").stdout.decode().splitlines():
+            if "Binlog Dump" in line:
+                trial.server.sql(f"KILL {line.split()[0]}")
+        trial.server.sql("INSERT INTO anew.t (id) VALUES (8000); INSERT INTO anew.u (k, m) VALUES ('a', 7); ")
+        one.awaits(lambda: len(groups(read_file(living.feed))) == count + 2 and one.has_said("going on\n", 2), "two transactions")
+        one.kill(signal.SIGTERM)
+        done = one.wait()
+        trial.check("anew, forever", None if done.status == 0 and done.err.count("going on\n") == 2 else f"{done}")
+        living.same("rows")
 
 
 def killed(trial) -> None:
