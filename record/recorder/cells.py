@@ -75,13 +75,13 @@ def _counted(size: int, least: int = 0) -> Reader:
     return read
 
 
-def _fraction_bytes(digits: int) -> int:
+def fraction_bytes(digits: int) -> int:
     return (digits + 1) // 2
 
 
 def _fraction(value: int, digits: int) -> bytes:
     """The digits behind the point, of a value whose unit is that of the stored bytes."""
-    return b"." + (b"%0*d" % (_fraction_bytes(digits) * 2, value))[:digits] if digits else b""
+    return b"." + (b"%0*d" % (fraction_bytes(digits) * 2, value))[:digits] if digits else b""
 
 
 class Texts(dict):
@@ -99,18 +99,23 @@ class Texts(dict):
         return text
 
 
-_CLOCK = Texts(lambda bits: b"%02d:%02d:%02d" % (bits >> 12, bits >> 6 & 63, bits & 63))
+def fractions(digits: int) -> Texts:
+    """The digits behind the point, with it, of what is stored of them."""
+    return Texts(lambda value: _fraction(value, digits))
+
+
+CLOCK = Texts(lambda bits: b"%02d:%02d:%02d" % (bits >> 12, bits >> 6 & 63, bits & 63))
 """Of hours, and minutes and seconds of six bits each."""
-_SECONDS = Texts(lambda seconds: b"%02d:%02d:%02d" % (seconds // 3600, seconds // 60 % 60, seconds % 60))
-_DAYS = Texts(lambda days: f"{datetime.fromtimestamp(days * 86400, UTC):%Y-%m-%d} ".encode())
+SECONDS = Texts(lambda seconds: b"%02d:%02d:%02d" % (seconds // 3600, seconds // 60 % 60, seconds % 60))
+DAYS = Texts(lambda days: f"{datetime.fromtimestamp(days * 86400, UTC):%Y-%m-%d} ".encode())
 """Of the days since 1970."""
-_DATES = Texts(lambda bits: b"%04d-%02d-%02d" % (bits >> 9, bits >> 5 & 15, bits & 31))
-_MONTHS = Texts(lambda bits: b"%04d-%02d-%02d " % (bits // 32 // 13, bits // 32 % 13, bits & 31))
+DATES = Texts(lambda bits: b"%04d-%02d-%02d" % (bits >> 9, bits >> 5 & 15, bits & 31))
+MONTHS = Texts(lambda bits: b"%04d-%02d-%02d " % (bits // 32 // 13, bits // 32 % 13, bits & 31))
 """Of months since the year 0, of which a year has thirteen, and days of five bits."""
 
 
 def _date(data: bytes, at: int) -> tuple[bytes, int]:
-    return _DATES[int.from_bytes(data[at:at + 3], "little")], at + 3
+    return DATES[int.from_bytes(data[at:at + 3], "little")], at + 3
 
 
 def _year(digits: int) -> Reader:
@@ -122,22 +127,22 @@ def _year(digits: int) -> Reader:
 
 
 def _time(digits: int) -> Reader:
-    size, more = 3 + _fraction_bytes(digits), 8 * _fraction_bytes(digits)
+    size, more = 3 + fraction_bytes(digits), 8 * fraction_bytes(digits)
 
     def read(data: bytes, at: int) -> tuple[bytes, int]:
         value = int.from_bytes(data[at:at + size], "big") - (0x800000 << more)
         sign, value = (b"-", -value) if value < 0 else (b"", value)
-        return sign + _CLOCK[value >> more & 0x3FFFFF] + _fraction(value & (1 << more) - 1, digits), at + size
+        return sign + CLOCK[value >> more & 0x3FFFFF] + _fraction(value & (1 << more) - 1, digits), at + size
 
     return read
 
 
 def _datetime(digits: int) -> Reader:
-    more = _fraction_bytes(digits)
+    more = fraction_bytes(digits)
 
     def read(data: bytes, at: int) -> tuple[bytes, int]:
         value = int.from_bytes(data[at:at + 5], "big") - 0x8000000000
-        text = _MONTHS[value >> 17] + _CLOCK[value & 0x1FFFF]
+        text = MONTHS[value >> 17] + CLOCK[value & 0x1FFFF]
         if not digits:
             return text, at + 5
         end = at + 5 + more
@@ -147,13 +152,13 @@ def _datetime(digits: int) -> Reader:
 
 
 def _timestamp(digits: int) -> Reader:
-    more = _fraction_bytes(digits)
+    more = fraction_bytes(digits)
 
     def read(data: bytes, at: int) -> tuple[bytes, int]:
         seconds = int.from_bytes(data[at:at + 4], "big")
         end = at + 4 + more
         fraction = int.from_bytes(data[at + 4:end], "big")
-        text = _DAYS[seconds // 86400] + _SECONDS[seconds % 86400] if seconds or fraction else b"0000-00-00 00:00:00"
+        text = DAYS[seconds // 86400] + SECONDS[seconds % 86400] if seconds or fraction else b"0000-00-00 00:00:00"
         return text + _fraction(fraction, digits) if digits else text, end
 
     return read

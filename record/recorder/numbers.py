@@ -27,6 +27,7 @@ def decimal_reader(precision: int, scale: int) -> Callable[[bytes], bytes]:
             parts.append((bits, (1 << 8 * GROUP_BYTES[group]) - 1, 10**digits))
             bits, digits = bits + 8 * GROUP_BYTES[group], digits + group
     top, every, unit = 1 << 8 * size - 1, (1 << 8 * size) - 1, 10**scale
+    form = b"%%d.%%0%dd" % scale
 
     def text_of(data: bytes) -> bytes:
         stored = int.from_bytes(data, "big") ^ top
@@ -38,7 +39,7 @@ def decimal_reader(precision: int, scale: int) -> Callable[[bytes], bytes]:
             number += (stored >> move & mask) * factor
         if not scale:
             return b"%b%d" % (sign, number)
-        return b"%b%d.%0*d" % (sign, number // unit, scale, number % unit)
+        return sign + form % divmod(number, unit)
 
     return text_of
 

@@ -7,7 +7,7 @@ made; the one for all rows asks each column's bit.
 import struct
 from collections.abc import Callable
 
-from .cells import INTEGERS, LogType, Printing, Reader, counted_size, reader
+from .cells import CLOCK, DATES, DAYS, INTEGERS, MONTHS, SECONDS, LogType, Printing, Reader, counted_size, fraction_bytes, fractions, reader, real_type
 from .kinds import Kind
 from .messages import MOST_OF_ROW, SIZES, LongRow, sized
 
@@ -41,6 +41,16 @@ class _Code:
         self.names[name] = value
         return name
 
+    def number(self, size: int, order: str) -> str:
+        """The number in so many bytes from here on."""
+        start = self.more
+        if size == 1:
+            return f"data[{self.base} + {start}]"
+        if size == 2:
+            low, high = (start, start + 1) if order == "little" else (start + 1, start)
+            return f"(data[{self.base} + {low}] | data[{self.base} + {high}] << 8)"
+        return f"from_bytes(data[{self.base} + {start}:{self.base} + {start + size}], '{order}')"
+
     def go_to(self, name: str) -> None:
         self.base, self.more = name, 0
 
@@ -55,10 +65,10 @@ def image_reader(columns: list[tuple[LogType, Printing]]) -> Image:
     readers = [reader(*column) for column in columns]
     size = (len(columns) + 7) // 8
     code = _Code()
-    every = code.name("nullable", _nullable(readers, size))
+    code.names["nullable"] = _nullable(readers, size)
     nulls = "data[at]" if size == 1 else f"from_bytes(data[at:at + {size}], 'little')"
     code.add(f"if {nulls} & {(1 << len(columns)) - 1}:")
-    code.add(f"return {every}(data, at)", 2)
+    code.add("return nullable(data, at)", 2)
     code.more = size
     for at, (column, read) in enumerate(zip(columns, readers)):
         _read(code, at, *column, read)
@@ -73,14 +83,48 @@ def _read(code: _Code, at: int, log: LogType, printing: Printing, read: Reader) 
         size, signed, _ = INTEGERS[log.number]
         _read_integer(code, at, size, printing.kind == signed)
     elif counts:
-        number = f"data[{code.here}]" if counts == 1 else f"from_bytes(data[{code.here}:{code.base} + {code.more + counts}], 'little')"
         code.add(f"a{at} = {code.base} + {code.more + counts}")
-        code.add(f"e{at} = a{at} + {number}")
+        code.add(f"e{at} = a{at} + {code.number(counts, 'little')}")
         code.add(f"c{at} = data[a{at}:e{at}]")
         code.go_to(f"e{at}")
+    elif size := _read_in_place(code, at, log, printing):
+        code.more += size
     else:
         code.add(f"c{at}, e{at} = {code.name('read', read)}(data, {code.here})")
         code.go_to(f"e{at}")
+
+
+def _read_in_place(code: _Code, at: int, log: LogType, printing: Printing) -> int:
+    """Reads column `at` into c{at}, if it is of one of these types; answers how many bytes it has. As `reader` does it."""
+    if log.number == 10 and printing.kind == Kind.DATE:
+        code.add(f"c{at} = {code.name('dates', DATES)}[{code.number(3, 'little')}]")
+        return 3
+    if log.number == 18 and printing.kind == Kind.DATETIME:
+        code.add(f"v = {code.number(5, 'big')} - {0x8000000000}")
+        code.add(f"c{at} = {code.name('months', MONTHS)}[v >> 17] + {code.name('clock', CLOCK)}[v & {0x1FFFF}]")
+        return 5 + _read_fraction(code, at, log.meta[0], 5)
+    if log.number == 17 and printing.kind == Kind.TIMESTAMP:
+        code.add(f"v = {code.number(4, 'big')}")
+        # no second is a date of zeros, which the reader knows
+        code.add("if not v:")
+        code.add("return nullable(data, at)", 2)
+        code.add(f"c{at} = {code.name('days', DAYS)}[v // 86400] + {code.name('seconds', SECONDS)}[v % 86400]")
+        return 4 + _read_fraction(code, at, log.meta[0], 4)
+    if log.number == 254 and printing.kind == Kind.ENUM and real_type(log)[0] == 247:
+        size = real_type(log)[1]
+        code.add(f"c{at} = {code.name('labels', (b'', *printing.labels))}[{code.number(size, 'little')}]")
+        return size
+    return 0
+
+
+def _read_fraction(code: _Code, at: int, digits: int, behind: int) -> int:
+    """Adds the digits behind the point to c{at}; answers how many bytes they have."""
+    size = fraction_bytes(digits)
+    if digits:
+        code.more += behind
+        code.add(f"c{at} += {code.name('fractions', fractions(digits))}[{code.number(size, 'big')}]")
+        code.more -= behind
+    return size
 
 
 def _read_integer(code: _Code, at: int, size: int, signed: bool) -> None:

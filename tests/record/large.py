@@ -16,7 +16,7 @@ from . import commands
 
 ROOT = commands.ROOT
 MOST_MORE = 64_000_000
-"""The bytes of memory that a transaction of 40 MB may take beyond one of a row."""
+"""The bytes of memory that a transaction of 35 MB may take beyond one of a row."""
 COLUMNS = [
     (LogType(3, b""), Printing(Kind.INT32)), (LogType(15, b"\x14\0"), Printing(Kind.VARCHAR)), (LogType(1, b""), Printing(Kind.UINT8)),
     (LogType(9, b""), Printing(Kind.INT24)), (LogType(15, b"\x14\x04"), Printing(Kind.VARBINARY)), (LogType(252, b"\3"), Printing(Kind.BLOB)),
@@ -113,31 +113,31 @@ def memory_of(trial, *words: str) -> int:
 
 
 def much(trial) -> None:
-    """A transaction of 40 MB in 500,000 rows takes no more memory than a small one and some more."""
+    """A transaction of 35 MB in 220,000 rows takes no more memory than a small one and some more."""
     trial.server.sql("RESET MASTER; CREATE DATABASE large; CREATE TABLE large.t (id INT PRIMARY KEY, v VARCHAR(200)); INSERT INTO large.t VALUES (0, 'a'); ")
     feed = trial.path("large.feed")
     least = memory_of(trial, "--shard", "-", "--out", feed, "large.t")
-    trial.server.sql("INSERT INTO large.t SELECT seq, REPEAT('b', seq % 150) FROM large.seq_1_to_500000; ")
+    trial.server.sql("INSERT INTO large.t SELECT seq, REPEAT('b', 120 + seq % 80) FROM large.seq_1_to_220000; ")
     size = os.path.getsize(feed)
     most = memory_of(trial, "--shard", "-", "--append", "--out", feed, "large.t")
     grown = os.path.getsize(feed) - size
-    trial.check("large, memory", None if grown > 40_000_000 and most < least + MOST_MORE else f"{most} bytes of memory and not {least}, {grown} bytes")
+    trial.check("large, memory", None if grown > 34_000_000 and most < least + MOST_MORE else f"{most} bytes of memory and not {least}, {grown} bytes")
     trial.check("large, one group", None if trial.made(trial.program, "show", feed).count(b"group ") == 2 else "not two groups")
     workflow = trial.workflow("large.json", ["-"], ["large.t"])
-    trial.same("large, rows", trial.made(trial.program, "run", workflow, feed), trial.selected(workflow, "large"), 500_000)
+    trial.same("large, rows", trial.made(trial.program, "run", workflow, feed), trial.selected(workflow, "large"), 220_000)
 
 
 def long_event(trial) -> None:
     """An event that comes in more than one packet."""
     trial.server.sql("CREATE TABLE large.l (id INT PRIMARY KEY, v LONGBLOB); INSERT INTO large.l VALUES (1, REPEAT('a', 9000000)), (2, 'b');"
                      " UPDATE large.l SET v=REPEAT('c', 9000001); ")  # fmt: skip
-    feed = trial.path("long.feed")
+    feed = trial.path("large-event.feed")
     trial.recorded("--shard", "-", "--out", feed, "large.l")
-    workflow, value = trial.workflow("long.json", ["-"], ["large.l"]), b"x" + b"63" * 9_000_001
+    workflow, value = trial.workflow("large-event.json", ["-"], ["large.l"]), b"x" + b"63" * 9_000_001
     wanted = b"table l\nx31\t" + value + b"\nx32\t" + value + b"\n"
     trial.same("large, an event of two packets", trial.made(trial.program, "run", workflow, feed), wanted, 3)
     trial.server.sql("DROP DATABASE large; RESET MASTER")
-    for name in "large.feed", "long.feed":
+    for name in "large.feed", "large-event.feed":
         os.unlink(trial.path(name))
 
 
