@@ -272,7 +272,7 @@ def interrupted(trial, living: Living, names: list[str]) -> int:
     def why(item: tuple[int, str]) -> str | None:
         number, name = item
         copy = copied(f"{name}-{number}")
-        done = copy.run("--anew-behind", prepare=At(number, INTERRUPTIONS[name]))
+        done = copy.run("--anew-behind", prepare=InPieces(At(number, INTERRUPTIONS[name])))
         seen = read_file(copy.feed)
         left = [one for one in os.listdir(os.path.dirname(copy.feed)) if one.endswith((".new", ".copy")) and name == "ended"]
         if name != "killed" and (left or not is_whole(seen)):
@@ -291,6 +291,7 @@ def interrupted(trial, living: Living, names: list[str]) -> int:
         return why_wrong(name, done)
 
     count = commands.calls_of(commands.CHANGING, *copied("counted").words("--anew-behind"))
+    torn(trial, copied, old, workflow, wanted)
     faults = commands.spread([(number, name) for name in names for number in range(1, count + 1)], why)
     trial.check(f"anew, {living.name}", f"{len(faults)} of {len(names) * count}: {faults[0]}" if faults else None)
     one, other = (Command(*living.words("--anew-behind")) for _ in range(2))
@@ -298,6 +299,46 @@ def interrupted(trial, living: Living, names: list[str]) -> int:
     wrong = [done for done in ends if done.status and done.why_not_stopped("another recording writes this feed at ")]
     trial.check(f"anew, {living.name}, two at a time", f"{ends}" if wrong or all(done.status for done in ends) else None)
     return count
+
+
+def torn(trial, copied: Callable[[str], Living], old: bytes, workflow: bytes, wanted: bytes) -> None:
+    """A writer that was killed amid a group of several messages: what is left of the group is cut off."""
+    copy = copied("torn")
+    copy.run("--anew-behind", prepare=InPieces(lambda: None))
+    new = read_file(copy.feed)
+    if not new.startswith(old):
+        return
+    [(_, _, group), *_] = groups(new)[len(groups(old)):]
+    messages = len(list(frames_of(new[len(old):])))
+    trial.check("anew, a group of several messages", None if messages > 3 and len(group) > 100 else f"{messages} messages")
+    for cut in {*random.Random(2).sample(range(len(old) + 1, len(new)), 8), *(len(old) + end for end in list(frames_of(new[len(old):]))[:2])}:
+        living = copied(f"torn-{cut}")
+        write_file(living.feed, new[:cut])
+        done = living.run("--anew-behind")
+        data = read_file(living.feed)
+        dump = trial.made(trial.program, "run", living.feed + ".workflow", living.feed)
+        fine = done.status == 0 and dump == wanted and data.startswith(old) and is_whole(data) and done.err.count("cut off") == 1
+        trial.check(f"anew, torn at {cut - len(old)}", None if fine else f"{done}, {len(data)} bytes")
+
+
+def frames_of(feed: bytes) -> Iterator[int]:
+    from recorder.messages import frames
+
+    for _, end in frames(feed):
+        yield end
+
+
+@dataclass(frozen=True)
+class InPieces:
+    """Groups have a message for each change."""
+
+    prepare: Callable[[], None]
+
+    def __call__(self) -> None:
+        from recorder import groups, snapshot
+
+        groups.PIECE = snapshot.PIECE = 40
+        self.prepare()
 
 
 def is_whole(feed: bytes) -> bool:
