@@ -9,8 +9,10 @@ and the most memory that record/feed had. The last lines are what one more trans
 """
 import argparse
 import os
+import shutil
 import subprocess
 import sys
+import tempfile
 
 ROOT = os.path.dirname(os.path.dirname(os.path.dirname(os.path.abspath(__file__))))
 sys.dont_write_bytecode = True
@@ -18,6 +20,7 @@ sys.path[:0] = [os.path.join(ROOT, "tests"), os.path.join(ROOT, "record")]
 
 from record.server import Server  # noqa: E402
 
+PYCACHE = tempfile.mkdtemp(prefix="vrepl-record-")
 NARROW = "id INT PRIMARY KEY, v VARCHAR(20), n INT"
 WIDE = ("id BIGINT PRIMARY KEY, a INT, b VARCHAR(60), c DATETIME, d DECIMAL(12,2), e TINYINT, f VARCHAR(255), g BIGINT, h DATE, i CHAR(10), j DOUBLE, k TIMESTAMP(3),"
         " l ENUM('one','two','three'), m TEXT")  # fmt: skip
@@ -47,8 +50,10 @@ def fill(server: Server, columns: str, row: str, together: int, count: int, upda
 
 def taken(words: list[str]) -> tuple[float, int]:
     """The processor's seconds that a command takes, and its most memory in bytes."""
+    # Python keeps what it has made of the modules, as it does where nothing is said
+    told = {name: value for name, value in os.environ.items() if name != "PYTHONDONTWRITEBYTECODE"} | {"PYTHONPYCACHEPREFIX": PYCACHE}
     with open(os.devnull, "wb") as nowhere:
-        process = subprocess.Popen(words, stdout=nowhere, stderr=subprocess.PIPE)
+        process = subprocess.Popen(words, stdout=nowhere, stderr=subprocess.PIPE, env=told)
         said = process.stderr.read()
         _, status, used = os.wait4(process.pid, 0)
     if status:
@@ -87,6 +92,7 @@ def main() -> None:
     said = parser.parse_args()
     for name in said.shapes or SHAPES:
         measure(name, said.binlog, said.rows, said.rounds)
+    shutil.rmtree(PYCACHE)
 
 
 if __name__ == "__main__":

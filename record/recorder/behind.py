@@ -9,7 +9,7 @@ from .catalogue import Table
 from .feedfile import FeedFile
 from .files import open_file, writing
 from .groups import Change, Groups
-from .held import HeldRows
+from .held import HeldRows, key_bytes
 from .messages import change_bytes
 from .note import Note, groups_between, held_path
 from .oldfeed import OldFeed
@@ -52,7 +52,9 @@ class Behind:
         self._old = OldFeed(self._path, self._end, self._tables)
         self._old.read(self._rows)
         for place, table in enumerate(self._tables, len(self._tables)):
-            self._snapshot.hold(table, place, self._rows)
+            key = [(at, table.columns[at].kind) for at in table.key]
+            for row, data in self._snapshot.rows_of(table):
+                self._rows.put((place, key_bytes(row, key, table.name)), data)
 
     def feed(self) -> FeedFile:
         """The feed that is gone on with, or the one in its place where columns changed."""

@@ -58,7 +58,7 @@ def varint(number: int) -> bytes:
     return bytes(head)
 
 
-SIZES = [varint(number) for number in range(1 << 14)]
+SIZES = [bytes((number,)) for number in range(0x80)] + [bytes((number & 0x7F | 0x80, number >> 7)) for number in range(0x80, 1 << 14)]
 """The varints of small numbers."""
 
 

@@ -17,6 +17,7 @@ TEXTS = [[b"%d" % number for number in range(256)], [b"%d" % (number - (number >
 """The texts of a byte as a number, without a sign and with one."""
 FORMATS = {(1, True): "b", (1, False): "B", (2, True): "h", (2, False): "H", (4, True): "i", (4, False): "I", (8, True): "q", (8, False): "Q"}
 ROOM = 2**13
+"""Of a cell of fewer bytes the length is among `SIZES`."""
 SMALL = 64
 """Rows of fewer bytes have lengths of one byte each, and so have their messages."""
 
@@ -184,8 +185,9 @@ def _nullable(readers: list[Reader], size: int) -> Image:
     return image
 
 
+SHORT = 2**10
 BEFORE, AFTER = 0x0A, 0x12
-_HEADS = {sign: [b"\x12" + SIZES[number + 1 + len(SIZES[number])] + bytes([sign]) + SIZES[number] for number in range(ROOM)] for sign in (BEFORE, AFTER)}
+_HEADS = {sign: [b"\x12" + SIZES[number + 1 + len(SIZES[number])] + bytes([sign]) + SIZES[number] for number in range(SHORT)] for sign in (BEFORE, AFTER)}
 """What stands before a Row message of so many bytes, in a row change that has it alone."""
 
 
@@ -200,7 +202,7 @@ def one_image(read: Image, sign: int, data: bytes, at: int) -> bytes:
     while at < end:
         row, at = read(data, at)
         size = len(row)
-        changes += heads[size] if size < ROOM else _head(sign, size), row
+        changes += heads[size] if size < SHORT else _head(sign, size), row
     return b"".join(changes)
 
 

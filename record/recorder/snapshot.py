@@ -7,7 +7,6 @@ from collections.abc import Iterable, Iterator
 
 from .catalogue import Table, quoted
 from .groups import PIECE, Change
-from .held import HeldRows, key_bytes
 from .messages import LongRow, Row, change_bytes, row_bytes
 from .server import Login, Place, ask, rows
 from .stop import Stop
@@ -28,15 +27,9 @@ class Snapshot:
     def changes(self, tables: list[Table]) -> Iterator[Change]:
         """All rows of the tables as inserts, at most 1,000 at once, and a megabyte."""
         for table in tables:
-            yield from in_portions(table, (change_bytes(None, data) for _, data in self._rows(table)))
+            yield from in_portions(table, (change_bytes(None, data) for _, data in self.rows_of(table)))
 
-    def hold(self, table: Table, place: int, held: HeldRows) -> None:
-        """Holds a table's rows by their keys."""
-        key = [(at, table.columns[at].kind) for at in table.key]
-        for row, data in self._rows(table):
-            held.put((place, key_bytes(row, key, table.name)), data)
-
-    def _rows(self, table: Table) -> Iterator[tuple[Row, bytes]]:
+    def rows_of(self, table: Table) -> Iterator[tuple[Row, bytes]]:
         """The rows of a table in its key's order, each with its message."""
         names = ", ".join(quoted(column.name) for column in table.columns)
         order = ", ".join(quoted(name) for name in table.key_names)
