@@ -65,7 +65,7 @@ class Living:
     def __init__(self, trial, name: str, server: Server | None = None, words: list[str] | None = None) -> None:
         self.trial, self.server, self.name, self.more = trial, server or trial.server, name, words or []
         self.feed, self.tables = trial.path(f"anew-{name.replace(' ', '-')}.feed"), TABLES
-        self.checkpoint = self.feed + ".checkpoint"
+        self.checkpoint, self._of = self.feed + ".checkpoint", None
 
     def words(self, *words: str) -> list[str]:
         return ["--socket", self.server.socket, "--user", "root", "--shard", "-", "--out", self.feed, *self.more, *words, *self.tables]
@@ -78,8 +78,12 @@ class Living:
         self.trial.check(f"anew, {self.name}, {name}", f"{done}" if done.status or "warning" in done.err else None)
 
     def workflow(self, *words: str) -> str:
-        said = ["--socket", self.server.socket, "--user", "root", "--keyspace", "ks", "--shards=-", *words, *self.tables]
-        write_file(self.feed + ".workflow", self.trial.made("record/workflow", *said))
+        """The workflow file of the tables, which is made where they are others than before."""
+        tables = json.loads(read_file(self.feed + ".json"))["tables"]
+        if self._of != (words, self.tables, tables):
+            said = ["--socket", self.server.socket, "--user", "root", "--keyspace", "ks", "--shards=-", *words, *self.tables]
+            write_file(self.feed + ".workflow", self.trial.made("record/workflow", *said))
+            self._of = words, self.tables, tables
         return self.feed + ".workflow"
 
     def selected(self, workflow: str) -> bytes:
@@ -116,6 +120,8 @@ def begun(trial, name: str, *words: str) -> Iterator[Living]:
     trial.server.sql(MADE)
     living = Living(trial, name, words=list(words))
     living.check_run("begun", "--from-snapshot")
+    trial.server.sql("DELETE FROM anew.t WHERE id IN (11, 12); UPDATE anew.t SET n=-n WHERE id < 9; UPDATE anew.u SET m=-m WHERE m = 3; ")
+    living.check_run("appended", "--append")
     living.follow(living.workflow())
     yield living
     trial.server.sql("DROP DATABASE anew")
@@ -138,8 +144,16 @@ def goes_on(trial, case: Case) -> None:
         living.check_run("appended", "--append")
         if case.kept != ALL:
             living.same("appended")
+        check_true(living)
         check_groups(living, old, note, case)
         check_checkpoint(living, case)
+
+
+def check_true(living: Living) -> None:
+    """Each change is of a row that stands there."""
+    checked = json.loads(living.trial.run(living.trial.program, "check", "--json", living.workflow(), living.feed).stdout)
+    found = checked["streams"][0]["findings"]
+    living.trial.check(f"anew, {living.name}, true changes", f"{len(found)}: {found[0]}" if found else None)
 
 
 def columns_of(living: Living) -> list[str]:
@@ -225,6 +239,11 @@ def further_tables(trial) -> None:
         trial.server.sql("XA COMMIT 'x'; INSERT INTO anew.last VALUES (2)")
         living.check_run("tables, prepared before", "--append")
         living.same("tables, prepared before")
+        trial.server.sql("CREATE TABLE anew.still (id INT PRIMARY KEY); INSERT INTO anew.still VALUES (1), (2); ")
+        living.check_run("up to the log's end", "--append")
+        living.tables = [*living.tables, "anew.still"]
+        living.check_run("a table more at the log's end", "--append")
+        living.same("a table more at the log's end")
 
 
 def forever(trial) -> None:
@@ -249,9 +268,9 @@ def killed(trial) -> None:
     """Killed, ended or refused a system call at each one; what the feed had stays, also whole groups that a killed one left, and
     the next one brings it to the server's rows."""
     with begun(trial, "killed") as living:
-        for made in "TRUNCATE anew.u; ", "ALTER TABLE anew.u ADD more INT; INSERT INTO anew.u VALUES ('k', 1, 'v', 2); ":
+        for made in "SET sql_log_bin=0; ", "TRUNCATE anew.u; ", "ALTER TABLE anew.u ADD more INT; INSERT INTO anew.u VALUES ('k', 1, 'v', 2); ":
             trial.server.sql(made + ROWS.replace("9000", f"{9000 + len(made)}").replace("-1", f"-{len(made)}"))
-            count = interrupted(trial, living, ["killed"] if made.startswith("TRUNCATE") else ["killed", "ended", "ENOSPC"])
+            count = interrupted(trial, living, ["killed", "ended", "ENOSPC"] if made.startswith("ALTER") else ["killed"])
             trial.check(f"anew, calls behind {made[:8]}", None if count > 12 else f"{count}")
             living.same("behind")
 
@@ -379,8 +398,7 @@ def beside_writers(trial) -> None:
         living.check_run("at last", "--append")
         workflow = living.workflow()
         trial.same("anew, writers, rows", trial.made(trial.program, "run", workflow, living.feed), living.selected(workflow), 100)
-        checked = json.loads(trial.run(trial.program, "check", "--json", workflow, living.feed).stdout)
-        trial.check("anew, writers, true changes", None if not checked["streams"][0]["findings"] else f"{checked['streams'][0]['findings'][:3]}")
+        check_true(living)
         shown = trial.run(trial.program, "show", "--keyspace", "ks", "--shard", "-", living.feed)
         other = trial.run(trial.program, "show", "--keyspace", "ks", "--shard", "80-", living.feed)
         fine = shown.returncode == 0 and other.stderr.startswith(b"refused 89")
@@ -413,13 +431,15 @@ def failed_over(trial) -> None:
         living.check_run("ahead", "--append")
         ahead = json.loads(read_file(living.feed + ".json"))["gtids"]
         wait_for(replica, ahead)
-        replica.sql("STOP SLAVE; FLUSH BINARY LOGS; INSERT INTO anew.t (id) VALUES (3000); SET gtid_domain_id=5; DELETE FROM anew.t WHERE id=2001; ")
+        replica.sql("STOP SLAVE")
         lost = {more: read_file(living.feed + more) for more in ("", ".json")}
         trial.server.sql("INSERT INTO anew.t (id) VALUES (2004); ")
         other = Living(trial, "failover-lost")
         for more, data in lost.items():
             write_file(other.feed + more, data)
         other.check_run("lost", "--append")
+        has_less(trial, other, replica)
+        replica.sql("INSERT INTO anew.t (id) VALUES (3000); SET gtid_domain_id=5; DELETE FROM anew.t WHERE id=2001; ")
         goes_on_there(trial, living, replica)
         had_more(trial, other, replica)
         for one in living, other:
@@ -450,6 +470,14 @@ def goes_on_there(trial, living: Living, replica: Server) -> None:
     replica.sql("DELETE FROM anew.t WHERE id < 4; ")
     living.check_run("there, appended", "--append")
     living.same("there, appended")
+
+
+def has_less(trial, living: Living, replica: Server) -> None:
+    """The feed has a transaction that the replica hasn't, and nothing is there in its place."""
+    old, living.server = read_file(living.feed), replica
+    done = living.run("--append")
+    fine = done.status == 1 and done.err.splitlines()[-1].startswith("feed: the log of another server, which hasn't what the feed ends with (0-7-")
+    trial.check("anew, failover to less", None if fine and read_file(living.feed) == old else f"{done}")
 
 
 def had_more(trial, living: Living, replica: Server) -> None:
