@@ -277,7 +277,7 @@ def killed(trial) -> None:
 
 def interrupted(trial, living: Living, names: list[str]) -> int:
     """Tries copies of a feed; answers how many system calls there are."""
-    old = read_file(living.feed)
+    old, living._of = read_file(living.feed), None
     wanted = living.selected(living.workflow())
     workflow = read_file(living.feed + ".workflow")
 
