@@ -69,18 +69,15 @@ class Event(NamedTuple):
     flags: int
     body: bytes
 
-    @classmethod
-    def read(cls, data: bytes) -> "Event":
-        return cls.at(data, 0, len(data))
 
-    @classmethod
-    def at(cls, data: bytes, start: int, behind: int) -> "Event":
-        """The event between two places of some bytes."""
-        time, kind, server, _size, end, flags = _unpack(data, start)
-        return cls(time, kind, server, end, flags, data[start + HEADER.size:behind])
+def event_at(data: bytes, start: int, behind: int) -> Event:
+    """The event between two places of some bytes."""
+    time, kind, server, _size, end, flags = _unpack(data, start)
+    return _new(Event, (time, kind, server, end, flags, data[start + HEADER_SIZE:behind]))
 
 
-_unpack, _unpack_gtid = HEADER.unpack_from, struct.Struct("<QIB").unpack_from
+HEADER_SIZE = HEADER.size
+_new, _unpack, _unpack_gtid = tuple.__new__, HEADER.unpack_from, struct.Struct("<QIB").unpack_from
 
 
 class GtidEvent(NamedTuple):

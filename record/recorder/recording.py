@@ -289,7 +289,8 @@ class Recording:
             for transaction in self.reading.read(self.checked(read), start, end):
                 if not self.is_done:
                     self.take(transaction)
-                    self.look(transaction.end)
+                    if self.until:
+                        self.look(transaction.end)
                     groups += bool(transaction.changes)
                 seen += 1
                 if seen % LOOKS == 1:

@@ -16,7 +16,7 @@ import pymysql
 from pymysql.constants import COMMAND
 from pymysql.cursors import SSCursor
 
-from .events import Event, LogEvent
+from .events import Event, LogEvent, event_at
 from .stop import AGAIN, BEHIND, Lost, Stop
 
 WITHOUT_WAITING = 1
@@ -191,6 +191,7 @@ def events(connection: pymysql.Connection, start: Place, waits: bool = False) ->
     except pymysql.err.MySQLError as fault:
         raise fault_of(fault, "the log can't be read", f"behind {log}") from None
     connection._sock.settimeout(SILENCE if waits else PATIENCE)
+    crc32, from_bytes = zlib.crc32, int.from_bytes
     try:
         for data, start, end in _packets(connection):
             kind = data[start + HEADER_KIND]
@@ -200,10 +201,10 @@ def events(connection: pymysql.Connection, start: Place, waits: bool = False) ->
                 # the server makes some of these up, with or without a checksum
                 end -= 4 * _is_whole(data, start, end)
             elif checksums:
-                if not _is_whole(data, start, end):
-                    raise Stop("an event whose checksum is another", f"in {log}", f"the log is damaged there; {BEHIND}")
                 end -= 4
-            event = Event.at(data, start, end)
+                if crc32(data[start:end]) != from_bytes(data[end:end + 4], "little"):
+                    raise Stop("an event whose checksum is another", f"in {log}", f"the log is damaged there; {BEHIND}")
+            event = event_at(data, start, end)
             yield log, event
             if kind == LogEvent.ROTATE:
                 # it stands at the old log's end

@@ -27,7 +27,12 @@ class Transaction(NamedTuple):
     gtid: Gtid
     time: int
     changes: Changes | None
-    end: Place
+    log: str
+    offset: int
+
+    @property
+    def end(self) -> Place:
+        return Place(self.log, self.offset)
 
 
 class _Open:
@@ -94,7 +99,7 @@ class Transactions:
                 self.position.add(gtid)
                 if changes and len(self.filled) < len(self.tables):
                     self.filled |= changes.tables
-                yield Transaction(gtid, event.time, changes, self.place)
+                yield Transaction(gtid, event.time, changes, log, self._offset)
                 if changes:
                     changes.close()
         if end and not self._has_reached(end):
