@@ -28,8 +28,7 @@ class Elsewhere:
         raise Stop("the log was purged", f"behind {reached.gtids()}, where the feed ends", BEHIND)
 
     def unread(self, read: Iterator[tuple[str, Event]]) -> Iterator[tuple[str, Event]]:
-        """The events of a log from the start on; those of transactions that the feed has say nothing. Stops where one of these
-        is missing, or another one has its number."""
+        """The events of a log from the start on; those of transactions that the feed has say nothing."""
         is_had = False
         for log, event in read:
             if event.kind == LogEvent.GTID:
@@ -43,16 +42,11 @@ class Elsewhere:
         is_had = last is not None and gtid.sequence <= last.sequence
         if is_had:
             self._seen.add(gtid)
-        elif last and self._seen.last.get(gtid.domain) != last:
-            self._stop(last)
         return is_had
 
     def check(self) -> None:
-        """Stops unless all transactions of the feed were met."""
+        """Stops unless the last transaction of each domain that the feed has was met, once the log was read."""
         for domain, last in self._reached.last.items():
-            if self._seen.last.get(domain) != last:
-                self._stop(last)
-
-    def _stop(self, last: Gtid) -> None:
-        there = self._seen.last.get(last.domain)
-        raise Stop("the log of another server, which hasn't what the feed ends with", f"({last}, but {there or 'nothing'} there)", BEHIND)
+            there = self._seen.last.get(domain)
+            if there != last:
+                raise Stop("the log of another server, which hasn't what the feed ends with", f"({last}, but {there or 'nothing'} there)", BEHIND)
