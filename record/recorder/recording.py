@@ -19,7 +19,7 @@ from .groups import Change, Changes, Groups
 from .note import Note, check_end, note_path, settle
 from .position import SNAPSHOT_UUID, Position, Until, domain_uuid, sets_of
 from .prepared import prepared_at
-from .server import Login, Place, check_schemas, check_settings, end_place, events, first_place, gtids_at, log_sizes, server_id
+from .server import Login, Place, check_schemas, check_settings, end_place, events, first_place, gtids_at, log_sizes, server_id, why_unread
 from .snapshot import Snapshot
 from .statements import Name
 from .stop import AGAIN, ANEW, BEHIND, Lost, Stop
@@ -189,7 +189,7 @@ class Recording:
             return _Start(first_place(self.connection), Position(), set(), {})
         gtids = gtids_at(self.connection, snapshot.place)
         if gtids is None:
-            raise Stop("the snapshot's place isn't in the log", f"at {snapshot.place}", AGAIN)
+            raise Stop("the snapshot's place isn't in the log", f"at {snapshot.place}", why_unread(self.connection, snapshot.place) + AGAIN)
         prepared = prepared_at(self.wanted.login, self.connection, self.tables, snapshot.place)
         return _Start(snapshot.place, Position.read(gtids), set(), dict.fromkeys(prepared))
 
@@ -222,7 +222,7 @@ class Recording:
             return start
         gtids = gtids_at(self.connection, note.place)
         if gtids is None:
-            raise Stop("the log was purged or begun anew", f"at {note.place}, where the feed ends", BEHIND)
+            raise Stop("the log was purged or begun anew", f"at {note.place}, where the feed ends", why_unread(self.connection, note.place) + BEHIND)
         if Position.read(gtids).gtids() != note.gtids:
             raise Stop("another log than the feed's", f"at {note.place}: behind {gtids or 'nothing'} and not {note.gtids or 'nothing'}", BEHIND)
         return start

@@ -31,6 +31,7 @@ SILENCE = 60
 LOST = {1040, 1053, 1077, 1080, 1152, 1153, 1158, 1159, 1160, 1161, 1184, 1203, 1317, 1927, 2002, 2003, 2006, 2013, 2055}
 """The numbers of faults that may pass by themselves: a server that ends, begins or has too many connections, and lost connections."""
 NOT_IN_THE_LOG = 1236
+MOST_ALLOWED = 2**30
 LOST_ONE = 2013
 MOST_OF_PACKET = 2**24 - 1
 END_MARK, FAULT_MARK = 0xFE, 0xFF
@@ -173,6 +174,15 @@ def check_schemas(connection: pymysql.Connection, schemas: set[str]) -> None:
 def gtids_at(connection: pymysql.Connection, place: Place) -> str | None:
     """The last GTID of each domain before a place; None where the log has no such place."""
     return ask(connection, "SELECT BINLOG_GTID_POS(%s, %s)", place.log, place.offset)[0][0]
+
+
+def why_unread(connection: pymysql.Connection, place: Place) -> str:
+    """What to do first where the server doesn't say what is before a place of a log that it has: it reads no event that is larger
+    than it lets packets be, but for those that it sends as a log."""
+    ((most,),) = ask(connection, "SELECT @@global.max_allowed_packet")
+    if log_sizes(connection).get(place.log, 0) < place.offset or most >= MOST_ALLOWED:
+        return ""
+    return f"where it wasn't, an event there is larger than max_allowed_packet: SET GLOBAL max_allowed_packet={MOST_ALLOWED}, and {AGAIN}; "
 
 
 def log_sizes(connection: pymysql.Connection) -> dict[str, int]:

@@ -129,13 +129,21 @@ def much(trial) -> None:
 
 def long_event(trial) -> None:
     """An event that comes in more than one packet."""
-    trial.server.sql("CREATE TABLE large.l (id INT PRIMARY KEY, v LONGBLOB); INSERT INTO large.l VALUES (1, REPEAT('a', 9000000)), (2, 'b');"
+    trial.server.sql("SET GLOBAL max_binlog_size=1073741824; CREATE TABLE large.l (id INT PRIMARY KEY, v LONGBLOB); INSERT INTO large.l VALUES (1, REPEAT('a', 9000000)), (2, 'b');"
                      " UPDATE large.l SET v=REPEAT('c', 9000001); ")  # fmt: skip
     feed = trial.path("large-event.feed")
     trial.recorded("--shard", "-", "--out", feed, "large.l")
     workflow, value = trial.workflow("large-event.json", ["-"], ["large.l"]), b"x" + b"63" * 9_000_001
     wanted = b"table l\nx31\t" + value + b"\nx32\t" + value + b"\n"
     trial.same("large, an event of two packets", trial.made(trial.program, "run", workflow, feed), wanted, 3)
+    trial.server.sql("INSERT INTO large.l VALUES (3, 'd'); ")
+    done = trial.record("--shard", "-", "--append", "--out", feed, "large.l")
+    fine = done.returncode == 1 and b"where it wasn't, an event there is larger than max_allowed_packet: SET GLOBAL max_allowed_packet=" in done.stderr
+    trial.check("large, an event that the server doesn't read", None if fine else f"{done}")
+    trial.server.sql("SET GLOBAL max_allowed_packet=1073741824")
+    trial.recorded("--shard", "-", "--append", "--out", feed, "large.l")
+    trial.same("large, behind an event", trial.made(trial.program, "run", workflow, feed), wanted + b"x33\tx64\n", 4)
+    trial.server.sql("SET GLOBAL max_allowed_packet=16777216, max_binlog_size=262144")
     trial.server.sql("DROP DATABASE large; RESET MASTER")
     for name in "large.feed", "large-event.feed":
         os.unlink(trial.path(name))
