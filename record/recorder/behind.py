@@ -7,11 +7,11 @@ from itertools import chain
 
 from .catalogue import Table
 from .feedfile import FeedFile
-from .files import open_file, writing
+from .files import held_path, open_file, writing
 from .groups import Change, Groups
 from .held import HeldRows, key_bytes
 from .messages import change_bytes
-from .note import Note, groups_between, held_path
+from .note import Note, groups_between
 from .oldfeed import OldFeed
 from .position import Position
 from .snapshot import Snapshot, in_portions

@@ -136,6 +136,11 @@ def _be_as(file: int, path: str) -> None:
         os.fchmod(file, stat.S_IMODE(there.st_mode))
 
 
+def held_path(feed: str) -> str:
+    """The file that holds rows while they are copied or compared, beside a feed whose lock is held."""
+    return feed + ".copy"
+
+
 def left_files(path: str) -> list[str]:
     """The new files that were to take a file's place and were left by killed ones; its lock is held."""
     folder, name = _parts(path)

@@ -10,7 +10,7 @@ from contextlib import suppress
 from dataclasses import asdict, dataclass, field
 
 from . import messages
-from .files import kind_at, left_files, new_file, open_file, put, read_file, sync_folder, write_at
+from .files import held_path, kind_at, left_files, new_file, open_file, put, read_file, sync_folder, write_at
 from .messages import EventType
 from .position import Position, sets_of
 from .server import Place
@@ -108,11 +108,6 @@ class Note:
 
 def note_path(feed: str) -> str:
     return feed + ".json"
-
-
-def held_path(feed: str) -> str:
-    """The file that holds rows while they are compared."""
-    return feed + ".copy"
 
 
 def _why(fault: Exception) -> str:
