@@ -372,7 +372,7 @@ def limited(trial) -> None:
         old = read_file(living.feed), read_file(living.feed + ".json")
         for limit in 100, 20_000, 65_536, len(old[0]) + 1000:
             done = living.run("--anew-behind", prepare=lambda limit=limit: resource.setrlimit(resource.RLIMIT_FSIZE, (limit, limit)))
-            left = [one for one in os.listdir(trial.server.folder) if one.endswith((".new", ".copy"))]
+            left = [one for one in os.listdir(trial.server.folder) if "anew-limited" in one and one.endswith((".new", ".copy"))]
             same = (read_file(living.feed), read_file(living.feed + ".json")) == old
             trial.check(f"anew, limited to {limit}", done.why_not_stopped("") or (None if same and not left else f"{left} left, or the feed was changed"))
         living.check_run("behind", "--anew-behind")
