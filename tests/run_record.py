@@ -395,6 +395,20 @@ def living(trial: Trial) -> None:
     living.living(trial)
 
 
+def anew(trial: Trial) -> None:
+    """Feeds that go on where the log doesn't."""
+    from record import anew
+
+    anew.anew(trial)
+
+
+def large(trial: Trial) -> None:
+    """Large transactions, and positions of a keyspace and a shard."""
+    from record import large
+
+    large.large(trial)
+
+
 def from_vtgate(trial: Trial) -> None:
     """Feeds from what VTGate sends, by its changes and by a copy, over a stand-in for it."""
     from record.vtgate_trials import vtgate
@@ -403,7 +417,7 @@ def from_vtgate(trial: Trial) -> None:
 
 
 STEPS: list[Callable[[Trial], None]] = [
-    statements, stops, prepared, reached, harmless, random_tables, merged_and_split, by_hash, kinds, portions, grown, late, workflows, from_vtgate, operated, kept, living,
+    statements, stops, prepared, reached, harmless, random_tables, merged_and_split, by_hash, kinds, portions, grown, late, workflows, from_vtgate, operated, kept, living, anew, large,
 ]  # fmt: skip
 
 

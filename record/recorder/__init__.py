@@ -8,7 +8,9 @@ Modules, from the lowest up; each has one idea:
     kinds         the numbers of column types
     numbers       decimal numbers and floats, from the log's bytes to the server's text
     cells         a column's value in the log, to the bytes that the server prints
-    messages      the messages of a feed, as classes of Google's protobuf library
+    messages      the messages of a feed, as bytes
+    protos        the messages of a feed, as classes of Google's protobuf library
+    gtids         GTID sets, as the program reads them
     position      sets of transactions, from MariaDB's domains to GTID sets
     words         a statement's text as words
     alterations   which statements about a table leave it as it is
@@ -20,16 +22,20 @@ Modules, from the lowest up; each has one idea:
     catalogue     tables, columns and keys, and the tables that can't be recorded
     untold        what no log says, told where a recording or a workflow begins
     prepared      XA transactions that are prepared where a snapshot stands
-    transactions  events to whole transactions of the recorded tables
     groups        transactions as the groups of a feed
+    rowcode       rows of row events to row changes, by code for the columns of one table
+    transactions  events to whole transactions of the recorded tables
     note          the note beside a feed, and the feed's end that it tells of
     feedfile      the feed's file: made whole, and grown in its place
+    held          rows by table and key, held in a file
     snapshot      the rows of one consistent snapshot
+    oldfeed       what a feed that is there says: its rows, and its groups under other columns
+    behind        the group that brings a feed's rows to a snapshot's
+    elsewhere     another server's log, gone on with by GTID
     recording     all of these, one behind the other
     plans         workflow files, and all that a reshard needs
     forever       a recording that goes on with each transaction as it commits
     filters       a workflow's filters as conditions of SQL
-    gtids         GTID sets, as the program reads them
     vstream       what VTGate sends of one shard, as a feed
     vcopy         the rows of a keyspace by VStream's own copy, as a feed's first group
     vcall         the call that asks VTGate, and whether the other side is still there

@@ -9,7 +9,7 @@ from dataclasses import dataclass
 from datetime import UTC, datetime
 
 from .kinds import Kind
-from .numbers import decimal_size, decimal_text, fixed_text, float_text
+from .numbers import decimal_reader, decimal_size, fixed_text, float_text
 
 Reader = Callable[[bytes, int], tuple[bytes, int]]
 """Reads a value that isn't NULL: answers what the server prints, and where the value ends.
@@ -75,18 +75,47 @@ def _counted(size: int, least: int = 0) -> Reader:
     return read
 
 
-def _fraction_bytes(digits: int) -> int:
+def fraction_bytes(digits: int) -> int:
     return (digits + 1) // 2
 
 
-def _fraction(value: int, digits: int) -> str:
+def _fraction(value: int, digits: int) -> bytes:
     """The digits behind the point, of a value whose unit is that of the stored bytes."""
-    return "." + f"{value:0{_fraction_bytes(digits) * 2}d}"[:digits] if digits else ""
+    return b"." + (b"%0*d" % (fraction_bytes(digits) * 2, value))[:digits] if digits else b""
+
+
+class Texts(dict):
+    """Texts by what they are of, of which the same come again and again: no more are kept than these."""
+
+    MOST = 2**16
+
+    def __init__(self, made: Callable[[int], bytes]) -> None:
+        self._made = made
+
+    def __missing__(self, of: int) -> bytes:
+        if len(self) >= self.MOST:
+            self.clear()
+        self[of] = text = self._made(of)
+        return text
+
+
+def fractions(digits: int) -> Texts:
+    """The digits behind the point, with it, of what is stored of them."""
+    return Texts(lambda value: _fraction(value, digits))
+
+
+CLOCK = Texts(lambda bits: b"%02d:%02d:%02d" % (bits >> 12, bits >> 6 & 63, bits & 63))
+"""Of hours, and minutes and seconds of six bits each."""
+SECONDS = Texts(lambda seconds: b"%02d:%02d:%02d" % (seconds // 3600, seconds // 60 % 60, seconds % 60))
+DAYS = Texts(lambda days: f"{datetime.fromtimestamp(days * 86400, UTC):%Y-%m-%d} ".encode())
+"""Of the days since 1970."""
+DATES = Texts(lambda bits: b"%04d-%02d-%02d" % (bits >> 9, bits >> 5 & 15, bits & 31))
+MONTHS = Texts(lambda bits: b"%04d-%02d-%02d " % (bits // 32 // 13, bits // 32 % 13, bits & 31))
+"""Of months since the year 0, of which a year has thirteen, and days of five bits."""
 
 
 def _date(data: bytes, at: int) -> tuple[bytes, int]:
-    bits = int.from_bytes(data[at:at + 3], "little")
-    return b"%04d-%02d-%02d" % (bits >> 9, bits >> 5 & 15, bits & 31), at + 3
+    return DATES[int.from_bytes(data[at:at + 3], "little")], at + 3
 
 
 def _year(digits: int) -> Reader:
@@ -98,40 +127,39 @@ def _year(digits: int) -> Reader:
 
 
 def _time(digits: int) -> Reader:
-    size, more = 3 + _fraction_bytes(digits), 8 * _fraction_bytes(digits)
+    size, more = 3 + fraction_bytes(digits), 8 * fraction_bytes(digits)
 
     def read(data: bytes, at: int) -> tuple[bytes, int]:
         value = int.from_bytes(data[at:at + size], "big") - (0x800000 << more)
-        sign, value = ("-", -value) if value < 0 else ("", value)
-        whole = value >> more
-        text = f"{sign}{whole >> 12 & 0x3FF:02d}:{whole >> 6 & 63:02d}:{whole & 63:02d}{_fraction(value & (1 << more) - 1, digits)}"
-        return text.encode(), at + size
+        sign, value = (b"-", -value) if value < 0 else (b"", value)
+        return sign + CLOCK[value >> more & 0x3FFFFF] + _fraction(value & (1 << more) - 1, digits), at + size
 
     return read
 
 
 def _datetime(digits: int) -> Reader:
-    more = _fraction_bytes(digits)
+    more = fraction_bytes(digits)
 
     def read(data: bytes, at: int) -> tuple[bytes, int]:
         value = int.from_bytes(data[at:at + 5], "big") - 0x8000000000
+        text = MONTHS[value >> 17] + CLOCK[value & 0x1FFFF]
+        if not digits:
+            return text, at + 5
         end = at + 5 + more
-        months, day = value >> 22, value >> 17 & 31
-        text = f"{months // 13:04d}-{months % 13:02d}-{day:02d} {value >> 12 & 31:02d}:{value >> 6 & 63:02d}:{value & 63:02d}"
-        return (text + _fraction(int.from_bytes(data[at + 5:end], "big"), digits)).encode(), end
+        return text + _fraction(int.from_bytes(data[at + 5:end], "big"), digits), end
 
     return read
 
 
 def _timestamp(digits: int) -> Reader:
-    more = _fraction_bytes(digits)
+    more = fraction_bytes(digits)
 
     def read(data: bytes, at: int) -> tuple[bytes, int]:
         seconds = int.from_bytes(data[at:at + 4], "big")
         end = at + 4 + more
         fraction = int.from_bytes(data[at + 4:end], "big")
-        text = f"{datetime.fromtimestamp(seconds, UTC):%Y-%m-%d %H:%M:%S}" if seconds or fraction else "0000-00-00 00:00:00"
-        return (text + _fraction(fraction, digits)).encode(), end
+        text = DAYS[seconds // 86400] + SECONDS[seconds % 86400] if seconds or fraction else b"0000-00-00 00:00:00"
+        return text + _fraction(fraction, digits) if digits else text, end
 
     return read
 
@@ -148,8 +176,8 @@ def _float(pattern: str, digits: int, printing: Printing) -> Reader:
 
 
 def _decimal(precision: int, scale: int, width: int) -> Reader:
-    size = decimal_size(precision, scale)
-    return lambda data, at: (decimal_text(data[at:at + size], precision, scale).zfill(width), at + size)
+    size, text_of = decimal_size(precision, scale), decimal_reader(precision, scale)
+    return lambda data, at: (text_of(data[at:at + size]).zfill(width), at + size)
 
 
 def _label(size: int, labels: tuple[bytes, ...]) -> Reader:
@@ -178,6 +206,18 @@ def real_type(log: LogType) -> tuple[int, int]:
     if first & 0x30 != 0x30:
         return first | 0x30, length | ((first & 0x30) ^ 0x30) << 4
     return first, length
+
+
+def counted_size(log: LogType, printing: Printing) -> int:
+    """How many bytes the count of a value has whose bytes behind it are what the server prints; 0 of other types."""
+    kind, meta = printing.kind, log.meta
+    if log.number == 15 and kind in (Kind.VARCHAR, Kind.VARBINARY):
+        return 2 if int.from_bytes(meta, "little") > 255 else 1
+    if log.number == 252 and kind in (Kind.TEXT, Kind.BLOB):
+        return meta[0]
+    if log.number == 254 and kind == Kind.CHAR and real_type(log)[0] == 254:
+        return 2 if real_type(log)[1] > 255 else 1
+    return 0
 
 
 def reader(log: LogType, printing: Printing) -> Reader:

@@ -8,6 +8,7 @@ import struct
 import zlib
 from dataclasses import dataclass
 from enum import IntEnum
+from typing import NamedTuple
 
 from .cells import LogType
 
@@ -58,8 +59,7 @@ DELETES = {LogEvent.DELETE_ROWS_V1, LogEvent.DELETE_ROWS, LogEvent.DELETE_ROWS_C
 IGNORABLE = 0x80
 
 
-@dataclass(frozen=True)
-class Event:
+class Event(NamedTuple):
     """One event: `kind` is its number, `end` where it ends in its log (0 where the server made it up)."""
 
     time: int
@@ -69,14 +69,18 @@ class Event:
     flags: int
     body: bytes
 
-    @classmethod
-    def read(cls, data: bytes) -> "Event":
-        time, kind, server, _size, end, flags = HEADER.unpack_from(data)
-        return cls(time, kind, server, end, flags, data[HEADER.size:])
+
+def event_at(data: bytes, start: int, behind: int) -> Event:
+    """The event between two places of some bytes."""
+    time, kind, server, _size, end, flags = _unpack(data, start)
+    return _new(Event, (time, kind, server, end, flags, data[start + HEADER_SIZE:behind]))
 
 
-@dataclass(frozen=True)
-class GtidEvent:
+HEADER_SIZE = HEADER.size
+_new, _unpack, _unpack_gtid = tuple.__new__, HEADER.unpack_from, struct.Struct("<QIB").unpack_from
+
+
+class GtidEvent(NamedTuple):
     domain: int
     sequence: int
     alone: bool
@@ -86,7 +90,7 @@ class GtidEvent:
 
     @classmethod
     def read(cls, body: bytes) -> "GtidEvent":
-        sequence, domain, flags = struct.unpack_from("<QIB", body)
+        sequence, domain, flags = _unpack_gtid(body)
         xa = b""
         if flags & (0x40 | 0x80):
             at = 13 + (8 if flags & 2 else 0)

@@ -6,15 +6,15 @@ leaves bytes behind the end that the note gives: a group that isn't whole is cut
 ones are held to what the log says again, and stay where that is the same, byte for byte.
 """
 import os
+from collections.abc import Iterable
 from contextlib import suppress
 from tempfile import SpooledTemporaryFile
 
 from .ending import Held, tell
-from .files import PIECE, is_at, kind_at, new_file, open_file, put, write_at, writing
-from .groups import Groups
-from .note import Note, ends, note_path, position_of
+from .files import PIECE, is_at, kind_at, new_file, not_written, open_file, put, write_at, writing
+from .groups import Change, Groups
+from .note import Note, groups_between, note_path
 from .stop import ANEW, Stop
-from .transactions import Change
 
 MOST = 2**31 - 1
 KEPT_IN_MEMORY = 2**24
@@ -24,11 +24,13 @@ class FeedFile:
     """Use it with `with`, and begin it in `Held`. `note` is that of the feed that is gone on with; without one a new feed
     is made, which `over` lets take the place of an old one."""
 
-    def __init__(self, path: str, told: set[str], note: Note | None = None, over: bool = False) -> None:
+    def __init__(self, path: str, groups: Groups, note: Note | None = None, over: bool = False) -> None:
         self.path, self.over = path, over
         self.size = note.size if note else 0
         """How many bytes the feed has with all groups, those that are kept aside among them."""
-        self._groups, self._last = Groups(told), note.last if note else 0
+        self._groups, self._last = groups, note.last if note else 0
+        self.left = ""
+        """The position of the last whole group that a killed writer left behind the note's length."""
         self._own = ""
         """The file's own name, until it is put in its place."""
         self._kept = self._there = self.size
@@ -50,10 +52,8 @@ class FeedFile:
     def _cut_torn(self) -> None:
         """Cuts off what is behind the note's length and isn't a whole group."""
         length = os.fstat(self._file).st_size
-        for end in ends(self._file, self.size, length):
-            if position_of(os.pread(self._file, end - self._there, self._there)) is None:
-                break
-            self._there = end
+        for _, self._there, self.left in groups_between(self._file, self.size, length):
+            pass
         self._cut(self._there, length)
 
     def _cut(self, end: int, length: int) -> None:
@@ -81,30 +81,36 @@ class FeedFile:
         """Whether the feed's file goes on, as the log does, behind all groups of this writer."""
         return self._kept == self.size < self._there
 
-    def group(self, changes: list[Change], position: str, time: int = 0) -> None:
+    def group(self, changes: Iterable[Change], position: str, time: int = 0) -> None:
         """A transaction, or where nothing changes the position alone."""
-        self._add(self._groups.group(changes, position, time))
+        for message in self._groups.group(changes, position, time):
+            self.message(message)
 
     def has_left(self, position: str) -> bool:
         """Whether a killed writer left a group of this position alone here; it stays."""
-        data = self._groups.group([], position, 0) if self.is_beyond else b""
-        found = bool(data) and self._finds(data)
+        if not self.is_beyond:
+            return False
+        [data] = self._groups.group([], position, 0)
+        found = self._finds(data)
         if found:
-            self._add(data)
+            self.message(data)
         return found
 
     def _finds(self, data: bytes) -> bool:
-        return self._kept == self.size and self._kept + len(data) <= self._there and os.pread(self._file, len(data), self._kept) == data
+        return self._kept + len(data) <= self._there and os.pread(self._file, len(data), self._kept) == data
 
-    def _add(self, data: bytes) -> None:
+    def message(self, data: bytes) -> None:
+        """A message, behind which a group needn't end."""
         if self.size + len(data) > MOST:
             raise Stop(f"a feed of more than {MOST} bytes", f"for {self.path}", "record fewer tables, or fewer in each feed")
         self._is_sound = False
-        with writing(self.path):
-            if self._finds(data):
+        try:
+            if self._kept == self.size < self._there and self._finds(data):
                 self._kept += len(data)
             else:
                 self._aside.write(data)
+        except OSError as fault:
+            raise not_written(self.path, fault) from None
         self._is_sound = True
         self._last, self.size = self.size, self.size + len(data)
 
@@ -158,7 +164,7 @@ class FeedFile:
         except OSError:
             with suppress(OSError):
                 length = os.fstat(self._file).st_size
-                os.ftruncate(self._file, max(ends(self._file, begun, length), default=begun))
+                os.ftruncate(self._file, max((end for _, end, _ in groups_between(self._file, begun, length)), default=begun))
             raise
         self._kept = self._there = self.size
         self._aside.close()

@@ -28,7 +28,11 @@ def writing(path: str, todo: str = "") -> Iterator[None]:
     try:
         yield
     except OSError as fault:
-        raise Stop("no file can be written", f"at {path}", f"{fault.strerror or fault}{todo and '; ' + todo}") from None
+        raise not_written(path, fault, todo) from None
+
+
+def not_written(path: str, fault: OSError, todo: str = "") -> Stop:
+    return Stop("no file can be written", f"at {path}", f"{fault.strerror or fault}{todo and '; ' + todo}")
 
 
 class Lock:
@@ -130,6 +134,11 @@ def _be_as(file: int, path: str) -> None:
         with suppress(PermissionError):
             os.fchown(file, there.st_uid, there.st_gid)
         os.fchmod(file, stat.S_IMODE(there.st_mode))
+
+
+def held_path(feed: str) -> str:
+    """The file that holds rows while they are copied or compared, beside a feed whose lock is held."""
+    return feed + ".copy"
 
 
 def left_files(path: str) -> list[str]:

@@ -62,7 +62,7 @@ class _Forever:
             recording.check_begun()
             with Held():
                 recording.put()
-                self._wanted, self._pause, self.has_begun = replace(self._wanted, append=True, from_snapshot=False), FIRST_PAUSE, True
+                self._wanted, self._pause, self.has_begun = replace(self._wanted, append=True, from_snapshot=False, behind=False), FIRST_PAUSE, True
             _Live(recording).run()
             return recording.note
 

@@ -1,63 +1,25 @@
-"""The messages of a feed (docs/FORMATS.md, 'Messages') and of the call that asks VTGate for one, as classes of
-Google's protobuf library that are made as the module is read: there is no generated file. Numbers are those
-of binlogdata.proto, query.proto and vtgate.proto of Vitess."""
+"""The messages of a feed (docs/FORMATS.md, 'Messages'): the bytes of those that are written again and again, and what of a
+message is asked alone. What reads all of one goes by the classes of `protos`, which take a while to come and are read when
+one of them is asked for."""
 from collections.abc import Iterator
 from enum import IntEnum
 
-from google.protobuf import descriptor_pb2, descriptor_pool, message_factory
-
-_F = descriptor_pb2.FieldDescriptorProto
-_ONE, _MANY = _F.LABEL_OPTIONAL, _F.LABEL_REPEATED
-
-_MESSAGES = {
-    "Row": [("lengths", 1, _MANY, _F.TYPE_SINT64), ("values", 2, _ONE, _F.TYPE_BYTES)],
-    "Field": [("name", 1, _ONE, _F.TYPE_STRING), ("type", 2, _ONE, _F.TYPE_INT32), ("flags", 10, _ONE, _F.TYPE_UINT32)],
-    "RowChange": [("before", 1, _ONE, "Row"), ("after", 2, _ONE, "Row"), ("data_columns", 3, _ONE, "Unread"),
-                  ("json_partial_values", 4, _ONE, "Unread")],
-    "RowEvent": [("table_name", 1, _ONE, _F.TYPE_STRING), ("row_changes", 2, _MANY, "RowChange")],
-    "FieldEvent": [("table_name", 1, _ONE, _F.TYPE_STRING), ("fields", 2, _MANY, "Field"), ("enum_set_string_values", 25, _ONE, _F.TYPE_BOOL)],
-    "VEvent": [("type", 1, _ONE, _F.TYPE_INT32), ("timestamp", 2, _ONE, _F.TYPE_INT64), ("gtid", 3, _ONE, _F.TYPE_STRING),
-               ("statement", 4, _ONE, _F.TYPE_STRING), ("row_event", 5, _ONE, "RowEvent"), ("field_event", 6, _ONE, "FieldEvent"),
-               ("vgtid", 7, _ONE, "VGtid"), ("last_p_k_event", 21, _ONE, "LastPKEvent"), ("keyspace", 22, _ONE, _F.TYPE_STRING),
-               ("shard", 23, _ONE, _F.TYPE_STRING)],
-    "VStreamResponse": [("events", 1, _MANY, "VEvent")],
-    "VGtid": [("shard_gtids", 1, _MANY, "ShardGtid")],
-    "ShardGtid": [("keyspace", 1, _ONE, _F.TYPE_STRING), ("shard", 2, _ONE, _F.TYPE_STRING), ("gtid", 3, _ONE, _F.TYPE_STRING),
-                  ("table_p_ks", 4, _MANY, "TableLastPK")],
-    "LastPKEvent": [("table_last_p_k", 1, _ONE, "TableLastPK"), ("completed", 2, _ONE, _F.TYPE_BOOL)],
-    "TableLastPK": [("table_name", 1, _ONE, _F.TYPE_STRING), ("lastpk", 3, _ONE, "QueryResult")],
-    "QueryResult": [("fields", 1, _MANY, "Field"), ("rows", 4, _MANY, "Row")],
-    "Unread": [],
-    "Rule": [("match", 1, _ONE, _F.TYPE_STRING), ("filter", 2, _ONE, _F.TYPE_STRING)],
-    "Filter": [("rules", 1, _MANY, "Rule")],
-    "VStreamFlags": [("heartbeat_interval", 2, _ONE, _F.TYPE_UINT32), ("stop_on_reshard", 3, _ONE, _F.TYPE_BOOL)],
-    "VStreamRequest": [("tablet_type", 2, _ONE, _F.TYPE_INT32), ("vgtid", 3, _ONE, "VGtid"), ("filter", 4, _ONE, "Filter"),
-                       ("flags", 5, _ONE, "VStreamFlags")],
-}  # fmt: skip
-
-
-def _classes() -> dict[str, type]:
-    file = descriptor_pb2.FileDescriptorProto(name="recorder.proto", package="recorder", syntax="proto3")
-    for name, fields in _MESSAGES.items():
-        message = file.message_type.add(name=name)
-        for field, number, label, kind in fields:
-            one = message.field.add(name=field, number=number, label=label)
-            if isinstance(kind, str):
-                one.type, one.type_name = _F.TYPE_MESSAGE, ".recorder." + kind
-            else:
-                one.type = kind
-    pool = descriptor_pool.DescriptorPool()
-    pool.Add(file)
-    factory = message_factory.MessageFactory(pool)
-    return {name: factory.GetPrototype(pool.FindMessageTypeByName("recorder." + name)) for name in _MESSAGES}
+ROWS, FIELDS, GTID, VGTID = 5, 6, 3, 7
+"""The numbers of an event's fields."""
 
 
 MOST_OF_FEED = 2**31 - 1
 MOST_OF_ROW = 2**24
 """The bytes of a feed, and of a Row message, above which the program refuses them."""
 
-_CLASSES = _classes()
-Response, Request = _CLASSES["VStreamResponse"], _CLASSES["VStreamRequest"]
+
+def __getattr__(name: str) -> type:
+    if name not in ("Response", "Request"):
+        raise AttributeError(name)
+    from . import protos
+
+    return getattr(protos, name)
+
 
 Row = tuple[bytes | None, ...]
 """A row: the bytes of each column, None for NULL."""
@@ -80,12 +42,11 @@ class EventType(IntEnum):
     COPY_COMPLETED = 20
 
 
-def set_row(message, row: Row) -> int:
-    """Fills a Row message, which is there from then on also where it has no column's bytes; answers its size."""
-    message.SetInParent()
-    message.lengths.extend(-1 if cell is None else len(cell) for cell in row)
-    message.values = b"".join(cell for cell in row if cell is not None)
-    return message.ByteSize()
+class LongRow(ValueError):
+    """A row of more bytes than the program reads."""
+
+    def __init__(self) -> None:
+        super().__init__(f"a row of more than {MOST_OF_ROW} bytes")
 
 
 def varint(number: int) -> bytes:
@@ -95,6 +56,120 @@ def varint(number: int) -> bytes:
         number >>= 7
     head.append(number)
     return bytes(head)
+
+
+SIZES = [bytes((number,)) for number in range(0x80)] + [bytes((number & 0x7F | 0x80, number >> 7)) for number in range(0x80, 1 << 14)]
+"""The varints of small numbers."""
+
+
+def sized(number: int) -> bytes:
+    return SIZES[number] if number < len(SIZES) else varint(number)
+
+
+def row_bytes(row: Row) -> bytes:
+    """A Row message. LongRow where it is above the limit."""
+    lengths = b"".join([b"\1" if cell is None else sized(2 * len(cell)) for cell in row])
+    values = b"".join([cell for cell in row if cell])
+    data = b"\x0a" + sized(len(lengths)) + lengths + (b"\x12" + sized(len(values)) + values if values else b"")
+    if len(data) > MOST_OF_ROW:
+        raise LongRow
+    return data
+
+
+def set_row(message, row: Row) -> int:
+    """Fills a Row message, which is there from then on also where it has no column's bytes; answers its size."""
+    message.SetInParent()
+    message.lengths.extend(-1 if cell is None else len(cell) for cell in row)
+    message.values = b"".join(cell for cell in row if cell is not None)
+    return message.ByteSize()
+
+
+def cells_of(row, count: int | None = None) -> Row:
+    """The columns of a Row message, or so many of them."""
+    cells, at, values = [], 0, row.values
+    for length in row.lengths[:count]:
+        if length < 0:
+            cells.append(None)
+        else:
+            cells.append(values[at:at + length])
+            at += length
+    return tuple(cells)
+
+
+def change_bytes(before: bytes | None, after: bytes | None) -> bytes:
+    """A row change among those of a RowEvent, of the Row messages before and after."""
+    body = b"" if before is None else b"\x0a" + sized(len(before)) + before
+    if after is not None:
+        body += b"\x12" + sized(len(after)) + after
+    return b"\x12" + sized(len(body)) + body
+
+
+def head_bytes(kind: EventType, time: int, number: int) -> bytes:
+    """How an event begins, up to the size of its field of this number, if it has one."""
+    return b"\x08" + sized(kind) + (b"\x10" + varint(time) if time else b"") + (sized(number * 8 + 2) if number else b"")
+
+
+def behind_head(head: bytes, size: int) -> bytes:
+    """What stands before so many bytes of a field, in an event among those of a VStreamResponse."""
+    said = sized(size)
+    return b"\x0a" + sized(len(head) + len(said) + size) + head + said
+
+
+def event_bytes(kind: EventType, time: int, number: int = 0, *parts: bytes) -> bytes:
+    """An event among those of a VStreamResponse; what stands in its field of this number is in parts."""
+    head = head_bytes(kind, time, number)
+    return b"".join([behind_head(head, sum(map(len, parts))) if number else b"\x0a" + sized(len(head)) + head, *parts])
+
+
+def text_bytes(number: int, text: str) -> bytes:
+    """A text as the field of this number."""
+    data = text.encode()
+    return sized(number * 8 + 2) + sized(len(data)) + data
+
+
+def fields(data: bytes) -> Iterator[tuple[int, int | bytes]]:
+    """The fields of a message: their numbers, and what they have. ValueError or IndexError where the bytes are none."""
+    at = 0
+    while at < len(data):
+        tag, at = _number(data, at)
+        if tag & 7 == 0:
+            value, at = _number(data, at)
+        elif tag & 7 == 2:
+            size, at = _number(data, at)
+            at += size
+            if at > len(data):
+                raise ValueError("a field is cut short")
+            value = data[at - size:at]
+        else:
+            raise ValueError("a field of another kind")
+        yield tag >> 3, value
+
+
+def _number(data: bytes, at: int) -> tuple[int, int]:
+    number = shift = 0
+    while shift < 64:
+        number |= (data[at] & 0x7F) << shift
+        shift, at = shift + 7, at + 1
+        if data[at - 1] < 0x80:
+            return number, at
+    raise ValueError("a number that is too long")
+
+
+def kind_of(event: bytes) -> int:
+    return dict(fields(event)).get(1, 0)
+
+
+def position_in(events: list[bytes]) -> str | None:
+    """The position that a message's events say, None where they say none. ValueError where they can't be read."""
+    said = []
+    for event in events:
+        found = dict(fields(event))
+        if found.get(1) == EventType.GTID:
+            said.append(found.get(GTID, b""))
+        elif found.get(1) == EventType.VGTID:
+            [shard] = [one for _, one in fields(found[VGTID])]
+            said.append(dict(fields(shard)).get(3, b""))
+    return bytes(said[0]).decode() if len(said) == 1 else None
 
 
 def framed(response) -> bytes:

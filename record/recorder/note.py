@@ -9,12 +9,10 @@ from collections.abc import Iterator
 from contextlib import suppress
 from dataclasses import asdict, dataclass, field
 
-from google.protobuf.message import DecodeError
-
 from . import messages
-from .files import kind_at, left_files, new_file, open_file, put, read_file, sync_folder, write_at
-from .messages import EventType, Response
-from .position import Position
+from .files import held_path, kind_at, left_files, new_file, open_file, put, read_file, sync_folder, write_at
+from .messages import EventType
+from .position import Position, sets_of
 from .server import Place
 from .stop import ANEW, Stop
 
@@ -39,6 +37,15 @@ class Note:
     """XA transactions, in hexadecimal, that are prepared and change none of the tables."""
     last: int = -1
     """Where the feed's last message begins; -1 in a note that doesn't say so."""
+    server_id: int | None = None
+    """The number of the server whose log it is, where that is known."""
+    keyspace: str | None = None
+    """Where positions are VGTIDs, the keyspace of these."""
+    turn: int = 0
+    past: dict[str, int] = field(default_factory=dict)
+    """Of the feed's positions what isn't of the log that it goes on with (`Position`)."""
+    keys: dict[str, list[str]] = field(default_factory=dict)
+    """By SCHEMA.TABLE the columns of its primary key, in key order, where they are known."""
 
     @classmethod
     def read(cls, path: str) -> "Note":
@@ -52,21 +59,26 @@ class Note:
 
     def _check(self) -> None:
         """ValueError where a member isn't of its type."""
-        if type(self.begun) not in (int, type(None)):
+        if any(type(one) not in (int, type(None)) for one in (self.begun, self.server_id)) or type(self.keyspace) not in (str, type(None)):
             raise ValueError("a member of another type")
         of_type: list[tuple[type, list]] = [
             (str, [self.server, self.shard, self.place.log, self.gtids, self.position]),
-            (int, [self.place.offset, self.snapshot, self.size, self.last]),
-            (dict, [self.uuids, self.tables]),
+            (int, [self.place.offset, self.snapshot, self.size, self.last, self.turn]),
+            (dict, [self.uuids, self.tables, self.keys, self.past]),
             (list, [self.filled, self.prepared]),
         ]
         for kind, values in of_type:
             if any(type(value) is not kind for value in values):
                 raise ValueError("a member of another type")
+        if any(type(value) is not int for value in self.past.values()) or any(type(value) is not list for value in self.keys.values()):
+            raise ValueError("a member of another type")
         if any(type(value) is not str for value in (*self.filled, *self.prepared)):
             raise ValueError("a name of another type")
-        Position.read(self.gtids)
+        self.reached().text()
         [bytes.fromhex(xa) for xa in self.prepared]
+
+    def reached(self) -> Position:
+        return Position.read(self.gtids, self.snapshot, self.turn, self.past)
 
     def new_file(self, path: str) -> str:
         """A new file that is to be the note there, written and synced; its own name."""
@@ -153,13 +165,44 @@ def last_message(file: int, size: int) -> int:
 
 
 def position_of(data: bytes) -> str | None:
-    """The position of one whole group, None where the bytes aren't one."""
+    """The position of the group that one message ends, None where the bytes aren't such a message."""
     try:
-        [(start, end)] = messages.frames(data)
-        [position] = [event.gtid for event in Response.FromString(data[start:end]).events if event.type == EventType.GTID]
-    except (ValueError, DecodeError):
+        return messages.position_in(_events(data))
+    except (ValueError, IndexError):
         return None
-    return position
+
+
+def groups_between(file: int, start: int, end: int) -> Iterator[tuple[int, int, str]]:
+    """Of each group of a feed that is whole between two places, where its last message begins, where it ends, and its position."""
+    for behind in ends(file, start, end):
+        data = os.pread(file, behind - start, start)
+        position = position_of(data)
+        if not (_is_part(data) if position is None else _is_readable(position)):
+            return
+        if position is not None:
+            yield start, behind, position
+        start = behind
+
+
+def _is_readable(position: str) -> bool:
+    try:
+        return bool(sets_of(position))
+    except ValueError:
+        return False
+
+
+def _is_part(data: bytes) -> bool:
+    """Whether bytes are a message that ends no group."""
+    try:
+        return {messages.kind_of(event) for event in _events(data)} <= {EventType.BEGIN, EventType.FIELD, EventType.ROW}
+    except (ValueError, IndexError):
+        return False
+
+
+def _events(data: bytes) -> list[bytes]:
+    """The events of one message behind its length."""
+    [(start, end)] = messages.frames(data)
+    return [value for number, value in messages.fields(data[start:end]) if number == 1 and isinstance(value, bytes)]
 
 
 def settle(feed: str) -> None:
@@ -176,5 +219,5 @@ def settle(feed: str) -> None:
                 os.rename(own, path)
                 sync_folder(path)
     # (two names of one file are still both there)
-    for own in left_files(path) + left_files(feed):
+    for own in left_files(path) + left_files(feed) + ([held_path(feed)] if kind_at(held_path(feed)) == "a file" else []):
         os.unlink(own)

@@ -2,6 +2,7 @@
 
 Sources: MariaDB's strings/decimal.c (decimal2bin) and strings/dtoa.c (my_gcvt, my_fcvt).
 """
+from collections.abc import Callable
 from decimal import Decimal
 
 # how many bytes hold the first 0 to 9 digits of a group
@@ -14,33 +15,43 @@ def decimal_size(precision: int, scale: int) -> int:
     return whole // 9 * 4 + GROUP_BYTES[whole % 9] + scale // 9 * 4 + GROUP_BYTES[scale % 9]
 
 
-def decimal_text(data: bytes, precision: int, scale: int) -> bytes:
-    """The text of a DECIMAL, from `decimal_size` bytes: big-endian groups of nine digits, the first bit
-    the sign's inverse, and all bits inverted where the number is negative."""
-    negative = not data[0] & 0x80
-    bits = bytearray(data)
-    bits[0] ^= 0x80
-    if negative:
-        bits = bytearray(byte ^ 0xFF for byte in bits)
-    at = 0
+def decimal_reader(precision: int, scale: int) -> Callable[[bytes], bytes]:
+    """Makes the text of a DECIMAL from its `decimal_size` bytes: big-endian groups of nine digits, those with fewer at the ends,
+    the first bit the sign's inverse, and all bits inverted where the number is negative."""
+    whole, size = precision - scale, decimal_size(precision, scale)
+    groups = [whole % 9, *[9] * (whole // 9), *[9] * (scale // 9), scale % 9]
+    # from the last group on: by how many bits it is moved, its bits, and 10 to the digits behind it
+    parts, bits, digits = [], 0, 0
+    for group in reversed(groups):
+        if group:
+            parts.append((bits, (1 << 8 * GROUP_BYTES[group]) - 1, 10**digits))
+            bits, digits = bits + 8 * GROUP_BYTES[group], digits + group
+    top, every, unit = 1 << 8 * size - 1, (1 << 8 * size) - 1, 10**scale
+    form = b"%%d.%%0%dd" % scale
 
-    def take(digits: int) -> str:
-        nonlocal at
-        size = GROUP_BYTES[digits]
-        number = int.from_bytes(bits[at:at + size], "big")
-        at += size
-        return f"{number:0{digits}d}" if digits else ""
+    def text_of(data: bytes) -> bytes:
+        stored = int.from_bytes(data, "big") ^ top
+        sign = b""
+        if stored & top:
+            sign, stored = b"-", stored ^ every
+        number = 0
+        for move, mask, factor in parts:
+            number += (stored >> move & mask) * factor
+        if not scale:
+            return b"%b%d" % (sign, number)
+        return sign + form % divmod(number, unit)
 
-    whole = precision - scale
-    head = take(whole % 9) + "".join(take(9) for _ in range(whole // 9))
-    tail = "".join(take(9) for _ in range(scale // 9)) + take(scale % 9)
-    text = (head.lstrip("0") or "0") + (f".{tail}" if scale else "")
-    return (b"-" if negative else b"") + text.encode()
+    return text_of
 
 
 def float_text(number: float, digits: int) -> bytes:
     """The text of a float: its shortest digits, at most so many (6 of a FLOAT, 17 of a DOUBLE), without an
     exponent where the point stands at most 15 digits away, or amid the digits."""
+    # between these Python prints what the server does
+    if 1e-4 <= number < 1e15 or -1e15 < number <= -1e-4:
+        plain = repr(number) if digits >= 17 else f"{number:.{digits}g}"
+        if "e" not in plain:
+            return plain.removesuffix(".0").encode()
     if number == 0:
         return b"-0" if str(number).startswith("-") else b"0"
     shortest = repr(number) if digits >= 17 else f"{number:.{digits - 1}e}"

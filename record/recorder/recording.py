@@ -1,29 +1,35 @@
 """A recording: settings and tables are checked, the rows of a snapshot and then the log's are read, and they
 take their place in the feed together, when the log was read to its end; then, where that is wanted, each
 transaction as it commits (`forever`)."""
+import os
 import sys
 import time
 from collections.abc import Iterator
 from contextlib import ExitStack, closing, contextmanager
 from dataclasses import dataclass
+from itertools import chain
 
-from .catalogue import read_tables
+from .catalogue import Table, read_tables
+from .elsewhere import Elsewhere
 from .ending import Ended, Held, Last, show, tell
 from .events import Event, LogEvent
 from .feedfile import FeedFile, check_free
 from .files import Lock, kind_at, left_files, writing
+from .groups import Change, Changes, Groups
 from .note import Note, check_end, note_path, settle
-from .position import SNAPSHOT_UUID, Position, Until, domain_uuid
+from .position import SNAPSHOT_UUID, Position, Until, domain_uuid, sets_of
 from .prepared import prepared_at
-from .server import Login, Place, check_schemas, check_settings, end_place, events, first_place, gtids_at, log_sizes
+from .server import Login, Place, check_schemas, check_settings, end_place, events, first_place, gtids_at, log_sizes, server_id, why_unread
 from .snapshot import Snapshot
 from .statements import Name
-from .stop import AGAIN, ANEW, Lost, Stop
-from .transactions import Change, Transaction, Transactions
-from .untold import told_of
+from .stop import AGAIN, ANEW, BEHIND, Lost, Stop
+from .transactions import Transaction, Transactions
+from .untold import check_names, told_of
 
 NO_GTIDS = b"\0\0\0\0"
 """How a GTID list begins that has none: it stands at a log's beginning, and lists what is before it."""
+LOOKS = 16
+"""At each of so many transactions it is looked how far a recording is."""
 MINUTE = 60
 """The seconds between two lines that say how far a recording is."""
 
@@ -42,6 +48,10 @@ class Wanted:
     """Whether a new feed may take the place of an old one."""
     until: Until | None = None
     """The position behind which nothing is recorded; else all up to the log's end."""
+    behind: bool = False
+    """Whether the rows of a snapshot stand between the feed that is gone on with and the log behind it."""
+    keyspace: str | None = None
+    """Of which positions are to be VGTIDs; else they are GTIDs, or what the feed that is gone on with has."""
 
 
 @dataclass
@@ -51,16 +61,13 @@ class _Start:
     place: Place
     position: Position
     filled: set[Name]
-    prepared: dict[bytes, list[Change]]
+    prepared: dict[bytes, Changes | None]
     written: str = ""
     """The last position that the feed has."""
-    note: Note | None = None
-    """The note of the feed that is gone on with."""
-
-    @property
-    def begun(self) -> int | None:
-        """When the log there was begun, where that is known."""
-        return self.note.begun if self.note else None
+    begun: int | None = None
+    """When the log there was begun, where that is known."""
+    elsewhere: Elsewhere | None = None
+    """Where it is another server's log."""
 
 
 class Progress:
@@ -141,52 +148,102 @@ class Recording:
         """What is opened is closed with `opened`."""
         self.wanted = wanted
         self.connection = opened.enter_context(closing(wanted.login.connect()))
-        self.version = check_settings(self.connection)
+        self.version, self._server_id = check_settings(self.connection), server_id(self.connection)
         check_schemas(self.connection, {schema for schema, _ in wanted.tables})
-        snapshot = opened.enter_context(closing(Snapshot(wanted.login))) if wanted.from_snapshot else None
+        old = self._old = self._old_note() if wanted.append else None
+        self._keyspace = old.keyspace if old else wanted.keyspace
+        further = {name for name in wanted.tables if old and not wanted.behind and ".".join(name) not in old.tables}
+        with_snapshot = wanted.from_snapshot or wanted.behind or further
+        self._snapshot = opened.enter_context(closing(Snapshot(wanted.login))) if with_snapshot else None
         self.tables = read_tables(self.connection, wanted.tables)
-        start = self._start = self._behind() if wanted.append else self._first(snapshot)
+        check_names(self.tables, self._keyspace or "")
+        self._further = [table for table in self.tables if table.full in further]
+        start = self._start = self._first() if wanted.behind or not old else self._behind(old)
         self._end = self._log_end()
-        if not wanted.append:
-            for line in told_of(self.connection, self.tables, wanted.shard):
+        if not old or further:
+            for line in told_of(self.connection, self._further or self.tables, wanted.shard):
                 tell(f"feed: warning: {line}")
         self.position, self.filled = start.position, start.filled
         self.until, self.is_done = wanted.until, False
-        with Held():
-            self.feed = opened.enter_context(FeedFile(wanted.out, {name for _, name in start.filled}, start.note, wanted.over))
-        self.written = self._write_snapshot(snapshot) if snapshot else start.written
-        begun_with = {table.full for table in self.tables} if snapshot or wanted.append else set()
-        self.reading = Transactions(self.tables, self.position, self.filled, start.prepared, begun_with)
+        begun_with = {table.full for table in self.tables} if self._snapshot or old else set()
+        if wanted.behind:
+            self._go_behind(old, opened)
+        else:
+            groups = Groups({name for _, name in start.filled}, self._keyspace, wanted.shard)
+            with Held():
+                self.feed = opened.enter_context(FeedFile(wanted.out, groups, old, wanted.over))
+            self._check_left()
+            self.written = self._write_snapshot() if wanted.from_snapshot else start.written
+        self._folder = os.path.dirname(wanted.out) or "."
+        self.reading = Transactions(self._tables_there(), self.position, self.filled, start.prepared, begun_with, self._folder)
         self.note, self.pending = self._noted(start.place), None
 
-    def _first(self, snapshot: Snapshot | None) -> _Start:
+    def _tables_there(self) -> list[Table]:
+        """The tables that the feed has where the reading begins."""
+        return [table for table in self.tables if table not in self._further]
+
+    def _first(self) -> _Start:
         """The start of a new feed: the log's beginning, or the place of a snapshot."""
+        snapshot = self._snapshot
         if snapshot is None:
             return _Start(first_place(self.connection), Position(), set(), {})
         gtids = gtids_at(self.connection, snapshot.place)
         if gtids is None:
-            raise Stop("the snapshot's place isn't in the log", f"at {snapshot.place}", AGAIN)
+            raise Stop("the snapshot's place isn't in the log", f"at {snapshot.place}", why_unread(self.connection, snapshot.place) + AGAIN)
         prepared = prepared_at(self.wanted.login, self.connection, self.tables, snapshot.place)
-        return _Start(snapshot.place, Position.read(gtids), set(), {xa: [] for xa in prepared})
+        return _Start(snapshot.place, Position.read(gtids), set(), dict.fromkeys(prepared))
 
-    def _behind(self) -> _Start:
+    def _old_note(self) -> Note:
+        """The note of the feed that is gone on with."""
+        wanted, note = self.wanted, Note.read(note_path(self.wanted.out))
+        check_end(wanted.out, note)
+        if note.shard != wanted.shard:
+            raise Stop(f"shard {wanted.shard}", f"for the feed of {note.shard}", "append to the feed of this shard")
+        if wanted.keyspace is not None and note.keyspace is not None and wanted.keyspace != note.keyspace:
+            raise Stop(f"keyspace {wanted.keyspace}", f"for the feed of {note.keyspace}", "append to the feed of this keyspace")
+        named = {".".join(name) for name in wanted.tables}
+        for name in sorted(set(note.filled) - named):
+            raise Stop("another table, or other columns, than the feed has", f"in {name}, which isn't named", "name all tables of the feed")
+        return note
+
+    def _behind(self, note: Note) -> _Start:
         """The start of an append, behind what the note's feed has."""
-        note = Note.read(note_path(self.wanted.out))
-        check_end(self.wanted.out, note)
-        if note.shard != self.wanted.shard:
-            raise Stop(f"shard {self.wanted.shard}", f"for the feed of {note.shard}", "append to the feed of this shard")
-        layouts = {".".join(table.full): table.layout() for table in self.tables}
+        there = self._tables_there()
+        layouts = {".".join(table.full): table.layout() for table in there}
         for name in note.tables.keys() | layouts.keys():
             if note.tables.get(name) != layouts.get(name) and (name in note.filled or name not in note.tables or name not in layouts):
-                raise Stop("another table, or other columns, than the feed has", f"in {name}", ANEW)
+                raise Stop("another table, or other columns, than the feed has", f"in {name}", BEHIND)
+        filled = {table.full for table in there if ".".join(table.full) in note.filled}
+        start = _Start(note.place, note.reached(), filled, {bytes.fromhex(xa): None for xa in note.prepared}, note.position, note.begun)
+        if note.server_id not in (None, self._server_id):
+            start.elsewhere, start.begun = Elsewhere(self.connection, note.reached()), None
+            start.place = start.elsewhere.start
+            tell(f"feed: {note.place} is of server {note.server_id}, and here is {self._server_id}: going on behind {note.gtids or 'nothing'}, by GTID")
+            return start
         gtids = gtids_at(self.connection, note.place)
         if gtids is None:
-            raise Stop("the log was purged or begun anew", f"at {note.place}, where the feed ends", ANEW)
+            raise Stop("the log was purged or begun anew", f"at {note.place}, where the feed ends", why_unread(self.connection, note.place) + BEHIND)
         if Position.read(gtids).gtids() != note.gtids:
-            raise Stop("another log than the feed's", f"at {note.place}: behind {gtids or 'nothing'} and not {note.gtids or 'nothing'}", ANEW)
-        filled = {table.full for table in self.tables if ".".join(table.full) in note.filled}
-        prepared = {bytes.fromhex(xa): [] for xa in note.prepared}
-        return _Start(note.place, Position.read(note.gtids, note.snapshot), filled, prepared, note.position, note)
+            raise Stop("another log than the feed's", f"at {note.place}: behind {gtids or 'nothing'} and not {note.gtids or 'nothing'}", BEHIND)
+        return start
+
+    def _check_left(self) -> None:
+        """Stops where a killed writer left the rows of a snapshot behind the note's length: the log doesn't say them again."""
+        if self._old and self.feed.left and sets_of(self.feed.left).get(SNAPSHOT_UUID, 0) > self._old.snapshot:
+            raise Stop("rows of a snapshot, which a killed writer left,", f"behind byte {self._old.size} of {self.wanted.out}", "go on with --anew-behind")
+
+    def _go_behind(self, note: Note, opened: ExitStack) -> None:
+        """Brings the feed's rows to those of the snapshot."""
+        # it reads messages by Google's library, which takes a while to come
+        from .behind import Behind
+
+        behind = opened.enter_context(Behind(self.wanted.out, note, self.tables, self._snapshot))
+        with Held():
+            self.feed = opened.enter_context(behind.feed())
+        self.position = behind.position(self.position)
+        self.written = behind.write(self.feed, self.position)
+        self.filled |= behind.filled()
+        self._snapshot.close()
 
     def _log_end(self) -> Place:
         """Where the log ends, at a time when the tables are as they were read: a statement that alters one stands before it."""
@@ -195,15 +252,15 @@ class Recording:
             raise Lost("a table was altered just now", f"before {end}", AGAIN)
         return end
 
-    def _write_snapshot(self, snapshot: Snapshot) -> str:
+    def _write_snapshot(self) -> str:
         """The snapshot's rows, whose positions say nothing of the log; answers the last one."""
         position = Position()
-        for change in snapshot.changes(self.tables):
+        for change in self._snapshot.changes(self.tables):
             position.snapshot += 1
             self.filled.add(change.table.full)
             self.feed.group([change], position.text())
         self.position.snapshot = position.snapshot
-        snapshot.close()
+        self._snapshot.close()
         return position.text() if position.snapshot else ""
 
     def catch_up(self) -> None:
@@ -212,18 +269,58 @@ class Recording:
         if self.until and self.until.is_passed(self.position):
             raise Stop("the position is passed already", f"at {self.position.gtids()}", "--until takes one that is still to come")
         self.look(self._start.place)
-        progress, groups = Progress(log_sizes(self.connection), self._start.place, self._end), 0
-        with closing(self.wanted.login.connect()) as stream:
-            for transaction in self.reading.read(self.checked(events(stream, self._start.place)), self._start.place, self._end):
-                if not self.is_done:
-                    self.take(transaction)
-                    self.look(transaction.end)
-                    groups += bool(transaction.changes)
-                progress.at(transaction.end, groups)
-        progress.close()
+        if self._further:
+            self._read(self._snapshot.place)
+            self._add_further()
+        self._read(self._end)
         if not self.is_done:
             self.keep(self.reading.place)
             self.finish()
+
+    def _read(self, end: Place) -> None:
+        """Reads the transactions up to a place."""
+        start = self.reading.place if self.reading.place.log else self._start.place
+        progress, groups, seen = Progress(log_sizes(self.connection), start, end), 0, 0
+        with closing(self.wanted.login.connect()) as stream:
+            read = events(stream, start)
+            elsewhere, self._start.elsewhere = self._start.elsewhere, None
+            if elsewhere:
+                read = elsewhere.unread(read)
+            for transaction in self.reading.read(self.checked(read), start, end):
+                if not self.is_done:
+                    self.take(transaction)
+                    if self.until:
+                        self.look(transaction.end)
+                    groups += bool(transaction.changes)
+                seen += 1
+                if seen % LOOKS == 1:
+                    progress.at(transaction.end, groups)
+        if elsewhere:
+            elsewhere.check()
+        progress.close()
+
+    def _add_further(self) -> None:
+        """The rows of the tables that the feed hasn't had, as one group at the snapshot's position; from there on they are recorded
+        with the others."""
+        if self.is_done:
+            raise Stop("the position is before the rows of a further table", f"({self._further[0].name})", "record up to it without that table")
+        self.keep(self.reading.place)
+        others = prepared_at(self.wanted.login, self.connection, self._further, self._snapshot.place)
+        changes = self._snapshot.changes(self._further)
+        if first := next(changes, None):
+            self.position.snapshot += 1
+            self.written = self.position.text()
+            self.feed.group(chain([first], self._filling(changes)), self.written)
+            self.filled.add(first.table.full)
+        self._snapshot.close()
+        place, prepared, self._further = self.reading.place, dict.fromkeys(others) | self.reading.prepared, []
+        self.reading = Transactions(self.tables, self.position, self.filled, prepared, {table.full for table in self.tables}, self._folder)
+        self.reading.place = place
+
+    def _filling(self, changes: Iterator[Change]) -> Iterator[Change]:
+        for change in changes:
+            self.filled.add(change.table.full)
+            yield change
 
     def checked(self, read: Iterator[tuple[str, Event]]) -> Iterator[tuple[str, Event]]:
         """The events, as long as the log is the one that was meant: the feed's own, or one that begins with nothing before it."""
@@ -232,11 +329,14 @@ class Recording:
         for log, event in read:
             if event.kind in unseen:
                 if event.kind == LogEvent.FORMAT_DESCRIPTION and begun not in (None, event.time):
-                    raise Stop("another log than the feed's", f"in {log}, which was begun anew", ANEW)
+                    raise Stop("another log than the feed's", f"in {log}, which was begun anew", BEHIND)
                 if event.kind == LogEvent.GTID_LIST and LogEvent.GTID in unseen and not behind and event.body[:4] != NO_GTIDS:
                     raise Stop("the first log was purged", f"before {log}", ANEW)
                 unseen.discard(event.kind)
             yield log, event
+            if event.kind == LogEvent.GTID:
+                break
+        yield from read
 
     def take(self, transaction: Transaction) -> None:
         """Appends a transaction to the groups."""
@@ -263,14 +363,14 @@ class Recording:
     def finish(self) -> None:
         """Has the groups say how far the note says that the log was read: where none says what the last transactions left
         alone, a last one does."""
-        position = Position.read(self.note.gtids, self.note.snapshot)
+        position = self.note.reached()
         if position.last and position.text() != self.written:
             self.feed.group([], position.text())
             self.written = self.note.position = position.text()
 
     def check_begun(self) -> None:
         """Stops where what was read can't begin a feed."""
-        if self.pending and not self.wanted.append:
+        if self.pending and (self.wanted.behind or not self.wanted.append):
             raise self.pending
 
     def check_whole(self) -> None:
@@ -281,10 +381,14 @@ class Recording:
             raise Stop("the log doesn't reach the position", f"at {self.note.gtids or 'its beginning'}", f"{AGAIN} when the server has it, or with --forever")
 
     def _noted(self, place: Place) -> Note:
-        uuids = {str(domain): domain_uuid(domain) for domain in self.position.last} | ({"snapshot": SNAPSHOT_UUID} if self.position.snapshot else {})
-        return Note(self.version, self.wanted.shard, place, self.reading.begun or self._start.begun, self.position.gtids(), self.position.snapshot,
-                    self.written, self.feed.size, uuids, {".".join(table.full): table.layout() for table in self.tables},
-                    sorted(".".join(name) for name in self.filled), [xa.hex() for xa in self.reading.prepared])  # fmt: skip
+        position = self.position
+        uuids = {str(domain): domain_uuid(domain, position.turn) for domain in position.last} | ({"snapshot": SNAPSHOT_UUID} if position.snapshot else {})
+        tables = {".".join(table.full): table for table in self.tables}
+        return Note(self.version, self.wanted.shard, place, self.reading.begun or self._start.begun, position.gtids(), position.snapshot,
+                    self.written, self.feed.size, uuids, {name: table.layout() for name, table in tables.items()},
+                    sorted(".".join(name) for name in self.filled), [xa.hex() for xa in self.reading.prepared],
+                    server_id=self._server_id, keyspace=self._keyspace, turn=position.turn, past=dict(position.past),
+                    keys={name: table.key_names for name, table in tables.items()})  # fmt: skip
 
     def put(self) -> None:
         """Puts the groups in their place in the feed, and the note in its."""

@@ -16,8 +16,8 @@ import pymysql
 from pymysql.constants import COMMAND
 from pymysql.cursors import SSCursor
 
-from .events import Event, LogEvent
-from .stop import AGAIN, ANEW, Lost, Stop
+from .events import Event, LogEvent, event_at
+from .stop import AGAIN, BEHIND, Lost, Stop
 
 WITHOUT_WAITING = 1
 CRC32 = 1
@@ -31,6 +31,13 @@ SILENCE = 60
 LOST = {1040, 1053, 1077, 1080, 1152, 1153, 1158, 1159, 1160, 1161, 1184, 1203, 1317, 1927, 2002, 2003, 2006, 2013, 2055}
 """The numbers of faults that may pass by themselves: a server that ends, begins or has too many connections, and lost connections."""
 NOT_IN_THE_LOG = 1236
+MOST_ALLOWED = 2**30
+LOST_ONE = 2013
+MOST_OF_PACKET = 2**24 - 1
+END_MARK, FAULT_MARK = 0xFE, 0xFF
+"""The first bytes of packets that aren't events."""
+CHUNK = 2**17
+"""The bytes that are asked for at once."""
 NO_SERVER = (struct.error, LookupError, ValueError, TypeError, AttributeError, AssertionError)
 """What the library meets where something else than a server answers."""
 
@@ -140,8 +147,12 @@ def check_settings(connection: pymysql.Connection) -> str:
         raise Stop("the binary log is off", "", "start the server with --log-bin, and record from a snapshot")
     for name, value, wanted in (("binlog_format", form, "ROW"), ("binlog_row_image", image, "FULL")):
         if value != wanted:
-            raise Stop(f"{name} is {value}", "", f"SET GLOBAL {name}={wanted}, let clients connect anew, and {ANEW}")
+            raise Stop(f"{name} is {value}", "", f"SET GLOBAL {name}={wanted}, let clients connect anew, and {BEHIND}")
     return version
+
+
+def server_id(connection: pymysql.Connection) -> int:
+    return ask(connection, "SELECT @@global.server_id")[0][0]
 
 
 def first_place(connection: pymysql.Connection) -> Place:
@@ -157,12 +168,21 @@ def check_schemas(connection: pymysql.Connection, schemas: set[str]) -> None:
     only, without = (text.split(",") if text else [] for text in ask(connection, "SHOW MASTER STATUS")[0][2:4])
     for schema in sorted(schemas):
         if schema in without or only and schema not in only:
-            raise Stop(f"schema {schema} isn't in the log", "(binlog_do_db, binlog_ignore_db)", f"start the server without these, and {ANEW}")
+            raise Stop(f"schema {schema} isn't in the log", "(binlog_do_db, binlog_ignore_db)", f"start the server without these, and {BEHIND}")
 
 
 def gtids_at(connection: pymysql.Connection, place: Place) -> str | None:
     """The last GTID of each domain before a place; None where the log has no such place."""
     return ask(connection, "SELECT BINLOG_GTID_POS(%s, %s)", place.log, place.offset)[0][0]
+
+
+def why_unread(connection: pymysql.Connection, place: Place) -> str:
+    """What to do first where the server doesn't say what is before a place of a log that it has: it reads no event that is larger
+    than it lets packets be, but for those that it sends as a log."""
+    ((most,),) = ask(connection, "SELECT @@global.max_allowed_packet")
+    if log_sizes(connection).get(place.log, 0) < place.offset or most >= MOST_ALLOWED:
+        return ""
+    return f"where it wasn't, an event there is larger than max_allowed_packet: SET GLOBAL max_allowed_packet={MOST_ALLOWED}, and {AGAIN}; "
 
 
 def log_sizes(connection: pymysql.Connection) -> dict[str, int]:
@@ -180,34 +200,76 @@ def events(connection: pymysql.Connection, start: Place, waits: bool = False) ->
         connection._execute_command(COMMAND.COM_BINLOG_DUMP, request + start.log.encode())
     except pymysql.err.MySQLError as fault:
         raise fault_of(fault, "the log can't be read", f"behind {log}") from None
-    connection._read_timeout = SILENCE if waits else PATIENCE
+    connection._sock.settimeout(SILENCE if waits else PATIENCE)
+    crc32, from_bytes = zlib.crc32, int.from_bytes
+    try:
+        for data, start, end in _packets(connection):
+            kind = data[start + HEADER_KIND]
+            if kind == LogEvent.FORMAT_DESCRIPTION:
+                checksums = data[end - 5] == CRC32
+            elif kind == LogEvent.ROTATE:
+                # the server makes some of these up, with or without a checksum
+                end -= 4 * _is_whole(data, start, end)
+            elif checksums:
+                end -= 4
+                if crc32(data[start:end]) != from_bytes(data[end:end + 4], "little"):
+                    raise Stop("an event whose checksum is another", f"in {log}", f"the log is damaged there; {BEHIND}")
+            event = event_at(data, start, end)
+            yield log, event
+            if kind == LogEvent.ROTATE:
+                # it stands at the old log's end
+                log = event.body[8:].decode()
+    except pymysql.err.MySQLError as fault:
+        if fault.args[:1] == (NOT_IN_THE_LOG,):
+            raise Stop("the log can't be read", f"behind {log}", f"{fault.args[-1]}; {BEHIND}") from None
+        raise fault_of(fault, "the log can't be read", f"behind {log}") from None
+
+
+def _packets(connection: pymysql.Connection) -> Iterator[tuple[bytes, int, int]]:
+    """What the server sends up to its end mark: of each packet the bytes in which it lies, and where it begins and ends there, the
+    first byte left out. MySQLError where it sends a fault, or the connection is lost."""
+    data, at, parts = b"", 0, []
     while True:
-        try:
-            packet = connection._read_packet()
-        except pymysql.err.MySQLError as fault:
-            if fault.args[:1] == (NOT_IN_THE_LOG,):
-                raise Stop("the log can't be read", f"behind {log}", f"{fault.args[-1]}; {ANEW}") from None
-            raise fault_of(fault, "the log can't be read", f"behind {log}") from None
-        if packet.is_eof_packet():
+        here = at + 4
+        if here <= len(data):
+            size = data[at] | data[at + 1] << 8 | data[at + 2] << 16
+            at = here + size
+        if here > len(data) or at > len(data):
+            left = here - 4
+            data, at = _filled(connection, data[left:], at - left if at >= here else 4), 0
+            continue
+        if size == MOST_OF_PACKET or parts:
+            # a packet of more bytes comes in several
+            parts.append(data[here:at])
+            if size == MOST_OF_PACKET:
+                continue
+            whole, parts = b"".join(parts), []
+            yield whole, 1, len(whole)
+        elif data[here] == 0:
+            yield data, here + 1, at
+        elif data[here] == END_MARK and size < 9:
             return
-        data = packet.get_all_data()[1:]
-        kind = data[HEADER_KIND]
-        if kind == LogEvent.FORMAT_DESCRIPTION:
-            checksums = data[-5] == CRC32
-        elif kind == LogEvent.ROTATE:
-            # the server makes some of these up, with or without a checksum
-            data = data[:-4] if _is_whole(data) else data
-        elif checksums:
-            if not _is_whole(data):
-                raise Stop("an event whose checksum is another", f"in {log}", f"the log is damaged there; {ANEW}")
-            data = data[:-4]
-        event = Event.read(data)
-        yield log, event
-        if kind == LogEvent.ROTATE:
-            # it stands at the old log's end
-            log = event.body[8:].decode()
+        elif data[here] == FAULT_MARK:
+            pymysql.err.raise_mysql_exception(data[here:at])
+        else:
+            raise pymysql.err.OperationalError(LOST_ONE, f"a packet that begins with {data[here]}")
 
 
-def _is_whole(data: bytes) -> bool:
+def _filled(connection: pymysql.Connection, data: bytes, least: int) -> bytes:
+    """These bytes, and what the server sends behind them up to so many at least."""
+    parts, size = [data], len(data)
+    while size < least:
+        try:
+            more = connection._sock.recv(max(CHUNK, min(least - size, MOST_OF_PACKET)))
+        except OSError as fault:
+            raise pymysql.err.OperationalError(LOST_ONE, f"Lost connection to server during query ({fault})") from None
+        if not more:
+            raise pymysql.err.OperationalError(LOST_ONE, "Lost connection to server during query")
+        parts.append(more)
+        size += len(more)
+    return b"".join(parts)
+
+
+def _is_whole(data: bytes, start: int, end: int) -> bool:
     """Whether an event ends with its checksum."""
-    return zlib.crc32(data[:-4]) == int.from_bytes(data[-4:], "little")
+    return zlib.crc32(data[start:end - 4]) == int.from_bytes(data[end - 4:end], "little")

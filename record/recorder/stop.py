@@ -16,6 +16,8 @@ class Lost(Stop):
 
 
 ANEW = "record anew with --from-snapshot"
+BEHIND = f"go on with --anew-behind, or {ANEW}"
+"""Where a feed is that can go on with a snapshot."""
 AGAIN = "record again"
 
 

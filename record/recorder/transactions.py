@@ -7,56 +7,54 @@ the log, or is dropped here.
 import struct
 import zlib
 from collections.abc import Iterable, Iterator
-from dataclasses import dataclass, field
+from typing import NamedTuple
 
 from .catalogue import Table
-from .cells import Reader, UnknownType, reader
+from .cells import LogType, Printing, Reader, UnknownType, reader
 from .events import DELETES, IGNORABLE, UPDATES, WRITES, Event, GtidEvent, LogEvent, QueryEvent, TableMap, read_rows_head, read_table_map
-from .messages import Row
+from .groups import Changes
+from .messages import LongRow, Row, row_bytes
 from .position import Gtid, Position
+from .rowcode import AFTER, BEFORE, Image, image_reader, one_image, two_images
 from .server import Place
 from .statements import Does, Name, Statement, read_statement
-from .stop import AGAIN, ANEW, Stop
-
-RowChange = tuple[Row | None, Row | None]
-"""A row before and after: an insert, an update or a delete."""
+from .stop import AGAIN, BEHIND, Stop
 
 
-@dataclass(frozen=True)
-class Change:
-    """The rows of one table that one event changes."""
-
-    table: Table
-    rows: list[RowChange]
-
-
-@dataclass(frozen=True)
-class Transaction:
+class Transaction(NamedTuple):
     """A transaction with what it changes in the recorded tables, perhaps nothing; `end` is where it ends in the log."""
 
     gtid: Gtid
     time: int
-    changes: list[Change]
-    end: Place
+    changes: Changes | None
+    log: str
+    offset: int
+
+    @property
+    def end(self) -> Place:
+        return Place(self.log, self.offset)
 
 
-@dataclass
 class _Open:
     """What has been read of the transaction that is read."""
 
-    gtid: Gtid
-    alone: bool
-    xa: bytes
-    changes: list[Change] = field(default_factory=list)
-    savepoints: dict[str, int] = field(default_factory=dict)
+    __slots__ = ("gtid", "alone", "xa", "changes", "savepoints")
+
+    def __init__(self, gtid: Gtid, alone: bool, xa: bytes, folder: str) -> None:
+        self.gtid, self.alone, self.xa = gtid, alone, xa
+        self.changes, self.savepoints = Changes(folder), {}
 
 
-@dataclass(frozen=True)
 class _Layout:
-    table: Table
-    readers: tuple[Reader, ...]
+    """How the rows of a recorded table stand in the log. `heads` is what stood before the rows, of each kind of event."""
+
+    def __init__(self, table: Table, image: Image, columns: int) -> None:
+        self.table, self.image, self.columns, self.heads = table, image, columns, {}
 
 
+MAPS_KEPT = 10_000
+TABLE_MAP, GTID, XID = int(LogEvent.TABLE_MAP), int(LogEvent.GTID), int(LogEvent.XID)
+ROWS = frozenset(map(int, WRITES | UPDATES | DELETES))
 STATEMENTS = {LogEvent.LOAD, LogEvent.APPEND_BLOCK, LogEvent.DELETE_FILE, LogEvent.BEGIN_LOAD_QUERY, LogEvent.EXECUTE_LOAD_QUERY}
 SKIPPED = {LogEvent.STOP, LogEvent.ROTATE, LogEvent.INTVAR, LogEvent.RAND, LogEvent.USER_VAR, LogEvent.HEARTBEAT, LogEvent.ANNOTATE_ROWS,
            LogEvent.BINLOG_CHECKPOINT, LogEvent.GTID_LIST, LogEvent.START_ENCRYPTION}  # fmt: skip
@@ -67,14 +65,17 @@ class Transactions:
     `prepared` the changes of XA transactions that are neither committed nor rolled back. `begun_with` are the
     tables all of whose rows are known where the reading begins; the others have to be made in the log."""
 
-    def __init__(self, tables: list[Table], position: Position, filled: set[Name], prepared: dict[bytes, list[Change]], begun_with: set[Name]) -> None:
+    def __init__(self, tables: list[Table], position: Position, filled: set[Name], prepared: dict[bytes, Changes | None], begun_with: set[Name],
+                 folder: str) -> None:  # fmt: skip
+        """What a transaction changes lies in files of the folder, where it is much."""
         self.tables = {table.full: table for table in tables}
         self.position, self.filled, self.prepared, self.begun_with = position, filled, prepared, begun_with
-        self.begun = 0
+        self.begun, self._folder = 0, folder
         self._maps: dict[int, tuple[TableMap, _Layout | None]] = {}
+        self._maps_read: dict[bytes, tuple[TableMap, _Layout | None]] = {}
+        """By a table map's bytes what is read of it."""
         self._open: _Open | None = None
-        self.place = Place("", 0)
-        """How far the log was read: `position` is the one there, wherever no transaction is open."""
+        self._log, self._offset = "", 0
         self.altered = False
         """Whether a recorded table, of which no row was recorded, was altered or made since the catalogue was read."""
 
@@ -85,23 +86,35 @@ class Transactions:
         for log, event in events:
             if event.end:
                 # one that the server made up stands nowhere, and is read wherever the log is
-                if end and self._has_reached(end) and not self._open:
+                if end and not self._open and self._has_reached(end):
                     break
-                self.place = Place(log, event.end)
+                self._log, self._offset = log, event.end
             try:
-                changes = self._changes(event)
+                ends = self._take(event)
             except (IndexError, KeyError, ValueError, struct.error, zlib.error) as fault:
                 raise Stop(f"an event of type {event.kind} that can't be read ({fault!r})", self._where(),
                            "report it, with this event of mariadb-binlog --hexdump") from None  # fmt: skip
-            if changes is not None:
-                gtid, self._open = self._open.gtid, None
+            if ends:
+                gtid, changes, self._open = self._open.gtid, self._open.changes, None
                 self.position.add(gtid)
-                self.filled.update(change.table.full for change in changes)
-                yield Transaction(gtid, event.time, changes, self.place)
+                if changes and len(self.filled) < len(self.tables):
+                    self.filled |= changes.tables
+                yield Transaction(gtid, event.time, changes, log, self._offset)
+                if changes:
+                    changes.close()
         if end and not self._has_reached(end):
             raise Stop(f"the log ends before {end}", self._where(), AGAIN)
         if end:
             self._check_ended()
+
+    @property
+    def place(self) -> Place:
+        """How far the log was read: `position` is the one there, wherever no transaction is open."""
+        return Place(self._log, self._offset)
+
+    @place.setter
+    def place(self, place: Place) -> None:
+        self._log, self._offset = place.log, place.offset
 
     @property
     def is_between(self) -> bool:
@@ -109,14 +122,14 @@ class Transactions:
         return self._open is None
 
     def _has_reached(self, end: Place) -> bool:
-        return self.place.log == end.log and self.place.offset >= end.offset
+        return self._offset >= end.offset and self._log == end.log
 
     def _where(self) -> str:
         return (f"in transaction {self._open.gtid}, " if self._open else "") + f"before {self.place}"
 
     def _check_begun(self, table: Table) -> None:
         if table.full not in self.begun_with:
-            raise Stop(f"a table that was there before the log, {table.schema}.{table.name},", self._where(), ANEW)
+            raise Stop(f"a table that was there before the log, {table.schema}.{table.name},", self._where(), BEHIND)
 
     def _check_ended(self) -> None:
         for table in self.tables.values():
@@ -132,78 +145,84 @@ class Transactions:
                             f"XA COMMIT or XA ROLLBACK it (XA RECOVER lists it), and {AGAIN}")  # fmt: skip
         return None
 
-    def _changes(self, event: Event) -> list[Change] | None:
-        """Takes an event; answers the changes of the transaction that it ends, None where it ends none."""
+    def _take(self, event: Event) -> bool:
+        """Takes an event; answers whether it ends a transaction, of which the changes are the open one's then."""
         kind = event.kind
-        if kind == LogEvent.TABLE_MAP:
-            self._map(read_table_map(event.body))
-        elif kind in WRITES or kind in UPDATES or kind in DELETES:
+        if kind == TABLE_MAP:
+            self._map(event.body)
+        elif kind in ROWS:
             self._rows(kind, event.body)
-        elif kind == LogEvent.GTID:
+        elif kind == GTID:
             self._begin(GtidEvent.read(event.body), event.server)
-        elif kind == LogEvent.XID and self._open:
-            return self._open.changes
+        elif kind == XID and self._open:
+            return True
         elif kind in (LogEvent.QUERY, LogEvent.QUERY_COMPRESSED):
             query = QueryEvent.read(kind, event.body)
             return self._statement(read_statement(query.text, query.schema), query.text)
         elif kind == LogEvent.XA_PREPARE and self._open:
             self.prepared[self._open.xa] = self._open.changes
-            return []
+            self._open.changes = None
+            return True
         elif kind == LogEvent.FORMAT_DESCRIPTION:
             self.begun = event.time
             self._maps.clear()
         elif kind == LogEvent.INCIDENT:
-            raise Stop("an incident: the server lost events", self._where(), ANEW)
+            raise Stop("an incident: the server lost events", self._where(), BEHIND)
         elif kind in STATEMENTS:
-            raise Stop("a LOAD DATA in statement format", self._where(), f"SET GLOBAL binlog_format=ROW, let clients connect anew, and {ANEW}")
+            raise Stop("a LOAD DATA in statement format", self._where(), f"SET GLOBAL binlog_format=ROW, let clients connect anew, and {BEHIND}")
         elif kind not in SKIPPED and not event.flags & IGNORABLE:
-            raise Stop(f"an event of type {kind}, which isn't known,", self._where(), ANEW)
-        return None
+            raise Stop(f"an event of type {kind}, which isn't known,", self._where(), BEHIND)
+        return False
 
     def _begin(self, event: GtidEvent, server: int) -> None:
         gtid = Gtid(event.domain, server, event.sequence)
         if self._open:
-            raise Stop("a transaction without an end", self._where(), ANEW)
+            raise Stop("a transaction without an end", self._where(), BEHIND)
         if self.position.goes_back(gtid):
             raise Stop(f"a position that goes back, from {self.position.last[gtid.domain]} to {gtid},", self._where(),
-                       f"numbers of a domain have to rise (gtid_strict_mode=1); {ANEW}")  # fmt: skip
-        self._open = _Open(gtid, event.alone, event.xa)
+                       f"numbers of a domain have to rise (gtid_strict_mode=1); {BEHIND}")  # fmt: skip
+        self._open = _Open(gtid, event.alone, event.xa, self._folder)
 
-    def _statement(self, statement: Statement, text: str) -> list[Change] | None:
+    def _statement(self, statement: Statement, text: str) -> bool:
         now = self._open
         if now is None:
-            raise Stop("a statement without a GTID", self._where(), ANEW)
+            raise Stop("a statement without a GTID", self._where(), BEHIND)
         match statement.does:
             case Does.COMMIT:
-                return now.changes
+                return True
             case Does.ROLLBACK:
-                return []
+                now.changes = None
+                return True
             case Does.SAVEPOINT:
-                now.savepoints[statement.savepoint] = len(now.changes)
+                now.savepoints[statement.savepoint] = now.changes.mark()
             case Does.ROLLBACK_TO:
                 if statement.savepoint not in now.savepoints:
-                    raise Stop(f"no savepoint {statement.savepoint}", self._where(), ANEW)
-                del now.changes[now.savepoints[statement.savepoint]:]
+                    raise Stop(f"no savepoint {statement.savepoint}", self._where(), BEHIND)
+                now.changes.cut(now.savepoints[statement.savepoint])
             case Does.XA_COMMIT | Does.XA_ROLLBACK if now.xa:
                 if now.xa not in self.prepared:
-                    raise Stop("the end of an XA transaction that was prepared before this recording", self._where(), ANEW)
+                    raise Stop("the end of an XA transaction that was prepared before this recording", self._where(), BEHIND)
                 changes = self.prepared.pop(now.xa)
-                return changes if statement.does == Does.XA_COMMIT else []
+                now.changes = changes if statement.does == Does.XA_COMMIT else None
+                return True
             case Does.XA_COMMIT:
-                return now.changes
+                return True
             case Does.XA_ROLLBACK:
-                return []
+                now.changes = None
+                return True
             case Does.ROWS:
                 raise Stop(f"statement or mixed format ({_cut(text)})", self._where(),
-                           f"SET GLOBAL binlog_format=ROW, let clients connect anew, and {ANEW}")  # fmt: skip
+                           f"SET GLOBAL binlog_format=ROW, let clients connect anew, and {BEHIND}")  # fmt: skip
             case Does.CREATE | Does.LAYOUT | Does.TRUNCATE | Does.DROP_SCHEMA:
                 self._check_layout(statement, text)
-        return [] if now.alone else None
+        if now.alone:
+            now.changes = None
+        return now.alone
 
     def _check_layout(self, statement: Statement, text: str) -> None:
         """A recorded table may change as a whole as long as no row of it was recorded, and none comes in by it."""
         what = "TRUNCATE" if statement.does == Does.TRUNCATE else "DDL"
-        filled = self.filled | {change.table.full for change in self._open.changes}
+        filled = self.filled | self._open.changes.tables
         for schema, name in statement.names:
             for full in self.tables:
                 if full[0].lower() != schema.lower() or name and full[1].lower() != name.lower():
@@ -212,47 +231,74 @@ class Transactions:
                 if statement.does == Does.CREATE and full not in filled:
                     self.begun_with.add(full)
                 elif statement.moves or full in filled:
-                    raise Stop(f"{what} of a recorded table, {'.'.join(full)} ({_cut(text)}),", self._where(), ANEW)
+                    raise Stop(f"{what} of a recorded table, {'.'.join(full)} ({_cut(text)}),", self._where(), BEHIND)
 
-    def _map(self, found: TableMap) -> None:
-        table = self.tables.get((found.schema, found.table))
-        if table:
-            self._check_begun(table)
-            if self._open is None:
-                raise Stop(f"rows of {found.schema}.{found.table} without a GTID", self._where(), ANEW)
-        self._maps[found.number] = (found, self._layout(found, table) if table else None)
+    def _map(self, body: bytes) -> None:
+        read = self._maps_read.get(body)
+        if read is None:
+            found = read_table_map(body)
+            table = self.tables.get((found.schema, found.table))
+            read = found, None
+            if table:
+                self._check_begun(table)
+                read = found, self._layout(found, table)
+            if len(self._maps_read) > MAPS_KEPT:
+                self._maps_read.clear()
+            self._maps_read[body] = read
+        found, layout = read
+        if layout and self._open is None:
+            raise Stop(f"rows of {found.schema}.{found.table} without a GTID", self._where(), BEHIND)
+        self._maps[found.number] = read
 
     def _layout(self, found: TableMap, table: Table) -> _Layout:
         if len(found.types) != len(table.columns) or found.names not in (None, tuple(column.name for column in table.columns)):
             raise self._altered(table, "has other columns there than the catalogue has now")
+        columns = [(log, column.printing) for log, column in zip(found.types, table.columns)]
         try:
-            return _Layout(table, tuple(reader(log, column.printing) for log, column in zip(found.types, table.columns)))
+            image = self._image_of_padded(table, columns) if any(table.columns[at].pads for at in table.key) else image_reader(columns)
         except UnknownType as fault:
             raise self._altered(table, f"has {fault}") from None
+        return _Layout(table, image, len(columns))
+
+    def _image_of_padded(self, table: Table, columns: list[tuple[LogType, Printing]]) -> Image:
+        """Of a table whose keys have to be looked at."""
+        readers = tuple(reader(*column) for column in columns)
+
+        def image(data: bytes, at: int) -> tuple[bytes, int]:
+            row, end = _image(readers, data, at)
+            check_key(table, row, self._where())
+            return row_bytes(row), end
+
+        return image
 
     def _altered(self, table: Table, what: str) -> Stop:
         """The catalogue is read before the log: where they differ, the table was altered between."""
         return Stop(f"DDL of a recorded table, {table.schema}.{table.name}: the log {what},", self._where(),
-                    f"{ANEW}, or leave the table out where that says the same")  # fmt: skip
+                    f"{BEHIND}, or leave the table out where that says the same")  # fmt: skip
 
     def _rows(self, kind: int, body: bytes) -> None:
         found, layout = self._maps[int.from_bytes(body[:6], "little")]
         if layout is None:
             return
-        head = read_rows_head(kind, body)
-        if not head.whole or head.columns != len(layout.readers):
-            raise Stop(f"a row image of {found.schema}.{found.table} that isn't FULL", self._where(),
-                       f"SET GLOBAL binlog_row_image=FULL, let clients connect anew, and {ANEW}")  # fmt: skip
-        rows, at = [], 0
-        while at < len(head.rows):
-            before = after = None
-            if kind not in WRITES:
-                before, at = _image(layout.readers, head.rows, at)
-            if kind not in DELETES:
-                after, at = _image(layout.readers, head.rows, at)
-                check_key(layout.table, after, self._where())
-            rows.append((before, after))
-        self._open.changes.append(Change(layout.table, rows))
+        known = layout.heads.get(kind)
+        if known and body.startswith(known, 8):
+            data, at = body, 8 + len(known)
+        else:
+            head, at = read_rows_head(kind, body), 0
+            if not head.whole or head.columns != layout.columns:
+                raise Stop(f"a row image of {found.schema}.{found.table} that isn't FULL", self._where(),
+                           f"SET GLOBAL binlog_row_image=FULL, let clients connect anew, and {BEHIND}")  # fmt: skip
+            data = head.rows
+            if kind < LogEvent.WRITE_ROWS_COMPRESSED_V1:
+                layout.heads[kind] = body[8:len(body) - len(data)]
+        try:
+            if kind in UPDATES:
+                changes = two_images(layout.image, data, at)
+            else:
+                changes = one_image(layout.image, AFTER if kind in WRITES else BEFORE, data, at)
+        except LongRow as fault:
+            raise Stop(str(fault), f"in {found.schema}.{found.table} {self._where()}", "leave the table out") from None
+        self._open.changes.add(layout.table, changes)
 
 
 def check_key(table: Table, row: Row, where: str) -> None:
@@ -261,7 +307,7 @@ def check_key(table: Table, row: Row, where: str) -> None:
         value = row[at]
         if table.columns[at].pads and value and (value[-1:] == b" " or min(value) < 0x20):
             raise Stop(f"a key of {table.schema}.{table.name} with a blank at its end or a control character, {value[:40]!r},", where,
-                       f"make the collation of column {table.columns[at].name} a _nopad_bin one, or VARBINARY, and {ANEW}")  # fmt: skip
+                       f"make the collation of column {table.columns[at].name} a _nopad_bin one, or VARBINARY, and {BEHIND}")  # fmt: skip
 
 
 def _image(readers: tuple[Reader, ...], data: bytes, at: int) -> tuple[Row, int]:

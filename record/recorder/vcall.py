@@ -8,7 +8,7 @@ from threading import Event, Thread
 
 from .ending import Held
 from .files import read_file
-from .messages import Request
+from .protos import Request
 from .stop import Stop
 
 # the library's own lines would stand among those of the command

@@ -5,16 +5,13 @@ the tables that are copied or being copied: of these also what lies behind the c
 change may be of a row that isn't here yet. Each says a row by its key, and of two the later one counts. When
 the copy is completed all tables are as of one position. Until then the rows are held in a file, by table and key.
 """
-import os
-import re
-import sqlite3
 from collections.abc import Iterator, Mapping
-from contextlib import contextmanager, suppress
 
-from .ending import Held
 from .gtids import GtidSet
-from .kinds import KEYS, WHOLE, Kind
-from .messages import EventType, Response, framed
+from .held import HeldRows, key_bytes
+from .kinds import KEYS
+from .messages import EventType, cells_of, framed
+from .protos import Response
 from .stop import Stop
 from .vstream import LABELLED, Columns, Known, Reading, check_rows, read_answer, unread, with_columns
 
@@ -23,61 +20,28 @@ PRIMARY_KEY = 2
 PASSED = {EventType.BEGIN, EventType.COMMIT, EventType.ROLLBACK, EventType.OTHER, EventType.HEARTBEAT, EventType.VERSION,
           EventType.SAVEPOINT, EventType.LASTPK}  # fmt: skip
 """The types of events that say nothing of a row or a position. Transactions needn't be whole before a copy is completed."""
-PENDING = 1 << 22
-"""The bytes of rows that are kept until they are put into the file."""
 PIECE = 1 << 20
 """The bytes of rows behind which a message of the first group ends."""
-LEAST, MOST = -(2**63), 2**64 - 1
-NUMBER = re.compile(rb"-?[0-9]+")
-SETTINGS = ("page_size=16384", "journal_mode=OFF", "synchronous=OFF", "locking_mode=EXCLUSIVE", "cache_size=-65536")
 
 
 class Copy:
     """A copy as far as it came. Use it with `with`: the file that holds its rows is gone afterwards."""
 
     def __init__(self, path: str, reading: Reading, tables: list[str]) -> None:
-        self._path, self._reading, self._tables = path, reading, tables
+        self._rows, self._reading, self._tables = HeldRows(path, "the copied rows"), reading, tables
         self._columns: Mapping[str, Columns] = {}
         self._fields: dict[str, object] = {}
         self._told: dict[str, list[str]] = {}
         self._keys: dict[str, list[tuple[int, int]]] = {}
-        self._pending: dict[tuple[int, bytes], bytes | None] = {}
-        self._size = 0
         self._position, self._reached = "", GtidSet()
-        self._rows: sqlite3.Connection | None = None
         self.is_completed = False
 
     def __enter__(self) -> "Copy":
-        try:
-            with self._file():
-                self._open()
-        except BaseException:
-            self.__exit__()
-            raise
+        self._rows.__enter__()
         return self
 
-    def _open(self) -> None:
-        with suppress(FileNotFoundError):
-            os.unlink(self._path)
-        os.close(os.open(self._path, os.O_RDWR | os.O_CREAT | os.O_EXCL, 0o600))
-        self._rows = sqlite3.connect(self._path, isolation_level=None)
-        for setting in SETTINGS:
-            self._rows.execute(f"PRAGMA {setting}")
-        self._rows.execute("CREATE TABLE held (place INTEGER, key BLOB, row BLOB, PRIMARY KEY (place, key)) WITHOUT ROWID")
-        self._rows.execute("BEGIN")
-
-    def __exit__(self, *_: object) -> None:
-        with Held(), suppress(sqlite3.Error, OSError):
-            if self._rows:
-                self._rows.close()
-            os.unlink(self._path)
-
-    @contextmanager
-    def _file(self) -> Iterator[None]:
-        try:
-            yield
-        except (sqlite3.Error, OSError) as fault:
-            raise Stop("the copied rows can't be held", f"in {self._path}", str(fault)) from None
+    def __exit__(self, *how: object) -> None:
+        self._rows.__exit__(*how)
 
     def take(self, data: bytes) -> bytes:
         """Takes an answer up to the copy's end; answers what of it is behind that. Stops at what a feed couldn't say."""
@@ -133,11 +97,12 @@ class Copy:
         table = self._reading.plain(rows.table_name)
         check_rows(rows, table, self._columns)
         place, key = self._tables.index(table), self._key(table)
+        count = max(at for at, _ in key) + 1
         for change in rows.row_changes:
             if change.HasField("before"):
-                self._put((place, key_bytes(change.before, key, table)), None)
+                self._rows.put((place, key_bytes(cells_of(change.before, count), key, table)), None)
             if change.HasField("after"):
-                self._put((place, key_bytes(change.after, key, table)), change.after.SerializeToString(deterministic=True))
+                self._rows.put((place, key_bytes(cells_of(change.after, count), key, table)), change.after.SerializeToString(deterministic=True))
 
     def _key(self, table: str) -> list[tuple[int, int]]:
         """The columns of a table's key, each with its type. ValueError where none is told, or one that no workflow can have."""
@@ -156,18 +121,6 @@ class Copy:
             self._keys[table] = [(at, fields[at].type) for at in key]
         return self._keys[table]
 
-    def _put(self, key: tuple[int, bytes], row: bytes | None) -> None:
-        self._pending[key] = row
-        self._size += len(key[1]) + len(row or b"")
-        if self._size > PENDING:
-            self._flush()
-
-    def _flush(self) -> None:
-        with self._file():
-            self._rows.executemany("DELETE FROM held WHERE place = ? AND key = ?", [key for key, row in self._pending.items() if row is None])
-            self._rows.executemany("INSERT OR REPLACE INTO held VALUES (?, ?, ?)", [(*key, row) for key, row in self._pending.items() if row is not None])
-        self._pending, self._size = {}, 0
-
     def _check_whole(self) -> None:
         missing = [table for table in self._tables if table not in self._columns]
         if missing:
@@ -180,45 +133,21 @@ class Copy:
 
     def messages(self) -> Iterator[bytes]:
         """The rows as one transaction of a feed, table by table, by their keys."""
-        self._flush()
         answer, size = Response(), 0
         answer.events.add(type=EventType.BEGIN)
         for place, table in enumerate(self._tables):
             answer.events.append(self._fields[table])
             rows = None
-            with self._file():
-                for (row,) in self._rows.execute("SELECT row FROM held WHERE place = ? ORDER BY key", (place,)):
-                    if rows is None:
-                        rows = answer.events.add(type=EventType.ROW).row_event
-                        rows.table_name = self._fields[table].field_event.table_name
-                    rows.row_changes.add().after.MergeFromString(row)
-                    size += len(row)
-                    if size >= PIECE:
-                        yield framed(answer)
-                        answer, size, rows = Response(), 0, None
+            for row in self._rows.rows(place):
+                if rows is None:
+                    rows = answer.events.add(type=EventType.ROW).row_event
+                    rows.table_name = self._fields[table].field_event.table_name
+                rows.row_changes.add().after.MergeFromString(row)
+                size += len(row)
+                if size >= PIECE:
+                    yield framed(answer)
+                    answer, size, rows = Response(), 0, None
         shards = answer.events.add(type=EventType.VGTID).vgtid.shard_gtids
         shards.add(keyspace=self._reading.keyspace, shard=self._reading.shard, gtid=self._position)
         answer.events.add(type=EventType.COMMIT)
         yield framed(answer)
-
-
-def key_bytes(row, key: list[tuple[int, int]], table: str) -> bytes:
-    """A row's key: bytes that are the same where the keys are, and in the keys' order. ValueError where a part is none."""
-    parts, start, at = [], 0, 0
-    for wanted, kind in key:
-        while at < wanted:
-            start, at = start + max(row.lengths[at], 0), at + 1
-        length = row.lengths[at]
-        if length < 0:
-            raise ValueError(f"NULL in a key of {table}")
-        parts.append(_part(row.values[start:start + length], kind, table))
-    return b"".join(parts)
-
-
-def _part(cell: bytes, kind: int, table: str) -> bytes:
-    if kind not in WHOLE:
-        cell = cell.rstrip(b"\0") if kind == Kind.BINARY else cell
-        return cell.replace(b"\0", b"\0\xff") + b"\0\0"
-    if not NUMBER.fullmatch(cell) or not LEAST <= (number := int(cell)) <= MOST:
-        raise ValueError(f"a key of {table} that is no number in range")
-    return (number - LEAST).to_bytes(9, "big")

@@ -12,7 +12,8 @@ from google.protobuf.message import DecodeError
 
 from .gtids import GtidSet
 from .kinds import Kind
-from .messages import MOST_OF_FEED, MOST_OF_ROW, EventType, Request, Response, framed, varint
+from .messages import MOST_OF_FEED, MOST_OF_ROW, EventType, framed, varint
+from .protos import Request, Response
 from .stop import Stop
 
 # what it is of is another size then, and that is looked at

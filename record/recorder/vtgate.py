@@ -8,10 +8,11 @@ from dataclasses import dataclass, replace
 from itertools import chain
 
 from .ending import Ended, Held, Last, say, tell
-from .files import Lock, kind_at, left_files, open_file, writing
+from .files import Lock, held_path, kind_at, left_files, open_file, writing
 from .growing import Growing, Told, read_messages
 from .gtids import GtidSet
-from .messages import EventType, Response, framed
+from .messages import EventType, framed
+from .protos import Response
 from .stop import Stop
 from .vcall import Over, Server
 from .vcopy import Copy
@@ -113,7 +114,7 @@ class Recording:
 
     def _copied(self, answers: Iterator[bytes]) -> Iterator[bytes]:
         """Makes the feed of a copy; answers what comes behind it."""
-        with Copy(f"{self.wanted.out}.copy", self.reading, self.wanted.tables) as copy:
+        with Copy(held_path(self.wanted.out), self.reading, self.wanted.tables) as copy:
             while not copy.is_completed:
                 rest = copy.take(next(answers))
             self._new(copy.messages(), copy.known().position)
@@ -181,7 +182,8 @@ def record(wanted: Wanted) -> None:
     with ExitStack() as opened:
         with Held(), writing(wanted.out):
             opened.enter_context(Lock(wanted.out))
-            for own in (*left_files(wanted.out), *left_files(f"{wanted.out}.json")):
+            copy = held_path(wanted.out)
+            for own in (*left_files(wanted.out), *left_files(f"{wanted.out}.json"), *([copy] if kind_at(copy) == "a file" else [])):
                 os.unlink(own)
         check_there(wanted)
         _record(wanted, Recording(wanted))

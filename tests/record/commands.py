@@ -134,7 +134,12 @@ def command():
         loader = importlib.machinery.SourceFileLoader("feed", os.path.join(ROOT, "record/feed"))
         _COMMAND = importlib.util.module_from_spec(importlib.util.spec_from_loader("feed", loader))
         loader.exec_module(_COMMAND)
+        import argparse  # noqa: F401
+        import gettext  # noqa: F401
+
+        import recorder.behind  # noqa: F401
         import recorder.forever  # noqa: F401
+        import recorder.logins  # noqa: F401
     return _COMMAND
 
 

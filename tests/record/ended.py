@@ -124,7 +124,7 @@ def odd_notes(trial, place: Place) -> None:
         "empty": b"", "bytes": bytes(range(256)), "a list": b"[]", "deep": b"[" * 100000, "null": b"null", "a number": b"1e400",
         **{f"without {name}": json.dumps({**{one: data[one] for one in data if one != name}, "more": 1}).encode() for name in data},
         **{f"{name} {value!r}": json.dumps({**data, name: value}).encode() for name in data for value in (None, {}, "x", 1.5, True, [1])
-           if type(value) is not type(data[name]) and not (name == "begun" and value is None)},
+           if type(value) is not type(data[name]) and (name, value) not in (("begun", None), ("server_id", None), ("keyspace", "x"))},
     }  # fmt: skip
     for name, text in notes.items():
         write_file(place.feed + ".json", text)
@@ -137,7 +137,7 @@ def odd_notes(trial, place: Place) -> None:
         write_file(place.feed, other)
         check_stopped(trial, name, place, ["--append", *place.words], "a feed that isn't the one of its note in ")
     write_file(place.feed, feed)
-    old = {name: value for name, value in data.items() if name != "last"}
+    old = {name: value for name, value in data.items() if name not in ("last", "server_id", "keyspace", "turn", "past", "keys")}
     write_file(place.feed + ".json", json.dumps(old).encode())
     done = commands.run("--append", *place.words)
     now = json.loads(read_file(place.feed + ".json"))
@@ -240,16 +240,25 @@ class ReadStopped:
 
     def __call__(self) -> None:
         from pymysql.connections import Connection
+        from recorder import server
 
-        read = Connection._read_bytes
+        read, filled = Connection._read_bytes, server._filled
 
         def counted(connection: Connection, size: int) -> bytes:
-            self.seen += 1
-            if self.seen == self.number:
-                self.does()
+            self._meet()
             return read(connection, size)
 
-        Connection._read_bytes = counted
+        def counted_log(*how: object) -> bytes:
+            self._meet()
+            return filled(*how)
+
+        # a log's events come by smaller pieces than it would have them
+        Connection._read_bytes, server._filled, server.CHUNK = counted, counted_log, 2**12
+
+    def _meet(self) -> None:
+        self.seen += 1
+        if self.seen == self.number:
+            self.does()
 
 
 def stop_itself() -> None:

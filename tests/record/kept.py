@@ -28,14 +28,17 @@ def write_file(path: str, data: bytes) -> None:
 
 
 def groups(feed: bytes) -> list[tuple[int, str, bytes]]:
-    """Where each whole group of a feed ends, its position, and the message; of a last one that is cut short nothing."""
+    """Where each whole group of a feed ends, its position, and its messages; of a last one that is cut short nothing."""
     from recorder.messages import EventType, Response, frames
 
-    found = []
+    found, begun = [], None
     try:
         for start, end in frames(feed):
             events = Response.FromString(feed[start:end]).events
-            found.append((end, next(event.gtid for event in events if event.type == EventType.GTID), feed[start:end]))
+            begun = start if begun is None else begun
+            for position in [event.gtid for event in events if event.type == EventType.GTID]:
+                found.append((end, position, feed[begun:end]))
+                begun = None
     except ValueError:
         pass
     return found

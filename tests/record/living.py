@@ -271,7 +271,7 @@ def reconnects(trial) -> None:
         server.sql("RESET MASTER; INSERT INTO d.t VALUES (5); ")
         done = one.wait()
         lost = done.err.count("; record again in 0.5 seconds\n")
-        fine = done.status == 1 and lost >= 4 and done.err.splitlines()[-1].endswith("record anew with --from-snapshot") and len(changes(read_file(feed))) == 5
+        fine = done.status == 1 and lost >= 4 and done.err.splitlines()[-1].endswith("go on with --anew-behind, or record anew with --from-snapshot") and len(changes(read_file(feed))) == 5
         trial.check("reconnects", None if fine else f"{done}")
 
 

@@ -9,7 +9,7 @@ import tempfile
 import time
 
 PLACES = os.environ.get("PATH", "") + ":/usr/sbin:/usr/local/sbin:/sbin"
-SETTINGS = ["--skip-networking", "--server-id=7", "--log-bin=binlog", "--binlog-format=ROW", "--binlog-row-image=FULL",
+SETTINGS = ["--skip-networking", "--log-slave-updates", "--log-bin=binlog", "--binlog-format=ROW", "--binlog-row-image=FULL",
             "--binlog-row-metadata=FULL", "--max-binlog-size=256K", "--innodb-buffer-pool-size=32M", "--innodb-log-file-size=16M",
             "--innodb-flush-log-at-trx-commit=0", "--sync-binlog=0", "--innodb-lock-wait-timeout=60", "--performance-schema=OFF",
             "--innodb-print-all-deadlocks=OFF", "--character-set-server=utf8mb4"]  # fmt: skip
@@ -40,7 +40,11 @@ def die_with_parent() -> None:
 
 
 class Server:
-    """Use it with `with`: the server and its folder are gone afterwards, the server also where the test is killed."""
+    """Use it with `with`: the server and its folder are gone afterwards, the server also where the test is killed. `number` is the
+    one by which it is known among others."""
+
+    def __init__(self, number: int = 7) -> None:
+        self._number = number
 
     def __enter__(self) -> "Server":
         # a socket's path is short, and the server, which may run as another user, has to reach it
@@ -83,7 +87,8 @@ class Server:
         # (a server that begins takes away what others have in a folder of theirs that it has too)
         how = {"user": user, "group": pwd.getpwnam(user).pw_gid, "extra_groups": []} if user else {}
         self._process = subprocess.Popen(
-            [command("mariadbd"), "--no-defaults", f"--datadir={data}", f"--socket={self.socket}", f"--pid-file={self.folder}/pid", f"--tmpdir={data}", *SETTINGS],
+            [command("mariadbd"), "--no-defaults", f"--datadir={data}", f"--socket={self.socket}", f"--pid-file={self.folder}/pid", f"--tmpdir={data}",
+             f"--server-id={self._number}", *SETTINGS],
             stdin=subprocess.DEVNULL, stdout=self._log, stderr=self._log, preexec_fn=die_with_parent, env=self._told, **how)  # fmt: skip
         begun = time.monotonic()
         while self._process.poll() is None and time.monotonic() - begun < PATIENCE:

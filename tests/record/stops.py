@@ -78,7 +78,7 @@ CASES = [
          "a key of s.pad with a blank at its end or a control character, b'b ', in transaction 0-7-", "s.pad", RESET),
     Case("blank_in_a_snapshot", "", "b'b ', in the snapshot: ", "s.pad", "DROP TABLE s.pad; " + RESET, ("--from-snapshot",)),
     Case("long_row", "CREATE TABLE s.l (id INT PRIMARY KEY, v LONGBLOB, w LONGBLOB); INSERT INTO s.l VALUES (1, REPEAT('a', 9000000), REPEAT('b', 9000000)); ",
-         "a row of more than 16777216 bytes in s.l at MySQL56/", "s.l", "DROP TABLE s.l; " + RESET),
+         "a row of more than 16777216 bytes in s.l in transaction 0-7-", "s.l", "DROP TABLE s.l; " + RESET),
     Case("statement_format", ROWS + "SET binlog_format=STATEMENT; UPDATE s.t SET v='c' WHERE id=1; ",
          "statement or mixed format (UPDATE s.t SET v='c' WHERE id=1) in transaction 0-7-", behind=DROP),
     Case("analyzed_statement", ROWS + "SET binlog_format=STATEMENT; ANALYZE UPDATE s.t SET v='c' WHERE id=1; ",

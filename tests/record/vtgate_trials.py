@@ -7,7 +7,7 @@ from collections.abc import Iterator
 from itertools import chain
 from random import Random
 
-from recorder import growing, vcopy, vstream
+from recorder import growing, held, vcopy, vstream
 from recorder.messages import EventType, Response
 from recorder.stop import Stop
 from recorder.vcopy import Copy
@@ -195,19 +195,19 @@ def why_not_stopped(fault: Response, line: str) -> str | None:
 def copied(trial) -> None:
     """Copies in chunks of all sizes, with changes of all kinds between them, before and behind each key; rows go to the file and
     into messages one by one, some at a time, or all at once."""
-    sizes = vcopy.PENDING, vcopy.PIECE
+    sizes = held.PENDING, vcopy.PIECE
     for seed in range(ROUNDS):
         random = Random(seed)
         source = filled(random, has_flags=seed % 3 > 0)
         names, between, path = list(source.tables), edges(random), trial.path("copied.feed")
-        vcopy.PENDING, vcopy.PIECE = (random.choice([0, 400, most]) for most in sizes)
+        held.PENDING, vcopy.PIECE = (random.choice([0, 400, most]) for most in sizes)
         whole = (source.copy(random.choice([1, 2, 3, 50]), between), *(between(source, name) for name in sorted(KEYS)))
         write_copy(path, sent(chain(*whole)), Reading("ks", "-"), names)
         with open(trial.path("copied.json"), "w", encoding="utf-8") as file:
             json.dump(workflow_of(source), file)
         done = trial.run(trial.program, "run", file.name, path)
         trial.same(f"vtgate copy, seed {seed}", done.stdout + done.stderr, source.dump(names), 20)
-    vcopy.PENDING, vcopy.PIECE = sizes
+    held.PENDING, vcopy.PIECE = sizes
 
 
 def workflow_of(source: Keyspace) -> dict:
