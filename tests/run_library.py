@@ -19,7 +19,6 @@ import tempfile
 ROOT = os.path.dirname(os.path.dirname(os.path.abspath(__file__)))
 LIBRARY = os.path.join(ROOT, "out", "library")
 HERE = os.path.join(ROOT, "tests", "library")
-SYMBOLS = "vrepl_"
 
 
 class Failed(Exception):
@@ -64,7 +63,7 @@ def calls_from_c(room, program):
 def header_is_c_plus_plus(room, program):
     needed("c++")
     with open(os.path.join(room, "one.cc"), "w", encoding="utf-8") as file:
-        file.write('#include "vrepl.h"\nint main() { return vrepl_explain(0, nullptr + 0 ? nullptr : reinterpret_cast<uint8_t *>(1), 0) != 0; }\n'.replace("nullptr + 0 ? nullptr : ", ""))
+        file.write('#include "vrepl.h"\nint main() { uint8_t room[1]; return vrepl_explain(0, room, 0) != 0; }\n')
     ran("c++", "-std=c++17", "-Wall", "-Wextra", "-Werror", "-I", os.path.join(ROOT, "include"), "-o", os.path.join(room, "one"),
         os.path.join(room, "one.cc"), os.path.join(LIBRARY, "libvrepl.a"))  # fmt: skip
     ran(os.path.join(room, "one"))
@@ -98,7 +97,7 @@ def python_of(program):
 
 
 def calls_from_python(room, program):
-    ran(sys.executable, "-I" if False else "-B", os.path.join(HERE, "calls.py"), env=python_of(program), cwd=room)
+    ran(sys.executable, "-B", os.path.join(HERE, "calls.py"), env=python_of(program), cwd=room)
 
 
 def same_answers(room, program):
@@ -122,10 +121,12 @@ def installed_by_pip(room, program):
 
 
 def plugin_of_pytest(room, program):
-    if subprocess.run([sys.executable, "-c", "import pytest"], capture_output=True, check=False).returncode:
+    """Two cases of the plugin pass and two fail, by the Python that has pytest."""
+    has_pytest = [it for it in (sys.executable, "/usr/bin/python3") if os.path.exists(it) and subprocess.run([it, "-c", "import pytest"], capture_output=True, check=False).returncode == 0]
+    if not has_pytest:
         raise Left("pytest isn't installed")
     shutil.copy(os.path.join(HERE, "plugin_cases.py"), os.path.join(room, "test_plugin.py"))
-    words = [sys.executable, "-B", "-m", "pytest", "-q", "-p", "vrepl.pytest_plugin", "-p", "no:cacheprovider", "test_plugin.py"]
+    words = [has_pytest[0], "-B", "-m", "pytest", "-q", "-p", "vrepl.pytest_plugin", "-p", "no:cacheprovider", "test_plugin.py"]
     done = subprocess.run(words, cwd=room, env=python_of(program), capture_output=True, text=True, check=False)
     wanted = "2 failed, 2 passed"
     if done.returncode != 1 or wanted not in done.stdout or "wanted (b'2', b'b'), found (b'2', b'x')" not in done.stdout:

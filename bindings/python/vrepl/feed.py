@@ -75,7 +75,7 @@ class Feed:
     ) -> Feed:
         """Adds a transaction: changes of a table's name, its row before and its row after, None where there is none."""
         self._count += 1
-        at = position or f"{self.uuid}:1-{self._count}"
+        at = f"{self.uuid}:1-{self._count}" if position is None else position
         fields = [self._field_event(table) for table in dict.fromkeys(table for table, _, _ in changes) if table not in self._told]
         self._told.update(table for table, _, _ in changes)
         rows = [self._row_event(*change) for change in changes]
