@@ -26,8 +26,12 @@ def _stated():
 
 def _program():
     """The program of these sources, where it is known which one that is, else the one in dist/."""
-    found = subprocess.run([os.path.join(ROOT, "scripts", "program")], capture_output=True, text=True, check=False) if shutil.which("bash") else None
-    return os.path.join(ROOT, found.stdout.strip()) if found and found.returncode == 0 else CARRIED
+    finder = os.path.join(ROOT, "scripts", "program")
+    if os.access(finder, os.X_OK) and shutil.which("bash"):
+        found = subprocess.run([finder], stdout=subprocess.PIPE, text=True, check=False)
+        if found.returncode == 0:
+            return os.path.join(ROOT, found.stdout.strip())
+    return CARRIED
 
 
 def _files():
