@@ -153,9 +153,27 @@ def programs_of_the_page(room, program):
     ran(sys.executable, "-B", os.path.join(HERE, "page.py"), env=python_of(program), cwd=room)
 
 
+def packages_with_the_library(room, program):
+    """Packages that are made behind the library have it and its header, and lintian finds no error."""
+    needed("dpkg-deb", "make")
+    if subprocess.run([os.path.join(ROOT, "scripts", "program")], capture_output=True, check=False).returncode:
+        raise Left("there is no program of these sources")
+    copy = os.path.join(room, "copy")
+    left_out = lambda at, names: [it for it in names if it in (".git", "target", "packages") or (it == "out" and at != ROOT)]  # noqa: E731
+    shutil.copytree(ROOT, copy, ignore=left_out, symlinks=True)
+    ran(os.path.join(copy, "release"), "--packages", cwd=copy)
+    made = {it.rsplit(".", 1)[1]: os.path.join(copy, "packages", it) for it in os.listdir(os.path.join(copy, "packages")) if "." in it}
+    for listed, top in ((ran("tar", "tzf", made["gz"]), "lib"), (ran("dpkg-deb", "-c", made["deb"]), "lib/x86_64-linux-gnu/vrepl")):
+        missing = [it for it in ("include/vrepl.h", f"{top}/libvrepl.a", f"{top}/libvrepl.so") if f"/{it}\n" not in listed]
+        if missing:
+            raise Failed(f"a package lacks {missing}")
+    if shutil.which("lintian"):
+        ran("lintian", "--fail-on", "error", made["deb"])
+
+
 CHECKS = [
     *(exports_are_the_header, calls_from_c, header_is_c_plus_plus, calls_with_sanitizers, calls_under_valgrind, calls_from_python),
-    *(same_answers, installed_by_pip, plugin_of_pytest, calls_from_rust, programs_of_the_page),
+    *(same_answers, installed_by_pip, plugin_of_pytest, calls_from_rust, programs_of_the_page, packages_with_the_library),
 ]
 
 
