@@ -159,7 +159,7 @@ def packages_with_the_library(room, program):
     if subprocess.run([os.path.join(ROOT, "scripts", "program")], capture_output=True, check=False).returncode:
         raise Left("there is no program of these sources")
     copy = os.path.join(room, "copy")
-    left_out = lambda at, names: [it for it in names if it in (".git", "target", "packages") or (it == "out" and at != ROOT)]  # noqa: E731
+    left_out = lambda at, names: [it for it in names if (it in (".git", "packages") if at == ROOT else it in ("out", "target"))]  # noqa: E731
     shutil.copytree(ROOT, copy, ignore=left_out, symlinks=True)
     ran(os.path.join(copy, "release"), "--packages", cwd=copy)
     made = {it.rsplit(".", 1)[1]: os.path.join(copy, "packages", it) for it in os.listdir(os.path.join(copy, "packages")) if "." in it}

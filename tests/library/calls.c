@@ -95,7 +95,7 @@ static void ids(void) {
     // MD5 of no bytes (RFC 1321)
     CHECK(vrepl_vindex_id(TEXT("binary_md5"), false, TEXT(""), room, 16, &length) == 0 && length == 16);
     CHECK(memcmp(room, "\xd4\x1d\x8c\xd9\x8f\x00\xb2\x04\xe9\x80\x09\x98\xec\xf8\x42\x7e", 16) == 0);
-    CHECK(vrepl_vindex_id(TEXT("hash"), false, TEXT("1"), room, 16, &length) == 42);
+    CHECK(vrepl_vindex_id(TEXT("lookup"), false, TEXT("1"), room, 16, &length) == 42);
     CHECK(vrepl_vindex_id(TEXT("numeric"), true, TEXT("1"), room, 16, &length) == 43);
     CHECK(vrepl_vindex_id(TEXT("numeric"), false, TEXT("-1"), room, 16, &length) == 44);
 }

@@ -36,7 +36,7 @@ def readers():
 
     assert vrepl.vindex_id("numeric", b"258") == bytes([0, 0, 0, 0, 0, 0, 1, 2]) and vrepl.vindex_id("binary", b"a" * 1000) == b"a" * 1000
     assert vrepl.vindex_id("binary_md5", b"").hex() == "d41d8cd98f00b204e9800998ecf8427e"
-    assert [number_of(vrepl.vindex_id, *it) for it in (("hash", b""), ("numeric", None), ("numeric", b"-1"))] == [42, 43, 44]
+    assert [number_of(vrepl.vindex_id, *it) for it in (("lookup", b""), ("numeric", None), ("numeric", b"-1"))] == [42, 43, 44]
 
     feed = b"\x02ab\x00\x01c"
     assert list(vrepl.messages(feed)) == [b"ab", b"", b"c"] and vrepl.whole(feed + b"\x05d") == 6 and vrepl.whole(b"") == 0

@@ -99,7 +99,7 @@ def tiles(ranges: Iterable[KeyRange]) -> bool:
 
 
 def vindex_id(vindex: str, value: bytes | None) -> bytes:
-    """The keyspace id of a value, None for NULL, under `numeric`, `reverse_bits`, `binary` or `binary_md5`."""
+    """The keyspace id of a value, None for NULL, under a vindex by its name, as `numeric` or `binary_md5`."""
     there = b"" if value is None else value
     return rooms("vrepl_vindex_id", *text(vindex), value is None, *text(there), size=max(64, len(there)))[0]
 

@@ -12,8 +12,8 @@ use vindex::Vindex;
 /// The number of a name that no vindex has.
 const UNKNOWN_VINDEX: u32 = 42;
 
-/// Puts the keyspace id of a value, which is NULL or bytes, into the room: under `numeric`, `reverse_bits`,
-/// `binary` or `binary_md5`. Takes no memory.
+/// Puts the keyspace id of a value, which is NULL or bytes, into the room: under a vindex by its name. Takes no
+/// memory.
 #[unsafe(no_mangle)]
 pub extern "C" fn vrepl_vindex_id(
     vindex: &[u8],

@@ -153,7 +153,7 @@ impl KeyRange {
     }
 }
 
-/// The keyspace id of a value, `None` for NULL, under `numeric`, `reverse_bits`, `binary` or `binary_md5`.
+/// The keyspace id of a value, `None` for NULL, under a vindex by its name, as `numeric` or `binary_md5`.
 pub fn vindex_id(vindex: &str, value: Option<&[u8]>) -> Result<Vec<u8>, Refused> {
     let bytes = value.unwrap_or(&[]);
     put(|room, length| unsafe {

@@ -50,7 +50,7 @@ fn ranges_hold_ids() {
 fn values_have_ids() {
     assert_eq!(vindex_id("numeric", Some(b"258")), Ok(vec![0, 0, 0, 0, 0, 0, 1, 2]));
     assert_eq!(vindex_id("binary", Some(&[7; 1000])), Ok(vec![7; 1000]));
-    assert_eq!((vindex_id("hash", None), vindex_id("numeric", None), vindex_id("numeric", Some(b"x"))), (refused(42), refused(43), refused(44)));
+    assert_eq!((vindex_id("lookup", None), vindex_id("numeric", None), vindex_id("numeric", Some(b"x"))), (refused(42), refused(43), refused(44)));
 }
 
 #[test]
