@@ -6,8 +6,9 @@ usage: tests/run_docs.py
 docs/MAP.md names every source file of every crate under the crate's heading, docs/DEFINITIONS.md every
 file of definitions that public contracts cite, docs/PROMISES.md every must-fail edit, and no file or edit
 that isn't there. A path that a document names is there. Crates of tests and private definitions have no
-rows. Every number of docs/FORMATS.md has a text of `vrepl explain`, and no other has one. The pages in
-share/ are what scripts/pages makes of the program in dist/, which is looked at where that is of these
+rows. A clause that README.md, docs/PROMISES.md or docs/PROVED.md names of a call (`call`: `clause`) is one of
+that call's contract, and what docs/PROMISES.md names as a contract is a function or a type of the crates. Every
+number of docs/FORMATS.md has a text of `vrepl explain`, and no other has one. The pages in share/ are what scripts/pages makes of the program in dist/, which is looked at where that is of these
 sources. What a CALLING.md quotes is what scripts/contracts makes of its crate's sources, and the change that
 CONTRIBUTING.md tells of can be made. The last line is 'N passed, M failed': one a document, one for the
 paths, the texts, the pages, the quotations and the change.
@@ -88,6 +89,60 @@ def promise_faults():
         yield from (f"{crate}: no edit is called {it}" for it in sorted(named - every))
 
 
+def contracts():
+    """For each function of the crates the names of the clauses of its contract, or of all that have its name."""
+    found = {}
+    for at, _, names in os.walk(CRATES):
+        for name in sorted(it for it in names if it.endswith(".rt") and "/src" in at):
+            text = text_of(at, name)
+            for function in re.finditer(r"\bfn (\w+)", text):
+                clauses, depth = found.setdefault(function[1], set()), 0
+                for line in map(str.strip, text[function.end():].splitlines()):
+                    clause = re.match(r"(?:ensures|requires)\b(?: (\w+))? \{", line)
+                    if clause:
+                        clauses.add(clause[1])
+                    elif not depth and line.endswith(("{", ";", "}")):
+                        break
+                    depth += (line.count("{") - line.count("}")) if clause or depth else 0
+    return found
+
+
+def types():
+    """The names of the types and traits of the crates, and of what their specs/ define."""
+    found = set()
+    for at, _, names in os.walk(CRATES):
+        for name in names:
+            if name.endswith(".rt") and "/src" in at:
+                found |= set(re.findall(r"\b(?:struct|enum|trait|type|impl) (\w+)", text_of(at, name)))
+            elif name.endswith(".antt") and "/specs" in at:
+                found |= set(re.findall(r"^(?:(?:abbrev|pub|record|data|unfoldable) )*(\w+)", text_of(at, name), re.M))
+    return found
+
+
+NAMED = r"`[\w:]+`"
+LIST = re.compile(rf"{NAMED}(?:(?:, (?:and )?| and | of ){NAMED})*(?: of \w+)?")
+CLAUSES = re.compile(rf"({LIST.pattern}): ({LIST.pattern})")
+
+
+def named_in(text):
+    """The last part of each name in a list."""
+    return [it.split("::")[-1] for it in re.findall(r"`([\w:]+)`", text)]
+
+
+def contract_faults():
+    known, kinds = contracts(), types()
+    for page in "README.md", "docs/PROMISES.md", "docs/PROVED.md":
+        for number, line in enumerate(text_of(page).splitlines(), 1):
+            for calls, clauses in CLAUSES.findall(line):
+                calls = [it for it in named_in(calls) if it in known]
+                yield from (f"{page}:{number}: {it} is no clause of {', '.join(calls)}" for it in named_in(clauses) if calls and not any(it in known[one] for one in calls))
+    for number, line in enumerate(text_of("docs", "PROMISES.md").splitlines(), 1):
+        cell = line.split("|")[2] if line.startswith("|") else ""
+        words = named_in(cell)
+        clauses = [it for _, these in CLAUSES.findall(cell) for it in named_in(these)]
+        yield from (f"docs/PROMISES.md:{number}: nothing is called {it}" for it in words if it not in known and it not in kinds and it not in clauses)
+
+
 def path_faults():
     for page in PAGES:
         for path in sorted(set(PATH.findall(text_of(page)))):
@@ -161,7 +216,7 @@ def is_released():
 
 def main():
     failed = 0
-    checks = {"docs/MAP.md": map_faults, "docs/DEFINITIONS.md": definition_faults, "docs/PROMISES.md": promise_faults, "paths": path_faults, "explain": explanation_faults, "quotations": quotation_faults, "examples/first_change.patch": first_change_faults}
+    checks = {"docs/MAP.md": map_faults, "docs/DEFINITIONS.md": definition_faults, "docs/PROMISES.md": promise_faults, "contracts": contract_faults, "paths": path_faults, "explain": explanation_faults, "quotations": quotation_faults, "examples/first_change.patch": first_change_faults}
     if is_released():
         checks["pages"] = page_faults
     for name, check in checks.items():

@@ -2,8 +2,10 @@
 
 SIGINT, SIGTERM and SIGHUP raise Ended where the program then is, but not within `Held`: what stands there is
 done as a whole, and they are raised behind it. This module is imported before all others of the recorder,
-none of which it needs, so that a signal finds it also while they are read.
+none of which it needs, so that a signal finds it also while they are read. An import is such a whole: a module of
+C that is ended amid its beginning can take Python down with it.
 """
+import builtins
 import os
 import signal
 import sys
@@ -28,6 +30,13 @@ class _Signals:
             # nohup and shells without job control leave some ignored, and so they stay
             if signal.getsignal(number) != signal.SIG_IGN:
                 signal.signal(number, self._meet)
+        bring = builtins.__import__
+
+        def brought(*words: object, **named: object) -> object:
+            with Held():
+                return bring(*words, **named)
+
+        builtins.__import__ = brought
 
     def _meet(self, number: int, _: FrameType | None) -> None:
         self.asked = signal.Signals(number).name

@@ -19,17 +19,24 @@ from .server import Server
 
 def ended(trial) -> None:
     commands.command()
-    trial.server.sql("RESET MASTER; CREATE DATABASE kept; CREATE TABLE kept.t (id INT PRIMARY KEY, v TEXT); CREATE TABLE kept.u (id INT PRIMARY KEY);"
-                     " INSERT INTO kept.t SELECT seq, REPEAT('a', 2000) FROM kept.seq_1_to_3000; ")  # fmt: skip
+    trial.server.sql("RESET MASTER; CREATE DATABASE kept; CREATE TABLE kept.t (id INT PRIMARY KEY, v TEXT); CREATE TABLE kept.u (id INT PRIMARY KEY); ")
+    with Place(trial, "small") as small:
+        small.run()
+        moved_for_a_small = moved_for_an_append(trial, small)
+    trial.server.sql("INSERT INTO kept.t SELECT seq, REPEAT('a', 2000) FROM kept.seq_3_to_3002; ")
     with Place(trial, "ended") as place:
         place.run()
-        for step in costs, odd_places, odd_notes, odd_words, odd_servers, odd_outputs, lost_connections, interrupted:
+        moved, size = moved_for_an_append(trial, place), os.path.getsize(place.feed)
+        fine = 500 < moved_for_a_small and moved < moved_for_a_small + 2**14 < size / 20
+        trial.check("ended, the cost of an append", None if fine else f"{moved_for_a_small}, and {moved} where there are {size} bytes")
+        for step in odd_places, odd_notes, odd_words, odd_servers, odd_outputs, lost_connections, interrupted:
             step(trial, place)
     trial.server.sql("DROP DATABASE kept")
 
 
-def costs(trial, place: Place) -> None:
-    """An append to a feed of six megabytes reads and writes what is new."""
+def moved_for_an_append(trial, place: Place) -> int:
+    """How many bytes the second append of one row reads and writes, of the feed or not. (The first one reads the last group
+    that was there, of any size.)"""
     counted = trial.path("counted")
 
     def moved() -> int:
@@ -46,11 +53,11 @@ def costs(trial, place: Place) -> None:
 
         FeedFile.__exit__ = ends
 
-    for number in 20001, 20002:
-        trial.server.sql(f"INSERT INTO kept.t VALUES ({number}, 'a'); ")
-        done = commands.run("--append", *place.words, prepare=count)
-    size, taken = os.path.getsize(place.feed), int(read_file(counted))
-    trial.check("ended, the cost of an append", None if done.status == 0 and 500 < taken < 2**17 < size / 40 else f"{done}, {taken} of {size} bytes")
+    for _ in range(2):
+        trial.server.sql("INSERT INTO kept.t SELECT COALESCE(MAX(id), 0) + 1, 'a' FROM kept.t; ")
+        done = place.run("--append", prepare=count)
+        trial.check("ended, an append of one row", None if done.status == 0 else f"{done}")
+    return int(read_file(counted))
 
 
 def check_stopped(trial, name: str, place: Place, words: list[str], text: str, prepare: Callable[[], None] = lambda: None) -> None:

@@ -4,6 +4,7 @@ import fcntl
 import json
 import os
 import random
+import re
 import resource
 import shutil
 import signal
@@ -121,9 +122,9 @@ def synced(trial, first: Place, second: Place) -> None:
         log = os.path.join(trial.server.folder, "calls")
         done = place.run("--append", prepare=Logged(log))
         calls = [tuple(line.split()) for line in read_file(log).decode().splitlines()]
-        feed, note, folder = place.feed, f".a.feed.json.{calls[0][0]}-1.new", place.folder
-        named = [(call, os.path.basename(path) if path != folder else "folder") for _, call, path in calls]
-        wanted = [("pwrite", os.path.basename(feed)), ("fsync", os.path.basename(feed)), ("pwrite", note), ("fsync", note), ("rename", note), ("fsync", "folder")]
+        made = re.compile(re.escape(f".a.feed.json.{calls[0][0]}-") + "[0-9]+[.]new")
+        named = [(call, "folder" if path == place.folder else made.sub("made", os.path.basename(path))) for _, call, path in calls]
+        wanted = [("pwrite", "a.feed"), ("fsync", "a.feed"), ("pwrite", "made"), ("fsync", "made"), ("rename", "made"), ("fsync", "folder")]
         trial.check("kept, synced", None if done.status == 0 and named == wanted else f"{done}, {named}")
         os.unlink(log)
 
