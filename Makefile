@@ -1,9 +1,11 @@
 # make install [PREFIX=/usr/local] [DESTDIR=]     puts the program, man page, completions and licence in place
 # make uninstall [PREFIX=/usr/local] [DESTDIR=]   takes them away again
+# make install-library, make uninstall-library    the same for the header and the library of ./release --library
 #
 # The program is the one in dist/, or what ./build made where a source was changed; nothing is built here.
 PREFIX = /usr/local
 DESTDIR =
+LIBDIR = lib
 PLACES = bin/vrepl share/man/man1/vrepl.1 share/bash-completion/completions/vrepl share/zsh/site-functions/_vrepl share/doc/vrepl/LICENSE
 
 all:
@@ -25,4 +27,20 @@ uninstall:
 	@set -e; for place in $(PLACES); do rm -f -- '$(DESTDIR)$(PREFIX)'/"$$place"; done; \
 	[ ! -d '$(DESTDIR)$(PREFIX)/share/doc/vrepl' ] || rmdir -- '$(DESTDIR)$(PREFIX)/share/doc/vrepl'
 
-.PHONY: all install uninstall
+install-library:
+	@set -e; umask 022; \
+	[ "$$(cat out/library/SOURCES 2>/dev/null)" = "$$(scripts/sources --library)" ] || { \
+	    echo 'there is no library of these sources: ./release --library makes one' >&2; exit 1; \
+	}; \
+	put() { \
+	    place='$(DESTDIR)$(PREFIX)'/$$2; \
+	    mkdir -p -- "$${place%/*}"; cp -- "$$1" "$$place.new"; chmod 644 -- "$$place.new"; mv -f -- "$$place.new" "$$place"; \
+	}; \
+	put include/vrepl.h include/vrepl.h; \
+	for name in libvrepl.a libvrepl.so; do put out/library/$$name $(LIBDIR)/$$name; done; \
+	echo "installed the library in $(DESTDIR)$(PREFIX)/$(LIBDIR), and its header"
+
+uninstall-library:
+	@rm -f -- '$(DESTDIR)$(PREFIX)/include/vrepl.h' '$(DESTDIR)$(PREFIX)/$(LIBDIR)/libvrepl.a' '$(DESTDIR)$(PREFIX)/$(LIBDIR)/libvrepl.so'
+
+.PHONY: all install uninstall install-library uninstall-library

@@ -1,0 +1,78 @@
+"""Builds the wheel of the module `vrepl` (PEP 517): the module, the program of these sources, and the library where
+`./release --library` has built it. Needs the standard library alone; the same files give the same bytes."""
+import base64
+import hashlib
+import os
+import re
+import shutil
+import stat
+import subprocess
+import zipfile
+
+ROOT = os.path.dirname(os.path.dirname(os.path.dirname(os.path.dirname(os.path.abspath(__file__)))))
+MODULE = os.path.join(ROOT, "bindings", "python", "vrepl")
+LIBRARY = os.path.join(ROOT, "out", "library", "libvrepl.so")
+CARRIED = os.path.join(ROOT, "dist", "vrepl-x86_64-linux")
+
+
+def _stated():
+    """The lines of pyproject.toml that this builder reads: the name's version, description and entry points."""
+    with open(os.path.join(ROOT, "pyproject.toml"), encoding="utf-8") as file:
+        text = file.read()
+    value = lambda name: re.search(rf'^{name} = "(.*)"$', text, re.M)[1]  # noqa: E731
+    points = re.findall(r'^\[project\.entry-points\.(\w+)\]\n((?:\w+ = ".*"\n?)+)', text, re.M)
+    return value("version"), value("description"), value("requires-python"), points
+
+
+def _program():
+    """The program of these sources, where it is known which one that is, else the one in dist/."""
+    finder = os.path.join(ROOT, "scripts", "program")
+    if os.access(finder, os.X_OK) and shutil.which("bash"):
+        found = subprocess.run([finder], stdout=subprocess.PIPE, text=True, check=False)
+        if found.returncode == 0:
+            return os.path.join(ROOT, found.stdout.strip())
+    return CARRIED
+
+
+def _files():
+    """Each file of the wheel: its name there, its bytes, and whether it is run."""
+    for name in sorted(os.listdir(MODULE)):
+        if name.endswith((".py", ".typed")):
+            yield f"vrepl/{name}", os.path.join(MODULE, name), False
+    yield "vrepl/vrepl", _program(), True
+    if os.path.exists(LIBRARY):
+        yield "vrepl/libvrepl.so", LIBRARY, False
+
+
+def _said_of(version):
+    _, description, python, points = _stated()
+    lines = ["Metadata-Version: 2.1", "Name: vrepl", f"Version: {version}", f"Summary: {description}", "License: Apache-2.0", f"Requires-Python: {python}"]
+    entries = "".join(f"[{group}]\n{rows.strip()}\n".replace('"', "") for group, rows in points)
+    tag = "Wheel-Version: 1.0\nGenerator: vrepl\nRoot-Is-Purelib: false\nTag: py3-none-linux_x86_64\n"
+    return {"METADATA": "\n".join(lines) + "\n", "WHEEL": tag, "entry_points.txt": entries}
+
+
+def get_requires_for_build_wheel(config_settings=None):
+    return []
+
+
+def build_wheel(wheel_directory, config_settings=None, metadata_directory=None):
+    version = _stated()[0]
+    name, record = f"vrepl-{version}-py3-none-linux_x86_64.whl", []
+    with zipfile.ZipFile(os.path.join(wheel_directory, name), "w", zipfile.ZIP_DEFLATED) as wheel:
+
+        def put(path, content, is_run=False):
+            entry = zipfile.ZipInfo(path)
+            entry.compress_type, entry.external_attr = zipfile.ZIP_DEFLATED, (stat.S_IFREG | (0o755 if is_run else 0o644)) << 16
+            wheel.writestr(entry, content)
+            digest = base64.urlsafe_b64encode(hashlib.sha256(content).digest()).rstrip(b"=").decode()
+            record.append(f"{path},sha256={digest},{len(content)}\n")
+
+        for path, place, is_run in _files():
+            with open(place, "rb") as file:
+                put(path, file.read(), is_run)
+        info = f"vrepl-{version}.dist-info"
+        for part, text in _said_of(version).items():
+            put(f"{info}/{part}", text.encode())
+        wheel.writestr(zipfile.ZipInfo(f"{info}/RECORD"), "".join(record) + f"{info}/RECORD,,\n")
+    return name

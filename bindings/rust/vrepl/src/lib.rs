@@ -1,0 +1,207 @@
+//! The readers and judges of vrepl: positions, key ranges, vindexes and the messages of feeds. Each goes through a proved
+//! call of the library; what is refused has the number of docs/FORMATS.md.
+
+use std::fmt;
+use vrepl_sys as sys;
+
+/// Why something isn't read.
+#[derive(Clone, Copy, Debug, PartialEq, Eq)]
+pub struct Refused {
+    /// The number of docs/FORMATS.md, 72 for want of memory.
+    pub number: u32,
+}
+
+impl fmt::Display for Refused {
+    fn fmt(&self, f: &mut fmt::Formatter<'_>) -> fmt::Result {
+        let words = explain(u64::from(self.number)).unwrap_or_default();
+        let line = words.lines().next().unwrap_or("").trim_start_matches(|c: char| c.is_ascii_digit());
+        write!(f, "refused {}: {}", self.number, line.trim_start())
+    }
+}
+
+impl std::error::Error for Refused {}
+
+fn made(number: u32) -> Result<(), Refused> {
+    match number {
+        0 => Ok(()),
+        number => Err(Refused { number }),
+    }
+}
+
+/// What a call puts into a room, which is made larger where it is too small. The call is given the room and the place of
+/// the length.
+fn put(call: impl Fn(&mut [u8], &mut usize) -> u32) -> Result<Vec<u8>, Refused> {
+    let mut room = vec![0; 256];
+    loop {
+        let mut length = 0;
+        made(call(&mut room, &mut length))?;
+        if length <= room.len() {
+            room.truncate(length);
+            return Ok(room);
+        }
+        room.resize(length, 0);
+    }
+}
+
+/// A text that the library made.
+fn text(bytes: Vec<u8>) -> String {
+    String::from_utf8(bytes).expect("the library's texts are UTF-8")
+}
+
+/// What a refusal's number means, its usual causes and what to do next; `None` for a number that no refusal has.
+pub fn explain(number: u64) -> Option<String> {
+    let room = put(|room, length| {
+        *length = unsafe { sys::vrepl_explain(number, room.as_mut_ptr(), room.len()) };
+        0
+    });
+    room.ok().filter(|words| !words.is_empty()).map(text)
+}
+
+/// A set of pairs of a uuid and a number: a position. It is kept in its printed form, so equal sets are equal.
+#[derive(Clone, Debug, PartialEq, Eq, Hash)]
+pub struct GtidSet {
+    text: String,
+}
+
+impl GtidSet {
+    /// The set that a position's text means.
+    pub fn parse(text_of_set: &str) -> Result<GtidSet, Refused> {
+        let given = text_of_set.as_bytes();
+        let printed = put(|room, length| unsafe {
+            sys::vrepl_gtid_set(given.as_ptr(), given.len(), room.as_mut_ptr(), room.len(), length)
+        })?;
+        Ok(GtidSet { text: text(printed) })
+    }
+
+    /// The printed form.
+    pub fn as_str(&self) -> &str {
+        &self.text
+    }
+
+    /// Whether the set has a uuid, as its bytes, and a number.
+    pub fn contains(&self, uuid: &[u8; 16], number: u64) -> Result<bool, Refused> {
+        let mut contains = false;
+        let answer = unsafe {
+            sys::vrepl_gtid_contains(self.text.as_ptr(), self.text.len(), uuid.as_ptr(), number, &mut contains)
+        };
+        made(answer)?;
+        Ok(contains)
+    }
+
+    /// Whether each pair of the set is in the other one.
+    pub fn is_within(&self, other: &GtidSet) -> Result<bool, Refused> {
+        let mut is_within = false;
+        let (one, other) = (&self.text, &other.text);
+        made(unsafe { sys::vrepl_gtid_is_within(one.as_ptr(), one.len(), other.as_ptr(), other.len(), &mut is_within) })?;
+        Ok(is_within)
+    }
+
+    /// The pairs of both sets.
+    pub fn union(&self, other: &GtidSet) -> Result<GtidSet, Refused> {
+        let (one, other) = (&self.text, &other.text);
+        let printed = put(|room, length| unsafe {
+            sys::vrepl_gtid_union(one.as_ptr(), one.len(), other.as_ptr(), other.len(), room.as_mut_ptr(), room.len(), length)
+        })?;
+        Ok(GtidSet { text: text(printed) })
+    }
+}
+
+impl fmt::Display for GtidSet {
+    fn fmt(&self, f: &mut fmt::Formatter<'_>) -> fmt::Result {
+        f.write_str(&self.text)
+    }
+}
+
+/// A range of keyspace ids: from `start` on and before `end`, `None` where it is open.
+#[derive(Clone, Debug, PartialEq, Eq, Hash)]
+pub struct KeyRange {
+    text: String,
+    /// Where it starts, without the 00 bytes at its end.
+    pub start: Vec<u8>,
+    /// Where it ends.
+    pub end: Option<Vec<u8>>,
+}
+
+impl KeyRange {
+    /// The range that a text writes, as `40-80`.
+    pub fn parse(range: &str) -> Result<KeyRange, Refused> {
+        // A bound has no more bytes than the text has digits.
+        let (mut start, mut end) = (vec![0; range.len()], vec![0; range.len()]);
+        let (mut start_length, mut end_length) = (0, 0);
+        made(unsafe {
+            sys::vrepl_key_range(
+                range.as_ptr(),
+                range.len(),
+                start.as_mut_ptr(),
+                start.len(),
+                &mut start_length,
+                end.as_mut_ptr(),
+                end.len(),
+                &mut end_length,
+            )
+        })?;
+        start.truncate(start_length);
+        end.truncate(end_length);
+        Ok(KeyRange { text: range.to_owned(), start, end: Some(end).filter(|end| !end.is_empty()) })
+    }
+
+    /// Whether the range has a keyspace id.
+    pub fn holds(&self, id: &[u8]) -> Result<bool, Refused> {
+        let mut holds = false;
+        made(unsafe { sys::vrepl_key_range_holds(self.text.as_ptr(), self.text.len(), id.as_ptr(), id.len(), &mut holds) })?;
+        Ok(holds)
+    }
+}
+
+/// The keyspace id of a value, `None` for NULL, under a vindex by its name, as `numeric` or `binary_md5`.
+pub fn vindex_id(vindex: &str, value: Option<&[u8]>) -> Result<Vec<u8>, Refused> {
+    let bytes = value.unwrap_or(&[]);
+    put(|room, length| unsafe {
+        sys::vrepl_vindex_id(
+            vindex.as_ptr(),
+            vindex.len(),
+            value.is_none(),
+            bytes.as_ptr(),
+            bytes.len(),
+            room.as_mut_ptr(),
+            room.len(),
+            length,
+        )
+    })
+}
+
+/// The messages of a feed, without their lengths; the last item is a refusal where one is cut short.
+pub fn messages(feed: &[u8]) -> Messages<'_> {
+    Messages { rest: feed }
+}
+
+/// The messages of a feed that are still to come.
+#[derive(Clone, Debug)]
+pub struct Messages<'f> {
+    rest: &'f [u8],
+}
+
+impl<'f> Messages<'f> {
+    /// What stands behind the messages that came.
+    pub fn rest(&self) -> &'f [u8] {
+        self.rest
+    }
+}
+
+impl<'f> Iterator for Messages<'f> {
+    type Item = Result<&'f [u8], Refused>;
+
+    fn next(&mut self) -> Option<Self::Item> {
+        if self.rest.is_empty() {
+            return None;
+        }
+        let (mut start, mut length) = (0, 0);
+        if let Err(refused) = made(unsafe { sys::vrepl_message(self.rest.as_ptr(), self.rest.len(), &mut start, &mut length) }) {
+            self.rest = &[];
+            return Some(Err(refused));
+        }
+        let (message, rest) = self.rest[start..].split_at(length);
+        self.rest = rest;
+        Some(Ok(message))
+    }
+}

@@ -1,0 +1,4 @@
+pub mod Answer
+pub mod Message
+pub mod Room
+pub mod Readers

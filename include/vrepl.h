@@ -1,0 +1,85 @@
+/* vrepl.h: the readers and judges of vrepl for other languages, on x86-64 Linux.
+ *
+ * What a call answers. 0, or the number of a refusal (docs/FORMATS.md, "Numbers"; vrepl_explain has the words); 72 is
+ * want of memory. Behind a refusal nothing that the call writes is said to be there: look at the answer first.
+ *
+ * What is passed. Bytes are a pointer and their length, a text is bytes that are UTF-8, without a NUL. No pointer is
+ * NULL, also not of no bytes, where any other address serves. Lengths are below 2^63. What a call writes overlaps
+ * nothing else that it is given. Between the threads of a process calls need no order, as long as none writes
+ * what another is given.
+ *
+ * Who owns memory. All of it is the caller's: a call lends what it is given until it returns, keeps nothing, and what it
+ * takes of malloc for itself it frees before. There is no handle, no global state, and nothing to let go. A text or
+ * bytes that a call gives go into a room, a place of the caller's with its length: the call says how many bytes they
+ * are, and where they are more than the room has nothing is written, so make a larger one and call again.
+ *
+ * What a caller can break. A call reads and writes just what it is given, whatever bytes stand there; that is
+ * proved. A wrong pointer or a length that is more than what lies there is read and written all the same.
+ *
+ * docs/LIBRARY.md has a program, and says what is proved of a call. */
+#ifndef VREPL_H
+#define VREPL_H
+
+#include <stdbool.h>
+#include <stddef.h>
+#include <stdint.h>
+
+#ifdef __cplusplus
+extern "C" {
+#endif
+
+#define VREPL_NO_MEMORY 72u
+
+/* ---- refusals */
+
+/* What a number means, its usual causes and what to do next, as `vrepl explain` prints it: into the room. Gives the
+ * length, 0 for a number that no refusal has. Takes no memory. */
+size_t vrepl_explain(uint64_t number, uint8_t *room, size_t room_length);
+
+/* ---- positions: GTID sets, each given as its text (docs/FORMATS.md, "Positions")
+ *
+ * Refused: 24 for a text that isn't UTF-8, 31 to 33, 35 and 36 for one that is no position, of two texts the first. */
+
+/* The printed form of a set, into the room: two texts mean the same set where their printed forms are the same. */
+uint32_t vrepl_gtid_set(const uint8_t *text, size_t text_length, uint8_t *room, size_t room_length, size_t *length);
+
+/* Whether a set has a pair: a uuid, as its 16 bytes, and a number. */
+uint32_t vrepl_gtid_contains(const uint8_t *text, size_t text_length, const uint8_t uuid[16], uint64_t number, bool *contains);
+
+/* Whether each pair of one set is in the other. */
+uint32_t vrepl_gtid_is_within(const uint8_t *one, size_t one_length, const uint8_t *other, size_t other_length, bool *is_within);
+
+/* The printed form of the union of two sets, into the room. */
+uint32_t vrepl_gtid_union(const uint8_t *one, size_t one_length, const uint8_t *other, size_t other_length,
+                          uint8_t *room, size_t room_length, size_t *length);
+
+/* ---- key ranges and vindexes (docs/FORMATS.md, "Key ranges, numbers and vindexes")
+ *
+ * Refused: 41 for a text that is no key range. */
+
+/* The bounds of a range, without the 00 bytes at their ends, into two rooms. An end that is open has no bytes: an end that
+ * is given has some. Ranges lie end to end where each start is the end before it. */
+uint32_t vrepl_key_range(const uint8_t *range, size_t range_length, uint8_t *start, size_t start_room, size_t *start_length,
+                         uint8_t *end, size_t end_room, size_t *end_length);
+
+/* Whether a range has a keyspace id. */
+uint32_t vrepl_key_range_holds(const uint8_t *range, size_t range_length, const uint8_t *id, size_t id_length, bool *holds);
+
+/* The keyspace id of a value, which is NULL or bytes, into the room; under a vindex by its name, `numeric`, `reverse_bits`,
+ * `binary`, `binary_md5` or another one that a workflow may name. Refused: 42 for a name that no vindex has, 43 for NULL,
+ * 44 for a value that is no number from 0 to 2^64 - 1 under a vindex of numbers. Takes no memory. */
+uint32_t vrepl_vindex_id(const uint8_t *vindex, size_t vindex_length, bool is_null, const uint8_t *value, size_t value_length,
+                         uint8_t *room, size_t room_length, size_t *length);
+
+/* ---- feeds (docs/FORMATS.md, "Feed") */
+
+/* Where the message at the front of some bytes stands in them: its first byte, behind its length, and how many it has. The
+ * next one begins behind it. Refused: 81 for a message that is cut short or has no length, and for no bytes. Takes
+ * no memory. */
+uint32_t vrepl_message(const uint8_t *bytes, size_t bytes_length, size_t *start, size_t *length);
+
+#ifdef __cplusplus
+}
+#endif
+
+#endif

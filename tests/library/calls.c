@@ -1,0 +1,121 @@
+// Each call of include/vrepl.h, its answers, its rooms and its refusals. Exits with the line of the first check that
+// fails, modulo 256, or 0. tests/run_library.py builds it plainly, with AddressSanitizer and for valgrind.
+#include "vrepl.h"
+
+#include <stdlib.h>
+#include <stdio.h>
+#include <string.h>
+
+#define CHECK(is) do { if (!(is)) { fprintf(stderr, "calls.c:%d: %s\n", __LINE__, #is); exit(1); } } while (0)
+#define TEXT(text) (const uint8_t *)(text), strlen(text)
+
+// Bytes in memory of just their size, so that a sanitizer sees a read or write outside of them.
+static uint8_t *exact(const void *bytes, size_t length) {
+    uint8_t *made = malloc(length ? length : 1);
+    CHECK(made);
+    memcpy(made, bytes, length);
+    return made;
+}
+
+static void words(void) {
+    uint8_t few[4] = "abc", *room;
+    size_t length = vrepl_explain(41, few, 4);
+    CHECK(length > 4 && memcmp(few, "abc", 4) == 0);
+    room = malloc(length);
+    CHECK(vrepl_explain(41, room, length) == length && memcmp(room, "41   a key range", 16) == 0 && room[length - 1] == '\n');
+    free(room);
+    CHECK(vrepl_explain(0, few, 4) == 0 && vrepl_explain(UINT64_MAX, few, 4) == 0 && few[0] == 'a');
+}
+
+static const char *const SET = "3E11FA47-71CA-11E1-9E33-C80AA9429562:1-3:4, 3e11fa47-71ca-11e1-9e33-c80aa9429562:9";
+static const char *const PRINTED = "3e11fa47-71ca-11e1-9e33-c80aa9429562:1-4:9";
+static const uint8_t UUID[16] = {0x3e, 0x11, 0xfa, 0x47, 0x71, 0xca, 0x11, 0xe1, 0x9e, 0x33, 0xc8, 0x0a, 0xa9, 0x42, 0x95, 0x62};
+
+static void positions(void) {
+    size_t length = 7, wanted = strlen(PRINTED);
+    uint8_t *room = malloc(wanted), *text = exact(SET, strlen(SET)), *uuid = exact(UUID, 16);
+    CHECK(vrepl_gtid_set(text, strlen(SET), room, wanted, &length) == 0);
+    CHECK(length == wanted && memcmp(room, PRINTED, length) == 0);
+    memset(room, '.', wanted);
+    CHECK(vrepl_gtid_set(text, strlen(SET), room, wanted - 1, &length) == 0 && length == wanted && room[0] == '.');
+    CHECK(vrepl_gtid_set(text, 0, room, 0, &length) == 0 && length == 0);
+
+    bool is = false;
+    CHECK(vrepl_gtid_contains(text, strlen(SET), uuid, 4, &is) == 0 && is);
+    CHECK(vrepl_gtid_contains(text, strlen(SET), uuid, 5, &is) == 0 && !is);
+    CHECK(vrepl_gtid_contains(text, strlen(SET), uuid, UINT64_MAX, &is) == 0 && !is);
+    uuid[0] ^= 1;
+    CHECK(vrepl_gtid_contains(text, strlen(SET), uuid, 4, &is) == 0 && !is);
+
+    const char *part = "3e11fa47-71ca-11e1-9e33-c80aa9429562:2-3";
+    CHECK(vrepl_gtid_is_within(TEXT(part), text, strlen(SET), &is) == 0 && is);
+    CHECK(vrepl_gtid_is_within(text, strlen(SET), TEXT(part), &is) == 0 && !is);
+    const char *more = "3e11fa47-71ca-11e1-9e33-c80aa9429562:5-8";
+    char both[64];
+    CHECK(vrepl_gtid_union(text, strlen(SET), TEXT(more), (uint8_t *)both, sizeof both, &length) == 0);
+    CHECK(length == 40 && memcmp(both, "3e11fa47-71ca-11e1-9e33-c80aa9429562:1-9", 40) == 0);
+
+    CHECK(vrepl_gtid_set(TEXT("a/b"), room, wanted, &length) == 31);
+    CHECK(vrepl_gtid_set(TEXT("a"), room, wanted, &length) == 32);
+    CHECK(vrepl_gtid_set(TEXT("3e11fa47-71ca-11e1-9e33-c80aa9429562:0"), room, wanted, &length) == 33);
+    CHECK(vrepl_gtid_set(TEXT("3e11fa47-71ca-11e1-9e33-c80aa9429562"), room, wanted, &length) == 35);
+    CHECK(vrepl_gtid_set((const uint8_t *)"\xff", 1, room, wanted, &length) == 24);
+    uint8_t *long_text = malloc(1048577);
+    memset(long_text, ' ', 1048577);
+    CHECK(vrepl_gtid_set(long_text, 1048577, room, wanted, &length) == 36);
+    CHECK(vrepl_gtid_set(long_text, 1048576, room, wanted, &length) == 0 && length == 0);
+    CHECK(vrepl_gtid_is_within(TEXT("a"), TEXT("a/b"), &is) == 32 && vrepl_gtid_is_within(TEXT(""), TEXT("a/b"), &is) == 31);
+    free(long_text), free(room), free(text), free(uuid);
+}
+
+static void ranges(void) {
+    uint8_t start[4], end[4] = {9, 9, 9, 9};
+    size_t start_length, end_length;
+    CHECK(vrepl_key_range(TEXT("40-8000"), start, 4, &start_length, end, 4, &end_length) == 0);
+    CHECK(start_length == 1 && start[0] == 0x40 && end_length == 1 && end[0] == 0x80 && end[1] == 9);
+    CHECK(vrepl_key_range(TEXT("-"), start, 4, &start_length, end, 4, &end_length) == 0 && start_length == 0 && end_length == 0);
+    CHECK(vrepl_key_range(TEXT("80-40"), start, 4, &start_length, end, 4, &end_length) == 41);
+    CHECK(vrepl_key_range((const uint8_t *)"\xff-", 2, start, 4, &start_length, end, 4, &end_length) == 41);
+    bool holds = false;
+    uint8_t *id = exact("\x40", 1);
+    CHECK(vrepl_key_range_holds(TEXT("40-80"), id, 1, &holds) == 0 && holds);
+    CHECK(vrepl_key_range_holds(TEXT("40-80"), id, 0, &holds) == 0 && !holds);
+    CHECK(vrepl_key_range_holds(TEXT("40"), id, 1, &holds) == 41);
+    free(id);
+}
+
+static void ids(void) {
+    uint8_t room[16];
+    size_t length;
+    CHECK(vrepl_vindex_id(TEXT("numeric"), false, TEXT("258"), room, 16, &length) == 0);
+    CHECK(length == 8 && memcmp(room, "\0\0\0\0\0\0\1\2", 8) == 0);
+    CHECK(vrepl_vindex_id(TEXT("reverse_bits"), false, TEXT("1"), room, 16, &length) == 0);
+    CHECK(length == 8 && memcmp(room, "\x80\0\0\0\0\0\0\0", 8) == 0);
+    CHECK(vrepl_vindex_id(TEXT("binary"), false, TEXT("abc"), room, 16, &length) == 0 && length == 3 && memcmp(room, "abc", 3) == 0);
+    // MD5 of no bytes (RFC 1321)
+    CHECK(vrepl_vindex_id(TEXT("binary_md5"), false, TEXT(""), room, 16, &length) == 0 && length == 16);
+    CHECK(memcmp(room, "\xd4\x1d\x8c\xd9\x8f\x00\xb2\x04\xe9\x80\x09\x98\xec\xf8\x42\x7e", 16) == 0);
+    CHECK(vrepl_vindex_id(TEXT("lookup"), false, TEXT("1"), room, 16, &length) == 42);
+    CHECK(vrepl_vindex_id(TEXT("numeric"), true, TEXT("1"), room, 16, &length) == 43);
+    CHECK(vrepl_vindex_id(TEXT("numeric"), false, TEXT("-1"), room, 16, &length) == 44);
+}
+
+static void messages(void) {
+    const uint8_t two[] = {2, 'a', 'b', 0, 3, 'c'};
+    uint8_t *feed = exact(two, sizeof two);
+    size_t start, length;
+    CHECK(vrepl_message(feed, 6, &start, &length) == 0 && start == 1 && length == 2);
+    CHECK(vrepl_message(feed + 3, 3, &start, &length) == 0 && start == 1 && length == 0);
+    CHECK(vrepl_message(feed + 4, 2, &start, &length) == 81);
+    CHECK(vrepl_message(feed + 6, 0, &start, &length) == 81);
+    free(feed);
+}
+
+int main(void) {
+    words();
+    positions();
+    ranges();
+    ids();
+    messages();
+    return 0;
+}

@@ -1,0 +1,80 @@
+"""Each call of the module `vrepl`, its answers and its refusals. Ends with an AssertionError at the first that fails."""
+import json
+import os
+import tempfile
+import uuid
+
+import vrepl
+
+UUID = "3e11fa47-71ca-11e1-9e33-c80aa9429562"
+
+
+def number_of(call, *given):
+    """The number by which a call is refused."""
+    try:
+        call(*given)
+    except vrepl.Refused as refused:
+        return refused.number
+    return None
+
+
+def readers():
+    one, more = vrepl.GtidSet(f"MySQL56/{UUID.upper()}:1-3:4"), vrepl.GtidSet(f"{UUID}:3-9".encode())
+    assert str(one) == f"{UUID}:1-4" and one == vrepl.GtidSet(f"{UUID}:4:1-3") and hash(one) == hash(vrepl.GtidSet(str(one)))
+    assert (UUID, 4) in one and (uuid.UUID(UUID), 4) in one and (uuid.UUID(UUID).bytes, 5) not in one and (UUID, 2**64) not in one
+    assert str(one | more) == f"{UUID}:1-9" and one <= (one | more) and one < (one | more) and not one <= more and not one < one
+    assert not vrepl.GtidSet() and vrepl.GtidSet() <= one and bool(one)
+    assert [number_of(vrepl.GtidSet, it) for it in ("a/b", "a", f"{UUID}:0", UUID, b"\xff", " " * 1048577)] == [31, 32, 33, 35, 24, 36]
+    many = vrepl.GtidSet(",".join(f"{UUID}:{2 * n}" for n in range(1, 2000)))
+    assert vrepl.GtidSet(str(many)) == many and len(str(many)) > 8000
+
+    lower, upper = vrepl.KeyRange("-8000"), vrepl.KeyRange("80-")
+    assert (lower.start, lower.end, upper.start, upper.end) == (b"", b"\x80", b"\x80", None) and str(lower) == "-80"
+    assert b"\x7f\xff" in lower and b"\x80" not in lower and b"\x80" in upper and lower == vrepl.KeyRange("00-80")
+    assert vrepl.tiles([lower, upper]) and not vrepl.tiles([upper, lower]) and not vrepl.tiles([]) and not vrepl.tiles([lower, lower, upper])
+    assert number_of(vrepl.KeyRange, "80-40") == 41
+
+    assert vrepl.vindex_id("numeric", b"258") == bytes([0, 0, 0, 0, 0, 0, 1, 2]) and vrepl.vindex_id("binary", b"a" * 1000) == b"a" * 1000
+    assert vrepl.vindex_id("binary_md5", b"").hex() == "d41d8cd98f00b204e9800998ecf8427e"
+    assert [number_of(vrepl.vindex_id, *it) for it in (("lookup", b""), ("numeric", None), ("numeric", b"-1"))] == [42, 43, 44]
+
+    feed = b"\x02ab\x00\x01c"
+    assert list(vrepl.messages(feed)) == [b"ab", b"", b"c"] and vrepl.whole(feed + b"\x05d") == 6 and vrepl.whole(b"") == 0
+    assert number_of(list, vrepl.messages(feed + b"\x05d")) == 81
+    assert vrepl.explain(41).startswith("41   a key range doesn't start below its end\n")
+    assert str(vrepl.Refused(72)) == "refused 72: memory was refused"
+
+
+def program():
+    feed = vrepl.Feed({"t": {"id": "INT64", "v": "VARCHAR"}}).insert("t", (1, "a"), (2, None)).update("t", ((1, "a"), (3, "b"))).delete("t", (2, None))
+    workflow = feed.workflow("-", vindex="numeric")
+    dump = vrepl.run(workflow, feed)
+    assert dump.tables == {"t": [(b"3", b"b")]} and bytes(dump) == b"table t\nx33\tx62\n"
+    with tempfile.TemporaryDirectory() as folder:
+        paths = [os.path.join(folder, name) for name in ("workflow", "feed")]
+        for path, content in zip(paths, (json.dumps(workflow).encode(), bytes(feed))):
+            with open(path, "wb") as file:
+                file.write(content)
+        assert vrepl.run(*paths, alone=True) == dump
+    report = vrepl.check(workflow, feed)
+    assert report.warned and (report.said["streams"][0]["groups"], len(report.said["streams"][0]["moves"])) == (3, 1)
+    assert vrepl.check(workflow, vrepl.Feed({"t": {"id": "INT64", "v": "VARCHAR"}})).warned
+
+    moved = vrepl.follow(workflow, feed, dump=True)
+    assert moved.dump == dump and vrepl.follow(workflow, feed, checkpoint=moved, only=[0]).content == moved.content
+    same = vrepl.compare(workflow, dump, bytes(dump))
+    assert same and (same.processed, same.matching, same.differences) == (1, 1, [])
+    other = vrepl.vdiff(workflow, dump, b"table t\nx33\tN\nx35\tx61\n", first=1)
+    assert not other and (other.mismatched, other.extra_target) == (1, 1)
+    assert other.differences == [vrepl.Difference("t", (b"3",), (b"3", b"b"), (b"3", None))] and other.tables["t"]["processed"] == 2
+    assert number_of(vrepl.run, b"{", feed) == 51 and number_of(vrepl.run, workflow, b"\x05a") == 81
+    try:
+        vrepl.follow(workflow, feed, only=[64])
+    except vrepl.Usage as usage:
+        assert "--only" in str(usage)
+    else:
+        raise AssertionError("no fault of usage")
+
+
+readers()
+program()
