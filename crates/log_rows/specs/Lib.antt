@@ -1,0 +1,5 @@
+pub mod Fault
+pub mod Head
+pub mod Image
+pub mod Change
+pub mod Written

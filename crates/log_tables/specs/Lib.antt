@@ -1,0 +1,6 @@
+pub mod Fault
+pub mod Part
+pub mod TableMap
+pub mod Extra
+pub mod Kind
+pub mod Column
