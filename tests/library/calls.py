@@ -41,6 +41,10 @@ def readers():
     feed = b"\x02ab\x00\x01c"
     assert list(vrepl.messages(feed)) == [b"ab", b"", b"c"] and vrepl.whole(feed + b"\x05d") == 6 and vrepl.whole(b"") == 0
     assert number_of(list, vrepl.messages(feed + b"\x05d")) == 81
+    made = vrepl.Feed({"t": {"id": "INT64", "v": "VARCHAR"}}).transaction(("t", None, (1, None)), ("t", ("2", ""), None))
+    wanted = [vrepl.Change("t", None, (b"1", None)), vrepl.Change("t", (b"2", b""), None)]
+    assert list(vrepl.groups(made)) == [vrepl.Group(1, UUID + ":1", wanted)] == list(vrepl.groups(bytes(made), "ks", "-80"))
+    assert list(vrepl.groups(b"")) == [] and number_of(vrepl.groups, bytes(made)[1:]) is not None and number_of(vrepl.groups, bytes(made)[:-1]) == 81
     assert vrepl.explain(41).startswith("41   a key range doesn't start below its end\n")
     assert str(vrepl.Refused(72)) == "refused 72: memory was refused"
 

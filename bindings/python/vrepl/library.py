@@ -20,6 +20,7 @@ _CALLS = {
     "vrepl_key_range_holds": (*_TEXT, *_TEXT, _YES),
     "vrepl_vindex_id": (*_TEXT, ctypes.c_bool, *_TEXT, *_ROOM, _PLACE),
     "vrepl_message": (*_TEXT, _PLACE, _PLACE),
+    "vrepl_groups": (*_TEXT, *_TEXT, *_TEXT, *_ROOM, _PLACE),
 }
 
 _HERE = os.path.dirname(os.path.abspath(__file__))

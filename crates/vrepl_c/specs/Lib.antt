@@ -1,4 +1,6 @@
 pub mod Answer
+pub mod Encoded
+pub mod Feeds
 pub mod Message
-pub mod Room
 pub mod Readers
+pub mod Room

@@ -4,6 +4,8 @@
 //! memory that it takes outlives it. It answers 0, or the number of a refusal (docs/FORMATS.md, "Numbers").
 #![tactic(auto)]
 
+mod encoded;
+mod groups;
 mod message;
 mod position;
 mod ranges;

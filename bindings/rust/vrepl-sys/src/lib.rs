@@ -54,4 +54,16 @@ extern "C" {
     ) -> u32;
 
     pub fn vrepl_message(bytes: *const u8, bytes_length: usize, start: *mut usize, length: *mut usize) -> u32;
+
+    pub fn vrepl_groups(
+        feed: *const u8,
+        feed_length: usize,
+        keyspace: *const u8,
+        keyspace_length: usize,
+        shard: *const u8,
+        shard_length: usize,
+        room: *mut u8,
+        room_length: usize,
+        length: *mut usize,
+    ) -> u32;
 }
