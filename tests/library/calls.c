@@ -111,6 +111,43 @@ static void messages(void) {
     free(feed);
 }
 
+static const char *const WORKFLOW =
+    "{\"keyspace\":\"ks\",\"tables\":[{\"name\":\"t\",\"columns\":[[\"id\",\"INT64\"],[\"v\",\"VARCHAR\"]],\"key\":[\"id\"],"
+    "\"vindex\":[\"id\",\"binary\"]}],\"streams\":[{\"shard\":\"-\",\"filter\":{\"rules\":[{\"match\":\"t\",\"filter\":\"32-\"}]}}]}";
+
+static void workflows(void) {
+    uint8_t *file = exact(WORKFLOW, strlen(WORKFLOW));
+    size_t length = strlen(WORKFLOW), streams;
+    CHECK(vrepl_workflow(file, length, &streams) == 0 && streams == 1);
+    CHECK(vrepl_workflow(file, length - 1, &streams) == 51 && vrepl_workflow(TEXT("{}"), &streams) == 52);
+    // the columns "2" and NULL; "1" and NULL; NULL alone twice
+    uint8_t two[] = {10, 2, 2, 1, 18, 1, '2'}, one[] = {10, 2, 2, 1, 18, 1, '1'}, null[] = {10, 2, 1, 1};
+    bool is = false;
+    CHECK(vrepl_row_passes(file, length, 0, TEXT("t"), two, sizeof two, &is) == 0 && is);
+    CHECK(vrepl_row_passes(file, length, 0, TEXT("t"), one, sizeof one, &is) == 0 && !is);
+    CHECK(vrepl_row_passes(file, length, 0, TEXT("t"), null, sizeof null, &is) == 43);
+    CHECK(vrepl_row_passes(file, length, 1, TEXT("t"), two, sizeof two, &is) == 115);
+    CHECK(vrepl_row_passes(file, length, SIZE_MAX, TEXT("t"), two, sizeof two, &is) == 115);
+    CHECK(vrepl_row_passes(file, length, 0, TEXT("u"), two, sizeof two, &is) == 85);
+    CHECK(vrepl_row_passes(file, length, 0, (const uint8_t *)"\xff", 1, two, sizeof two, &is) == 85);
+    CHECK(vrepl_row_passes(file, length, 0, TEXT("t"), two, sizeof two - 1, &is) == 11);
+    CHECK(vrepl_row_passes(file, length, 0, TEXT("t"), two, 0, &is) == 87);
+    CHECK(vrepl_row_passes(file, length - 1, 1, TEXT("u"), two, 1, &is) == 51);
+    free(file);
+}
+
+static void keys(void) {
+    uint8_t two[] = {10, 2, 2, 1, 18, 1, '2'}, null[] = {10, 2, 1, 1}, word[] = {10, 2, 2, 1, 18, 1, 'x'}, room[64];
+    size_t length, size;
+    CHECK(vrepl_row_key(TEXT(WORKFLOW), 0, TEXT("t"), two, sizeof two, room, sizeof room, &length) == 0 && length == 17);
+    vrepl_cursor cursor = {room, room + length};
+    CHECK(vrepl_number(&cursor) == 1);
+    const uint8_t *part = vrepl_bytes(&cursor, &size);
+    CHECK(size == 1 && *part == '2' && cursor.at == cursor.end);
+    CHECK(vrepl_row_key(TEXT(WORKFLOW), 0, TEXT("t"), null, sizeof null, room, sizeof room, &length) == 61);
+    CHECK(vrepl_row_key(TEXT(WORKFLOW), 0, TEXT("t"), word, sizeof word, room, sizeof room, &length) == 62);
+}
+
 // A feed of two groups: of t with id and v an insert of "1" and NULL and a delete of "2" and ""; a position alone.
 static const uint8_t FEED[] = {
     128, 1, 10, 2, 8, 2, 10, 24, 8, 13, 50, 20, 10, 1, 116, 18, 7, 10, 2, 105, 100, 16, 137, 2, 18, 6, 10, 1, 118, 16,
@@ -159,6 +196,8 @@ int main(void) {
     ranges();
     ids();
     messages();
+    workflows();
+    keys();
     groups();
     return 0;
 }

@@ -1,13 +1,14 @@
 """Positions, key ranges, vindexes and the messages of feeds, each read by the proved calls of the library."""
 from __future__ import annotations
 
+import json
 import os
 import uuid as uuids
-from collections.abc import Iterable, Iterator
+from collections.abc import Iterable, Iterator, Mapping
 from dataclasses import dataclass
 
-from .feed import Feed
-from .library import address, numbers, rooms, text, yes
+from .feed import Feed, Row, row_message
+from .library import address, number, numbers, rooms, text, yes
 from .refused import Refused
 
 _CUT_MESSAGE = 81
@@ -93,6 +94,33 @@ class KeyRange:
 
     def __repr__(self) -> str:
         return f"KeyRange({str(self)!r})"
+
+
+class Workflow:
+    """A workflow file (docs/FORMATS.md, 'Workflow file'): `Workflow({...})` of its object, or `Workflow(bytes)`."""
+
+    __slots__ = ("_text", "streams")
+
+    def __init__(self, file: bytes | str | Mapping):
+        self._text = json.dumps(file).encode() if isinstance(file, Mapping) else text(file)[0]
+        self.streams = number("vrepl_workflow", *text(self._text))
+        """How many streams it has."""
+
+    def passes(self, stream: int, table: str, row: Row) -> bool:
+        """Whether a row of a table, its columns in order, passes the filter of a stream, by its number from 0."""
+        if not 0 <= stream < 2**64:
+            raise Refused(115)
+        return yes("vrepl_row_passes", *text(self._text), stream, *text(table), *text(row_message(row)))
+
+    def key(self, stream: int, table: str, row: Row) -> tuple[bytes, ...]:
+        """The key of a row of a table: each part's bytes, a number as its shortest decimal text."""
+        if not 0 <= stream < 2**64:
+            raise Refused(115)
+        cursor = _Cursor(rooms("vrepl_row_key", *text(self._text), stream, *text(table), *text(row_message(row)))[0])
+        return tuple(cursor.bytes() or b"" for _ in range(cursor.number()))
+
+    def __bytes__(self) -> bytes:
+        return self._text
 
 
 class _Cursor:

@@ -4,6 +4,8 @@ use Rattle.std.specs.Prelude.{ℕ, ◌++◌, ◌-◌, ◌^◌, List, length, Opt
 use Rattle.std.specs.List.{flat_map}
 use Rattle.std.specs.Int.{w64, to_le_bytes}
 use Rattle.gtid_set.specs.Printed.{printed_position}
+use Rattle.pk_copy.specs.KeyValue.{Part, KeyValue}
+use Rattle.pk_copy.specs.Lastpk.{part_text}
 use Rattle.source_feed.specs.GroupValue.{GroupValue, TableChangeValue}
 
 -- a number below 2^64
@@ -50,3 +52,14 @@ group_bytes group = head_bytes group ++ body_bytes group.changes
 
 abbrev pub groups_bytes : List GroupValue → List ℕ
 groups_bytes groups = flat_map group_bytes groups
+
+-- a part of a key: its bytes, or a number's shortest decimal text
+abbrev pub part_bytes : Part → List ℕ
+part_bytes part = bytes_behind (part_text part)
+
+abbrev pub parts_bytes : List Part → List ℕ
+parts_bytes parts = flat_map part_bytes parts
+
+-- a key: the number of its parts, and each of them
+abbrev pub key_bytes : KeyValue → List ℕ
+key_bytes key = eight (length key.parts) ++ parts_bytes key.parts

@@ -4,3 +4,4 @@ pub mod Feeds
 pub mod Message
 pub mod Readers
 pub mod Room
+pub mod Workflows

@@ -6,6 +6,7 @@
 
 mod encoded;
 mod groups;
+mod keys;
 mod message;
 mod position;
 mod ranges;
@@ -13,3 +14,4 @@ mod room;
 mod text;
 mod vindex_id;
 mod words;
+mod workflow;
