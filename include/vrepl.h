@@ -78,6 +78,62 @@ uint32_t vrepl_vindex_id(const uint8_t *vindex, size_t vindex_length, bool is_nu
  * no memory. */
 uint32_t vrepl_message(const uint8_t *bytes, size_t bytes_length, size_t *start, size_t *length);
 
+/* ---- workflows (docs/FORMATS.md, "Workflow file"), each given as its file's bytes, and read at each call
+ *
+ * Refused: 51 to 57 for a file that is no workflow. */
+
+/* How many streams a workflow has. */
+uint32_t vrepl_workflow(const uint8_t *workflow, size_t workflow_length, size_t *streams);
+
+/* Whether a row of a table, by the table's name, passes the filter of a stream, by its number from 0. The row is a Row
+ * message (docs/FORMATS.md, "Messages"). Refused in this order: a workflow as above; 115 for a stream that it hasn't; 85 for a
+ * table that it hasn't; 11 to 14 for a row that isn't read; 87 for one of more or fewer columns than the table has; 43 and
+ * 44 where the filter has no answer. */
+uint32_t vrepl_row_passes(const uint8_t *workflow, size_t workflow_length, size_t stream, const uint8_t *table, size_t table_length,
+                          const uint8_t *row, size_t row_length, bool *passes);
+
+/* The key of a row, as bytes that are walked over by a cursor (below), into the room: the number of its parts, and each of
+ * them, a number as its shortest decimal text. Refused as by vrepl_row_passes, but for 43 and 44: 61 where a key column is
+ * NULL, 62 where one of whole numbers has none. */
+uint32_t vrepl_row_key(const uint8_t *workflow, size_t workflow_length, size_t stream, const uint8_t *table, size_t table_length,
+                       const uint8_t *row, size_t row_length, uint8_t *room, size_t room_length, size_t *length);
+
+/* ---- the groups of a feed */
+
+/* The groups of a feed that was recorded from a shard of a keyspace, both mostly empty, as bytes that are walked over by a
+ * cursor, into the room: some fifty bytes a change more than the feed has. Refused: 24 where keyspace or shard isn't
+ * UTF-8; 81 to 84, 86 to 89, 92, 94 and 95, the first from the left that stands in the feed. */
+uint32_t vrepl_groups(const uint8_t *feed, size_t feed_length, const uint8_t *keyspace, size_t keyspace_length, const uint8_t *shard,
+                      size_t shard_length, uint8_t *room, size_t room_length, size_t *length);
+
+/* A place in such bytes: `at` is what comes next, and `end` is behind the last. A group is
+ *
+ *     vrepl_number its number; vrepl_bytes its position's text; vrepl_number how many changes follow; and for each of them
+ *     vrepl_bytes its table's name; the row before; the row after
+ *
+ * and a row is vrepl_number, UINT64_MAX where there is none, else how many columns follow, each of them vrepl_bytes. A key is
+ * vrepl_number, how many parts follow, each of them vrepl_bytes. Numbers have eight bytes, the least first. */
+typedef struct vrepl_cursor {
+    const uint8_t *at, *end;
+} vrepl_cursor;
+
+/* The number that comes next. */
+static inline uint64_t vrepl_number(vrepl_cursor *cursor) {
+    uint64_t number = 0;
+    for (int i = 7; i >= 0; i--) number = number << 8 | cursor->at[i];
+    cursor->at += 8;
+    return number;
+}
+
+/* The bytes that come next, with their length; NULL where a column is NULL. */
+static inline const uint8_t *vrepl_bytes(vrepl_cursor *cursor, size_t *length) {
+    uint64_t count = vrepl_number(cursor);
+    const uint8_t *bytes = count == UINT64_MAX ? NULL : cursor->at;
+    *length = bytes ? (size_t)count : 0;
+    cursor->at += *length;
+    return bytes;
+}
+
 #ifdef __cplusplus
 }
 #endif

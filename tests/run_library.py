@@ -11,6 +11,7 @@ same answers. Where the toolchain isn't installed the script says so and counts 
 cargo, pip or pytest isn't, that check alone. The last line is 'N passed, M failed': one a check.
 """
 import os
+import re
 import shutil
 import subprocess
 import sys
@@ -84,8 +85,7 @@ def exports_are_the_header(room, program):
     needed("nm")
     exported = {line.split()[-1] for line in ran("nm", "-D", "--defined-only", os.path.join(LIBRARY, "libvrepl.so")).splitlines()}
     with open(os.path.join(ROOT, "include", "vrepl.h"), encoding="utf-8") as file:
-        words = file.read().replace("(", " ( ").split()
-    named = {word for word, behind in zip(words, words[1:]) if word.startswith("vrepl_") and behind == "("}
+        named = set(re.findall(r"^(?:size_t|uint32_t) (vrepl_\w+)\(", file.read(), re.M))
     if exported != named:
         raise Failed(f"only exported: {sorted(exported - named)}; only in the header: {sorted(named - exported)}")
 

@@ -111,11 +111,93 @@ static void messages(void) {
     free(feed);
 }
 
+static const char *const WORKFLOW =
+    "{\"keyspace\":\"ks\",\"tables\":[{\"name\":\"t\",\"columns\":[[\"id\",\"INT64\"],[\"v\",\"VARCHAR\"]],\"key\":[\"id\"],"
+    "\"vindex\":[\"id\",\"binary\"]}],\"streams\":[{\"shard\":\"-\",\"filter\":{\"rules\":[{\"match\":\"t\",\"filter\":\"32-\"}]}}]}";
+
+static void workflows(void) {
+    uint8_t *file = exact(WORKFLOW, strlen(WORKFLOW));
+    size_t length = strlen(WORKFLOW), streams;
+    CHECK(vrepl_workflow(file, length, &streams) == 0 && streams == 1);
+    CHECK(vrepl_workflow(file, length - 1, &streams) == 51 && vrepl_workflow(TEXT("{}"), &streams) == 52);
+    // the columns "2" and NULL; "1" and NULL; NULL alone twice
+    uint8_t two[] = {10, 2, 2, 1, 18, 1, '2'}, one[] = {10, 2, 2, 1, 18, 1, '1'}, null[] = {10, 2, 1, 1};
+    bool is = false;
+    CHECK(vrepl_row_passes(file, length, 0, TEXT("t"), two, sizeof two, &is) == 0 && is);
+    CHECK(vrepl_row_passes(file, length, 0, TEXT("t"), one, sizeof one, &is) == 0 && !is);
+    CHECK(vrepl_row_passes(file, length, 0, TEXT("t"), null, sizeof null, &is) == 43);
+    CHECK(vrepl_row_passes(file, length, 1, TEXT("t"), two, sizeof two, &is) == 115);
+    CHECK(vrepl_row_passes(file, length, SIZE_MAX, TEXT("t"), two, sizeof two, &is) == 115);
+    CHECK(vrepl_row_passes(file, length, 0, TEXT("u"), two, sizeof two, &is) == 85);
+    CHECK(vrepl_row_passes(file, length, 0, (const uint8_t *)"\xff", 1, two, sizeof two, &is) == 85);
+    CHECK(vrepl_row_passes(file, length, 0, TEXT("t"), two, sizeof two - 1, &is) == 11);
+    CHECK(vrepl_row_passes(file, length, 0, TEXT("t"), two, 0, &is) == 87);
+    CHECK(vrepl_row_passes(file, length - 1, 1, TEXT("u"), two, 1, &is) == 51);
+    free(file);
+}
+
+static void keys(void) {
+    uint8_t two[] = {10, 2, 2, 1, 18, 1, '2'}, null[] = {10, 2, 1, 1}, word[] = {10, 2, 2, 1, 18, 1, 'x'}, room[64];
+    size_t length, size;
+    CHECK(vrepl_row_key(TEXT(WORKFLOW), 0, TEXT("t"), two, sizeof two, room, sizeof room, &length) == 0 && length == 17);
+    vrepl_cursor cursor = {room, room + length};
+    CHECK(vrepl_number(&cursor) == 1);
+    const uint8_t *part = vrepl_bytes(&cursor, &size);
+    CHECK(size == 1 && *part == '2' && cursor.at == cursor.end);
+    CHECK(vrepl_row_key(TEXT(WORKFLOW), 0, TEXT("t"), null, sizeof null, room, sizeof room, &length) == 61);
+    CHECK(vrepl_row_key(TEXT(WORKFLOW), 0, TEXT("t"), word, sizeof word, room, sizeof room, &length) == 62);
+}
+
+// A feed of two groups: of t with id and v an insert of "1" and NULL and a delete of "2" and ""; a position alone.
+static const uint8_t FEED[] = {
+    128, 1, 10, 2, 8, 2, 10, 24, 8, 13, 50, 20, 10, 1, 116, 18, 7, 10, 2, 105, 100, 16, 137, 2, 18, 6, 10, 1, 118, 16,
+    149, 48, 10, 18, 8, 12, 42, 14, 10, 1, 116, 18, 9, 18, 7, 10, 2, 2, 1, 18, 1, 49, 10, 18, 8, 12, 42, 14, 10, 1,
+    116, 18, 9, 10, 7, 10, 2, 2, 0, 18, 1, 50, 10, 52, 8, 1, 26, 48, 77, 121, 83, 81, 76, 53, 54, 47, 51, 101, 49, 49,
+    102, 97, 52, 55, 45, 55, 49, 99, 97, 45, 49, 49, 101, 49, 45, 57, 101, 51, 51, 45, 99, 56, 48, 97, 97, 57, 52, 50,
+    57, 53, 54, 50, 58, 49, 45, 49, 10, 2, 8, 3, 62, 10, 2, 8, 2, 10, 52, 8, 1, 26, 48, 77, 121, 83, 81, 76, 53, 54,
+    47, 51, 101, 49, 49, 102, 97, 52, 55, 45, 55, 49, 99, 97, 45, 49, 49, 101, 49, 45, 57, 101, 51, 51, 45, 99, 56,
+    48, 97, 97, 57, 52, 50, 57, 53, 54, 50, 58, 49, 45, 57, 10, 2, 8, 3,
+};
+
+static void groups(void) {
+    uint8_t *feed = exact(FEED, sizeof FEED), few[8] = "abcdefg", *room;
+    size_t length, size;
+    CHECK(vrepl_groups(feed, sizeof FEED, few, 0, few, 0, few, sizeof few, &length) == 0 && length > sizeof few && few[0] == 'a');
+    size_t wanted = length;
+    room = malloc(wanted);
+    CHECK(vrepl_groups(feed, sizeof FEED, TEXT("ks"), TEXT("-80"), room, wanted, &length) == 0 && length == wanted);
+    vrepl_cursor cursor = {room, room + length};
+    const char *position = "3e11fa47-71ca-11e1-9e33-c80aa9429562:1";
+    CHECK(vrepl_number(&cursor) == 1);
+    const uint8_t *text = vrepl_bytes(&cursor, &size);
+    CHECK(size == strlen(position) && memcmp(text, position, size) == 0 && vrepl_number(&cursor) == 2);
+    // the insert
+    text = vrepl_bytes(&cursor, &size);
+    CHECK(size == 1 && *text == 't' && vrepl_number(&cursor) == UINT64_MAX && vrepl_number(&cursor) == 2);
+    text = vrepl_bytes(&cursor, &size);
+    CHECK(size == 1 && *text == '1' && vrepl_bytes(&cursor, &size) == NULL && size == 0);
+    // the delete
+    text = vrepl_bytes(&cursor, &size);
+    CHECK(size == 1 && *text == 't' && vrepl_number(&cursor) == 2);
+    text = vrepl_bytes(&cursor, &size);
+    CHECK(size == 1 && *text == '2' && vrepl_bytes(&cursor, &size) != NULL && size == 0 && vrepl_number(&cursor) == UINT64_MAX);
+    // the position alone
+    CHECK(vrepl_number(&cursor) == 2 && vrepl_bytes(&cursor, &size) != NULL && size == 40 && vrepl_number(&cursor) == 0);
+    CHECK(cursor.at == cursor.end);
+    CHECK(vrepl_groups(feed, sizeof FEED - 1, few, 0, few, 0, room, wanted, &length) == 81);
+    CHECK(vrepl_groups(feed, sizeof FEED, (const uint8_t *)"\xff", 1, few, 0, room, wanted, &length) == 24);
+    CHECK(vrepl_groups(feed, 0, few, 0, few, 0, room, 0, &length) == 0 && length == 0);
+    free(room), free(feed);
+}
+
 int main(void) {
     words();
     positions();
     ranges();
     ids();
     messages();
+    workflows();
+    keys();
+    groups();
     return 0;
 }

@@ -38,9 +38,22 @@ def readers():
     assert vrepl.vindex_id("binary_md5", b"").hex() == "d41d8cd98f00b204e9800998ecf8427e"
     assert [number_of(vrepl.vindex_id, *it) for it in (("lookup", b""), ("numeric", None), ("numeric", b"-1"))] == [42, 43, 44]
 
+    tables = [{"name": "t", "columns": [["id", "INT64"], ["v", "VARCHAR"]], "key": ["id"], "vindex": ["id", "numeric"]}]
+    rules = [{"shard": it, "filter": {"rules": [{"match": "t", "filter": it}]}} for it in ("-80", "80-")]
+    workflow = vrepl.Workflow({"keyspace": "ks", "tables": tables, "streams": rules})
+    assert workflow.streams == 2 and workflow.passes(0, "t", (1, None)) and not workflow.passes(1, "t", (1, "a")) and workflow.passes(1, "t", (2**63, b""))
+    asked = ((2, "t", (1, None)), (-1, "t", (1, None)), (0, "u", (1, None)), (0, "t", (1,)), (0, "t", (None, 1)), (0, "t", ("x", 1)))
+    assert [number_of(workflow.passes, *it) for it in asked] == [115, 115, 85, 87, 43, 44]
+    assert number_of(vrepl.Workflow, b"{") == 51 and number_of(vrepl.Workflow, {}) == 52
+
     feed = b"\x02ab\x00\x01c"
     assert list(vrepl.messages(feed)) == [b"ab", b"", b"c"] and vrepl.whole(feed + b"\x05d") == 6 and vrepl.whole(b"") == 0
     assert number_of(list, vrepl.messages(feed + b"\x05d")) == 81
+    assert workflow.key(0, "t", ("007", "a")) == (b"7",) and [number_of(workflow.key, 0, "t", it) for it in ((None, 1), ("x", 1), (1,))] == [61, 62, 87]
+    made = vrepl.Feed({"t": {"id": "INT64", "v": "VARCHAR"}}).transaction(("t", None, (1, None)), ("t", ("2", ""), None))
+    wanted = [vrepl.Change("t", None, (b"1", None)), vrepl.Change("t", (b"2", b""), None)]
+    assert list(vrepl.groups(made)) == [vrepl.Group(1, UUID + ":1", wanted)] == list(vrepl.groups(bytes(made), "ks", "-80"))
+    assert list(vrepl.groups(b"")) == [] and number_of(vrepl.groups, bytes(made)[1:]) is not None and number_of(vrepl.groups, bytes(made)[:-1]) == 81
     assert vrepl.explain(41).startswith("41   a key range doesn't start below its end\n")
     assert str(vrepl.Refused(72)) == "refused 72: memory was refused"
 

@@ -152,12 +152,47 @@ def feeds(chance):
     return 1
 
 
+def all_groups(chance):
+    """A feed of several tables, often damaged: the groups that the library gives are those that `show` prints, or the same number."""
+    tables = {"t": {"id": "INT64", "v": "VARBINARY"}, "u": {"a": "BLOB"}}
+    feed = Feed(tables)
+    for _ in range(chance.randrange(5)):
+        changes = []
+        for _ in range(chance.randrange(4)):
+            table = chance.choice(list(tables))
+            cell = lambda: chance.choice([None, b"", b"a", bytes(chance.randrange(256) for _ in range(chance.randrange(20)))])  # noqa: E731
+            rows = [tuple(cell() for _ in tables[table]) for _ in range(2)]
+            changes.append((table, *chance.choice([(None, rows[0]), (rows[0], None), (rows[0], rows[1])])))
+        feed.transaction(*changes)
+    given = bytes(feed)
+    if chance.random() < 0.6:
+        given = damaged(chance, given)
+    cells = lambda row: "".join("\t" + ("N" if it is None else "x" + it.hex()) for it in row)  # noqa: E731
+    try:
+        said = []
+        for it in vrepl.groups(given):
+            said.append(f"group {it.number} {it.position}")
+            for change in it.changes:
+                said += [f"{sign} {change.table}{cells(row)}" for sign, row in (("-", change.before), ("+", change.after)) if row is not None]
+        said = "".join(line + "\n" for line in said).encode()
+    except vrepl.Refused as refused:
+        said = refused.number
+    try:
+        with _file_of(given) as path:
+            found = _asked("show", path)[1]
+    except vrepl.Refused as refused:
+        found = refused.number
+    if said != found:
+        raise AssertionError(f"of the feed {given.hex()} the library says {said}, the program {found}")
+    return 1
+
+
 def main(seconds, seed=None):
     seed = int(seed if seed is not None else random.randrange(2**32))
     chance, until, tried = random.Random(seed), time.monotonic() + float(seconds), 0
     try:
         while time.monotonic() < until:
-            tried += positions(chance) + ranges(chance) + sum(feeds(chance) for _ in range(5))
+            tried += positions(chance) + ranges(chance) + sum(feeds(chance) + all_groups(chance) for _ in range(5))
     except AssertionError:
         print(f"seed {seed}")
         raise

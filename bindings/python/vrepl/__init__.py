@@ -6,10 +6,10 @@ needed. What is refused is a `Refused`, with the number of docs/FORMATS.md and i
 """
 from .feed import Feed
 from .program import Checkpoint, Comparison, Difference, Dump, Report, Usage, check, compare, follow, run, vdiff
-from .readers import GtidSet, KeyRange, messages, tiles, vindex_id, whole
+from .readers import Change, Group, GtidSet, KeyRange, Workflow, groups, messages, tiles, vindex_id, whole
 from .refused import NoLibrary, NoProgram, Refused, explain
 
 __all__ = [
-    *("Checkpoint", "Comparison", "Difference", "Dump", "Feed", "GtidSet", "KeyRange", "NoLibrary", "NoProgram", "Refused", "Report"),
-    *("Usage", "check", "compare", "explain", "follow", "messages", "run", "tiles", "vdiff", "vindex_id", "whole"),
+    *("Change", "Checkpoint", "Comparison", "Difference", "Dump", "Feed", "Group", "GtidSet", "KeyRange", "NoLibrary", "NoProgram", "Refused", "Report", "Workflow"),
+    *("Usage", "check", "compare", "explain", "follow", "groups", "messages", "run", "tiles", "vdiff", "vindex_id", "whole"),
 ]

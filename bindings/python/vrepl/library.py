@@ -20,6 +20,10 @@ _CALLS = {
     "vrepl_key_range_holds": (*_TEXT, *_TEXT, _YES),
     "vrepl_vindex_id": (*_TEXT, ctypes.c_bool, *_TEXT, *_ROOM, _PLACE),
     "vrepl_message": (*_TEXT, _PLACE, _PLACE),
+    "vrepl_workflow": (*_TEXT, _PLACE),
+    "vrepl_row_passes": (*_TEXT, _SIZE, *_TEXT, *_TEXT, _YES),
+    "vrepl_row_key": (*_TEXT, _SIZE, *_TEXT, *_TEXT, *_ROOM, _PLACE),
+    "vrepl_groups": (*_TEXT, *_TEXT, *_TEXT, *_ROOM, _PLACE),
 }
 
 _HERE = os.path.dirname(os.path.abspath(__file__))
@@ -69,6 +73,13 @@ def address(there: bytes) -> int:
 def yes(name: str, *given: object) -> bool:
     """What a call answers by yes or no."""
     found = ctypes.c_bool()
+    _made(name, *given, ctypes.byref(found))
+    return found.value
+
+
+def number(name: str, *given: object) -> int:
+    """A number that a call gives."""
+    found = ctypes.c_size_t()
     _made(name, *given, ctypes.byref(found))
     return found.value
 

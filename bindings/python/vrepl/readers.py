@@ -1,13 +1,21 @@
 """Positions, key ranges, vindexes and the messages of feeds, each read by the proved calls of the library."""
 from __future__ import annotations
 
+import json
+import os
 import uuid as uuids
-from collections.abc import Iterable, Iterator
+from collections.abc import Iterable, Iterator, Mapping
+from dataclasses import dataclass
 
-from .library import address, numbers, rooms, text, yes
+from .feed import Feed, Row, row_message
+from .library import address, number, numbers, rooms, text, yes
 from .refused import Refused
 
 _CUT_MESSAGE = 81
+_ABSENT = 2**64 - 1
+
+Cells = tuple[bytes | None, ...]
+"""A row that was read: the bytes of each column, None for NULL."""
 
 
 class GtidSet:
@@ -86,6 +94,89 @@ class KeyRange:
 
     def __repr__(self) -> str:
         return f"KeyRange({str(self)!r})"
+
+
+class Workflow:
+    """A workflow file (docs/FORMATS.md, 'Workflow file'): `Workflow({...})` of its object, or `Workflow(bytes)`."""
+
+    __slots__ = ("_text", "streams")
+
+    def __init__(self, file: bytes | str | Mapping):
+        self._text = json.dumps(file).encode() if isinstance(file, Mapping) else text(file)[0]
+        self.streams = number("vrepl_workflow", *text(self._text))
+        """How many streams it has."""
+
+    def passes(self, stream: int, table: str, row: Row) -> bool:
+        """Whether a row of a table, its columns in order, passes the filter of a stream, by its number from 0."""
+        if not 0 <= stream < 2**64:
+            raise Refused(115)
+        return yes("vrepl_row_passes", *text(self._text), stream, *text(table), *text(row_message(row)))
+
+    def key(self, stream: int, table: str, row: Row) -> tuple[bytes, ...]:
+        """The key of a row of a table: each part's bytes, a number as its shortest decimal text."""
+        if not 0 <= stream < 2**64:
+            raise Refused(115)
+        cursor = _Cursor(rooms("vrepl_row_key", *text(self._text), stream, *text(table), *text(row_message(row)))[0])
+        return tuple(cursor.bytes() or b"" for _ in range(cursor.number()))
+
+    def __bytes__(self) -> bytes:
+        return self._text
+
+
+class _Cursor:
+    """A place in bytes that the library gave (include/vrepl.h, vrepl_cursor)."""
+
+    def __init__(self, given: bytes):
+        self.given, self.at = given, 0
+
+    def number(self) -> int:
+        self.at += 8
+        return int.from_bytes(self.given[self.at - 8 : self.at], "little")
+
+    def bytes(self) -> bytes | None:
+        count = self.number()
+        if count == _ABSENT:
+            return None
+        self.at += count
+        return self.given[self.at - count : self.at]
+
+    def row(self) -> Cells | None:
+        count = self.number()
+        return None if count == _ABSENT else tuple(self.bytes() for _ in range(count))
+
+
+@dataclass(frozen=True)
+class Change:
+    """A change of one row: `before` alone is a delete, `after` alone an insert."""
+
+    table: str
+    before: Cells | None
+    after: Cells | None
+
+
+@dataclass(frozen=True)
+class Group:
+    """The changes of one transaction of the source, with the position behind them."""
+
+    number: int
+    position: str
+    changes: list[Change]
+
+
+def groups(feed: bytes | str | os.PathLike | Feed, keyspace: str = "", shard: str = "") -> Iterator[Group]:
+    """The groups of a feed, given as its bytes, its path, or a `Feed`. A `Refused` where the feed is."""
+    if isinstance(feed, (str, os.PathLike)):
+        with open(feed, "rb") as file:
+            feed = file.read()
+    given = bytes(feed)
+    cursor = _Cursor(rooms("vrepl_groups", *text(given), *text(keyspace), *text(shard), size=4 * len(given) + 256)[0])
+    return _groups_at(cursor)
+
+
+def _groups_at(cursor: _Cursor) -> Iterator[Group]:
+    while cursor.at < len(cursor.given):
+        number, position = cursor.number(), (cursor.bytes() or b"").decode()
+        yield Group(number, position, [Change((cursor.bytes() or b"").decode(), cursor.row(), cursor.row()) for _ in range(cursor.number())])
 
 
 def tiles(ranges: Iterable[KeyRange]) -> bool:

@@ -1,4 +1,7 @@
 pub mod Answer
+pub mod Encoded
+pub mod Feeds
 pub mod Message
-pub mod Room
 pub mod Readers
+pub mod Room
+pub mod Workflows

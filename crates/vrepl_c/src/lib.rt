@@ -4,6 +4,9 @@
 //! memory that it takes outlives it. It answers 0, or the number of a refusal (docs/FORMATS.md, "Numbers").
 #![tactic(auto)]
 
+mod encoded;
+mod groups;
+mod keys;
 mod message;
 mod position;
 mod ranges;
@@ -11,3 +14,4 @@ mod room;
 mod text;
 mod vindex_id;
 mod words;
+mod workflow;

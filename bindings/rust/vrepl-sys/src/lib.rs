@@ -54,4 +54,42 @@ extern "C" {
     ) -> u32;
 
     pub fn vrepl_message(bytes: *const u8, bytes_length: usize, start: *mut usize, length: *mut usize) -> u32;
+
+    pub fn vrepl_workflow(workflow: *const u8, workflow_length: usize, streams: *mut usize) -> u32;
+
+    pub fn vrepl_row_passes(
+        workflow: *const u8,
+        workflow_length: usize,
+        stream: usize,
+        table: *const u8,
+        table_length: usize,
+        row: *const u8,
+        row_length: usize,
+        passes: *mut bool,
+    ) -> u32;
+
+    pub fn vrepl_row_key(
+        workflow: *const u8,
+        workflow_length: usize,
+        stream: usize,
+        table: *const u8,
+        table_length: usize,
+        row: *const u8,
+        row_length: usize,
+        room: *mut u8,
+        room_length: usize,
+        length: *mut usize,
+    ) -> u32;
+
+    pub fn vrepl_groups(
+        feed: *const u8,
+        feed_length: usize,
+        keyspace: *const u8,
+        keyspace_length: usize,
+        shard: *const u8,
+        shard_length: usize,
+        room: *mut u8,
+        room_length: usize,
+        length: *mut usize,
+    ) -> u32;
 }

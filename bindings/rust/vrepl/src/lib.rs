@@ -170,6 +170,168 @@ pub fn vindex_id(vindex: &str, value: Option<&[u8]>) -> Result<Vec<u8>, Refused>
     })
 }
 
+/// A workflow file.
+#[derive(Clone, Debug)]
+pub struct Workflow {
+    file: Vec<u8>,
+    /// How many streams it has.
+    pub streams: usize,
+}
+
+impl Workflow {
+    /// The workflow that a file's bytes say.
+    pub fn read(file: &[u8]) -> Result<Workflow, Refused> {
+        let mut streams = 0;
+        made(unsafe { sys::vrepl_workflow(file.as_ptr(), file.len(), &mut streams) })?;
+        Ok(Workflow { file: file.to_vec(), streams })
+    }
+
+    /// Whether a row of a table, as a Row message (`row_message`), passes the filter of a stream, by its number from 0.
+    pub fn passes(&self, stream: usize, table: &str, row: &[u8]) -> Result<bool, Refused> {
+        let mut passes = false;
+        made(unsafe {
+            sys::vrepl_row_passes(
+                self.file.as_ptr(),
+                self.file.len(),
+                stream,
+                table.as_ptr(),
+                table.len(),
+                row.as_ptr(),
+                row.len(),
+                &mut passes,
+            )
+        })?;
+        Ok(passes)
+    }
+}
+
+impl Workflow {
+    /// The key of a row of a table, as a Row message: each part's bytes, a number as its shortest decimal text.
+    pub fn key(&self, stream: usize, table: &str, row: &[u8]) -> Result<Vec<Vec<u8>>, Refused> {
+        let made = put(|room, length| unsafe {
+            sys::vrepl_row_key(
+                self.file.as_ptr(),
+                self.file.len(),
+                stream,
+                table.as_ptr(),
+                table.len(),
+                row.as_ptr(),
+                row.len(),
+                room.as_mut_ptr(),
+                room.len(),
+                length,
+            )
+        })?;
+        let mut cursor = Cursor { rest: &made };
+        Ok((0..cursor.number()).map(|_| cursor.bytes().unwrap_or_default()).collect())
+    }
+}
+
+/// A place in bytes that the library gave (include/vrepl.h, vrepl_cursor).
+struct Cursor<'m> {
+    rest: &'m [u8],
+}
+
+impl Cursor<'_> {
+    fn number(&mut self) -> u64 {
+        let (number, rest) = self.rest.split_at(8);
+        self.rest = rest;
+        number.iter().rev().fold(0, |number, byte| number << 8 | u64::from(*byte))
+    }
+
+    fn bytes(&mut self) -> Option<Vec<u8>> {
+        let count = self.number();
+        if count == u64::MAX {
+            return None;
+        }
+        let (bytes, rest) = self.rest.split_at(count as usize);
+        self.rest = rest;
+        Some(bytes.to_vec())
+    }
+
+    fn row(&mut self) -> Option<Row> {
+        match self.number() {
+            u64::MAX => None,
+            count => Some((0..count).map(|_| self.bytes()).collect()),
+        }
+    }
+
+    fn change(&mut self) -> Change {
+        let table = text(self.bytes().unwrap_or_default());
+        let (before, after) = (self.row(), self.row());
+        Change { table, before, after }
+    }
+}
+
+/// A row that was read: the bytes of each column, `None` for NULL.
+pub type Row = Vec<Option<Vec<u8>>>;
+
+/// A change of one row: `before` alone is a delete, `after` alone an insert.
+#[derive(Clone, Debug, PartialEq, Eq)]
+pub struct Change {
+    pub table: String,
+    pub before: Option<Row>,
+    pub after: Option<Row>,
+}
+
+/// The changes of one transaction of the source, with the position behind them.
+#[derive(Clone, Debug, PartialEq, Eq)]
+pub struct Group {
+    pub number: u64,
+    pub position: String,
+    pub changes: Vec<Change>,
+}
+
+/// The groups of a feed that was recorded from a shard of a keyspace, both mostly empty.
+pub fn groups(feed: &[u8], keyspace: &str, shard: &str) -> Result<Vec<Group>, Refused> {
+    let made = put(|room, length| unsafe {
+        sys::vrepl_groups(
+            feed.as_ptr(),
+            feed.len(),
+            keyspace.as_ptr(),
+            keyspace.len(),
+            shard.as_ptr(),
+            shard.len(),
+            room.as_mut_ptr(),
+            room.len(),
+            length,
+        )
+    })?;
+    let (mut cursor, mut found) = (Cursor { rest: &made }, Vec::new());
+    while !cursor.rest.is_empty() {
+        let (number, position) = (cursor.number(), text(cursor.bytes().unwrap_or_default()));
+        let changes = (0..cursor.number()).map(|_| cursor.change()).collect();
+        found.push(Group { number, position, changes });
+    }
+    Ok(found)
+}
+
+fn push_varint(into: &mut Vec<u8>, number: u64) {
+    let mut left = number;
+    while left > 0x7f {
+        into.push(left as u8 | 0x80);
+        left >>= 7;
+    }
+    into.push(left as u8);
+}
+
+/// The Row message of a row's columns, `None` for NULL.
+pub fn row_message(columns: &[Option<&[u8]>]) -> Vec<u8> {
+    let (mut lengths, mut values) = (Vec::new(), Vec::new());
+    for column in columns {
+        // zigzag: -1, which is NULL, is 1
+        push_varint(&mut lengths, column.map_or(1, |bytes| 2 * bytes.len() as u64));
+        values.extend_from_slice(column.unwrap_or(&[]));
+    }
+    let mut message = Vec::new();
+    for (field, bytes) in [(1 << 3 | 2, lengths), (2 << 3 | 2, values)] {
+        message.push(field);
+        push_varint(&mut message, bytes.len() as u64);
+        message.extend_from_slice(&bytes);
+    }
+    message
+}
+
 /// The messages of a feed, without their lengths; the last item is a refusal where one is cut short.
 pub fn messages(feed: &[u8]) -> Messages<'_> {
     Messages { rest: feed }

@@ -1,6 +1,6 @@
 //! Each call of the crate, its answers and its refusals.
 
-use vrepl::{explain, messages, vindex_id, GtidSet, KeyRange, Refused};
+use vrepl::{explain, groups, messages, row_message, vindex_id, GtidSet, KeyRange, Refused, Workflow};
 
 const UUID: [u8; 16] = [0x3e, 0x11, 0xfa, 0x47, 0x71, 0xca, 0x11, 0xe1, 0x9e, 0x33, 0xc8, 0x0a, 0xa9, 0x42, 0x95, 0x62];
 
@@ -51,6 +51,51 @@ fn values_have_ids() {
     assert_eq!(vindex_id("numeric", Some(b"258")), Ok(vec![0, 0, 0, 0, 0, 0, 1, 2]));
     assert_eq!(vindex_id("binary", Some(&[7; 1000])), Ok(vec![7; 1000]));
     assert_eq!((vindex_id("lookup", None), vindex_id("numeric", None), vindex_id("numeric", Some(b"x"))), (refused(42), refused(43), refused(44)));
+}
+
+#[test]
+fn rows_pass_filters() {
+    let file = br#"{"keyspace":"ks","tables":[{"name":"t","columns":[["id","INT64"],["v","VARCHAR"]],"key":["id"],
+        "vindex":["id","numeric"]}],"streams":[{"shard":"-","filter":{"rules":[{"match":"t","filter":"80-"}]}}]}"#;
+    let workflow = Workflow::read(file).unwrap();
+    assert_eq!(workflow.streams, 1);
+    let row = |id: &'static str| row_message(&[Some(id.as_bytes()), None]);
+    assert_eq!(workflow.passes(0, "t", &row("1")), Ok(false));
+    assert_eq!(workflow.passes(0, "t", &row("9223372036854775808")), Ok(true));
+    let one = row_message(&[Some(b"1")]);
+    let refusals = [workflow.passes(1, "t", &one), workflow.passes(0, "u", &one), workflow.passes(0, "t", &one)];
+    assert_eq!(refusals, [refused(115), refused(85), refused(87)]);
+    assert_eq!((workflow.passes(0, "t", &row("x")), workflow.passes(0, "t", b"\x0a\x01")), (refused(44), refused(11)));
+    assert_eq!(workflow.passes(0, "t", &row_message(&[None, None])), refused(43));
+    assert!(matches!(Workflow::read(b"{"), Err(Refused { number: 51 })));
+}
+
+#[test]
+fn rows_have_keys() {
+    let file = br#"{"keyspace":"ks","tables":[{"name":"t","columns":[["id","INT64"],["v","VARCHAR"]],"key":["v","id"]}],
+        "streams":[{"shard":"-","filter":{"rules":[{"match":"t","filter":""}]}}]}"#;
+    let workflow = Workflow::read(file).unwrap();
+    assert_eq!(workflow.key(0, "t", &row_message(&[Some(b"007"), Some(b"a")])), Ok(vec![b"a".to_vec(), b"7".to_vec()]));
+    assert_eq!(workflow.key(0, "t", &row_message(&[Some(b"7"), None])), refused(61));
+    assert_eq!(workflow.key(0, "t", &row_message(&[Some(b"x"), Some(b"")])), refused(62));
+}
+
+#[test]
+fn feeds_have_groups() {
+    // BEGIN; FIELD of t with id INT64; an insert of 1; the position; COMMIT: docs/FORMATS.md, "Feed"
+    let position = "3e11fa47-71ca-11e1-9e33-c80aa9429562:1";
+    let field = |number: u8, body: &[u8]| [&[number << 3 | 2, body.len() as u8], body].concat();
+    let event = |kind: u8, body: Vec<u8>| field(1, &[vec![8, kind], body].concat());
+    let fields = field(6, &[field(1, b"t"), field(2, &[field(1, b"id"), vec![16, 0x89, 2]].concat())].concat());
+    let row = field(5, &[field(1, b"t"), field(2, &field(2, &row_message(&[Some(b"1")])))].concat());
+    let events = [event(2, vec![]), event(13, fields), event(12, row), event(1, field(3, position.as_bytes())), event(3, vec![])];
+    let body = events.concat();
+    let feed = [&[body.len() as u8][..], &body].concat();
+    let found = groups(&feed, "", "").unwrap();
+    assert_eq!((found.len(), found[0].number, found[0].position.as_str()), (1, 1, position));
+    assert_eq!((found[0].changes[0].table.as_str(), &found[0].changes[0].before), ("t", &None));
+    assert_eq!(found[0].changes[0].after, Some(vec![Some(b"1".to_vec())]));
+    assert_eq!((groups(&feed[..feed.len() - 1], "", ""), groups(b"", "", "")), (refused(81), Ok(vec![])));
 }
 
 #[test]
