@@ -4,6 +4,10 @@
 #[cfg(test)]
 mod events;
 #[cfg(test)]
+mod rows;
+#[cfg(test)]
 mod samples;
+#[cfg(test)]
+mod tables;
 #[cfg(test)]
 mod values;
