@@ -29,6 +29,7 @@ use Rattle.board_laws.specs.Runs.{IsTouchedIn}
 use Rattle.board_laws.specs.Schedule.{Reply, IsEventStep, IsUnprepared, IsReplyBy, IsReply}
 use Rattle.board_laws.proofs.Lookups.{Ties}
 use Rattle.board_laws.proofs.FeedLaws.{run-reads}
+use Rattle.board_laws.proofs.Following.{feed_of-there}
 use Rattle.apply_core.specs.Ended.{IsFedBoard}
 use Rattle.apply_core.specs.RunRefused.{HasUnsound, TouchesKey, BothTouch}
 use Rattle.apply_core.specs.Courses.{LeadsOn, left_by, left_on}
@@ -44,7 +45,7 @@ module _ (feeds : List FeedValue) (old : Meaning) (fed : IsFedBoard feeds old) (
 
   module _ (leads : LeadsOn (standing_of state) (length has.feed.groups) was is step) where
     reply-of : (reply : Reply) (new : Meaning) → IsReply feeds old (s, step) reply new → IsReplyBy has.feed old s step reply new
-    reply-of reply new h = MatchOption-at_some _ (λ feed. IsReplyBy feed old s step reply new) has.feed has.fed h
+    reply-of reply new h = MatchOption-at_some _ (λ feed. IsReplyBy feed old s step reply new) has.feed (feed_of-there feeds old s state has.feed here has.fed) h
 
     hinders : (refusal : Refusal) (new : Meaning) → IsEventStep has.feed old s step (Err refusal) new → Hinders refusal
     hinders refusal new h =

@@ -7,6 +7,7 @@ pub mod AddLaws
 pub mod ApplyLaws
 pub mod CopyLaws
 pub mod ScheduleLaws
+pub mod FedLaws
 pub mod ShowLaws
 pub mod TogetherLaws
 pub mod BesideLaws

@@ -11,8 +11,8 @@ use Rattle.source_feed.specs.History.{KeptRow, kept_at}
 use Rattle.source_feed.specs.Planned.{FeedValue}
 use Rattle.source_feed.specs.SoundGroups.{sound_groups}
 use Rattle.board_laws.specs.Meaning.{State, Meaning}
-use Rattle.board_laws.specs.Lawful.{standing_of, IsLawful}
-use Rattle.board_laws.specs.Reading.{AllReadTheirFeeds}
+use Rattle.board_laws.specs.Lawful.{standing_of}
+pub use Rattle.board_laws.specs.FedBoards.{IsFedBoard}
 use Rattle.apply_core.specs.Shown.{all_rows}
 
 -- ---- the end of a feed
@@ -22,12 +22,6 @@ pub record HasEnded (feed : FeedValue) (state : State) : Type 0 where
   pub running : phase_of (standing_of state) ≡ Running
   pub read : length state.list ≡ length feed.groups
   pub applied : state.applied ≡ length feed.groups
-
--- a lawful board with a stream for each feed, which reads that feed
-pub record IsFedBoard (feeds : List FeedValue) (board : Meaning) : Type 0 where
-  pub lawful : IsLawful board
-  pub count : length board.streams ≡ length feeds
-  pub reads : AllReadTheirFeeds feeds board
 
 -- stream s of a board has ended
 abbrev pub StreamHasEnded : List FeedValue → ℕ → Meaning → Type 0

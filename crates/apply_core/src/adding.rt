@@ -9,6 +9,7 @@ ghost use Rattle.added_laws.specs.Extended.{AreExtended, extended_board, MayExte
 ghost use Rattle.added_laws.specs.Laws.{AddedTablesAreBare, AddedTablesAreToCopy, CutsStay};
 ghost use Rattle.added_laws.specs.declared.fault.AddFault.TheVariants.{Memory};
 ghost use Rattle.join_laws.specs.Compatible.{plans_of_board};
+ghost use Rattle.apply_core.specs.Ended.{IsFedBoard};
 ghost use Rattle.apply_core.specs.Adding.{HaveCounts, AreTaken, IsRefusedAdd};
 ghost use Rattle.apply_core.specs.Feeds.{AreWholeFeeds};
 ghost use Rattle.apply_core.specs.Private.Adding.{FeedsExtend, AreExtendedUpTo, AreStopped};
@@ -159,6 +160,8 @@ pub fn add_tables<'h>(
     ensures lawful { IfOk result IsLawful }
     // Each stream reads its new feed: what steps then leave shows the sources, as `Board::take_steps` says.
     ensures reads { IfOk result (AllReadTheirFeeds feeds.now) }
+    // The board has a stream for each feed: with these feeds it is a `FedBoard`.
+    ensures board { IfOk result (IsFedBoard feeds.now) }
     ensures refused { IfErr result (λ refusal. IsRefusedAdd (map arc_value plans.now) feeds.now board.entry refusal.why) }
     ensures handed_back { IfErr result (λ refusal. refusal.board ≡ board.entry) }
     // Feeds that go on are refused for want of memory alone.

@@ -51,7 +51,7 @@ fn go_on<'h>(
 ) -> Result<bool, RunRefusal>
     requires fed { IsFedBoard feeds.now board.old }
     requires there { s < length feeds.now }
-    ensures fed { OnOk result (IsFedBoard feeds.now board.new) }
+    ensures fed { IsFedBoard feeds.now board.new }
     ensures others { OnOk result (OthersStay s board.old board.new) }
     ensures nearer { IfOk result (λ went. IsTrue went → left_on feeds.now board.new s course.new.to_copy < left_on feeds.now board.old s course.old.to_copy) }
     ensures ended { IfOk result (λ went. went ≡ false → StreamHasEnded feeds.now s board.new) }
@@ -65,7 +65,7 @@ fn go_on<'h>(
     let Some(step) = course.next(policy, &at, groups) else {
         return Ok(false);
     };
-    match board.take_step(alloc, feeds, s, step) {
+    match board.take_fed(alloc, feeds, s, step) {
         Ok(_) => Ok(true),
         Err(refusal) => Err(ended_by(feeds, s, refusal)),
     }
@@ -81,13 +81,34 @@ fn run_stream<'h>(
 ) -> Result<(), RunRefusal>
     requires fed { IsFedBoard feeds.now board.old }
     requires there { s < length feeds.now }
-    ensures fed { OnOk result (IsFedBoard feeds.now board.new) }
+    ensures fed { IsFedBoard feeds.now board.new }
     ensures others { OnOk result (OthersStay s board.old board.new) }
     ensures ended { OnOk result (StreamHasEnded feeds.now s board.new) }
     ensures refused { IfErr result (EndsRun feeds.now) }
 {
     let mut course = Course::new(policy);
     while go_on(alloc, board, feeds, s, policy, &mut course)? {}
+    Ok(())
+}
+
+/// All streams run to their feeds' ends, stream after stream. A refusal leaves what was done until then.
+pub(crate) fn run_all<'h>(
+    alloc: Global,
+    board: &mut Board<'h>,
+    feeds: &[Feed<'h>],
+    policy: &Policy,
+) -> Result<(), RunRefusal>
+    requires { IsFedBoard feeds.now board.old }
+    ensures fed { IsFedBoard feeds.now board.new }
+    ensures ended { OnOk result (AllHaveEnded feeds.now board.new) }
+    ensures refused { IfErr result (EndsRun feeds.now) }
+{
+    for s in 0..feeds.len() {
+        match run_stream(alloc, board, feeds, s as u8, policy) {
+            Ok(()) => {}
+            Err(refusal) => return Err(refusal),
+        }
+    }
     Ok(())
 }
 
@@ -165,13 +186,10 @@ pub fn run_board_alone<'h>(
     ensures refused { IfErr result (EndsRun feeds.now) }
 {
     ended_boards_have_the_union();
-    for s in 0..feeds.len() {
-        match run_stream(alloc, &mut board, feeds, s as u8, policy) {
-            Ok(()) => {}
-            Err(refusal) => return Err(refusal),
-        }
+    match run_all(alloc, &mut board, feeds, policy) {
+        Ok(()) => Ok(board),
+        Err(refusal) => Err(refusal),
     }
-    Ok(board)
 }
 
 /// The stream at a place of a list.

@@ -13,6 +13,7 @@ ghost use Rattle.checkpoint_laws.specs.Refused.{plans_of_feeds, IsRefusedSaved, 
 ghost use Rattle.checkpoint_laws.specs.Said.{IsCheckpoint};
 ghost use Rattle.checkpoint_core.specs.Fault.{HasParts};
 ghost use Rattle.source_feed.specs.Planned.{FeedValue};
+ghost use Rattle.apply_core.specs.Ended.{IsFedBoard};
 ghost use Rattle.apply_core.specs.Feeds.{AreWholeFeeds, AreFed};
 ghost use Rattle.apply_core.specs.Resuming.{IsResumed, IsRefusedResume, IsSavedOf, GivesBoard, IsSavedBefore, GivesMore};
 ghost use Rattle.apply_core.specs.Private.Resuming.{AreSaid, IsUnfed};
@@ -119,6 +120,7 @@ fn resumed_over<'h>(
     ensures resumed { IfOk result (IsResumed feeds.now bytes.now) }
     ensures lawful { IfOk result IsLawful }
     ensures reads { IfOk result (AllReadTheirFeeds feeds.now) }
+    ensures board { IfOk result (IsFedBoard feeds.now) }
     ensures refused { IfErr result (IsRefusedCheckpoint feeds.now bytes.now) }
     ensures memory { result ≡ Err ResumeFault.Memory → HasParts bytes.now (length plans.now) }
 {
@@ -155,6 +157,8 @@ pub fn resume<'h>(
     ensures lawful { IfOk result IsLawful }
     // Each read list is a beginning of its feed's groups.
     ensures reads { IfOk result (AllReadTheirFeeds feeds.now) }
+    // The board has a stream for each feed: with these feeds it is a `FedBoard`.
+    ensures board { IfOk result (IsFedBoard feeds.now) }
     ensures refused { IfErr result (IsRefusedResume (map arc_value plans.now) feeds.now bytes.now) }
     // Memory is wanted for bytes alone that are as many parts as there are plans.
     ensures memory { result ≡ Err ResumeFault.Memory → HasParts bytes.now (length plans.now) }

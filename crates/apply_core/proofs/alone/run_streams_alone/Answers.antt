@@ -11,7 +11,7 @@ run_stream-requires-clause-there c = c.requires.there c.stream_at.result (c.loop
 
 pub loop-i-preserved : goal.loop-i-preserved
 loop-i-preserved c = (
-  c.in-Ok.ensures.fed,
+  c.run_stream.ensures.fed,
   named-more c.args.feeds.now c.args.streams.now c.loop-i.board c.run_stream.new.board c.loop-i.i c.stream_at.result c.stream_at.ensures c.loop-i.invariant.1 c.in-Ok.ensures.others c.in-Ok.ensures.ended,
   unnamed-more c.args.streams.now c.args.board c.loop-i.board c.run_stream.new.board c.loop-i.i c.stream_at.result c.stream_at.ensures c.loop-i.invariant.2 c.in-Ok.ensures.others,
 )

@@ -1,5 +1,8 @@
-use Rattle.std.proofs.Common.{[], map, refl, subst}
+use Rattle.std.proofs.Common.{List, [], length, map, refl, sym, ap, subst, ◌∙◌}
+use Rattle.std.proofs.lemmas.List.{length-map}
 use Rattle.std.specs.Arc.{arc_value}
+use Rattle.filter_rule.specs.PlanValue.{PlanValue}
+use Rattle.source_feed.specs.Planned.{FeedValue}
 use Rattle.board_laws.specs.Meaning.{Meaning}
 use Rattle.board_laws.specs.Lawful.{start_of, IsLawful}
 use Rattle.board_laws.specs.Schedule.{IsRun}
@@ -24,7 +27,14 @@ returns-clause-reads c =
 
 pub returns-clause-shows : goal.returns-clause-shows
 returns-clause-shows c =
-    c.in_ok-replies.ensures.shows c.in_ok-board.ensures.reads
+    let plans = map arc_value c.args.plans.items in
+    c.in_ok-replies.ensures.shows (record {
+      lawful = c.is_lawful.ensures;
+      count =
+          ap (λ (b : Meaning). length b.streams) c.in_ok-board.ensures.fresh ∙ length-map plans start_of ∙ sym (ap (λ (ps : List PlanValue). length ps) c.in_ok-board.ensures.fed.opened)
+          ∙ length-map c.args.feeds.now (λ (feed : FeedValue). feed.plan);
+      reads = c.in_ok-board.ensures.reads;
+    })
 
 pub returns-clause-own : goal.returns-clause-own
 returns-clause-own c =
