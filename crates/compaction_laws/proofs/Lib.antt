@@ -1,0 +1,6 @@
+pub mod HistoryLaws
+pub mod BaseLaws
+pub mod FeedLaws
+pub mod CheckpointLaws
+pub mod PortionLaws
+pub mod ColumnLaws

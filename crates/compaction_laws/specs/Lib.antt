@@ -1,0 +1,5 @@
+pub mod Compacted
+pub mod Base
+pub mod CompactedFeed
+pub mod Portions
+pub mod Laws

@@ -1,0 +1,10 @@
+//! Laws of compaction: a feed whose first groups are replaced by one that inserts what they leave stays what it was
+//! from there on, and so does a target that goes on over it. A crate of definitions and laws, without code.
+#![tactic(auto)]
+
+mod laws;
+
+pub use laws::{
+    bases_keep_histories, boards_go_on, checkpoints_go_on, compacted_bytes_open,
+    feeds_stay_what_they_were, left_rows_are_a_base, left_rows_have_columns, portions_are_a_base,
+};

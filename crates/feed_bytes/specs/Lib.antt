@@ -1,0 +1,3 @@
+pub mod Inserts
+pub mod Front
+pub mod FieldBytes
