@@ -1,17 +1,17 @@
 -- Behind histories that answer alike all later events go on alike.
-use Rattle.std.proofs.Common.{◌≡◌, ℕ, ◌+◌, ◌-◌, List, [], ◌∷◌, ◌++◌, length, map, Bool, true, false, cond, Option, None, Some, Result, Ok, Err, option_map, refl, sym, ap, subst, ◌∙◌, arith, inl, inr, append_assoc, length-append}
+use Rattle.std.proofs.Common.{◌≡◌, ℕ, ◌+◌, ◌-◌, List, [], ◌∷◌, ◌++◌, length, map, Bool, true, false, cond, Option, None, Some, Result, Ok, Err, option_map, refl, sym, ap, ◌∙◌, arith, inl, inr, append_assoc, length-append}
 use Rattle.std.proofs.lemmas.Bool.{cases_Bool, cond-true, cond-false, false≢true}
 use Rattle.std.proofs.lemmas.List.{append-nil}
 use Rattle.std.specs.Option.{option_or}
 use Rattle.std.specs.Str.{bytes_eq}
-use Rattle.list_laws.proofs.Choices.{map-or, map-cond}
-use Rattle.gtid_set.specs.Position.{within_of, union_of}
+use Rattle.list_laws.proofs.Choices.{map-or}
+use Rattle.gtid_set.specs.Position.{within_of}
 use Rattle.gtid_set.specs.Text.{position_of_text}
 use Rattle.gtid_set.specs.declared.fault.GtidFault.{GtidFault}
 use Rattle.row_view.specs.FieldValue.{FieldValue}
 use Rattle.vevent.specs.EventValue.{ChangeValue, EventValue, Gtid, Begin, Commit, Rollback, Row, Field, Vgtid, Ignored}
 use Rattle.source_feed.specs.declared.fault.FeedFault.{FeedFault}
-use Rattle.source_feed.specs.declared.fault.FeedFault.TheVariants.{Diverged, Misplaced, NoFields, ColumnCount}
+use Rattle.source_feed.specs.declared.fault.FeedFault.TheVariants.{Diverged, Misplaced, ColumnCount}
 use Rattle.source_feed.specs.GroupValue.{Position, TableChangeValue, GroupValue}
 use Rattle.source_feed.specs.SourceValue.{SourceValue, table_in_source, own_gtid}
 use Rattle.source_feed.specs.PastEvents.{PastEvents, is_open, last_field, width_of, position_of, body_position, body_changes, changes_in}

@@ -1,18 +1,17 @@
 -- The events of a base stand for the history in whose place they are.
-use Rattle.std.proofs.Common.{◌≡◌, ℕ, ◌+◌, ◌-◌, List, [], ◌∷◌, ◌++◌, length, reverse, Bool, true, false, cond, Option, None, Some, Result, Ok, Err, option_map, refl, sym, ap, subst, ◌∙◌, arith, append_assoc, length-append}
+use Rattle.std.proofs.Common.{◌≡◌, ℕ, ◌+◌, List, [], ◌∷◌, ◌++◌, length, reverse, Bool, true, false, cond, Option, None, Some, Result, Ok, Err, option_map, refl, sym, ap, subst, ◌∙◌, arith, append_assoc, length-append}
 use Rattle.std.proofs.lemmas.Bool.{cond-true, cond-false, false≢true}
 use Rattle.std.proofs.lemmas.List.{append-nil, reverse-append}
 use Rattle.std.proofs.lemmas.Option.{same_Some}
 use mathlib.Core.List.{reverse-cons}
 use Rattle.std.specs.List.{AllByRecursion, flat_map}
 use Rattle.std.specs.Option.{option_or}
-use Rattle.list_laws.proofs.Choices.{or_none}
 use Rattle.list_laws.proofs.Fronts.{All-append}
 use Rattle.gtid_set.specs.Position.{IsCanonical, within_of, union_of}
 use Rattle.gtid_set.specs.Text.{position_of_text}
 use Rattle.gtid_set.specs.declared.fault.GtidFault.{GtidFault}
 use Rattle.row_view.specs.FieldValue.{FieldValue}
-use Rattle.vevent.specs.EventValue.{ChangeValue, EventValue, Gtid, Begin, Commit, Rollback, Row, Field, Vgtid, Ignored}
+use Rattle.vevent.specs.EventValue.{EventValue, Gtid, Begin, Commit, Row, Field, Vgtid}
 use Rattle.source_feed.specs.declared.fault.FeedFault.{FeedFault}
 use Rattle.source_feed.specs.declared.fault.FeedFault.TheVariants.{Diverged, Misplaced}
 use Rattle.source_feed.specs.Grammar.{changes_at}
@@ -21,8 +20,7 @@ use Rattle.source_feed.specs.SourceValue.{SourceValue, table_in_source, own_gtid
 use Rattle.source_feed.specs.PastEvents.{PastEvents, is_open, last_field, width_of, past_set, past_set_of_text, position_of, body_position, body_changes, changes_in}
 use Rattle.source_feed.specs.Groups.{Block, block_at, block_at_position, with_block, seen, group_of_block, groups_of, row_fault, block_fault, position_fault, entry_fault, commit_fault, fault_at, first_fault}
 use Rattle.source_feed.specs.Private.SetLaws.{SetLaws}
-use Rattle.event_laws.specs.Alike.{AnswerAlike}
-use Rattle.event_laws.specs.BaseEvents.{base_events, IsField, IsRowUnder, HasLast, CanStandFor}
+use Rattle.event_laws.specs.BaseEvents.{base_events, IsField, IsRowUnder, CanStandFor}
 use Rattle.event_laws.specs.Laws.{first_group, StandsFor}
 
 -- ---- lists

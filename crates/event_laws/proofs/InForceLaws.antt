@@ -1,11 +1,11 @@
 -- The FIELDs in force say the columns that the history says.
-use Rattle.std.proofs.Common.{◌≡◌, ℕ, List, [], ◌∷◌, Bool, true, false, cond, not, Option, None, Some, refl, sym, ap, ◌∙◌, inl, inr}
+use Rattle.std.proofs.Common.{◌≡◌, ℕ, List, [], ◌∷◌, Bool, true, false, cond, not, Option, Some, refl, sym, ap, ◌∙◌, inl, inr}
 use Rattle.std.proofs.lemmas.Bool.{cases_Bool, cond-true, cond-false}
 use Rattle.std.specs.Cmp.Lexicographic.{same_text}
 use Rattle.std.specs.List.{AllByRecursion, filter}
 use Rattle.std.specs.Str.{bytes_eq}
 use Rattle.row_view.specs.FieldValue.{FieldValue}
-use Rattle.vevent.specs.EventValue.{EventValue, Field}
+use Rattle.vevent.specs.EventValue.{Field}
 use Rattle.source_feed.specs.SourceValue.{SourceValue, table_in_source}
 use Rattle.source_feed.specs.PastEvents.{PastEvents, last_field}
 use Rattle.event_laws.specs.BaseEvents.{IsField}

@@ -1,13 +1,13 @@
 -- Events that are written as messages are read again, and behind whole messages come those of other bytes.
-use Rattle.std.proofs.Common.{◌≡◌, ℕ, ◌+◌, ◌^◌, ◌<◌, List, [], ◌∷◌, ◌++◌, length, map, Option, None, Some, Result, Ok, Err, option_map, refl, sym, ap, subst, ◌∙◌, arith, append_assoc}
+use Rattle.std.proofs.Common.{◌≡◌, ℕ, ◌+◌, ◌^◌, ◌<◌, List, [], ◌∷◌, ◌++◌, length, map, Option, None, Some, Result, Ok, option_map, refl, sym, ap, ◌∙◌, arith, append_assoc}
 use Rattle.std.proofs.lemmas.List.{length-append}
-use Rattle.std.specs.List.{filter_map, flat_map}
+use Rattle.std.specs.List.{flat_map}
 use Rattle.proto_wire.specs.declared.fault.WireFault.{WireFault}
 use Rattle.proto_wire.specs.declared.fault.FrameFault.{FrameFault}
 use Rattle.proto_wire.specs.Reading.{Reading, Spells}
 use Rattle.proto_wire.specs.Varint.{shortest}
-use Rattle.proto_wire.specs.Field.{WireField, fields_of}
-use Rattle.proto_wire.specs.Parts.{part_in, parts_left}
+use Rattle.proto_wire.specs.Field.{WireField}
+use Rattle.proto_wire.specs.Parts.{parts_left}
 use Rattle.proto_wire.specs.Frame.{IsFrame, NoFrame, frame_at, frames_of}
 use Rattle.proto_wire.specs.Writing.{FieldsAreReadAgain}
 use Rattle.proto_wire.proofs.FieldLaws.{frame_reader}

@@ -1,5 +1,5 @@
 -- The groups of events of which a base stands for the front.
-use Rattle.std.proofs.Common.{◌≡◌, ℕ, ◌+◌, ◌-◌, ◌⊎◌, List, [], ◌∷◌, ◌++◌, length, map, drop, reverse, Bool, true, false, cond, Option, None, Some, Result, Ok, Err, option_map, refl, sym, ap, subst, ◌∙◌, inl, inr}
+use Rattle.std.proofs.Common.{◌≡◌, ℕ, ◌+◌, ◌-◌, ◌⊎◌, List, [], ◌∷◌, ◌++◌, length, map, drop, reverse, true, false, Option, None, Some, Result, Ok, Err, option_map, refl, sym, ap, subst, ◌∙◌, inl, inr}
 use Rattle.std.proofs.lemmas.Bool.{cases_Bool, cond-true, cond-false}
 use Rattle.std.proofs.lemmas.List.{drop_at, reverse-append, append-nil, append_assoc}
 use Rattle.std.specs.Option.{option_or}

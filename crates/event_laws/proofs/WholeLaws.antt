@@ -1,30 +1,28 @@
 -- Behind the last of whole messages that open as groups a feed can be cut.
-use Rattle.std.proofs.Common.{◌≡◌, ℕ, ◌+◌, ◌^◌, ◌⊎◌, List, [], ◌∷◌, ◌++◌, length, reverse, slice_get, suc, nat_lt, Bool, true, false, cond, Option, None, Some, Result, Ok, Err, refl, sym, ap, subst, ◌∙◌, arith, inl, inr, length-append}
-use Rattle.std.proofs.lemmas.Bool.{cases_Bool, cond-true, cond-false, false≢true}
+use Rattle.std.proofs.Common.{◌≡◌, ℕ, ◌+◌, ◌^◌, ◌⊎◌, List, [], ◌∷◌, ◌++◌, length, reverse, slice_get, suc, nat_lt, false, Option, None, Some, Ok, Err, refl, sym, ap, subst, ◌∙◌, arith, inl, inr, length-append}
+use Rattle.std.proofs.lemmas.Bool.{cases_Bool, cond-true, cond-false}
 use Rattle.std.proofs.lemmas.List.{append-nil}
-use Rattle.std.proofs.lemmas.Option.{none-some, same_Some}
+use Rattle.std.proofs.lemmas.Option.{none-some}
 use Rattle.std.specs.Option.{option_or}
-use Rattle.gtid_set.specs.Position.{IsCanonical, IsWithin, within_of, union_of}
-use Rattle.proto_wire.specs.Reading.{Reading}
+use Rattle.gtid_set.specs.Position.{IsCanonical, IsWithin, within_of}
 use Rattle.proto_wire.specs.Frame.{frames_of}
 use Rattle.proto_wire.specs.declared.fault.FrameFault.{FrameFault}
 use Rattle.vevent.specs.EventValue.{EventValue}
 use Rattle.vevent.specs.Response.{response_of}
 use Rattle.vevent.specs.declared.fault.EventFault.{EventFault}
 use Rattle.source_feed.specs.declared.fault.FeedFault.{FeedFault}
-use Rattle.source_feed.specs.declared.fault.FeedFault.TheVariants.{FeedTooLong, OpenAtEnd, Frame, Event}
-use Rattle.source_feed.specs.EventList.{fault_of_frame, events_then, events_in_messages, events_of_feed}
+use Rattle.source_feed.specs.declared.fault.FeedFault.TheVariants.{FeedTooLong, Frame, Event}
+use Rattle.source_feed.specs.EventList.{events_then, events_in_messages, events_of_feed}
 use Rattle.source_feed.specs.GroupValue.{Position, GroupValue}
 use Rattle.source_feed.specs.SourceValue.{SourceValue}
-use Rattle.source_feed.specs.PastEvents.{PastEvents, is_open}
+use Rattle.source_feed.specs.PastEvents.{PastEvents}
 use Rattle.source_feed.specs.Groups.{Block, block_at, with_block, seen, group_of_block, groups_of, fault_at, first_fault, closed, groups_in, groups}
 use Rattle.source_feed.specs.Private.SetLaws.{SetLaws}
 use Rattle.source_feed.proofs.Options.{option_cases, option_or-nothing}
 use Rattle.source_feed.proofs.OrderLaws.{Grown, grown, as_group, EndsWell, ends_well, around}
 use Rattle.event_laws.specs.BaseEvents.{HasLast}
-use Rattle.event_laws.specs.Cuts.{IsCut}
-use Rattle.event_laws.specs.Laws.{HaveEvents, IsWholeCut}
-use Rattle.event_laws.proofs.RunLaws.{Groups, Ended, ended_by, not_given}
+use Rattle.event_laws.specs.Laws.{IsWholeCut}
+use Rattle.event_laws.proofs.RunLaws.{Ended, ended_by, not_given}
 
 -- ---- the last group's position is all that was reached
 

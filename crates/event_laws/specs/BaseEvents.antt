@@ -1,5 +1,5 @@
 -- The events of one group that stand in the place of a feed's first groups (this profile).
-use Rattle.std.specs.Prelude.{◌≡◌, ℕ, ◌+◌, List, [], ◌∷◌, ◌++◌, Bool, false, length, reverse, Option, Some, None}
+use Rattle.std.specs.Prelude.{◌≡◌, ℕ, List, [], ◌∷◌, ◌++◌, false, reverse, Some, None}
 use Rattle.std.specs.List.{AllByRecursion}
 use Rattle.gtid_set.specs.Position.{within_of}
 use Rattle.vevent.specs.EventValue.{EventValue, Begin, Commit, Row, Field}

@@ -1,5 +1,5 @@
 -- Where a feed's events can be cut: behind the last event of a group (this profile).
-use Rattle.std.specs.Prelude.{◌≡◌, List, [], ◌∷◌, Bool, false, Some, None}
+use Rattle.std.specs.Prelude.{◌≡◌, [], ◌∷◌, false, Some, None}
 use Rattle.gtid_set.specs.Position.{within_of}
 use Rattle.vevent.specs.EventValue.{EventValue}
 use Rattle.source_feed.specs.SourceValue.{SourceValue}
