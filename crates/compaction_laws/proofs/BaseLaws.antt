@@ -7,14 +7,14 @@ use Rattle.std.specs.declared.cmp.Ordering.TheVariants.{Less, Greater}
 use Rattle.std.specs.List.{AllByRecursion}
 use Rattle.std.specs.Map.{lookup}
 use Rattle.std.specs.Option.{option_or}
-use Rattle.std.specs.Ordering.{is_eq}
+use Rattle.std.specs.Ordering.{is_eq, ordering_reverse}
 use Rattle.list_laws.proofs.Fronts.{All-append}
 use Rattle.outcome.specs.Outcome.{◌>>=◌}
 use Rattle.filter_rule.specs.PlanValue.{PlanValue, passes_of}
 use Rattle.pk_copy.specs.KeyOf.{key_of}
 use Rattle.pk_copy.specs.KeyOrder.{key_cmp}
 use Rattle.pk_copy.specs.KeyValue.{KeyValue}
-use Rattle.pk_copy.proofs.FrontLaws.{turned}
+use Rattle.pk_copy.specs.KeyOrderLaws.{key_cmp_total}
 use Rattle.target_tables.specs.Rising.{IsRising}
 use Rattle.target_tables.specs.Touches.{last_at}
 use Rattle.target_tables.proofs.Order.{each_two}
@@ -63,6 +63,9 @@ found P (touch ∷ later) key what all e = by (found P later key what all.1) (la
     by rest None there false same e = absurd (none-some what e)
 
 -- ---- each row of a rising list is found at its key
+
+turned : (x y : KeyValue) → key_cmp y x ≡ Less → key_cmp x y ≡ Greater
+turned x y less = key_cmp_total.antisymm x y ∙ ap ordering_reverse less
 
 pub own_rows : (rows : ImageRows) → IsRising key_cmp rows → AllByRecursion (λ row. lookup (is_key row.0) rows ≡ Some row.1) rows
 own_rows [] h = tt

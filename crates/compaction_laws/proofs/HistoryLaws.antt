@@ -17,10 +17,13 @@ use Rattle.compaction_laws.specs.Compacted.{lowered, compacted, IsBaseOf, StaysF
 -- ---- lists
 
 -- a front of a list is a shorter one and what of it stands behind
+take-none : {A : Type 0} (n : ℕ) (none : List A) → none ≡ [] → take n none ≡ []
+take-none zero none e = refl
+take-none (suc n) none e = ap (take (suc n)) e
+
 take-parts : {A : Type 0} (n k : ℕ) (xs : List A) → take (n + k) xs ≡ take n xs ++ take k (drop n xs)
 take-parts {A} zero k xs = let same : zero + k ≡ k = omega arith in ap (λ m. take m xs) same
-take-parts (suc n) zero [] = refl
-take-parts (suc n) (suc k) [] = let next : suc n + suc k ≡ suc (n + suc k) = omega arith in ap (λ m. take m []) next
+take-parts (suc n) k [] = take-none (suc n + k) [] refl ∙ sym (take-none k [] refl)
 take-parts {A} (suc n) k (x ∷ xs) =
     let next : suc n + k ≡ suc (n + k) = omega arith in
     ap (λ m. take m (x ∷ xs)) next ∙ ap (λ (ys : List A). x ∷ ys) (take-parts n k xs)
