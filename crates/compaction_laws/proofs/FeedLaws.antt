@@ -287,14 +287,14 @@ module _ (ties : Ties) (law : FeedsAreCompacted) (feed : FeedValue) (front behin
   made = base_of_left ties plan (sound_groups feed) fewer sound_last.0 position inserted (groups_are_under feed whole) sound_last.1 sound_position
       (subst (λ (n : ℕ). IsLeft (sound_groups feed) n inserted) (sym next_is) base_for.left)
 
-  new_groups : List PlannedGroupValue
+  abbrev new_groups : List PlannedGroupValue
   new_groups = base_group position inserted ∷ map (lowered_planned fewer) (drop many feed.groups)
 
-  new : FeedValue
+  abbrev new : FeedValue
   new = record { plan = plan; groups = new_groups }
 
   -- what the new events say
-  new_all : List GroupValue
+  abbrev new_all : List GroupValue
   new_all = first_group source rows position ∷ map (lowered_group fewer) (drop many old.all)
 
   new_given : groups_to_end source (base_list ++ behind) ≡ Ok new_all
@@ -404,9 +404,9 @@ module _ (ties : Ties) (law : FeedsAreCompacted) (feed : FeedValue) (front behin
 
 -- ---- its bytes
 
-pub bytes_open : (old : FeedValue) (fewer : ℕ) (events : List EventValue) (c : IsCompactedFeed old fewer events) (bytes : List ℕ) → HaveEvents bytes events → length bytes < 2 ^ 31
+pub bytes_open : (feed : FeedValue) (less : ℕ) (events : List EventValue) (c : IsCompactedFeed feed less events) (bytes : List ℕ) → HaveEvents bytes events → length bytes < 2 ^ 31
     → groups_under bytes c.new.plan ≡ Ok c.new.groups
-bytes_open old fewer events c bytes have short =
+bytes_open feed less events c bytes have short =
     let source : SourceValue = source_of c.new.plan in
     let given : Groups = groups_in source (events_of_feed bytes) in
     ap (planned_groups c.new.plan (events_of_feed bytes).items) (cond-true (nat_lt (length bytes) (2 ^ 31)) given (no_groups FeedTooLong) (lt-ltb (length bytes) (2 ^ 31) short))

@@ -1,5 +1,5 @@
 -- The FIELDs in force and portions of the rows that are left are a base.
-use Rattle.std.proofs.Common.{◌≡◌, ℕ, Bool, true, false, cond, not, ◌&&◌, ◌||◌, ◌==◌, List, [], ◌∷◌, ◌++◌, length, map, reverse, Option, Some, None, option_map, filter, refl, sym, ap, subst, ◌∙◌, eq-eqb}
+use Rattle.std.proofs.Common.{◌≡◌, ◌≤◌, ℕ, Bool, true, false, cond, not, ◌&&◌, ◌||◌, ◌==◌, List, [], ◌∷◌, ◌++◌, length, map, reverse, Option, Some, None, option_map, filter, refl, sym, ap, subst, ◌∙◌, eq-eqb}
 use Rattle.std.proofs.lemmas.Bool.{or_parts, cond-true}
 use Rattle.std.proofs.lemmas.List.{reverse-reverse, map-append}
 use Rattle.std.proofs.lemmas.List.Folds.{list_any-append}
