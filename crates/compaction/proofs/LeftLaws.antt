@@ -108,6 +108,10 @@ pub record AreLeft (feed : FeedValue) (number : ℕ) (rows : ImageRows) : Type 0
   pub sound : number ≤ length (sound_groups feed)
   pub left : IsLeft (sound_groups feed) number rows
 
+-- these groups are the first ones of the feed
+pub first_of_left : (feed : FeedValue) (number : ℕ) (rows : ImageRows) → AreLeft feed number rows → AreFirst feed number (take number (sound_groups feed))
+first_of_left feed number rows are = record { sound = are.sound; are = refl }
+
 next_group : (feed : FeedValue) (i : ℕ) (group : PreparedValue) → i < length feed.groups → i ≤ length (sound_groups feed) → prepared_at feed (i + 1) ≡ Ok group
     → (i + 1 ≤ length (sound_groups feed)) × (slice_get (sound_groups feed) i ≡ Some group)
 next_group feed i group inside le e =

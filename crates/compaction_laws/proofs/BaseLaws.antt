@@ -1,5 +1,5 @@
 -- The rows that a history's first groups leave, inserted by one group, are a base for these groups.
-use Rattle.std.proofs.Common.{◌≡◌, ℕ, zero, suc, ◌+◌, ◌<◌, ◌⊎◌, Bool, true, false, cond, List, [], ◌∷◌, ◌++◌, length, map, take, Option, Some, None, option_map, option_and_then, Result, Ok, Err, IfSome, slice_get, refl, sym, ap, subst, ◌∙◌, inl, inr}
+use Rattle.std.proofs.Common.{◌≡◌, ℕ, zero, suc, ◌+◌, ◌⊎◌, Bool, true, false, cond, List, [], ◌∷◌, ◌++◌, map, take, Option, Some, None, option_map, option_and_then, Result, Ok, IfSome, slice_get, refl, sym, ap, subst, ◌∙◌, inl, inr}
 use Rattle.std.proofs.lemmas.Bool.{cases_Bool, cond-true, cond-false}
 use Rattle.std.proofs.lemmas.List.{append-nil}
 use Rattle.std.proofs.lemmas.Option.{same_Some, none-some}
@@ -23,7 +23,7 @@ use Rattle.source_feed.specs.GroupValue.{Position}
 use Rattle.source_feed.specs.History.{RowValue, touches_in, row_at}
 use Rattle.source_feed.specs.Image.{ImageRows}
 use Rattle.source_feed.specs.Prepared.{IsTouchUnder}
-use Rattle.source_feed.specs.Touches.{PutValue, TouchValue, PreparedValue, touches_after, touches_of_change, touches_of, prepared}
+use Rattle.source_feed.specs.Touches.{PutValue, TouchValue, PreparedValue, touches_of_change, touches_of, prepared}
 use Rattle.source_feed.proofs.SoundLaws.{after-made}
 use Rattle.board_laws.proofs.Lookups.{Ties, is_key, is_itself, same_key}
 use Rattle.compaction_laws.specs.Base.{left_at, IsLeft, insert_of, base_group, AreGroupsUnder}

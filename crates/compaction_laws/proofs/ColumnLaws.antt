@@ -1,26 +1,23 @@
 -- The rows that are left are of tables whose columns the front says.
-use Rattle.std.proofs.Common.{◌≡◌, ℕ, zero, suc, ◌+◌, ◌≤◌, Bool, true, false, cond, List, [], ◌∷◌, ◌++◌, length, map, take, reverse, Option, Some, None, option_map, option_and_then, Result, Ok, Err, slice_get, refl, sym, ap, subst, ◌∙◌, arith}
+use Rattle.std.proofs.Common.{◌≡◌, ℕ, zero, suc, ◌≤◌, Bool, true, false, cond, List, [], ◌∷◌, ◌++◌, length, take, reverse, Option, Some, None, option_map, option_and_then, Ok, Err, slice_get, refl, sym, ap, subst, ◌∙◌, arith}
 use Rattle.std.proofs.lemmas.List.{reverse-append}
 use Rattle.std.proofs.lemmas.Option.{same_Some, none-some}
 use Rattle.std.specs.List.{AllByRecursion, list_any, filter_map, cons_option, flat_map}
-use Rattle.std.specs.Option.{option_or}
 use Rattle.list_laws.proofs.Fronts.{each, All-append}
 use Rattle.filter_rule.specs.PlanValue.{PlanValue, table_of_name, columns_of}
-use Rattle.pk_copy.specs.KeyOf.{key_of, key_in, key_cells, key_part_of, is_null, has_no_part}
+use Rattle.pk_copy.specs.KeyOf.{key_of, key_cells, key_part_of, is_null, has_no_part}
 use Rattle.pk_copy.specs.KeyValue.{KeyValue}
-use Rattle.pk_copy.specs.declared.fault.KeyFault.{KeyFault}
 use Rattle.pk_copy.specs.declared.fault.KeyFault.TheVariants.{NullKey, BadKey}
 use Rattle.row_view.specs.FieldValue.{FieldValue}
 use Rattle.vevent.specs.EventValue.{EventValue}
 use Rattle.source_feed.specs.GroupValue.{TableChangeValue, GroupValue}
 use Rattle.source_feed.specs.History.{RowValue, touches_in}
 use Rattle.source_feed.specs.Image.{ImageRows}
-use Rattle.source_feed.specs.PastEvents.{PastEvents, last_field}
+use Rattle.source_feed.specs.PastEvents.{PastEvents}
 use Rattle.source_feed.specs.Planned.{source_of, planned_change, planned_group, differs, PlannedChangeValue, PlannedGroupValue, FeedValue, IsFeed}
 use Rattle.source_feed.specs.Prepared.{IsTouchUnder}
 use Rattle.source_feed.specs.Sound.{AreOfBefore, AreOfAfter, AreOfChange, AreOfChanges}
 use Rattle.source_feed.specs.SoundGroups.{sound_groups}
-use Rattle.source_feed.specs.SourceValue.{SourceValue}
 use Rattle.source_feed.specs.Touches.{TouchValue, PreparedValue, touches_of}
 use Rattle.source_feed.proofs.PlanLaws.{field_agrees}
 use Rattle.source_feed.proofs.SoundGroupLaws.{IsGroupOf, group_of}
@@ -30,7 +27,7 @@ use Rattle.event_laws.proofs.RunLaws.{Ended, ended, groups_behind, front_faultle
 use Rattle.board_laws.proofs.Lookups.{Ties, is_key, same_key, all-at}
 use Rattle.pk_copy.specs.KeyOrder.{key_cmp}
 use Rattle.target_tables.specs.Touches.{last_at}
-use Rattle.source_feed.specs.Groups.{groups_of, first_fault}
+use Rattle.source_feed.specs.Groups.{groups_of}
 use Rattle.source_feed.specs.Touches.{PutValue}
 use Rattle.std.specs.Prelude.{IfSome, ◌<◌, min}
 use Rattle.std.specs.Map.{lookup}

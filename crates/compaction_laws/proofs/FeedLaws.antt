@@ -1,30 +1,28 @@
 -- A feed of whose events a base stands for the front is a compacted feed.
-use Rattle.std.proofs.Common.{◌≡◌, ℕ, zero, suc, ◌+◌, ◌-◌, ◌^◌, ◌<◌, ◌≤◌, ◌⊎◌, Bool, true, false, cond, ◌||◌, List, [], ◌∷◌, ◌++◌, length, map, take, drop, reverse, nat_lt, Option, Some, None, option_map, Result, Ok, Err, slice_get, refl, sym, ap, subst, ◌∙◌, arith, inl, inr, lt-ltb}
+use Rattle.std.proofs.Common.{◌≡◌, ℕ, zero, suc, ◌+◌, ◌-◌, ◌^◌, ◌<◌, ◌≤◌, Bool, false, cond, ◌||◌, List, [], ◌∷◌, ◌++◌, length, map, take, drop, reverse, nat_lt, Option, Some, None, option_map, Result, Ok, Err, slice_get, refl, sym, ap, subst, ◌∙◌, arith, inl, inr, lt-ltb}
 use Rattle.std.proofs.lemmas.Bool.{cases_Bool, cases_lt, cond-true, cond-false, or_parts}
-use Rattle.std.proofs.lemmas.List.{length-append, length-map, length-drop, drop_at, reverse-append, append_assoc}
+use Rattle.std.proofs.lemmas.List.{length-append, length-map, length-drop, reverse-append, append_assoc}
 use Rattle.std.proofs.lemmas.List.Folds.{list_any-append}
-use Rattle.std.proofs.lemmas.Option.{same_Some, none-some, slice_get-map, slice_get_within}
-use Rattle.std.specs.List.{AllByRecursion, list_any, filter_map, flat_map}
+use Rattle.std.proofs.lemmas.Option.{same_Some, none-some, slice_get-map}
+use Rattle.std.specs.List.{AllByRecursion, list_any}
 use Rattle.std.specs.Result.{ok_prefix}
 use Rattle.list_laws.proofs.Places.{place_of}
 use Rattle.outcome.specs.Outcome.{◌>>=◌}
 use Rattle.filter_rule.specs.PlanValue.{PlanValue}
-use Rattle.pk_copy.specs.KeyOrder.{key_cmp}
 use Rattle.pk_copy.specs.KeyValue.{KeyValue}
 use Rattle.pk_copy.specs.Marks.{Marks, is_inside}
 use Rattle.proto_wire.specs.Reading.{Reading}
-use Rattle.vevent.specs.EventValue.{EventValue, Gtid, Begin, Commit, Rollback, Row, Field, Vgtid, Ignored}
+use Rattle.vevent.specs.EventValue.{EventValue, Begin, Commit, Row, Field}
 use Rattle.source_feed.specs.declared.fault.FeedFault.{FeedFault}
 use Rattle.source_feed.specs.declared.fault.FeedFault.TheVariants.{FieldsDiffer, FeedTooLong}
 use Rattle.source_feed.specs.EventList.{events_of_feed}
-use Rattle.source_feed.specs.Grammar.{changes_at}
 use Rattle.source_feed.specs.GroupValue.{Position, GroupValue}
 use Rattle.source_feed.specs.Groups.{groups_of, groups_in}
 use Rattle.source_feed.specs.History.{KeptRow, kept_of, kept_at}
 use Rattle.source_feed.specs.Image.{ImageRows}
 use Rattle.source_feed.specs.PastEvents.{PastEvents, position_of}
-use Rattle.source_feed.specs.Planned.{source_of, differs, planned_change, planned_group, planned_groups, groups_under, PlannedGroupValue, PlannedChangeValue, FeedValue, IsFeed}
-use Rattle.source_feed.specs.Positions.{IsNumberAt, HasGroupAt}
+use Rattle.source_feed.specs.Planned.{source_of, differs, planned_group, planned_groups, groups_under, PlannedGroupValue, PlannedChangeValue, FeedValue, IsFeed}
+use Rattle.source_feed.specs.Positions.{IsNumberAt}
 use Rattle.source_feed.specs.Prepared.{IsPrepared, IsTouchUnder}
 use Rattle.source_feed.specs.SoundGroups.{sound_groups}
 use Rattle.source_feed.specs.SourceValue.{SourceValue}
@@ -39,10 +37,10 @@ use Rattle.board_laws.proofs.History.{passed_at-take}
 use Rattle.board_laws.proofs.Lookups.{Ties}
 use Rattle.checkpoint_laws.specs.Resumed.{resumed_state}
 use Rattle.event_laws.specs.Alike.{lowered_group}
-use Rattle.event_laws.specs.BaseEvents.{base_events, IsField, IsRowUnder, HasLast, CanStandFor}
-use Rattle.event_laws.specs.Laws.{first_group, groups_to_end, groups_in_front, IsCompactedRun, FeedsAreCompacted, HaveEvents}
+use Rattle.event_laws.specs.BaseEvents.{base_events, IsRowUnder, HasLast}
+use Rattle.event_laws.specs.Laws.{first_group, groups_to_end, FeedsAreCompacted, HaveEvents}
 use Rattle.event_laws.proofs.RunLaws.{Ended, ended, groups_behind}
-use Rattle.compaction_laws.specs.Base.{IsLeft, insert_of, base_group, AreGroupsUnder}
+use Rattle.compaction_laws.specs.Base.{IsLeft, base_group, AreGroupsUnder}
 use Rattle.compaction_laws.specs.Compacted.{lowered, compacted, IsBaseOf, StaysFrom}
 use Rattle.compaction_laws.specs.CompactedFeed.{IsFeedOf, groups_to, IsBaseFor, IsCompactedFeed}
 use Rattle.compaction_laws.proofs.BaseLaws.{all-each, base_of_left}

@@ -1,15 +1,14 @@
 -- From a base on a history stays what it was.
-use Rattle.std.proofs.Common.{◌≡◌, ℕ, zero, suc, ◌+◌, ◌-◌, ◌<◌, ◌≤◌, List, [], ◌∷◌, ◌++◌, length, map, take, drop, Option, Some, None, option_map, option_and_then, slice_get, refl, sym, ap, subst, ◌∙◌, arith}
+use Rattle.std.proofs.Common.{◌≡◌, ℕ, zero, suc, ◌+◌, ◌-◌, ◌<◌, List, [], ◌∷◌, ◌++◌, map, take, drop, Option, Some, None, option_map, option_and_then, slice_get, refl, sym, ap, ◌∙◌, arith}
 use Rattle.std.proofs.lemmas.List.{append-nil}
 use Rattle.std.proofs.lemmas.List.Concat.{flat_map-append}
 use Rattle.std.proofs.lemmas.Option.{same_Some, none-some}
 use Rattle.std.specs.Option.{option_or}
-use Rattle.filter_rule.specs.PlanValue.{PlanValue}
 use Rattle.pk_copy.specs.KeyOrder.{key_cmp}
 use Rattle.pk_copy.specs.KeyValue.{KeyValue}
 use Rattle.target_tables.specs.Touches.{last_at}
 use Rattle.source_feed.specs.GroupValue.{Position}
-use Rattle.source_feed.specs.History.{RowValue, touches_in, row_at, passing, passed_at, kept_of, kept_at, IsPassed}
+use Rattle.source_feed.specs.History.{touches_in, row_at, passing, passed_at, kept_of}
 use Rattle.source_feed.specs.Touches.{PutValue, TouchValue, PreparedValue}
 use Rattle.source_feed.proofs.ImageLaws.{last_at-append}
 use Rattle.compaction_laws.specs.Compacted.{lowered, compacted, IsBaseOf, StaysFrom}

@@ -1,20 +1,18 @@
 -- The FIELDs in force and portions of the rows that are left are a base.
-use Rattle.std.proofs.Common.{◌≡◌, ◌≤◌, ℕ, Bool, true, false, cond, not, ◌&&◌, ◌||◌, ◌==◌, List, [], ◌∷◌, ◌++◌, length, map, reverse, Option, Some, None, option_map, filter, refl, sym, ap, subst, ◌∙◌, eq-eqb}
+use Rattle.std.proofs.Common.{◌≡◌, ◌≤◌, ℕ, Bool, true, false, cond, ◌&&◌, ◌||◌, List, [], ◌∷◌, ◌++◌, length, map, reverse, Option, Some, None, option_map, filter, refl, sym, ap, subst, ◌∙◌, eq-eqb}
 use Rattle.std.proofs.lemmas.Bool.{or_parts, cond-true}
 use Rattle.std.proofs.lemmas.List.{reverse-reverse, map-append}
 use Rattle.std.proofs.lemmas.List.Folds.{list_any-append}
 use mathlib.Core.List.{reverse-cons}
 use Rattle.std.specs.List.{AllByRecursion, list_any, list_all, filter_map, cons_option, flat_map}
 use Rattle.filter_rule.specs.PlanValue.{PlanValue, table_of_name}
-use Rattle.pk_copy.specs.KeyValue.{KeyValue}
 use Rattle.row_view.specs.FieldValue.{FieldValue}
-use Rattle.vevent.specs.Columns.{has_columns, have_columns}
-use Rattle.vevent.specs.EventValue.{ChangeValue, EventValue, Row, Field}
+use Rattle.vevent.specs.Columns.{have_columns}
+use Rattle.vevent.specs.EventValue.{ChangeValue, EventValue, Field}
 use Rattle.source_feed.specs.declared.fault.FeedFault.TheVariants.{ColumnCount}
 use Rattle.source_feed.specs.Grammar.{changes_at}
-use Rattle.source_feed.specs.GroupValue.{Position, TableChangeValue}
+use Rattle.source_feed.specs.GroupValue.{TableChangeValue}
 use Rattle.source_feed.specs.Groups.{Block, row_fault}
-use Rattle.source_feed.specs.History.{RowValue}
 use Rattle.source_feed.specs.Image.{ImageRows}
 use Rattle.source_feed.specs.PastEvents.{PastEvents, last_field, position_of, changes_in}
 use Rattle.source_feed.specs.Planned.{source_of, differs, planned_change, PlannedChangeValue, FeedValue}

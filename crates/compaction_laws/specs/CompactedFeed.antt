@@ -1,5 +1,5 @@
 -- A feed whose first groups are compacted: what stands in their place, and what the feed is then (this profile).
-use Rattle.std.specs.Prelude.{◌≡◌, ℕ, ◌+◌, ◌-◌, ◌<◌, ◌≤◌, List, [], ◌∷◌, length, reverse, map, Bool, false, Ok}
+use Rattle.std.specs.Prelude.{◌≡◌, ℕ, ◌-◌, ◌<◌, ◌≤◌, List, length, reverse, map, false, Ok}
 use Rattle.std.specs.List.{list_any, filter_map, flat_map}
 use Rattle.pk_copy.specs.KeyValue.{KeyValue}
 use Rattle.pk_copy.specs.Marks.{Marks}

@@ -1,5 +1,5 @@
 -- Rows as ROW events that insert them: portions of one table each (this profile).
-use Rattle.std.specs.Prelude.{◌≡◌, ℕ, List, map, length, Option, None, Some}
+use Rattle.std.specs.Prelude.{◌≡◌, ℕ, List, map, length, None, Some}
 use Rattle.std.specs.List.{AllByRecursion, flat_map}
 use Rattle.filter_rule.specs.PlanValue.{PlanValue, table_of_name}
 use Rattle.row_view.specs.FieldValue.{FieldValue}

@@ -1,0 +1,6 @@
+use Rattle.compaction.proofs.LeftLaws.{AreLeft}
+use Rattle.compaction.proofs.left_rows.left_rows.Given as goal
+
+-- the rows so far are those that the groups so far leave
+abbrev pub invariant-loop-done : goal.invariant-loop-done
+invariant-loop-done l = AreLeft l.feed l.done l.rows
