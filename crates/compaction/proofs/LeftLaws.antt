@@ -122,8 +122,8 @@ next_group feed i group inside le e =
     let same : Some group ≡ Some there.0 = ap (λ (xs : List PreparedValue). slice_get xs 0) ends in
     (more.sound, there.1 ∙ sym same)
 
-pub one_more : (feed : FeedValue) (i : ℕ) (group : PreparedValue) (old new : ImageRows) → i < length feed.groups → prepared_at feed (i + 1) ≡ Ok group
-    → ((history : List PreparedValue) (n : ℕ) → slice_get history n ≡ Some group → IsLeft history n old → IsLeft history (n + 1) new) → AreLeft feed i old → AreLeft feed (i + 1) new
-one_more feed i group old new inside e next are =
+pub one_more : (feed : FeedValue) (i : ℕ) (group seen : PreparedValue) (old new : ImageRows) → i < length feed.groups → prepared_at feed (i + 1) ≡ Ok group → seen ≡ group
+    → ((history : List PreparedValue) (n : ℕ) → slice_get history n ≡ Some seen → IsLeft history n old → IsLeft history (n + 1) new) → AreLeft feed i old → AreLeft feed (i + 1) new
+one_more feed i group seen old new inside e same next are =
     let at = next_group feed i group inside are.sound e in
-    record { sound = at.0; left = next (sound_groups feed) i at.1 are.left }
+    record { sound = at.0; left = next (sound_groups feed) i (at.1 ∙ ap Some (sym same)) are.left }

@@ -95,7 +95,11 @@ impl<'h> LeftRows<'h> {
 ///
 /// That the feed has so many groups is the caller's. Refused 90 for the first of them that isn't sound. Any other error is
 /// want of memory.
-pub fn left_rows<'h>(alloc: Global, feed: &Feed<'h>, number: u32) -> Result<LeftRows<'h>, FeedFault>
+pub fn rows_up_to<'h>(
+    alloc: Global,
+    feed: &Feed<'h>,
+    number: u32,
+) -> Result<LeftRows<'h>, FeedFault>
     requires { number ≤ length feed.now.groups }
     // So many groups of the feed are sound, and these are the rows that they leave.
     ensures sound { IfOk result (λ _. number ≤ length (sound_groups feed.now)) }

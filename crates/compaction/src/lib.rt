@@ -3,4 +3,4 @@
 
 mod left_rows;
 
-pub use left_rows::{LeftRows, left_rows};
+pub use left_rows::{LeftRows, rows_up_to};

@@ -79,7 +79,10 @@ fn event_size(name: &str, rows: &[RowBytes<'_>]) -> Result<usize, AllocError>
     ensures { IfOk result (λ n. n ≡ length (written_event (inserts name.now rows.now))) }
 {
     let number = number_field_size(1, ROW);
-    size_of_both(number, bytes_field_size(5, row_event_size(name, rows)?)?)
+    let row_event = row_event_size(name, rows)?;
+    let body = bytes_field_size(5, row_event)?;
+    let size = size_of_both(number, body)?;
+    Ok(size)
 }
 
 /// Appends an event that inserts rows.
@@ -98,9 +101,11 @@ fn append_inserts(out: &mut Vec<u8>, name: &str, rows: &[RowBytes<'_>]) -> Resul
     ensures kept { Begins out.old.items out.new.items }
 {
     let event = event_size(name, rows)?;
-    put_varint(out, bytes_field_size(1, event)? as u64)?;
+    let size = bytes_field_size(1, event)?;
+    put_varint(out, size as u64)?;
     put_bytes_head(out, 1, event)?;
-    put_event(out, name, rows)
+    put_event(out, name, rows)?;
+    Ok(())
 }
 
 /// Appends a message of a feed, behind its length, with one event: the ROW that inserts these rows of the table of this
