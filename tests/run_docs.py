@@ -4,10 +4,10 @@
 usage: tests/run_docs.py
 
 docs/MAP.md names every source file of every crate under the crate's heading, docs/DEFINITIONS.md every
-file of definitions that public contracts cite, docs/PROVED.md every must-fail edit, and no file or edit
+file of definitions that public contracts cite, docs/PROMISES.md every must-fail edit, and no file or edit
 that isn't there. A path that a document names is there. Crates of tests and private definitions have no
-rows. A clause that README.md or docs/PROVED.md names of a call (`call`: `clause`) is one of that call's
-contract, and what docs/PROVED.md names in a table as a contract is a function or a type of the crates. Every
+rows. A clause that README.md or docs/PROMISES.md names of a call (`call`: `clause`) is one of that call's
+contract, and what docs/PROMISES.md names in a table as a contract is a function or a type of the crates. Every
 number of docs/FORMATS.md has a text of `vrepl explain`, and no other has one. The pages in share/ are what scripts/pages makes of the program in dist/, which is looked at where that is of these
 sources. What a CALLING.md quotes is what scripts/contracts makes of its crate's sources, and the change that
 CONTRIBUTING.md tells of can be made. The last line is 'N passed, M failed': one a document, one for the
@@ -77,7 +77,7 @@ def definition_faults():
 
 
 def promise_faults():
-    found = sections("PROVED.md")
+    found = sections("PROMISES.md")
     for crate in crates():
         edits = os.path.join(CRATES, crate, "must-fail")
         there = {it.removesuffix(".edit") for it in os.listdir(edits)} if os.path.isdir(edits) else set()
@@ -131,16 +131,16 @@ def named_in(text):
 
 def contract_faults():
     known, kinds = contracts(), types()
-    for page in "README.md", "docs/PROVED.md":
+    for page in "README.md", "docs/PROMISES.md":
         for number, line in enumerate(text_of(page).splitlines(), 1):
             for calls, clauses in CLAUSES.findall(line):
                 calls = [it for it in named_in(calls) if it in known]
                 yield from (f"{page}:{number}: {it} is no clause of {', '.join(calls)}" for it in named_in(clauses) if calls and not any(it in known[one] for one in calls))
-    for number, line in enumerate(text_of("docs", "PROVED.md").splitlines(), 1):
+    for number, line in enumerate(text_of("docs", "PROMISES.md").splitlines(), 1):
         cell = line.split("|")[2] if line.startswith("|") else ""
         words = named_in(cell)
         clauses = [it for _, these in CLAUSES.findall(cell) for it in named_in(these)]
-        yield from (f"docs/PROVED.md:{number}: nothing is called {it}" for it in words if it not in known and it not in kinds and it not in clauses)
+        yield from (f"docs/PROMISES.md:{number}: nothing is called {it}" for it in words if it not in known and it not in kinds and it not in clauses)
 
 
 def path_faults():
@@ -216,7 +216,7 @@ def is_released():
 
 def main():
     failed = 0
-    checks = {"docs/MAP.md": map_faults, "docs/DEFINITIONS.md": definition_faults, "docs/PROVED.md": promise_faults, "contracts": contract_faults, "paths": path_faults, "explain": explanation_faults, "quotations": quotation_faults, "examples/first_change.patch": first_change_faults}
+    checks = {"docs/MAP.md": map_faults, "docs/DEFINITIONS.md": definition_faults, "docs/PROMISES.md": promise_faults, "contracts": contract_faults, "paths": path_faults, "explain": explanation_faults, "quotations": quotation_faults, "examples/first_change.patch": first_change_faults}
     if is_released():
         checks["pages"] = page_faults
     for name, check in checks.items():
