@@ -1,4 +1,4 @@
-//! Messages of a feed.
+//! Messages of a feed, written: some events as one message, and rows that are inserted as one event.
 #![tactic(auto)]
 
 mod inserts;
