@@ -1,1 +1,4 @@
 pub mod MarkLaws
+pub mod StepLaws
+pub mod TransactionLaws
+pub mod WaitingLaws

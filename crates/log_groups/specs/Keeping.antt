@@ -1,6 +1,6 @@
 -- What a transaction keeps of its changes, by its savepoints (MySQL manual, "SAVEPOINT, ROLLBACK TO SAVEPOINT").
-use Rattle.std.specs.Prelude.{◌≡◌, ℕ, if◌then◌else◌, List, [], ◌∷◌, ◌++◌, length, take, Option, Some, None}
-use Rattle.std.specs.Str.{bytes_eq}
+use Rattle.std.specs.Prelude.{ℕ, if◌then◌else◌, List, [], ◌∷◌, ◌++◌, length, take, Option, Some, None}
+use Rattle.std.specs.Str.{str_eq_ignore_ascii_case}
 use Rattle.log_groups.specs.declared.open.SavedMark as saved_mark
 
 -- a savepoint: its name, and how many changes stood before it
@@ -12,10 +12,10 @@ pub record Mark : Type 0 where
 abbrev pub mark_value : saved_mark.SavedMark → Mark
 mark_value m = record { name = m.name.items; count = m.count }
 
--- how many changes stood before the latest savepoint of a name
+-- how many changes stood before the latest savepoint of a name, in letters of either case
 abbrev pub mark_from : List ℕ → List Mark → Option ℕ → Option ℕ
 mark_from name [] found = found
-mark_from name (m ∷ marks) found = mark_from name marks (if bytes_eq m.name name then Some m.count else found)
+mark_from name (m ∷ marks) found = mark_from name marks (if str_eq_ignore_ascii_case m.name name then Some m.count else found)
 
 abbrev pub mark_of : List ℕ → List Mark → Option ℕ
 mark_of name marks = mark_from name marks None
@@ -34,16 +34,3 @@ with_mark kept name = record { changes = kept.changes; marks = kept.marks ++ rec
 
 abbrev pub back_to : {C : Type 0} → Kept C → ℕ → Kept C
 back_to kept k = record { changes = take k kept.changes; marks = kept.marks }
-
--- what stands in a transaction
-pub data Inner (C : Type 0) : Type 0 where
-  Change : C → Inner C
-  Save : List ℕ → Inner C
-  Back : List ℕ → Inner C
-
--- these steps, behind what is kept, leave these changes
-abbrev pub Keeps : {C : Type 0} → List (Inner C) → Kept C → List C → Type 0
-Keeps [] kept changes = kept.changes ≡ changes
-Keeps (Change c ∷ steps) kept changes = Keeps steps (with_change kept c) changes
-Keeps (Save name ∷ steps) kept changes = Keeps steps (with_mark kept name) changes
-Keeps (Back name ∷ steps) kept changes = (k : ℕ) × (mark_of name kept.marks ≡ Some k) × Keeps steps (back_to kept k) changes

@@ -1,3 +1,10 @@
+pub mod Fault
 pub mod Class
 pub mod Body
+pub mod Statement
 pub mod Keeping
+pub mod Step
+pub mod Transaction
+pub mod Calls
+pub mod Group
+pub mod GroupCalls

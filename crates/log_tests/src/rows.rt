@@ -22,7 +22,7 @@ const VALUES: &[u8] =
 const NULL_LENGTHS: &[u8] = &[2, 1, 1, 1, 1, 1, 1, 1, 1, 1, 1, 1, 1, 1, 1, 1, 1, 1, 1];
 
 /// An update of one row.
-const UPDATE: &[u8] =
+pub(crate) const UPDATE: &[u8] =
     b"\x16\0\0\0\0\0\x01\0\x05\x1f\x1f\xe0\x07\0\0\0\xff\x03\x02\x02\xe2\x07\0\0\0\x03\x02\x02";
 
 /// Whether cells are these lengths and values.
@@ -31,7 +31,7 @@ fn are(cells: &WrittenCells, lengths: &[u8], values: &[u8]) -> bool {
 }
 
 /// The columns of a map, which are the wanted ones.
-fn columns_there(
+pub(crate) fn columns_there(
     alloc: Global,
     body: &'static [u8],
     wanted: &[(&[u8], u32)],
@@ -43,7 +43,7 @@ fn columns_there(
 }
 
 /// The rows behind the head of a body, none where there is no head.
-fn rows_behind(kind: RowsKind, body: &'static [u8]) -> &'static [u8] {
+pub(crate) fn rows_behind(kind: RowsKind, body: &'static [u8]) -> &'static [u8] {
     match rows_of(kind, false, body) {
         Ok(head) => head.rows,
         Err(_) => &[],

@@ -1,0 +1,10 @@
+use Rattle.std.proofs.Common.{◌≡◌, length}
+use Rattle.log_groups.specs.Step.{steps_of}
+use Rattle.log_groups.proofs.step.next_step.Given as goal
+
+-- the events so far are no steps
+abbrev pub invariant-loop-event : goal.invariant-loop-event
+invariant-loop-event l = steps_of l.events ≡ steps_of l.fn.events
+
+abbrev pub decreases-loop-event : goal.decreases-loop-event
+decreases-loop-event l = length l.events.items

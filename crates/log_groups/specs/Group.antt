@@ -1,0 +1,93 @@
+-- The groups of a log: what is committed at each position (MySQL manual, "XA Transaction States"). What an XA
+-- transaction did that is prepared waits for a later transaction, which commits it or rolls it back by its id.
+use Rattle.std.specs.Prelude.{◌==◌, ◌&&◌, nat_lt, if◌then◌else◌, List, [], ◌∷◌, ◌++◌, length, Bool, is_some, Option, Some, None, Result, Ok, Err}
+use Rattle.std.specs.List.{list_any}
+use Rattle.std.specs.Str.{bytes_eq}
+use Rattle.outcome.specs.Outcome.{◌>>=◌}
+use Rattle.item_readers.specs.Reading.{Reading}
+use Rattle.log_groups.specs.declared.fault.GroupFault.{GroupFault}
+use Rattle.log_groups.specs.declared.fault.GroupFault.TheVariants.{Twice, NotPrepared, StillPrepared}
+use Rattle.log_groups.specs.Body.{XidValue}
+use Rattle.log_groups.specs.Step.{GtidValue, Maria, Mysql, EndingValue, Committed, RolledBack, Prepared, XaCommitted, XaRolledBack}
+use Rattle.log_groups.specs.Transaction.{DoneValue, TransactionValue}
+
+-- a position, and what is committed there
+pub record GroupValue : Type 0 where
+  pub gtid : GtidValue
+  pub changes : List DoneValue
+
+-- an XA transaction that is prepared
+pub record WaitingValue : Type 0 where
+  pub xid : XidValue
+  pub changes : List DoneValue
+
+abbrev pub same_xid : XidValue → XidValue → Bool
+same_xid a b = (a.format == b.format) && bytes_eq a.global b.global && bytes_eq a.branch b.branch
+
+-- what waits under an id, and what waits without that
+abbrev pub waiting_at : XidValue → List WaitingValue → Option (List DoneValue)
+waiting_at x [] = None
+waiting_at x (w ∷ waiting) = if same_xid w.xid x then Some w.changes else waiting_at x waiting
+
+abbrev pub without : XidValue → List WaitingValue → List WaitingValue
+without x [] = []
+without x (w ∷ waiting) = if same_xid w.xid x then waiting else w ∷ without x waiting
+
+-- the id that stands with a position
+abbrev pub xid_with : GtidValue → Option XidValue
+xid_with (Maria g) = g.xid
+xid_with (Mysql g) = None
+
+-- ---- of one transaction
+
+-- what it commits, and what waits behind it
+abbrev pub Settled : Type 0
+Settled = Result (List DoneValue × List WaitingValue) GroupFault
+
+abbrev pub prepares : XidValue → List DoneValue → List WaitingValue → Settled
+prepares x changes waiting = if is_some (waiting_at x waiting) then Err Twice else Ok ([], waiting ++ record { xid = x; changes = changes } ∷ [])
+
+-- the end of one that is prepared, by the id that stands with the position
+abbrev pub taken : XidValue → List WaitingValue → Option (List DoneValue) → Settled
+taken x waiting None = Err NotPrepared
+taken x waiting (Some changes) = Ok (changes, without x waiting)
+
+abbrev pub ends_waiting : Option XidValue → List WaitingValue → Settled
+ends_waiting None waiting = Err NotPrepared
+ends_waiting (Some x) waiting = taken x waiting (waiting_at x waiting)
+
+abbrev pub settle_by : EndingValue → GtidValue → List DoneValue → List WaitingValue → Settled
+settle_by Committed g changes waiting = Ok (changes, waiting)
+settle_by RolledBack g changes waiting = Ok ([], waiting)
+settle_by (Prepared x) g changes waiting = prepares x changes waiting
+settle_by XaCommitted g changes waiting = ends_waiting (xid_with g) waiting
+settle_by XaRolledBack g changes waiting = ends_waiting (xid_with g) waiting >>= λ x. Ok ([], x.1)
+
+unfoldable pub settle : List WaitingValue → TransactionValue → Settled
+settle waiting t = settle_by t.ending t.gtid t.changes waiting
+
+-- ---- of a log
+
+-- nothing may wait at the end but what changes nothing
+abbrev pub has_changes : WaitingValue → Bool
+has_changes w = nat_lt 0 (length w.changes)
+
+abbrev pub end_with : List WaitingValue → Option GroupFault
+end_with waiting = if list_any has_changes waiting then Some StillPrepared else None
+
+abbrev pub put_group : GtidValue → Settled → (List WaitingValue → Reading GroupValue GroupFault) → Reading GroupValue GroupFault
+put_group g (Ok x) others = let rest = others x.1 in record { items = record { gtid = g; changes = x.0 } ∷ rest.items; fault = rest.fault }
+put_group g (Err fault) others = record { items = []; fault = Some fault }
+
+-- the groups of transactions behind which this ends them, where these wait
+unfoldable pub groups_in : List WaitingValue → List TransactionValue → Option GroupFault → Reading GroupValue GroupFault
+groups_in waiting [] None = record { items = []; fault = end_with waiting }
+groups_in waiting [] (Some fault) = record { items = []; fault = Some fault }
+groups_in waiting (t ∷ transactions) end = put_group t.gtid (settle waiting t) (λ left. groups_in left transactions end)
+
+abbrev pub groups_behind : List WaitingValue → Reading TransactionValue GroupFault → Reading GroupValue GroupFault
+groups_behind waiting r = groups_in waiting r.items r.fault
+
+-- the groups of a log's transactions: one for each, with its position
+abbrev pub groups_of : Reading TransactionValue GroupFault → Reading GroupValue GroupFault
+groups_of r = groups_behind [] r

@@ -1,0 +1,100 @@
+//! The groups of a log one after another.
+
+ghost use Rattle.std.specs.Prelude.{◌≡◌, map, [], option_map};
+ghost use Rattle.std.specs.Result.{result_map_both};
+ghost use Rattle.log_groups.specs.Step.{steps_of};
+ghost use Rattle.log_groups.specs.Transaction.{transactions_of};
+ghost use Rattle.log_groups.specs.Group.{groups_behind, groups_of};
+ghost use Rattle.log_groups.specs.GroupCalls.{group_value, waiting_value, FindsGroup, NextGroup};
+
+use crate::done::Done;
+use crate::fault::{GroupError, GroupFault};
+use crate::step::Gtid;
+use crate::transactions::Transactions;
+use crate::waiting::{Waiting, any_waits, settle};
+use std::alloc::Global;
+use std::marker::Model;
+
+/// What is committed at a position. What it refers to are slices of the log's bytes.
+#[derive(Drop)]
+pub struct Group<'b> {
+    pub gtid: Gtid<'b>,
+    /// in order
+    pub changes: Vec<Done<'b>>,
+}
+
+/// The group of the next transaction, where these wait.
+fn next_of<'b>(
+    alloc: Global,
+    transactions: &mut Transactions<'_, 'b>,
+    waiting: &mut Vec<Waiting<'b>>,
+) -> Result<Option<Group<'b>>, GroupError>
+    ensures { FindsGroup (groups_behind (map waiting_value waiting.old.items) transactions.old) (result_map_both (λ g. option_map group_value g) (λ e. e) result) (groups_behind (map waiting_value waiting.new.items) transactions.new) }
+{
+    match transactions.next_transaction(alloc)? {
+        Some(transaction) => {
+            let gtid = transaction.gtid;
+            let changes = settle(alloc, waiting, transaction)?;
+            Ok(Some(Group { gtid, changes }))
+        }
+        None => {
+            if any_waits(waiting) {
+                return Err(GroupError::Fault(GroupFault::StillPrepared));
+            }
+            Ok(None)
+        }
+    }
+}
+
+/// The groups of a log that are still to come, in order. Seen in contracts as that list, and the fault that ends it, if
+/// one does.
+#[derive(Drop)]
+pub struct Groups<'t, 'b> {
+    transactions: Transactions<'t, 'b>,
+    /// XA transactions that are prepared
+    waiting: Vec<Waiting<'b>>,
+    /// why one wasn't read
+    failed: Option<GroupFault>,
+}
+
+impl<'t, 'b> Model for Groups<'t, 'b> {
+    ghost use Rattle.std.specs.Prelude.{map};
+    ghost use Rattle.item_readers.specs.Reading.{Reading};
+    ghost use Rattle.log_groups.specs.declared.fault.GroupFault.{GroupFault};
+    ghost use Rattle.log_groups.specs.Group.{GroupValue, groups_behind};
+    ghost use Rattle.log_groups.specs.GroupCalls.{waiting_value, unless_refused};
+
+    ghost Value = { Reading GroupValue GroupFault };
+
+    ghost view = { λ a. unless_refused a.failed (groups_behind (map waiting_value a.waiting.items) a.transactions) };
+}
+
+impl<'t, 'b> Groups<'t, 'b> {
+    /// The groups of a log's transactions. Nothing is read yet, and no memory is taken.
+    pub fn new(alloc: Global, transactions: Transactions<'t, 'b>) -> Groups<'t, 'b>
+        ensures { result ≡ groups_of transactions.entry }
+    {
+        Groups {
+            transactions,
+            waiting: Vec::new(alloc),
+            failed: None,
+        }
+    }
+
+    /// The next group, or `None` at the end. After the end the end is answered again, and after a fault the same fault.
+    /// Behind want of memory nothing is told of what is still to come.
+    pub fn next_group(&mut self, alloc: Global) -> Result<Option<Group<'b>>, GroupError>
+        ensures { NextGroup self.old (result_map_both (λ g. option_map group_value g) (λ e. e) result) self.new }
+    {
+        if let Some(fault) = self.failed {
+            return Err(GroupError::Fault(fault));
+        }
+        match next_of(alloc, &mut self.transactions, &mut self.waiting) {
+            Ok(found) => Ok(found),
+            Err(error) => {
+                self.failed = error.fault();
+                Err(error)
+            }
+        }
+    }
+}

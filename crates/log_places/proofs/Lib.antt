@@ -1,0 +1,4 @@
+pub mod SpanLaws
+pub mod TimesLaws
+pub mod RiseLaws
+pub mod PlaceLaws

@@ -1,0 +1,4 @@
+pub mod Fault
+pub mod Added
+pub mod List
+pub mod Place
