@@ -4,3 +4,5 @@ pub mod FeedLaws
 pub mod CheckpointLaws
 pub mod PortionLaws
 pub mod ColumnLaws
+pub mod BytesLaws
+pub mod DecisionLaws

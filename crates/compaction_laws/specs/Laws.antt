@@ -2,6 +2,7 @@
 use Rattle.std.specs.Prelude.{◌≡◌, ◌⊎◌, ℕ, ◌+◌, ◌-◌, ◌^◌, ◌<◌, ◌≤◌, List, [], ◌++◌, length, reverse, map, Some, Ok, slice_get}
 use Rattle.std.specs.List.{AllByRecursion}
 use Rattle.filter_rule.specs.PlanValue.{PlanValue, table_of_name}
+use Rattle.filter_rule.specs.WellFormed.{IsPlan}
 use Rattle.pk_copy.specs.KeyValue.{KeyValue}
 use Rattle.row_view.specs.FieldValue.{FieldValue}
 use Rattle.vevent.specs.EventValue.{EventValue}
@@ -26,6 +27,9 @@ use Rattle.compaction_laws.specs.Base.{IsLeft, base_group, AreGroupsUnder}
 use Rattle.compaction_laws.specs.Compacted.{IsBaseOf, StaysFrom}
 use Rattle.compaction_laws.specs.CompactedFeed.{IsFeedOf, groups_to, IsBaseFor, IsCompactedFeed}
 use Rattle.compaction_laws.specs.Portions.{Portion, event_of, rows_of, IsPortion}
+use Rattle.compaction_laws.specs.CompactedBytes.{ReplacesFront, OpensCompacted}
+use Rattle.compaction_laws.specs.Decisions.{deciding, feed_deciding}
+use Rattle.filter_rule.specs.declared.decision.Decision.{Decision}
 
 -- from a base on a history stays what it was
 abbrev pub BasesKeepHistories : Type 0
@@ -120,3 +124,31 @@ PortionsAreABase =
     → groups_to feed front ≤ length (sound_groups feed) → AllByRecursion (IsPortion feed.plan (reverse front)) portions
     → IsLeft (sound_groups feed) (groups_to feed front) (rows_of portions)
     → IsBaseFor feed front (reverse (in_force (source_of feed.plan) (reverse front))) (map event_of portions) place block.position (rows_of portions)
+
+-- bytes that open as a feed under its plan, with other messages in the place of the first ones, open as the compacted feed
+abbrev pub BytesAreCompacted : Type 0
+BytesAreCompacted =
+    (feed : FeedValue) (front rest base : List ℕ) (r : ReplacesFront feed front base) → IsFeed feed → groups_under (front ++ rest) feed.plan ≡ Ok feed.groups
+    → length (base ++ rest) < 2 ^ 31 → OpensCompacted (front ++ rest) feed.plan (length r.before) (base ++ rest)
+
+-- ---- other plans over the same tables
+
+-- and so do they under each plan over the same tables under which the replaced groups are sound
+abbrev pub BytesAreCompactedUnderAll : Type 0
+BytesAreCompactedUnderAll =
+    (feed : FeedValue) (decisions : List Decision) (front rest base : List ℕ) (r : ReplacesFront feed front base) → IsFeed feed → groups_under (front ++ rest) feed.plan ≡ Ok feed.groups
+    → length (base ++ rest) < 2 ^ 31 → IsPlan (deciding feed.plan decisions) → length r.before + 1 ≤ length (sound_groups (feed_deciding feed decisions))
+    → OpensCompacted (front ++ rest) (deciding feed.plan decisions) (length r.before) (base ++ rest)
+
+-- the rows that groups leave don't hang on what the filter answers, where there is an answer
+abbrev pub LeftRowsAreOfAllDecisions : Type 0
+LeftRowsAreOfAllDecisions =
+    (feed : FeedValue) (decisions : List Decision) (n : ℕ) (rows : ImageRows) → n ≤ length (sound_groups feed) → n ≤ length (sound_groups (feed_deciding feed decisions))
+    → IsLeft (sound_groups feed) n rows → IsLeft (sound_groups (feed_deciding feed decisions)) n rows
+
+-- and so a base under one plan is one under each
+abbrev pub BasesAreOfAllDecisions : Type 0
+BasesAreOfAllDecisions =
+    (feed : FeedValue) (decisions : List Decision) (front fields rows : List EventValue) (place : EventValue) (position : Position) (inserted : ImageRows)
+    → IsBaseFor feed front fields rows place position inserted → groups_to feed front ≤ length (sound_groups (feed_deciding feed decisions))
+    → IsBaseFor (feed_deciding feed decisions) front fields rows place position inserted

@@ -1,5 +1,5 @@
 -- Rows as ROW events that insert them: portions of one table each (this profile).
-use Rattle.std.specs.Prelude.{◌≡◌, ℕ, List, map, length, None, Some}
+use Rattle.std.specs.Prelude.{◌≡◌, ◌<◌, ℕ, List, map, length, None, Some}
 use Rattle.std.specs.List.{AllByRecursion, flat_map}
 use Rattle.filter_rule.specs.PlanValue.{PlanValue, table_of_name}
 use Rattle.row_view.specs.FieldValue.{FieldValue}
@@ -31,3 +31,10 @@ pub record IsPortion (plan : PlanValue) (history : PastEvents) (portion : Portio
   pub known : last_field (source_of plan) history (table_in_source (source_of plan) portion.name) ≡ Some columns
   pub keys : AllByRecursion (λ row. row.0.table ≡ table) portion.rows
   pub fit : AllByRecursion (λ row. length row.1 ≡ length columns) portion.rows
+
+-- a portion is of one planned table, to which its name in the feed leads: it has rows, and their keys are of this table
+pub record IsOfOneTable (plan : PlanValue) (portion : Portion) : Type 0 where
+  pub table : ℕ
+  pub planned : table_of_name plan (table_in_source (source_of plan) portion.name) ≡ Some table
+  pub keys : AllByRecursion (λ row. row.0.table ≡ table) portion.rows
+  pub some : 0 < length portion.rows

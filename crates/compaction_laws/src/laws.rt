@@ -1,8 +1,8 @@
 //! Laws of compaction, each the contract of a function without a body.
 
-ghost use Rattle.compaction_laws.specs.Laws.{BasesKeepHistories, LeftRowsAreABase, FeedsStayWhatTheyWere, CompactedBytesOpen, CheckpointsGoOn, BoardsGoOn, LeftRowsHaveColumns, PortionsAreABase};
+ghost use Rattle.compaction_laws.specs.Laws.{BasesKeepHistories, LeftRowsAreABase, FeedsStayWhatTheyWere, CompactedBytesOpen, CheckpointsGoOn, BoardsGoOn, LeftRowsHaveColumns, PortionsAreABase, BytesAreCompacted, BytesAreCompactedUnderAll, LeftRowsAreOfAllDecisions, BasesAreOfAllDecisions};
 
-use event_laws::{changes_have_columns, feeds_are_compacted};
+use event_laws::{changes_have_columns, feeds_are_compacted, whole_feeds_are_cuts};
 use pk_copy::keys_tie_where_they_are_equal;
 
 /// From a base on a history stays what it was: what stands at each key, what of it passes and is kept, and the positions.
@@ -57,4 +57,31 @@ pub fn left_rows_have_columns()
 /// The FIELDs in force behind a group's last event, and portions of the rows that are left there, are a base for all before.
 pub fn portions_are_a_base()
     ensures { PortionsAreABase }
+{}
+
+/// Bytes that open as a feed, with other messages in the place of the first ones, open under its plan as the compacted feed:
+/// where those have the FIELDs in force, the rows that are left, and the position of the last group that they replace.
+pub fn bytes_are_compacted()
+    ensures { BytesAreCompacted }
+{
+    whole_feeds_are_cuts();
+    feeds_stay_what_they_were();
+    left_rows_have_columns();
+}
+
+/// So do they under each plan over the same tables under which the replaced groups are sound.
+pub fn bytes_are_compacted_under_all()
+    ensures { BytesAreCompactedUnderAll }
+{
+    bytes_are_compacted();
+}
+
+/// The rows that a feed's first groups leave are the same under each plan over the same tables under which they are sound.
+pub fn left_rows_are_of_all_decisions()
+    ensures { LeftRowsAreOfAllDecisions }
+{}
+
+/// A base for the front of a feed under a plan is one under each plan over the same tables under which the front is sound.
+pub fn bases_are_of_all_decisions()
+    ensures { BasesAreOfAllDecisions }
 {}

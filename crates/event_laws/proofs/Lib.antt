@@ -6,3 +6,4 @@ pub mod InForceLaws
 pub mod ColumnLaws
 pub mod MessageLaws
 pub mod WholeLaws
+pub mod RestLaws

@@ -85,7 +85,7 @@ is_reached laws source (event ∷ earlier) e =
 some_fault : {P : Type 0} (fault : FeedFault) → Some fault ≡ None → P
 some_fault fault e = absurd (none-some fault (sym e))
 
-messages_whole : (messages : List (List ℕ)) (end : Option FrameFault) → (events_in_messages messages end).fault ≡ None → end ≡ None
+pub messages_whole : (messages : List (List ℕ)) (end : Option FrameFault) → (events_in_messages messages end).fault ≡ None → end ≡ None
 messages_whole [] None e = refl
 messages_whole [] (Some fault) e = some_fault Frame e
 messages_whole (m ∷ messages) end e = by (messages_whole messages end) (response_of m).fault e
@@ -94,7 +94,7 @@ messages_whole (m ∷ messages) end e = by (messages_whole messages end) (respon
     by rest None e = rest e
     by rest (Some fault) e = some_fault (Event fault) e
 
-ended_all : (source : SourceValue) (past : PastEvents) (first end : Option FeedFault) (all : List GroupValue) → first_fault source past ≡ first → closed source past (option_or first end) ≡ Ok all → (end ≡ None) × Ended source past all
+pub ended_all : (source : SourceValue) (past : PastEvents) (first end : Option FeedFault) (all : List GroupValue) → first_fault source past ≡ first → closed source past (option_or first end) ≡ Ok all → (end ≡ None) × Ended source past all
 ended_all source past (Some fault) end all is e = not_given all fault e
 ended_all source past None (Some fault) all is e = not_given all fault e
 ended_all source past None None all is e = (refl, ended_by source past None all is e)

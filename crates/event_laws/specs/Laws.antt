@@ -99,6 +99,24 @@ BytesGoBehindBytes =
     (whole rest : List ℕ) (events : List EventValue) → HaveEvents whole events
     → events_of_feed (whole ++ rest) ≡ record { items = events ++ (events_of_feed rest).items; fault = (events_of_feed rest).fault }
 
+-- behind whole messages come whole messages
+abbrev pub WholeGoesBehindWhole : Type 0
+WholeGoesBehindWhole = (whole rest : List ℕ) (events others : List EventValue) → HaveEvents whole events → HaveEvents rest others → HaveEvents (whole ++ rest) (events ++ others)
+
+-- the bytes are whole messages with the events that are left of all, where some are taken from the front
+pub record IsRest (rest : List ℕ) (events all : List EventValue) : Type 0 where
+  pub others : List EventValue
+  pub have : HaveEvents rest others
+  pub are : all ≡ events ++ others
+
+-- what is left of whole messages behind whole ones are whole ones
+abbrev pub RestsOfWholeAreWhole : Type 0
+RestsOfWholeAreWhole = (whole rest : List ℕ) (events all : List EventValue) → HaveEvents whole events → HaveEvents (whole ++ rest) all → IsRest rest events all
+
+-- bytes that open as a feed are whole messages
+abbrev pub OpenedFeedsAreWhole : Type 0
+OpenedFeedsAreWhole = (bytes : List ℕ) (source : SourceValue) (all : List GroupValue) → groups bytes source ≡ Ok all → HaveEvents bytes (events_of_feed bytes).items
+
 -- the bytes are whole messages, and behind their events, whose last group is this one, a feed can be cut
 pub record IsWholeCut (bytes : List ℕ) (source : SourceValue) (before : List GroupValue) (last : GroupValue) : Type 0 where
   pub events : HaveEvents bytes (events_of_feed bytes).items

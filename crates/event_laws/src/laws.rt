@@ -1,7 +1,7 @@
 //! Laws of events, each the contract of a function without a body: they hold of the words that the contract of
 //! `read_groups` is written in.
 
-ghost use Rattle.event_laws.specs.Laws.{EventsGoOnAlike, BasesStandFor, GroupsEndAtCuts, FeedsAreCompacted, FieldsInForceSayTheColumns, ChangesHaveColumns, MessagesAreReadAgain, BytesGoBehindBytes, WholeFeedsAreCuts};
+ghost use Rattle.event_laws.specs.Laws.{EventsGoOnAlike, BasesStandFor, GroupsEndAtCuts, FeedsAreCompacted, FieldsInForceSayTheColumns, ChangesHaveColumns, MessagesAreReadAgain, BytesGoBehindBytes, WholeGoesBehindWhole, RestsOfWholeAreWhole, OpenedFeedsAreWhole, WholeFeedsAreCuts};
 
 use gtid_set::{positions_are_canonical, union_with_a_superset_is_the_superset, within_is_subset};
 use proto_wire::fields_are_read_again;
@@ -70,4 +70,19 @@ pub fn messages_are_read_again()
 /// The events of whole messages with other bytes behind them are theirs, and behind them those of the other bytes.
 pub fn bytes_go_behind_bytes()
     ensures { BytesGoBehindBytes }
+{}
+
+/// Behind whole messages with some events other whole messages stand, and together they have the events of both.
+pub fn whole_goes_behind_whole()
+    ensures { WholeGoesBehindWhole }
+{}
+
+/// What is left of whole messages behind whole ones are whole messages, and they have the events that are left.
+pub fn rests_of_whole_are_whole()
+    ensures { RestsOfWholeAreWhole }
+{}
+
+/// Bytes that open as a feed are whole messages.
+pub fn opened_feeds_are_whole()
+    ensures { OpenedFeedsAreWhole }
 {}

@@ -1,1 +1,4 @@
 pub mod Inserts
+pub mod Front
+pub mod FieldBytes
+pub mod Private
