@@ -79,6 +79,7 @@ module _ (feed : FeedValue) (state : State) (sound : IsSoundState state) (whole 
 
   pub extended-sound : IsSoundState (extended_state feed state)
   extended-sound = record {
+    plan = whole.plan;
     list = read-cut feed.plan (sound_groups feed) state.applied (sound-is_read feed whole);
     standing = record { applied = omega (arith, long); done = omega (arith, left_to_copy); snapshot = tt };
     marks = record { within = omega (arith, left_to_copy); current = current state.marks.upto sound.marks.current };

@@ -9,10 +9,10 @@ use thiserror::Error;
 /// Why tables aren't added to a board.
 #[derive(Debug, Drop, Error)]
 pub enum AddFault {
-    /// There aren't as many plans as streams, or not as many feeds as plans.
-    #[error("another number of plans or feeds than of streams")]
+    /// There aren't as many feeds as plans.
+    #[error("another number of feeds than of plans")]
     FeedCount,
-    /// A plan isn't its stream's with one or more tables appended last.
+    /// There aren't as many plans as streams, or one isn't its stream's with one or more tables appended last.
     #[error("a plan isn't an extension of its stream's")]
     PlanNotExtended,
     /// Two plans differ in their tables, or a feed wasn't opened under its plan.

@@ -3,7 +3,8 @@ use Rattle.std.proofs.Common.{◌≡◌, ◌==◌, ◌&&◌, ℕ, zero, suc, ◌
 use Rattle.std.proofs.lemmas.Bool.{cases_lt, eq-eqb, le-ltb, lt-ltb}
 use Rattle.std.proofs.lemmas.List.{length-map, length-take-le, take_all}
 use Rattle.std.proofs.lemmas.Option.{same_Some, none-some, slice_get-map, slice_get_within}
-use Rattle.std.specs.Prelude.{IsTrue, IfSome, IfErr, nat_lt}
+use Rattle.std.proofs.lemmas.Bool.{false≢true}
+use Rattle.std.specs.Prelude.{IsOk, IsTrue, IfSome, IfErr, nat_lt}
 use Rattle.std.specs.Option.{option_map}
 use Rattle.list_laws.proofs.Places.{slice_get-take}
 use Rattle.filter_rule.specs.Extending.{IsExtended}
@@ -28,10 +29,11 @@ use Rattle.added_laws.specs.Extended.{marks_of_more, extended_state, extended_st
 use Rattle.added_laws.specs.GoingOn.{GoesOnTo, GoesOn, IsOfOtherHistory, GoOnBefore, StopsAt}
 use Rattle.added_laws.specs.Laws.{ExtendedStatesAreSound, FeedsThatGoOnArentStopped}
 use Rattle.added_laws.proofs.Boards.{becomes, as_many}
-use Rattle.apply_core.specs.Adding.{AreTaken, IsRefusedAdd}
+use Rattle.apply_core.specs.Adding.{MayWantMemory, AreTaken, IsRefusedAdd}
 use Rattle.apply_core.specs.Feeds.{AreWholeFeeds}
 use Rattle.apply_core.specs.Private.Adding.{fault_of_feed, IsNotAgain, AreAgain, IsStoppedBy, IsExtendedBy, FeedsExtend, AreExtendedUpTo, AreStopped}
 use Rattle.apply_core.specs.Private.StreamState.{IsStream}
+use Rattle.apply_core.proofs.StepsComeNearer.{ok_prefix-most}
 
 -- ---- lists
 
@@ -58,26 +60,32 @@ fewer_by a n none = elim (cases_lt n a) [
 
 -- ---- one group
 
-not_again : (tables : ℕ) (feed : FeedValue) (old : PreparedValue) (number s : ℕ) (fault : FeedFault) → IfSome (meant_of fault) (λ f. prepared_at feed number ≡ Err f) → IsNotAgain tables feed old number s (fault_of_feed fault)
-not_again tables feed old number s faults.Memory h = tt
-not_again tables feed old number s faults.FeedTooLong h = h
-not_again tables feed old number s faults.Frame h = h
-not_again tables feed old number s (faults.Event fault) h = h
-not_again tables feed old number s (faults.BadPosition fault) h = h
-not_again tables feed old number s faults.NoPosition h = h
-not_again tables feed old number s (faults.Diverged group) h = h
-not_again tables feed old number s faults.FieldsDiffer h = h
-not_again tables feed old number s faults.NoFields h = h
-not_again tables feed old number s faults.ColumnCount h = h
-not_again tables feed old number s faults.OpenAtEnd h = h
-not_again tables feed old number s faults.ShardMissing h = h
-not_again tables feed old number s faults.Misplaced h = h
-not_again tables feed old number s (faults.BadRow group table cause) h = h
-not_again tables feed old number s (faults.NoGroup groups) h = h
+not_again : (tables : ℕ) (feed : FeedValue) (old : PreparedValue) (number s : ℕ) (fault : FeedFault) → IfSome (meant_of fault) (λ f. prepared_at feed number ≡ Err f) → (fault ≡ faults.Memory → IsOk (prepared_at feed number))
+    → IsNotAgain tables feed old number s (fault_of_feed fault)
+not_again tables feed old number s faults.Memory h wanted = wanted refl
+not_again tables feed old number s faults.FeedTooLong h wanted = h
+not_again tables feed old number s faults.Frame h wanted = h
+not_again tables feed old number s (faults.Event fault) h wanted = h
+not_again tables feed old number s (faults.BadPosition fault) h wanted = h
+not_again tables feed old number s faults.NoPosition h wanted = h
+not_again tables feed old number s (faults.Diverged group) h wanted = h
+not_again tables feed old number s faults.FieldsDiffer h wanted = h
+not_again tables feed old number s faults.NoFields h wanted = h
+not_again tables feed old number s faults.ColumnCount h wanted = h
+not_again tables feed old number s faults.OpenAtEnd h wanted = h
+not_again tables feed old number s faults.ShardMissing h wanted = h
+not_again tables feed old number s faults.Misplaced h wanted = h
+not_again tables feed old number s (faults.BadRow group table cause) h wanted = h
+not_again tables feed old number s (faults.NoGroup groups) h wanted = h
 
 pub not_again_by : (tables : ℕ) (feed : FeedValue) (old : PreparedValue) (number s : ℕ) (fault : FeedFault) (found : AddFault) → found ≡ fault_of_feed fault → IfSome (meant_of fault) (λ f. prepared_at feed number ≡ Err f)
-    → IsNotAgain tables feed old number s found
-not_again_by tables feed old number s fault found is h = subst (IsNotAgain tables feed old number s) (sym is) (not_again tables feed old number s fault h)
+    → (fault ≡ faults.Memory → IsOk (prepared_at feed number)) → IsNotAgain tables feed old number s found
+not_again_by tables feed old number s fault found is h wanted = subst (IsNotAgain tables feed old number s) (sym is) (not_again tables feed old number s fault h wanted)
+
+-- what is answered, where something is
+what_is_answered : {A E : Type 0} (r : Result A E) → IsOk r → (x : A) × (r ≡ Ok x)
+what_is_answered (Ok x) h = (x, refl)
+what_is_answered (Err e) h = absurd (false≢true h)
 
 -- ---- one stream
 
@@ -114,6 +122,10 @@ module _ (feed : FeedValue) (state : State) (i : ℕ) (groups : List PreparedVal
       are = is ∙ more.are;
     }
 
+  -- memory may be wanted for the next group, where it is sound
+  pub wanted_next : state.applied ≤ length feed.groups → (group : PreparedValue) → prepared_at feed (i + 1) ≡ Ok group → MayWantMemory feed state
+  wanted_next enough group prepared_is = record { enough = enough; number = i; before = again.go_on; next = inr (slice_get_within (sound_groups feed) i group (there group prepared_is)) }
+
   pub stopped : (old : PreparedValue) (s : ℕ) (fault : AddFault) → i < state.applied → state.applied ≤ length feed.groups → slice_get state.list i ≡ Some old
       → IsNotAgain (length state.plan.tables) feed old (i + 1) s fault → IsStoppedBy s feed state fault
   stopped old s (HistoriesDiffer t) less enough here h = (
@@ -124,10 +136,22 @@ module _ (feed : FeedValue) (state : State) (i : ℕ) (groups : List PreparedVal
       let stops : StopsBefore feed state.applied fault = first_stops feed i state.applied groups fault inside less h first in
       let ends : length (sound_groups feed) ≡ i = front_ends (map (prepared feed.plan) feed.groups) i fault again.go_on.sound (there_at_number feed i (Err fault) inside h) in
       record { enough = enough; inside = stops.inside; before = subst (GoesOnTo feed state) (sym ends) again.go_on; first = stops.first }
-  stopped old s Memory less enough here h = tt
+  stopped old s Memory less enough here h =
+      let one : (group : PreparedValue) × (prepared_at feed (i + 1) ≡ Ok group) = what_is_answered (prepared_at feed (i + 1)) h in
+      wanted_next enough one.0 one.1
   stopped old s FeedCount less enough here h = h
   stopped old s PlanNotExtended less enough here h = h
   stopped old s WrongPlan less enough here h = h
+
+-- and where all groups go on
+pub wanted_behind : (feed : FeedValue) (state : State) → GoesOn feed state → MayWantMemory feed state
+wanted_behind feed state goes = record { enough = most; number = state.applied; before = goes; next = inl (le_refl state.applied) }
+  where
+    most : state.applied ≤ length feed.groups
+    most =
+        let sound : length (sound_groups feed) ≤ length (map (prepared feed.plan) feed.groups) = ok_prefix-most (map (prepared feed.plan) feed.groups) in
+        let long : length (map (prepared feed.plan) feed.groups) ≡ length feed.groups = length-map feed.groups (prepared feed.plan) in
+        omega (arith, goes.sound, sound, long)
 
 -- the mark of the first table that isn't done is its key, or none
 at_current : (m : Marks) → mark_of m m.done ≡ current_mark m.upto
@@ -215,7 +239,7 @@ module _ (feeds : List FeedValue) (states : List State) (s : ℕ) (feed : FeedVa
   stops_here (HistoriesDiffer t) stop =
       subst (StopsAt IsOfOtherHistory feeds states) (sym stop.0) (record { feed = feed; state = state; fed = fed; here = here; stops = stop.1; before = h.before })
   stops_here (Unsound fault) stop = (s, record { feed = feed; state = state; fed = fed; here = here; stops = stop; before = h.before })
-  stops_here Memory stop = tt
+  stops_here Memory stop = (s, record { feed = feed; state = state; fed = fed; here = here; stops = stop; before = h.before })
   stops_here FeedCount stop = stop
   stops_here PlanNotExtended stop = stop
   stops_here WrongPlan stop = stop
@@ -250,7 +274,7 @@ module _ (plans : List PlanValue) (feeds : List FeedValue) (board : Meaning) (ta
   pub stopped_refused : (fault : AddFault) → AreStopped feeds board.streams fault → IsRefusedAdd plans feeds board fault
   stopped_refused (HistoriesDiffer s) h = (taken, h)
   stopped_refused (Unsound fault) h = (taken, h)
-  stopped_refused Memory h = taken
+  stopped_refused Memory h = (taken, h)
   stopped_refused FeedCount h = absurd h
   stopped_refused PlanNotExtended h = absurd h
   stopped_refused WrongPlan h = absurd h
@@ -261,10 +285,7 @@ module _ (plans : List PlanValue) (feeds : List FeedValue) (board : Meaning) (ta
 
   -- plans and feeds that are taken aren't refused by these
   pub memory_alone : FeedsThatGoOnArentStopped → MayExtend feeds board → (fault : AddFault) → IsRefusedAdd plans feeds board fault → fault ≡ Memory
-  memory_alone go_on may FeedCount h = absurd (h (
-    taken.extended.count ∙ length-map board.streams (λ (state : State). state.plan),
-    sym (length-map feeds plan_of) ∙ ap length taken.fed.opened,
-  ))
+  memory_alone go_on may FeedCount h = absurd (h (sym (length-map feeds plan_of) ∙ ap length taken.fed.opened))
   memory_alone go_on may PlanNotExtended h = absurd (h.1 taken.extended)
   memory_alone go_on may WrongPlan h = absurd (h.2 taken.fed)
   memory_alone go_on may (HistoriesDiffer s) h = absurd ((go_on h.1.feed h.1.state (may.goes_on s h.1.feed h.1.state h.1.fed h.1.here)).0 h.1.stops)

@@ -48,7 +48,7 @@ module _ (ties : Ties) (said : SavedBoardsAreSaidOfMore) (one_thing : Checkpoint
   says : IsCheckpoint (plans_of_feeds feeds) bytes kept
   says =
       subst (λ (bs : List ℕ). IsCheckpoint (plans_of_feeds feeds) bs kept) (sym of.written)
-      (said board (plans_of_feeds feeds) of.well of.lawful of.within (subst (λ (bs : List ℕ). length bs < 2 ^ 64) of.written long) of.histories.extended)
+      (said board (plans_of_feeds feeds) of.lawful of.within (subst (λ (bs : List ℕ). length bs < 2 ^ 64) of.written long) of.histories.extended)
 
   kept_is : (saved : List SavedStream) → IsCheckpoint (plans_of_feeds feeds) bytes saved → saved ≡ kept
   kept_is saved check = one_thing (plans_of_feeds feeds) bytes saved kept (subst (AllByRecursion IsPlan) (sym of.fed.opened) well) check says

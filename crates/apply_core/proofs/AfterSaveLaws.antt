@@ -35,6 +35,7 @@ use Rattle.apply_core.specs.Feeds.{AreWholeFeeds, AreFed}
 use Rattle.apply_core.specs.Private.Resuming.{AreOthers, HaveClash, IsUnfed}
 use Rattle.apply_core.specs.Private.Together.{AreTogether}
 use Rattle.apply_core.specs.Resuming.{IsResumed, IsRefusedResume, GivesBoard, IsSavedOf}
+use Rattle.apply_core.proofs.ResumeLaws.{resumed_known}
 
 -- ---- streams that are apart don't clash
 
@@ -133,7 +134,7 @@ module _ (ties : Ties) (said : SavedBoardsAreSaid) (one_thing : CheckpointsSayOn
   says =
       subst (λ (ps : List PlanValue). IsCheckpoint ps bytes (saved_of board)) (sym of.planned)
       (subst (λ (bs : List ℕ). IsCheckpoint (plans_of_board board) bs (saved_of board)) (sym of.written)
-      (said of.version board (subst (AllByRecursion IsPlan) of.planned well) of.lawful of.within (subst (λ (bs : List ℕ). length bs < 2 ^ 64) of.written long)))
+      (said of.version board of.lawful of.within (subst (λ (bs : List ℕ). length bs < 2 ^ 64) of.written long)))
 
   kept_is : (saved : List SavedStream) → IsCheckpoint (plans_of_feeds feeds) bytes saved → saved ≡ saved_of board
   kept_is saved check = one_thing plans bytes saved (saved_of board) well (subst (λ (ps : List PlanValue). IsCheckpoint ps bytes saved) (plans_are plans feeds bytes board of) check) says
@@ -240,7 +241,7 @@ made_board feeds saved streams rows are agree together =
 
 pub others_refused : (feeds : List FeedValue) (saved : List SavedStream) (states : List State) (fault : ResumeFault) → AreResumed feeds saved states → AreOthers saved states fault → IsRefusedSaved feeds saved fault
 others_refused feeds saved states (CheckpointDiffers s key) are h = record { states = states; resumed = are; first = h.0; least = h.1 }
-others_refused feeds saved states Memory are h = tt
+others_refused feeds saved states Memory are h = resumed_known feeds saved states are
 others_refused feeds saved states FeedCount are h = h
 others_refused feeds saved states WrongPlan are h = h
 others_refused feeds saved states CheckpointBad are h = h
@@ -251,7 +252,7 @@ others_refused feeds saved states (OwnedByOther key owner) are h = absurd h
 pub clash_refused : (feeds : List FeedValue) (saved : List SavedStream) (states : List State) (fault : ResumeFault) → AreResumed feeds saved states → AtEachPlace AgreesWith saved states → HaveClash states fault
     → IsRefusedSaved feeds saved fault
 clash_refused feeds saved states (OwnedByOther key owner) are agree h = record { states = states; resumed = are; agree = agree; clash = h }
-clash_refused feeds saved states Memory are agree h = tt
+clash_refused feeds saved states Memory are agree h = resumed_known feeds saved states are
 clash_refused feeds saved states FeedCount are agree h = h
 clash_refused feeds saved states WrongPlan are agree h = h
 clash_refused feeds saved states CheckpointBad are agree h = h

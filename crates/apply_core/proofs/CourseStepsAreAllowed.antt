@@ -18,7 +18,7 @@ use Rattle.source_feed.specs.GroupOrder.{IsProperPart}
 use Rattle.source_feed.specs.GroupValue.{Position}
 use Rattle.source_feed.specs.Planned.{PlannedGroupValue, FeedValue, IsFeed}
 use Rattle.source_feed.specs.SoundGroups.{sound_groups}
-use Rattle.source_feed.specs.Touches.{TouchValue, PreparedValue, touches_of, prepared, prepared_if, prepared_at}
+use Rattle.source_feed.specs.Touches.{TouchValue, PreparedValue, touches_of, group_at, prepared, prepared_if, prepared_at}
 use Rattle.board_laws.specs.declared.refusal.Refusal.{Refusal}
 use Rattle.board_laws.specs.declared.refusal.Refusal.TheVariants.{NoStream, WrongPlan, Diverged, Core, OwnedByOther, FeedCount, Memory}
 use Rattle.board_laws.specs.Meaning.{State, Meaning}
@@ -51,7 +51,7 @@ abbrev of_touches : (feed : FeedValue) → PlannedGroupValue → List TouchValue
 of_touches feed planned touches = record { plan = feed.plan; number = planned.number; position = planned.position; touches = touches }
 
 -- a prepared group is of the feed's plan, and has the number and the position of the feed's group
-record IsOf (feed : FeedValue) (planned : PlannedGroupValue) (group : PreparedValue) : Type 0 where
+pub record IsOf (feed : FeedValue) (planned : PlannedGroupValue) (group : PreparedValue) : Type 0 where
   pub plan : group.plan ≡ feed.plan
   pub number : group.number ≡ planned.number
   pub position : group.position ≡ planned.position
@@ -78,6 +78,14 @@ at_number feed i r less h = by (slice_get feed.groups i) refl h
     by : (o : Option PlannedGroupValue) → slice_get feed.groups i ≡ o → prepared_if feed o ≡ r → (planned : PlannedGroupValue) × (slice_get feed.groups i ≡ Some planned) × (prepared feed.plan planned ≡ r)
     by None e h = absurd (missing feed.groups i less e)
     by (Some planned) e h = (planned, e, h)
+
+-- which is of the feed's plan
+pub prepared-plan : (feed : FeedValue) (n : ℕ) (group : PreparedValue) → prepared_at feed n ≡ good group → group.plan ≡ feed.plan
+prepared-plan feed n group h = by (group_at feed n) h
+  where
+    by : (o : Option PlannedGroupValue) → prepared_if feed o ≡ good group → group.plan ≡ feed.plan
+    by None e = absurd (none-some group (ap result_ok e))
+    by (Some planned) e = (of_group feed planned group e).plan
 
 abbrev Results : Type 0
 Results = List (Result PreparedValue FeedFault)

@@ -26,11 +26,12 @@ use Rattle.board_laws.specs.StateAfter.{state_after}
 use Rattle.board_laws.specs.Step.{IsRefusedFor, IsClash}
 use Rattle.board_laws.specs.Reading.{HasFeed}
 use Rattle.board_laws.specs.Runs.{IsTouchedIn}
-use Rattle.board_laws.specs.Schedule.{Reply, IsEventStep, IsUnprepared, IsReplyBy, IsReply}
+use Rattle.board_laws.specs.Schedule.{Reply, IsEventStep, IsUnprepared, WantsMemory, IsReplyBy, IsReply}
 use Rattle.board_laws.proofs.Lookups.{Ties}
 use Rattle.board_laws.proofs.FeedLaws.{run-reads}
+use Rattle.board_laws.proofs.Following.{feed_of-there}
 use Rattle.apply_core.specs.Ended.{IsFedBoard}
-use Rattle.apply_core.specs.RunRefused.{HasUnsound, TouchesKey, BothTouch}
+use Rattle.apply_core.specs.RunRefused.{HasUnsound, TouchesKey, BothTouch, WantsToGoOn}
 use Rattle.apply_core.specs.Courses.{LeadsOn, left_by, left_on}
 use Rattle.apply_core.specs.Private.AllowedSteps.{EndsStream}
 use Rattle.apply_core.proofs.StreamsStillRead.{cut_front, read_touched, IsInTheWay, in_the_way, reads-on}
@@ -44,7 +45,7 @@ module _ (feeds : List FeedValue) (old : Meaning) (fed : IsFedBoard feeds old) (
 
   module _ (leads : LeadsOn (standing_of state) (length has.feed.groups) was is step) where
     reply-of : (reply : Reply) (new : Meaning) → IsReply feeds old (s, step) reply new → IsReplyBy has.feed old s step reply new
-    reply-of reply new h = MatchOption-at_some _ (λ feed. IsReplyBy feed old s step reply new) has.feed has.fed h
+    reply-of reply new h = MatchOption-at_some _ (λ feed. IsReplyBy feed old s step reply new) has.feed (feed_of-there feeds old s state has.feed here has.fed) h
 
     hinders : (refusal : Refusal) (new : Meaning) → IsEventStep has.feed old s step (Err refusal) new → Hinders refusal
     hinders refusal new h =
@@ -100,6 +101,13 @@ module _ (feeds : List FeedValue) (old : Meaning) (fed : IsFedBoard feeds old) (
     ends-step new (Refused (OwnedByOther key owner)) h = meets key owner new (reply-of (Err (Refused (OwnedByOther key owner))) new h)
     ends-step new (Refused FeedCount) h = hinders FeedCount new (reply-of (Err (Refused FeedCount)) new h)
     ends-step new (Refused Memory) h = tt
+
+    -- memory is wanted for the step itself, on the board as it was
+    pub wants-step : (new : Meaning) → IsReply feeds old (s, step) (Err (Refused Memory)) new → WantsToGoOn feeds new s
+    wants-step new h =
+        let wants : WantsMemory has.feed old s step × (new ≡ old) = reply-of (Err (Refused Memory)) new h in
+        subst (λ (board : Meaning). WantsToGoOn feeds board s) (sym wants.1)
+        (record { feed = has.feed; fed = has.fed; state = state; stream = here; chunks_before = was; chunks_then = is; step = step; leads = leads; wants = wants.0 })
 
     -- a step that is made leaves a board that reads its feeds, the other streams as they were, and less of the course
     module _ (ties : Ties) (new : Meaning) (answer : Answer) (h : IsReply feeds old (s, step) (Ok answer) new) where

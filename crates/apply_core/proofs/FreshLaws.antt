@@ -2,8 +2,10 @@
 use Rattle.std.proofs.Common.{◌≡◌, ℕ, ◌+◌, ◌<◌, ◌≤◌, ◌⊎◌, inl, inr, List, [], length, map, Some, slice_get, sym, ap, subst, ◌∙◌, arith}
 use Rattle.std.proofs.Math.Nat.{eq-or-lt_of_le}
 use Rattle.std.proofs.lemmas.Option.{slice_get-map, same_Some, slice_get_within}
+use Rattle.std.specs.List.{AllByRecursion}
 use Rattle.std.specs.Option.{option_map}
 use Rattle.filter_rule.specs.PlanValue.{PlanValue}
+use Rattle.filter_rule.specs.WellFormed.{IsPlan}
 use Rattle.std.proofs.lemmas.List.{length-map}
 use Rattle.board_laws.specs.Meaning.{State, TargetRows}
 use Rattle.board_laws.specs.Lawful.{start_of, IsLawful}
@@ -33,10 +35,10 @@ module _ (plans : List PlanValue) (first : PlanValue) where
       at i p e = let inside : i < length plans = slice_get_within plans i p e in each i p (omega (arith, inside, whole)) e
 
 -- the board of streams that are fresh, and of no rows
-pub fresh-board : {X : Type 0} (f : X → PlanValue) → FreshBoardsAreLawful → (xs : List X) → 1 ≤ length xs → length xs ≤ 64 → HaveSameTables (map f xs)
+pub fresh-board : {X : Type 0} (f : X → PlanValue) → FreshBoardsAreLawful → (xs : List X) → 1 ≤ length xs → length xs ≤ 64 → AllByRecursion IsPlan (map f xs) → HaveSameTables (map f xs)
     → (streams : List State) (rows : TargetRows) → streams ≡ map start_of (map f xs) → rows ≡ []
     → IsLawful (record { streams = streams; rows = rows })
-fresh-board f lawful xs some few same streams rows are none =
+fresh-board f lawful xs some few well same streams rows are none =
     subst (λ (ss : List State). IsLawful (record { streams = ss; rows = rows })) (sym are)
     (subst (λ (rs : TargetRows). IsLawful (record { streams = map start_of (map f xs); rows = rs })) (sym none)
-    (lawful (map f xs) (subst (λ n. 1 ≤ n) (sym (length-map xs f)) some) (subst (λ n. n ≤ 64) (sym (length-map xs f)) few) same))
+    (lawful (map f xs) (subst (λ n. 1 ≤ n) (sym (length-map xs f)) some) (subst (λ n. n ≤ 64) (sym (length-map xs f)) few) well same))

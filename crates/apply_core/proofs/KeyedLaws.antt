@@ -7,7 +7,6 @@ use Rattle.std.specs.Result.{result_ok}
 use Rattle.std.specs.declared.cmp.Ordering.{Ordering}
 use Rattle.std.specs.declared.cmp.Ordering.TheVariants.{Less, Equal, Greater}
 use Rattle.filter_rule.specs.PlanValue.{PlanValue}
-use Rattle.filter_rule.specs.WellFormed.{IsPlan}
 use Rattle.pk_copy.specs.KeyOfKept.{key_of_kept, KeysAreKept}
 use Rattle.pk_copy.specs.KeyOrder.{key_cmp}
 use Rattle.pk_copy.specs.KeyValue.{KeyValue}
@@ -36,10 +35,10 @@ one_key plan x y p q table row =
 -- ---- the rows of a cut
 
 -- what is found is the cut of a sound state
-pub found_keyed : KeysAreKept → Ties → (state : State) → IsPlan state.plan → IsSoundState state → (rows : ImageRows) → rows ≡ cut_rows state → AllByRecursion (IsKeyed state.plan) rows
-found_keyed kept ties state well sound rows is =
+pub found_keyed : KeysAreKept → Ties → (state : State) → IsSoundState state → (rows : ImageRows) → rows ≡ cut_rows state → AllByRecursion (IsKeyed state.plan) rows
+found_keyed kept ties state sound rows is =
     subst (AllByRecursion (IsKeyed state.plan)) (sym is)
-    (cut_keyed kept ties state well sound)
+    (cut_keyed kept ties state sound)
 
 -- ---- the rows of a checkpoint
 

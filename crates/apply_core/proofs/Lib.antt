@@ -7,6 +7,7 @@ pub mod AddLaws
 pub mod ApplyLaws
 pub mod CopyLaws
 pub mod ScheduleLaws
+pub mod FedLaws
 pub mod ShowLaws
 pub mod TogetherLaws
 pub mod BesideLaws
@@ -24,6 +25,7 @@ pub mod AfterSaveLaws
 pub mod AfterAddingLaws
 pub mod PhasesTellNumbers
 pub mod EndedBoardsHaveUnions
+pub mod SoundEnds
 pub mod StepsComeNearer
 pub mod CourseStepsAreAllowed
 pub mod StreamsStillRead

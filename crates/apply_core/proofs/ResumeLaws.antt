@@ -43,13 +43,13 @@ use Rattle.checkpoint_laws.specs.declared.fault.ResumeFault.{ResumeFault}
 use Rattle.checkpoint_laws.specs.declared.fault.ResumeFault.TheVariants.{FeedCount, WrongPlan, CheckpointBad, PositionUnknown, Unsound, CheckpointDiffers, OwnedByOther, Memory}
 use Rattle.checkpoint_laws.specs.Saved.{SavedStream}
 use Rattle.checkpoint_laws.specs.Said.{IsSaved}
-use Rattle.checkpoint_laws.specs.Resumed.{IsKnown, IsResumedAt, AgreesWith, AtEachPlace}
+use Rattle.checkpoint_laws.specs.Resumed.{IsKnown, IsResumedAt, AreResumed, AgreesWith, AtEachPlace}
 use Rattle.checkpoint_laws.specs.Refused.{plans_of_feeds, IsFirstOff, IsLeastDifference, IsRefusedSaved}
 use Rattle.checkpoint_laws.proofs.OwnRows.{cut-at, cut-rising}
 use Rattle.checkpoint_laws.proofs.ResumedLaws.{at_same_place, resumed-sound}
 use Rattle.apply_core.specs.Feeds.{AreWholeFeeds}
 use Rattle.apply_core.specs.Private.Changes.{IsOfTable, found_row, put_row}
-use Rattle.apply_core.specs.Private.Resuming.{AtEachOfThree, IsNumberOf, AreNumbers, AreSaid, IsUnsoundAt, refusal_of_feed, AreOthers, AllRise}
+use Rattle.apply_core.specs.Private.Resuming.{AtEachOfThree, AreSaid, IsUnsoundAt, refusal_of_feed, AreOthers, AllRise}
 use Rattle.apply_core.specs.Private.StreamState.{IsStream}
 use Rattle.apply_core.specs.Private.Together.{AreTogether, ArePutsOfCut}
 use Rattle.apply_core.proofs.CopyLaws.{passed_of_tables}
@@ -74,33 +74,32 @@ of_three_more {A} {B} {C} P xs ys zs new n x y z long here there is fact before 
 one_longer : {A : Type 0} (xs new : List A) (x : A) (n : ℕ) → length xs ≡ n → new ≡ xs ++ x ∷ [] → length new ≡ n + 1
 one_longer xs new x n long is = ap length is ∙ length-append xs (x ∷ []) ∙ ap (λ m. m + 1) long
 
--- ---- numbers
+-- ---- positions
 
-pub number_more : (feeds : List FeedValue) (saved : List SavedStream) (n : ℕ) (numbers new : List ℕ) (feed : FeedValue) (one : SavedStream) (number : ℕ) → slice_get feeds n ≡ Some feed → slice_get saved n ≡ Some one
-    → IsNumberAt feed one.position number → new ≡ numbers ++ number ∷ [] → AreNumbers feeds saved n numbers → AreNumbers feeds saved (n + 1) new
-number_more feeds saved n numbers new feed one number here there known is h = record {
-  count = one_longer numbers new number n h.count is;
-  each_stream = of_three_more IsNumberOf feeds saved numbers new n feed one number h.count here there is known h.each_stream;
-}
+-- the positions of the first n streams are known
+abbrev KnownBefore : List FeedValue → List SavedStream → ℕ → Type 0
+KnownBefore feeds saved n = (t : ℕ) (feed : FeedValue) (one : SavedStream) → t < n → slice_get feeds t ≡ Some feed → slice_get saved t ≡ Some one → IsKnown feed one
 
-pub no_numbers : (feeds : List FeedValue) (saved : List SavedStream) → AreNumbers feeds saved 0 []
-no_numbers feeds saved = record { count = refl; each_stream = λ s x y z p q r. absurd (none-some z r) }
+module _ (feeds : List FeedValue) (saved : List SavedStream) (n : ℕ) (feed : FeedValue) (one : SavedStream) (here : slice_get feeds n ≡ Some feed) (there : slice_get saved n ≡ Some one) where
+  pub unknown_there : (¬ IsKnown feed one) → KnownBefore feeds saved n → IsFirstOff IsKnown feeds saved n
+  unknown_there none before = record { one = feed; other = one; here = here; there = there; fails = none; before = before }
 
-pub no_number : (feeds : List FeedValue) (saved : List SavedStream) (n : ℕ) (numbers : List ℕ) (feed : FeedValue) (one : SavedStream) → slice_get feeds n ≡ Some feed → slice_get saved n ≡ Some one
-    → ((number : ℕ) → ¬ IsNumberAt feed one.position number) → AreNumbers feeds saved n numbers → IsFirstOff IsKnown feeds saved n
-no_number feeds saved n numbers feed one here there none h = record {
-  one = feed;
-  other = one;
-  here = here;
-  there = there;
-  fails = λ known. none known.0 known.1;
-  before = λ t x y less p q. let number = place_of numbers t (subst (λ m. t < m) (sym h.count) less) in (number.0, h.each_stream t x y number.0 p q number.1);
-}
+  pub known_more : IsKnown feed one → KnownBefore feeds saved n → KnownBefore feeds saved (n + 1)
+  known_more known before t x y less p q = elim (cases_lt t n) [
+    | inl earlier ↦ before t x y earlier p q
+    | inr behind ↦ (
+        let at : n ≡ t = omega (arith, less, behind) in
+        let of_feed : feed ≡ x = same_Some feed x (sym here ∙ ap (slice_get feeds) at ∙ p) in
+        let of_one : one ≡ y = same_Some one y (sym there ∙ ap (slice_get saved) at ∙ q) in
+        subst (λ (z : FeedValue). IsKnown z y) of_feed (subst (IsKnown feed) of_one known))
+  ]
 
-all_known : (feeds : List FeedValue) (saved : List SavedStream) (numbers : List ℕ) → AreNumbers feeds saved (length feeds) numbers → AtEachPlace IsKnown feeds saved
-all_known feeds saved numbers h s x y p q =
-    let number = place_of numbers s (subst (λ m. s < m) (sym h.count) (slice_get_within feeds s x p)) in
-    (number.0, h.each_stream s x y number.0 p q number.1)
+-- streams that stand where a checkpoint says have known positions
+pub resumed_known : (feeds : List FeedValue) (saved : List SavedStream) (states : List State) → AreResumed feeds saved states → AtEachPlace IsKnown feeds saved
+resumed_known feeds saved states are s feed one here there =
+    let state : (state : State) × (slice_get states s ≡ Some state) = at_same_place feeds states s feed (sym are.count) here in
+    let at : IsResumedAt feed one state.0 = are.each_stream s feed one state.0 here there state.1 in
+    (at.number, at.known)
 
 -- ---- streams
 
@@ -158,10 +157,10 @@ stream_more feeds saved n states new feed one state here there at is h = record 
 pub said_long : (feeds : List FeedValue) (saved : List SavedStream) → AreSaid feeds saved → length saved ≡ length feeds
 said_long feeds saved said = said.is.same_count ∙ length-map feeds (λ (feed : FeedValue). feed.plan)
 
-pub stops_at : (feeds : List FeedValue) (saved : List SavedStream) (n : ℕ) (numbers : List ℕ) (states : List State) (feed : FeedValue) (one : SavedStream) → AreWholeFeeds feeds → AreNumbers feeds saved (length feeds) numbers
+pub stops_at : (feeds : List FeedValue) (saved : List SavedStream) (n : ℕ) (states : List State) (feed : FeedValue) (one : SavedStream) → AreWholeFeeds feeds → AtEachPlace IsKnown feeds saved
     → slice_get feeds n ≡ Some feed → slice_get saved n ≡ Some one → AreFirstResumed feeds saved n states → (fault : ResumeFault) → IsUnsoundAt feed one fault → IsRefusedSaved feeds saved fault
-stops_at feeds saved n numbers states feed one whole known here there h (Unsound fault) unsound = record {
-  known = all_known feeds saved numbers known;
+stops_at feeds saved n states feed one whole known here there h (Unsound fault) unsound = record {
+  known = known;
   stream = n;
   first = record {
     one = feed;
@@ -177,13 +176,13 @@ stops_at feeds saved n numbers states feed one whole known here there h (Unsound
   };
   first_fault = unsound.1;
 }
-stops_at feeds saved n numbers states feed one whole known here there h Memory unsound = tt
-stops_at feeds saved n numbers states feed one whole known here there h FeedCount unsound = unsound
-stops_at feeds saved n numbers states feed one whole known here there h WrongPlan unsound = unsound
-stops_at feeds saved n numbers states feed one whole known here there h CheckpointBad unsound = unsound
-stops_at feeds saved n numbers states feed one whole known here there h (PositionUnknown s) unsound = absurd unsound
-stops_at feeds saved n numbers states feed one whole known here there h (CheckpointDiffers s key) unsound = absurd unsound
-stops_at feeds saved n numbers states feed one whole known here there h (OwnedByOther key owner) unsound = absurd unsound
+stops_at feeds saved n states feed one whole known here there h Memory unsound = known
+stops_at feeds saved n states feed one whole known here there h FeedCount unsound = unsound
+stops_at feeds saved n states feed one whole known here there h WrongPlan unsound = unsound
+stops_at feeds saved n states feed one whole known here there h CheckpointBad unsound = unsound
+stops_at feeds saved n states feed one whole known here there h (PositionUnknown s) unsound = absurd unsound
+stops_at feeds saved n states feed one whole known here there h (CheckpointDiffers s key) unsound = absurd unsound
+stops_at feeds saved n states feed one whole known here there h (OwnedByOther key owner) unsound = absurd unsound
 
 -- what can be said of a stream
 pub said_of : (feeds : List FeedValue) (saved : List SavedStream) → AreSaid feeds saved → (s : ℕ) (feed : FeedValue) (one : SavedStream) → slice_get feeds s ≡ Some feed → slice_get saved s ≡ Some one → IsSaved feed.plan one

@@ -3,17 +3,20 @@ use Rattle.std.proofs.Common.{◌≡◌, ℕ, suc, ◌+◌, ◌<◌, ◌⊎◌, 
 use Rattle.std.proofs.Math.Nat.{eq-or-lt_of_le}
 use Rattle.std.proofs.lemmas.List.{take_more}
 use Rattle.std.proofs.lemmas.Option.{slice_get-map, same_Some, none-some}
-use Rattle.std.specs.Prelude.{IfOk, OnOk, IsSomeAnd}
+use Rattle.std.specs.Prelude.{IfOk, OnOk, IsOk, IsSomeAnd}
 use Rattle.std.specs.Option.{option_map}
+use Rattle.std.specs.Result.{result_ok}
 use Rattle.filter_rule.specs.PlanValue.{PlanValue}
 use Rattle.stream_core.specs.declared.step.Step.{Step}
 use Rattle.stream_core.specs.declared.step.Step.TheVariants.{Offer, Advance, OpenAt, CopyRows, Close, Restart}
+use Rattle.source_feed.specs.declared.fault.FeedFault.{FeedFault}
 use Rattle.source_feed.specs.Planned.{FeedValue}
+use Rattle.source_feed.specs.Touches.{PreparedValue, prepared_at}
 use Rattle.board_laws.specs.declared.refusal.Refusal.{Refusal}
 use Rattle.board_laws.specs.declared.refusal.Refusal.TheVariants.{NoStream, WrongPlan, Diverged, Core, OwnedByOther, FeedCount, Memory}
 use Rattle.board_laws.specs.Meaning.{State, Meaning}
 use Rattle.board_laws.specs.Lawful.{start_of}
-use Rattle.board_laws.specs.Event.{Event}
+use Rattle.board_laws.specs.Event.{Event, offer}
 use Rattle.board_laws.specs.Reading.{AllReadTheirFeeds, HasFeed}
 use Rattle.board_laws.specs.RunLaws.{StreamsFollowTheirOwnSteps}
 use Rattle.board_laws.specs.Runs.{event_of_step}
@@ -39,8 +42,12 @@ module _ (feed : FeedValue) (old new : Meaning) (s : ℕ) (step : Step) (event :
       so : (o : Option Event) → o ≡ Some event → IsSomeAnd o (λ event. IsRefusedOn old s event Memory)
       so o is = subst (λ (o : Option Event). IsSomeAnd o (λ event. IsRefusedOn old s event Memory)) (sym is) h
 
+      sound : (r : Result PreparedValue FeedFault) → option_map offer (result_ok r) ≡ Some event → IsOk r
+      sound (Ok group) is = refl
+      sound (Err fault) is = absurd (none-some event is)
+
       wanted : (step : Step) → event_of_step feed step ≡ Some event → WantsMemory feed old s step
-      wanted (Offer n) is = tt
+      wanted (Offer n) is = sound (prepared_at feed n) is
       wanted Advance is = so (event_of_step feed Advance) is
       wanted (OpenAt m) is = so (event_of_step feed (OpenAt m)) is
       wanted (CopyRows c) is = so (event_of_step feed (CopyRows c)) is

@@ -218,7 +218,7 @@ module _ (ties : Ties) (feed : FeedValue) (state : State) (reads : ReadsFeed fee
 
 -- ---- what is left
 
-ok_prefix-most : {A E : Type 0} (xs : List (Result A E)) → length (ok_prefix xs) ≤ length xs
+pub ok_prefix-most : {A E : Type 0} (xs : List (Result A E)) → length (ok_prefix xs) ≤ length xs
 ok_prefix-most [] = omega arith
 ok_prefix-most (Ok x ∷ xs) = let rest : length (ok_prefix xs) ≤ length xs = ok_prefix-most xs in omega (arith, rest)
 ok_prefix-most (Err e ∷ xs) = omega arith

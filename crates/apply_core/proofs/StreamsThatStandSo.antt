@@ -10,18 +10,23 @@ use Rattle.stream_core.specs.declared.step.Step.{Step}
 use Rattle.stream_core.specs.Standing.{Standing}
 use Rattle.source_feed.specs.Planned.{FeedValue}
 use Rattle.board_laws.specs.declared.answer.Answer.{Answer}
+use Rattle.board_laws.specs.declared.refusal.Refusal.TheVariants.{NoStream, WrongPlan, Diverged, Core, OwnedByOther, FeedCount, Memory}
 use Rattle.board_laws.specs.declared.step_refusal.StepRefusal.{StepRefusal}
+use Rattle.board_laws.specs.declared.step_refusal.StepRefusal.TheVariants.{Unprepared, Refused}
 use Rattle.board_laws.specs.Meaning.{State, Meaning}
 use Rattle.board_laws.specs.Lawful.{standing_of}
 use Rattle.board_laws.specs.Reading.{HasFeed}
 use Rattle.board_laws.specs.Schedule.{IsReply}
 use Rattle.board_laws.proofs.Lookups.{Ties}
+use Rattle.apply_core.specs.declared.run_refusal.RunRefusal.{RunRefusal}
+use Rattle.apply_core.specs.declared.run_refusal.RunRefusal.TheVariants as runs
+use Rattle.apply_core.specs.RunRefused.{StopsWanting}
 use Rattle.apply_core.specs.Ended.{HasEnded, IsFedBoard, AreAsBefore}
 use Rattle.apply_core.specs.Courses.{LeadsOn, IsAtEnd, left_on}
-use Rattle.apply_core.specs.Private.AllowedSteps.{EndsStream}
+use Rattle.apply_core.specs.Private.AllowedSteps.{EndsStream, ended_as}
 use Rattle.apply_core.proofs.StepsComeNearer.{read-most}
 use Rattle.apply_core.proofs.CourseStepsAreAllowed.{ended-at}
-use Rattle.apply_core.proofs.CourseStepsOfBoards.{ends-step, step-fed, step-others, step-nearer}
+use Rattle.apply_core.proofs.CourseStepsOfBoards.{ends-step, wants-step, step-fed, step-others, step-nearer}
 
 -- a feed has a stream
 pub stream-there : (feeds : List FeedValue) (old : Meaning) (fed : IsFedBoard feeds old) (s : ℕ) → s < length feeds → slice_get old.streams s ≡ None → ⊥
@@ -67,6 +72,17 @@ module _ (feeds : List FeedValue) (old : Meaning) (fed : IsFedBoard feeds old) (
 
     pub stand-refused : (new : Meaning) (refusal : StepRefusal) → IsReply feeds old (s, step) (Err refusal) new → EndsStream feeds s refusal
     stand-refused new refusal h = ends-step feeds old fed s one.0 one.1 was is step leading new refusal h
+
+    -- and where memory ends the run the step wants it
+    pub stand-wants : (new : Meaning) (refusal : StepRefusal) (ended : RunRefusal) → ended_as s refusal ≡ Some ended → IsReply feeds old (s, step) (Err refusal) new → StopsWanting feeds new ended
+    stand-wants new (Unprepared fault) ended e h = subst (StopsWanting feeds new) (same_Some (runs.Unsound s fault) ended e) tt
+    stand-wants new (Refused NoStream) ended e h = absurd (none-some ended e)
+    stand-wants new (Refused WrongPlan) ended e h = absurd (none-some ended e)
+    stand-wants new (Refused Diverged) ended e h = absurd (none-some ended e)
+    stand-wants new (Refused (Core refusal)) ended e h = absurd (none-some ended e)
+    stand-wants new (Refused (OwnedByOther key owner)) ended e h = subst (StopsWanting feeds new) (same_Some (runs.OwnedByOther s key owner) ended e) tt
+    stand-wants new (Refused FeedCount) ended e h = absurd (none-some ended e)
+    stand-wants new (Refused Memory) ended e h = subst (StopsWanting feeds new) (same_Some runs.Memory ended e) (s, wants-step feeds old fed s one.0 one.1 was is step leading new h)
 
     module _ (ties : Ties) (new : Meaning) (answer : Answer) (h : IsReply feeds old (s, step) (Ok answer) new) where
       pub stand-fed : IsFedBoard feeds new

@@ -11,8 +11,8 @@ use Rattle.source_feed.specs.History.{KeptRow, kept_at}
 use Rattle.source_feed.specs.Planned.{FeedValue}
 use Rattle.source_feed.specs.SoundGroups.{sound_groups}
 use Rattle.board_laws.specs.Meaning.{State, Meaning}
-use Rattle.board_laws.specs.Lawful.{standing_of, IsLawful}
-use Rattle.board_laws.specs.Reading.{AllReadTheirFeeds}
+use Rattle.board_laws.specs.Lawful.{standing_of}
+pub use Rattle.board_laws.specs.FedBoards.{IsFedBoard}
 use Rattle.apply_core.specs.Shown.{all_rows}
 
 -- ---- the end of a feed
@@ -23,12 +23,6 @@ pub record HasEnded (feed : FeedValue) (state : State) : Type 0 where
   pub read : length state.list ≡ length feed.groups
   pub applied : state.applied ≡ length feed.groups
 
--- a lawful board with a stream for each feed, which reads that feed
-pub record IsFedBoard (feeds : List FeedValue) (board : Meaning) : Type 0 where
-  pub lawful : IsLawful board
-  pub count : length board.streams ≡ length feeds
-  pub reads : AllReadTheirFeeds feeds board
-
 -- stream s of a board has ended
 abbrev pub StreamHasEnded : List FeedValue → ℕ → Meaning → Type 0
 StreamHasEnded feeds s board = (feed : FeedValue) (state : State) → slice_get feeds s ≡ Some feed → slice_get board.streams s ≡ Some state → HasEnded feed state
@@ -36,6 +30,10 @@ StreamHasEnded feeds s board = (feed : FeedValue) (state : State) → slice_get 
 -- each stream of a board has ended
 abbrev pub AllHaveEnded : List FeedValue → Meaning → Type 0
 AllHaveEnded feeds board = (s : ℕ) (feed : FeedValue) (state : State) → slice_get feeds s ≡ Some feed → slice_get board.streams s ≡ Some state → HasEnded feed state
+
+-- all groups of each feed are sound
+abbrev pub AreSound : List FeedValue → Type 0
+AreSound feeds = (s : ℕ) (feed : FeedValue) → slice_get feeds s ≡ Some feed → length (sound_groups feed) ≡ length feed.groups
 
 -- ---- some streams alone
 
@@ -84,6 +82,10 @@ pub record IsRowsUnion (feeds : List FeedValue) (rows : DumpRowsValue) : Type 0 
 -- where all streams have ended, the rows of the target are the union of what the feeds keep
 abbrev pub EndedBoardsHaveTheUnion : Type 0
 EndedBoardsHaveTheUnion = (feeds : List FeedValue) (board : Meaning) → IsFedBoard feeds board → AllHaveEnded feeds board → IsRowsUnion feeds (all_rows board.rows)
+
+-- and all groups of the feeds are sound
+abbrev pub EndedFeedsAreSound : Type 0
+EndedFeedsAreSound = (feeds : List FeedValue) (board : Meaning) → IsFedBoard feeds board → AllHaveEnded feeds board → AreSound feeds
 
 -- there is one such list of rows
 abbrev pub UnionsAreOne : Type 0

@@ -1,9 +1,11 @@
 -- Plans and their feeds, as every call takes them that reads feeds, and why they aren't taken (this profile).
-use Rattle.std.specs.Prelude.{◌≡◌, ◌≢◌, ℕ, List, length, map, Some, slice_get}
+use Rattle.std.specs.Prelude.{◌≡◌, ◌≢◌, ℕ, List, length, map, Some, Err, slice_get}
 use Rattle.filter_rule.specs.PlanValue.{PlanValue}
 use Rattle.source_feed.specs.Planned.{FeedValue, IsFeed}
 use Rattle.board_laws.specs.declared.refusal.Refusal.{Refusal}
-use Rattle.board_laws.specs.declared.refusal.Refusal.TheVariants.{WrongPlan, FeedCount, Memory}
+use Rattle.board_laws.specs.declared.refusal.Refusal.TheVariants.{NoStream, WrongPlan, FeedCount, Memory}
+use Rattle.board_laws.specs.declared.step_refusal.StepRefusal.TheVariants.{Refused}
+use Rattle.board_laws.specs.Schedule.{Reply}
 use Rattle.apply_core.specs.Fresh.{HaveSameTables}
 
 -- every feed is whole
@@ -22,3 +24,12 @@ IsRefusedInput plans feeds FeedCount = length feeds ≢ length plans
 IsRefusedInput plans feeds WrongPlan = (length feeds ≡ length plans) × ¬ AreFed plans feeds
 IsRefusedInput plans feeds Memory = AreFed plans feeds
 IsRefusedInput plans feeds refusal = ⊥
+
+-- ---- a step of a stream that has its feed
+
+-- it isn't refused for the want of a stream or of a feed, nor by another plan
+abbrev pub IsOfOwnFeed : Reply → Type 0
+IsOfOwnFeed (Err (Refused NoStream)) = ⊥
+IsOfOwnFeed (Err (Refused FeedCount)) = ⊥
+IsOfOwnFeed (Err (Refused WrongPlan)) = ⊥
+IsOfOwnFeed reply = Unit {0}

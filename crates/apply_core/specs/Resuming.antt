@@ -1,8 +1,6 @@
 -- The board that plans, feeds and the bytes of a checkpoint make, and why there is none (this profile).
 use Rattle.std.specs.Prelude.{◌≡◌, ◌≢◌, ℕ, List, length, Result, Ok, Err}
-use Rattle.std.specs.List.{AllByRecursion}
 use Rattle.filter_rule.specs.PlanValue.{PlanValue}
-use Rattle.filter_rule.specs.WellFormed.{IsPlan}
 use Rattle.source_feed.specs.Planned.{FeedValue}
 use Rattle.board_laws.specs.Lawful.{IsLawful}
 use Rattle.board_laws.specs.Meaning.{Meaning}
@@ -54,12 +52,10 @@ GivesBoard board (Err fault) = fault ≡ Memory
 
 -- ---- a board that is saved, and resumed with more tables
 
--- The bytes are the checkpoint of a board under well-formed plans whose rows, keys and positions are within the limits;
--- these plans are those of the board with tables appended, and the feeds, which were opened under them, have the groups
--- that are applied.
+-- The bytes are the checkpoint of a board whose rows, keys and positions are within the limits; these plans are those of
+-- the board with tables appended, and the feeds, which were opened under them, have the groups that are applied.
 pub record IsSavedBefore (plans : List PlanValue) (feeds : List FeedValue) (bytes : List ℕ) (board : Meaning) : Type 0 where
   pub lawful : IsLawful board
-  pub well : AllByRecursion IsPlan (plans_of_board board)
   pub within : AreWithin board
   pub fed : AreFed plans feeds
   pub histories : AreOfSameHistories feeds board

@@ -7,7 +7,12 @@ use Rattle.source_feed.specs.declared.fault.FeedFault.{FeedFault}
 use Rattle.source_feed.specs.Planned.{PlannedGroupValue, FeedValue}
 use Rattle.source_feed.specs.SoundGroups.{sound_groups}
 use Rattle.source_feed.specs.Touches.{prepared}
+use Rattle.stream_core.specs.declared.step.Step.{Step}
+use Rattle.board_laws.specs.Lawful.{standing_of}
+use Rattle.board_laws.specs.Meaning.{State, Meaning}
 use Rattle.board_laws.specs.Runs.{IsTouchedIn}
+use Rattle.board_laws.specs.Schedule.{WantsMemory}
+use Rattle.apply_core.specs.Courses.{LeadsOn}
 use Rattle.apply_core.specs.Feeds.{AreFed}
 use Rattle.apply_core.specs.declared.run_refusal.RunRefusal.{RunRefusal}
 use Rattle.apply_core.specs.declared.run_refusal.RunRefusal.TheVariants.{FeedCount, WrongPlan, Unsound, OwnedByOther, Memory}
@@ -57,11 +62,32 @@ IsRefusedRun plans feeds FeedCount = length feeds ≢ length plans
 IsRefusedRun plans feeds WrongPlan = (length feeds ≡ length plans) × ¬ AreFed plans feeds
 IsRefusedRun plans feeds refusal = AreFed plans feeds × EndsRun feeds refusal
 
+-- memory is wanted for a step of stream s on its course; where that is an offer, the feed's next group is sound
+pub record WantsToGoOn (feeds : List FeedValue) (board : Meaning) (s : ℕ) : Type 0 where
+  pub feed : FeedValue
+  pub fed : slice_get feeds s ≡ Some feed
+  pub state : State
+  pub stream : slice_get board.streams s ≡ Some state
+  pub chunks_before : ℕ
+  pub chunks_then : ℕ
+  pub step : Step
+  pub leads : LeadsOn (standing_of state) (length feed.groups) chunks_before chunks_then step
+  pub wants : WantsMemory feed board s step
+
+-- the board that a refused run leaves, where memory ended it: some stream's next step wants it
+abbrev pub StopsWanting : List FeedValue → Meaning → RunRefusal → Type 0
+StopsWanting feeds board Memory = (s : ℕ) × WantsToGoOn feeds board s
+StopsWanting feeds board refusal = Unit {0}
+
 -- the stream that is refused, where it is one of them
 abbrev pub refused_stream : RunRefusal → Option ℕ
 refused_stream (Unsound stream fault) = Some stream
 refused_stream (OwnedByOther stream key owner) = Some stream
 refused_stream refusal = None
+
+-- if a stream is refused it is this one
+abbrev pub IsOfStream : ℕ → RunRefusal → Type 0
+IsOfStream s refusal = IfSome (refused_stream refusal) (λ t. t ≡ s)
 
 -- every lower stream can come to its feed's end: all groups of its feed are sound
 abbrev pub IsLowest : List FeedValue → RunRefusal → Type 0

@@ -84,7 +84,7 @@ fn fault_of(fault: FeedFault) -> AddFault
 }
 
 /// Group `number` of a feed, prepared, which is the old one on the first so many tables. Refused 90 where it isn't
-/// sound and 113 where it is another one. Any other error is want of memory.
+/// sound and 113 where it is another one. Any other error is want of memory, for a sound group.
 fn group_again<'h>(
     alloc: Global,
     feed: &Feed<'h>,
@@ -123,7 +123,7 @@ fn push_group<'h>(
 
 /// The first groups of a feed, prepared, as many as stream `s` has applied. Refused 113 where the feed has fewer,
 /// and else for the first of them that isn't sound, 90, or another one on the stream's tables, 113. Any other error
-/// is want of memory.
+/// is want of memory, before such a group.
 fn groups_again<'h>(
     alloc: Global,
     stream: &Stream<'h>,

@@ -9,7 +9,8 @@ ghost use Rattle.added_laws.specs.Extended.{AreExtended, extended_board, MayExte
 ghost use Rattle.added_laws.specs.Laws.{AddedTablesAreBare, AddedTablesAreToCopy, CutsStay};
 ghost use Rattle.added_laws.specs.declared.fault.AddFault.TheVariants.{Memory};
 ghost use Rattle.join_laws.specs.Compatible.{plans_of_board};
-ghost use Rattle.apply_core.specs.Adding.{HaveCounts, AreTaken, IsRefusedAdd};
+ghost use Rattle.apply_core.specs.Ended.{IsFedBoard};
+ghost use Rattle.apply_core.specs.Adding.{AreTaken, IsRefusedAdd};
 ghost use Rattle.apply_core.specs.Feeds.{AreWholeFeeds};
 ghost use Rattle.apply_core.specs.Private.Adding.{FeedsExtend, AreExtendedUpTo, AreStopped};
 ghost use Rattle.apply_core.specs.Private.Beside.{plans_in};
@@ -54,19 +55,21 @@ fn are_extended(streams: &[Stream<'_>], plans: &[Arc<Plan>]) -> bool
     true
 }
 
-/// The same of the plans of a board's streams.
-fn board_is_extended(board: &Board<'_>, plans: &[Arc<Plan>]) -> bool
-    requires { length plans.now ≡ length board.now.streams }
-    ensures { IsTrue result ↔ AreExtended (plans_of_board board.now) (map arc_value plans.now) }
+/// Whether there is a plan for each stream. Takes no memory.
+fn are_as_many(board: &Board<'_>, plans: &[Arc<Plan>]) -> bool
+    ensures { IsTrue result ↔ (length plans.now ≡ length board.now.streams) }
 {
-    are_extended(&board.streams, plans)
+    plans.len() == board.len()
 }
 
-/// Whether there is a plan for each stream, and a feed for each plan. Takes no memory.
-fn have_counts(board: &Board<'_>, plans: &[Arc<Plan>], feeds: &[Feed<'_>]) -> bool
-    ensures { IsTrue result ↔ HaveCounts (map arc_value plans.now) feeds.now board.now }
+/// The same of the plans of a board's streams, of which there may be more or fewer.
+fn board_is_extended(board: &Board<'_>, plans: &[Arc<Plan>]) -> bool
+    ensures { IsTrue result ↔ AreExtended (plans_of_board board.now) (map arc_value plans.now) }
 {
-    plans.len() == board.len() && feeds.len() == plans.len()
+    if !are_as_many(board, plans) {
+        return false;
+    }
+    are_extended(&board.streams, plans)
 }
 
 /// Whether tables can be added by these plans and feeds, the feeds' groups aside: refused 119, 122 and 111 as
@@ -76,7 +79,7 @@ fn judge_plans(board: &Board<'_>, plans: &[Arc<Plan>], feeds: &[Feed<'_>]) -> Re
     ensures whole { OnOk result (AreWholeFeeds feeds.now) }
     ensures refused { IfErr result (IsRefusedAdd (map arc_value plans.now) feeds.now board.now) }
 {
-    if !have_counts(board, plans, feeds) {
+    if feeds.len() != plans.len() {
         return Err(AddFault::FeedCount);
     }
     if !board_is_extended(board, plans) {
@@ -141,12 +144,12 @@ fn with_streams<'h>(board: Board<'h>, streams: Vec<Stream<'h>>) -> Board<'h>
 /// The rows are the old ones, and none is copied. So a stream that was Running is in CatchUp, and the new tables are
 /// copied by the usual steps.
 ///
-/// Refused, in this order: 119 where there aren't as many plans as streams or feeds as plans; 122 where a plan isn't
-/// its stream's with tables appended; 111 where two plans differ in their tables or a feed wasn't opened under its
-/// plan; then for the first stream whose feed doesn't go on: 113 where the feed has fewer groups than are applied,
+/// Refused, in this order: 119 where there aren't as many feeds as plans; 122 where there aren't as many plans as
+/// streams, or one isn't its stream's with tables appended; 111 where two plans differ in their tables or a feed wasn't
+/// opened under its plan; then for the first stream whose feed doesn't go on: 113 where the feed has fewer groups than are applied,
 /// and else for the first of these groups that isn't sound, 90, or that differs from the one that was read in its
-/// position or in a touch of an old table, 113. 72 for want of memory, never before the first three. A refusal hands
-/// the board back as it was.
+/// position or in a touch of an old table, 113. 72 for want of memory, never before the first three, and of a stream
+/// never where its feed has fewer groups or for a group that isn't sound. A refusal hands the board back as it was.
 pub fn add_tables<'h>(
     alloc: Global,
     board: Board<'h>,
@@ -159,6 +162,8 @@ pub fn add_tables<'h>(
     ensures lawful { IfOk result IsLawful }
     // Each stream reads its new feed: what steps then leave shows the sources, as `Board::take_steps` says.
     ensures reads { IfOk result (AllReadTheirFeeds feeds.now) }
+    // The board has a stream for each feed: with these feeds it is a `FedBoard`.
+    ensures board { IfOk result (IsFedBoard feeds.now) }
     ensures refused { IfErr result (λ refusal. IsRefusedAdd (map arc_value plans.now) feeds.now board.entry refusal.why) }
     ensures handed_back { IfErr result (λ refusal. refusal.board ≡ board.entry) }
     // Feeds that go on are refused for want of memory alone.

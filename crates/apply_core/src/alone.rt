@@ -1,13 +1,13 @@
 //! All streams run to their feeds' ends, one after another.
 
-ghost use Rattle.std.specs.Prelude.{◌≡◌, ℕ, ◌<◌, ◌≤◌, IsTrue, false, length, map, slice_get, None, IfOk, IfErr, OnOk};
+ghost use Rattle.std.specs.Prelude.{◌≡◌, ℕ, ◌<◌, ◌≤◌, IsTrue, false, length, map, slice_get, None, Some, IfOk, IfErr, OnOk};
 ghost use Rattle.std.specs.Arc.{arc_value};
 ghost use Rattle.apply_core.specs.Feeds.{AreFed};
 ghost use Rattle.apply_core.specs.Shown.{all_rows};
 ghost use Rattle.apply_core.specs.Ended.{StreamHasEnded, OthersStay, IsNamedStream, HaveEnded, IsFedBoard, AllHaveEnded, AreAsBefore, IsRowsUnion};
-ghost use Rattle.apply_core.specs.RunRefused.{EndsRun, IsRefusedRun, refused_stream};
+ghost use Rattle.apply_core.specs.RunRefused.{EndsRun, StopsWanting, IsRefusedRun, IsLowest, IsOfStream, refused_stream};
 ghost use Rattle.apply_core.specs.Courses.{left_on};
-ghost use Rattle.apply_core.specs.Private.AllowedSteps.{EndsStream};
+ghost use Rattle.apply_core.specs.Private.AllowedSteps.{EndsStream, ended_as};
 
 use crate::board::Board;
 use crate::course::Course;
@@ -25,7 +25,9 @@ use std::sync::Arc;
 /// The refusal of a step on stream `s` of its course, as that of a run.
 fn ended_by(feeds: &[Feed<'_>], s: u8, refusal: StepRefusal) -> RunRefusal
     requires { EndsStream feeds.now s refusal }
-    ensures { EndsRun feeds.now result }
+    ensures is { ended_as s refusal ≡ Some result }
+    ensures ends { EndsRun feeds.now result }
+    ensures of { IsOfStream s result }
 {
     let _ = feeds;
     match refusal {
@@ -51,11 +53,13 @@ fn go_on<'h>(
 ) -> Result<bool, RunRefusal>
     requires fed { IsFedBoard feeds.now board.old }
     requires there { s < length feeds.now }
-    ensures fed { OnOk result (IsFedBoard feeds.now board.new) }
+    ensures fed { IsFedBoard feeds.now board.new }
     ensures others { OnOk result (OthersStay s board.old board.new) }
     ensures nearer { IfOk result (λ went. IsTrue went → left_on feeds.now board.new s course.new.to_copy < left_on feeds.now board.old s course.old.to_copy) }
     ensures ended { IfOk result (λ went. went ≡ false → StreamHasEnded feeds.now s board.new) }
     ensures refused { IfErr result (EndsRun feeds.now) }
+    ensures memory { IfErr result (StopsWanting feeds.now board.new) }
+    ensures of { IfErr result (IsOfStream s) }
 {
     keys_tie_where_they_are_equal();
     let groups = feeds[s as usize].len() as u32;
@@ -65,7 +69,7 @@ fn go_on<'h>(
     let Some(step) = course.next(policy, &at, groups) else {
         return Ok(false);
     };
-    match board.take_step(alloc, feeds, s, step) {
+    match board.take_fed(alloc, feeds, s, step) {
         Ok(_) => Ok(true),
         Err(refusal) => Err(ended_by(feeds, s, refusal)),
     }
@@ -81,13 +85,38 @@ fn run_stream<'h>(
 ) -> Result<(), RunRefusal>
     requires fed { IsFedBoard feeds.now board.old }
     requires there { s < length feeds.now }
-    ensures fed { OnOk result (IsFedBoard feeds.now board.new) }
+    ensures fed { IsFedBoard feeds.now board.new }
     ensures others { OnOk result (OthersStay s board.old board.new) }
     ensures ended { OnOk result (StreamHasEnded feeds.now s board.new) }
     ensures refused { IfErr result (EndsRun feeds.now) }
+    ensures memory { IfErr result (StopsWanting feeds.now board.new) }
+    ensures of { IfErr result (IsOfStream s) }
 {
     let mut course = Course::new(policy);
     while go_on(alloc, board, feeds, s, policy, &mut course)? {}
+    Ok(())
+}
+
+/// All streams run to their feeds' ends, stream after stream. A refusal leaves what was done until then.
+pub(crate) fn run_all<'h>(
+    alloc: Global,
+    board: &mut Board<'h>,
+    feeds: &[Feed<'h>],
+    policy: &Policy,
+) -> Result<(), RunRefusal>
+    requires { IsFedBoard feeds.now board.old }
+    ensures fed { IsFedBoard feeds.now board.new }
+    ensures ended { OnOk result (AllHaveEnded feeds.now board.new) }
+    ensures refused { IfErr result (EndsRun feeds.now) }
+    ensures memory { IfErr result (StopsWanting feeds.now board.new) }
+    ensures lowest { IfErr result (IsLowest feeds.now) }
+{
+    for s in 0..feeds.len() {
+        match run_stream(alloc, board, feeds, s as u8, policy) {
+            Ok(()) => {}
+            Err(refusal) => return Err(refusal),
+        }
+    }
     Ok(())
 }
 
@@ -141,36 +170,12 @@ pub fn run_alone<'h>(
     // The target has just the rows that the feeds keep.
     ensures rows { IfOk result (λ board. IsRowsUnion feeds.now (all_rows board.rows)) }
     ensures refused { IfErr result (IsRefusedRun (map arc_value plans.items) feeds.now) }
-{
-    let board = board_to_run(alloc, plans, feeds)?;
-    let board = run_board_alone(alloc, board, feeds, policy)?;
-    Ok(board)
-}
-
-/// Runs all streams, stream after stream, from a board whose streams read these feeds, each to its feed's end, in the
-/// portions of the policy: what is read, applied and copied already stays. The feeds stand in the order of the streams.
-/// The answer is as `run_alone`'s, wherever the board stood.
-///
-/// The first refusal of a stream ends the run: 90 and 71 as `run_alone` has them. Any other error is want of memory.
-pub fn run_board_alone<'h>(
-    alloc: Global,
-    mut board: Board<'h>,
-    feeds: &[Feed<'h>],
-    policy: &Policy,
-) -> Result<Board<'h>, RunRefusal>
-    requires { IsFedBoard feeds.now board }
-    ensures board { IfOk result (IsFedBoard feeds.now) }
-    ensures ended { IfOk result (AllHaveEnded feeds.now) }
-    ensures rows { IfOk result (λ board. IsRowsUnion feeds.now (all_rows board.rows)) }
-    ensures refused { IfErr result (EndsRun feeds.now) }
+    // Every lower stream has come to its feed's end.
+    ensures lowest { IfErr result (IsLowest feeds.now) }
 {
     ended_boards_have_the_union();
-    for s in 0..feeds.len() {
-        match run_stream(alloc, &mut board, feeds, s as u8, policy) {
-            Ok(()) => {}
-            Err(refusal) => return Err(refusal),
-        }
-    }
+    let mut board = board_to_run(alloc, plans, feeds)?;
+    run_all(alloc, &mut board, feeds, policy)?;
     Ok(board)
 }
 
@@ -182,32 +187,27 @@ fn stream_at(streams: &[u8], i: usize) -> u8
     streams[i]
 }
 
-/// Runs these streams alone, one after another, from a board whose streams read these feeds, each to its feed's end, in
-/// the portions of the policy. The feeds stand in the order of the board's streams; those of other streams aren't looked
-/// at. A stream that is named twice has ended the second time.
-///
-/// Refused as `run_board_alone` is, by one of these streams.
-pub fn run_streams_alone<'h>(
+/// These streams run to their feeds' ends, one after another. A refusal leaves what was done until then.
+pub(crate) fn run_named<'h>(
     alloc: Global,
-    mut board: Board<'h>,
+    board: &mut Board<'h>,
     feeds: &[Feed<'h>],
     streams: &[u8],
     policy: &Policy,
-) -> Result<Board<'h>, RunRefusal>
-    requires fed { IsFedBoard feeds.now board }
+) -> Result<(), RunRefusal>
+    requires fed { IsFedBoard feeds.now board.old }
     requires there { (s : ℕ) → IsNamedStream streams.now s → s < length feeds.now }
-    ensures board { IfOk result (IsFedBoard feeds.now) }
-    // Each of these streams is Running, and all groups of its feed are read and applied.
-    ensures ended { IfOk result (HaveEnded streams.now feeds.now) }
-    // Each other stream is as it was.
-    ensures others { IfOk result (AreAsBefore streams.now board.entry) }
+    ensures fed { IsFedBoard feeds.now board.new }
+    ensures ended { OnOk result (HaveEnded streams.now feeds.now board.new) }
+    ensures others { OnOk result (AreAsBefore streams.now board.old board.new) }
     ensures refused { IfErr result (EndsRun feeds.now) }
+    ensures memory { IfErr result (StopsWanting feeds.now board.new) }
 {
     for i in 0..streams.len() {
-        match run_stream(alloc, &mut board, feeds, stream_at(streams, i), policy) {
+        match run_stream(alloc, board, feeds, stream_at(streams, i), policy) {
             Ok(()) => {}
             Err(refusal) => return Err(refusal),
         }
     }
-    Ok(board)
+    Ok(())
 }

@@ -1,6 +1,6 @@
 //! Many streams over one target.
 
-ghost use Rattle.std.specs.Prelude.{◌≡◌, ◌≤◌, None, IfOk, IfErr, IsSomeAnd, length, map, slice_get};
+ghost use Rattle.std.specs.Prelude.{◌≡◌, ◌≤◌, None, IfOk, IfErr, IsSomeAnd, IsTrue, length, map, slice_get};
 ghost use Rattle.std.specs.Arc.{arc_value};
 ghost use Rattle.std.specs.Option.{option_copied, option_map};
 ghost use Rattle.target_tables.specs.Contents.{value_at, standing};
@@ -9,7 +9,7 @@ ghost use Rattle.board_laws.specs.declared.refusal.Refusal.TheVariants.{NoStream
 ghost use Rattle.board_laws.specs.Lawful.{standing_of, IsLawful};
 ghost use Rattle.apply_core.specs.Fresh.{fresh_board, HaveSameTables, IsRefusedBoard};
 
-use crate::fresh::{fresh_streams, have_same_tables};
+use crate::fresh::{fresh_streams, have_same_tables, know_plans};
 use crate::stream::Stream;
 use board_laws::{Refusal, fresh_boards_are_lawful};
 use filter_rule::Plan;
@@ -54,6 +54,7 @@ impl<'h> Board<'h> {
         ensures refused { IfErr result (IsRefusedBoard (map arc_value plans.items)) }
     {
         fresh_boards_are_lawful();
+        know_plans(&plans);
         if !have_same_tables(&plans) {
             return Err(Refusal::WrongPlan);
         }
@@ -90,6 +91,17 @@ impl<'h> Board<'h> {
         ensures { option_copied result ≡ slice_get self.now.streams s }
     {
         self.streams.get(s as usize)
+    }
+
+    /// Whether stream `s` is there and of this plan. Takes no memory.
+    pub fn is_under(&self, s: u8, plan: &Plan) -> bool
+        ensures yes { IsTrue result → IsSomeAnd (slice_get self.now.streams s) (λ state. state.plan ≡ plan.now) }
+        ensures no { IsSomeAnd (slice_get self.now.streams s) (λ state. state.plan ≡ plan.now) → IsTrue result }
+    {
+        match self.stream(s) {
+            None => false,
+            Some(stream) => stream.plan.same(plan),
+        }
     }
 
     /// Where stream `s` stands, by its numbers. Refused 115 alone. Takes no memory.

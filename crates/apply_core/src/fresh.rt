@@ -2,6 +2,8 @@
 
 ghost use Rattle.std.specs.Prelude.{◌≡◌, ◌↔◌, map, IsTrue, IfOk};
 ghost use Rattle.std.specs.Arc.{arc_value};
+ghost use Rattle.std.specs.List.{AllByRecursion};
+ghost use Rattle.filter_rule.specs.WellFormed.{IsPlan};
 ghost use Rattle.board_laws.specs.Lawful.{start_of};
 ghost use Rattle.apply_core.specs.Fresh.{HaveSameTables};
 
@@ -9,6 +11,15 @@ use crate::stream::Stream;
 use filter_rule::Plan;
 use std::alloc::{AllocError, Global};
 use std::sync::Arc;
+
+/// All plans are well-formed, as each plan is: a fact for contracts. Takes no memory.
+pub(crate) fn know_plans(plans: &[Arc<Plan>])
+    ensures { AllByRecursion IsPlan (map arc_value plans.now) }
+{
+    for plan in plans {
+        plan.tables();
+    }
+}
 
 /// Whether all plans have the same tables. Takes no memory.
 pub(crate) fn have_same_tables(plans: &[Arc<Plan>]) -> bool

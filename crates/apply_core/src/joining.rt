@@ -1,6 +1,6 @@
 //! Two boards joined to one.
 
-ghost use Rattle.std.specs.Prelude.{◌≡◌, ◌↔◌, length, IfOk, IfErr, OnOk, IsTrue, MatchOption};
+ghost use Rattle.std.specs.Prelude.{◌≡◌, ◌↔◌, List, length, IfOk, IfErr, OnOk, IsTrue, MatchOption};
 ghost use Rattle.join_laws.specs.Chosen.{chosen, all_chosen};
 ghost use Rattle.join_laws.specs.Compatible.{plans_of_board, OfEachStream, AreAlike, AreCompatible};
 ghost use Rattle.join_laws.specs.Joined.{joined};
@@ -10,6 +10,8 @@ ghost use Rattle.apply_core.specs.Private.Beside.{plans_in, Premise, Passes};
 ghost use Rattle.apply_core.specs.Private.Meeting.{AreFurtherSides};
 ghost use Rattle.apply_core.specs.Private.Together.{IsJoinSource};
 ghost use Rattle.join_laws.specs.declared.fault.JoinFault.TheVariants.{Memory};
+ghost use Rattle.source_feed.specs.Planned.{FeedValue};
+ghost use Rattle.apply_core.specs.Ended.{IsFedBoard};
 
 use crate::beside::{Test, first_not};
 use crate::board::Board;
@@ -224,7 +226,10 @@ pub fn join<'h>(alloc: Global, a: Board<'h>, b: Board<'h>) -> Result<Board<'h>, 
     ensures associate { JoinsAssociate }
     ensures running { RunningJoinsByWhatIsRead }
     ensures disjoint { DisjointFeedsCanBeJoined }
+    // Boards whose streams read the same feeds are joined to one whose streams do.
+    ensures fed { (feeds : List FeedValue) → IsFedBoard feeds a.entry → IsFedBoard feeds b.entry → IfOk result (IsFedBoard feeds) }
 {
+    joined_boards_are_lawful();
     joins_are_a_greatest_board();
     boards_can_be_joined();
     join_by_source(alloc, a, b)

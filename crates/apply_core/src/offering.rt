@@ -1,6 +1,6 @@
 //! A group offered to a stream: it is read, or was read before.
 
-ghost use Rattle.std.specs.Prelude.{◌≡◌, ◌↔◌, ◌+◌, ◌<◌, ◌≤◌, length, nat_le, IsTrue, IsOk, Err, IfOk, IfErr, OnOk, OnErr, MatchBool, if◌then◌else◌};
+ghost use Rattle.std.specs.Prelude.{◌≡◌, ◌↔◌, ◌+◌, ◌<◌, ◌≤◌, length, nat_le, IsTrue, IsOk, Err, IfOk, IfErr, IfSome, OnOk, OnErr, MatchBool, slice_get, if◌then◌else◌};
 ghost use Rattle.std.specs.Arc.{arc_value};
 ghost use Rattle.stream_core.specs.declared.step.Step.TheVariants.{Offer};
 ghost use Rattle.stream_core.specs.StepTable.{row_of, decided};
@@ -75,15 +75,13 @@ impl<'h> Stream<'h> {
         }
     }
 
-    /// What the stream itself says of an offered group, by its plan, then the step table, then the groups that
-    /// are read: the answer, and where the stream then stands. Takes no memory.
-    fn decide_offer(&self, group: &Prepared<'_>) -> Result<(Offered, Cursor), Refusal>
+    /// What the stream itself says of an offered group of its plan, by the step table, then the groups that are
+    /// read: the answer, and where the stream then stands. That the plans are one is the caller's. Takes no memory.
+    fn decide_own(&self, group: &Prepared<'_>) -> Result<(Offered, Cursor), Refusal>
+        requires { group.now.plan ≡ self.now.plan }
         ensures ok { IfOk result (λ made. TakesOffer self.now group.now made.0 made.1) }
         ensures err { IfErr result (RefusesByItself self.now (offer group.now)) }
     {
-        if !self.plan.same(group.plan()) {
-            return Err(Refusal::WrongPlan);
-        }
         let made = self.judge_number(group.number())?;
         if !self.has_place_for(group) {
             return Err(Refusal::Diverged);
@@ -107,11 +105,12 @@ impl<'h> Stream<'h> {
         Ok(())
     }
 
-    /// A group is offered: it is read, or was read before. Takes memory for the list alone.
-    fn offer(&mut self, group: Arc<Prepared<'h>>) -> Result<Offered, Refusal>
+    /// A group of the stream's plan is offered: it is read, or was read before. Takes memory for the list alone.
+    fn offer_own(&mut self, group: Arc<Prepared<'h>>) -> Result<Offered, Refusal>
+        requires { (arc_value group).plan ≡ self.old.plan }
         ensures { IsOwnStep self.old (offer (arc_value group.entry)) (answered answers.Answer.Offered result) self.new }
     {
-        let (offered, cursor) = self.decide_offer(&group)?;
+        let (offered, cursor) = self.decide_own(&group)?;
         match offered {
             Offered::Repeat(number) => Ok(Offered::Repeat(number)),
             Offered::Read(number) => {
@@ -119,6 +118,28 @@ impl<'h> Stream<'h> {
                 Ok(Offered::Read(number))
             }
         }
+    }
+
+    /// A group is offered, whatever its plan: refused 111 where that isn't the stream's. Takes memory for the list
+    /// alone.
+    fn offer(&mut self, group: Arc<Prepared<'h>>) -> Result<Offered, Refusal>
+        ensures { IsOwnStep self.old (offer (arc_value group.entry)) (answered answers.Answer.Offered result) self.new }
+    {
+        if !self.plan.same(group.plan()) {
+            return Err(Refusal::WrongPlan);
+        }
+        self.offer_own(group)
+    }
+
+    /// What the stream itself says of an offered group, by its plan, then as above. Takes no memory.
+    fn decide_offer(&self, group: &Prepared<'_>) -> Result<(Offered, Cursor), Refusal>
+        ensures ok { IfOk result (λ made. TakesOffer self.now group.now made.0 made.1) }
+        ensures err { IfErr result (RefusesByItself self.now (offer group.now)) }
+    {
+        if !self.plan.same(group.plan()) {
+            return Err(Refusal::WrongPlan);
+        }
+        self.decide_own(group)
     }
 
     /// What an offer answers where there is no memory to read the group. Takes none.
@@ -146,6 +167,20 @@ fn offer_to<'h>(
     stream.offer(group)
 }
 
+/// A group of stream `s`'s plan is offered to it, if there is such a stream.
+fn offer_own_to<'h>(
+    streams: &mut [Stream<'h>],
+    s: u8,
+    group: Arc<Prepared<'h>>,
+) -> Result<Offered, Refusal>
+    requires { IfSome (slice_get streams.old s) (λ state. (arc_value group).plan ≡ state.plan) }
+    ensures { IsStreamStep streams.old s (offer (arc_value group.entry)) (answered answers.Answer.Offered result) streams.new }
+{
+    let place = place_of(streams, s)?;
+    let stream = &mut streams[place];
+    stream.offer_own(group)
+}
+
 /// What an offer to stream `s` answers where there is no memory to read the group. Takes none.
 fn judge_offer_to(streams: &[Stream<'_>], s: u8, group: &Prepared<'_>) -> Result<Offered, Refusal>
     ensures { IsStreamStep streams.now s (offer group.now) (answered answers.Answer.Offered result) streams.now }
@@ -171,6 +206,17 @@ impl<'h> Board<'h> {
         steps_keep_boards_lawful();
         know_group(&group);
         offer_to(&mut self.streams, s, group)
+    }
+
+    /// A group of the plan of stream `s` is offered to it, as `offer` does without a comparison of plans. That the
+    /// plans are one is the caller's, who has the group of the stream's feed. Never refused 111.
+    pub fn offer_own(&mut self, s: u8, group: Arc<Prepared<'h>>) -> Result<Offered, Refusal>
+        requires { IfSome (slice_get self.old.streams s) (λ state. (arc_value group).plan ≡ state.plan) }
+        ensures { IsStep self.old s (offer (arc_value group.entry)) (answered answers.Answer.Offered result) self.new }
+    {
+        steps_keep_boards_lawful();
+        know_group(&group);
+        offer_own_to(&mut self.streams, s, group)
     }
 
     /// What an offer to stream `s` answers where there is no memory to read the group: the next one is refused

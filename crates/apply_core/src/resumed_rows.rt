@@ -127,7 +127,6 @@ fn difference(
     keys_are_those_of_kept_columns();
     kept_rows_are_one_list();
     stream.is_sound();
-    stream.plan.tables();
     let mut image = Image::new(alloc);
     let mut imaged = 0;
     bring(

@@ -2,8 +2,6 @@
 
 ghost use Rattle.std.specs.Prelude.{◌≡◌, ◌^◌, ◌<◌, ◌≤◌, List, length, map, IfOk, IfErr, OnOk, Err};
 ghost use Rattle.std.specs.Arc.{arc_value};
-ghost use Rattle.std.specs.List.{AllByRecursion};
-ghost use Rattle.filter_rule.specs.WellFormed.{IsPlan};
 ghost use Rattle.board_laws.specs.Lawful.{IsLawful};
 ghost use Rattle.board_laws.specs.Meaning.{Meaning};
 ghost use Rattle.board_laws.specs.Reading.{AllReadTheirFeeds};
@@ -13,14 +11,15 @@ ghost use Rattle.checkpoint_laws.specs.Refused.{plans_of_feeds, IsRefusedSaved, 
 ghost use Rattle.checkpoint_laws.specs.Said.{IsCheckpoint};
 ghost use Rattle.checkpoint_core.specs.Fault.{HasParts};
 ghost use Rattle.source_feed.specs.Planned.{FeedValue};
+ghost use Rattle.apply_core.specs.Ended.{IsFedBoard};
 ghost use Rattle.apply_core.specs.Feeds.{AreWholeFeeds, AreFed};
 ghost use Rattle.apply_core.specs.Resuming.{IsResumed, IsRefusedResume, IsSavedOf, GivesBoard, IsSavedBefore, GivesMore};
 ghost use Rattle.apply_core.specs.Private.Resuming.{AreSaid, IsUnfed};
 
 use crate::board::Board;
-use crate::fresh::have_same_tables;
+use crate::fresh::{have_same_tables, know_plans};
 use crate::resumed_rows::{compare_rows, rows_together};
-use crate::resumed_streams::{numbers_of, streams_at};
+use crate::resumed_streams::{judge_positions, streams_at};
 use crate::schedule::are_opened_under;
 use checkpoint_core::{ReadFault, ReadStream, read_checkpoint};
 use checkpoint_laws::{
@@ -53,15 +52,6 @@ fn judge_feeds(plans: &[Arc<Plan>], feeds: &[Feed<'_>]) -> Result<(), ResumeFaul
     Ok(())
 }
 
-/// All plans are well-formed, as each plan is: a fact for contracts. Takes no memory.
-fn know_plans(plans: &[Arc<Plan>])
-    ensures { AllByRecursion IsPlan (map arc_value plans.now) }
-{
-    for plan in plans {
-        plan.tables();
-    }
-}
-
 /// The length of a slice has 64 bits: a fact for contracts. Takes no memory.
 fn know_length(bytes: &[u8])
     ensures { length bytes.now < 2 ^ 64 }
@@ -88,7 +78,7 @@ fn read_streams<'b>(
 }
 
 /// The board that feeds make with what a checkpoint says of their streams. Refused 118, 90, 117 and 71, in
-/// this order, as `resume` is. Any other error is want of memory.
+/// this order, as `resume` is. Any other error is want of memory, where all positions are known.
 fn made_of<'h>(
     alloc: Global,
     feeds: &[Feed<'h>],
@@ -100,8 +90,8 @@ fn made_of<'h>(
     ensures err { IfErr result (IsRefusedSaved feeds.now saved.entry.items) }
 {
     resumed_boards_are_lawful();
-    let numbers = numbers_of(alloc, feeds, &saved)?;
-    let streams = streams_at(alloc, feeds, &saved, &numbers)?;
+    judge_positions(feeds, &saved)?;
+    let streams = streams_at(alloc, feeds, &saved)?;
     compare_rows(alloc, &streams, &saved)?;
     let rows = rows_together(alloc, &streams, saved)?;
     Ok(Board { streams, rows })
@@ -119,6 +109,7 @@ fn resumed_over<'h>(
     ensures resumed { IfOk result (IsResumed feeds.now bytes.now) }
     ensures lawful { IfOk result IsLawful }
     ensures reads { IfOk result (AllReadTheirFeeds feeds.now) }
+    ensures board { IfOk result (IsFedBoard feeds.now) }
     ensures refused { IfErr result (IsRefusedCheckpoint feeds.now bytes.now) }
     ensures memory { result ≡ Err ResumeFault.Memory → HasParts bytes.now (length plans.now) }
 {
@@ -155,6 +146,8 @@ pub fn resume<'h>(
     ensures lawful { IfOk result IsLawful }
     // Each read list is a beginning of its feed's groups.
     ensures reads { IfOk result (AllReadTheirFeeds feeds.now) }
+    // The board has a stream for each feed: with these feeds it is a `FedBoard`.
+    ensures board { IfOk result (IsFedBoard feeds.now) }
     ensures refused { IfErr result (IsRefusedResume (map arc_value plans.now) feeds.now bytes.now) }
     // Memory is wanted for bytes alone that are as many parts as there are plans.
     ensures memory { result ≡ Err ResumeFault.Memory → HasParts bytes.now (length plans.now) }

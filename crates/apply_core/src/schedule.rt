@@ -8,16 +8,16 @@ ghost use Rattle.board_laws.specs.Lawful.{IsLawful};
 ghost use Rattle.board_laws.specs.Reading.{AllReadTheirFeeds};
 ghost use Rattle.board_laws.specs.RunLaws.{DisjointFeedsNeverClash};
 ghost use Rattle.board_laws.specs.Schedule.{IsRun};
-ghost use Rattle.board_laws.specs.Sources.{AllShowTheirSources};
+ghost use Rattle.board_laws.specs.Sources.{ShowAll};
+ghost use Rattle.apply_core.specs.Ended.{IsFedBoard};
 ghost use Rattle.apply_core.specs.Fresh.{fresh_board};
 ghost use Rattle.apply_core.specs.Feeds.{AreWholeFeeds, AreFed, IsRefusedInput};
 ghost use Rattle.apply_core.specs.Schedules.{AllAreTaken, AllFollow, RowsAreReplays};
 
 use crate::board::Board;
 use board_laws::{
-    Answer, Refusal, StepRefusal, agreeing_runs_show_alike, boards_show_their_sources,
-    fresh_boards_are_lawful, rows_are_replayed, streams_follow_their_own_steps,
-    streams_read_their_feeds,
+    Answer, Refusal, StepRefusal, agreeing_runs_show_alike, fed_boards_show_all, rows_are_replayed,
+    streams_follow_their_own_steps, streams_read_their_feeds,
 };
 use filter_rule::Plan;
 use source_feed::Feed;
@@ -84,6 +84,25 @@ fn replies_to<'h>(
     Ok(replies)
 }
 
+/// The same on a board whose streams read these feeds: no plans are compared.
+pub(crate) fn fed_replies<'h>(
+    alloc: Global,
+    board: &mut Board<'h>,
+    feeds: &[Feed<'h>],
+    steps: &[(u8, Step)],
+) -> Result<Vec<Result<Answer, StepRefusal>>, AllocError>
+    requires { IsFedBoard feeds.now board.old }
+    ensures run { IfOk result (λ replies. IsRun feeds.now board.old steps.now replies.items board.new) }
+    ensures kept { OnErr result (board.new ≡ board.old) }
+    ensures fed { IsFedBoard feeds.now board.new }
+{
+    let mut replies = Vec::with_capacity(alloc, steps.len())?;
+    for (s, step) in steps {
+        replies.push_reserved(board.take_fed(alloc, feeds, *s, *step));
+    }
+    Ok(replies)
+}
+
 impl<'h> Board<'h> {
     /// Takes a list of steps, each on a stream of the board, in order; the feeds stand in the order of the
     /// streams. The answer is for each step what it answered or why it was refused; after a refusal the list
@@ -102,9 +121,10 @@ impl<'h> Board<'h> {
         ensures kept { OnErr result (self.new ≡ self.old) }
         // Each stream's state is that of its own steps alone.
         ensures own { IfOk result (λ replies. AllFollow feeds.now steps.now replies.items self.old self.new) }
-        // Streams that read their feeds still do, and each shows its source.
+        // Streams that read their feeds still do.
         ensures reads { OnOk result (AllReadTheirFeeds feeds.now self.old → AllReadTheirFeeds feeds.now self.new) }
-        ensures shows { OnOk result (AllReadTheirFeeds feeds.now self.old → AllShowTheirSources feeds.now self.new) }
+        // A board with its feeds shows all their sources.
+        ensures shows { OnOk result (IsFedBoard feeds.now self.old → ShowAll feeds.now self.new) }
         // Laws of lists of steps: in which each stream took the same steps they end in the same board; a
         // stream doesn't notice the others; over feeds that share no key no step is refused 71, and a stream
         // is shown alike in two runs.
@@ -115,9 +135,8 @@ impl<'h> Board<'h> {
     {
         streams_follow_their_own_steps();
         streams_read_their_feeds();
-        boards_show_their_sources();
+        fed_boards_show_all();
         agreeing_runs_show_alike();
-        self.is_lawful();
         replies_to(alloc, self, feeds, steps)
     }
 }
@@ -138,8 +157,9 @@ pub fn run_schedule<'h>(
     requires some { 1 ≤ length plans.items }
     requires few { length plans.items ≤ 64 }
     // The headline: a row stands for a stream at a key exactly where the groups of its feed up to its recorded
-    // position leave it there, it passes the filter, and its key is copied.
-    ensures shows { IfOk result (λ ran. AllShowTheirSources feeds.now ran.0) }
+    // position leave it there, it passes the filter, and its key is copied. So it is for each feed, and there are no
+    // other rows.
+    ensures shows { IfOk result (λ ran. ShowAll feeds.now ran.0) }
     // Each reply and what it leaves is the step's, one after another.
     ensures run { IfOk result (λ ran. IsRun feeds.now (fresh_board (map arc_value plans.items)) steps.now ran.1.items ran.0) }
     ensures lawful { IfOk result (λ ran. IsLawful ran.0) }
@@ -151,13 +171,18 @@ pub fn run_schedule<'h>(
     ensures own { IfOk result (λ ran. AllAreTaken feeds.now steps.now ran.1.items ran.0) }
     ensures fed { IfOk result (λ _. AreFed (map arc_value plans.items) feeds.now) }
     ensures refused { IfErr result (IsRefusedInput (map arc_value plans.items) feeds.now) }
+    // The laws of lists of steps, as of `Board::take_steps`.
+    ensures same { SameStepsSameBoard }
+    ensures lone { LoneRunsShowAlike }
+    ensures never { DisjointFeedsNeverClash }
+    ensures alike { DisjointRunsShowAlike }
 {
-    fresh_boards_are_lawful();
+    agreeing_runs_show_alike();
     streams_follow_their_own_steps();
     streams_read_their_feeds();
     rows_are_replayed();
-    boards_show_their_sources();
     let mut board = fed_board(alloc, plans, feeds)?;
+    board.is_lawful();
     let replies = board.take_steps(alloc, feeds, steps)?;
     Ok((board, replies))
 }

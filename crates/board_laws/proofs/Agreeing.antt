@@ -5,6 +5,7 @@ use Rattle.std.proofs.lemmas.List.{length-set}
 use Rattle.std.proofs.lemmas.Option.{same_Some, none-some, slice_get_past, slice_get_cases}
 use borrow.Author.Tests.{eqb-true}
 use Rattle.std.specs.Prelude.{MatchOption}
+use Rattle.std.specs.Option.{option_and_then}
 use Rattle.std.specs.List.{AllByRecursion}
 use Rattle.pk_copy.specs.KeyOrder.{key_cmp}
 use Rattle.stream_core.specs.declared.step.Step.{Step}
@@ -17,7 +18,7 @@ use Rattle.board_laws.specs.Cut.{own_row}
 use Rattle.board_laws.specs.Lawful.{IsLawful}
 use Rattle.board_laws.specs.StateAfter.{state_after}
 use Rattle.board_laws.specs.Runs.{taken}
-use Rattle.board_laws.specs.Schedule.{Reply, IsEventStep, IsReplyBy, IsReply, IsRun}
+use Rattle.board_laws.specs.Schedule.{Reply, IsEventStep, IsReplyBy, unfed, IsReply, IsRun}
 use Rattle.board_laws.specs.Lone.{is_hindered, is_lone, lone_steps, lone_replies, IsAloneAs}
 use Rattle.board_laws.specs.RunLaws.{NoneWantsMemory, IsClashReply, NoneClashes}
 use Rattle.board_laws.specs.Agreement.{TookTheSame, steps_on, replies_on, DisjointRunsShowAlike, LoneRunsShowAlike}
@@ -46,7 +47,7 @@ one-length feeds old step (Ok answer) new h =
     ap (λ (xs : List State). length xs) one.2.stepped.streams ∙ length-set old.streams step.0 (state_after one.2.stepped.state one.2.event)
 one-length feeds old step (Err refusal) new h = ap (λ (b : Meaning). length b.streams) (unchanged feeds old step refusal new h)
 
-run-length : (feeds : List FeedValue) (old new : Meaning) (steps : List (ℕ × Step)) (replies : List Reply) → IsRun feeds old steps replies new → length new.streams ≡ length old.streams
+pub run-length : (feeds : List FeedValue) (old new : Meaning) (steps : List (ℕ × Step)) (replies : List Reply) → IsRun feeds old steps replies new → length new.streams ≡ length old.streams
 run-length feeds old new [] [] run = ap (λ (b : Meaning). length b.streams) run
 run-length feeds old new [] (reply ∷ replies) run = elim run [ ]
 run-length feeds old new (step ∷ steps) [] run = elim run [ ]
@@ -133,8 +134,8 @@ refed feeds others s same old new [] (reply ∷ replies) all run = elim run [ ]
 refed feeds others s same old new (step ∷ steps) [] all run = elim run [ ]
 refed feeds others s same old new (step ∷ steps) (reply ∷ replies) all run = (
   run.0,
-  subst (λ (o : Option FeedValue). MatchOption o ((reply ≡ refused_by (Refused NoStream)) × (run.0 ≡ old)) (λ feed. IsReplyBy feed old step.0 step.1 reply run.0))
-      (ap (slice_get others) all.0 ∙ sym same ∙ ap (slice_get feeds) (sym all.0)) run.1,
+  subst (λ (o : Option FeedValue). MatchOption o ((reply ≡ refused_by (Refused (unfed old step.0))) × (run.0 ≡ old)) (λ feed. IsReplyBy feed old step.0 step.1 reply run.0))
+      (ap (λ (f : Option FeedValue). option_and_then (λ (x : State). f) (slice_get old.streams step.0)) (ap (slice_get others) all.0 ∙ sym same ∙ ap (slice_get feeds) (sym all.0))) run.1,
   refed feeds others s same run.0 new steps replies all.1 run.2,
 )
 

@@ -29,10 +29,10 @@ use Rattle.board_laws.specs.StateAfter.{answer_to, state_after}
 use Rattle.board_laws.specs.Allowed.{IsDiverged, IsInPlace}
 use Rattle.board_laws.specs.Step.{due_at, IsMade, IsRefusedFor, IsRefusedOn}
 use Rattle.board_laws.specs.Runs.{event_of_step}
-use Rattle.board_laws.specs.Schedule.{Reply, IsUnprepared, IsEventStep, IsRefusedStep, IsReplyBy, IsReply, IsRun}
+use Rattle.board_laws.specs.Schedule.{Reply, IsUnprepared, IsEventStep, IsRefusedStep, IsReplyBy, feed_of, unfed, IsReply, IsRun}
 use Rattle.board_laws.specs.RunLaws.{NoneWantsMemory}
 use Rattle.board_laws.proofs.Lookups.{Ties}
-use Rattle.board_laws.proofs.Following.{refused_by, answered, unchanged, answered_by, one-lawful, same-board}
+use Rattle.board_laws.proofs.Following.{refused_by, answered, feed_of-there, unchanged, answered_by, one-lawful, same-board}
 
 -- ---- refusals of one step
 
@@ -201,15 +201,17 @@ module _ (ties : Ties) (old : Meaning) (lawful : IsLawful old) where
       one_made step.0 x.2.event a b one other x.2.stepped (subst (λ e. IsMade old step.0 e b other) same y.2.stepped)
   one_reply feeds step (Ok a) (Err q) one other h k m n =
       let x : (feed : FeedValue) × (slice_get feeds step.0 ≡ Some feed) × IsEventStep feed old step.0 step.1 (Ok a) one = answered_by feeds old step a one h in
-      absurd (not_refused x.0 step.0 step.1 a q one other x.2 (subst (λ (o : Option FeedValue). MatchOption o ((refused_by q ≡ refused_by (Refused NoStream)) × (other ≡ old)) (λ feed. IsReplyBy feed old step.0 step.1 (Err q) other)) x.1 k) n)
+      absurd (not_refused x.0 step.0 step.1 a q one other x.2 (subst (λ (o : Option FeedValue). MatchOption o ((refused_by q ≡ refused_by (Refused (unfed old step.0))) × (other ≡ old)) (λ feed. IsReplyBy feed old step.0 step.1 (Err q) other))
+      (feed_of-there feeds old step.0 x.2.stepped.state x.0 x.2.stepped.stream x.1) k) n)
   one_reply feeds step (Err r) (Ok b) one other h k m n =
       let y : (feed : FeedValue) × (slice_get feeds step.0 ≡ Some feed) × IsEventStep feed old step.0 step.1 (Ok b) other = answered_by feeds old step b other k in
-      absurd (not_refused y.0 step.0 step.1 b r other one y.2 (subst (λ (o : Option FeedValue). MatchOption o ((refused_by r ≡ refused_by (Refused NoStream)) × (one ≡ old)) (λ feed. IsReplyBy feed old step.0 step.1 (Err r) one)) y.1 h) m)
+      absurd (not_refused y.0 step.0 step.1 b r other one y.2 (subst (λ (o : Option FeedValue). MatchOption o ((refused_by r ≡ refused_by (Refused (unfed old step.0))) × (one ≡ old)) (λ feed. IsReplyBy feed old step.0 step.1 (Err r) one))
+      (feed_of-there feeds old step.0 y.2.stepped.state y.0 y.2.stepped.stream y.1) h) m)
   one_reply feeds step (Err r) (Err q) one other h k m n =
-      (by (slice_get feeds step.0) h k, unchanged feeds old step r one h ∙ sym (unchanged feeds old step q other k))
+      (by (feed_of feeds old step.0) h k, unchanged feeds old step r one h ∙ sym (unchanged feeds old step q other k))
     where
-      by : (o : Option FeedValue) → MatchOption o ((refused_by r ≡ refused_by (Refused NoStream)) × (one ≡ old)) (λ feed. IsReplyBy feed old step.0 step.1 (Err r) one)
-          → MatchOption o ((refused_by q ≡ refused_by (Refused NoStream)) × (other ≡ old)) (λ feed. IsReplyBy feed old step.0 step.1 (Err q) other) → refused_by r ≡ refused_by q
+      by : (o : Option FeedValue) → MatchOption o ((refused_by r ≡ refused_by (Refused (unfed old step.0))) × (one ≡ old)) (λ feed. IsReplyBy feed old step.0 step.1 (Err r) one)
+          → MatchOption o ((refused_by q ≡ refused_by (Refused (unfed old step.0))) × (other ≡ old)) (λ feed. IsReplyBy feed old step.0 step.1 (Err q) other) → refused_by r ≡ refused_by q
       by None h k = h.0 ∙ sym k.0
       by (Some feed) h k = ap refused_by (one_refused feed step.0 step.1 r q one other h k m n)
 

@@ -6,7 +6,7 @@ use Rattle.std.proofs.lemmas.List.{take-append-drop}
 use Rattle.std.proofs.lemmas.Option.{same_Some, none-some, slice_get-map}
 use borrow.Author.Tests.{eqb-true, eq-eqb, leb-false}
 use Rattle.std.specs.Prelude.{MatchOption, nat_le}
-use Rattle.std.specs.Option.{option_or, option_map, option_and_then}
+use Rattle.std.specs.Option.{option_or, option_map, option_map_or, option_and_then}
 use Rattle.std.specs.Result.{result_ok}
 use Rattle.list_laws.proofs.Fronts.{front_of}
 use Rattle.list_laws.proofs.Places.{one_longer}
@@ -36,13 +36,13 @@ use Rattle.board_laws.specs.StateAfter.{state_after}
 use Rattle.board_laws.specs.Allowed.{IsAllowed, IsNext}
 use Rattle.board_laws.specs.Step.{IsMade, IsRefusedFor, IsClash}
 use Rattle.board_laws.specs.Runs.{event_of_step, IsTouchedIn, AreDisjoint}
-use Rattle.board_laws.specs.Schedule.{Reply, IsEventStep, IsReplyBy, IsReply, IsRun}
+use Rattle.board_laws.specs.Schedule.{Reply, IsEventStep, IsReplyBy, feed_of, unfed, IsReply, IsRun}
 use Rattle.board_laws.specs.Lone.{is_hindrance, is_hindered}
 use Rattle.board_laws.specs.Reading.{HasFeed, AllReadTheirFeeds}
 use Rattle.board_laws.specs.RunLaws.{IsClashReply, NoneClashes}
 use Rattle.board_laws.proofs.Lists.{slice_get-set}
 use Rattle.board_laws.proofs.Making.{plan-after}
-use Rattle.board_laws.proofs.Following.{refused_by, unchanged, answered_by, one-lawful}
+use Rattle.board_laws.proofs.Following.{refused_by, feed_of-some, unchanged, answered_by, one-lawful}
 
 -- ---- beginnings of lists
 
@@ -269,17 +269,21 @@ one-free feeds old step (Err (Refused Diverged)) new disjoint lawful all h c = c
 one-free feeds old step (Err (Refused (Core refusal))) new disjoint lawful all h c = c
 one-free feeds old step (Err (Refused FeedCount)) new disjoint lawful all h c = c
 one-free feeds old step (Err (Refused Memory)) new disjoint lawful all h c = c
-one-free feeds old step (Err (Refused (OwnedByOther key owner))) new disjoint lawful all h c = by (slice_get feeds step.0) refl h
+one-free feeds old step (Err (Refused (OwnedByOther key owner))) new disjoint lawful all h c = by (feed_of feeds old step.0) refl h
   where
     stands : (feed : FeedValue) → slice_get feeds step.0 ≡ Some feed → (event : Event) → event_of_step feed step.1 ≡ Some event → (o : Option State) → slice_get old.streams step.0 ≡ o
         → MatchOption o (OwnedByOther key owner ≡ NoStream) (λ state. IsRefusedFor old step.0 state event (OwnedByOther key owner)) → ⊥
     stands feed fed event of_step None at h = true≢false (ap (λ r. is_hindrance (Refused r)) h)
     stands feed fed event of_step (Some state) at h = no_clash feeds old step.0 state feed event step.1 key owner disjoint lawful all at fed of_step h
 
-    by : (o : Option FeedValue) → slice_get feeds step.0 ≡ o
-        → MatchOption o ((refused_by (Refused (OwnedByOther key owner)) ≡ refused_by (Refused NoStream)) × (new ≡ old)) (λ feed. IsReplyBy feed old step.0 step.1 (Err (Refused (OwnedByOther key owner))) new) → ⊥
-    by None e h = true≢false (ap is_hindered h.0)
-    by (Some feed) e h = stands feed e h.event h.of_step (slice_get old.streams step.0) refl h.stepped.0
+    no_clash_unfed : (o : Option State) → refused_by (Refused (OwnedByOther key owner)) ≡ refused_by (Refused (option_map_or (λ (x : State). FeedCount) o NoStream)) → ⊥
+    no_clash_unfed None e = true≢false (ap is_hindered e)
+    no_clash_unfed (Some x) e = true≢false (ap is_hindered e)
+
+    by : (o : Option FeedValue) → feed_of feeds old step.0 ≡ o
+        → MatchOption o ((refused_by (Refused (OwnedByOther key owner)) ≡ refused_by (Refused (unfed old step.0))) × (new ≡ old)) (λ feed. IsReplyBy feed old step.0 step.1 (Err (Refused (OwnedByOther key owner))) new) → ⊥
+    by None e h = no_clash_unfed (slice_get old.streams step.0) h.0
+    by (Some feed) e h = stands feed (feed_of-some feeds old step.0 feed e) h.event h.of_step (slice_get old.streams step.0) refl h.stepped.0
 
 pub none_clashes : (feeds : List FeedValue) (old new : Meaning) (steps : List (ℕ × Step)) (replies : List Reply) → IsRun feeds old steps replies new → IsLawful old → AllReadTheirFeeds feeds old → AreDisjoint feeds → NoneClashes replies
 none_clashes feeds old new [] [] run lawful all disjoint = tt

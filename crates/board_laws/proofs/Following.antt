@@ -1,7 +1,7 @@
 -- What steps of a schedule leave: each stream's state behind its own steps, a lawful board, and its rows.
 use Rattle.std.proofs.Common.{◌≡◌, ◌==◌, ◌&&◌, ℕ, Bool, true, false, cond, List, [], ◌∷◌, Option, Some, None, Ok, Err, slice_get, set, is_ok, refl, sym, ap, subst, ◌∙◌}
 use Rattle.std.proofs.lemmas.Bool.{eqb-false, true≢false}
-use Rattle.std.proofs.lemmas.Option.{same_Some}
+use Rattle.std.proofs.lemmas.Option.{same_Some, none-some}
 use borrow.Author.Tests.{eqb-true, eq-eqb}
 use Rattle.std.specs.Prelude.{MatchOption}
 use Rattle.std.specs.List.{cons_option, filter_map}
@@ -25,7 +25,7 @@ use Rattle.board_laws.specs.Event.{Event}
 use Rattle.board_laws.specs.StateAfter.{state_after}
 use Rattle.board_laws.specs.Step.{IsMade}
 use Rattle.board_laws.specs.Runs.{event_of_step, state_behind, taken, own}
-use Rattle.board_laws.specs.Schedule.{Reply, IsEventStep, IsRefusedStep, IsReplyBy, IsReply, IsRun}
+use Rattle.board_laws.specs.Schedule.{Reply, IsEventStep, IsRefusedStep, IsReplyBy, feed_of, unfed, IsReply, IsRun}
 use Rattle.board_laws.proofs.Lookups.{Ties, same_rows}
 
 -- ---- one step
@@ -36,9 +36,22 @@ refused_by refusal = Err refusal
 abbrev pub answered : Answer → Reply
 answered answer = Ok answer
 
+-- the feed of a stream of the board is the one of its number
+pub feed_of-some : (feeds : List FeedValue) (old : Meaning) (s : ℕ) (feed : FeedValue) → feed_of feeds old s ≡ Some feed → slice_get feeds s ≡ Some feed
+feed_of-some feeds old s feed e = by (slice_get old.streams s) e
+  where
+    by : (o : Option State) → option_and_then (λ (state : State). slice_get feeds s) o ≡ Some feed → slice_get feeds s ≡ Some feed
+    by None e = absurd (none-some feed e)
+    by (Some state) e = e
+
+-- and it has one where both are there
+pub feed_of-there : (feeds : List FeedValue) (old : Meaning) (s : ℕ) (state : State) (feed : FeedValue) → slice_get old.streams s ≡ Some state → slice_get feeds s ≡ Some feed
+    → feed_of feeds old s ≡ Some feed
+feed_of-there feeds old s state feed here fed = ap (λ (o : Option State). option_and_then (λ (x : State). slice_get feeds s) o) here ∙ fed
+
 -- a refused step leaves the board
 pub unchanged : (feeds : List FeedValue) (old : Meaning) (step : ℕ × Step) (refusal : StepRefusal) (new : Meaning) → IsReply feeds old step (Err refusal) new → new ≡ old
-unchanged feeds old step refusal new h = by (slice_get feeds step.0) refusal h
+unchanged feeds old step refusal new h = by (feed_of feeds old step.0) refusal h
   where
     refused : (feed : FeedValue) (refusal : Refusal) → IsRefusedStep feed old step.0 step.1 refusal new → new ≡ old
     refused feed NoStream h = h.stepped.1
@@ -49,7 +62,7 @@ unchanged feeds old step refusal new h = by (slice_get feeds step.0) refusal h
     refused feed FeedCount h = h.stepped.1
     refused feed Memory h = h.1
 
-    by : (o : Option FeedValue) (refusal : StepRefusal) → MatchOption o ((refused_by refusal ≡ refused_by (Refused NoStream)) × (new ≡ old)) (λ feed. IsReplyBy feed old step.0 step.1 (Err refusal) new) → new ≡ old
+    by : (o : Option FeedValue) (refusal : StepRefusal) → MatchOption o ((refused_by refusal ≡ refused_by (Refused (unfed old step.0))) × (new ≡ old)) (λ feed. IsReplyBy feed old step.0 step.1 (Err refusal) new) → new ≡ old
     by None refusal h = h.1
     by (Some feed) (Unprepared fault) h = h.1
     by (Some feed) (Refused refusal) h = refused feed refusal h
@@ -57,12 +70,12 @@ unchanged feeds old step refusal new h = by (slice_get feeds step.0) refusal h
 -- a step that isn't refused is one of a feed
 pub answered_by : (feeds : List FeedValue) (old : Meaning) (step : ℕ × Step) (answer : Answer) (new : Meaning) → IsReply feeds old step (Ok answer) new
     → (feed : FeedValue) × (slice_get feeds step.0 ≡ Some feed) × IsEventStep feed old step.0 step.1 (Ok answer) new
-answered_by feeds old step answer new h = by (slice_get feeds step.0) refl h
+answered_by feeds old step answer new h = by (feed_of feeds old step.0) refl h
   where
-    by : (o : Option FeedValue) → slice_get feeds step.0 ≡ o → MatchOption o ((answered answer ≡ refused_by (Refused NoStream)) × (new ≡ old)) (λ feed. IsReplyBy feed old step.0 step.1 (Ok answer) new)
+    by : (o : Option FeedValue) → feed_of feeds old step.0 ≡ o → MatchOption o ((answered answer ≡ refused_by (Refused (unfed old step.0))) × (new ≡ old)) (λ feed. IsReplyBy feed old step.0 step.1 (Ok answer) new)
         → (feed : FeedValue) × (slice_get feeds step.0 ≡ Some feed) × IsEventStep feed old step.0 step.1 (Ok answer) new
     by None e h = absurd (true≢false (ap is_ok h.0))
-    by (Some feed) e h = (feed, e, h)
+    by (Some feed) e h = (feed, feed_of-some feeds old step.0 feed e, h)
 
 -- a made step of another stream leaves a stream its state
 pub other-stays : (old new : Meaning) (t s : ℕ) (event : Event) (answer : Answer) (state : State) → IsMade old t event answer new → (t == s) ≡ false

@@ -4,10 +4,11 @@ use Rattle.std.proofs.lemmas.Bool.Decides.{nat_tests}
 use Rattle.std.proofs.lemmas.List.{length-map, length-take}
 use Rattle.std.proofs.lemmas.Option.{slice_get-map, same_Some, none-some}
 use Rattle.std.specs.Prelude.{nat_lt, nat_le}
-use Rattle.std.specs.List.{filter}
+use Rattle.std.specs.List.{AllByRecursion, filter}
 use Rattle.std.specs.Option.{option_map, option_and_then}
 use Rattle.list_laws.proofs.Places.{no_place}
 use Rattle.filter_rule.specs.PlanValue.{PlanValue}
+use Rattle.filter_rule.specs.WellFormed.{IsPlan}
 use Rattle.pk_copy.specs.KeyValue.{KeyValue}
 use Rattle.pk_copy.specs.Marks.{is_inside, is_beyond, is_past}
 use Rattle.source_feed.specs.Touches.{PreparedValue}
@@ -19,6 +20,7 @@ use Rattle.board_laws.specs.Cut.{cut_of}
 use Rattle.board_laws.specs.Lawful.{start_of, IsReadList, IsSoundState, IsLawful}
 use Rattle.board_laws.specs.Chunk.{rows_left, takes_all}
 use Rattle.board_laws.proofs.History.{passed_at-alike}
+use Rattle.board_laws.proofs.Lookups.{all-at}
 
 start-read : (plan : PlanValue) → IsReadList plan []
 start-read plan = record {
@@ -32,8 +34,9 @@ start-read plan = record {
   };
 }
 
-pub start-sound : (plan : PlanValue) → IsSoundState (start_of plan)
-start-sound plan = record {
+pub start-sound : (plan : PlanValue) → IsPlan plan → IsSoundState (start_of plan)
+start-sound plan well = record {
+  plan = well;
   list = start-read plan;
   standing = record { applied = omega arith; done = omega arith; snapshot = tt };
   marks = record { within = omega arith; current = tt };
@@ -53,13 +56,13 @@ started plans s state e = by (slice_get plans s) refl (sym (slice_get-map start_
     by None e f = let clash : None ≡ Some state = sym (ap (λ (o : Option PlanValue). option_map start_of o) e) ∙ f in absurd (none-some state clash)
     by (Some plan) e f = (plan, e, same_Some (start_of plan) state (sym (ap (λ (o : Option PlanValue). option_map start_of o) e) ∙ f))
 
-pub fresh-lawful : (plans : List PlanValue) → 1 ≤ length plans → length plans ≤ 64
+pub fresh-lawful : (plans : List PlanValue) → 1 ≤ length plans → length plans ≤ 64 → AllByRecursion IsPlan plans
     → ((s t : ℕ) (one other : PlanValue) → slice_get plans s ≡ Some one → slice_get plans t ≡ Some other → one.tables ≡ other.tables)
     → IsLawful (record { streams = map start_of plans; rows = [] })
-fresh-lawful plans some few tables = record {
+fresh-lawful plans some few well tables = record {
   some = subst (λ n. 1 ≤ n) (sym (length-map plans start_of)) some;
   few = subst (λ n. n ≤ 64) (sym (length-map plans start_of)) few;
-  sound = λ s state e. (let p = started plans s state e in subst (λ (x : State). IsSoundState x) p.2 (start-sound p.0));
+  sound = λ s state e. (let p = started plans s state e in subst (λ (x : State). IsSoundState x) p.2 (start-sound p.0 (all-at IsPlan plans s p.0 well p.1)));
   tables = λ s t one other e f. (let p = started plans s one e in
       let q = started plans t other f in
       ap (λ (x : State). x.plan.tables) (sym p.2) ∙ tables s t p.0 q.0 p.1 q.1 ∙ ap (λ (x : State). x.plan.tables) q.2);

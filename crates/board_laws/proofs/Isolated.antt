@@ -4,7 +4,7 @@ use Rattle.std.proofs.lemmas.Bool.{eqb-false, true≢false}
 use Rattle.std.proofs.lemmas.List.{length-set}
 use borrow.Author.Tests.{eqb-true}
 use Rattle.std.specs.Prelude.{MatchOption}
-use Rattle.std.specs.Option.{option_and_then}
+use Rattle.std.specs.Option.{option_map_or, option_and_then}
 use Rattle.board_laws.proofs.Chunks.{and-left}
 use Rattle.list_laws.proofs.Places.{slice_get-set_same, slice_get-set_other}
 use Rattle.filter_rule.specs.PlanValue.{PlanValue}
@@ -24,12 +24,12 @@ use Rattle.board_laws.specs.Lawful.{IsSoundState, IsLawful}
 use Rattle.board_laws.specs.Event.{Event}
 use Rattle.board_laws.specs.StateAfter.{state_after}
 use Rattle.board_laws.specs.Step.{due_at, IsMade, IsRefusedFor}
-use Rattle.board_laws.specs.Schedule.{Reply, IsEventStep, IsRefusedStep, IsReplyBy, IsReply, IsRun}
+use Rattle.board_laws.specs.Schedule.{Reply, IsEventStep, IsRefusedStep, IsReplyBy, feed_of, unfed, IsReply, IsRun}
 use Rattle.board_laws.specs.Lone.{is_hindered, is_lone, lone_steps, lone_replies, IsAloneAs}
 use Rattle.board_laws.proofs.Lists.{slice_get-set}
 use Rattle.board_laws.proofs.Making.{plan-after, same-or-other}
 use Rattle.board_laws.proofs.OwnPart.{own_part, only, rising_part, value_in_part, own-only, other-only, none-in_the_way}
-use Rattle.board_laws.proofs.Following.{refused_by, answered, unchanged, answered_by}
+use Rattle.board_laws.proofs.Following.{refused_by, answered, feed_of-there, unchanged, answered_by}
 
 -- ---- a made step
 
@@ -115,8 +115,14 @@ module _ (old between alone : Meaning) (s : ℕ) (event : Event) (answer : Answe
 -- a refusal is the same alone
 same_refusal : (feeds : List FeedValue) (old between alone : Meaning) (step : ℕ × Step) (refusal : StepRefusal) → IsReply feeds old step (Err refusal) between → is_hindered (Err refusal) ≡ false
     → slice_get alone.streams step.0 ≡ slice_get old.streams step.0 → IsReply feeds alone step (Err refusal) alone
-same_refusal feeds old between alone step refusal h free state = by (slice_get feeds step.0) refusal h free
+same_refusal feeds old between alone step refusal h free state =
+    subst (λ (o : Option FeedValue). MatchOption o ((refused_by refusal ≡ refused_by (Refused (unfed alone step.0))) × (alone ≡ alone)) (λ feed. IsReplyBy feed alone step.0 step.1 (Err refusal) alone))
+    (ap (λ (o : Option State). option_and_then (λ (x : State). slice_get feeds step.0) o) (sym state))
+    (by (feed_of feeds old step.0) refusal h free)
   where
+    same_unfed : unfed old step.0 ≡ unfed alone step.0
+    same_unfed = ap (λ (o : Option State). option_map_or (λ (x : State). FeedCount) o NoStream) (sym state)
+
     again : (feed : FeedValue) (refusal : Refusal) (h : IsEventStep feed old step.0 step.1 (Err refusal) between)
         → MatchOption (slice_get old.streams step.0) (refusal ≡ NoStream) (λ state. IsRefusedFor alone step.0 state h.event refusal) → IsEventStep feed alone step.0 step.1 (Err refusal) alone
     again feed refusal h stands = record {
@@ -134,9 +140,9 @@ same_refusal feeds old between alone step refusal h free state = by (slice_get f
     refused feed FeedCount h free = again feed FeedCount h h.stepped.0
     refused feed Memory h free = absurd (true≢false free)
 
-    by : (o : Option FeedValue) (refusal : StepRefusal) → MatchOption o ((refused_by refusal ≡ refused_by (Refused NoStream)) × (between ≡ old)) (λ feed. IsReplyBy feed old step.0 step.1 (Err refusal) between) → is_hindered (Err refusal) ≡ false
-        → MatchOption o ((refused_by refusal ≡ refused_by (Refused NoStream)) × (alone ≡ alone)) (λ feed. IsReplyBy feed alone step.0 step.1 (Err refusal) alone)
-    by None refusal h free = (h.0, refl)
+    by : (o : Option FeedValue) (refusal : StepRefusal) → MatchOption o ((refused_by refusal ≡ refused_by (Refused (unfed old step.0))) × (between ≡ old)) (λ feed. IsReplyBy feed old step.0 step.1 (Err refusal) between) → is_hindered (Err refusal) ≡ false
+        → MatchOption o ((refused_by refusal ≡ refused_by (Refused (unfed alone step.0))) × (alone ≡ alone)) (λ feed. IsReplyBy feed alone step.0 step.1 (Err refusal) alone)
+    by None refusal h free = (h.0 ∙ ap (λ (r : Refusal). refused_by (Refused r)) same_unfed, refl)
     by (Some feed) (Unprepared fault) h free = (h.0, refl)
     by (Some feed) (Refused refusal) h free = refused feed refusal h free
 
@@ -148,7 +154,8 @@ lone_step feeds old between alone step (Ok answer) h free is =
     let stepped : IsEventStep one.0 alone step.0 step.1 (Ok answer) then
     = record { event = one.2.event; of_step = one.2.of_step; stepped = left-made old between alone step.0 one.2.event answer one.2.stepped is } in (
       then,
-      subst (λ (o : Option FeedValue). MatchOption o ((answered answer ≡ refused_by (Refused NoStream)) × (then ≡ alone)) (λ feed. IsReplyBy feed alone step.0 step.1 (Ok answer) then)) (sym one.1) stepped,
+      subst (λ (o : Option FeedValue). MatchOption o ((answered answer ≡ refused_by (Refused (unfed alone step.0))) × (then ≡ alone)) (λ feed. IsReplyBy feed alone step.0 step.1 (Ok answer) then))
+          (sym (feed_of-there feeds alone step.0 stepped.stepped.state one.0 stepped.stepped.stream one.1)) stepped,
       left-alone old between alone step.0 one.2.event answer one.2.stepped is,
     )
 lone_step feeds old between alone step (Err refusal) h free is = (

@@ -20,3 +20,4 @@ pub mod Replays
 pub mod FeedGroups
 pub mod Sources
 pub mod Agreeing
+pub mod FedBoards

@@ -111,7 +111,7 @@ module _ (board : Meaning) (lawful : IsLawful board) (s : ℕ) (state : State) (
     few = subst (λ n. n ≤ 64) (sym (length-set (map fresh board.streams) s state ∙ length-map board.streams fresh)) lawful.few;
     sound = λ t x e. elim (slice_get-set (map fresh board.streams) s state x t e) [
       | inl same ↦ subst (λ (z : State). IsSoundState z) same.1 (lawful.sound s state here)
-      | inr other ↦ (let w : (y : State) × (slice_get board.streams t ≡ Some y) × (fresh y ≡ x) = was t x other.1 in subst (λ (z : State). IsSoundState z) w.2 (start-sound w.0.plan))
+      | inr other ↦ (let w : (y : State) × (slice_get board.streams t ≡ Some y) × (fresh y ≡ x) = was t x other.1 in subst (λ (z : State). IsSoundState z) w.2 (start-sound w.0.plan (lawful.sound t w.0 w.1).plan))
     ];
     tables = λ t u x y e f.
         let one : (z : State) × (slice_get board.streams t ≡ Some z) × (x.plan ≡ z.plan) = before t x e in

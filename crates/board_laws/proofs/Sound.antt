@@ -100,6 +100,7 @@ module _ (state : State) (sound : IsSoundState state) where
       → IfSome snapshot (IsOpenAt (record { read = length state.list; applied = state.applied; tables = marks.tables; done = marks.done; snapshot = snapshot }))
       → IsSoundState (record { plan = state.plan; list = state.list; applied = state.applied; marks = marks; snapshot = snapshot })
   with_marks marks snapshot are same key opened = record {
+    plan = sound.plan;
     list = sound.list;
     standing = record { applied = sound.standing.applied; done = are.within; snapshot = opened };
     marks = are;
@@ -142,6 +143,7 @@ module _ (state : State) (sound : IsSoundState state) where
       by false e =
           let longer : length (state.list ++ group ∷ []) ≡ length state.list + 1 = length-append state.list (group ∷ []) in
           record {
+            plan = sound.plan;
             list = read-next state.plan state.list group sound.list allowed.plan prepared (next e);
             standing = record {
               applied = omega (arith, longer, sound.standing.applied);
@@ -158,6 +160,7 @@ module _ (state : State) (sound : IsSoundState state) where
 pub sound-after : (ties : Ties) (of_rows : KeysOfRowsAreTableKeys) (state : State) (event : Event) → IsSoundState state → IsAllowed state event → OnOffer IsPrepared event → IsSoundState (state_after state event)
 sound-after ties of_rows state (offer group) sound allowed prepared = sound-offered state sound group allowed prepared
 sound-after ties of_rows state advance sound allowed prepared = record {
+  plan = sound.plan;
   list = sound.list;
   standing = record {
     applied = let more : state.applied < length state.list = one_more state sound.standing allowed.table in omega arith;
@@ -173,6 +176,7 @@ sound-after ties of_rows state (open_at m) sound allowed prepared =
     let left : state.marks.done ≢ state.marks.tables = eqb-false state.marks.done state.marks.tables none.0 in
     let most : state.marks.done ≤ state.marks.tables = sound.standing.done in
     record {
+      plan = sound.plan;
       list = sound.list;
       standing = record {
         applied = sound.standing.applied;
@@ -185,6 +189,7 @@ sound-after ties of_rows state (open_at m) sound allowed prepared =
     }
 sound-after ties of_rows state (copy_rows c) sound allowed prepared = sound-copied state sound ties of_rows c (copying state c sound.standing allowed.table)
 sound-after ties of_rows state close sound allowed prepared = record {
+  plan = sound.plan;
   list = sound.list;
   standing = record { applied = sound.standing.applied; done = sound.standing.done; snapshot = tt };
   marks = sound.marks;
@@ -195,6 +200,7 @@ sound-after ties of_rows state restart sound allowed prepared =
     let most : state.applied ≤ length state.list = sound.standing.applied in
     let cut : length (take state.applied state.list) ≡ state.applied = length-take-le state.applied state.list most in
     record {
+      plan = sound.plan;
       list = read-cut state.plan state.list state.applied sound.list;
       standing = record { applied = omega (arith, cut); done = sound.standing.done; snapshot = tt };
       marks = sound.marks;

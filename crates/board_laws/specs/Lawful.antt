@@ -1,6 +1,7 @@
 -- What is true of every board: the headline of a target (this profile).
 use Rattle.std.specs.Prelude.{◌≡◌, ℕ, ◌≤◌, List, [], length, Some, None, IfSome, slice_get}
 use Rattle.filter_rule.specs.PlanValue.{PlanValue}
+use Rattle.filter_rule.specs.WellFormed.{IsPlan}
 use Rattle.pk_copy.specs.KeyOrder.{key_cmp}
 use Rattle.pk_copy.specs.KeyValue.{KeyValue}
 use Rattle.pk_copy.specs.Lastpk.{IsTableKey}
@@ -43,8 +44,10 @@ pub record IsReadList (plan : PlanValue) (list : List PreparedValue) : Type 0 wh
   pub planned : (i : ℕ) (group : PreparedValue) → slice_get list i ≡ Some group → group.plan ≡ plan
   pub order : AreInOrder (λ (group : PreparedValue). group.number) (λ (group : PreparedValue). group.position) list
 
--- what is true of every stream's state; the key up to which a table is copied is one of its table
+-- what is true of every stream's state: its plan is well-formed, and the key up to which a table is copied is one of its
+-- table
 pub record IsSoundState (state : State) : Type 0 where
+  pub plan : IsPlan state.plan
   pub list : IsReadList state.plan state.list
   pub standing : IsSound (standing_of state)
   pub marks : AreMarks state.marks

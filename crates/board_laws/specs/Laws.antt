@@ -1,6 +1,8 @@
 -- Laws of steps, as statements: each is the contract of a function without a body.
 use Rattle.std.specs.Prelude.{◌≡◌, ℕ, ◌+◌, ◌^◌, ◌<◌, ◌≤◌, List, [], length, map, take, nat_le, Some, None, slice_get, slice_set}
+use Rattle.std.specs.List.{AllByRecursion}
 use Rattle.filter_rule.specs.PlanValue.{PlanValue}
+use Rattle.filter_rule.specs.WellFormed.{IsPlan}
 use Rattle.pk_copy.specs.KeyOrder.{key_cmp}
 use Rattle.pk_copy.specs.KeyValue.{KeyValue}
 use Rattle.target_tables.specs.Rising.{IsRising}
@@ -83,9 +85,9 @@ OneMoreTells = (state : State) (c : ℕ) → nat_le (length (take (c + 1) (rows_
 
 -- ---- a fresh board
 
--- streams of which nothing is read, over the same tables, and no rows
+-- streams of which nothing is read, under well-formed plans over the same tables, and no rows
 abbrev pub FreshBoardsAreLawful : Type 0
 FreshBoardsAreLawful =
-    (plans : List PlanValue) → 1 ≤ length plans → length plans ≤ 64
+    (plans : List PlanValue) → 1 ≤ length plans → length plans ≤ 64 → AllByRecursion IsPlan plans
     → ((s t : ℕ) (one other : PlanValue) → slice_get plans s ≡ Some one → slice_get plans t ≡ Some other → one.tables ≡ other.tables)
     → IsLawful (record { streams = map start_of plans; rows = [] })

@@ -14,6 +14,7 @@ pub mod Laws
 pub mod Schedule
 pub mod Lone
 pub mod Reading
+pub mod FedBoards
 pub mod Sources
 pub mod RunLaws
 pub mod Agreement

@@ -1,5 +1,5 @@
 -- Laws of schedules, as statements: each is the contract of a function without a body.
-use Rattle.std.specs.Prelude.{◌≡◌, ◌≢◌, ◌↔◌, ℕ, List, Some, Err, slice_get}
+use Rattle.std.specs.Prelude.{◌≡◌, ◌≢◌, ◌↔◌, ℕ, List, Some, Err, slice_get, slice_set}
 use Rattle.std.specs.List.{AllByRecursion}
 use Rattle.stream_core.specs.declared.step.Step.{Step}
 use Rattle.pk_copy.specs.KeyOrder.{key_cmp}
@@ -15,8 +15,9 @@ use Rattle.board_laws.specs.Cut.{own_row}
 use Rattle.board_laws.specs.Lone.{lone_steps, lone_replies, IsAloneAs}
 use Rattle.board_laws.specs.Runs.{own, taken, AreDisjoint}
 use Rattle.board_laws.specs.Reading.{AllReadTheirFeeds, IsReplayed}
-use Rattle.board_laws.specs.Sources.{AllShowTheirSources}
-use Rattle.board_laws.specs.Schedule.{Reply, IsRun}
+use Rattle.board_laws.specs.FedBoards.{IsFedBoard, HasGrown}
+use Rattle.board_laws.specs.Sources.{AllShowTheirSources, ShowAll}
+use Rattle.board_laws.specs.Schedule.{Reply, IsReply, IsRun}
 
 -- each stream's state is the one behind its own steps that weren't refused, by its feed alone
 abbrev pub StreamsFollowTheirOwnSteps : Type 0
@@ -97,3 +98,25 @@ RowsAreReplayed =
 -- the streams of a lawful board that read their feeds show their sources
 abbrev pub BoardsShowTheirSources : Type 0
 BoardsShowTheirSources = (feeds : List FeedValue) (board : Meaning) → IsLawful board → AllReadTheirFeeds feeds board → AllShowTheirSources feeds board
+
+-- ---- a board with its feeds
+
+-- a board with its feeds shows all their sources
+abbrev pub FedBoardsShowAll : Type 0
+FedBoardsShowAll = (feeds : List FeedValue) (board : Meaning) → IsFedBoard feeds board → ShowAll feeds board
+
+-- behind a step it still is one
+abbrev pub FedBoardsStayFed : Type 0
+FedBoardsStayFed =
+    (feeds : List FeedValue) (old new : Meaning) (step : ℕ × Step) (reply : Reply) → IsReply feeds old step reply new → IsFedBoard feeds old → IsFedBoard feeds new
+
+-- and behind any steps
+abbrev pub FedBoardsRunFed : Type 0
+FedBoardsRunFed =
+    (feeds : List FeedValue) (old new : Meaning) (steps : List (ℕ × Step)) (replies : List Reply) → IsRun feeds old steps replies new → IsFedBoard feeds old → IsFedBoard feeds new
+
+-- and where the feed of a stream grows
+abbrev pub FedBoardsMayGrow : Type 0
+FedBoardsMayGrow =
+    (feeds : List FeedValue) (board : Meaning) (s : ℕ) (old new : FeedValue) → IsFedBoard feeds board → slice_get feeds s ≡ Some old → HasGrown old new
+    → IsFedBoard (slice_set feeds s new) board

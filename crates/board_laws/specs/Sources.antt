@@ -1,9 +1,10 @@
 -- The headline: what the target has of each stream is what its source has (this profile).
-use Rattle.std.specs.Prelude.{◌≡◌, ◌↔◌, ℕ, ◌≤◌, List, length, take, Some, IsTrue, slice_get}
+use Rattle.std.specs.Prelude.{◌≡◌, ◌↔◌, ℕ, ◌<◌, ◌≤◌, List, length, take, Some, IsTrue, slice_get}
 use Rattle.pk_copy.specs.KeyOrder.{key_cmp}
 use Rattle.pk_copy.specs.KeyValue.{KeyValue}
 use Rattle.pk_copy.specs.Marks.{is_inside}
 use Rattle.target_tables.specs.Contents.{value_at}
+use Rattle.target_tables.specs.Rising.{IsRising}
 use Rattle.source_feed.specs.GroupValue.{Position}
 use Rattle.source_feed.specs.History.{KeptRow, kept_at}
 use Rattle.source_feed.specs.Planned.{FeedValue}
@@ -41,3 +42,14 @@ pub record ShowsItsSource (feeds : List FeedValue) (board : Meaning) (s : ℕ) :
 -- every stream of a board shows its source
 abbrev pub AllShowTheirSources : List FeedValue → Meaning → Type 0
 AllShowTheirSources feeds board = (s : ℕ) (state : State) → slice_get board.streams s ≡ Some state → ShowsItsSource feeds board s
+
+-- ---- a whole board
+
+-- A board shows all its sources: there is a feed, and a stream for each feed; each feed's stream shows it; and the rows,
+-- by rising key, are of these streams alone. A board of no streams shows none.
+pub record ShowAll (feeds : List FeedValue) (board : Meaning) : Type 0 where
+  pub some : 1 ≤ length feeds
+  pub count : length board.streams ≡ length feeds
+  pub shows : (s : ℕ) (feed : FeedValue) → slice_get feeds s ≡ Some feed → ShowsSource feed board s
+  pub rising : IsRising key_cmp board.rows
+  pub closed : (key : KeyValue) (s : ℕ) (row : KeptRow) → value_at key_cmp board.rows key ≡ Some (s, row) → s < length feeds

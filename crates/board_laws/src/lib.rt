@@ -17,7 +17,7 @@ pub use laws::{
 };
 pub use refusal::Refusal;
 pub use run_laws::{
-    boards_show_their_sources, rows_are_replayed, runs_are_determined, streams_are_isolated,
-    streams_follow_their_own_steps, streams_read_their_feeds,
+    boards_show_their_sources, fed_boards_show_all, rows_are_replayed, runs_are_determined,
+    streams_are_isolated, streams_follow_their_own_steps, streams_read_their_feeds,
 };
 pub use step_refusal::StepRefusal;

@@ -1,6 +1,6 @@
 //! Laws of schedules, each the contract of a function without a body.
 
-ghost use Rattle.board_laws.specs.RunLaws.{StreamsFollowTheirOwnSteps, RunsStayLawful, StatesSayTheRows, RunsAreDetermined, StreamsAreIsolated, AloneWithTheSameRows, AloneBoardsExist, StreamsReadTheirFeeds, DisjointFeedsNeverClash, RowsAreReplayed, BoardsShowTheirSources};
+ghost use Rattle.board_laws.specs.RunLaws.{StreamsFollowTheirOwnSteps, RunsStayLawful, StatesSayTheRows, RunsAreDetermined, StreamsAreIsolated, AloneWithTheSameRows, AloneBoardsExist, StreamsReadTheirFeeds, DisjointFeedsNeverClash, RowsAreReplayed, BoardsShowTheirSources, FedBoardsShowAll, FedBoardsStayFed, FedBoardsRunFed, FedBoardsMayGrow};
 
 use pk_copy::keys_tie_where_they_are_equal;
 
@@ -49,4 +49,13 @@ pub fn rows_are_replayed()
 /// groups of its feed up to its recorded position leave it there, it passes the filter, and its key is copied.
 pub fn boards_show_their_sources()
     ensures { BoardsShowTheirSources }
+{}
+
+/// A board with its feeds shows all their sources: each stream's rows are what the groups of its feed up to its recorded
+/// position leave, filtered and copied, and there are no other rows. Any steps leave it so, and so does a feed that grows.
+pub fn fed_boards_show_all()
+    ensures show { FedBoardsShowAll }
+    ensures step { FedBoardsStayFed }
+    ensures run { FedBoardsRunFed }
+    ensures grow { FedBoardsMayGrow }
 {}

@@ -10,6 +10,8 @@ mod chunks;
 #[cfg(test)]
 mod copying_joins;
 #[cfg(test)]
+mod fed_boards;
+#[cfg(test)]
 mod feeds;
 #[cfg(test)]
 mod fresh_memory;

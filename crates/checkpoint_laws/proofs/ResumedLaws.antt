@@ -41,6 +41,7 @@ module _ (feed : FeedValue) (whole : IsFeed feed) (saved : SavedStream) (sound :
 
   pub resumed-sound : IsSoundState state
   resumed-sound = subst IsSoundState (sym at.state_is) (record {
+    plan = whole.plan;
     list = read-cut feed.plan (sound_groups feed) at.number (sound-is_read feed whole);
     standing = record { applied = omega (arith, long); done = sound.marks.within; snapshot = tt };
     marks = sound.marks;

@@ -385,23 +385,19 @@ rows_keyed kept plan well [] h = tt
 rows_keyed kept plan well (row ∷ rows) h = (row_keyed kept plan well row h.0, rows_keyed kept plan well rows h.1)
 
 -- the rows of a cut stand at their own keys
-pub cut_keyed : KeysAreKept → (ties : Ties) (state : State) → IsPlan state.plan → IsSoundState state → AllByRecursion (IsKeyed state.plan) (cut_rows state)
-cut_keyed kept ties state well sound =
+pub cut_keyed : KeysAreKept → (ties : Ties) (state : State) → IsSoundState state → AllByRecursion (IsKeyed state.plan) (cut_rows state)
+cut_keyed kept ties state sound =
     all-filter (IsKeyed state.plan) (λ row. is_inside state.marks row.0) (kept_rows state.plan state.list state.applied)
-    (rows_keyed kept state.plan well (passed_rows state.list state.applied) (passed-under ties state.plan state.list state.applied sound.list))
+    (rows_keyed kept state.plan sound.plan (passed_rows state.list state.applied) (passed-under ties state.plan state.list state.applied sound.list))
 
-module _ (keys_kept : KeysAreKept) (ties : Ties) (board : Meaning) (plans : AllByRecursion IsPlan (plans_of_board board)) (lawful : IsLawful board) (within : AreWithin board) where
+module _ (keys_kept : KeysAreKept) (ties : Ties) (board : Meaning) (lawful : IsLawful board) (within : AreWithin board) where
   long : length (saved_of board) ≡ length (plans_of_board board)
   long = saved_long 0 board.streams board.rows ∙ sym (length-map board.streams (λ (state : State). state.plan))
-
-  well_of : (s : ℕ) (state : State) → slice_get board.streams s ≡ Some state → IsPlan state.plan
-  well_of s state here =
-      all-at IsPlan (plans_of_board board) s state.plan plans (slice_get-map (λ (state : State). state.plan) board.streams s ∙ ap (option_map (λ (state : State). state.plan)) here)
 
   of_state : (s : ℕ) (state : State) → slice_get board.streams s ≡ Some state → Known state.plan (saved_stream s state board.rows)
   of_state s state here =
       let sound : IsSoundState state = lawful.sound s state here in
-      let keyed : AllByRecursion (IsKeyed state.plan) (own_rows s board.rows) = subst (AllByRecursion (IsKeyed state.plan)) (sym (own-is_cut ties board lawful s state here)) (cut_keyed keys_kept ties state (well_of s state here) sound) in
+      let keyed : AllByRecursion (IsKeyed state.plan) (own_rows s board.rows) = subst (AllByRecursion (IsKeyed state.plan)) (sym (own-is_cut ties board lawful s state here)) (cut_keyed keys_kept ties state sound) in
       record {
         sound = record { tables = sound.tables; marks = sound.marks; upto = sound.upto; rising = own-rising s board.rows lawful.rising; keyed = keyed };
         canonical = position_is state sound;
@@ -422,7 +418,9 @@ module _ (keys_kept : KeysAreKept) (ties : Ties) (board : Meaning) (plans : AllB
 
   -- each of its plans is well-formed, and each stream within the limits
   well_at : (s : ℕ) (plan : PlanValue) → slice_get (plans_of_board board) s ≡ Some plan → IsPlan plan
-  well_at s plan p = all-at IsPlan (plans_of_board board) s plan plans p
+  well_at s plan p =
+      let there : (state : State) × (slice_get board.streams s ≡ Some state) = at_same_place (plans_of_board board) board.streams s plan (length-map board.streams (λ (state : State). state.plan)) p in
+      subst IsPlan (planned_at s there.0 plan there.1 p) (lawful.sound s there.0 there.1).plan
 
   within_at : (s : ℕ) (one : SavedStream) → slice_get (saved_of board) s ≡ Some one → IsStreamWithin one
   within_at s one q = all-at IsStreamWithin (saved_of board) s one within q
@@ -490,12 +488,12 @@ all_tables One plan is = refl
 all_tables Two plan is = (is.tables.count.0, omega arith)
 
 pub saved_boards : KeysAreKept → Ties → StreamPartsAreReadAgain → ReadsBack → SavedBoardsAreSaid
-saved_boards keys_kept ties parts_again reads version board plans lawful within short =
+saved_boards keys_kept ties parts_again reads version board lawful within short =
     subst (IsCheckpoint (plans_of_board board) (checkpoint_in version board))
-    (under_own (plans_of_board board) (saved_of board) (long keys_kept ties board plans lawful within) (λ s plan one p q. (known_at keys_kept ties board plans lawful within s plan one p q).sound.tables))
-    (says_all keys_kept ties board plans lawful within reads version (plans_of_board board) refl
+    (under_own (plans_of_board board) (saved_of board) (long keys_kept ties board lawful within) (λ s plan one p q. (known_at keys_kept ties board lawful within s plan one p q).sound.tables))
+    (says_all keys_kept ties board lawful within reads version (plans_of_board board) refl
     (λ s old new p q. subst (IsFront old) (same_Some old new (sym p ∙ q)) (front_itself old))
-    (λ s old new p q. subst (λ (plan : PlanValue). AreSoMany version plan (length old.tables)) (same_Some old new (sym p ∙ q)) (all_tables version old (well_at keys_kept ties board plans lawful within s old p)))
+    (λ s old new p q. subst (λ (plan : PlanValue). AreSoMany version plan (length old.tables)) (same_Some old new (sym p ∙ q)) (all_tables version old (well_at keys_kept ties board lawful within s old p)))
     parts_again short)
 
 -- the tables of a plan stand in front of those of one that extends it
@@ -507,8 +505,8 @@ front_extended old new more = record {
 }
 
 pub saved_boards_of_more : KeysAreKept → Ties → StreamPartsAreReadAgain → ReadsBack → SavedBoardsAreSaidOfMore
-saved_boards_of_more keys_kept ties parts_again reads board news plans lawful within short are =
-    says_all keys_kept ties board plans lawful within reads Two news are.count
+saved_boards_of_more keys_kept ties parts_again reads board news lawful within short are =
+    says_all keys_kept ties board lawful within reads Two news are.count
     (λ s old new p q. front_extended old new (are.each_plan s old new p q))
-    (λ s old new p q. let more : IsExtended old new = are.each_plan s old new p q in ((well_at keys_kept ties board plans lawful within s old p).tables.count.0, omega (arith, more.more)))
+    (λ s old new p q. let more : IsExtended old new = are.each_plan s old new p q in ((well_at keys_kept ties board lawful within s old p).tables.count.0, omega (arith, more.more)))
     parts_again short

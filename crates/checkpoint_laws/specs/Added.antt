@@ -1,9 +1,7 @@
 -- A checkpoint that was written before tables were added, over feeds which were opened under the plans with more
 -- tables (this profile).
 use Rattle.std.specs.Prelude.{◌≡◌, ℕ, ◌^◌, ◌<◌, ◌≤◌, List, [], ◌∷◌, length, Some, slice_get}
-use Rattle.std.specs.List.{AllByRecursion}
 use Rattle.filter_rule.specs.PlanValue.{PlanValue}
-use Rattle.filter_rule.specs.WellFormed.{IsPlan}
 use Rattle.source_feed.specs.Planned.{PlannedGroupValue, FeedValue}
 use Rattle.source_feed.specs.Prepared.{IsSameOn}
 use Rattle.source_feed.specs.SoundGroups.{sound_groups}
@@ -35,7 +33,7 @@ under_plans (plan ∷ plans) (one ∷ saved) = under_plan plan one ∷ under_pla
 -- wait
 abbrev pub SavedBoardsAreSaidOfMore : Type 0
 SavedBoardsAreSaidOfMore =
-    (board : Meaning) (plans : List PlanValue) → AllByRecursion IsPlan (plans_of_board board) → IsLawful board → AreWithin board → length (checkpoint_of board) < 2 ^ 64
+    (board : Meaning) (plans : List PlanValue) → IsLawful board → AreWithin board → length (checkpoint_of board) < 2 ^ 64
     → AreExtended (plans_of_board board) plans → IsCheckpoint plans (checkpoint_of board) (under_plans plans (saved_of board))
 
 -- ---- the board

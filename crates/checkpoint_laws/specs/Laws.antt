@@ -49,11 +49,10 @@ pub record IsStreamWithin (saved : SavedStream) : Type 0 where
 abbrev pub AreWithin : Meaning → Type 0
 AreWithin board = AllByRecursion IsStreamWithin (saved_of board)
 
--- what is kept of a board within the limits, under well-formed plans, is what its checkpoint says in either version,
--- whose bytes can be counted
+-- what is kept of a board within the limits is what its checkpoint says in either version, whose bytes can be counted
 abbrev pub SavedBoardsAreSaid : Type 0
 SavedBoardsAreSaid =
-    (version : Version) (board : Meaning) → AllByRecursion IsPlan (plans_of_board board) → IsLawful board → AreWithin board → length (checkpoint_in version board) < 2 ^ 64
+    (version : Version) (board : Meaning) → IsLawful board → AreWithin board → length (checkpoint_in version board) < 2 ^ 64
     → IsCheckpoint (plans_of_board board) (checkpoint_in version board) (saved_of board)
 
 -- ---- the resumed board

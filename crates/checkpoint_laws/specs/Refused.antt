@@ -63,7 +63,7 @@ pub record AreClashing (feeds : List FeedValue) (saved : List SavedStream) (key 
   pub agree : AtEachPlace AgreesWith saved states
   pub clash : IsFirstClash states key owner
 
--- what a checkpoint says is refused
+-- what a checkpoint says is refused; memory is wanted only where all positions are known
 abbrev pub IsRefusedSaved : List FeedValue → List SavedStream → ResumeFault → Type 0
 IsRefusedSaved feeds saved FeedCount = ⊥
 IsRefusedSaved feeds saved WrongPlan = ⊥
@@ -72,7 +72,7 @@ IsRefusedSaved feeds saved (PositionUnknown s) = IsFirstOff IsKnown feeds saved 
 IsRefusedSaved feeds saved (Unsound fault) = AreUnsound feeds saved fault
 IsRefusedSaved feeds saved (CheckpointDiffers s key) = AreDifferent feeds saved s key
 IsRefusedSaved feeds saved (OwnedByOther key owner) = AreClashing feeds saved key owner
-IsRefusedSaved feeds saved Memory = Unit {0}
+IsRefusedSaved feeds saved Memory = AtEachPlace IsKnown feeds saved
 
 -- what stands in bytes that aren't resumed over feeds which were opened under their plans: they are no checkpoint,
 -- or what they say is refused

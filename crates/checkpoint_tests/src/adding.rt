@@ -104,12 +104,13 @@ fn is_refused(
     }
 }
 
-/// 119, 122 and 111: another number of plans, a table put first, none added, and a feed under another plan.
+/// 119, 122 and 111: another number of feeds, of plans, a table put first, none added, and a feed under another plan.
 #[test]
 fn plans_that_are_not_taken(rt: HostRuntime) {
     let alloc = rt.alloc();
     let cases: &[(&[u8], &[u8], u8)] = &[
         (TWO, ONE, 119),
+        (TWO, TWO, 122),
         (PUT_FIRST, PUT_FIRST, 122),
         (ONE, ONE, 122),
         (ADDED, PUT_FIRST, 111),

@@ -1,5 +1,5 @@
 -- Streams to which tables are added, one after another.
-use Rattle.std.specs.Prelude.{◌≡◌, ℕ, List, take, Some, Ok, Err, slice_get}
+use Rattle.std.specs.Prelude.{◌≡◌, ℕ, List, take, Some, Ok, Err, IsOk, slice_get}
 use Rattle.filter_rule.specs.Extending.{IsExtended}
 use Rattle.source_feed.specs.declared.fault.FeedFault.{FeedFault}
 use Rattle.source_feed.specs.declared.fault.FeedFault.TheVariants as feed
@@ -12,6 +12,7 @@ use Rattle.added_laws.specs.declared.fault.AddFault.{AddFault}
 use Rattle.added_laws.specs.declared.fault.AddFault.TheVariants.{HistoriesDiffer, Unsound, Memory}
 use Rattle.added_laws.specs.Extended.{extended_state, extended_states}
 use Rattle.added_laws.specs.GoingOn.{GoesOnTo, GoesOn, MeetsUnsound, IsOfOtherHistory, GoOnBefore, StopsAt}
+use Rattle.apply_core.specs.Adding.{MayWantMemory}
 
 -- ---- one group
 
@@ -25,11 +26,11 @@ pub record IsGroupAgain (tables : ℕ) (feed : FeedValue) (old : PreparedValue) 
   pub prepared_is : prepared_at feed number ≡ Ok new
   pub same : IsSameOn tables old new
 
--- it isn't: it isn't sound, with this fault, or another one; or memory is wanting
+-- it isn't: it isn't sound, with this fault, or another one; or memory is wanting for a sound one
 abbrev pub IsNotAgain : ℕ → FeedValue → PreparedValue → ℕ → ℕ → AddFault → Type 0
 IsNotAgain tables feed old number s (HistoriesDiffer t) = (t ≡ s) × ((new : PreparedValue) × (prepared_at feed number ≡ Ok new) × ¬ IsSameOn tables old new)
 IsNotAgain tables feed old number s (Unsound fault) = prepared_at feed number ≡ Err fault
-IsNotAgain tables feed old number s Memory = Unit {0}
+IsNotAgain tables feed old number s Memory = IsOk (prepared_at feed number)
 IsNotAgain tables feed old number s fault = ⊥
 
 -- ---- one stream
@@ -39,11 +40,11 @@ pub record AreAgain (feed : FeedValue) (state : State) (number : ℕ) (groups : 
   pub go_on : GoesOnTo feed state number
   pub are : groups ≡ take number (sound_groups feed)
 
--- the feed of stream s doesn't go on from it; or memory is wanting
+-- the feed of stream s doesn't go on from it; or memory is wanting, where it does so far
 abbrev pub IsStoppedBy : ℕ → FeedValue → State → AddFault → Type 0
 IsStoppedBy s feed state (HistoriesDiffer t) = (t ≡ s) × IsOfOtherHistory feed state
 IsStoppedBy s feed state (Unsound fault) = MeetsUnsound feed state fault
-IsStoppedBy s feed state Memory = Unit {0}
+IsStoppedBy s feed state Memory = MayWantMemory feed state
 IsStoppedBy s feed state fault = ⊥
 
 -- the feed goes on from the stream, and this is the stream with more tables
@@ -62,9 +63,9 @@ pub record AreExtendedUpTo (feeds : List FeedValue) (states : List State) (n : �
   pub before : GoOnBefore feeds states n
   pub are : new ≡ take n (extended_states feeds states)
 
--- one of the streams is the first whose feed doesn't go on; or memory is wanting
+-- one of the streams is the first whose feed doesn't go on; or memory is wanting for it, where it does so far
 abbrev pub AreStopped : List FeedValue → List State → AddFault → Type 0
 AreStopped feeds states (HistoriesDiffer s) = StopsAt IsOfOtherHistory feeds states s
 AreStopped feeds states (Unsound fault) = (s : ℕ) × StopsAt (λ feed state. MeetsUnsound feed state fault) feeds states s
-AreStopped feeds states Memory = Unit {0}
+AreStopped feeds states Memory = (s : ℕ) × StopsAt MayWantMemory feeds states s
 AreStopped feeds states fault = ⊥

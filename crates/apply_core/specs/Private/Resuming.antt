@@ -7,7 +7,6 @@ use Rattle.target_tables.specs.Rising.{IsRising}
 use Rattle.source_feed.specs.declared.fault.FeedFault.{FeedFault}
 use Rattle.source_feed.specs.declared.fault.FeedFault.TheVariants as feed
 use Rattle.source_feed.specs.Planned.{FeedValue}
-use Rattle.source_feed.specs.Positions.{IsNumberAt}
 use Rattle.source_feed.specs.SoundGroups.{IsFirstFault}
 use Rattle.board_laws.specs.Meaning.{State}
 use Rattle.join_laws.specs.Refused.{IsFirstClash}
@@ -22,15 +21,6 @@ use Rattle.apply_core.specs.Feeds.{AreFed}
 -- a fact of three values at each place of three lists
 abbrev pub AtEachOfThree : {A B C : Type 0} → (A → B → C → Type 0) → List A → List B → List C → Type 0
 AtEachOfThree {A} {B} {C} P xs ys zs = (s : ℕ) (x : A) (y : B) (z : C) → slice_get xs s ≡ Some x → slice_get ys s ≡ Some y → slice_get zs s ≡ Some z → P x y z
-
--- so many groups of a feed are applied at a stream's position
-abbrev pub IsNumberOf : FeedValue → SavedStream → ℕ → Type 0
-IsNumberOf feed one number = IsNumberAt feed one.position number
-
--- the numbers of the first n streams
-pub record AreNumbers (feeds : List FeedValue) (saved : List SavedStream) (n : ℕ) (numbers : List ℕ) : Type 0 where
-  pub count : length numbers ≡ n
-  pub each_stream : AtEachOfThree IsNumberOf feeds saved numbers
 
 -- what is said of the streams of these feeds can be said of them: it stands in some checkpoint
 pub record AreSaid (feeds : List FeedValue) (saved : List SavedStream) : Type 0 where

@@ -1,4 +1,4 @@
-use Rattle.std.proofs.Common.{◌∙◌, refl, sym, subst}
+use Rattle.std.proofs.Common.{◌∙◌, Err, refl, sym, ap, subst}
 use Rattle.std.proofs.lemmas.Bool.{true≢false}
 use Rattle.std.specs.Arc.{arc_value}
 use Rattle.source_feed.specs.Prepared.{IsSameOn}
@@ -7,6 +7,7 @@ use Rattle.apply_core.proofs.added_streams.group_again.Goals as goal
 
 pub returns-in-Err-clause-err : goal.returns-in-Err-clause-err
 returns-in-Err-clause-err c = not_again_by c.args.tables c.args.feed.now c.args.old.now c.args.number c.args.s c.in-Err.fault c.fault_of.result c.fault_of.ensures c.in-Err.ensures.exact
+    (λ is. c.in-Err.ensures.memory (ap Err is))
 
 pub returns-then-not-same_on-clause-err : goal.returns-then-not-same_on-clause-err
 returns-then-not-same_on-clause-err c = (

@@ -4,8 +4,8 @@ use Rattle.std.proofs.lemmas.List.{length-map, map-append}
 use Rattle.std.proofs.lemmas.Result.{err_from_is_err_and}
 use Rattle.std.specs.Arc.{arc_value}
 use Rattle.source_feed.specs.Touches.{PreparedValue}
-use Rattle.apply_core.specs.Private.Adding.{IsNotAgain, IsGroupAgain}
-use Rattle.apply_core.proofs.AddLaws.{fewer_by, again_none, again_more, stopped}
+use Rattle.apply_core.specs.Private.Adding.{IsNotAgain, IsGroupAgain, IsStoppedBy}
+use Rattle.apply_core.proofs.AddLaws.{fewer_by, again_none, again_more, wanted_next, stopped}
 use Rattle.apply_core.proofs.StreamLaws.{item_at}
 use Rattle.apply_core.proofs.added_streams.groups_again.Goals as goal
 
@@ -41,3 +41,11 @@ loop-i-preserved c =
     (subst (λ (old : PreparedValue). IsGroupAgain c.tables_of-tables.result c.args.feed.now old (c.loop-i.i + 1) (arc_value c.in_ok-group.group)) c.deref.ensures c.in_ok-group.ensures.ok) in
     again_more c.args.feed.now c.args.stream.now c.loop-i.i (map arc_value c.loop-i.groups.items) c.loop-i.invariant (omega (arith, less, enough)) (arc_value c.in_ok-group.group) again.prepared_is (arc_value c.index-list-i.result)
     (map arc_value c.push_group.new.groups.items) here again.same (ap (map arc_value) c.in_ok-push_group.ensures.ok ∙ map-append arc_value c.loop-i.groups.items (c.in_ok-group.group ∷ []))
+
+pub returns-in_err-push_group-clause-err : goal.returns-in_err-push_group-clause-err
+returns-in_err-push_group-clause-err c =
+    let p = err_from_is_err_and c.from_residual-in_err-push_group.result c.from_residual-in_err-push_group.ensures.1 in
+    let enough : c.args.stream.now.applied ≤ length c.args.feed.now.groups = (let most = c.has_enough.ensures.0 c.if-not-has_enough.false in omega (arith, most, c.applied_of-applied.ensures)) in
+    let less : c.loop-i.i < c.args.stream.now.applied = omega (arith, c.loop-i-test.true, c.applied_of-applied.ensures) in
+    rw (p.1, p.2) (subst (IsStoppedBy c.args.s c.args.feed.now c.args.stream.now) (sym c.in_err-push_group.ensures.err)
+    (wanted_next c.args.feed.now c.args.stream.now c.loop-i.i (map arc_value c.loop-i.groups.items) c.loop-i.invariant (omega (arith, less, enough)) enough (arc_value c.in_ok-group.group) c.in_ok-group.ensures.ok.prepared_is))

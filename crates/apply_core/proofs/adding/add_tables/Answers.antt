@@ -3,6 +3,8 @@ use Rattle.std.specs.Arc.{arc_value}
 use Rattle.board_laws.specs.Lawful.{IsLawful}
 use Rattle.board_laws.specs.Reading.{AllReadTheirFeeds}
 use Rattle.added_laws.specs.Extended.{extended_board, MayExtend}
+use Rattle.added_laws.proofs.Boards.{as_many}
+use Rattle.apply_core.specs.Ended.{IsFedBoard}
 use Rattle.apply_core.proofs.AddLaws.{as_many_as, may_extend, memory_alone, all_streams, extended_is}
 use Rattle.apply_core.proofs.adding.add_tables.Goals as goal
 
@@ -42,3 +44,16 @@ returns-in-Ok-clause-reads c =
     ∙ extended_is c.args.feeds.now c.args.board c.in-Ok.streams.items c.args.board.rows (all_streams c.args.feeds.now c.args.board.streams c.in-Ok.streams.items long c.in-Ok.ensures.ok) refl in
     let may : MayExtend c.args.feeds.now c.args.board = may_extend (map arc_value c.args.plans.now) c.args.feeds.now c.args.board c.in-Ok.ensures.taken c.in-Ok.ensures.whole c.in-Ok.ensures.ok.before in
     subst (AllReadTheirFeeds c.args.feeds.now) (sym is) (c.extended_boards_are_lawful.ensures.reads c.args.feeds.now c.args.board may)
+
+pub returns-in-Ok-clause-board : goal.returns-in-Ok-clause-board
+returns-in-Ok-clause-board c =
+    let long = as_many_as (map arc_value c.args.plans.now) c.args.feeds.now c.args.board c.in-Ok.ensures.taken in
+    let is : c.with_streams.result ≡ extended_board c.args.feeds.now c.args.board
+    = c.with_streams.ensures
+    ∙ extended_is c.args.feeds.now c.args.board c.in-Ok.streams.items c.args.board.rows (all_streams c.args.feeds.now c.args.board.streams c.in-Ok.streams.items long c.in-Ok.ensures.ok) refl in
+    let may : MayExtend c.args.feeds.now c.args.board = may_extend (map arc_value c.args.plans.now) c.args.feeds.now c.args.board c.in-Ok.ensures.taken c.in-Ok.ensures.whole c.in-Ok.ensures.ok.before in
+    subst (IsFedBoard c.args.feeds.now) (sym is) (record {
+      lawful = c.extended_boards_are_lawful.ensures.lawful c.args.feeds.now c.args.board c.is_lawful.ensures may;
+      count = as_many c.args.feeds.now c.args.board.streams may.count ∙ sym may.count;
+      reads = c.extended_boards_are_lawful.ensures.reads c.args.feeds.now c.args.board may;
+    })

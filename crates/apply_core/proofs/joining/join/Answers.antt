@@ -1,3 +1,4 @@
+use Rattle.apply_core.proofs.FedLaws.{joins-fed}
 use Rattle.apply_core.proofs.joining.join.Goals as goal
 
 pub returns-clause-commute : goal.returns-clause-commute
@@ -14,3 +15,6 @@ returns-clause-running c = c.joins_are_a_greatest_board.ensures.running
 
 pub returns-clause-disjoint : goal.returns-clause-disjoint
 returns-clause-disjoint c = c.boards_can_be_joined.ensures.disjoint
+
+pub returns-clause-fed : goal.returns-clause-fed
+returns-clause-fed c = joins-fed c.joined_boards_are_lawful.ensures.boards c.args.a c.args.b c.join_by_source.result c.join_by_source.ensures.joined

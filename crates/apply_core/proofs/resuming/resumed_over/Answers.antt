@@ -35,3 +35,10 @@ returns-clause-resumed c =
 
 pub returns-clause-reads : goal.returns-clause-reads
 returns-clause-reads c = resumed-reads c.args.feeds.now c.in_ok-saved.saved.items c.in_ok-board.board c.requires.feeds c.in_ok-board.ensures.ok
+
+pub returns-clause-board : goal.returns-clause-board
+returns-clause-board c = record {
+  lawful = c.is_lawful.ensures;
+  count = c.in_ok-board.ensures.ok.states.count;
+  reads = resumed-reads c.args.feeds.now c.in_ok-saved.saved.items c.in_ok-board.board c.requires.feeds c.in_ok-board.ensures.ok;
+}

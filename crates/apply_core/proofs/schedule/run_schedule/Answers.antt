@@ -1,17 +1,19 @@
-use Rattle.std.proofs.Common.{[], map, refl, subst}
+use Rattle.std.proofs.Common.{List, length, map, sym, ap, subst, ◌∙◌}
+use Rattle.std.proofs.lemmas.List.{length-map}
 use Rattle.std.specs.Arc.{arc_value}
+use Rattle.filter_rule.specs.PlanValue.{PlanValue}
+use Rattle.source_feed.specs.Planned.{FeedValue}
 use Rattle.board_laws.specs.Meaning.{Meaning}
 use Rattle.board_laws.specs.Lawful.{start_of, IsLawful}
 use Rattle.board_laws.specs.Schedule.{IsRun}
 use Rattle.apply_core.specs.Fresh.{fresh_board}
-use Rattle.apply_core.proofs.FreshLaws.{fresh-board}
 use Rattle.apply_core.proofs.ScheduleLaws.{all-taken}
 use Rattle.apply_core.proofs.schedule.run_schedule.Goals as goal
 
 pub returns-clause-rows : goal.returns-clause-rows
 returns-clause-rows c =
     let plans = map arc_value c.args.plans.items in
-    let start : IsLawful (fresh_board plans) = fresh-board arc_value c.fresh_boards_are_lawful.ensures c.args.plans.items c.requires.some c.requires.few c.in_ok-board.ensures.fed.tables (map start_of plans) [] refl refl in
+    let start : IsLawful (fresh_board plans) = subst IsLawful c.in_ok-board.ensures.fresh c.is_lawful.ensures in
     let run : IsRun c.args.feeds.now (fresh_board plans) c.args.steps.now c.in_ok-replies.replies.items c.take_steps.new.self
     = subst (λ (b : Meaning). IsRun c.args.feeds.now b c.args.steps.now c.in_ok-replies.replies.items c.take_steps.new.self) c.in_ok-board.ensures.fresh c.in_ok-replies.ensures.run in
     let lawful : IsLawful c.take_steps.new.self
@@ -24,7 +26,14 @@ returns-clause-reads c =
 
 pub returns-clause-shows : goal.returns-clause-shows
 returns-clause-shows c =
-    c.in_ok-replies.ensures.shows c.in_ok-board.ensures.reads
+    let plans = map arc_value c.args.plans.items in
+    c.in_ok-replies.ensures.shows (record {
+      lawful = c.is_lawful.ensures;
+      count =
+          ap (λ (b : Meaning). length b.streams) c.in_ok-board.ensures.fresh ∙ length-map plans start_of ∙ sym (ap (λ (ps : List PlanValue). length ps) c.in_ok-board.ensures.fed.opened)
+          ∙ length-map c.args.feeds.now (λ (feed : FeedValue). feed.plan);
+      reads = c.in_ok-board.ensures.reads;
+    })
 
 pub returns-clause-own : goal.returns-clause-own
 returns-clause-own c =

@@ -12,10 +12,9 @@ returns-clause-reads c =
 pub returns-clause-shows : goal.returns-clause-shows
 returns-clause-shows c =
     on-ok-by c.replies_to.result
-    (λ replies run reads.
-    c.boards_show_their_sources.ensures c.args.feeds.now c.replies_to.new.board
-    (c.streams_follow_their_own_steps.ensures.lawful c.args.feeds.now c.args.self.now c.replies_to.new.board c.args.steps.now replies.items run c.is_lawful.ensures)
-    (c.streams_read_their_feeds.ensures.reads c.args.feeds.now c.args.self.now c.replies_to.new.board c.args.steps.now replies.items run reads))
+    (λ replies run fed.
+    c.fed_boards_show_all.ensures.show c.args.feeds.now c.replies_to.new.board
+    (c.fed_boards_show_all.ensures.run c.args.feeds.now c.args.self.now c.replies_to.new.board c.args.steps.now replies.items run fed))
     c.replies_to.ensures.run
 
 pub returns-clause-same : goal.returns-clause-same

@@ -2,7 +2,7 @@ use Rattle.std.proofs.Common.{◌≡◌, ◌<◌, ℕ, Some, slice_get}
 use Rattle.source_feed.specs.Planned.{FeedValue}
 use Rattle.board_laws.specs.Meaning.{State}
 use Rattle.apply_core.specs.Ended.{HasEnded, IsFedBoard}
-use Rattle.apply_core.proofs.alone.run_board_alone.Given as goal
+use Rattle.apply_core.proofs.alone.run_all.Given as goal
 
 -- every stream reads its feed, and the first ones have ended
 abbrev pub invariant-loop-s : goal.invariant-loop-s

@@ -5,7 +5,7 @@ use Rattle.source_feed.specs.Touches.{PreparedValue}
 use Rattle.board_laws.specs.Event.{offer}
 use Rattle.apply_core.specs.Private.StreamStep.{RefusesByItself}
 use Rattle.apply_core.proofs.StepLaws.{read-takes, offer-answered}
-use Rattle.apply_core.proofs.stream.Stream.offer.Goals as goal
+use Rattle.apply_core.proofs.stream.Stream.offer_own.Goals as goal
 
 pub returns-in_err-offered : goal.returns-in_err-offered
 returns-in_err-offered c =

@@ -1,7 +1,7 @@
 use Rattle.std.proofs.Common.{◌<◌, length, refl, arith}
 use Rattle.std.proofs.lemmas.Option.{slice_get_within}
 use Rattle.apply_core.proofs.StreamsThatStandSo.{named-more, unnamed-more}
-use Rattle.apply_core.proofs.alone.run_streams_alone.Goals as goal
+use Rattle.apply_core.proofs.alone.run_named.Goals as goal
 
 pub loop-i-init : goal.loop-i-init
 loop-i-init c = (c.requires.fed, (λ k s feed state less at_n at_f at_s. absurd (omega (arith, less))), λ s other. refl)
@@ -11,9 +11,9 @@ run_stream-requires-clause-there c = c.requires.there c.stream_at.result (c.loop
 
 pub loop-i-preserved : goal.loop-i-preserved
 loop-i-preserved c = (
-  c.in-Ok.ensures.fed,
+  c.run_stream.ensures.fed,
   named-more c.args.feeds.now c.args.streams.now c.loop-i.board c.run_stream.new.board c.loop-i.i c.stream_at.result c.stream_at.ensures c.loop-i.invariant.1 c.in-Ok.ensures.others c.in-Ok.ensures.ended,
-  unnamed-more c.args.streams.now c.args.board c.loop-i.board c.run_stream.new.board c.loop-i.i c.stream_at.result c.stream_at.ensures c.loop-i.invariant.2 c.in-Ok.ensures.others,
+  unnamed-more c.args.streams.now c.args.board.now c.loop-i.board c.run_stream.new.board c.loop-i.i c.stream_at.result c.stream_at.ensures c.loop-i.invariant.2 c.in-Ok.ensures.others,
 )
 
 pub returns-clause-ended : goal.returns-clause-ended

@@ -3,7 +3,7 @@ use Rattle.std.specs.Arc.{arc_value}
 use Rattle.filter_rule.specs.WellFormed.{IsPlan}
 use Rattle.apply_core.proofs.AfterSaveLaws.{all_more}
 use Rattle.apply_core.proofs.StreamLaws.{item_at}
-use Rattle.apply_core.proofs.resuming.know_plans.Goals as goal
+use Rattle.apply_core.proofs.fresh.know_plans.Goals as goal
 
 pub loop-plan-preserved : goal.loop-plan-preserved
 loop-plan-preserved c =
