@@ -1,1 +1,2 @@
 mod ReaderSteps
+mod GroupsStandReady

@@ -5,17 +5,22 @@ use source_feed::Prepared;
 use std::marker::{Brand, Model, PhantomData};
 use std::sync::Arc;
 
-/// A feed that is known in proofs alone: the one whose groups are sent.
+/// A feed that is known in proofs alone: the one whose groups are sent; and how many of them are read before.
 pub trait OfFeed {
+    ghost use Rattle.std.specs.Prelude.{ℕ};
     ghost use Rattle.source_feed.specs.Planned.{FeedValue};
 
     ghost feed: { FeedValue };
+
+    ghost read: { ℕ };
 }
 
 impl OfFeed for Brand {
     ghost use Rattle.std.specs.Prelude.{[]};
 
     ghost feed = { record { plan = record { keyspace = []; shard = []; tables = []; decisions = [] }; groups = [] } };
+
+    ghost read = { 0 };
 }
 
 /// What a pass of the channel is for, and what was sent by it last. It exists in proofs alone: no value of it is made.
@@ -25,29 +30,28 @@ pub struct Side {
 }
 
 impl Model for Side {
-    ghost use Rattle.std.specs.Prelude.{None};
     ghost use Rattle.feed_readers.specs.ReaderRule.{SideOf, Reads};
 
     ghost Value = { SideOf };
 
-    ghost view = { λ s. Reads None };
+    ghost view = { λ s. Reads 0 };
 }
 
 /// The rule: each message is the prepared group, of the number that it names, of this feed under its plan. Two kinds
-/// of step keep it: the reader sends at the back, each group behind the one that it sent last, and the worker receives
-/// at the front.
+/// of step keep it: the reader sends at the back, each group behind the one that it sent last, the first behind those
+/// that are read before, and the worker receives at the front.
 pub struct ReaderRule<F: OfFeed> {
     feed: PhantomData<F>,
 }
 
 impl<'h, F: OfFeed> Protocol<Arc<Prepared<'h>>, Side> for ReaderRule<F> {
-    ghost use Rattle.std.specs.Prelude.{None, map};
+    ghost use Rattle.std.specs.Prelude.{map};
     ghost use Rattle.std.specs.Arc.{arc_value};
-    ghost use Rattle.feed_readers.specs.ReaderRule.{ArePreparedOf, Reads};
+    ghost use Rattle.feed_readers.specs.ReaderRule.{AreGroupsOf, Reads};
 
-    ghost holds = { λ items views. ArePreparedOf F.feed (map arc_value items) };
+    ghost holds = { λ items views. AreGroupsOf F.feed (map arc_value items) };
 
-    ghost first = { Reads None };
+    ghost first = { Reads F.read };
 }
 
 /// A group is sent by the reader, the one behind the last.

@@ -1,6 +1,6 @@
 //! The two ends of a reader's channel.
 
-ghost use Rattle.std.specs.Prelude.{◌≡◌, Ok, Some, None, IfOk};
+ghost use Rattle.std.specs.Prelude.{◌≡◌, Ok, IfOk};
 ghost use Rattle.std.specs.Bool.{OnTrue};
 ghost use Rattle.std.specs.Arc.{arc_value};
 ghost use Rattle.crossbeam_channel.specs.Claims.{view, IsSeatAt};
@@ -45,12 +45,12 @@ pub struct WorkerEnd<'h, F: OfFeed> {
     ghost side: { view pass ≡ Works },
 }
 
-/// The two ends of a new channel for the groups of the feed, which holds 64 of them at most. None was sent yet. An
-/// error is want of memory.
+/// The two ends of a new channel for the groups of the feed, which holds 64 of them at most: the first to be sent is the
+/// one behind those that are read before. An error is want of memory.
 pub fn reader_ends<'h, F: OfFeed>(
     alloc: Global,
 ) -> Result<(ReaderEnd<'h, F>, WorkerEnd<'h, F>), AllocError>
-    ensures { IfOk result (λ ends. last_sent (view ends.0.pass) ≡ None) }
+    ensures { IfOk result (λ ends. last_sent (view ends.0.pass) ≡ F.read) }
 {
     let (sender, receiver, mut pass) = bounded_with::<
         Arc<Prepared<'h>>,
@@ -75,7 +75,7 @@ impl<'h, F: OfFeed> ReaderEnd<'h, F> {
     pub(crate) fn send<R: Wait>(&mut self, rt: &R, mut group: Arc<Prepared<'h>>) -> bool
         requires next { MaySend (view self.old.pass) (arc_value group).number }
         requires prepared { prepared_at F.feed (arc_value group).number ≡ Ok (arc_value group) }
-        ensures { OnTrue result (last_sent (view self.new.pass) ≡ Some (arc_value group.entry).number) }
+        ensures { OnTrue result (last_sent (view self.new.pass) ≡ (arc_value group.entry).number) }
     {
         let parker = Parker::new();
         for _ in rt.forever() {
@@ -98,7 +98,11 @@ impl<'h, F: OfFeed> ReaderEnd<'h, F> {
 }
 
 impl<'h, F: OfFeed> Ahead<'h> for WorkerEnd<'h, F> {
+    ghost use Rattle.std.specs.Prelude.{[]};
+
     ghost feed = { λ _. F.feed };
+
+    ghost ready = { λ _. [] };
 
     /// The group that was sent first of those that wait, or `None` where the other end is gone. A receive is tried for
     /// a while before the thread sleeps.

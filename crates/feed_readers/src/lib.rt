@@ -6,7 +6,7 @@ mod channel;
 mod ends;
 mod reading;
 
-pub use ahead::{Ahead, group_of};
+pub use ahead::{Ahead, NothingReady, group_of};
 pub use channel::OfFeed;
 pub use ends::{ReaderEnd, WorkerEnd, reader_ends};
-pub use reading::{Named, Reading, read_ahead};
+pub use reading::{Named, Reading, Stop, read_ahead, read_to};

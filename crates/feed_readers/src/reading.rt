@@ -1,12 +1,13 @@
 //! The thread that prepares a feed's groups.
 
-ghost use Rattle.std.specs.Prelude.{◌≡◌, None};
+ghost use Rattle.std.specs.Prelude.{◌≡◌};
 ghost use Rattle.crossbeam_channel.specs.Claims.{view};
 ghost use Rattle.feed_readers.specs.ReaderRule.{last_sent};
+ghost use Rattle.feed_readers.specs.Stops.{IsStop};
 
 use crate::channel::OfFeed;
 use crate::ends::ReaderEnd;
-use source_feed::Feed;
+use source_feed::{Feed, FeedFault};
 use std::alloc::Global;
 use std::marker::PhantomData;
 use std::sync::Wait;
@@ -56,15 +57,31 @@ pub struct Reading<'a, 'h, F: OfFeed, R> {
     pub feed: Named<'a, 'h, F>,
     /// how many groups are read before it begins
     pub read: u32,
-    /// where its groups go, of which none was sent yet
+    /// where its groups go, the first behind those
     pub end: ReaderEnd<'h, F>,
-    pub ghost none: { last_sent (view end.pass) ≡ None },
+    pub ghost before: { last_sent (view end.pass) ≡ read },
+}
+
+/// Where a reader stops.
+#[derive(Debug, Drop)]
+pub enum Stop {
+    /// At the feed's end.
+    AtEnd,
+    /// Before a group that can't be prepared, for this fault.
+    Unprepared(FeedFault),
+    /// Before a group that nobody is there to receive.
+    Nobody,
 }
 
 /// Prepares the feed's groups in order, behind those that are read, and sends each, up to the feed's end, the first
 /// group that can't be prepared, or the first that nobody is there to receive. What can't be prepared isn't told:
-/// whoever needs that group meets the same refusal.
-pub fn read_ahead<'a, 'h, F: OfFeed + 'h, R: Wait>(reading: Reading<'a, 'h, F, R>) {
+/// whoever needs that group meets the same refusal. The answer is where it stopped, and its end of the channel, which
+/// knows the last group that was sent.
+pub fn read_to<'a, 'h, F: OfFeed + 'h, R: Wait>(
+    reading: Reading<'a, 'h, F, R>,
+) -> (Stop, ReaderEnd<'h, F>)
+    ensures { IsStop F.feed (last_sent (view result.1.pass)) result.0 }
+{
     let Reading {
         rt,
         alloc,
@@ -75,12 +92,23 @@ pub fn read_ahead<'a, 'h, F: OfFeed + 'h, R: Wait>(reading: Reading<'a, 'h, F, R
     let feed = feed.feed();
     let _plan = feed.plan();
     let groups = feed.len() as u32;
-    for before in read..groups {
-        let Ok(group) = feed.prepare(alloc, before + 1) else {
-            return;
-        };
-        if !end.send(rt, group) {
-            return;
+    let mut sent = read;
+    while sent < groups {
+        match feed.prepare(alloc, sent + 1) {
+            Ok(group) => {
+                if !end.send(rt, group) {
+                    return (Stop::Nobody, end);
+                }
+            }
+            Err(fault) => return (Stop::Unprepared(fault), end),
         }
+        sent += 1;
     }
+    (Stop::AtEnd, end)
+}
+
+/// The same, and then its end of the channel is given up: whoever receives from the other one meets the end there.
+pub fn read_ahead<'a, 'h, F: OfFeed + 'h, R: Wait>(reading: Reading<'a, 'h, F, R>) {
+    let (_, end) = read_to(reading);
+    drop(end);
 }

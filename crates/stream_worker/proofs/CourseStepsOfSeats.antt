@@ -1,8 +1,9 @@
 -- A step of a seat's stream: what it leaves, and on its course, how a refused one ends it.
-use Rattle.std.proofs.Common.{◌≡◌, ℕ, inl, inr, cond, List, [], ◌∷◌, length, Option, Some, None, Result, Ok, Err, slice_get, set, refl, sym, ap, subst, ◌∙◌}
+use Rattle.std.proofs.Common.{◌≡◌, ℕ, true≢false, inl, inr, cond, List, [], ◌∷◌, length, Option, Some, None, Result, Ok, Err, slice_get, set, refl, sym, ap, subst, ◌∙◌}
 use Rattle.std.proofs.lemmas.Option.{same_Some, none-some, MatchOption-at_some}
 use borrow.Author.Tests.{eq-eqb}
-use Rattle.std.specs.Prelude.{IsSomeAnd, MatchOption}
+use Rattle.std.specs.Prelude.{IsOk, IsSomeAnd, MatchOption}
+use Rattle.std.specs.Result.{result_ok}
 use Rattle.std.specs.Option.{option_map, option_and_then}
 use Rattle.list_laws.proofs.Places.{slice_get-set_same}
 use Rattle.pk_copy.specs.KeyOrder.{key_cmp}
@@ -13,7 +14,7 @@ use Rattle.target_tables.specs.Contents.{value_at}
 use Rattle.source_feed.specs.declared.fault.FeedFault.{FeedFault}
 use Rattle.source_feed.specs.Planned.{FeedValue, IsFeed}
 use Rattle.source_feed.specs.SoundGroups.{sound_groups}
-use Rattle.source_feed.specs.Touches.{prepared_at}
+use Rattle.source_feed.specs.Touches.{PreparedValue, prepared_at}
 use Rattle.board_laws.specs.declared.answer.Answer.{Answer}
 use Rattle.board_laws.specs.declared.refusal.Refusal.{Refusal}
 use Rattle.board_laws.specs.declared.refusal.Refusal.TheVariants.{NoStream, WrongPlan, Diverged, Core, OwnedByOther, FeedCount, Memory}
@@ -21,23 +22,51 @@ use Rattle.board_laws.specs.declared.step_refusal.StepRefusal.{StepRefusal}
 use Rattle.board_laws.specs.declared.step_refusal.StepRefusal.TheVariants.{Unprepared, Refused}
 use Rattle.board_laws.specs.Meaning.{State, Meaning}
 use Rattle.board_laws.specs.Cut.{cut_of, cut_in, own_row}
-use Rattle.board_laws.specs.Lawful.{standing_of, IsSoundState}
+use Rattle.board_laws.specs.Event.{Event, offer}
+use Rattle.board_laws.specs.Lawful.{standing_of, IsLawful, IsSoundState}
 use Rattle.board_laws.specs.StateAfter.{state_after}
-use Rattle.board_laws.specs.Step.{IsMade, IsRefusedFor, IsClash}
+use Rattle.board_laws.specs.Step.{IsMade, IsRefusedFor, IsRefusedOn, IsClash}
 use Rattle.board_laws.specs.Reading.{ReadsFeed}
-use Rattle.board_laws.specs.Runs.{IsTouchedIn}
+use Rattle.board_laws.specs.Runs.{IsTouchedIn, event_of_step}
 use Rattle.board_laws.specs.Schedule.{Reply, IsUnprepared}
 use Rattle.stream_worker.specs.Knowing.{Laid, Knows, SawStreams, state_seen}
 use Rattle.stream_worker.specs.Rule.{IsSaid}
 use Rattle.apply_core.specs.RunRefused.{IsFirstUnsoundGroup}
-use Rattle.stream_worker.specs.Seats.{IsSeatStep}
+use Rattle.stream_worker.specs.Seats.{IsBoardStep, IsSeatStep}
 use Rattle.apply_core.specs.Courses.{LeadsOn}
-use Rattle.stream_worker.specs.Worked.{MeetsRow}
-use Rattle.stream_worker.specs.Private.SeatSteps.{IsSeatEvent, IsSeatReply, EndsByItsBoard, EndsSeatStep}
+use Rattle.stream_worker.specs.Worked.{MeetsRow, WantsNextStep}
+use Rattle.stream_worker.specs.Private.SeatSteps.{IsSeatEvent, IsSeatReply, WantsGroup, EndsByItsBoard, EndsSeatStep}
 use Rattle.stream_worker.proofs.StepsOfOneStream.{step_changes}
 use Rattle.stream_worker.proofs.SeatsTakeAndPut.{own_as_seen}
 use Rattle.apply_core.proofs.CourseStepsAreAllowed.{plus_one, first-unsound, Hinders, none-alone, allowed-on}
 use Rattle.apply_core.proofs.StreamsStillRead.{cut_front, read_touched, IsInTheWay, in_the_way, reads-on}
+
+-- ---- refusals
+
+-- a refused step is refused on the board that it left
+refused-again : (taken left : Laid) (s : ℕ) (event : Event) (refusal : Refusal) → IsBoardStep taken s event (Err refusal) left → IsBoardStep left s event (Err refusal) left
+refused-again taken left s event refusal h =
+    let same : left.board ≡ taken.board = ap (λ (board : Meaning). board.streams) h.step.1 in
+    record {
+      rows = h.rows;
+      rows_left = h.rows;
+      lawful = subst (λ (board : List State). IsLawful (record { streams = board; rows = h.rows })) (sym same) h.lawful;
+      step = (subst (λ (board : List State). IsRefusedOn (record { streams = board; rows = h.rows }) s event refusal) (sym same) h.step.0, refl);
+      given = refl;
+    }
+
+-- the offer of a group for which memory is wanted
+group-event : (feed : FeedValue) (step : Step) → WantsGroup feed step → (event : Event) × (event_of_step feed step ≡ Some event)
+group-event feed (Offer n) wants = by (prepared_at feed n) refl wants
+  where
+    by : (r : Result PreparedValue FeedFault) → prepared_at feed n ≡ r → IsOk r → (event : Event) × (option_map offer (result_ok (prepared_at feed n)) ≡ Some event)
+    by (Ok group) e h = (offer group, ap (λ (r : Result PreparedValue FeedFault). option_map offer (result_ok r)) e)
+    by (Err fault) e h = absurd (true≢false (sym h))
+group-event feed Advance wants = absurd wants
+group-event feed (OpenAt m) wants = absurd wants
+group-event feed (CopyRows c) wants = absurd wants
+group-event feed Close wants = absurd wants
+group-event feed Restart wants = absurd wants
 
 -- ---- a step of a seat
 
@@ -140,15 +169,26 @@ module _ (feed : FeedValue) (before after : Knows) (s : ℕ) (own : before.strea
         by : (o : Option State) → slice_get h.stepped.taken.board owner ≡ o → option_and_then (λ x. cut_of x key) o ≡ Some way.old → MeetsRow feed after s key owner
         by None at e = absurd (none-some way.old e)
         by (Some x) at e = record {
-          touched = touched;
           laid = h.stepped.left;
           seen = h.stepped.seen;
+          step = step;
+          event = h.event;
+          of_step = h.of_step;
+          refused = refused-again h.stepped.taken h.stepped.left s h.event (OwnedByOther key owner) h.stepped.step;
+          touched = touched;
           other = way.other;
           state = x;
           there = ap (λ (m : Meaning). slice_get m.streams owner) h.stepped.step.step.1 ∙ at;
           row = way.old;
           cut = e;
         }
+
+    -- a step on the course that is there wants memory
+    wanting : (event : Event) → event_of_step feed step ≡ Some event → state_seen after s ≡ Some state → IsSomeAnd (state_seen after s) (WantsNextStep feed)
+    wanting event of stays = subst (λ (o : Option State). IsSomeAnd o (WantsNextStep feed)) (sym stays) (record { step = step; was = was; is = is; leads = leads; event = event; of_step = of })
+
+    wants-group : WantsGroup feed step → state_seen after s ≡ Some state → IsSomeAnd (state_seen after s) (WantsNextStep feed)
+    wants-group wants stays = let one : (event : Event) × (event_of_step feed step ≡ Some event) = group-event feed step wants in wanting one.0 one.1 stays
 
     ends-by-board : (refusal : Refusal) → IsSeatEvent feed before s step (Err refusal) after → EndsByItsBoard feed after s refusal
     ends-by-board NoStream h = hinders NoStream h
@@ -157,7 +197,7 @@ module _ (feed : FeedValue) (before after : Knows) (s : ℕ) (own : before.strea
     ends-by-board (Core refusal) h = hinders (Core refusal) h
     ends-by-board (OwnedByOther key owner) h = meets-row key owner h
     ends-by-board FeedCount h = hinders FeedCount h
-    ends-by-board Memory h = tt
+    ends-by-board Memory h = wanting h.event h.of_step (refused-stays Memory h)
 
     unsound : (fault : FeedFault) → IsUnprepared feed step fault → IsFirstUnsoundGroup feed fault
     unsound fault u = by step leads u
@@ -172,5 +212,5 @@ module _ (feed : FeedValue) (before after : Knows) (s : ℕ) (own : before.strea
 
     pub reply-ends : (refusal : StepRefusal) → IsSeatReply feed before s step (Err refusal) after → EndsSeatStep feed after s refusal
     reply-ends (Unprepared fault) h = unsound fault h.0
-    reply-ends (Refused refusal) (inl h) = subst (EndsByItsBoard feed after s) (sym h.0) tt
+    reply-ends (Refused refusal) (inl h) = subst (EndsByItsBoard feed after s) (sym h.0) (wants-group h.2 (ap (λ v. state_seen v s) h.1 ∙ here))
     reply-ends (Refused refusal) (inr h) = ends-by-board refusal h

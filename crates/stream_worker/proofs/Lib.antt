@@ -9,6 +9,7 @@ pub mod ReadGroupsAreAnswered
 pub mod SeatsAreClaimed
 pub mod PassesTakeSeats
 pub mod CallsKeepGroups
+pub mod StepsAreMade
 pub mod CourseStepsOfSeats
 pub mod ReceiptsFollowSteps
 pub mod SeatsGoOn

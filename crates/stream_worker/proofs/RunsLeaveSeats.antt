@@ -1,14 +1,12 @@
 -- What is left of the runs of all seats, and the board that they leave.
-use Rattle.std.proofs.Common.{◌≡◌, ◌≢◌, ℕ, zero, suc, ◌<◌, ◌≤◌, List, [], ◌∷◌, ◌++◌, length, map, take, Option, Some, None, Result, Ok, Err, IsSome, slice_get, refl, sym, ap, subst, ◌∙◌, arith}
-use Rattle.std.proofs.lemmas.List.{length-map}
+use Rattle.std.proofs.Common.{◌≡◌, ◌≢◌, ℕ, zero, suc, ◌<◌, ◌≤◌, List, [], ◌∷◌, ◌++◌, length, map, Option, Some, None, IsSome, slice_get, refl, sym, ap, subst, ◌∙◌, arith}
 use Rattle.std.proofs.lemmas.Option.{same_Some, none-some, slice_get-map, slice_get_within}
 use Rattle.std.specs.Prelude.{IsSomeAnd, MatchOption}
 use Rattle.std.specs.Option.{option_or, option_map}
 use Rattle.source_feed.specs.Planned.{FeedValue, IsFeed}
 use Rattle.source_feed.specs.SoundGroups.{sound_groups}
-use Rattle.std.specs.Result.{ok_prefix}
 use Rattle.list_laws.proofs.Places.{place_of}
-use Rattle.source_feed.specs.Touches.{PreparedValue, prepared}
+use Rattle.source_feed.specs.Touches.{PreparedValue}
 use Rattle.board_laws.specs.Meaning.{State, Meaning}
 use Rattle.board_laws.specs.Lawful.{IsLawful}
 use Rattle.board_laws.specs.Reading.{ReadsFeed, HasFeed}
@@ -26,6 +24,7 @@ use Rattle.stream_worker.specs.SeatOf.{known, seat_state, IsSeatOf, AreSeatsOf, 
 use Rattle.stream_worker.specs.Worked.{HasCome, MeetsRow, EndsSeat}
 use Rattle.stream_worker.specs.Private.SeatRuns.{IsSeated, IsRan, AreSeated, AreRan, first_refusal}
 use Rattle.stream_worker.proofs.PassesTakeSeats.{seat_saw}
+use Rattle.apply_core.proofs.SoundEnds.{ended-sound}
 use Rattle.apply_core.proofs.StreamsThatStandSo.{the-one}
 use Rattle.apply_core.proofs.StreamsStillRead.{cut_front, read_touched}
 
@@ -79,14 +78,6 @@ first_refusal-more (one ∷ later) ran = by one.refusal (first_refusal-more late
     by None rest = rest
     by (Some x) rest = refl
 
--- a refusal of no stream has none below it
-pub lowest-none : (feeds : List FeedValue) (refusal : RunRefusal) → refused_stream refusal ≡ None → IsLowest feeds refusal
-lowest-none feeds FeedCount e = tt
-lowest-none feeds WrongPlan e = tt
-lowest-none feeds (Unsound stream fault) e = absurd (none-some stream (sym e))
-lowest-none feeds (OwnedByOther stream key owner) e = absurd (none-some stream (sym e))
-lowest-none feeds Memory e = tt
-
 -- ---- the seats that are left
 
 abbrev seats_of : List Ran → List Seat
@@ -129,24 +120,6 @@ opened-seated feeds board fed shared seats opened k seat at =
     (seated, own.1)
 
 -- ---- the board that is left
-
--- a stream at its feed's end has read no group that isn't sound
-ended-sound : (feed : FeedValue) (state : State) → ReadsFeed feed state → HasEnded feed state → length (sound_groups feed) ≡ length feed.groups
-ended-sound feed state reads ended =
-    let most : length (take reads.length_read (sound_groups feed)) ≤ length (sound_groups feed) = take_within reads.length_read (sound_groups feed) in
-    let read : length state.list ≡ length (take reads.length_read (sound_groups feed)) = ap (λ (xs : List PreparedValue). length xs) reads.list in
-    let few : length (sound_groups feed) ≤ length (map (prepared feed.plan) feed.groups) = good_within (map (prepared feed.plan) feed.groups) in
-    omega (arith, most, read, few, length-map feed.groups (prepared feed.plan), ended.read)
-  where
-    take_within : {A : Type 0} (n : ℕ) (xs : List A) → length (take n xs) ≤ length xs
-    take_within zero xs = omega arith
-    take_within (suc n) [] = omega arith
-    take_within (suc n) (x ∷ xs) = let rest : length (take n xs) ≤ length xs = take_within n xs in omega (arith, rest)
-
-    good_within : {A E : Type 0} (xs : List (Result A E)) → length (ok_prefix xs) ≤ length xs
-    good_within [] = omega arith
-    good_within (Ok x ∷ xs) = let rest : length (ok_prefix xs) ≤ length xs = good_within xs in omega (arith, rest)
-    good_within (Err e ∷ xs) = omega arith
 
 module _ (feeds : List FeedValue) (old : Meaning) (fed : IsFedBoard feeds old) (shared : Shared) (rans : List Ran) (count : length rans ≡ length feeds) (ran : AreRan shared feeds rans)
     (board : Meaning) (lawful : IsLawful board) (states : AreStatesOf (seats_of rans) board.streams) (seen : AllGoOnFromSeen (seats_of rans) board.streams) (many : SawAsMany (seats_of rans) (length board.streams)) where
@@ -239,7 +212,7 @@ module _ (feeds : List FeedValue) (old : Meaning) (fed : IsFedBoard feeds old) (
   refused k one at WrongPlan h = h
   refused k one at (Unsound stream fault) h = record { feed = (ran k one at).seated.feed; fed = ap (slice_get feeds) h.0 ∙ (ran k one at).seated.fed; first = h.1 }
   refused k one at (OwnedByOther stream key owner) h = met k one at stream key owner (sym h.0) h.1
-  refused k one at Memory h = h
+  refused k one at Memory h = tt
 
   first-ends : (refusal : RunRefusal) (first : IsFirstRefused rans refusal) → EndsSeat (ran first.place first.ran first.there).seated.feed first.ran.seat refusal
   first-ends refusal first =

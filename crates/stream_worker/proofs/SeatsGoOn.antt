@@ -1,9 +1,10 @@
 -- A seat's stream beside a feed: where it stands, a step on its course, and its run.
-use Rattle.std.proofs.Common.{◌≡◌, ℕ, ◌<◌, ◌≤◌, List, length, Option, Some, None, Ok, Err, slice_get, refl, sym, ap, subst, ◌∙◌}
+use Rattle.std.proofs.Common.{◌≡◌, ℕ, suc, ◌+◌, ◌<◌, ◌≤◌, List, length, Option, Some, None, Ok, Err, slice_get, refl, sym, ap, subst, ◌∙◌, arith}
 use Rattle.std.proofs.lemmas.Option.{same_Some, slice_get_within}
 use Rattle.std.specs.Arc.{arc_value}
 use Rattle.std.specs.Prelude.{IsSomeAnd, MatchOption, IfNone, IfSome}
 use Rattle.std.specs.Option.{option_map}
+use Rattle.pk_copy.specs.Marks.{Marks}
 use Rattle.stream_core.specs.declared.step.Step.{Step}
 use Rattle.stream_core.specs.declared.step.Step.TheVariants.{Offer, Advance, OpenAt, CopyRows, Close, Restart}
 use Rattle.stream_core.specs.Standing.{Standing}
@@ -15,23 +16,27 @@ use Rattle.board_laws.specs.Lawful.{standing_of}
 use Rattle.board_laws.specs.Reading.{ReadsFeed}
 use Rattle.board_laws.specs.Schedule.{Reply}
 use Rattle.board_laws.specs.StateAfter.{state_after}
+use Rattle.board_laws.proofs.Making.{plan-after}
+use Rattle.stream_worker.specs.declared.ready.Ready.{Ready}
 use Rattle.stream_worker.specs.declared.receipt.Receipt.{Receipt}
 use Rattle.apply_core.specs.declared.run_refusal.RunRefusal.{RunRefusal}
-use Rattle.apply_core.specs.declared.run_refusal.RunRefusal.TheVariants.{Memory}
 use Rattle.stream_worker.specs.declared.seat.Seat.{Seat}
 use Rattle.stream_worker.specs.declared.seat_run.Ran.{Ran}
 use Rattle.stream_worker.specs.declared.shared.Shared.{Shared}
-use Rattle.stream_worker.specs.Knowing.{state_seen}
+use Rattle.stream_worker.specs.Knowing.{SawStreams, state_seen}
+use Rattle.stream_worker.specs.Outlines.{Outlined, outline_of}
 use Rattle.stream_worker.specs.SeatOf.{known, seat_state, IsSeatOf, IsSeatFor, SawNoOther}
 use Rattle.stream_worker.specs.Seats.{IsReceiptOf}
-use Rattle.stream_worker.specs.Worked.{Follows, HasCome, EndsSeat, AreReceiptsSince, AreReceipts, GoesOn}
+use Rattle.stream_worker.specs.Worked.{IsOfPlan, Follows, HasCome, EndsSeat, AreReceiptsSince, AreReceipts, GoesOn}
 use Rattle.apply_core.specs.Courses.{LeadsOn}
 use Rattle.stream_worker.specs.Private.SeatSteps.{IsSeatReply, IsOneMore, AreBehind, EndsSeatStep}
 use Rattle.stream_worker.specs.Private.SeatRuns.{IsSeated, IsLeft, IsRan}
+use Rattle.stream_worker.specs.Private.Turns.{AreReady, IsCaughtUp}
 use Rattle.stream_worker.proofs.PassesTakeSeats.{seat_has}
 use Rattle.apply_core.proofs.StreamsThatStandSo.{the-one}
 use Rattle.apply_core.proofs.StepsComeNearer.{read-most}
 use Rattle.stream_worker.proofs.ReceiptsFollowSteps.{IsNoAdvance, Comes, same-list, comes, receipts-stay, receipts-more}
+use Rattle.stream_worker.proofs.StepsAreMade.{stepped-reply, stepped-same}
 use Rattle.stream_worker.proofs.CourseStepsOfSeats.{next-state, reply-many, reply-stays, reply-follows, reply-ends}
 
 -- ---- a step of a seat
@@ -51,6 +56,20 @@ module _ (feed : FeedValue) (seat : Seat) where
   -- no more groups are read than the feed has that the stream reads
   pub sits-within : Follows feed seat → seat.cursor.read ≤ length feed.groups
   sits-within follows = subst (λ (a : Standing). a.read ≤ length feed.groups) stands (read-most feed here.0 (of-here (ReadsFeed feed) follows))
+
+  -- with these groups ready behind all that it read and applied
+  pub caught-up : (readies : List Ready) (number : ℕ) → IsOfPlan feed seat → seat.cursor.applied ≡ seat.cursor.read → number ≡ seat.cursor.read + 1 → seat.cursor.snapshot ≡ None
+      → AreReady feed seat.outline.marks number readies → IsSomeAnd (seat_state seat) (IsCaughtUp feed readies)
+  caught-up readies number of applied is closed ready =
+      let marks : here.0.marks ≡ seat.outline.marks = ap (λ (o : Outlined). o.marks) (same_Some (outline_of here.0) seat.outline (sym (ap (option_map outline_of) here.1) ∙ seat.outlined)) in
+      let read : length here.0.list ≡ seat.cursor.read = ap (λ (a : Standing). a.read) stands in
+      subst (λ (o : Option State). IsSomeAnd o (IsCaughtUp feed readies)) (sym here.1)
+      (record {
+        plan = of-here (λ (x : State). x.plan ≡ feed.plan) of;
+        applied = ap (λ (a : Standing). a.applied) stands ∙ applied ∙ sym read;
+        closed = ap (λ (a : Standing). a.snapshot) stands ∙ closed;
+        ready = subst (λ (m : Marks). AreReady feed m (suc (length here.0.list)) readies) (sym marks) (subst (λ (n : ℕ). AreReady feed seat.outline.marks n readies) (omega (arith, is, read)) ready);
+      })
 
   module _ (step : Step) (after : Seat) (same : after.stream ≡ seat.stream) where
     pub sits-many : (reply : Reply) → IsSeatReply feed (known seat) seat.stream step reply (known after) → SawNoOther seat after
@@ -106,6 +125,17 @@ module _ (feed : FeedValue) (seat : Seat) where
           behind-here (λ (s : ℕ) (x : State). AreReceiptsSince first s x new) here.0 known-state
           (stay here.0 known-state (refused-receipts step refusal old new behind) (same-list here.0 here.0 refl refl))
 
+    -- ---- its plan
+
+    pub sits-plan : (reply : Reply) → IsSeatReply feed (known seat) seat.stream step reply (known after) → IsOfPlan feed seat → IsOfPlan feed after
+    sits-plan (Ok answer) h of =
+        let state : State = state_after here.0 h.event in
+        behind-here (λ (s : ℕ) (x : State). x.plan ≡ feed.plan) state (next-state feed (known seat) (known after) seat.stream seat.own here.0 here.1 step answer h)
+        (plan-after here.0 h.event ∙ of-here (λ (x : State). x.plan ≡ feed.plan) of)
+    sits-plan (Err refusal) h of =
+        behind-here (λ (s : ℕ) (x : State). x.plan ≡ feed.plan) here.0 (reply-stays feed (known seat) (known after) seat.stream seat.own here.0 here.1 step refusal h)
+        (of-here (λ (x : State). x.plan ≡ feed.plan) of)
+
     -- ---- along a feed that it reads
 
     module _ (whole : IsFeed feed) (follows : Follows feed seat) (was is : ℕ) (leads : LeadsOn seat.cursor (length feed.groups) was is step) where
@@ -131,10 +161,28 @@ module _ (feed : FeedValue) (seat : Seat) where
     pub sits-on : IsFeed feed → (groups was is : ℕ) → LeadsOn seat.cursor groups was is step → groups ≡ length feed.groups → (reply : Reply) → IsSeatReply feed (known seat) seat.stream step reply (known after)
         → (had has : List Receipt) → AreBehind step reply after had has → GoesOn feed seat had after has
     sits-on whole groups was is leads long reply h had has behind = record {
+      stepped = stepped-reply feed seat after step reply h;
       many = sits-many reply h;
+      plan = sits-plan reply h;
       receipts = λ first all. sits-receipts first had has all groups was is leads reply h behind;
       follows = λ follows. sits-follows whole follows was is (subst (λ (n : ℕ). LeadsOn seat.cursor n was is step) long leads) reply h;
     }
+
+-- ---- nothing was done
+
+-- a seat that knows what it knew goes on, with the same receipts
+pub stays-on : (feed : FeedValue) (before after : Seat) (had has : List Receipt) → after.stream ≡ before.stream → known after ≡ known before → has ≡ had → GoesOn feed before had after has
+stays-on feed before after had has stream knows same = record {
+  stepped = stepped-same feed before after knows;
+  many = λ n saw. subst (λ v. SawStreams v n) (sym knows) saw;
+  receipts = λ first all.
+      subst (λ (l : List Receipt). AreReceipts first after l) (sym same) (of (λ s o. IsSomeAnd o (λ (x : State). AreReceiptsSince first s x had)) all);
+  plan = of (λ s o. IsSomeAnd o (λ (x : State). x.plan ≡ feed.plan));
+  follows = of (λ s o. IsSomeAnd o (ReadsFeed feed));
+}
+  where
+    of : (P : ℕ → Option State → Type 0) → P before.stream (seat_state before) → P after.stream (seat_state after)
+    of P h = subst (λ v. P after.stream (state_seen v after.stream)) (sym knows) (subst (λ s. P s (state_seen (known before) s)) (sym stream) h)
 
 -- ---- a run
 
@@ -154,10 +202,6 @@ module _ (shared : Shared) (feed : FeedValue) (before : Seat) where
       by : (o : Option RunRefusal) → IfNone o (HasCome feed after) → IfSome o (EndsSeat feed after) → MatchOption o (HasCome feed after) (EndsSeat feed after)
       by None come ends = come
       by (Some refusal) come ends = ends
-
-  -- where its channel found no memory
-  pub left-unbegun : IsSeatOf shared before → IsLeft shared feed before (record { seat = before; refusal = Some Memory })
-  left-unbegun at = record { at_board = at; stream = refl; many = λ n saw. saw; follows = λ read. read; outcome = λ read. tt }
 
 module _ (shared : Shared) (feeds : List FeedValue) (before : Seat) (seated : IsSeated shared feeds before) where
   pub has-feed : before.stream < length feeds

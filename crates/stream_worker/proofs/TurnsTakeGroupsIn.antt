@@ -1,8 +1,8 @@
 -- A turn of a stream: groups that stand ready are offered and applied, one after another.
-use Rattle.std.proofs.Common.{◌≡◌, ◌==◌, ◌||◌, inl, inr, ℕ, zero, suc, ◌+◌, ◌<◌, Bool, true, false, true≢false, List, [], ◌∷◌, ◌++◌, append_assoc, length, length-append, take, Option, Some, None, Result, Ok, Err, slice_get, nat_le, refl, sym, ap, subst, ◌∙◌, arith}
+use Rattle.std.proofs.Common.{◌≡◌, ◌==◌, ◌||◌, ◌⊎◌, inl, inr, ℕ, zero, suc, ◌+◌, ◌<◌, ◌≤◌, Bool, true, false, true≢false, List, [], ◌∷◌, ◌++◌, append_assoc, length, length-append, take, Option, Some, None, Result, Ok, Err, slice_get, nat_le, refl, sym, ap, subst, ◌∙◌, arith}
 use Rattle.std.proofs.lemmas.Option.{same_Some}
 use Rattle.std.specs.Arc.{arc_value}
-use Rattle.std.specs.Prelude.{IsSomeAnd, IfOk, IfErr, MatchOption}
+use Rattle.std.specs.Prelude.{IsOk, IsSome, IsSomeAnd, IfSome, IfOk, IfErr, MatchOption}
 use Rattle.std.specs.Option.{option_map, option_and_then}
 use Rattle.std.specs.Result.{result_ok}
 use borrow.Author.Tests.{eqb-true, leb-true}
@@ -10,12 +10,14 @@ use Rattle.pk_copy.specs.Marks.{Marks}
 use Rattle.stream_core.specs.declared.step.Step.TheVariants.{Offer, Advance}
 use Rattle.stream_core.specs.Standing.{Standing, is_open_at}
 use Rattle.source_feed.specs.Planned.{FeedValue, IsFeed}
-use Rattle.source_feed.specs.Touches.{PreparedValue}
+use Rattle.source_feed.specs.declared.fault.FeedFault.{FeedFault}
+use Rattle.source_feed.specs.Touches.{PreparedValue, prepared_at}
 use Rattle.board_laws.specs.declared.answer.Answer.{Answer}
 use Rattle.board_laws.specs.declared.answer.Answer.TheVariants.{Applied}
 use Rattle.board_laws.specs.declared.refusal.Refusal.{Refusal}
+use Rattle.board_laws.specs.declared.refusal.Refusal.TheVariants.{NoStream, WrongPlan, Diverged, Core, OwnedByOther, FeedCount, Memory}
 use Rattle.board_laws.specs.declared.step_refusal.StepRefusal.TheVariants.{Refused}
-use Rattle.board_laws.specs.Meaning.{State}
+use Rattle.board_laws.specs.Meaning.{State, Meaning}
 use Rattle.board_laws.specs.Event.{Event, offer, advance}
 use Rattle.board_laws.specs.Lawful.{standing_of}
 use Rattle.board_laws.specs.StateAfter.{state_after}
@@ -27,20 +29,22 @@ use Rattle.stream_worker.specs.declared.ready.Ready.{Ready}
 use Rattle.stream_worker.specs.declared.receipt.Receipt.{Receipt}
 use Rattle.stream_worker.specs.Knowing.{Laid, Knows, SawStreams, names, state_seen}
 use Rattle.stream_worker.specs.Outlines.{Outlined, outline_of, IsNextOf}
-use Rattle.stream_worker.specs.Rule.{IsSaid, IsOwnChange, IsBoardTaken, IsBoardPut}
+use Rattle.stream_worker.specs.Rule.{StateGoesOn, IsSaid, IsOwnChange, IsBoardTaken, IsBoardPut}
 use Rattle.stream_worker.specs.Seats.{IsBoardStep, IsSeatStep, IsReceiptOf}
-use Rattle.stream_worker.specs.Worked.{AreReceiptsSince}
+use Rattle.stream_worker.specs.Steps.{AreMadeSteps}
+use Rattle.stream_worker.specs.Worked.{WantsNextStep, AreReceiptsSince}
 use Rattle.apply_core.specs.Courses.{LeadsOn}
 use Rattle.stream_worker.specs.Private.SeatSteps.{IsSeatEvent, EndsByItsBoard}
-use Rattle.stream_worker.specs.Private.Turns.{IsReady, AreReady, IsNextReady, groups_of, IsCaughtUp, IsTakenIn, IsOfferedAlone, IsNotTakenIn, knows_left, IsTurn, AreReceiptsOn, IsAhead, BeginsWith}
+use Rattle.stream_worker.specs.Private.Turns.{IsReady, AreReady, IsWholeTurn, IsNextReady, groups_of, IsCaughtUp, IsTakenIn, IsOfferedAlone, IsNotTakenIn, knows_left, IsTurn, AreReceiptsOn, IsAhead, BeginsWith}
 use Rattle.stream_worker.proofs.StepsOfOneStream.{step_changes, step_leaves}
 use Rattle.apply_core.proofs.StreamsThatStandSo.{the-one}
 use Rattle.stream_worker.proofs.OutlinesStayTrue.{outlined}
 use Rattle.stream_worker.proofs.ReceiptsFollowSteps.{receipts-stay, receipts-more}
 use Rattle.stream_worker.proofs.CourseStepsOfSeats.{reply-ends}
 use Rattle.stream_worker.proofs.SeatsTakeAndPut.{own_as_seen}
+use Rattle.stream_worker.proofs.StepsAreMade.{again-refl, again-same, one-step, steps-join, steps-behind, said-again}
 use Rattle.stream_worker.proofs.StreamsGoOn.{all_go_on-refl, all_go_on-trans}
-use Rattle.apply_core.proofs.CourseStepsAreAllowed.{plus_one}
+use Rattle.apply_core.proofs.CourseStepsAreAllowed.{plus_one, prepared-plan}
 use Rattle.apply_core.proofs.StreamsStillRead.{reads-on}
 
 -- ---- a group that is taken in
@@ -65,6 +69,14 @@ behind-all [] x zero e = refl
 behind-all [] x (suc n) e = absurd (omega (arith, e))
 behind-all (y ∷ xs) x zero e = absurd (omega (arith, e))
 behind-all (y ∷ xs) x (suc n) e = behind-all xs x n (omega (arith, e))
+
+-- the next group is of the stream's plan
+pub ready-plan : (taken : Laid) (s : ℕ) (ready : Ready) → IsSomeAnd (slice_get taken.board s) (IsNextReady ready) → IfSome (slice_get taken.board s) (λ state. (arc_value ready.group).plan ≡ state.plan)
+ready-plan taken s ready next = by (slice_get taken.board s) next
+  where
+    by : (o : Option State) → IsSomeAnd o (IsNextReady ready) → IfSome o (λ state. (arc_value ready.group).plan ≡ state.plan)
+    by None h = tt
+    by (Some state) h = h.plan
 
 -- what was built is what the stream then applies
 pub ready-next : (between : Laid) (taken : Laid) (s : ℕ) (ready : Ready) (answer : Answer) → IsBoardStep taken s (offer (arc_value ready.group)) (Ok answer) between
@@ -125,10 +137,29 @@ own-trans l a b c one two = record {
 
 pub turn-trans : (feed : FeedValue) (s : ℕ) (a b c : Laid) → IsTurn feed s a b → IsTurn feed s b c → IsTurn feed s a c
 turn-trans feed s a b c one two = record {
+  steps = one.steps ++ two.steps;
+  made = steps-join feed s one.steps two.steps a b c one.made two.made;
   own = own-trans (s ∷ []) a b c one.own two.own;
   given = two.given ∙ one.given;
   follows = λ reads. two.follows (one.follows reads);
 }
+
+-- a turn of which nothing is made yet
+pub turn-none : (feed : FeedValue) (s : ℕ) (laid : Laid) → IsTurn feed s laid laid
+turn-none feed s laid = record {
+  steps = [];
+  made = again-refl s laid;
+  own = record { others = λ t ne. refl; every = all_go_on-refl laid.board; long = refl };
+  given = refl;
+  follows = λ reads. reads;
+}
+
+-- a stream of a plan still is behind a turn
+pub turn-plan : (feed : FeedValue) (s : ℕ) (a b : Laid) → IsTurn feed s a b → IsSomeAnd (slice_get a.board s) (λ state. state.plan ≡ feed.plan) → IsSomeAnd (slice_get b.board s) (λ state. state.plan ≡ feed.plan)
+turn-plan feed s a b turn h =
+    let one : (state : State) × (slice_get a.board s ≡ Some state) × (state.plan ≡ feed.plan) = the-one (slice_get a.board s) (λ state. state.plan ≡ feed.plan) h in
+    let later : (state : State) × (slice_get b.board s ≡ Some state) × StateGoesOn one.0 state = the-one (slice_get b.board s) (StateGoesOn one.0) (turn.own.every s one.0 one.1) in
+    subst (λ (o : Option State). IsSomeAnd o (λ state. state.plan ≡ feed.plan)) (sym later.1) (later.2.plan ∙ one.2)
 
 -- ---- what an outline begins with
 
@@ -177,6 +208,8 @@ module _ (feed : FeedValue) (whole : IsFeed feed) (s : ℕ) (old : Laid) (less :
 
     offered-turn : IsTurn feed s old between
     offered-turn = record {
+      steps = Offer (suc (length state.list)) ∷ [];
+      made = one-step feed s (Offer (suc (length state.list))) (offer group) answer old old between event-offer (again-refl s old) offered;
       own = step_changes old between s (offer group) (Ok answer) offered;
       given = offered.given;
       follows = λ reads. to-state (ReadsFeed feed) between read read-there (reads-read (of-state (ReadsFeed feed) reads));
@@ -203,6 +236,8 @@ module _ (feed : FeedValue) (whole : IsFeed feed) (s : ℕ) (old : Laid) (less :
     taken-turn =
         turn-trans feed s old between new (offered-turn between taken.answer taken.offered)
         (record {
+          steps = Advance ∷ [];
+          made = one-step feed s Advance advance (Applied taken.number) between between new refl (again-refl s between) taken.applied;
           own = step_changes between new s advance (Ok (Applied taken.number)) taken.applied;
           given = taken.applied.given;
           follows = λ reads.
@@ -215,6 +250,7 @@ module _ (feed : FeedValue) (whole : IsFeed feed) (s : ℕ) (old : Laid) (less :
     taken-caught =
         to-state (IsCaughtUp feed later) new (taken_in state group) taken-there
         (record {
+          plan = caught.plan;
           applied = let more = length-append state.list (group ∷ []) in let all = caught.applied in omega (arith, more, all);
           closed = caught.closed;
           ready = subst (λ (n : ℕ). AreReady feed state.marks (suc n) later) (let more = length-append state.list (group ∷ []) in omega (arith, more)) caught.ready.1;
@@ -245,6 +281,8 @@ module _ (feed : FeedValue) (whole : IsFeed feed) (s : ℕ) (old : Laid) (less :
 
       unread-turn : IsTurn feed s old new
       unread-turn = record {
+        steps = [];
+        made = again-same s old new (ap (λ (m : Meaning). m.streams) step.step.1);
         own = step_changes old new s (offer group) (Err refusal) step;
         given = step.given;
         follows = λ reads. to-state (ReadsFeed feed) new state same-there (of-state (ReadsFeed feed) reads);
@@ -274,6 +312,8 @@ module _ (feed : FeedValue) (whole : IsFeed feed) (s : ℕ) (old : Laid) (less :
       unapplied-turn =
           turn-trans feed s old unapplied new (offered-turn unapplied h.answer h.offered)
           (record {
+            steps = [];
+            made = again-same s unapplied new (ap (λ (m : Meaning). m.streams) h.refused.step.1);
             own = step_changes unapplied new s advance (Err refusal) h.refused;
             given = h.refused.given;
             follows = λ reads. to-state (ReadsFeed feed) new read kept-there (subst (λ (o : Option State). IsSomeAnd o (ReadsFeed feed)) (read-there unapplied h.answer h.offered) reads);
@@ -312,6 +352,21 @@ module _ (feed : FeedValue) (whole : IsFeed feed) (s : ℕ) (old : Laid) (less :
     pub refused-ends : IsNotTakenIn old s group refusal new → IsSomeAnd (slice_get old.board s) (ReadsFeed feed) → EndsByItsBoard feed (knows_left s new) s refusal
     refused-ends (inl step) = unread-ends step
     refused-ends (inr h) = unapplied-ends h
+
+-- the first of those that stand ready is the next one
+pub caught-next : (feed : FeedValue) (s : ℕ) (cur : Laid) (ready : Ready) (later rest : List Ready) → rest ≡ ready ∷ later → IsSomeAnd (slice_get cur.board s) (IsCaughtUp feed rest)
+    → IsSomeAnd (slice_get cur.board s) (IsNextReady ready)
+caught-next feed s cur ready later rest is caught =
+    let one : (state : State) × (slice_get cur.board s ≡ Some state) × IsCaughtUp feed (ready ∷ later) state
+    = the-one (slice_get cur.board s) (IsCaughtUp feed (ready ∷ later)) (subst (λ (l : List Ready). IsSomeAnd (slice_get cur.board s) (IsCaughtUp feed l)) is caught) in
+    let first : IsReady feed one.0.marks (suc (length one.0.list)) ready = one.2.ready.0 in
+    subst (λ (o : Option State). IsSomeAnd o (IsNextReady ready)) (sym one.1)
+    (record {
+      plan = prepared-plan feed (suc (length one.0.list)) (arc_value ready.group) first.prepared ∙ sym one.2.plan;
+      applied = one.2.applied;
+      number = first.number;
+      built = first.built;
+    })
 
 -- ---- one more of them, on a board that a turn has come to
 
@@ -365,6 +420,64 @@ pub ready-push : (feed : FeedValue) (marks : Marks) (n : ℕ) (xs : List Ready) 
 ready-push feed marks n [] x all one = (subst (λ (m : ℕ). IsReady feed marks m x) (omega arith) one, tt)
 ready-push feed marks n (y ∷ ys) x all one = (all.0, ready-push feed marks (suc n) ys x all.1 (subst (λ (m : ℕ). IsReady feed marks m x) (omega arith) one))
 
+-- how a stream's course ends is by the board that is seen alone
+pub ends-seen : (feed : FeedValue) (v w : Knows) (s : ℕ) (refusal : Refusal) → w.seen ≡ v.seen → EndsByItsBoard feed v s refusal → EndsByItsBoard feed w s refusal
+ends-seen feed v w s NoStream same h = h
+ends-seen feed v w s WrongPlan same h = h
+ends-seen feed v w s Diverged same h = h
+ends-seen feed v w s (Core refusal) same h = h
+ends-seen feed v w s (OwnedByOther key owner) same h = record {
+  laid = h.laid;
+  seen = same ∙ h.seen;
+  step = h.step;
+  event = h.event;
+  of_step = h.of_step;
+  refused = h.refused;
+  touched = h.touched;
+  other = h.other;
+  state = h.state;
+  there = h.there;
+  row = h.row;
+  cut = h.cut;
+}
+ends-seen feed v w s FeedCount same h = h
+ends-seen feed v w s Memory same h =
+    subst (λ (o : Option Laid). IsSomeAnd (option_and_then (λ (laid : Laid). slice_get laid.board s) o) (WantsNextStep feed)) (sym same) h
+
+-- where some stand ready, the first is sound
+pub ready-sound : (feed : FeedValue) (marks : Marks) (n : ℕ) (xs : List Ready) → 1 ≤ length xs → AreReady feed marks n xs → IsOk (prepared_at feed n)
+ready-sound feed marks n [] some all = absurd (omega (arith, some))
+ready-sound feed marks n (x ∷ xs) some all = subst (λ (r : Result PreparedValue FeedFault). IsOk r) (sym all.0.prepared) refl
+
+-- also where none does but one more
+pub ready-first : (feed : FeedValue) (marks : Marks) (n : ℕ) (xs : List Ready) (x : Ready) → AreReady feed marks n xs → IsReady feed marks (n + length xs) x → IsOk (prepared_at feed n)
+ready-first feed marks n xs x all one =
+    ready-sound feed marks n (xs ++ x ∷ []) (let more = length-append xs (x ∷ []) in omega (arith, more)) (ready-push feed marks n xs x all one)
+
+-- or where the next one is sound
+pub ready-wanted : (feed : FeedValue) (marks : Marks) (n : ℕ) (xs : List Ready) → AreReady feed marks n xs → IsOk (prepared_at feed (n + length xs)) → IsOk (prepared_at feed n)
+ready-wanted feed marks n [] all wanted = subst (λ (m : ℕ). IsOk (prepared_at feed m)) (omega arith) wanted
+ready-wanted feed marks n (x ∷ xs) all wanted = ready-sound feed marks n (x ∷ xs) (omega arith) all
+
+-- a turn up to its end is whole
+pub whole-turn : (feed : FeedValue) (n count end : ℕ) → n + count ≡ end → (end ≡ length feed.groups + 1) ⊎ (end ≡ n + 16) → IsWholeTurn feed n count
+whole-turn feed n count end is (inl e) = inr (inl (is ∙ e))
+whole-turn feed n count end is (inr e) = inl (omega (arith, is, e))
+
+-- and memory may be wanted for it
+pub caught-wants : (feed : FeedValue) (readies : List Ready) (o : Option State) → 1 ≤ length readies → IsSomeAnd o (IsCaughtUp feed readies) → IsSomeAnd o (WantsNextStep feed)
+caught-wants feed readies None some h = h
+caught-wants feed [] (Some state) some h = absurd (omega (arith, some))
+caught-wants feed (ready ∷ later) (Some state) some h =
+    record {
+      step = Offer (suc (length state.list));
+      was = 0;
+      is = 0;
+      leads = (sym (plus_one (length state.list)), let w = h.ready.0.within in omega (arith, w), h.closed, refl);
+      event = offer (arc_value ready.group);
+      of_step = ap (λ r. option_map offer (result_ok r)) h.ready.0.prepared;
+    }
+
 -- ---- from the board that was taken to the one that is put back
 
 module _ (feed : FeedValue) (before holding : Knows) (s : ℕ) (taken : Laid) (own : before.streams ≡ s ∷ []) (standing : Standing) (numbers : option_map standing_of (state_seen before s) ≡ Some standing)
@@ -383,6 +496,13 @@ module _ (feed : FeedValue) (before holding : Knows) (s : ℕ) (taken : Laid) (o
       by (Some seen) e says num = (seen, e, says)
 
   module _ (left : Laid) (turn : IsTurn feed s taken left) where
+    -- its stream is still there
+    pub turn-some : (P : State → Type 0) → IsSomeAnd (state_seen before s) P → IsSome (slice_get left.board s)
+    turn-some P h =
+        let one : (state : State) × (state_seen before s ≡ Some state) × P state = the-one (state_seen before s) P h in
+        let later : (state : State) × (slice_get left.board s ≡ Some state) × StateGoesOn one.0 state = the-one (slice_get left.board s) (StateGoesOn one.0) (turn.own.every s one.0 (turn-here ∙ one.1)) in
+        subst (λ (o : Option State). IsSome o) (sym later.1) refl
+
     module _ (after : Knows) (put : IsBoardPut holding left after) where
       turn-there : state_seen after s ≡ slice_get left.board s
       turn-there = ap (λ (o : Option Laid). option_and_then (λ (laid : Laid). slice_get laid.board s) o) put.seen
@@ -393,6 +513,19 @@ module _ (feed : FeedValue) (before holding : Knows) (s : ℕ) (taken : Laid) (o
           ∙ turn.own.long
           ∙ saw.2.long
           ∙ many saw.0 saw.1
+
+      -- how a turn ends the stream's course, by what the seat then knows
+      pub turn-ends : {X : Type 0} → (r : Result X Refusal) → (IsSomeAnd (slice_get taken.board s) (ReadsFeed feed) → IfErr r (EndsByItsBoard feed (knows_left s left) s)) → IsSomeAnd (state_seen before s) (ReadsFeed feed)
+          → IfErr r (EndsByItsBoard feed after s)
+      turn-ends (Ok x) ends follows = tt
+      turn-ends (Err refusal) ends follows =
+          ends-seen feed (knows_left s left) after s refusal put.seen (ends (subst (λ (o : Option State). IsSomeAnd o (ReadsFeed feed)) (sym turn-here) follows))
+
+      -- what the seat did are the turn's steps
+      pub turn-stepped : (seen last : Laid) → before.seen ≡ Some seen → after.seen ≡ Some last → AreMadeSteps feed s turn.steps seen last
+      turn-stepped seen last was sees =
+          subst (λ (l : Laid). AreMadeSteps feed s turn.steps seen l) (same_Some left last (sym put.seen ∙ sees))
+          (steps-behind feed s turn.steps seen taken left (said-again before s own seen taken was h.says) turn.made)
 
       pub turn-keeps : (P Q : State → Type 0) → (IsSomeAnd (slice_get taken.board s) P → IsSomeAnd (slice_get left.board s) Q) → IsSomeAnd (state_seen before s) P → IsSomeAnd (state_seen after s) Q
       turn-keeps P Q f h = subst (λ (o : Option State). IsSomeAnd o Q) (sym turn-there) (f (subst (λ (o : Option State). IsSomeAnd o P) (sym turn-here) h))

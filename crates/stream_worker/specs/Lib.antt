@@ -4,5 +4,6 @@ pub mod Outlines
 pub mod Seats
 pub mod SeatOf
 pub mod Calls
+pub mod Steps
 pub mod Worked
 pub mod Private

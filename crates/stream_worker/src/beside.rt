@@ -8,8 +8,7 @@ use crate::gate::Gate;
 use crate::seat::Seat;
 use crate::seat_run::{Ran, RunContext};
 use crate::working::work;
-use apply_core::RunRefusal;
-use feed_readers::{Named, OfFeed, Reading, WorkerEnd, read_ahead, reader_ends};
+use feed_readers::{Named, NothingReady, OfFeed, Reading, WorkerEnd, read_ahead, reader_ends};
 use source_feed::Feed;
 use std::sync::Wait;
 use std::thread;
@@ -51,6 +50,29 @@ fn work_behind<'a, 'h, F: OfFeed + 'h, R: Wait, G: Gate>(
     Ran { seat, refusal }
 }
 
+/// A seat's stream runs to the feed's end without a reader: each group is prepared where it is needed.
+fn work_alone<'a, 'h, R: Wait, G: Gate>(
+    run: &RunContext<'a, 'h, R, G>,
+    mut seat: Seat<'h>,
+    feed: &Feed<'h>,
+) -> Ran<'h>
+    requires { IsSeatOf run.now.shared.now seat }
+    ensures { IsLeft run.now.shared.now feed.now seat.entry result }
+{
+    let mut nothing = NothingReady::of(feed);
+    let (_, refusal) = work(
+        run.rt,
+        run.alloc,
+        run.shared,
+        &mut seat,
+        feed,
+        run.policy,
+        run.gate,
+        &mut nothing,
+    );
+    Ran { seat, refusal }
+}
+
 /// Both run, each in a thread of its own. A reader whose thread can't be made has ended.
 fn run_both<'a, 'h, F: OfFeed + Send + Sync + 'h, R: Threads + Wait + Sync, G: Gate + Sync>(
     reading: Reading<'a, 'h, F, R>,
@@ -66,7 +88,7 @@ fn run_both<'a, 'h, F: OfFeed + Send + Sync + 'h, R: Threads + Wait + Sync, G: G
 }
 
 /// A seat's stream runs to its feed's end, beside a thread that prepares the groups that it reads and sends them to
-/// it. Memory refused to their channel ends the stream.
+/// it; without one where memory is refused to their channel.
 pub(crate) fn beside_reader<
     'a,
     'h,
@@ -75,21 +97,19 @@ pub(crate) fn beside_reader<
     G: Gate + Sync,
 >(run: &'a RunContext<'a, 'h, R, G>, seat: Seat<'h>, feed: &'a Feed<'h>) -> Ran<'h>
     requires feed { feed.now ≡ F.feed }
+    requires read { seat.cursor.read ≡ F.read }
     requires seat { IsSeatOf run.now.shared.now seat }
     ensures { IsLeft run.now.shared.now feed.now seat.entry result }
 {
     match reader_ends::<F>(run.alloc) {
-        Err(_) => Ran {
-            seat,
-            refusal: Some(RunRefusal::Memory),
-        },
+        Err(_) => work_alone(run, seat, feed),
         Ok((reader, worker)) => {
             let (of_reader, of_worker) = Named::for_both(feed);
             let reading = Reading {
                 rt: run.rt,
                 alloc: run.alloc,
                 feed: of_reader,
-                read: seat.read(),
+                read: seat.cursor.read(),
                 end: reader,
             };
             let working = Working {

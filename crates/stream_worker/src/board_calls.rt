@@ -10,6 +10,7 @@ ghost use Rattle.board_laws.specs.StateAfter.{state_after};
 ghost use Rattle.board_laws.specs.Step.{IsStep, answered};
 ghost use Rattle.stream_worker.specs.Outlines.{IsNextOf};
 ghost use Rattle.stream_worker.specs.Seats.{IsReceiptOf};
+ghost use Rattle.stream_worker.specs.Private.Offers.{IsOfThatPlan};
 
 use crate::outline::Next;
 use crate::receipt::Receipt;
@@ -46,11 +47,20 @@ pub(crate) trait BoardCall<'h> {
         ensures gives { IfOk result (λ made. gives self s (slice_get board.old.streams s) made (slice_get board.new.streams s)) };
 }
 
+/// Of which plan an offered group is.
+#[derive(Drop)]
+pub(crate) enum OfPlan {
+    /// Of any: it is compared with the stream's, with memory for that.
+    Any(Global),
+    /// Of the stream's: no plans are compared.
+    Own,
+}
+
 /// A group is offered.
 #[derive(Drop)]
 pub(crate) struct Offer<'h> {
-    pub(crate) alloc: Global,
     pub(crate) group: Arc<Prepared<'h>>,
+    pub(crate) plan: OfPlan,
 }
 
 impl<'h> BoardCall<'h> for Offer<'h> {
@@ -60,12 +70,15 @@ impl<'h> BoardCall<'h> for Offer<'h> {
 
     ghost answer = { λ _. answers.Answer.Offered };
 
-    ghost ready = { λ _ _. ⊤ };
+    ghost ready = { λ call before. IsOfThatPlan call.plan (arc_value call.group) before };
 
     ghost gives = { λ _ _ _ _ _. ⊤ };
 
     fn make(self, board: &mut Board<'h>, s: u8) -> Result<Offered, Refusal> {
-        let Offer { alloc, group } = self;
+        let Offer { group, plan } = self;
+        let OfPlan::Any(alloc) = plan else {
+            return board.offer_own(s, group);
+        };
         board.offer(alloc, s, group)
     }
 }

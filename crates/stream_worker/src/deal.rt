@@ -1,6 +1,6 @@
 //! What lies in the lock: the board, and how many seats are given out.
 
-ghost use Rattle.std.specs.Prelude.{◌≡◌, ◌+◌, ◌<◌, Some, Err, IsSome, IfOk, IsSomeAnd, slice_get};
+ghost use Rattle.std.specs.Prelude.{◌≡◌, ◌+◌, ◌<◌, Some, Err, IsSome, IfOk, IsSomeAnd, IsTrue, slice_get};
 ghost use Rattle.std.specs.Option.{option_map};
 ghost use Rattle.std.specs.Arc.{arc_value};
 ghost use Rattle.board_laws.specs.declared.answer.Answer as answers;
@@ -14,6 +14,7 @@ use crate::board_calls::BoardCall;
 use crate::found::Found;
 use apply_core::{Board, Offered, Refusal};
 use board_laws::steps_keep_boards_lawful;
+use filter_rule::Plan;
 use pk_copy::Key;
 use row_view::RowBuf;
 use source_feed::Prepared;
@@ -67,6 +68,14 @@ impl<'h> Deal<'h> {
             Ok(cursor) => cursor,
             Err(_) => unreachable!(),
         }
+    }
+
+    /// Whether stream `s` is there and of this plan. Takes no memory.
+    pub(crate) fn is_under(&self, s: u8, plan: &Plan) -> bool
+        ensures yes { IsTrue result → IsSomeAnd (slice_get self.now.board s) (λ state. state.plan ≡ plan.now) }
+        ensures no { IsSomeAnd (slice_get self.now.board s) (λ state. state.plan ≡ plan.now) → IsTrue result }
+    {
+        self.board.is_under(s, plan)
     }
 
     /// A call of the board on stream `s`.

@@ -2,9 +2,10 @@
 
 ghost use Rattle.std.specs.Prelude.{◌≡◌, ◌≤◌, length, map, MatchOption, IfSome, IfOk, IfErr};
 ghost use Rattle.std.specs.Arc.{arc_value};
+ghost use Rattle.board_laws.specs.Sources.{ShowAll};
 ghost use Rattle.apply_core.specs.Feeds.{AreFed};
 ghost use Rattle.apply_core.specs.Shown.{all_rows};
-ghost use Rattle.apply_core.specs.Ended.{IsFedBoard, AllHaveEnded, IsRowsUnion};
+ghost use Rattle.apply_core.specs.Ended.{IsFedBoard, AllHaveEnded, AreSound, IsRowsUnion};
 ghost use Rattle.apply_core.specs.RunRefused.{EndsRun, IsRefusedRun, IsLowest};
 ghost use Rattle.stream_worker.specs.Private.SeatRuns.{IsSeated, IsRan, AreSeated, AreJobs, AreRan, first_refusal};
 
@@ -12,7 +13,8 @@ use crate::gate::Gate;
 use crate::seat::Seat;
 use crate::seat_run::{Job, Ran, RunContext, run_seat};
 use crate::shared::Shared;
-use apply_core::{Board, Policy, RunRefusal, board_to_run, ended_boards_have_the_union};
+use apply_core::{Board, FedBoard, Policy, RunRefusal, board_to_run, ended_boards_have_the_union};
+use board_laws::fed_boards_show_all;
 use filter_rule::Plan;
 use source_feed::Feed;
 use std::alloc::{AllocError, Global};
@@ -150,12 +152,8 @@ pub fn run_parallel<'h, R: Threads + Wait + Sync, G: Gate + Sync>(
     Ok(board)
 }
 
-/// Runs all streams from a board whose streams read these feeds, each to its feed's end in a thread of its own, in the
-/// portions of the policy: what is read, applied and copied already stays. The feeds stand in the order of the streams.
-/// The answer is as `run_parallel`'s, wherever the board stood.
-///
-/// Refused 90 and 71 as `run_parallel` has them; any other error is want of memory.
-pub fn run_board_parallel<'h, R: Threads + Wait + Sync, G: Gate + Sync>(
+/// The same from a board whose streams read these feeds.
+fn run_board_parallel<'h, R: Threads + Wait + Sync, G: Gate + Sync>(
     rt: &R,
     alloc: Global,
     board: Board<'h>,
@@ -168,7 +166,6 @@ pub fn run_board_parallel<'h, R: Threads + Wait + Sync, G: Gate + Sync>(
     ensures ended { IfOk result (AllHaveEnded feeds.now) }
     ensures rows { IfOk result (λ board. IsRowsUnion feeds.now (all_rows board.rows)) }
     ensures refused { IfErr result (EndsRun feeds.now) }
-    // Every lower stream has come to its feed's end.
     ensures lowest { IfErr result (IsLowest feeds.now) }
 {
     ended_boards_have_the_union();
@@ -179,4 +176,32 @@ pub fn run_board_parallel<'h, R: Threads + Wait + Sync, G: Gate + Sync>(
             Some(refusal) => Err(refusal),
         },
     }
+}
+
+/// Runs all streams of a board with its feeds, each to its feed's end in a thread of its own, in the portions of the
+/// policy: what is read, applied and copied already stays. The answer is as `run_parallel`'s, wherever the board stood,
+/// with the feeds.
+///
+/// Refused 90 and 71 as `run_parallel` has them; any other error is want of memory.
+pub fn run_fed_parallel<'h, R: Threads + Wait + Sync, G: Gate + Sync>(
+    rt: &R,
+    alloc: Global,
+    fed: FedBoard<'h>,
+    policy: &Policy,
+    gate: &G,
+) -> Result<FedBoard<'h>, RunRefusal>
+    ensures feeds { IfOk result (λ ended. ended.feeds ≡ fed.entry.feeds) }
+    ensures ended { IfOk result (λ ended. AllHaveEnded ended.feeds ended.board) }
+    ensures rows { IfOk result (λ ended. IsRowsUnion ended.feeds (all_rows ended.board.rows)) }
+    ensures sound { IfOk result (λ ended. AreSound ended.feeds) }
+    ensures shows { IfOk result (λ ended. ShowAll ended.feeds ended.board) }
+    ensures refused { IfErr result (EndsRun fed.entry.feeds) }
+    // Every lower stream has come to its feed's end.
+    ensures lowest { IfErr result (IsLowest fed.entry.feeds) }
+{
+    ended_boards_have_the_union();
+    fed_boards_show_all();
+    let (board, feeds) = fed.into_parts();
+    let board = run_board_parallel(rt, alloc, board, &feeds, policy, gate)?;
+    Ok(FedBoard::from_parts(board, feeds))
 }

@@ -1,19 +1,21 @@
 //! The shared board, and the calls of its seats.
 
-ghost use Rattle.std.specs.Prelude.{◌≡◌, Err, IfOk, IsSomeAnd};
+ghost use Rattle.std.specs.Prelude.{◌≡◌, Err, IfOk, IfSome, IsSomeAnd, IsTrue};
 ghost use Rattle.std.specs.Arc.{arc_value};
 ghost use Rattle.board_laws.specs.declared.answer.Answer as answers;
 ghost use Rattle.board_laws.specs.Cut.{cut_of};
 ghost use Rattle.board_laws.specs.Event.{offer, advance, open_at, copy_rows, close, restart};
 ghost use Rattle.board_laws.specs.Step.{answered};
 ghost use Rattle.stream_worker.specs.Private.FoundGroups.{IsFound};
+ghost use Rattle.stream_worker.specs.Private.Offers.{IsOfThatPlan};
 
-use crate::board_calls::{Advance, Close, CopyRows, Offer, OpenAt, Restart};
+use crate::board_calls::{Advance, Close, CopyRows, OfPlan, Offer, OpenAt, Restart};
 use crate::found::Found;
 use crate::lock::Lock;
 use crate::receipt::Receipt;
 use crate::seat::Seat;
 use apply_core::{Copied, Offered, Refusal};
+use filter_rule::Plan;
 use pk_copy::Key;
 use row_view::RowBuf;
 use source_feed::Prepared;
@@ -28,7 +30,8 @@ pub struct Shared<'h> {
 }
 
 impl<'h> Shared<'h> {
-    ghost use Rattle.stream_worker.specs.SeatOf.{seat_state, IsSeatOf, IsSeatFor, MakesStep};
+    ghost use Rattle.stream_worker.specs.SeatOf.{seat_state, IsSeatOf, IsSeatFor, MakesStep, SawNoOther};
+    ghost use Rattle.stream_worker.specs.Steps.{SeesAgain};
     ghost use Rattle.stream_worker.specs.Worked.{IsLastReceipt};
 
     /// An offer of a group whose number is read is answered by what was found of it before the board was taken.
@@ -69,7 +72,7 @@ impl<'h> Shared<'h> {
     }
 
     /// An advance that found no memory before the board was taken: the board is asked what it finds without.
-    fn judge_advance<R: Wait>(&self, rt: &R, seat: &mut Seat<'h>) -> Refusal
+    pub(crate) fn judge_advance<R: Wait>(&self, rt: &R, seat: &mut Seat<'h>) -> Refusal
         requires { IsSeatOf self.now seat.old }
         ensures is_at { IsSeatFor self.now seat.old.stream seat.new }
         ensures step { MakesStep seat.old advance (Err result) seat.new }
@@ -78,6 +81,34 @@ impl<'h> Shared<'h> {
         let refusal = deal.judge_advance(seat.stream);
         self.lock.put_back(rt, &mut seat.pass, deal);
         refusal
+    }
+
+    /// A group of such a plan is offered to the seat's stream. A group whose number is read is compared with that one
+    /// before the board is taken.
+    fn offer_of<R: Wait>(
+        &self,
+        rt: &R,
+        seat: &mut Seat<'h>,
+        group: Arc<Prepared<'h>>,
+        plan: OfPlan,
+    ) -> Result<Offered, Refusal>
+        requires is_at { IsSeatOf self.now seat.old }
+        requires plan { IsOfThatPlan plan (arc_value group) (seat_state seat.old) }
+        ensures is_at { IsSeatFor self.now seat.old.stream seat.new }
+        ensures step { MakesStep seat.old (offer (arc_value group.entry)) (answered answers.Answer.Offered result) seat.new }
+    {
+        if let Some(found) = seat.outline.find(&group) {
+            return self.answer_found(rt, seat, &group, found);
+        }
+        let Ok(()) = seat.outline.push(&group) else {
+            return self.judge_offer(rt, seat, &group);
+        };
+        let mut deal = self.lock.take(rt, &mut seat.pass);
+        let result = deal.call(seat.stream, Offer { group, plan });
+        seat.cursor = deal.cursor(seat.stream);
+        self.lock.put_back(rt, &mut seat.pass, deal);
+        seat.outline.keep(seat.cursor.read());
+        result
     }
 
     /// A group is offered to the seat's stream: it is read, or was read before. Refused as the board's
@@ -94,18 +125,40 @@ impl<'h> Shared<'h> {
         ensures is_at { IsSeatFor self.now seat.old.stream seat.new }
         ensures step { MakesStep seat.old (offer (arc_value group.entry)) (answered answers.Answer.Offered result) seat.new }
     {
-        if let Some(found) = seat.outline.find(&group) {
-            return self.answer_found(rt, seat, &group, found);
-        }
-        let Ok(()) = seat.outline.push(&group) else {
-            return self.judge_offer(rt, seat, &group);
-        };
-        let mut deal = self.lock.take(rt, &mut seat.pass);
-        let result = deal.call(seat.stream, Offer { alloc, group });
-        seat.cursor = deal.cursor(seat.stream);
+        self.offer_of(rt, seat, group, OfPlan::Any(alloc))
+    }
+
+    /// A group of the plan of the seat's stream is offered to it, as `offer` does; no plans are compared but with the group
+    /// of its number, where that one is read.
+    pub(crate) fn offer_own<R: Wait>(
+        &self,
+        rt: &R,
+        seat: &mut Seat<'h>,
+        group: Arc<Prepared<'h>>,
+    ) -> Result<Offered, Refusal>
+        requires is_at { IsSeatOf self.now seat.old }
+        requires plan { IfSome (seat_state seat.old) (λ state. (arc_value group).plan ≡ state.plan) }
+        ensures is_at { IsSeatFor self.now seat.old.stream seat.new }
+        ensures step { MakesStep seat.old (offer (arc_value group.entry)) (answered answers.Answer.Offered result) seat.new }
+    {
+        self.offer_of(rt, seat, group, OfPlan::Own)
+    }
+
+    /// Whether the seat's stream is of this plan. It changes nothing. Takes no memory.
+    pub(crate) fn is_under<R: Wait>(&self, rt: &R, seat: &mut Seat<'h>, plan: &Plan) -> bool
+        requires { IsSeatOf self.now seat.old }
+        ensures is_at { IsSeatFor self.now seat.old.stream seat.new }
+        ensures state { seat_state seat.new ≡ seat_state seat.old }
+        ensures many { SawNoOther seat.old seat.new }
+        ensures again { SeesAgain seat.old seat.new }
+        ensures cursor { seat.new.cursor ≡ seat.old.cursor }
+        ensures yes { IsTrue result → IsSomeAnd (seat_state seat.new) (λ state. state.plan ≡ plan.now) }
+        ensures no { IsSomeAnd (seat_state seat.new) (λ state. state.plan ≡ plan.now) → IsTrue result }
+    {
+        let deal = self.lock.take(rt, &mut seat.pass);
+        let is = deal.is_under(seat.stream, plan);
         self.lock.put_back(rt, &mut seat.pass, deal);
-        seat.outline.keep(seat.cursor.read());
-        result
+        is
     }
 
     /// The next group of the seat's stream is applied, with its rows; the answer is its receipt. Refused as the
@@ -138,8 +191,8 @@ impl<'h> Shared<'h> {
         }
     }
 
-    /// The seat's applied number, and the row of its stream at a key, in memory of its own. It changes nothing.
-    /// An error is want of memory.
+    /// The seat's applied number, and the row of its stream at a key, in memory of its own. It changes nothing, and all
+    /// that other streams were seen to have applied stays. An error is want of memory.
     pub fn look<R: Wait>(
         &self,
         rt: &R,
@@ -150,6 +203,7 @@ impl<'h> Shared<'h> {
         requires { IsSeatOf self.now seat.old }
         ensures is_at { IsSeatFor self.now seat.old.stream seat.new }
         ensures state { seat_state seat.new ≡ seat_state seat.old }
+        ensures again { SeesAgain seat.old seat.new }
         ensures row { IfOk result (λ found. IsSomeAnd (seat_state seat.new) (λ state. (found.0 ≡ state.applied) × (found.1 ≡ cut_of state key.now))) }
     {
         let deal = self.lock.take(rt, &mut seat.pass);

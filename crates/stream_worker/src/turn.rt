@@ -1,6 +1,6 @@
 //! A turn of a stream: groups that stand ready are offered and applied in one hold of the board.
 
-ghost use Rattle.std.specs.Prelude.{◌+◌, ◌<◌, ◌≤◌, IfOk, IfErr, IsSomeAnd, length, vec_len};
+ghost use Rattle.std.specs.Prelude.{◌≡◌, ◌+◌, ◌<◌, ◌≤◌, IfOk, OnOk, IfErr, IsSomeAnd, length, vec_len};
 ghost use Rattle.std.specs.Arc.{arc_value};
 ghost use Rattle.std.specs.Vec.{vec_capacity};
 ghost use Rattle.board_laws.specs.Reading.{ReadsFeed};
@@ -9,7 +9,7 @@ ghost use Rattle.stream_worker.specs.Worked.{Follows, GoesOn};
 ghost use Rattle.stream_worker.specs.Private.SeatSteps.{EndsByItsBoard};
 ghost use Rattle.stream_worker.specs.Private.Turns.{IsCaughtUp, IsNextReady, IsTakenIn, IsNotTakenIn, IsTurn, StreamIs, KeepsReceipts, KeepsOutlines, knows_left};
 
-use crate::board_calls::{Advance, Offer};
+use crate::board_calls::{Advance, OfPlan, Offer};
 use crate::deal::Deal;
 use crate::ready::Ready;
 use crate::receipt::Receipt;
@@ -38,7 +38,13 @@ impl<'h> Deal<'h> {
         ensures refused { IfErr result (λ refusal. IsNotTakenIn self.old s (arc_value ready.entry.group) refusal self.new) }
     {
         let Ready { group, next } = ready;
-        self.call(s, Offer { alloc, group })?;
+        self.call(
+            s,
+            Offer {
+                group,
+                plan: OfPlan::Own,
+            },
+        )?;
         self.call(s, Advance { alloc, next })
     }
 
@@ -58,6 +64,8 @@ impl<'h> Deal<'h> {
         requires receipts { vec_len receipts.old + length readies.items ≤ vec_capacity receipts.old }
         requires freed { vec_len freed.old + length readies.items ≤ vec_capacity freed.old }
         ensures turn { IsTurn feed.now s self.old self.new }
+        // Where none is refused, each has a receipt.
+        ensures each { OnOk result (length receipts.new.items ≡ length receipts.old.items + length readies.entry.items) }
         ensures receipts { KeepsReceipts s self.old receipts.old.items self.new receipts.new.items }
         ensures kept { KeepsOutlines s self.old readies.entry.items self.new }
         ensures refused { StreamIs self.old s (ReadsFeed feed.now) → IfErr result (EndsByItsBoard feed.now (knows_left s self.new) s) }
@@ -88,9 +96,11 @@ impl<'h> Shared<'h> {
         receipts: &mut Vec<Receipt<'h>>,
     ) -> Result<(), Refusal>
         requires is_at { IsSeatOf self.now seat.old }
+        requires some { 1 ≤ length readies.items }
         requires ready { IsSomeAnd (seat_state seat.old) (IsCaughtUp feed.now readies.items) }
         ensures is_at { IsSeatFor self.now seat.old.stream seat.new }
         ensures goes_on { GoesOn feed.now seat.old receipts.old.items seat.new receipts.new.items }
+        ensures each { OnOk result (length receipts.new.items ≡ length receipts.old.items + length readies.entry.items) }
         ensures refused { Follows feed.now seat.old → IfErr result (EndsByItsBoard feed.now (known seat.new) seat.new.stream) }
     {
         let Ok(()) = receipts.reserve(readies.len()) else {

@@ -1,13 +1,15 @@
 //! The stream of one seat works to its feed's end, beside others.
 
-ghost use Rattle.std.specs.Prelude.{◌≡◌, ◌+◌, ◌≤◌, true, false, Ok, Err, IfOk, IfSome, IfNone, IfErr, length};
+ghost use Rattle.std.specs.Prelude.{◌≡◌, ◌⊎◌, ℕ, ◌+◌, ◌<◌, ◌≤◌, true, false, Some, Ok, Err, IfOk, IfSome, IfNone, IfErr, length, vec_len};
 ghost use Rattle.stream_core.specs.declared.step.Step as steps;
 ghost use Rattle.stream_core.specs.Standing.{IsSound};
-ghost use Rattle.source_feed.specs.Planned.{IsFeed};
+ghost use Rattle.source_feed.specs.Planned.{FeedValue, IsFeed};
+ghost use Rattle.stream_worker.specs.Knowing.{Knows};
 ghost use Rattle.stream_worker.specs.SeatOf.{known, IsSeatOf, IsSeatFor, SawNoOther};
-ghost use Rattle.stream_worker.specs.Worked.{Follows, HasCome, EndsSeat, AreReceipts, GoesOn};
+ghost use Rattle.stream_worker.specs.Worked.{IsOfPlan, Follows, HasCome, EndsSeat, AreReceipts, GoesOn};
 ghost use Rattle.stream_worker.specs.Private.SeatSteps.{IsSeatReply, AreBehind, EndsSeatStep};
-ghost use Rattle.stream_worker.specs.Private.Turns.{IsReady, AreReady, IsNextOffer};
+ghost use Rattle.stream_worker.specs.Private.Turns.{IsReady, AreReady, IsNotReady, IsWholeTurn, IsNextOffer};
+ghost use Rattle.stream_worker.specs.Steps.{AllStay, HasStepped};
 
 use crate::gate::Gate;
 use crate::ready::Ready;
@@ -43,6 +45,16 @@ pub(crate) fn know_feed(feed: &Feed<'_>)
     feed.plan();
 }
 
+/// Why an offer of a group is refused that doesn't stand ready: 72 where memory is wanted for it, or else its fault.
+fn unready(fault: FeedFault) -> StepRefusal
+    ensures { (feed : FeedValue) (number : ℕ) (before : Knows) (s : ℕ) → IsNotReady feed number fault → IsSeatReply feed before s (steps.Step.Offer number) (Err result) before }
+{
+    match fault {
+        FeedFault::Memory => StepRefusal::Refused(Refusal::Memory),
+        fault => StepRefusal::Unprepared(fault),
+    }
+}
+
 /// Group `number` of the feed is taken of those that stand ready, or prepared, the gate is told of it, and it is
 /// offered.
 fn offer_of<'a, 'h, R: Wait, G: Gate, A: Ahead<'h>>(
@@ -52,6 +64,7 @@ fn offer_of<'a, 'h, R: Wait, G: Gate, A: Ahead<'h>>(
     number: u32,
 ) -> Result<Answer, StepRefusal>
     requires is_at { IsSeatOf bench.now.shared.now seat.old }
+    requires plan { IsOfPlan bench.now.feed.now seat.old }
     requires feed { A.feed ahead.old ≡ bench.now.feed.now }
     ensures is_at { IsSeatFor bench.now.shared.now seat.old.stream seat.new }
     ensures feed { A.feed ahead.new ≡ bench.now.feed.now }
@@ -59,11 +72,10 @@ fn offer_of<'a, 'h, R: Wait, G: Gate, A: Ahead<'h>>(
 {
     let group = match group_of(bench.rt, bench.alloc, bench.feed, number, ahead) {
         Ok(group) => group,
-        Err(FeedFault::Memory) => return Err(StepRefusal::Refused(Refusal::Memory)),
-        Err(fault) => return Err(StepRefusal::Unprepared(fault)),
+        Err(fault) => return Err(unready(fault)),
     };
     bench.gate.passed(bench.rt, seat.stream, number);
-    match bench.shared.offer(bench.rt, bench.alloc, seat, group) {
+    match bench.shared.offer_own(bench.rt, seat, group) {
         Ok(offered) => Ok(Answer::Offered(offered)),
         Err(refusal) => Err(StepRefusal::Refused(refusal)),
     }
@@ -76,29 +88,31 @@ fn ready_group<'a, 'h, R: Wait, G: Gate, A: Ahead<'h>>(
     seat: &Seat<'h>,
     ahead: &mut A,
     number: u32,
-) -> Result<Ready<'h>, StepRefusal>
+) -> Result<Ready<'h>, FeedFault>
     requires feed { A.feed ahead.old ≡ bench.now.feed.now }
     requires within { number ≤ length bench.now.feed.now.groups }
     ensures feed { A.feed ahead.new ≡ bench.now.feed.now }
     ensures ready { IfOk result (IsReady bench.now.feed.now seat.now.outline.marks number) }
-    ensures refused { IfErr result (λ refusal. IsSeatReply bench.now.feed.now (known seat.now) seat.now.stream (steps.Step.Offer number) (Err refusal) (known seat.now)) }
+    ensures refused { IfErr result (IsNotReady bench.now.feed.now number) }
 {
     let group = match group_of(bench.rt, bench.alloc, bench.feed, number, ahead) {
         Ok(group) => group,
-        Err(FeedFault::Memory) => return Err(StepRefusal::Refused(Refusal::Memory)),
-        Err(fault) => return Err(StepRefusal::Unprepared(fault)),
+        Err(fault) => return Err(fault),
     };
     bench.gate.passed(bench.rt, seat.stream, number);
     match seat.outline.ready(bench.alloc, group) {
         Ok(ready) => Ok(ready),
-        Err(_) => Err(StepRefusal::Refused(Refusal::Memory)),
+        Err(_) => Err(FeedFault::Memory),
     }
 }
 
-/// The number behind the last group of a turn that begins with group `number` of a feed.
+/// The number behind the last group of a turn that begins with group `number` of a feed: it takes sixteen, or those that
+/// are left.
 fn turn_end(feed: &Feed<'_>, number: u32) -> u32
     requires { number ≤ length feed.now.groups }
-    ensures { result ≤ length feed.now.groups + 1 }
+    ensures within { result ≤ length feed.now.groups + 1 }
+    ensures some { number < result }
+    ensures long { (result ≡ length feed.now.groups + 1) ⊎ (result ≡ number + 16) }
 {
     know_feed(feed);
     let behind = feed.len() as u32 + 1;
@@ -110,22 +124,29 @@ fn turn_end(feed: &Feed<'_>, number: u32) -> u32
 }
 
 /// The groups of the feed from `number` on stand ready, as many as a turn takes, up to the feed's end or the first that
-/// can't be prepared. Refused where that is the first of all.
+/// isn't sound. Refused where that is the first of all, or where memory is wanted for any: so the gate is told of no
+/// group again.
 fn ready_groups<'a, 'h, R: Wait, G: Gate, A: Ahead<'h>>(
     bench: &Bench<'a, 'h, R, G>,
     seat: &Seat<'h>,
     ahead: &mut A,
     number: u32,
-) -> Result<Vec<Ready<'h>>, StepRefusal>
+) -> Result<Vec<Ready<'h>>, FeedFault>
     requires feed { A.feed ahead.old ≡ bench.now.feed.now }
     requires from { 1 ≤ number }
     requires within { number ≤ length bench.now.feed.now.groups }
     ensures feed { A.feed ahead.new ≡ bench.now.feed.now }
     ensures ready { IfOk result (λ readies. AreReady bench.now.feed.now seat.now.outline.marks number readies.items) }
-    ensures refused { IfErr result (λ refusal. IsSeatReply bench.now.feed.now (known seat.now) seat.now.stream (steps.Step.Offer number) (Err refusal) (known seat.now)) }
+    // There is one at least: so a turn gets on.
+    ensures some { IfOk result (λ readies. 1 ≤ length readies.items) }
+    ensures whole { IfOk result (λ readies. IsWholeTurn bench.now.feed.now number (length readies.items)) }
+    ensures refused { IfErr result (IsNotReady bench.now.feed.now number) }
 {
     let Ok(mut readies) = Vec::with_capacity(bench.alloc, TURN as usize) else {
-        return Err(StepRefusal::Refused(Refusal::Memory));
+        return match ready_group(bench, seat, ahead, number) {
+            Ok(_) => Err(FeedFault::Memory),
+            Err(fault) => Err(fault),
+        };
     };
     let end = turn_end(bench.feed, number);
     let mut next = number;
@@ -133,14 +154,15 @@ fn ready_groups<'a, 'h, R: Wait, G: Gate, A: Ahead<'h>>(
         match ready_group(bench, seat, ahead, next) {
             Ok(ready) => {
                 let Ok(()) = readies.push(ready) else {
-                    return Err(StepRefusal::Refused(Refusal::Memory));
+                    return Err(FeedFault::Memory);
                 };
             }
-            Err(refusal) => {
+            Err(FeedFault::Memory) => return Err(FeedFault::Memory),
+            Err(fault) => {
                 if next == number {
-                    return Err(refusal);
+                    return Err(fault);
                 }
-                break;
+                return Ok(readies);
             }
         }
         next += 1;
@@ -148,16 +170,21 @@ fn ready_groups<'a, 'h, R: Wait, G: Gate, A: Ahead<'h>>(
     Ok(readies)
 }
 
-/// The number of the group that a turn begins with, where the step offers a group to a stream that has copied all its
-/// tables and applied all that it read.
+/// The number of the group that a turn begins with: there is a turn just where the step offers a group to a stream that
+/// has copied all its tables and applied all that it read.
 fn turn_at(step: Step, at: &Cursor) -> Option<u32>
-    ensures { IfSome result (λ number. (step ≡ steps.Step.Offer number) × (at.now.applied ≡ at.now.read)) }
+    ensures turn { IfSome result (λ number. (step ≡ steps.Step.Offer number) × (at.now.applied ≡ at.now.read) × (at.now.done ≡ at.now.tables)) }
+    ensures each { (number : ℕ) → step ≡ steps.Step.Offer number → at.now.applied ≡ at.now.read → at.now.done ≡ at.now.tables → result ≡ Some number }
 {
     match step {
-        Step::Offer(number) if at.done() == at.tables() && at.applied() == at.read() => Some(
-            number,
-        ),
-        _ => None,
+        Step::Offer(number) => {
+            if at.done() == at.tables() && at.applied() == at.read() {
+                Some(number)
+            } else {
+                None
+            }
+        }
+        Step::Advance | Step::OpenAt(_) | Step::CopyRows(_) | Step::Close | Step::Restart => None,
     }
 }
 
@@ -171,6 +198,7 @@ fn take_in<'a, 'h, R: Wait, G: Gate, A: Ahead<'h>>(
     number: u32,
 ) -> Result<bool, RunRefusal>
     requires is_at { IsSeatOf bench.now.shared.now seat.old }
+    requires plan { IsOfPlan bench.now.feed.now seat.old }
     requires feed { A.feed ahead.old ≡ bench.now.feed.now }
     requires applied { seat.old.cursor.applied ≡ seat.old.cursor.read }
     requires leads { IsNextOffer seat.old.cursor (length bench.now.feed.now.groups) number }
@@ -178,12 +206,14 @@ fn take_in<'a, 'h, R: Wait, G: Gate, A: Ahead<'h>>(
     ensures feed { A.feed ahead.new ≡ bench.now.feed.now }
     ensures goes_on { GoesOn bench.now.feed.now seat.old receipts.old.items seat.new receipts.new.items }
     ensures goes { IfOk result (λ went. went ≡ true) }
+    // A turn that isn't refused gets on: a group is applied.
+    ensures nearer { IfOk result (λ _. length receipts.old.items < length receipts.new.items) }
     ensures refused { Follows bench.now.feed.now seat.old → IfErr result (EndsSeat bench.now.feed.now seat.new) }
 {
     know_feed(bench.feed);
     let readies = match ready_groups(bench, seat, ahead, number) {
         Ok(readies) => readies,
-        Err(refusal) => return Err(ended_by(bench.feed, seat, refusal)),
+        Err(fault) => return Err(ended_by(bench.feed, seat, unready(fault))),
     };
     match bench
         .shared
@@ -194,7 +224,8 @@ fn take_in<'a, 'h, R: Wait, G: Gate, A: Ahead<'h>>(
     }
 }
 
-/// The next group of a seat's stream is applied. The room for its receipt is made before.
+/// The next group of a seat's stream is applied. The room for its receipt is made before; where there is none, the board
+/// is asked what it finds without.
 fn advance_of<'a, 'h, R: Wait, G>(
     bench: &Bench<'a, 'h, R, G>,
     seat: &mut Seat<'h>,
@@ -206,7 +237,7 @@ fn advance_of<'a, 'h, R: Wait, G>(
     ensures receipts { AreBehind steps.Step.Advance result seat.new receipts.old.items receipts.new.items }
 {
     let Ok(()) = receipts.reserve(1) else {
-        return Err(StepRefusal::Refused(Refusal::Memory));
+        return Err(StepRefusal::Refused(bench.shared.judge_advance(bench.rt, seat)));
     };
     match bench.shared.advance(bench.rt, bench.alloc, seat) {
         Ok(receipt) => {
@@ -227,6 +258,7 @@ fn seat_step<'a, 'h, R: Wait, G: Gate, A: Ahead<'h>>(
     step: Step,
 ) -> Result<Answer, StepRefusal>
     requires is_at { IsSeatOf bench.now.shared.now seat.old }
+    requires plan { IsOfPlan bench.now.feed.now seat.old }
     requires feed { A.feed ahead.old ≡ bench.now.feed.now }
     ensures is_at { IsSeatFor bench.now.shared.now seat.old.stream seat.new }
     ensures feed { A.feed ahead.new ≡ bench.now.feed.now }
@@ -284,8 +316,8 @@ fn is_sound(at: &Cursor)
     let _ = &at.read;
 }
 
-/// The next step of a seat's stream on its course is taken, or a turn of them: whether there was one. Refused 111 where the stream has
-/// read more groups than the feed has.
+/// The next step of a seat's stream on its course is taken, or a turn of them: whether there was one. Refused 111 where
+/// the stream has read more groups than the feed has.
 fn go_on<'a, 'h, R: Wait, G: Gate, A: Ahead<'h>>(
     bench: &Bench<'a, 'h, R, G>,
     seat: &mut Seat<'h>,
@@ -294,6 +326,7 @@ fn go_on<'a, 'h, R: Wait, G: Gate, A: Ahead<'h>>(
     course: &mut Course,
 ) -> Result<bool, RunRefusal>
     requires is_at { IsSeatOf bench.now.shared.now seat.old }
+    requires plan { IsOfPlan bench.now.feed.now seat.old }
     requires feed { A.feed ahead.old ≡ bench.now.feed.now }
     ensures is_at { IsSeatFor bench.now.shared.now seat.old.stream seat.new }
     ensures feed { A.feed ahead.new ≡ bench.now.feed.now }
@@ -319,15 +352,8 @@ fn go_on<'a, 'h, R: Wait, G: Gate, A: Ahead<'h>>(
     }
 }
 
-/// Works a seat's stream to its feed's end, in the portions of the policy, with what stands ready of the feed: for each
-/// group that it reads it takes the one that stands ready, or prepares it itself, outside the lock, and the gate is told
-/// of it before it is offered. The answer is a receipt for each group that was applied, in order, also where the stream
-/// ended before the feed's end, and why it did.
-///
-/// A stream that reads the feed is refused 90 where a group of the feed isn't sound, by the first such group; 71 where a
-/// row of another stream stands at a key that the feed touches; or for want of memory. Another stream is refused 111
-/// where it has read more groups than the feed has, or where the board refuses a step of it.
-pub fn work<'h, R: Wait, G: Gate, A: Ahead<'h>>(
+/// A seat's stream, which is of the feed's plan, works to the feed's end. Refused as `work`.
+fn work_on<'h, R: Wait, G: Gate, A: Ahead<'h>>(
     rt: &R,
     alloc: Global,
     shared: &Shared<'h>,
@@ -338,14 +364,13 @@ pub fn work<'h, R: Wait, G: Gate, A: Ahead<'h>>(
     ahead: &mut A,
 ) -> (Vec<Receipt<'h>>, Option<RunRefusal>)
     requires is_at { IsSeatOf shared.now seat.old }
+    requires plan { IsOfPlan feed.now seat.old }
     requires feed { A.feed ahead.old ≡ feed.now }
     ensures is_at { IsSeatFor shared.now seat.old.stream seat.new }
     ensures many { SawNoOther seat.old seat.new }
-    // A receipt for each group that was applied, in order.
+    ensures steps { HasStepped feed.now seat.old seat.new }
     ensures receipts { AreReceipts seat.old.cursor.applied seat.new result.0.items }
-    // A stream that reads the feed still does.
     ensures follows { Follows feed.now seat.old → Follows feed.now seat.new }
-    // Without a refusal it is Running at the feed's end.
     ensures ended { Follows feed.now seat.old → IfNone result.1 (HasCome feed.now seat.new) }
     ensures refused { Follows feed.now seat.old → IfSome result.1 (EndsSeat feed.now seat.new) }
 {
@@ -367,4 +392,45 @@ pub fn work<'h, R: Wait, G: Gate, A: Ahead<'h>>(
         }
     }
     unreachable!()
+}
+
+/// Works a seat's stream to its feed's end, in the portions of the policy, with what stands ready of the feed: for each
+/// group that it reads it takes the one that stands ready, or prepares it itself, outside the lock, and the gate is told
+/// of it before it is offered. The answer is a receipt for each group that was applied, in order, also where the stream
+/// ended before the feed's end, and why it did.
+///
+/// A stream that reads the feed is refused 90 where a group of the feed isn't sound, by the first such group; 71 where a
+/// row of another stream stands at a key that is due in its next step, by the least such key; or 72 where memory is
+/// wanted for a step on its course. Another stream is refused 111 where its plan isn't the feed's, which is looked at
+/// once, before any group; where it has read more groups than the feed has; or where the board refuses a step of it.
+pub fn work<'h, R: Wait, G: Gate, A: Ahead<'h>>(
+    rt: &R,
+    alloc: Global,
+    shared: &Shared<'h>,
+    seat: &mut Seat<'h>,
+    feed: &Feed<'h>,
+    policy: &Policy,
+    gate: &G,
+    ahead: &mut A,
+) -> (Vec<Receipt<'h>>, Option<RunRefusal>)
+    requires is_at { IsSeatOf shared.now seat.old }
+    requires feed { A.feed ahead.old ≡ feed.now }
+    ensures is_at { IsSeatFor shared.now seat.old.stream seat.new }
+    ensures many { SawNoOther seat.old seat.new }
+    // What it did to its stream is a list of steps along the feed, each made, one after another.
+    ensures steps { HasStepped feed.now seat.old seat.new }
+    // Whatever any stream was seen to have applied stays.
+    ensures stay { AllStay seat.old seat.new }
+    // A receipt for each group that was applied, in order.
+    ensures receipts { AreReceipts seat.old.cursor.applied seat.new result.0.items }
+    // A stream that reads the feed still does.
+    ensures follows { Follows feed.now seat.old → Follows feed.now seat.new }
+    // Without a refusal it is Running at the feed's end.
+    ensures ended { Follows feed.now seat.old → IfNone result.1 (HasCome feed.now seat.new) }
+    ensures refused { Follows feed.now seat.old → IfSome result.1 (EndsSeat feed.now seat.new) }
+{
+    if !shared.is_under(rt, seat, feed.plan()) {
+        return (Vec::new(alloc), Some(RunRefusal::WrongPlan));
+    }
+    work_on(rt, alloc, shared, seat, feed, policy, gate, ahead)
 }

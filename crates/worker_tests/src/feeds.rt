@@ -215,3 +215,19 @@ pub(crate) fn many_feeds(alloc: Global) -> Result<Vec<u8>, AllocError> {
     }
     Ok(feeds)
 }
+
+/// What stands between the row of a group and the last two digits of its position.
+const BEFORE_ITS_DIGITS: &[u8] = b"/\n-\x08\x01\x1a)3e11fa47-71ca-11e1-9e33-c80aa9429562:1-";
+
+/// A feed of 70 groups of one new row each: 100 to 169, all `a`.
+pub(crate) fn seventy(alloc: Global) -> Result<Vec<u8>, AllocError> {
+    let mut feed = Vec::new(alloc);
+    for group in 0..70u8 {
+        let (tens, ones) = (group / 10, group % 10);
+        feed.extend_from_slice(BEFORE_ITS_ROW)?;
+        feed.extend_from_slice(&[b'1', b'0' + tens, b'0' + ones, b'a'])?;
+        feed.extend_from_slice(BEFORE_ITS_DIGITS)?;
+        feed.extend_from_slice(&[b'1' + tens, b'0' + ones, 4, b'\n', 2, 8, 3])?;
+    }
+    Ok(feed)
+}

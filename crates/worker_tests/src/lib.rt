@@ -10,6 +10,8 @@ mod memory;
 #[cfg(test)]
 mod portions;
 #[cfg(test)]
+mod readers;
+#[cfg(test)]
 mod ready;
 #[cfg(test)]
 mod run_memory;

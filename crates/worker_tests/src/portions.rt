@@ -6,9 +6,9 @@ ghost use Rattle.stream_worker.specs.SeatOf.{IsSeatOf};
 
 use crate::feeds::{FOUR, FOURTH_KEY, LOWER, UNSOUND, UPPER, WORKFLOW, open_feeds};
 use crate::gates::Counting;
-use crate::ready::Ready;
 use crate::seats::{ended, two_of};
 use apply_core::Board;
+use feed_readers::NothingReady;
 use filter_rule::Plan;
 use source_feed::Feed;
 use std::alloc::{AllocError, Global};
@@ -74,7 +74,7 @@ fn worked_to<'h, R: Wait>(
     let [rows, ahead, chunks] = portions;
     let policy = Policy::new(rows, ahead, chunks)?;
     let gate = Counting::new();
-    let mut none = Ready::none(alloc, feed);
+    let mut none = NothingReady::of(feed);
     let (receipts, refusal) = work(rt, alloc, shared, seat, feed, &policy, &gate, &mut none);
     let applied = seat.applied();
     if receipts.len() != applied as usize {
@@ -256,9 +256,9 @@ fn chunk_is_refused_at_a_foreign_row(rt: HostRuntime) {
     );
 }
 
-/// The gate is told of a group before it is offered, so also of one that the board refuses.
+/// The plans are compared before any group is: nothing is read, and the gate is told of nothing.
 #[test]
-fn gate_is_told_of_a_group_that_is_not_read(rt: HostRuntime) {
+fn worker_on_a_feed_of_another_plan_is_refused(rt: HostRuntime) {
     let end = end_on_another_feed(rt.alloc(), &rt, [LOWER, UPPER]);
-    assert!(rt; end == Some((111, 0, 0, 0, None, 1_001)));
+    assert!(rt; end == Some((111, 0, 0, 0, None, 0)));
 }

@@ -1,4 +1,4 @@
-//! A stream's worker, with groups that stand ready in any order, and under another plan.
+//! A stream's worker, with groups that stand ready in any order.
 
 ghost use Rattle.std.specs.Prelude.{◌≡◌};
 ghost use Rattle.stream_worker.specs.SeatOf.{IsSeatOf};
@@ -16,43 +16,48 @@ use std::test::*;
 use stream_worker::{Receipt, Seat, Shared, work};
 use vdiff_core::first_difference;
 
-/// Groups of a feed that stand ready, by their numbers; before them group 1 of another feed, if any.
+/// Groups of a feed that stand ready, by their numbers.
 #[derive(Drop)]
 pub(crate) struct Ready<'a, 'h> {
     alloc: Global,
     feed: &'a Feed<'h>,
-    other: Option<&'a Feed<'h>>,
     numbers: &'a [u32],
+    asked: u32,
 }
 
 impl<'a, 'h> Ready<'a, 'h> {
-    /// Nothing stands ready of a feed.
-    pub(crate) fn none(alloc: Global, feed: &'a Feed<'h>) -> Ready<'a, 'h>
+    /// Groups of these numbers stand ready of a feed.
+    pub(crate) fn of(alloc: Global, feed: &'a Feed<'h>, numbers: &'a [u32]) -> Ready<'a, 'h>
         ensures { result.feed.now ≡ feed.now }
     {
         Ready {
             alloc,
             feed,
-            other: None,
-            numbers: &[],
+            numbers,
+            asked: 0,
         }
+    }
+
+    /// How many weren't taken.
+    pub(crate) fn left(&self) -> usize {
+        self.numbers.len()
+    }
+
+    /// How often one was asked for.
+    pub(crate) fn asked(&self) -> u32 {
+        self.asked
     }
 }
 
 impl<'a, 'h> Ahead<'h> for Ready<'a, 'h> {
+    ghost use Rattle.std.specs.Prelude.{[]};
+
     ghost feed = { λ ready. ready.feed.now };
 
+    ghost ready = { λ _. [] };
+
     fn next<R: Wait>(&mut self, _rt: &R) -> Option<Arc<Prepared<'h>>> {
-        if let Some(other) = self.other.take() {
-            let Ok(group) = other.prepare(self.alloc, 1) else {
-                return None;
-            };
-            return if group.plan().same(self.feed.plan()) {
-                None
-            } else {
-                Some(group)
-            };
-        }
+        self.asked = self.asked.saturating_add(1);
         let (number, later) = self.numbers.split_first()?;
         self.numbers = later;
         self.feed.prepare(self.alloc, *number).ok()
@@ -107,7 +112,6 @@ fn comes_to_the_end<'a, 'h, R: Wait>(
     shared: &Shared<'h>,
     seat: &mut Seat<'h>,
     feed: &'a Feed<'h>,
-    other: Option<&'a Feed<'h>>,
     numbers: &'a [u32],
 ) -> bool
     requires { IsSeatOf shared.now seat.old }
@@ -116,12 +120,7 @@ fn comes_to_the_end<'a, 'h, R: Wait>(
     let Some(policy) = Policy::new(1_000, 100, 4) else {
         return false;
     };
-    let mut ready = Ready {
-        alloc,
-        feed,
-        other,
-        numbers,
-    };
+    let mut ready = Ready::of(alloc, feed, numbers);
     let (receipts, refusal) = work(rt, alloc, shared, seat, feed, &policy, &Open, &mut ready);
     refusal.is_none()
         && are_first(&receipts, seat.stream(), feed.len())
@@ -135,14 +134,13 @@ fn worked<'a, 'h, R: Wait>(
     board: Board<'h>,
     first: &'a Feed<'h>,
     second: &'a Feed<'h>,
-    other: Option<&'a Feed<'h>>,
     numbers: &'a [u32],
 ) -> Option<Board<'h>> {
     match Shared::open(rt, alloc, board) {
         Ok((shared, seats)) => {
             let (mut one, mut two) = two_of(&shared, seats)?;
-            if !comes_to_the_end(alloc, rt, &shared, &mut one, first, other, numbers)
-                || !comes_to_the_end(alloc, rt, &shared, &mut two, second, None, &[])
+            if !comes_to_the_end(alloc, rt, &shared, &mut one, first, numbers)
+                || !comes_to_the_end(alloc, rt, &shared, &mut two, second, &[])
             {
                 return None;
             }
@@ -163,14 +161,8 @@ fn have_the_same_rows(
     Ok(rows.len() == 6 && first_difference(&rows, &others).is_none())
 }
 
-/// Whether a worker with groups of these numbers ready, and before them one under another plan, leaves the rows of a
-/// run of one stream after another.
-fn leaves_all_rows<R: Wait>(
-    alloc: Global,
-    rt: &R,
-    of_other: bool,
-    numbers: &[u32],
-) -> Result<bool, AllocError> {
+/// Whether a worker with groups of these numbers ready leaves the rows of a run of one stream after another.
+fn leaves_all_rows<R: Wait>(alloc: Global, rt: &R, numbers: &[u32]) -> Result<bool, AllocError> {
     let (Ok(plans), Ok(again), Some(policy)) = (
         Plan::read_all(alloc, WORKFLOW),
         Plan::read_all(alloc, WORKFLOW),
@@ -187,14 +179,13 @@ fn leaves_all_rows<R: Wait>(
     if plans.len() != 2 || again.len() != 2 {
         return Ok(false);
     }
-    let other = if of_other { Some(second) } else { None };
     let (Ok(board), Ok(alone)) = (
         Board::new(alloc, plans),
         run_alone(alloc, again, &feeds, &policy),
     ) else {
         return Ok(false);
     };
-    match worked(alloc, rt, board, first, second, other, numbers) {
+    match worked(alloc, rt, board, first, second, numbers) {
         Some(board) => have_the_same_rows(alloc, &board, &alone),
         None => Ok(false),
     }
@@ -202,7 +193,7 @@ fn leaves_all_rows<R: Wait>(
 
 #[test]
 fn worker_passes_over_what_it_does_not_need(rt: HostRuntime) -> Result<(), Fail> {
-    assert!(rt; leaves_all_rows(rt.alloc(), &rt, false, &[2, 1, 1, 4])?);
-    assert!(rt; leaves_all_rows(rt.alloc(), &rt, true, &[1, 2, 3, 4])?);
+    assert!(rt; leaves_all_rows(rt.alloc(), &rt, &[2, 1, 1, 4])?);
+    assert!(rt; leaves_all_rows(rt.alloc(), &rt, &[1, 2, 3, 4])?);
     Ok(())
 }

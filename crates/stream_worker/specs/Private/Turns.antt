@@ -1,13 +1,17 @@
 -- Groups that stand ready, and a turn of a stream, in which they are offered and applied while its seat holds the board.
-use Rattle.std.specs.Prelude.{◌≡◌, ◌⊎◌, ℕ, suc, ◌+◌, ◌<◌, ◌≤◌, List, [], ◌∷◌, ◌++◌, length, map, take, Some, None, Ok, Err, IsSomeAnd, slice_get}
+use Rattle.std.specs.Prelude.{◌≡◌, ◌⊎◌, ℕ, suc, ◌+◌, ◌<◌, ◌≤◌, List, [], ◌∷◌, ◌++◌, length, map, take, Some, None, Ok, Err, IsOk, IfSome, IsSomeAnd, slice_get}
 use Rattle.std.specs.Arc.{arc_value}
 use Rattle.std.specs.Option.{option_map}
 use Rattle.pk_copy.specs.KeyOrder.{key_cmp}
 use Rattle.pk_copy.specs.KeyValue.{KeyValue}
 use Rattle.pk_copy.specs.Marks.{Marks}
 use Rattle.target_tables.specs.Touches.{last_at}
+use Rattle.source_feed.specs.declared.fault.FeedFault.{FeedFault}
+use Rattle.source_feed.specs.declared.fault.FeedFault.TheVariants.{Memory}
+use Rattle.source_feed.specs.FaultNumber.{meant_of}
 use Rattle.source_feed.specs.Planned.{FeedValue}
 use Rattle.source_feed.specs.Touches.{PreparedValue, prepared_at}
+use Rattle.stream_core.specs.declared.step.Step.{Step}
 use Rattle.stream_core.specs.Standing.{Standing}
 use Rattle.board_laws.specs.declared.answer.Answer.{Answer}
 use Rattle.board_laws.specs.declared.answer.Answer.TheVariants.{Applied}
@@ -22,6 +26,7 @@ use Rattle.stream_worker.specs.Knowing.{Laid, Knows, without_board}
 use Rattle.stream_worker.specs.Outlines.{Outlined}
 use Rattle.stream_worker.specs.Rule.{IsOwnChange}
 use Rattle.stream_worker.specs.Seats.{IsBoardStep}
+use Rattle.stream_worker.specs.Steps.{AreMadeSteps}
 use Rattle.stream_worker.specs.Worked.{AreReceiptsSince}
 
 -- ---- groups that stand ready
@@ -43,11 +48,25 @@ abbrev pub AreReady : FeedValue → Marks → ℕ → List Ready → Type 0
 AreReady feed marks n [] = Unit {0}
 AreReady feed marks n (ready ∷ later) = IsReady feed marks n ready × AreReady feed marks (suc n) later
 
+-- why the n-th group doesn't: it has this fault, or memory is wanted for it, and it is sound
+pub record IsNotReady (feed : FeedValue) (n : ℕ) (fault : FeedFault) : Type 0 where
+  pub refused : IfSome (meant_of fault) (λ f. prepared_at feed n ≡ Err f)
+  pub wanted : fault ≡ Memory → IsOk (prepared_at feed n)
+
+-- the n-th group isn't sound
+abbrev pub IsUnsoundAt : FeedValue → ℕ → Type 0
+IsUnsoundAt feed n = (fault : FeedFault) × (prepared_at feed n ≡ Err fault)
+
+-- so many groups from the n-th on are a whole turn: sixteen, or all up to the feed's end or to one that isn't sound
+abbrev pub IsWholeTurn : FeedValue → ℕ → ℕ → Type 0
+IsWholeTurn feed n count = (count ≡ 16) ⊎ (n + count ≡ length feed.groups + 1) ⊎ IsUnsoundAt feed (n + count)
+
 abbrev pub groups_of : List Ready → List PreparedValue
 groups_of readies = map (λ (ready : Ready). arc_value ready.group) readies
 
--- a stream that applied all that it read, with no snapshot open, behind whose groups these stand ready
+-- a stream of the feed's plan that applied all that it read, with no snapshot open, behind whose groups these stand ready
 pub record IsCaughtUp (feed : FeedValue) (readies : List Ready) (state : State) : Type 0 where
+  pub plan : state.plan ≡ feed.plan
   pub applied : state.applied ≡ length state.list
   pub closed : state.snapshot ≡ None
   pub ready : AreReady feed state.marks (suc (length state.list)) readies
@@ -60,8 +79,9 @@ pub record IsNextOffer (at : Standing) (groups n : ℕ) : Type 0 where
 
 -- ---- one of them
 
--- a stream that applied all that it read, and reads this group next
+-- a stream that applied all that it read, and reads this group next, which is of its plan
 pub record IsNextReady (ready : Ready) (state : State) : Type 0 where
+  pub plan : (arc_value ready.group).plan ≡ state.plan
   pub applied : state.applied ≡ length state.list
   pub number : (arc_value ready.group).number ≡ suc (length state.list)
   pub built : IsBuilt state.marks ready
@@ -91,8 +111,11 @@ IsNotTakenIn taken s group refusal left = IsBoardStep taken s (offer group) (Err
 abbrev pub knows_left : ℕ → Laid → Knows
 knows_left s laid = without_board (s ∷ []) laid
 
--- a turn of stream s changed its own stream alone, which still reads the feed that it read
+-- a turn of stream s is these steps of its own, each made; it changed its own stream alone, which still reads the feed
+-- that it read
 pub record IsTurn (feed : FeedValue) (s : ℕ) (taken left : Laid) : Type 0 where
+  pub steps : List Step
+  pub made : AreMadeSteps feed s steps taken left
   pub own : IsOwnChange (s ∷ []) taken left
   pub given : left.given ≡ taken.given
   pub follows : IsSomeAnd (slice_get taken.board s) (ReadsFeed feed) → IsSomeAnd (slice_get left.board s) (ReadsFeed feed)

@@ -1,5 +1,5 @@
 use Rattle.std.proofs.lemmas.Result.{err_from_is_err_and}
-use Rattle.stream_worker.proofs.RunsLeaveSeats.{lowest-none}
+use Rattle.apply_core.proofs.SoundEnds.{lowest-none}
 use Rattle.stream_worker.proofs.parallel.run_parallel.Goals as goal
 
 pub returns-in_err-board-clause-lowest : goal.returns-in_err-board-clause-lowest

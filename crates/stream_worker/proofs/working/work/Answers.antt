@@ -1,30 +1,31 @@
-use Rattle.std.proofs.Common.{◌∙◌}
+use Rattle.std.proofs.Common.{Option, sym, subst}
+use Rattle.std.specs.Prelude.{IsSomeAnd}
+use Rattle.stream_core.specs.Standing.{Standing}
+use Rattle.board_laws.specs.Meaning.{State}
+use Rattle.board_laws.specs.Reading.{ReadsFeed}
+use Rattle.stream_worker.specs.Worked.{AreReceipts}
+use Rattle.stream_worker.proofs.StepsAreMade.{stepped-again, stepped-trans, stay-behind}
 use Rattle.stream_worker.proofs.working.work.Goals as goal
 
-pub loop-preserved : goal.loop-preserved
-loop-preserved g c = (
-  c.in-Ok-true.ensures.is_at.0,
-  c.in-Ok-true.ensures.is_at.1 ∙ c.loop.invariant.1,
-  λ n saw. c.in-Ok-true.ensures.goes_on.many n (c.loop.invariant.2 n saw),
-  c.in-Ok-true.ensures.goes_on.receipts c.args.seat.now.cursor.applied c.loop.invariant.3,
-  λ follows. c.in-Ok-true.ensures.goes_on.follows (c.loop.invariant.4 follows),
-  c.in-Ok-true.ensures.feed,
-)
+pub returns-clause-many : goal.returns-clause-many
+returns-clause-many g c = λ n saw. c.work_on.ensures.many n (c.is_under.ensures.many n saw)
 
-pub returns-in-Ok-false-clause-many : goal.returns-in-Ok-false-clause-many
-returns-in-Ok-false-clause-many g c = λ n saw. c.in-Ok-false.ensures.goes_on.many n (c.loop.invariant.2 n saw)
+pub returns-clause-receipts : goal.returns-clause-receipts
+returns-clause-receipts g c = subst (λ (at : Standing). AreReceipts at.applied c.work_on.new.seat c.work_on.result.0.items) c.is_under.ensures.cursor c.work_on.ensures.receipts
 
-pub returns-in-Ok-false-clause-receipts : goal.returns-in-Ok-false-clause-receipts
-returns-in-Ok-false-clause-receipts g c = c.in-Ok-false.ensures.goes_on.receipts c.args.seat.now.cursor.applied c.loop.invariant.3
+pub returns-clause-follows : goal.returns-clause-follows
+returns-clause-follows g c = λ follows. c.work_on.ensures.follows (subst (λ (o : Option State). IsSomeAnd o (ReadsFeed c.args.feed.now)) (sym c.is_under.ensures.state) follows)
 
-pub returns-in-Ok-false-clause-follows : goal.returns-in-Ok-false-clause-follows
-returns-in-Ok-false-clause-follows g c = λ follows. c.in-Ok-false.ensures.goes_on.follows (c.loop.invariant.4 follows)
+pub returns-clause-ended : goal.returns-clause-ended
+returns-clause-ended g c = λ follows. c.work_on.ensures.ended (subst (λ (o : Option State). IsSomeAnd o (ReadsFeed c.args.feed.now)) (sym c.is_under.ensures.state) follows)
 
-pub returns-in-Err-clause-many : goal.returns-in-Err-clause-many
-returns-in-Err-clause-many g c = λ n saw. c.in-Err.ensures.goes_on.many n (c.loop.invariant.2 n saw)
+pub returns-clause-refused : goal.returns-clause-refused
+returns-clause-refused g c = λ follows. c.work_on.ensures.refused (subst (λ (o : Option State). IsSomeAnd o (ReadsFeed c.args.feed.now)) (sym c.is_under.ensures.state) follows)
 
-pub returns-in-Err-clause-receipts : goal.returns-in-Err-clause-receipts
-returns-in-Err-clause-receipts g c = c.in-Err.ensures.goes_on.receipts c.args.seat.now.cursor.applied c.loop.invariant.3
+pub returns-clause-steps : goal.returns-clause-steps
+returns-clause-steps g c = stepped-trans c.args.feed.now c.args.seat.now c.is_under.new.seat c.work_on.new.seat c.is_under.ensures.is_at.1 (stepped-again c.args.feed.now c.args.seat.now c.is_under.new.seat c.is_under.ensures.again) c.work_on.ensures.steps
 
-pub returns-in-Err-clause-follows : goal.returns-in-Err-clause-follows
-returns-in-Err-clause-follows g c = λ follows. c.in-Err.ensures.goes_on.follows (c.loop.invariant.4 follows)
+pub returns-clause-stay : goal.returns-clause-stay
+returns-clause-stay g c =
+    stay-behind c.args.feed.now c.args.seat.now c.work_on.new.seat
+    (stepped-trans c.args.feed.now c.args.seat.now c.is_under.new.seat c.work_on.new.seat c.is_under.ensures.is_at.1 (stepped-again c.args.feed.now c.args.seat.now c.is_under.new.seat c.is_under.ensures.again) c.work_on.ensures.steps)

@@ -4,8 +4,11 @@ use Rattle.board_laws.specs.declared.answer.Answer.TheVariants.{Offered}
 use Rattle.board_laws.specs.Event.{offer}
 use Rattle.board_laws.specs.Step.{answered}
 use Rattle.stream_worker.specs.Seats.{IsBoardStep}
-use Rattle.stream_worker.proofs.TurnsTakeGroupsIn.{ready-next, made-in, refused-in}
+use Rattle.stream_worker.proofs.TurnsTakeGroupsIn.{ready-next, ready-plan, made-in, refused-in}
 use Rattle.stream_worker.proofs.deal.Deal.take_in.Goals as goal
+
+pub call-requires : goal.call-requires
+call-requires c = λ k. ((refl, tt), ready-plan c.args.self.now c.args.s c.args.ready c.requires)
 
 pub call-requires-2 : goal.call-requires-2
 call-requires-2 c = λ k. (

@@ -1,4 +1,4 @@
-use Rattle.std.proofs.Common.{◌+◌, ◌≤◌, ℕ, length, vec_len, slice_get}
+use Rattle.std.proofs.Common.{◌≡◌, ◌+◌, ◌≤◌, ℕ, length, vec_len, slice_get}
 use Rattle.std.specs.Prelude.{IsSomeAnd}
 use Rattle.std.specs.Vec.{vec_capacity}
 use Rattle.std.specs.Vec.Iter.{into_iter_items}
@@ -12,4 +12,5 @@ invariant-loop-ready l =
     (goal.iterator-loop-ready).can_next l.ready-iterator × (goal.iterator-loop-ready).is_finite l.ready-iterator × IsTurn l.feed l.s l.fn.self l.self × IsSomeAnd (slice_get l.self.board l.s) (IsCaughtUp l.feed (into_iter_items l.ready-iterator))
     × ((first : ℕ) → AreReceiptsOn first l.s l.fn.self l.fn.receipts.items → AreReceiptsOn first l.s l.self l.receipts.items)
     × ((outline : Outlined) → IsSomeAnd (slice_get l.fn.self.board l.s) (IsAhead outline l.fn.readies.items) → IsSomeAnd (slice_get l.self.board l.s) (IsAhead outline (into_iter_items l.ready-iterator)))
+    × (length l.receipts.items + length (into_iter_items l.ready-iterator) ≡ length l.fn.receipts.items + length l.fn.readies.items)
     × (vec_len l.receipts + length (into_iter_items l.ready-iterator) ≤ vec_capacity l.receipts) × (vec_len l.freed + length (into_iter_items l.ready-iterator) ≤ vec_capacity l.freed)
