@@ -1,6 +1,6 @@
 -- What the command `follow` makes, by what its inputs say.
-use Rattle.std.proofs.Common.{◌≡◌, ◌∙◌, ap, sym, subst, arith, ℕ, ◌<◌, List, length, Option, Some, Result, Ok}
-use Rattle.std.specs.Prelude.{slice_get, nat_lt, true}
+use Rattle.std.proofs.Common.{◌≡◌, ◌∙◌, ap, sym, subst, arith, ℕ, ◌<◌, List, length, Option, Some, Result, Ok, Err}
+use Rattle.std.specs.Prelude.{IfOk, slice_get, nat_lt, true}
 use Rattle.std.specs.Arc.{arc_value}
 use Rattle.std.specs.declared.sync.Arc.{Arc}
 use Rattle.std.specs.declared.alloc.Global.{Global}
@@ -9,24 +9,22 @@ use Rattle.std.proofs.lemmas.List.{length-map}
 use Rattle.filter_rule.proofs.StepLaws.{list_all_get}
 use Rattle.filter_rule.specs.PlanValue.{PlanValue}
 use Rattle.source_feed.specs.Planned.{FeedValue}
-use Rattle.board_laws.specs.Lawful.{IsLawful, start_of}
-use Rattle.board_laws.specs.Reading.{AllReadTheirFeeds}
 use Rattle.apply_core.specs.Feeds.{AreFed}
-use Rattle.apply_core.specs.Fresh.{fresh_board}
-use Rattle.apply_core.specs.Ended.{IsNamedStream, IsFedBoard}
+use Rattle.apply_core.specs.Ended.{IsNamedStream}
 use Rattle.apply_core.specs.RunRefused.{EndsRun, IsRefusedRun}
 use Rattle.apply_core.specs.declared.run_refusal.RunRefusal.{RunRefusal}
 use Rattle.apply_core.specs.declared.run_refusal.RunRefusal.TheVariants.{FeedCount, WrongPlan, Unsound, OwnedByOther, Memory}
+use Rattle.board_laws.specs.FedBoards.{Fed}
 use Rattle.board_laws.specs.Meaning.{Meaning}
 use Rattle.checkpoint_laws.specs.Written.{checkpoint_of}
-use Rattle.vrepl_main.specs.Followed.{FollowedValue, IsAtFeedsEnds, IsEndedRun, IsFollowed, IsTakenUp, RefusesFollow}
+use Rattle.vrepl_main.specs.Followed.{FollowedValue, IsEndedRun, IsFollowed, IsTakenUp, RefusesFollow}
+use Rattle.vrepl_main.specs.Running.{IsAtFeedsEnds}
 use Rattle.vrepl_main.specs.declared.following.Unfollowed.{Unfollowed}
 use Rattle.vrepl_main.specs.OnlyFollowed.{IsMovedOn, IsOnlyFollowed, IsStart, have_streams}
 use Rattle.vrepl_main.specs.Opening.{OpenedValue}
 use Rattle.vrepl_main.specs.Reasons.{Reason}
-use Rattle.vrepl_main.proofs.SourceLaws.{fed_shows}
 
--- the checkpoint of a board at the feeds' ends, whose streams show their sources
+-- the checkpoint of a board at the feeds' ends
 pub followed_by : (reading : Result OpenedValue Reason) (given : OpenedValue) (checkpoint : Option (List ℕ)) (followed : FollowedValue)
     → reading ≡ Ok given → slice_get given.plans 0 ≡ Some followed.plan → IsTakenUp given checkpoint → IsAtFeedsEnds given.feeds followed.board
     → followed.checkpoint ≡ checkpoint_of followed.board → IsFollowed reading checkpoint followed
@@ -36,7 +34,6 @@ followed_by reading given checkpoint followed is first up ends saved =
       first = first;
       taken_up = up;
       ends = ends;
-      sources = fed_shows given.feeds followed.board (record { lawful = ends.fed.lawful; reads = ends.fed.reads });
       is_checkpoint = saved;
     })
 
@@ -48,14 +45,6 @@ streams_there only plans feeds there fed s (i, at) =
     let within : s < length plans = ltb-true s (length plans) (list_all_get (λ t. nat_lt t (length plans)) only i s there at) in
     let many : length feeds ≡ length plans = sym (length-map feeds (λ (feed : FeedValue). feed.plan)) ∙ ap length fed.opened in
     omega (arith, within, many)
-
--- a board of which nothing is read has a stream for each feed
-pub fresh_fed : (plans : List PlanValue) (feeds : List FeedValue) (board : Meaning) → board ≡ fresh_board plans → AreFed plans feeds → IsLawful board → AllReadTheirFeeds feeds board → IsFedBoard feeds board
-fresh_fed plans feeds board is fed lawful reads = record {
-  lawful = lawful;
-  count = ap (λ (m : Meaning). length m.streams) is ∙ length-map plans start_of ∙ sym (ap length fed.opened) ∙ length-map feeds (λ (feed : FeedValue). feed.plan);
-  reads = reads;
-}
 
 refused_run : (plans : List PlanValue) (feeds : List FeedValue) (refusal : RunRefusal) → AreFed plans feeds → EndsRun feeds refusal → IsRefusedRun plans feeds refusal
 refused_run plans feeds FeedCount fed ends = absurd ends
@@ -82,6 +71,12 @@ only_followed_by reading given only checkpoint followed is first (start, starts,
       start = start;
       starts = starts;
       moved = moved;
-      sources = fed_shows given.feeds followed.board (record { lawful = moved.fed.lawful; reads = moved.fed.reads });
       is_checkpoint = saved;
     })
+
+-- the board behind a run of these streams alone, from the board that it began with
+pub moved_from : {E : Type 0} (given : OpenedValue) (checkpoint : Option (List ℕ)) (only : List ℕ) (start : Fed) → start.feeds ≡ given.feeds → IsStart given checkpoint start.board
+    → (r : Result Fed E) → IfOk r (λ moved. IsMovedOn start.feeds only start.board moved.board)
+    → IfOk r (λ moved. (begun : Meaning) × IsStart given checkpoint begun × IsMovedOn given.feeds only begun moved.board)
+moved_from given checkpoint only start same starts (Ok moved) h = (start.board, starts, subst (λ (fs : List FeedValue). IsMovedOn fs only start.board moved.board) same h)
+moved_from given checkpoint only start same starts (Err e) h = tt

@@ -1,5 +1,5 @@
 -- What the command `join` prints, and why it is refused, by what its inputs say.
-use Rattle.std.proofs.Common.{◌≡◌, ◌∙◌, refl, sym, ap, subst, inl, inr, ℕ, ◌+◌, ◌<◌, ◌≤◌, List, [], ◌∷◌, ◌++◌, length, take, get_or, Some, Result, Ok, Err}
+use Rattle.std.proofs.Common.{◌≡◌, ◌∙◌, refl, sym, ap, subst, ℕ, ◌+◌, ◌<◌, ◌≤◌, List, [], ◌∷◌, ◌++◌, length, take, get_or, Some, Result, Ok, Err}
 use Rattle.std.proofs.lemmas.List.{get_or_default, take_all, take_more}
 use Rattle.std.proofs.lemmas.Option.{same_Some, slice_get_read, slice_get_within}
 use Rattle.filter_rule.specs.PlanValue.{PlanValue}
@@ -9,12 +9,10 @@ use Rattle.checkpoint_laws.specs.declared.fault.ResumeFault.{ResumeFault}
 use Rattle.vrepl_main.specs.ResumedRun.{IsRefusedOver}
 use Rattle.std.specs.Prelude.{slice_get}
 use Rattle.source_feed.specs.Planned.{FeedValue}
-use Rattle.board_laws.specs.Lawful.{IsLawful}
-use Rattle.board_laws.specs.Meaning.{State, Meaning}
-use Rattle.board_laws.specs.Reading.{HasFeed, AllReadTheirFeeds}
+use Rattle.board_laws.specs.Meaning.{Meaning}
+use Rattle.board_laws.specs.Sources.{ShowAll}
 use Rattle.join_laws.specs.Compatible.{AreCompatible}
 use Rattle.join_laws.specs.Joined.{joined}
-use Rattle.join_laws.proofs.Pairs.{one_of_two}
 use Rattle.apply_core.specs.Resuming.{IsResumed}
 use Rattle.vdiff_core.specs.Printing.{Written, BreaksOff}
 use Rattle.vrepl_main.specs.declared.joining.Unjoined.{Unjoined}
@@ -24,7 +22,6 @@ use Rattle.vrepl_main.specs.JoinedRun.{AreJoined, AreJoinedBefore, AreJoinedTo, 
 use Rattle.vrepl_main.specs.Opening.{OpenedValue}
 use Rattle.vrepl_main.specs.Reasons.{Reason}
 use Rattle.vrepl_main.proofs.CommandLaws.{refuses}
-use Rattle.vrepl_main.proofs.SourceLaws.{fed_shows}
 use Rattle.vrepl_main.specs.InputList.{bytes_of}
 use Rattle.vrepl_main.specs.declared.named_inputs.JoinInputs.{JoinInputs}
 
@@ -51,12 +48,6 @@ breaks_off (Err reason) one others bytes old new saved broken = absurd saved
 
 -- ---- the join
 
-joined_reads : (feeds : List FeedValue) (a b : Meaning) → AllReadTheirFeeds feeds a → AllReadTheirFeeds feeds b → AllReadTheirFeeds feeds (joined a b)
-joined_reads feeds a b reads_a reads_b = has
-  where
-    has : (s : ℕ) (state : State) → slice_get (joined a b).streams s ≡ Some state → HasFeed feeds s state
-    has s state e = elim (one_of_two a.streams b.streams s state e) [ inl left ↦ reads_a s state left | inr right ↦ reads_b s state right ]
-
 -- one more is joined to those before it
 joined_to-more : (feeds : List FeedValue) (a board next : Meaning) (others : List (List ℕ)) (checkpoint : List ℕ) → AreJoinedTo feeds a others board → IsResumed feeds checkpoint next → AreCompatible board next
     → AreJoinedTo feeds a (others ++ checkpoint ∷ []) (joined board next)
@@ -80,9 +71,6 @@ module _ (given : OpenedValue) (one : List ℕ) (others : List (List ℕ)) (i : 
               (joined_to-more given.feeds so_far.0 board next (take i others) checkpoint so_far.2 here compatible)),
         )
 
-    pub reads-more : (after : Meaning) → AllReadTheirFeeds given.feeds board → AllReadTheirFeeds given.feeds next → AreCompatible board next × (after ≡ joined board next) → AllReadTheirFeeds given.feeds after
-    reads-more after reads_board reads_next (compatible, is) = subst (AllReadTheirFeeds given.feeds) (sym is) (joined_reads given.feeds board next reads_board reads_next)
-
     pub not_joined : (plan : PlanValue) (fault : JoinFault) → slice_get given.plans 0 ≡ Some plan → IsRefusedJoin board next fault → AreNotJoined given one others plan fault
     not_joined plan fault first refused = record { first = first; checkpoint = checkpoint; a = board; b = next; before = before_it; resumed = here; refused = refused }
 
@@ -90,9 +78,9 @@ module _ (given : OpenedValue) (one : List ℕ) (others : List (List ℕ)) (i : 
   other_refused plan fault refused = record { checkpoint = checkpoint; a = board; before = before_it; refused = refused }
 
 -- all are joined
-pub all_joined : (given : OpenedValue) (one : List ℕ) (others : List (List ℕ)) (i : ℕ) (board : Meaning) → length others ≤ i → AreJoined given.feeds one (take i others) board
-    → AllReadTheirFeeds given.feeds board → IsLawful board → IsJoinOver given one others board
-all_joined given one others i board most so_far reads lawful = record {
+pub all_joined : (given : OpenedValue) (one : List ℕ) (others : List (List ℕ)) (i : ℕ) (board : Meaning) → length others ≤ i → AreJoined given.feeds one (take i others) board → ShowAll given.feeds board
+    → IsJoinOver given one others board
+all_joined given one others i board most so_far sources = record {
   is_join = subst (λ (list : List (List ℕ)). AreJoined given.feeds one list board) (take_all i others most) so_far;
-  sources = fed_shows given.feeds board (record { lawful = lawful; reads = reads });
+  sources = sources;
 }

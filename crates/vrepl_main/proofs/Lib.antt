@@ -5,12 +5,13 @@ mod NumberLaws
 pub mod CommandLaws
 mod OpenLaws
 mod ScriptRunLaws
-mod SourceLaws
+mod ToldLaws
 mod StepLaws
 pub mod VdiffLaws
 mod SaveLaws
 mod ResumeLaws
 mod JoinedLaws
 mod RunLaws
+mod RightLaws
 mod AtOnceLaws
 mod FollowLaws

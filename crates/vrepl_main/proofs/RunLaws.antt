@@ -4,8 +4,8 @@ use Rattle.std.specs.Prelude.{slice_get}
 use Rattle.filter_rule.specs.PlanValue.{PlanValue}
 use Rattle.vdiff_core.specs.Dump.{dump_of}
 use Rattle.vdiff_core.specs.Printing.{Written, BreaksOff}
-use Rattle.vdiff_core.specs.DumpRowsValue.{DumpRowsValue}
-use Rattle.apply_core.specs.Ended.{IsRowsUnion}
+use Rattle.board_laws.specs.Meaning.{Meaning}
+use Rattle.apply_core.specs.Shown.{all_rows}
 use Rattle.apply_core.specs.RunRefused.{IsRefusedRun}
 use Rattle.apply_core.specs.declared.run_refusal.RunRefusal.{RunRefusal}
 use Rattle.vrepl_main.specs.declared.refusal.CommandRefusal.{CommandRefusal}
@@ -14,7 +14,7 @@ use Rattle.vrepl_choices.specs.declared.feed_form.FeedForm.{FeedForm}
 use Rattle.vrepl_main.specs.HexText.{feed_bytes}
 use Rattle.vrepl_main.specs.Opening.{OpenedValue, opened, opened_bytes}
 use Rattle.vrepl_main.specs.Reasons.{Reason}
-use Rattle.vrepl_main.specs.Running.{Filled, IsFilled, IsFilledDump, IsUnfilled, RefusesRun, RefusesStream}
+use Rattle.vrepl_main.specs.Running.{Filled, IsAtFeedsEnds, IsFilled, IsFilledDump, IsUnfilled, RefusesRun, RefusesStream}
 use Rattle.vrepl_main.specs.declared.running.RunFault.{RunFault}
 use Rattle.vrepl_main.specs.declared.running.RunFault.TheVariants.{Given, Stream}
 use Rattle.vrepl_main.proofs.CommandLaws.{refuses, refuses_unwritten}
@@ -31,8 +31,8 @@ module _ (reading : Result OpenedValue Reason) (found : OpenedValue) (plan : Pla
   refused_run refusal refused = subst (RefusesStream plan refusal) (sym is) (record { first = first; refused = refused })
 
   -- it has filled the target
-  pub filled_run : (rows : DumpRowsValue) → IsRowsUnion found.feeds rows → IsFilled reading (record { plan = plan; rows = rows })
-  filled_run rows union = subst (λ (r : Result OpenedValue Reason). IsFilled r (record { plan = plan; rows = rows })) (sym is) (record { first = first; union = union })
+  pub filled_run : (board : Meaning) → IsAtFeedsEnds found.feeds board → IsFilled reading (record { plan = plan; rows = all_rows board.rows })
+  filled_run board ends = subst (λ (r : Result OpenedValue Reason). IsFilled r (record { plan = plan; rows = all_rows board.rows })) (sym is) (record { first = first; board = board; ends = ends; rows = refl })
 
 -- what is found before anything is printed leaves nothing
 pub refuses_run : (fault : RunFault) (reading : Result OpenedValue Reason) (now : Written) → IsUnfilled fault reading → RefusesRun fault reading now now

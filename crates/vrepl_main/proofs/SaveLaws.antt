@@ -1,21 +1,20 @@
 -- What the command `save` prints, and why it is refused, by what its inputs say.
 use Rattle.std.proofs.Common.{◌≡◌, refl, sym, subst, ℕ, ◌≤◌, List, length, take, Result, Ok, Err}
 use Rattle.std.proofs.lemmas.List.{take_all}
-use Rattle.std.specs.List.{AllByRecursion}
 use Rattle.filter_rule.specs.PlanValue.{PlanValue}
 use Rattle.source_feed.specs.Planned.{FeedValue}
 use Rattle.board_laws.specs.Meaning.{Meaning}
+use Rattle.board_laws.specs.Sources.{ShowAll}
 use Rattle.checkpoint_laws.specs.Written.{checkpoint_of}
 use Rattle.apply_core.specs.Fresh.{fresh_board}
 use Rattle.step_script.specs.declared.script.ScriptStep.{ScriptStep}
 use Rattle.vdiff_core.specs.Printing.{BreaksOff, Written}
 use Rattle.vrepl_main.specs.Command.{IsUnwritten, RefusesCommand}
 use Rattle.vrepl_main.specs.Reasons.{Reason}
-use Rattle.vrepl_main.specs.SavedBoard.{IsSavedBoard, IsSavedBehind}
-use Rattle.vrepl_main.specs.ScriptRun.{ScriptReply, ScriptGiven, IsScriptRun, IsFed, IsTold}
+use Rattle.vrepl_main.specs.SavedBoard.{IsBehind, IsSavedBoard, IsSavedBehind}
+use Rattle.vrepl_main.specs.ScriptRun.{ScriptGiven, IsScriptRun}
 use Rattle.vrepl_main.specs.declared.refusal.CommandRefusal.{CommandRefusal}
 use Rattle.vrepl_main.proofs.CommandLaws.{refuses_unwritten}
-use Rattle.vrepl_main.proofs.SourceLaws.{fed_shows, script_shows}
 
 -- other words for what is given
 pub saved_as : (one other : Result ScriptGiven Reason) (bytes : List ℕ) → one ≡ other → IsSavedBoard other bytes → IsSavedBoard one bytes
@@ -29,19 +28,10 @@ unwritten_save (Err reason) refusal bytes old new saved broken unwritten = absur
 
 -- the board behind the steps, which took each of them
 pub saved_behind : (plans : List PlanValue) (feeds : List FeedValue) (steps : List ScriptStep) (board : Meaning) (bytes : List ℕ)
-    → (replies : List ScriptReply) × IsScriptRun feeds (fresh_board plans) steps replies board × AllByRecursion IsTold replies → IsFed feeds (fresh_board plans)
-    → bytes ≡ checkpoint_of board → IsSavedBehind (record { opened = record { plans = plans; feeds = feeds }; steps = steps }) bytes
-saved_behind plans feeds steps board bytes (replies, run, told) fed saved = record {
-  replies = replies;
-  board = board;
-  run = run;
-  told = told;
-  sources = fed_shows feeds board (script_shows feeds (fresh_board plans) board steps replies run fed).0;
-  checkpoint = saved;
-}
+    → IsBehind feeds (fresh_board plans) steps board → ShowAll feeds board → bytes ≡ checkpoint_of board → IsSavedBehind (record { opened = record { plans = plans; feeds = feeds }; steps = steps }) bytes
+saved_behind plans feeds steps board bytes (replies, run, told) sources saved =
+    record { replies = replies; board = board; run = run; told = told; sources = sources; checkpoint = saved }
 
 -- all lines are taken
-pub all_taken : (feeds : List FeedValue) (old now : Meaning) (steps : List ScriptStep) (i : ℕ) → length steps ≤ i
-    → (replies : List ScriptReply) × IsScriptRun feeds old (take i steps) replies now × AllByRecursion IsTold replies
-    → (replies : List ScriptReply) × IsScriptRun feeds old steps replies now × AllByRecursion IsTold replies
+pub all_taken : (feeds : List FeedValue) (old now : Meaning) (steps : List ScriptStep) (i : ℕ) → length steps ≤ i → IsBehind feeds old (take i steps) now → IsBehind feeds old steps now
 all_taken feeds old now steps i most (replies, run, told) = (replies, subst (λ (lines : List ScriptStep). IsScriptRun feeds old lines replies now) (take_all i steps most) run, told)

@@ -5,6 +5,7 @@ use Rattle.std.proofs.lemmas.Option.{slice_get-map}
 use Rattle.outcome.specs.Outcome.{◌>>=◌}
 use Rattle.filter_rule.specs.PlanValue.{PlanValue}
 use Rattle.source_feed.specs.Planned.{FeedValue}
+use Rattle.board_laws.specs.FedBoards.{Fed}
 use Rattle.board_laws.specs.Meaning.{Meaning}
 use Rattle.apply_core.specs.Fresh.{fresh_board}
 use Rattle.step_script.specs.declared.script.ScriptStep.{ScriptStep}
@@ -16,11 +17,10 @@ use Rattle.vrepl_main.specs.Command.{RefusesCommand, IsUnwritten}
 use Rattle.vdiff_core.specs.Printing.{Written, IsWritten, BreaksOff}
 use Rattle.vrepl_main.specs.Opening.{OpenedValue}
 use Rattle.step_script.specs.ScriptLines.{script_steps}
-use Rattle.vrepl_main.specs.ScriptRun.{ScriptReply, ScriptGiven, IsScriptRun, IsFed, IsRepliedTo, said_steps, given_with, given_bytes, script_given, replies_text}
+use Rattle.vrepl_main.specs.ScriptRun.{ScriptReply, ScriptGiven, IsScriptRun, IsRepliedTo, said_steps, given_with, given_bytes, script_given, replies_text}
 use Rattle.vrepl_main.specs.Replied.{AreFirstReplies, PrintsReplies, all_given, LeavesReplies}
 use Rattle.vrepl_main.proofs.CommandLaws.{refuses_unwritten}
 use Rattle.vrepl_main.proofs.OpenLaws.{RefusesInputs-whole}
-use Rattle.vrepl_main.proofs.SourceLaws.{script_shows}
 
 -- ---- refusals
 
@@ -67,27 +67,27 @@ left_as result one other old new is left = subst (λ (r : Result ScriptGiven Rea
 
 -- ---- what is printed
 
-module _ (plans : List PlanValue) (feeds : List FeedValue) (steps : List ScriptStep) (plan : PlanValue) (start : Meaning) (old new : Written)
-    (first : slice_get plans 0 ≡ Some plan) (fresh : start ≡ fresh_board plans) (fed : IsFed feeds start) where
-  replied : (lines : List ScriptStep) (replies : List ScriptReply) (board : Meaning) → IsScriptRun feeds start lines replies board
+module _ (plans : List PlanValue) (feeds : List FeedValue) (steps : List ScriptStep) (plan : PlanValue) (start : Fed) (old new : Written)
+    (first : slice_get plans 0 ≡ Some plan) (fresh : start ≡ record { board = fresh_board plans; feeds = feeds }) where
+  replied : (lines : List ScriptStep) (replies : List ScriptReply) (board : Meaning) → IsScriptRun start.feeds start.board lines replies board
       → IsRepliedTo (record { plans = plans; feeds = feeds }) lines (replies_text plan replies)
   replied lines replies board run = record {
     plan = plan;
     first = first;
     replies = replies;
     board = board;
-    run = subst (λ (b : Meaning). IsScriptRun feeds b lines replies board) fresh run;
-    sources = (script_shows feeds start board lines replies run fed).1;
+    run = subst (λ (f : Fed). IsScriptRun f.feeds f.board lines replies board) fresh run;
     is_text = refl;
   }
 
   -- all replies
-  pub prints_all : (board : Meaning) × (replies : List ScriptReply) × IsScriptRun feeds start steps replies board × IsWritten old new (replies_text plan replies)
+  pub prints_all : (board : Meaning) × (replies : List ScriptReply) × IsScriptRun start.feeds start.board steps replies board × IsWritten old new (replies_text plan replies)
       → PrintsReplies (all_given plans feeds steps) old new
   prints_all (board, replies, run, appended) = (replies_text plan replies, replied steps replies board run, appended)
 
   -- a beginning of the replies to the first steps, which can't be written
-  pub prints_first : (refusal : CommandRefusal) → IsUnwritten refusal → (n : ℕ) × (board : Meaning) × (replies : List ScriptReply) × IsScriptRun feeds start (take n steps) replies board × BreaksOff old new (replies_text plan replies)
+  pub prints_first : (refusal : CommandRefusal) → IsUnwritten refusal
+      → (n : ℕ) × (board : Meaning) × (replies : List ScriptReply) × IsScriptRun start.feeds start.board (take n steps) replies board × BreaksOff old new (replies_text plan replies)
       → RefusesCommand AreFirstReplies refusal (all_given plans feeds steps) old new
   prints_first refusal unwritten (n, board, replies, run, broken) =
       refuses_unwritten AreFirstReplies refusal (all_given plans feeds steps) _ (replies_text plan replies) old new refl (n, replied (take n steps) replies board run) broken unwritten

@@ -4,12 +4,9 @@ use Rattle.std.specs.Arc.{arc_value}
 use Rattle.filter_rule.specs.PlanValue.{PlanValue}
 use Rattle.source_feed.specs.Planned.{FeedValue}
 use Rattle.board_laws.specs.Meaning.{Meaning}
-use Rattle.board_laws.specs.Sources.{AllShowTheirSources}
 use Rattle.checkpoint_laws.specs.Written.{checkpoint_of}
 use Rattle.checkpoint_laws.specs.declared.fault.ResumeFault.{ResumeFault}
 use Rattle.apply_core.specs.Resuming.{IsResumed}
-use Rattle.apply_core.specs.Shown.{all_rows}
-use Rattle.apply_core.specs.Ended.{IsFedBoard, AllHaveEnded, IsRowsUnion}
 use Rattle.apply_core.specs.RunRefused.{EndsRun}
 use Rattle.apply_core.specs.declared.run_refusal.RunRefusal.{RunRefusal}
 use Rattle.vrepl_main.specs.declared.following.Unfollowed.{Unfollowed}
@@ -21,7 +18,7 @@ use Rattle.vrepl_main.specs.Refusals.{refusal_line}
 use Rattle.vrepl_main.specs.RefusedText.{refused_text}
 use Rattle.vrepl_main.specs.ResumedRun.{IsRefusedOver}
 use Rattle.vrepl_main.specs.ResumedText.{resume_line}
-use Rattle.vrepl_main.specs.Running.{IsRefusedStream, as_step}
+use Rattle.vrepl_main.specs.Running.{IsAtFeedsEnds, IsRefusedStream, as_step}
 use Rattle.std.specs.Option.{option_map}
 use Rattle.vrepl_main.specs.Given.{given_value}
 use Rattle.vrepl_main.specs.declared.named_inputs.FollowInputs.{FollowInputs}
@@ -44,12 +41,6 @@ abbrev pub IsTakenUp : OpenedValue → Option (List ℕ) → Type 0
 IsTakenUp given None = Unit {0}
 IsTakenUp given (Some checkpoint) = (start : Meaning) × IsResumed given.feeds checkpoint start
 
--- all streams stand at their feeds' ends: the rows of the target are just those that the feeds keep
-pub record IsAtFeedsEnds (feeds : List FeedValue) (board : Meaning) : Type 0 where
-  pub fed : IsFedBoard feeds board
-  pub ended : AllHaveEnded feeds board
-  pub union : IsRowsUnion feeds (all_rows board.rows)
-
 -- ---- the checkpoint
 
 -- a board and the bytes of its checkpoint, with the plan whose tables its rows are of
@@ -58,12 +49,11 @@ pub record FollowedValue : Type 0 where
   pub checkpoint : List ℕ
   pub board : Meaning
 
--- the board at the feeds' ends, and its checkpoint
+-- the board at the feeds' ends, which shows all its sources, and its checkpoint
 pub record IsFollowedBy (given : OpenedValue) (checkpoint : Option (List ℕ)) (followed : FollowedValue) : Type 0 where
   pub first : slice_get given.plans 0 ≡ Some followed.plan
   pub taken_up : IsTakenUp given checkpoint
   pub ends : IsAtFeedsEnds given.feeds followed.board
-  pub sources : AllShowTheirSources given.feeds followed.board
   pub is_checkpoint : followed.checkpoint ≡ checkpoint_of followed.board
 
 -- there is something to follow, and this is the checkpoint

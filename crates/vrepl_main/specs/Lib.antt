@@ -25,5 +25,6 @@ pub mod ResumedRun
 pub mod JoinedRun
 pub mod InputList
 pub mod Running
+pub mod RunIsRight
 pub mod Followed
 pub mod OnlyFollowed

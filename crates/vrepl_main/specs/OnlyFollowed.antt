@@ -6,7 +6,7 @@ use Rattle.filter_rule.specs.PlanValue.{PlanValue}
 use Rattle.filter_rule.specs.Reading.{plans_of}
 use Rattle.source_feed.specs.Planned.{FeedValue}
 use Rattle.board_laws.specs.Meaning.{Meaning}
-use Rattle.board_laws.specs.Sources.{AllShowTheirSources}
+use Rattle.board_laws.specs.Sources.{ShowAll}
 use Rattle.checkpoint_laws.specs.Written.{checkpoint_of}
 use Rattle.apply_core.specs.Fresh.{fresh_board}
 use Rattle.apply_core.specs.Resuming.{IsResumed}
@@ -47,11 +47,12 @@ abbrev pub IsStart : OpenedValue → Option (List ℕ) → Meaning → Type 0
 IsStart given None start = start ≡ fresh_board given.plans
 IsStart given (Some checkpoint) start = IsResumed given.feeds checkpoint start
 
--- these streams stand at their feeds' ends, and the others as they did
+-- these streams stand at their feeds' ends, and the others as they did; the board shows all its sources
 pub record IsMovedOn (feeds : List FeedValue) (only : List ℕ) (start board : Meaning) : Type 0 where
   pub fed : IsFedBoard feeds board
   pub ended : HaveEnded only feeds board
   pub others : AreAsBefore only start board
+  pub sources : ShowAll feeds board
 
 -- ---- the checkpoint
 
@@ -61,7 +62,6 @@ pub record IsOnlyFollowedBy (given : OpenedValue) (only : List ℕ) (checkpoint 
   pub start : Meaning
   pub starts : IsStart given checkpoint start
   pub moved : IsMovedOn given.feeds only start followed.board
-  pub sources : AllShowTheirSources given.feeds followed.board
   pub is_checkpoint : followed.checkpoint ≡ checkpoint_of followed.board
 
 -- there is something to follow, and this is the checkpoint

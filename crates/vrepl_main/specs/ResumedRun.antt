@@ -1,7 +1,6 @@
 -- What the command `resume` leaves on its writers (this profile).
 use Rattle.std.specs.Prelude.{◌≡◌, ℕ, List, take, Some, Result, Ok, Err, slice_get}
 use Rattle.std.specs.Arc.{arc_value}
-use Rattle.std.specs.List.{AllByRecursion}
 use Rattle.filter_rule.specs.PlanValue.{PlanValue}
 use Rattle.board_laws.specs.Meaning.{Meaning}
 use Rattle.checkpoint_laws.specs.declared.fault.ResumeFault.{ResumeFault}
@@ -16,7 +15,7 @@ use Rattle.vrepl_main.specs.Printing.{PrintsOrBreaks}
 use Rattle.vrepl_main.specs.Reasons.{Reason}
 use Rattle.vrepl_main.specs.Refusals.{refusal_line}
 use Rattle.vrepl_main.specs.ResumedText.{resume_line}
-use Rattle.vrepl_main.specs.ScriptRun.{ScriptReply, ScriptGiven, IsScriptRun, ShowsSources, replies_text}
+use Rattle.vrepl_main.specs.ScriptRun.{ScriptReply, ScriptGiven, IsScriptRun, replies_text}
 
 -- ---- the replies
 
@@ -29,7 +28,6 @@ pub record IsRepliedBehind (given : OpenedValue) (checkpoint : List ℕ) (steps 
   pub replies : List ScriptReply
   pub board : Meaning
   pub run : IsScriptRun given.feeds start steps replies board
-  pub sources : AllByRecursion (ShowsSources given.feeds) replies
   pub is_text : text ≡ replies_text plan replies
 
 -- there is something to resume, and the replies to all steps were printed

@@ -5,10 +5,14 @@ use Rattle.filter_rule.specs.PlanValue.{PlanValue}
 use Rattle.vdiff_core.specs.Dump.{dump_of}
 use Rattle.vdiff_core.specs.Printing.{Written, IsWritten}
 use Rattle.vdiff_core.specs.DumpRowsValue.{DumpRowsValue}
+use Rattle.source_feed.specs.Planned.{FeedValue}
+use Rattle.board_laws.specs.Meaning.{Meaning}
+use Rattle.board_laws.specs.Sources.{ShowAll}
 use Rattle.board_laws.specs.declared.refusal.Refusal.TheVariants as refusals
 use Rattle.board_laws.specs.declared.step_refusal.StepRefusal.{StepRefusal}
 use Rattle.board_laws.specs.declared.step_refusal.StepRefusal.TheVariants.{Unprepared, Refused}
-use Rattle.apply_core.specs.Ended.{IsRowsUnion}
+use Rattle.apply_core.specs.Ended.{IsFedBoard, AllHaveEnded, AreSound, IsRowsUnion}
+use Rattle.apply_core.specs.Shown.{all_rows}
 use Rattle.apply_core.specs.RunRefused.{IsRefusedRun}
 use Rattle.apply_core.specs.declared.run_refusal.RunRefusal.{RunRefusal}
 use Rattle.apply_core.specs.declared.run_refusal.RunRefusal.TheVariants.{FeedCount, WrongPlan, Unsound, OwnedByOther, Memory}
@@ -27,6 +31,17 @@ use Rattle.vrepl_main.specs.declared.named_inputs.RunInputs.{RunInputs}
 abbrev pub opened_asked : RunInputs → Result OpenedValue Reason
 opened_asked inputs = opened inputs.feed_form inputs.workflow.items (bytes_of inputs.feeds.items)
 
+-- ---- the board
+
+-- The streams of a board with these feeds stand at the feeds' ends: all groups of each feed are sound, read and applied,
+-- and all tables are copied; the board shows all its sources; and its rows are just those that the feeds keep.
+pub record IsAtFeedsEnds (feeds : List FeedValue) (board : Meaning) : Type 0 where
+  pub fed : IsFedBoard feeds board
+  pub sound : AreSound feeds
+  pub ended : AllHaveEnded feeds board
+  pub sources : ShowAll feeds board
+  pub union : IsRowsUnion feeds (all_rows board.rows)
+
 -- ---- the dump
 
 -- rows, and the plan whose tables they are of
@@ -34,10 +49,12 @@ pub record Filled : Type 0 where
   pub plan : PlanValue
   pub rows : DumpRowsValue
 
--- just the rows that the feeds keep, under the first plan
+-- all rows of a board at the feeds' ends, under the first plan
 pub record IsFilledBy (given : OpenedValue) (filled : Filled) : Type 0 where
   pub first : slice_get given.plans 0 ≡ Some filled.plan
-  pub union : IsRowsUnion given.feeds filled.rows
+  pub board : Meaning
+  pub ends : IsAtFeedsEnds given.feeds board
+  pub rows : filled.rows ≡ all_rows board.rows
 
 -- there is something to run, and these are the rows
 abbrev pub IsFilled : Result OpenedValue Reason → Filled → Type 0

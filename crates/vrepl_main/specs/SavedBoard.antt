@@ -2,7 +2,7 @@
 use Rattle.std.specs.Prelude.{◌≡◌, ℕ, List, Result, Ok, Err}
 use Rattle.std.specs.List.{AllByRecursion}
 use Rattle.board_laws.specs.Meaning.{Meaning}
-use Rattle.board_laws.specs.Sources.{AllShowTheirSources}
+use Rattle.board_laws.specs.Sources.{ShowAll}
 use Rattle.checkpoint_laws.specs.Written.{checkpoint_of}
 use Rattle.apply_core.specs.Fresh.{fresh_board}
 use Rattle.vdiff_core.specs.Printing.{Written, IsWritten}
@@ -16,14 +16,14 @@ use Rattle.step_script.specs.declared.script.ScriptStep.{ScriptStep}
 abbrev pub IsBehind : List FeedValue → Meaning → List ScriptStep → Meaning → Type 0
 IsBehind feeds start steps board = (replies : List ScriptReply) × IsScriptRun feeds start steps replies board × AllByRecursion IsTold replies
 
--- the bytes are the checkpoint of the board behind the steps of a script, whatever they reply but want of memory; its
--- streams show their sources
+-- the bytes are the checkpoint of the board behind the steps of a script, whatever they reply but want of memory; it shows
+-- all its sources
 pub record IsSavedBehind (given : ScriptGiven) (bytes : List ℕ) : Type 0 where
   pub replies : List ScriptReply
   pub board : Meaning
   pub run : IsScriptRun given.opened.feeds (fresh_board given.opened.plans) given.steps replies board
   pub told : AllByRecursion IsTold replies
-  pub sources : AllShowTheirSources given.opened.feeds board
+  pub sources : ShowAll given.opened.feeds board
   pub checkpoint : bytes ≡ checkpoint_of board
 
 -- there is such a board, and they are its checkpoint

@@ -1,6 +1,5 @@
 -- What the lines of a script reply over a workflow with its feeds, and what they leave (this profile).
 use Rattle.std.specs.Prelude.{◌≡◌, ℕ, nat_lt, if◌then◌else◌, List, [], ◌∷◌, Option, Some, None, Result, Ok, Err, slice_get, flat_map}
-use Rattle.std.specs.List.{AllByRecursion}
 use Rattle.std.specs.Option.{option_and_then}
 use Rattle.outcome.specs.Outcome.{◌>>=◌}
 use Rattle.filter_rule.specs.PlanValue.{PlanValue}
@@ -10,14 +9,13 @@ use Rattle.stream_core.specs.Standing.{Standing}
 use Rattle.stream_core.specs.declared.step.Step.{Step}
 use Rattle.vdiff_core.specs.Dump.{dump_of}
 use Rattle.vdiff_core.specs.DumpRowsValue.{DumpRowsValue}
-use Rattle.board_laws.specs.Lawful.{standing_of, IsLawful}
+use Rattle.board_laws.specs.Lawful.{standing_of}
 use Rattle.board_laws.specs.Meaning.{State, Meaning}
-use Rattle.board_laws.specs.Reading.{AllReadTheirFeeds}
 use Rattle.board_laws.specs.Schedule.{Reply, IsReply}
 use Rattle.board_laws.specs.declared.refusal.Refusal.TheVariants.{NoStream, Memory}
 use Rattle.board_laws.specs.declared.step_refusal.StepRefusal.TheVariants.{Refused}
 use Rattle.apply_core.specs.Fresh.{fresh_board}
-use Rattle.board_laws.specs.Sources.{applied_position, AllShowTheirSources}
+use Rattle.board_laws.specs.Sources.{applied_position, ShowAll}
 use Rattle.apply_core.specs.Shown.{all_rows}
 use Rattle.step_script.specs.declared.script.ScriptStep.{ScriptStep}
 use Rattle.step_script.specs.declared.script.ScriptStep.TheVariants as script
@@ -56,11 +54,11 @@ abbrev pub AnswersStep : List FeedValue → Meaning → Option ℕ → Step → 
 AnswersStep feeds old None step reply new = (reply ≡ Err (Refused NoStream)) × (new ≡ old)
 AnswersStep feeds old (Some s) step reply new = IsReply feeds old (s, step) reply new
 
--- what a line replies and leaves
+-- what a line replies and leaves; the rows of a dump are of a board that shows all its sources
 abbrev pub IsScriptStep : List FeedValue → Meaning → ScriptStep → ScriptReply → Meaning → Type 0
 IsScriptStep feeds old (script.Take stream step) reply new = (answer : Reply) × AnswersStep feeds old (byte_of stream) step answer new × (reply ≡ answers answer)
 IsScriptStep feeds old (script.State stream) reply new = (new ≡ old) × (reply ≡ standing_reply stream (standing_in old stream))
-IsScriptStep feeds old script.Dump reply new = (new ≡ old) × (reply ≡ shows (all_rows old.rows))
+IsScriptStep feeds old script.Dump reply new = (new ≡ old) × (reply ≡ shows (all_rows old.rows)) × ShowAll feeds old
 
 -- ---- a script
 
@@ -71,17 +69,6 @@ IsScriptRun feeds old [] (reply ∷ replies) new = ⊥
 IsScriptRun feeds old (step ∷ steps) [] new = ⊥
 IsScriptRun feeds old (step ∷ steps) (reply ∷ replies) new =
     (between : Meaning) × IsScriptStep feeds old step reply between × IsScriptRun feeds between steps replies new
-
--- the board is lawful, and each of its streams reads its feed
-pub record IsFed (feeds : List FeedValue) (board : Meaning) : Type 0 where
-  pub lawful : IsLawful board
-  pub reads : AllReadTheirFeeds feeds board
-
--- what a dump shows are the rows of a board whose streams show their sources
-abbrev pub ShowsSources : List FeedValue → ScriptReply → Type 0
-ShowsSources feeds (answers reply) = Unit {0}
-ShowsSources feeds (stands stream state) = Unit {0}
-ShowsSources feeds (shows rows) = (board : Meaning) × (rows ≡ all_rows board.rows) × AllShowTheirSources feeds board
 
 -- the reply isn't want of memory
 abbrev pub IsTold : ScriptReply → Type 0
@@ -135,5 +122,4 @@ pub record IsRepliedTo (given : OpenedValue) (steps : List ScriptStep) (text : L
   pub replies : List ScriptReply
   pub board : Meaning
   pub run : IsScriptRun given.feeds (fresh_board given.plans) steps replies board
-  pub sources : AllByRecursion (ShowsSources given.feeds) replies
   pub is_text : text ≡ replies_text plan replies

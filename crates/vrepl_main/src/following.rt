@@ -5,31 +5,26 @@ ghost use Rattle.std.specs.Arc.{arc_value};
 ghost use Rattle.vdiff_core.specs.Dump.{dump_of};
 ghost use Rattle.vdiff_core.specs.Printing.{Prints};
 ghost use Rattle.apply_core.specs.Shown.{all_rows};
-ghost use Rattle.apply_core.specs.Ended.{IsFedBoard};
-ghost use Rattle.apply_core.specs.RunRefused.{EndsRun};
-ghost use Rattle.vrepl_main.specs.Followed.{IsAtFeedsEnds, IsFollowed, RefusesFollow, follow_refusal_line, follow_asked, saved_asked, HasTakenUp, HasNotFollowed};
+ghost use Rattle.vrepl_main.specs.Running.{IsAtFeedsEnds};
+ghost use Rattle.vrepl_main.specs.Followed.{IsFollowed, RefusesFollow, follow_refusal_line, follow_asked, saved_asked, HasTakenUp, HasNotFollowed};
 ghost use Rattle.vrepl_main.specs.Printing.{PrintsOrBreaks};
 
 use crate::dump::write_rows;
-use crate::named_inputs::{FollowInputs, RunCourse};
+use crate::named_inputs::FollowInputs;
 use crate::opened::Opened;
-use crate::progress::{Progress, tell_feeds};
+use crate::progress::Progress;
 use crate::refusal::{CommandRefusal, refuse};
 use crate::refusal_line::refuse_over;
-use crate::running::{open_streams, refuse_run, run_streams};
+use crate::running::{open_streams, refuse_run, run_on_from, run_streams};
 use crate::stepping::first_plan;
-use apply_core::{
-    Board, ResumeFault, RunRefusal, resume as resumed_board, run_board_alone, save as checkpoint_of,
-};
+use apply_core::{FedBoard, ResumeFault, RunRefusal, save as checkpoint_of};
 use filter_rule::Plan;
 use source_feed::Feed;
 use std::alloc::{AllocError, Global};
 use std::marker::Model;
 use std::sync::{Arc, Wait};
 use std::thread::Threads;
-use stream_worker::run_board_parallel;
 use vdiff_core::{Out, OutFailed};
-use vrepl_choices::Threading;
 
 /// A checkpoint that was moved on to the feeds' ends.
 #[derive(Drop)]
@@ -38,8 +33,8 @@ pub struct Followed<'h> {
     pub(crate) plan: Arc<Plan>,
     /// The new checkpoint.
     pub checkpoint: Vec<u8>,
-    /// The board that it is of.
-    pub(crate) board: Board<'h>,
+    /// The board that it is of, with its feeds.
+    pub(crate) fed: FedBoard<'h>,
 }
 
 impl<'h> Model for Followed<'h> {
@@ -48,7 +43,7 @@ impl<'h> Model for Followed<'h> {
 
     ghost Value = { FollowedValue };
 
-    ghost view = { λ f. record { plan = arc_value f.plan; checkpoint = f.checkpoint.items; board = f.board } };
+    ghost view = { λ f. record { plan = arc_value f.plan; checkpoint = f.checkpoint.items; board = f.fed.board } };
 }
 
 impl<'h> Followed<'h> {
@@ -57,7 +52,7 @@ impl<'h> Followed<'h> {
     pub fn write_dump<W: Out>(&self, out: &mut W) -> Result<(), OutFailed>
         ensures { Prints result (W.written out.old) (W.written out.new) (dump_of self.now.plan (all_rows self.now.board.rows)) }
     {
-        write_rows(out, &self.plan, &self.board)
+        write_rows(out, &self.plan, self.fed.board())
     }
 }
 
@@ -129,66 +124,44 @@ pub fn follow<'h, R: Threads + Wait + Sync, G: Progress + Sync>(
     )?;
     let Opened { plans, feeds } = opened;
     let plan = first_plan(&plans)?;
-    let board = board_at_ends(rt, alloc, inputs, gate, plans, &feeds)?;
-    let checkpoint = checkpoint_of(alloc, &board)?;
+    let fed = board_at_ends(rt, alloc, inputs, gate, plans, feeds)?;
+    let checkpoint = checkpoint_of(alloc, fed.board())?;
     Ok(Followed {
         plan,
         checkpoint,
-        board,
+        fed,
     })
 }
 
-/// The board at the feeds' ends, from that of the checkpoint or from the beginning.
+/// The board at the feeds' ends, from that of the checkpoint or from the beginning, with its feeds.
 fn board_at_ends<'h, R: Threads + Wait + Sync, G: Progress + Sync>(
     rt: &R,
     alloc: Global,
     inputs: &FollowInputs<'_, '_>,
     gate: &G,
     plans: Vec<Arc<Plan>>,
-    feeds: &[Feed<'h>],
-) -> Result<Board<'h>, Unfollowed>
+    feeds: Vec<Feed<'h>>,
+) -> Result<FedBoard<'h>, Unfollowed>
     requires some { 1 ≤ length plans.items }
     requires few { length plans.items ≤ 64 }
-    ensures taken_up { IfOk result (λ _. HasTakenUp plans.items feeds.now inputs.now) }
-    ensures ends { IfOk result (IsAtFeedsEnds feeds.now) }
-    ensures refused { IfErr result (HasNotFollowed plans.items feeds.now inputs.now) }
+    ensures taken_up { IfOk result (λ _. HasTakenUp plans.items feeds.entry.items inputs.now) }
+    ensures ends { IfOk result (λ fed. IsAtFeedsEnds feeds.entry.items fed.board) }
+    ensures refused { IfErr result (HasNotFollowed plans.items feeds.entry.items inputs.now) }
 {
     let plan = first_plan(&plans)?;
     let Some(bytes) = inputs.checkpoint else {
         return match run_streams(rt, alloc, inputs.course, gate, plans, feeds) {
-            Ok(board) => Ok(board),
+            Ok(fed) => Ok(fed),
             Err(refusal) => Err(Unfollowed::Stream { plan, refusal }),
         };
     };
-    let board = match resumed_board(alloc, &plans, feeds, bytes) {
-        Ok(board) => board,
+    let fed = match FedBoard::resume(alloc, &plans, feeds, bytes) {
+        Ok(fed) => fed,
         Err(fault) => return Err(Unfollowed::Checkpoint { plan, fault }),
     };
-    match run_on_from(rt, alloc, inputs.course, gate, board, feeds) {
-        Ok(board) => Ok(board),
+    match run_on_from(rt, alloc, inputs.course, gate, fed) {
+        Ok(fed) => Ok(fed),
         Err(refusal) => Err(Unfollowed::Stream { plan, refusal }),
-    }
-}
-
-/// The board behind a run of all streams to their feeds' ends, from one that stands anywhere.
-fn run_on_from<'h, R: Threads + Wait + Sync, G: Progress + Sync>(
-    rt: &R,
-    alloc: Global,
-    course: RunCourse,
-    gate: &G,
-    board: Board<'h>,
-    feeds: &[Feed<'h>],
-) -> Result<Board<'h>, RunRefusal>
-    requires { IsFedBoard feeds.now board }
-    ensures ends { IfOk result (IsAtFeedsEnds feeds.now) }
-    ensures refused { IfErr result (EndsRun feeds.now) }
-{
-    match course.threading {
-        Threading::Alone => run_board_alone(alloc, board, feeds, &course.policy),
-        Threading::Parallel => {
-            tell_feeds(gate, feeds);
-            run_board_parallel(rt, alloc, board, feeds, &course.policy, gate)
-        }
     }
 }
 

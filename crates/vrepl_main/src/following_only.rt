@@ -4,9 +4,7 @@ ghost use Rattle.std.specs.Prelude.{◌≡◌, ◌<◌, ◌≤◌, ℕ, nat_lt, 
 ghost use Rattle.std.specs.Arc.{arc_value};
 ghost use Rattle.std.specs.List.{list_all};
 ghost use Rattle.filter_rule.specs.WellFormed.{ArePlans};
-ghost use Rattle.apply_core.specs.Feeds.{AreFed};
-ghost use Rattle.apply_core.specs.Fresh.{fresh_board};
-ghost use Rattle.apply_core.specs.Ended.{IsNamedStream, IsFedBoard};
+ghost use Rattle.apply_core.specs.Ended.{IsNamedStream};
 ghost use Rattle.vrepl_main.specs.Followed.{RefusesFollow, saved_asked, HasNotFollowed, IsEndedRun};
 ghost use Rattle.vrepl_main.specs.Given.{given_value};
 ghost use Rattle.vrepl_main.specs.OnlyFollowed.{IsMovedOn, IsOnlyFollowed, have_streams, named_plans, opened_for, only_asked, AreThere, HasMovedOn};
@@ -19,13 +17,11 @@ use crate::given::GivenFeed;
 use crate::named_inputs::FollowInputs;
 use crate::opened::{Opened, open_feeds};
 use crate::refusal::CommandRefusal;
-use crate::stepping::first_plan;
-use apply_core::{
-    Board, Policy, fed_board, resume as resumed_board, run_streams_alone, save as checkpoint_of,
-};
+use crate::stepping::{first_plan, fresh_board};
+use apply_core::{FedBoard, Policy, save as checkpoint_of};
 use filter_rule::Plan;
 use source_feed::Feed;
-use std::alloc::{AllocError, Global};
+use std::alloc::Global;
 use std::sync::Arc;
 use std::thread::Threads;
 use vrepl_choices::Threading;
@@ -56,12 +52,12 @@ pub fn follow_only<'h, R: Threads + Sync>(
     )?;
     let Opened { plans, feeds } = opened;
     let plan = first_plan(&plans)?;
-    let board = board_moved_on(alloc, inputs, only, plans, &feeds)?;
-    let checkpoint = checkpoint_of(alloc, &board)?;
+    let fed = board_moved_on(alloc, inputs, only, plans, feeds)?;
+    let checkpoint = checkpoint_of(alloc, fed.board())?;
     Ok(Followed {
         plan,
         checkpoint,
-        board,
+        fed,
     })
 }
 
@@ -127,53 +123,31 @@ fn is_below(count: usize, number: u8) -> bool
     usize::from(number) < count
 }
 
-/// The board on which these streams have moved on, from that of the checkpoint or from the beginning.
+/// The board on which these streams have moved on, from that of the checkpoint or from the beginning, with its feeds.
 fn board_moved_on<'h>(
     alloc: Global,
     inputs: &FollowInputs<'_, '_>,
     only: &[u8],
     plans: Vec<Arc<Plan>>,
-    feeds: &[Feed<'h>],
-) -> Result<Board<'h>, Unfollowed>
+    feeds: Vec<Feed<'h>>,
+) -> Result<FedBoard<'h>, Unfollowed>
     requires some { 1 ≤ length plans.items }
     requires few { length plans.items ≤ 64 }
     requires there { AreThere only.now plans.items }
-    ensures moved { IfOk result (HasMovedOn plans.items feeds.now inputs.now only.now) }
-    ensures refused { IfErr result (HasNotFollowed plans.items feeds.now inputs.now) }
+    ensures moved { IfOk result (λ fed. HasMovedOn plans.items feeds.entry.items inputs.now only.now fed.board) }
+    ensures refused { IfErr result (HasNotFollowed plans.items feeds.entry.items inputs.now) }
 {
     let plan = first_plan(&plans)?;
     let policy = &inputs.course.policy;
     let Some(bytes) = inputs.checkpoint else {
-        let board = fresh_board(alloc, plans, feeds)?;
-        return move_on(alloc, policy, only, board, feeds, plan);
+        let fed = fresh_board(alloc, plans, feeds)?;
+        return move_on(alloc, policy, only, fed, plan);
     };
-    let board = match resumed_board(alloc, &plans, feeds, bytes) {
-        Ok(board) => board,
+    let fed = match FedBoard::resume(alloc, &plans, feeds, bytes) {
+        Ok(fed) => fed,
         Err(fault) => return Err(Unfollowed::Checkpoint { plan, fault }),
     };
-    move_on(alloc, policy, only, board, feeds, plan)
-}
-
-/// A board of which nothing is read, whose streams read these feeds. An error is want of memory, since the plans of a
-/// workflow have the same tables, and its feeds are opened under them.
-fn fresh_board<'h>(
-    alloc: Global,
-    plans: Vec<Arc<Plan>>,
-    feeds: &[Feed<'h>],
-) -> Result<Board<'h>, AllocError>
-    requires some { 1 ≤ length plans.items }
-    requires few { length plans.items ≤ 64 }
-    ensures fresh { IfOk result (λ made. made ≡ fresh_board (map arc_value plans.items)) }
-    ensures planned { IfOk result (λ _. AreFed (map arc_value plans.items) feeds.now) }
-    ensures fed { IfOk result (IsFedBoard feeds.now) }
-{
-    match fed_board(alloc, plans, feeds) {
-        Ok(board) => {
-            board.is_lawful();
-            Ok(board)
-        }
-        Err(_) => Err(AllocError),
-    }
+    move_on(alloc, policy, only, fed, plan)
 }
 
 /// The board on which these streams have moved on from where it stood.
@@ -181,17 +155,18 @@ fn move_on<'h>(
     alloc: Global,
     policy: &Policy,
     only: &[u8],
-    start: Board<'h>,
-    feeds: &[Feed<'h>],
+    mut fed: FedBoard<'h>,
     plan: Arc<Plan>,
-) -> Result<Board<'h>, Unfollowed>
-    requires fed { IsFedBoard feeds.now start }
-    requires there { (s : ℕ) → IsNamedStream only.now s → s < length feeds.now }
-    ensures moved { IfOk result (IsMovedOn feeds.now only.now start.entry) }
-    ensures refused { IfErr result (IsEndedRun plan feeds.now) }
+) -> Result<FedBoard<'h>, Unfollowed>
+    requires { (s : ℕ) → IsNamedStream only.now s → s < length fed.feeds }
+    ensures moved { IfOk result (λ moved. IsMovedOn fed.entry.feeds only.now fed.entry.board moved.board) }
+    ensures refused { IfErr result (IsEndedRun plan fed.entry.feeds) }
 {
-    match run_streams_alone(alloc, start, feeds, only, policy) {
-        Ok(board) => Ok(board),
+    match fed.run_streams(alloc, only, policy) {
+        Ok(()) => {
+            fed.is_fed();
+            Ok(fed)
+        }
         Err(refusal) => Err(Unfollowed::Stream { plan, refusal }),
     }
 }

@@ -17,6 +17,7 @@ use apply_core::{
     Board, JoinFault, ResumeFault, join as joined_board, resume as resumed_board,
     save as checkpoint,
 };
+use board_laws::fed_boards_show_all;
 use filter_rule::Plan;
 use std::alloc::Global;
 use std::sync::Arc;
@@ -134,6 +135,7 @@ fn join_over<'h>(
     ensures joined { IfOk result (IsJoinOver (opened_value opened.now) one.now (bytes_of others.now)) }
     ensures refused { IfErr result (IsUnjoinedOver (opened_value opened.now) one.now (bytes_of others.now)) }
 {
+    fed_boards_show_all();
     let plans = opened.plans.as_slice();
     let feeds = opened.feeds.as_slice();
     let mut board = match resumed_board(alloc, plans, feeds, one) {
@@ -155,6 +157,5 @@ fn join_over<'h>(
             }
         };
     }
-    board.is_lawful();
     Ok(board)
 }

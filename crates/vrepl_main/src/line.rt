@@ -12,42 +12,37 @@ use crate::answer_text::print_answer;
 use crate::dump::write_rows;
 use crate::refusal_line::print_refused;
 use crate::state_text::print_state;
-use apply_core::{Answer, Board, Refusal, StepRefusal};
+use apply_core::{Answer, FedBoard, Refusal, StepRefusal};
 use filter_rule::Plan;
 use gtid_set::GtidSet;
-use source_feed::Feed;
 use std::alloc::Global;
 use step_script::ScriptStep;
 use stream_core::{Cursor, Step};
 use vdiff_core::{Gathered, Out, OutFailed};
 
-/// What the steps of a script are taken by, beside the board.
-#[derive(Drop)]
-pub(crate) struct Basis<'s, 'h> {
-    /// The feeds that the board's streams read.
-    pub(crate) feeds: &'s [Feed<'h>],
-    /// The plan by which replies name tables, and rows are printed.
-    pub(crate) plan: &'s Plan,
-}
-
-/// Takes what a line of a script says on a board, and adds its reply.
-pub(crate) fn take_line<'h, W: Out>(
+/// Takes what a line of a script says on a board with its feeds, and adds its reply. Replies name tables of the plan, and
+/// rows are printed by it.
+pub(crate) fn take_line<W: Out>(
     alloc: Global,
-    basis: &Basis<'_, 'h>,
-    board: &mut Board<'h>,
+    plan: &Plan,
+    fed: &mut FedBoard<'_>,
     step: ScriptStep,
     out: &mut W,
     text: &mut Gathered,
 ) -> Result<(), OutFailed>
-    ensures { Replies result basis.now.feeds.now basis.now.plan.now board.old step board.new (at (W.written out.old) text.old) (at (W.written out.new) text.new) }
+    ensures replies { Replies result fed.old.feeds plan.now fed.old.board step fed.new.board (at (W.written out.old) text.old) (at (W.written out.new) text.new) }
+    ensures feeds { fed.new.feeds ≡ fed.old.feeds }
 {
     match step {
         ScriptStep::Take { stream, step } => {
-            let answer = answer_to(alloc, board, basis.feeds, stream, step);
-            print_answer_or_refusal(out, text, basis.plan, &answer)
+            let answer = answer_to(alloc, fed, stream, step);
+            print_answer_or_refusal(out, text, plan, &answer)
         }
-        ScriptStep::State { stream } => print_standing(out, text, basis.plan, board, stream),
-        ScriptStep::Dump => print_rows(out, text, basis.plan, board),
+        ScriptStep::State { stream } => print_standing(out, text, plan, fed, stream),
+        ScriptStep::Dump => {
+            fed.shows();
+            print_rows(out, text, plan, fed)
+        }
     }
 }
 
@@ -63,18 +58,18 @@ fn byte_of(stream: u32) -> Option<u8>
 }
 
 /// Takes a step on a stream.
-pub(crate) fn answer_to<'h>(
+pub(crate) fn answer_to(
     alloc: Global,
-    board: &mut Board<'h>,
-    feeds: &[Feed<'h>],
+    fed: &mut FedBoard<'_>,
     stream: u32,
     step: Step,
 ) -> Result<Answer, StepRefusal>
-    ensures { AnswersStep feeds.now board.old (byte_of stream) step result board.new }
+    ensures reply { AnswersStep fed.old.feeds fed.old.board (byte_of stream) step result fed.new.board }
+    ensures feeds { fed.new.feeds ≡ fed.old.feeds }
 {
     match byte_of(stream) {
         None => Err(StepRefusal::Refused(Refusal::NoStream)),
-        Some(s) => board.take_step(alloc, feeds, s, step),
+        Some(s) => fed.take_step(alloc, s, step),
     }
 }
 
@@ -94,14 +89,14 @@ fn print_answer_or_refusal<W: Out>(
 }
 
 /// Where a stream stands, by its numbers and its position, if there is one.
-fn place_of<'b>(board: &'b Board<'_>, stream: u32) -> Option<(Cursor, Option<&'b GtidSet>)>
-    ensures { option_map (λ place. (place.0, option_map_or (λ set. set.now) place.1 [])) result ≡ option_map where_of (standing_in board.entry.now stream) }
+fn place_of<'b>(fed: &'b FedBoard<'_>, stream: u32) -> Option<(Cursor, Option<&'b GtidSet>)>
+    ensures { option_map (λ place. (place.0, option_map_or (λ set. set.now) place.1 [])) result ≡ option_map where_of (standing_in fed.entry.now.board stream) }
 {
     let s = byte_of(stream)?;
-    let Ok(now) = board.state(s) else {
+    let Ok(now) = fed.state(s) else {
         return None;
     };
-    let Ok(position) = board.position(s) else {
+    let Ok(position) = fed.position(s) else {
         return None;
     };
     Some((now, position))
@@ -112,12 +107,12 @@ fn print_standing<W: Out>(
     out: &mut W,
     text: &mut Gathered,
     plan: &Plan,
-    board: &Board<'_>,
+    fed: &FedBoard<'_>,
     stream: u32,
 ) -> Result<(), OutFailed>
-    ensures { AddsText result (at (W.written out.old) text.old) (at (W.written out.new) text.new) (reply_text plan.now (standing_reply stream (standing_in board.now stream))) }
+    ensures { AddsText result (at (W.written out.old) text.old) (at (W.written out.new) text.new) (reply_text plan.now (standing_reply stream (standing_in fed.now.board stream))) }
 {
-    match place_of(board, stream) {
+    match place_of(fed, stream) {
         Some((now, position)) => print_state(out, text, stream, &now, position),
         None => print_refused(
             out,
@@ -133,10 +128,10 @@ fn print_rows<W: Out>(
     out: &mut W,
     text: &mut Gathered,
     plan: &Plan,
-    board: &Board<'_>,
+    fed: &FedBoard<'_>,
 ) -> Result<(), OutFailed>
-    ensures { AddsText result (at (W.written out.old) text.old) (at (W.written out.new) text.new) (dump_of plan.now (all_rows board.now.rows)) }
+    ensures { AddsText result (at (W.written out.old) text.old) (at (W.written out.new) text.new) (dump_of plan.now (all_rows fed.now.board.rows)) }
 {
     text.finish(out)?;
-    write_rows(out, plan, board)
+    write_rows(out, plan, fed.board())
 }

@@ -1,27 +1,30 @@
 //! The lines of a script on a board, one after another.
 
+ghost use Rattle.std.specs.Prelude.{◌≡◌};
 ghost use Rattle.vrepl_main.specs.Adding.{at};
 ghost use Rattle.vrepl_main.specs.ScriptPrinting.{RepliesTo};
 
-use crate::line::{Basis, take_line};
-use apply_core::Board;
+use crate::line::take_line;
+use apply_core::FedBoard;
+use filter_rule::Plan;
 use std::alloc::Global;
 use step_script::ScriptStep;
 use vdiff_core::{Gathered, Out, OutFailed};
 
-/// Takes the steps of a script on a board, one after another, and adds their replies.
-pub(crate) fn take_lines<'h, W: Out>(
+/// Takes the steps of a script on a board with its feeds, one after another, and adds their replies.
+pub(crate) fn take_lines<W: Out>(
     alloc: Global,
-    basis: &Basis<'_, 'h>,
-    board: &mut Board<'h>,
+    plan: &Plan,
+    fed: &mut FedBoard<'_>,
     steps: &[ScriptStep],
     out: &mut W,
     text: &mut Gathered,
 ) -> Result<(), OutFailed>
-    ensures { RepliesTo result basis.now.feeds.now basis.now.plan.now board.old steps.now (at (W.written out.old) text.old) (at (W.written out.new) text.new) }
+    ensures replies { RepliesTo result fed.old.feeds plan.now fed.old.board steps.now (at (W.written out.old) text.old) (at (W.written out.new) text.new) }
+    ensures feeds { fed.new.feeds ≡ fed.old.feeds }
 {
     for step in steps {
-        take_line(alloc, basis, board, *step, out, text)?;
+        take_line(alloc, plan, fed, *step, out, text)?;
     }
     Ok(())
 }

@@ -8,14 +8,13 @@ ghost use Rattle.vrepl_main.specs.ScriptRun.{script_asked};
 ghost use Rattle.vrepl_main.specs.ResumedRun.{LeavesResumed, ResumeEnds};
 
 use crate::given::given_feeds;
-use crate::line::Basis;
 use crate::named_inputs::ResumeInputs;
 use crate::opened::Opened;
 use crate::refusal::{CommandRefusal, refuse};
 use crate::refusal_line::refuse_over;
 use crate::scripted::{Scripted, open_scripted};
 use crate::stepping::{first_plan, print_taken};
-use apply_core::{ResumeFault, resume as resumed_board};
+use apply_core::{FedBoard, ResumeFault};
 use filter_rule::Plan;
 use std::alloc::Global;
 use std::mem::forget;
@@ -94,18 +93,13 @@ fn print_resumed<W: Out>(
     let Ok(plan) = first_plan(&plans) else {
         return Err(ResumeRefusal::Given(CommandRefusal::Memory));
     };
-    let mut board = match resumed_board(alloc, &plans, &feeds, checkpoint) {
-        Ok(board) => board,
+    let mut fed = match FedBoard::resume(alloc, &plans, feeds, checkpoint) {
+        Ok(fed) => fed,
         Err(fault) => return Err(ResumeRefusal::Checkpoint { plan, fault }),
     };
-    let basis = Basis {
-        feeds: &feeds,
-        plan: &plan,
-    };
-    match print_taken(alloc, &basis, &mut board, &steps, out) {
+    match print_taken(alloc, &plan, &mut fed, &steps, out) {
         Ok(()) => {
-            forget(board);
-            forget(feeds);
+            forget(fed);
             Ok(())
         }
         Err(_) => Err(ResumeRefusal::Given(CommandRefusal::CannotWrite { file: "-" })),

@@ -5,9 +5,8 @@ ghost use Rattle.std.specs.Arc.{arc_value};
 ghost use Rattle.vdiff_core.specs.Dump.{dump_of};
 ghost use Rattle.vdiff_core.specs.Printing.{Prints};
 ghost use Rattle.apply_core.specs.Shown.{all_rows};
-ghost use Rattle.apply_core.specs.RunRefused.{IsRefusedRun};
+ghost use Rattle.apply_core.specs.RunRefused.{EndsRun, IsLowest, IsRefusedRun};
 ghost use Rattle.vrepl_main.specs.Command.{IsUnwritten};
-ghost use Rattle.vrepl_main.specs.Followed.{IsAtFeedsEnds};
 ghost use Rattle.vrepl_main.specs.Given.{given_value};
 ghost use Rattle.filter_rule.specs.WellFormed.{ArePlans};
 ghost use Rattle.vrepl_main.specs.OpenedFeeds.{opened_value, opened_given};
@@ -15,7 +14,8 @@ ghost use Rattle.vrepl_main.specs.Opening.{opened_bytes};
 ghost use Rattle.vrepl_main.specs.Reasons.{GivesOfInputs};
 ghost use Rattle.vrepl_main.specs.Printing.{PrintsOrBreaks};
 ghost use Rattle.vrepl_main.specs.RefusedText.{refused_text};
-ghost use Rattle.vrepl_main.specs.Running.{IsFilled, IsUnfilled, PrintsDump, RefusesRun, as_step, opened_asked, RunEnds};
+ghost use Rattle.vrepl_main.specs.Running.{IsAtFeedsEnds, IsFilled, IsUnfilled, PrintsDump, RefusesRun, as_step, opened_asked, RunEnds};
+ghost use Rattle.vrepl_main.specs.RunIsRight.{WritesRight};
 
 use crate::at_once::open_at_once;
 use crate::dump::write_rows;
@@ -26,7 +26,7 @@ use crate::progress::{Progress, tell_feeds};
 use crate::refusal::{CommandRefusal, refuse};
 use crate::refusal_line::refuse_over;
 use crate::stepping::first_plan;
-use apply_core::{Board, RunRefusal, run_alone};
+use apply_core::{Board, FedBoard, RunRefusal};
 use board_laws::StepRefusal;
 use filter_rule::Plan;
 use source_feed::Feed;
@@ -34,7 +34,7 @@ use std::alloc::Global;
 use std::mem::forget;
 use std::sync::{Arc, Wait};
 use std::thread::Threads;
-use stream_worker::run_parallel;
+use stream_worker::run_fed_parallel;
 use vdiff_core::Out;
 use vrepl_choices::Threading;
 
@@ -68,6 +68,8 @@ pub fn run<R: Threads + Wait + Sync, G: Progress + Sync, W: Out, E: Out>(
 ) -> u8
     ensures ends { RunEnds (opened_asked inputs.now) result (W.written out.old) (W.written out.new) (E.written err.old) (E.written err.new) }
     ensures quiet { result ≡ 0 → err.new ≡ err.old }
+    // In bytes alone: with status 0 just the text was written that the workflow and the feeds make.
+    ensures right { result ≡ 0 → WritesRight inputs.now (W.written out.old) (W.written out.new) }
 {
     match print_run(rt, alloc, inputs, gate, out) {
         Ok(()) => 0,
@@ -116,10 +118,10 @@ fn print_run<R: Threads + Wait + Sync, G: Progress + Sync, W: Out>(
     let Ok(given) = given_feeds(alloc, inputs.feed_form, &inputs.feeds) else {
         return Err(RunFault::Given(CommandRefusal::Memory));
     };
-    let (plan, board) = filled_board(rt, alloc, inputs, gate, &given)?;
-    match print_rows(out, &plan, &board) {
+    let (plan, fed) = filled_board(rt, alloc, inputs, gate, &given)?;
+    match print_rows(out, &plan, fed.board()) {
         Ok(()) => {
-            forget(board);
+            forget(fed);
             Ok(())
         }
         Err(refusal) => Err(RunFault::Given(refusal)),
@@ -139,15 +141,15 @@ fn print_rows<W: Out>(
     Ok(())
 }
 
-/// The board behind a run over the bytes of the feeds, and the plan whose tables its rows are of.
+/// The board behind a run over the bytes of the feeds, with its feeds, and the plan whose tables its rows are of.
 fn filled_board<'h, R: Threads + Wait + Sync, G: Progress + Sync>(
     rt: &R,
     alloc: Global,
     inputs: &RunInputs,
     gate: &G,
     given: &'h [GivenFeed<'_>],
-) -> Result<(Arc<Plan>, Board<'h>), RunFault>
-    ensures filled { IfOk result (λ filled. IsFilled (opened_given inputs.now.workflow.items given.entry.now) (record { plan = arc_value filled.0; rows = all_rows filled.1.rows })) }
+) -> Result<(Arc<Plan>, FedBoard<'h>), RunFault>
+    ensures filled { IfOk result (λ filled. IsFilled (opened_given inputs.now.workflow.items given.entry.now) (record { plan = arc_value filled.0; rows = all_rows filled.1.board.rows })) }
     ensures refused { IfErr result (λ fault. IsUnfilled fault (opened_given inputs.now.workflow.items given.entry.now)) }
 {
     let course = inputs.course;
@@ -159,12 +161,9 @@ fn filled_board<'h, R: Threads + Wait + Sync, G: Progress + Sync>(
     let Ok(plan) = first_plan(&plans) else {
         return Err(RunFault::Given(CommandRefusal::Memory));
     };
-    match run_streams(rt, alloc, course, gate, plans, &feeds) {
+    match run_streams(rt, alloc, course, gate, plans, feeds) {
         Err(refusal) => Err(RunFault::Stream { plan, refusal }),
-        Ok(board) => {
-            forget(feeds);
-            Ok((plan, board))
-        }
+        Ok(fed) => Ok((plan, fed)),
     }
 }
 
@@ -185,25 +184,49 @@ pub(crate) fn open_streams<'h, R: Threads + Sync>(
     }
 }
 
-/// The board behind a run of all streams to their feeds' ends, from one of which nothing is read.
+/// The board behind a run of all streams to their feeds' ends, from one of which nothing is read, with its feeds.
 pub(crate) fn run_streams<'h, R: Threads + Wait + Sync, G: Progress + Sync>(
     rt: &R,
     alloc: Global,
     course: RunCourse,
     gate: &G,
     plans: Vec<Arc<Plan>>,
-    feeds: &[Feed<'h>],
-) -> Result<Board<'h>, RunRefusal>
+    feeds: Vec<Feed<'h>>,
+) -> Result<FedBoard<'h>, RunRefusal>
     requires some { 1 ≤ length plans.items }
     requires few { length plans.items ≤ 64 }
-    ensures ends { IfOk result (IsAtFeedsEnds feeds.now) }
-    ensures refused { IfErr result (IsRefusedRun (map arc_value plans.items) feeds.now) }
+    ensures ends { IfOk result (λ fed. IsAtFeedsEnds feeds.entry.items fed.board) }
+    ensures refused { IfErr result (IsRefusedRun (map arc_value plans.items) feeds.entry.items) }
+    // Every lower stream has come to its feed's end.
+    ensures lowest { IfErr result (IsLowest feeds.entry.items) }
+{
+    let fed = FedBoard::to_be_run(alloc, plans, feeds)?;
+    run_on_from(rt, alloc, course, gate, fed)
+}
+
+/// The board behind a run of all streams to their feeds' ends, from one that stands anywhere, with its feeds.
+pub(crate) fn run_on_from<'h, R: Threads + Wait + Sync, G: Progress + Sync>(
+    rt: &R,
+    alloc: Global,
+    course: RunCourse,
+    gate: &G,
+    mut fed: FedBoard<'h>,
+) -> Result<FedBoard<'h>, RunRefusal>
+    ensures ends { IfOk result (λ ended. IsAtFeedsEnds fed.entry.feeds ended.board) }
+    ensures refused { IfErr result (EndsRun fed.entry.feeds) }
+    ensures lowest { IfErr result (IsLowest fed.entry.feeds) }
 {
     match course.threading {
-        Threading::Alone => run_alone(alloc, plans, feeds, &course.policy),
+        Threading::Alone => {
+            fed.run(alloc, &course.policy)?;
+            fed.is_fed();
+            Ok(fed)
+        }
         Threading::Parallel => {
-            tell_feeds(gate, feeds);
-            run_parallel(rt, alloc, plans, feeds, &course.policy, gate)
+            tell_feeds(gate, fed.feeds());
+            let fed = run_fed_parallel(rt, alloc, fed, &course.policy, gate)?;
+            fed.is_fed();
+            Ok(fed)
         }
     }
 }

@@ -5,7 +5,8 @@ ghost use Rattle.std.specs.Arc.{arc_value};
 ghost use Rattle.apply_core.specs.Fresh.{fresh_board};
 ghost use Rattle.filter_rule.specs.WellFormed.{ArePlans};
 ghost use Rattle.vrepl_main.specs.OpenedFeeds.{scripted_value};
-ghost use Rattle.vrepl_main.specs.ScriptRun.{ScriptReply, answers, IsScriptStep, IsFed, IsTold, script_asked};
+ghost use Rattle.board_laws.specs.Sources.{ShowAll};
+ghost use Rattle.vrepl_main.specs.ScriptRun.{ScriptReply, answers, IsScriptStep, IsTold, script_asked};
 ghost use Rattle.vdiff_core.specs.Printing.{Prints};
 ghost use Rattle.vrepl_main.specs.Reasons.{RefusesInputs};
 ghost use Rattle.vrepl_main.specs.SavedBoard.{IsSavedBehind, IsSavedBoard, PrintsCheckpoint, SaveEnds, IsBehind};
@@ -18,7 +19,7 @@ use crate::opened::Opened;
 use crate::refusal::{CommandRefusal, refuse};
 use crate::scripted::{Scripted, open_scripted};
 use crate::stepping::fresh_board;
-use apply_core::{Answer, Board, StepRefusal, save as checkpoint};
+use apply_core::{Answer, FedBoard, StepRefusal, save as checkpoint};
 use filter_rule::Plan;
 use source_feed::Feed;
 use std::alloc::{AllocError, Global};
@@ -85,64 +86,63 @@ fn saved_bytes(alloc: Global, scripted: Scripted<'_>) -> Result<Vec<u8>, AllocEr
 {
     let Scripted { opened, steps } = scripted;
     let Opened { plans, feeds } = opened;
-    let board = board_behind(alloc, plans, &feeds, &steps)?;
-    let bytes = checkpoint(alloc, &board)?;
-    forget(board);
-    forget(feeds);
+    let fed = board_behind(alloc, plans, feeds, &steps)?;
+    let bytes = checkpoint(alloc, fed.board())?;
+    forget(fed);
     Ok(bytes)
 }
 
-/// The board behind the steps of a script, from one over the plans of which nothing is read. An error is want
-/// of memory.
+/// The board behind the steps of a script, from one over the plans of which nothing is read, with its feeds. An error is
+/// want of memory.
 fn board_behind<'h>(
     alloc: Global,
     plans: Vec<Arc<Plan>>,
-    feeds: &[Feed<'h>],
+    feeds: Vec<Feed<'h>>,
     steps: &[ScriptStep],
-) -> Result<Board<'h>, AllocError>
+) -> Result<FedBoard<'h>, AllocError>
     requires some { 1 ≤ length plans.items }
     requires few { length plans.items ≤ 64 }
-    ensures taken { IfOk result (IsBehind feeds.now (fresh_board (map arc_value plans.items)) steps.now) }
-    ensures fed { IfOk result (λ _. IsFed feeds.now (fresh_board (map arc_value plans.items))) }
+    ensures taken { IfOk result (λ fed. IsBehind feeds.entry.items (fresh_board (map arc_value plans.items)) steps.now fed.board) }
+    ensures sources { IfOk result (λ fed. ShowAll feeds.entry.items fed.board) }
 {
-    let mut board = fresh_board(alloc, plans, feeds)?;
-    take_quietly(alloc, &mut board, feeds, steps)?;
-    Ok(board)
+    let mut fed = fresh_board(alloc, plans, feeds)?;
+    take_quietly(alloc, &mut fed, steps)?;
+    fed.shows();
+    Ok(fed)
 }
 
-/// Takes the steps of a script on a board, one after another, whatever they reply, up to one that is refused
+/// Takes the steps of a script on a board with its feeds, one after another, whatever they reply, up to one that is refused
 /// for want of memory.
-fn take_quietly<'h>(
+fn take_quietly(
     alloc: Global,
-    board: &mut Board<'h>,
-    feeds: &[Feed<'h>],
+    fed: &mut FedBoard<'_>,
     steps: &[ScriptStep],
 ) -> Result<(), AllocError>
-    ensures { OnOk result (IsBehind feeds.now board.old steps.now board.new) }
+    ensures behind { OnOk result (IsBehind fed.old.feeds fed.old.board steps.now fed.new.board) }
+    ensures feeds { fed.new.feeds ≡ fed.old.feeds }
 {
     for step in steps {
-        take_one(alloc, board, feeds, *step)?;
+        take_one(alloc, fed, *step)?;
     }
     Ok(())
 }
 
-/// Takes what a line of a script says on a board, whatever it replies. An error is that of a step that is
+/// Takes what a line of a script says on a board with its feeds, whatever it replies. An error is that of a step that is
 /// refused for want of memory.
-fn take_one<'h>(
-    alloc: Global,
-    board: &mut Board<'h>,
-    feeds: &[Feed<'h>],
-    step: ScriptStep,
-) -> Result<(), AllocError>
-    ensures { OnOk result ((reply : ScriptReply) × IsScriptStep feeds.now board.old step reply board.new × IsTold reply) }
+fn take_one(alloc: Global, fed: &mut FedBoard<'_>, step: ScriptStep) -> Result<(), AllocError>
+    ensures taken { OnOk result ((reply : ScriptReply) × IsScriptStep fed.old.feeds fed.old.board step reply fed.new.board × IsTold reply) }
+    ensures feeds { fed.new.feeds ≡ fed.old.feeds }
 {
     match step {
         ScriptStep::Take { stream, step } => {
-            let answer = answer_to(alloc, board, feeds, stream, step);
+            let answer = answer_to(alloc, fed, stream, step);
             unless_memory(&answer)
         }
         ScriptStep::State { .. } => Ok(()),
-        ScriptStep::Dump => Ok(()),
+        ScriptStep::Dump => {
+            fed.shows();
+            Ok(())
+        }
     }
 }
 

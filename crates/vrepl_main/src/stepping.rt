@@ -2,21 +2,21 @@
 
 ghost use Rattle.std.specs.Prelude.{◌≡◌, ◌≤◌, Ok, Some, IfOk, length, map, slice_get};
 ghost use Rattle.std.specs.Arc.{arc_value};
+ghost use Rattle.apply_core.specs.Feeds.{AreFed};
 ghost use Rattle.apply_core.specs.Fresh.{fresh_board};
 ghost use Rattle.filter_rule.specs.WellFormed.{ArePlans};
 ghost use Rattle.vrepl_main.specs.OpenedFeeds.{scripted_value};
-ghost use Rattle.vrepl_main.specs.ScriptRun.{IsFed, script_asked};
+ghost use Rattle.vrepl_main.specs.ScriptRun.{script_asked};
 ghost use Rattle.vrepl_main.specs.ScriptPrinting.{PrintsRun};
 ghost use Rattle.vrepl_main.specs.Replied.{LeavesReplies, StepEnds};
 
 use crate::given::given_feeds;
-use crate::line::Basis;
 use crate::lines::take_lines;
 use crate::named_inputs::Inputs;
 use crate::opened::Opened;
 use crate::refusal::{CommandRefusal, refuse};
 use crate::scripted::{Scripted, open_scripted};
-use apply_core::{Board, fed_board};
+use apply_core::FedBoard;
 use filter_rule::Plan;
 use source_feed::Feed;
 use std::alloc::{AllocError, Global};
@@ -65,23 +65,20 @@ pub(crate) fn first_plan(plans: &[Arc<Plan>]) -> Result<Arc<Plan>, AllocError>
     Ok(plan)
 }
 
-/// A board of which nothing is read, whose streams read these feeds. The plans of a workflow have the same
-/// tables, and its feeds are opened under them, so that an error is want of memory.
+/// A board with these feeds, of which nothing is read. The plans of a workflow have the same tables, and its feeds are
+/// opened under them, so that an error is want of memory.
 pub(crate) fn fresh_board<'h>(
     alloc: Global,
     plans: Vec<Arc<Plan>>,
-    feeds: &[Feed<'h>],
-) -> Result<Board<'h>, AllocError>
+    feeds: Vec<Feed<'h>>,
+) -> Result<FedBoard<'h>, AllocError>
     requires some { 1 ≤ length plans.items }
     requires few { length plans.items ≤ 64 }
-    ensures fresh { IfOk result (λ board. board ≡ fresh_board (map arc_value plans.items)) }
-    ensures fed { IfOk result (IsFed feeds.now) }
+    ensures fresh { IfOk result (λ fed. fed ≡ record { board = fresh_board (map arc_value plans.items); feeds = feeds.entry.items }) }
+    ensures fed { IfOk result (λ _. AreFed (map arc_value plans.items) feeds.entry.items) }
 {
-    match fed_board(alloc, plans, feeds) {
-        Ok(board) => {
-            board.is_lawful();
-            Ok(board)
-        }
+    match FedBoard::new(alloc, plans, feeds) {
+        Ok(fed) => Ok(fed),
         Err(_) => Err(AllocError),
     }
 }
@@ -98,28 +95,23 @@ fn print_run<W: Out>(
     let Scripted { opened, steps } = scripted;
     let Opened { plans, feeds } = opened;
     let plan = first_plan(&plans)?;
-    let mut board = fresh_board(alloc, plans, &feeds)?;
-    let basis = Basis {
-        feeds: &feeds,
-        plan: &plan,
-    };
-    print_taken(alloc, &basis, &mut board, &steps, out)?;
-    forget(board);
-    forget(feeds);
+    let mut fed = fresh_board(alloc, plans, feeds)?;
+    print_taken(alloc, &plan, &mut fed, &steps, out)?;
+    forget(fed);
     Ok(())
 }
 
-/// Takes the steps on a board, and prints their replies.
-pub(crate) fn print_taken<'h, W: Out>(
+/// Takes the steps on a board with its feeds, and prints their replies.
+pub(crate) fn print_taken<W: Out>(
     alloc: Global,
-    basis: &Basis<'_, 'h>,
-    board: &mut Board<'h>,
+    plan: &Plan,
+    fed: &mut FedBoard<'_>,
     steps: &[ScriptStep],
     out: &mut W,
 ) -> Result<(), OutFailed>
-    ensures { PrintsRun result basis.now.feeds.now basis.now.plan.now board.old steps.now (W.written out.old) (W.written out.new) }
+    ensures { PrintsRun result fed.old.feeds plan.now fed.old.board steps.now (W.written out.old) (W.written out.new) }
 {
     let mut text = Gathered::new();
-    take_lines(alloc, basis, board, steps, out, &mut text)?;
+    take_lines(alloc, plan, fed, steps, out, &mut text)?;
     text.finish(out)
 }

@@ -7,6 +7,6 @@ use Rattle.vrepl_main.proofs.following.follow.Goals as goal
 pub returns-clause-followed : goal.returns-clause-followed
 returns-clause-followed g c =
     followed_by (follow_asked c.args.inputs.now) (opened_value c.in_ok-opened.opened) (saved_asked c.args.inputs.now)
-    (record { plan = arc_value c.in_ok-plan.plan; checkpoint = c.in_ok-checkpoint.checkpoint.items; board = c.in_ok-board.board })
-    c.in_ok-opened.ensures.opened (rw c.deref.ensures.value at c.in_ok-plan.ensures) (rw c.deref-2.ensures.value at c.in_ok-board.ensures.taken_up) (rw c.deref-2.ensures.value at c.in_ok-board.ensures.ends)
-    c.in_ok-checkpoint.ensures
+    (record { plan = arc_value c.in_ok-plan.plan; checkpoint = c.in_ok-checkpoint.checkpoint.items; board = c.in_ok-fed.fed.board })
+    c.in_ok-opened.ensures.opened (rw c.deref.ensures.value at c.in_ok-plan.ensures) c.in_ok-fed.ensures.taken_up c.in_ok-fed.ensures.ends
+    (rw c.board.ensures.board at c.in_ok-checkpoint.ensures)

@@ -6,7 +6,7 @@ use Rattle.std.proofs.lemmas.List.{length-map}
 use Rattle.std.proofs.lemmas.Option.{slice_get-map, slice_get_read}
 use Rattle.vrepl_main.specs.InputList.{bytes_of}
 use Rattle.vrepl_main.specs.OpenedFeeds.{opened_value}
-use Rattle.vrepl_main.proofs.JoinedLaws.{all_joined, joined-more, not_joined, other_refused, reads-more}
+use Rattle.vrepl_main.proofs.JoinedLaws.{all_joined, joined-more, not_joined, other_refused}
 use Rattle.vrepl_main.proofs.joining.join_over.Goals as goal
 
 -- the checkpoint at a place
@@ -14,7 +14,7 @@ at_place : (others : List (Vec ℕ)) (i : ℕ) (other : Vec ℕ) → slice_get o
 at_place others i other is = slice_get-map (λ other. other.items) others i ∙ ap (option_map (λ other. other.items)) is
 
 pub loop-i-init : goal.loop-i-init
-loop-i-init c = ((c.in-Ok.board, rw c.as_slice-feeds.ensures.value at c.in-Ok.ensures.resumed, refl), rw c.as_slice-feeds.ensures.value at c.in-Ok.ensures.reads)
+loop-i-init c = ((c.in-Ok.board, rw c.as_slice-feeds.ensures.value at c.in-Ok.ensures.resumed, refl), rw c.as_slice-feeds.ensures.value at c.in-Ok.ensures.board)
 
 pub loop-i-preserved : goal.loop-i-preserved
 loop-i-preserved c =
@@ -22,8 +22,7 @@ loop-i-preserved c =
     let here = rw (c.deref.ensures.value, c.as_slice-feeds.ensures.value) at c.in-Ok-resumed_board.ensures.resumed in (
       joined-more (opened_value c.args.opened.now) c.args.one.now (bytes_of c.args.others.now) c.loop-i.i c.index-others-i.result.items place c.loop-i.board c.loop-i.invariant.0
           c.in-Ok-resumed_board.next here c.in-Ok-joined_board.board c.in-Ok-joined_board.ensures.joined,
-      reads-more (opened_value c.args.opened.now) c.args.one.now (bytes_of c.args.others.now) c.loop-i.i c.index-others-i.result.items place c.loop-i.board c.loop-i.invariant.0
-          c.in-Ok-resumed_board.next here c.in-Ok-joined_board.board c.loop-i.invariant.1 (rw c.as_slice-feeds.ensures.value at c.in-Ok-resumed_board.ensures.reads) c.in-Ok-joined_board.ensures.joined,
+      c.in-Ok-joined_board.ensures.fed c.args.opened.now.feeds.items c.loop-i.invariant.1 (rw c.as_slice-feeds.ensures.value at c.in-Ok-resumed_board.ensures.board),
     )
 
 pub returns-in-Err-resumed_board-clause-refused : goal.returns-in-Err-resumed_board-clause-refused
@@ -42,7 +41,7 @@ pub returns-clause-joined : goal.returns-clause-joined
 returns-clause-joined c =
     let many : length (bytes_of c.args.others.now) ≡ length c.args.others.now = length-map c.args.others.now (λ other. other.items) in
     all_joined (opened_value c.args.opened.now) c.args.one.now (bytes_of c.args.others.now) c.loop-i.i c.loop-i.board (omega (arith, many, c.loop-i-test.false)) c.loop-i.invariant.0
-    c.loop-i.invariant.1 c.is_lawful.ensures
+    (c.fed_boards_show_all.ensures.show c.args.opened.now.feeds.items c.loop-i.board c.loop-i.invariant.1)
 
 pub returns-in-Err-clause-refused : goal.returns-in-Err-clause-refused
 returns-in-Err-clause-refused c = record { first = c.requires.first; refused = rw (c.as_slice-plans.ensures.value, c.as_slice-feeds.ensures.value) at c.in-Err.ensures.refused }

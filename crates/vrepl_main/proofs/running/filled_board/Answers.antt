@@ -1,6 +1,5 @@
 use Rattle.std.proofs.Common.{map}
 use Rattle.std.specs.Arc.{arc_value}
-use Rattle.apply_core.specs.Shown.{all_rows}
 use Rattle.vrepl_main.specs.Given.{given_value}
 use Rattle.vrepl_main.specs.Opening.{opened_bytes}
 use Rattle.vrepl_main.specs.OpenedFeeds.{opened_value}
@@ -11,11 +10,10 @@ pub returns-in-Err-run_streams-clause-refused : goal.returns-in-Err-run_streams-
 returns-in-Err-run_streams-clause-refused g c =
     refused_run (opened_bytes c.args.inputs.now.workflow.items (map given_value c.args.given.now)) (opened_value c.in-Ok.opened) (arc_value c.in-Ok-first_plan.plan)
     (rw c.deref.ensures.value at c.in-Ok.ensures.opened) (rw c.deref-2.ensures.value at c.in-Ok-first_plan.ensures)
-    c.in-Err-run_streams.refusal (rw c.deref-3.ensures.value at c.in-Err-run_streams.ensures.refused)
+    c.in-Err-run_streams.refusal c.in-Err-run_streams.ensures.refused
 
-pub returns-clause-filled : goal.returns-clause-filled
-returns-clause-filled g c =
-    let ends = rw c.deref-3.ensures.value at c.in-Ok-run_streams.ensures.ends in
+pub returns-in-Ok-run_streams-clause-filled : goal.returns-in-Ok-run_streams-clause-filled
+returns-in-Ok-run_streams-clause-filled g c =
     filled_run (opened_bytes c.args.inputs.now.workflow.items (map given_value c.args.given.now)) (opened_value c.in-Ok.opened) (arc_value c.in-Ok-first_plan.plan)
     (rw c.deref.ensures.value at c.in-Ok.ensures.opened) (rw c.deref-2.ensures.value at c.in-Ok-first_plan.ensures)
-    (all_rows c.in-Ok-run_streams.board.rows) ends.union
+    c.in-Ok-run_streams.fed.board c.in-Ok-run_streams.ensures.ends

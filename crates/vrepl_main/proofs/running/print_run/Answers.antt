@@ -19,12 +19,12 @@ pub returns-in-Ok-print_rows-clause-printed : goal.returns-in-Ok-print_rows-clau
 returns-in-Ok-print_rows-clause-printed g c =
     let inputs = c.args.inputs.now in
     let e = opened_as inputs.feeds.items (λ feed. feed.items) inputs.feed_form inputs.workflow.items _ (rw c.deref.ensures.value at c.in-Ok.ensures) in
-    let filled = subst (λ (r : Result OpenedValue Reason). IsFilled r (record { plan = arc_value c.in_ok-plan.plan; rows = all_rows c.in_ok-plan.board.rows })) e (rw c.deref-2.ensures.value at c.in_ok-plan.ensures.filled) in
-    (record { plan = arc_value c.in_ok-plan.plan; rows = all_rows c.in_ok-plan.board.rows }, filled, rw c.deref-3.ensures at c.in-Ok-print_rows.ensures.printed)
+    let filled = subst (λ (r : Result OpenedValue Reason). IsFilled r (record { plan = arc_value c.in_ok-plan.plan; rows = all_rows c.in_ok-plan.fed.board.rows })) e (rw c.deref-2.ensures.value at c.in_ok-plan.ensures.filled) in
+    (record { plan = arc_value c.in_ok-plan.plan; rows = all_rows c.in_ok-plan.fed.board.rows }, filled, rw (c.deref-3.ensures, c.board.ensures.board) at c.in-Ok-print_rows.ensures.printed)
 
 pub returns-clause-refused : goal.returns-clause-refused
 returns-clause-refused g c =
     let inputs = c.args.inputs.now in
     let e = opened_as inputs.feeds.items (λ feed. feed.items) inputs.feed_form inputs.workflow.items _ (rw c.deref.ensures.value at c.in-Ok.ensures) in
-    let filled = subst (λ (r : Result OpenedValue Reason). IsFilled r (record { plan = arc_value c.in_ok-plan.plan; rows = all_rows c.in_ok-plan.board.rows })) e (rw c.deref-2.ensures.value at c.in_ok-plan.ensures.filled) in
-    unwritten_run c.in-Err.refusal _ (record { plan = arc_value c.in_ok-plan.plan; rows = all_rows c.in_ok-plan.board.rows }) _ _ filled (rw c.deref-3.ensures at c.in-Err.ensures.printed) c.in-Err.ensures.refused
+    let filled = subst (λ (r : Result OpenedValue Reason). IsFilled r (record { plan = arc_value c.in_ok-plan.plan; rows = all_rows c.in_ok-plan.fed.board.rows })) e (rw c.deref-2.ensures.value at c.in_ok-plan.ensures.filled) in
+    unwritten_run c.in-Err.refusal _ (record { plan = arc_value c.in_ok-plan.plan; rows = all_rows c.in_ok-plan.fed.board.rows }) _ _ filled (rw (c.deref-3.ensures, c.board.ensures.board) at c.in-Err.ensures.printed) c.in-Err.ensures.refused

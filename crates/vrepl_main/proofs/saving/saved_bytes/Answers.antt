@@ -13,5 +13,5 @@ board_behind-requires-clause-few c = subst (λ (n : ℕ). n ≤ 64) (length-map 
 pub returns : goal.returns
 returns c =
     let given = c.args.scripted in
-    saved_behind (map arc_value given.opened.plans.items) given.opened.feeds.items given.steps.items c.in_ok-board.board c.in_ok-bytes.bytes.items
-    (rw (c.deref.ensures.value, c.deref-2.ensures.value) at c.in_ok-board.ensures.taken) (rw c.deref.ensures.value at c.in_ok-board.ensures.fed) c.in_ok-bytes.ensures
+    saved_behind (map arc_value given.opened.plans.items) given.opened.feeds.items given.steps.items c.in_ok-fed.fed.board c.in_ok-bytes.bytes.items
+    (rw c.deref.ensures.value at c.in_ok-fed.ensures.taken) c.in_ok-fed.ensures.sources (rw c.board.ensures.board at c.in_ok-bytes.ensures)

@@ -15,11 +15,11 @@ pub returns-in_err-print_taken : goal.returns-in_err-print_taken
 returns-in_err-print_taken g c =
     let given = c.args.scripted in
     let p = err_from_is_err_and c.from_residual-in_err-print_taken.result c.from_residual-in_err-print_taken.ensures.1 in
-    rw p.1 (prints_first (map arc_value given.opened.plans.items) given.opened.feeds.items given.steps.items (arc_value c.in_ok-plan.plan) _ _ _ (rw c.deref.ensures.value at c.in_ok-plan.ensures) c.in_ok-board.ensures.fresh (rw c.deref-2.ensures.value at c.in_ok-board.ensures.fed) p.0 p.2
-    (rw (c.deref-3.ensures.value, c.deref-4.ensures, c.deref-5.ensures.value) at c.in_err-print_taken.ensures))
+    rw p.1 (prints_first (map arc_value given.opened.plans.items) given.opened.feeds.items given.steps.items (arc_value c.in_ok-plan.plan) c.in_ok-fed.fed _ _ (rw c.deref.ensures.value at c.in_ok-plan.ensures) c.in_ok-fed.ensures.fresh p.0 p.2
+    (rw (c.deref-2.ensures, c.deref-3.ensures.value) at c.in_err-print_taken.ensures))
 
 pub returns : goal.returns
 returns g c =
     let given = c.args.scripted in
-    prints_all (map arc_value given.opened.plans.items) given.opened.feeds.items given.steps.items (arc_value c.in_ok-plan.plan) _ _ _ (rw c.deref.ensures.value at c.in_ok-plan.ensures) c.in_ok-board.ensures.fresh (rw c.deref-2.ensures.value at c.in_ok-board.ensures.fed)
-    (rw (c.deref-3.ensures.value, c.deref-4.ensures, c.deref-5.ensures.value) at c.in_ok-print_taken.ensures)
+    prints_all (map arc_value given.opened.plans.items) given.opened.feeds.items given.steps.items (arc_value c.in_ok-plan.plan) c.in_ok-fed.fed _ _ (rw c.deref.ensures.value at c.in_ok-plan.ensures) c.in_ok-fed.ensures.fresh
+    (rw (c.deref-2.ensures, c.deref-3.ensures.value) at c.in_ok-print_taken.ensures)
