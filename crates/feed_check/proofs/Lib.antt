@@ -5,3 +5,5 @@ pub mod ListLaws
 pub mod CheckLaws
 pub mod SharedLaws
 pub mod UnknownLaws
+pub mod CleanLaws
+pub mod CleanFeeds

@@ -6,4 +6,5 @@ pub mod Unknown
 pub mod Checked
 pub mod Shared
 pub mod Report
+pub mod Clean
 pub mod Private

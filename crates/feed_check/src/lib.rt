@@ -27,7 +27,10 @@ pub use feed_warnings::{behind_dot, kind_text};
 pub use finding::{Doubt, Finding};
 pub use key_text::part_text;
 pub use last_rows::rows_of_table;
-pub use laws::{nothing_is_found_where_all_are_true, the_least_key_of_two_feeds_is_told};
+pub use laws::{
+    checks_warn_unless_feeds_are_clean, clean_feeds_never_clash,
+    nothing_is_found_where_all_are_true, the_least_key_of_two_feeds_is_told,
+};
 pub use moves::moves_of;
 pub use report::{CheckReport, file_name, tables_of};
 pub use shared::{SharedKey, shared_of};

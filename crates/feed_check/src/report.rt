@@ -2,10 +2,12 @@
 
 ghost use Rattle.std.specs.Prelude.{◌≡◌, ◌++◌, OnOk, IfOk, map};
 ghost use Rattle.std.specs.String.{string_bytes};
+ghost use Rattle.feed_check.specs.Clean.{WarnsUnlessClean};
 ghost use Rattle.feed_check.specs.Report.{file_name, stream_head, stream_line, counts_line, checked_table_lines, lines_from, warnings_from, tables_of, all_warnings, has_some, check_report_of};
 
 use crate::checked::Checked;
 use crate::last_rows::rows_of_table;
+use crate::laws::checks_warn_unless_feeds_are_clean;
 use crate::places::places_text;
 use crate::shared::shared_of;
 use crate::shared_warning::push_shared_warning;
@@ -39,8 +41,11 @@ impl CheckReport {
         files: &[&str],
         checks: &[Checked<'_>],
     ) -> Result<CheckReport, AllocError>
-        ensures { IfOk result (λ report. report ≡ check_report_of (map (λ file. file.now) files.now) checks.now) }
+        ensures report { IfOk result (λ report. report ≡ check_report_of (map (λ file. file.now) files.now) checks.now) }
+        // It warns of nothing exactly where the feeds are clean.
+        ensures clean { IfOk result (λ report. WarnsUnlessClean checks.now report.warned) }
     {
+        checks_warn_unless_feeds_are_clean();
         let mut text = all_lines(alloc, files, checks)?;
         let warnings = all_warnings(alloc, checks)?;
         text.push_str(&warnings)?;

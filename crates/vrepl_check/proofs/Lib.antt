@@ -1,1 +1,3 @@
-mod CheckingLaws
+pub mod CheckingLaws
+pub mod FileLaws
+pub mod CleanLaws

@@ -1,14 +1,15 @@
 //! The subcommand `check`: what stands in feeds, and warnings of what can't be so.
 
-ghost use Rattle.std.specs.Prelude.{◌≡◌, ◌≢◌, IfOk, map};
+ghost use Rattle.std.specs.Prelude.{◌≡◌, ◌≢◌, ◌↔◌, IfOk, map};
 ghost use Rattle.vrepl_main.specs.Command.{PrintsText};
 ghost use Rattle.vrepl_main.specs.Given.{given_value};
 ghost use Rattle.vrepl_main.specs.Reasons.{GivesOfInputs};
 ghost use Rattle.vrepl_check.specs.Checking.{bytes_or_none, report_of_feeds, report_asked, text_of_report, CheckEnds, IsWarned};
+ghost use Rattle.vrepl_check.specs.Clean.{IsClean};
 
 use crate::inputs::CheckInputs;
 use check_said::Said;
-use feed_check::check_feeds;
+use feed_check::{check_feeds, checks_warn_unless_feeds_are_clean};
 use std::alloc::{AllocError, Global};
 use vdiff_core::{Out, put_all};
 use vrepl_main::{CommandRefusal, GivenFeed, given_feeds, open_workflow, refuse};
@@ -21,7 +22,8 @@ use vrepl_main::{CommandRefusal, GivenFeed, given_feeds, open_workflow, refuse};
 /// refusal on `err` and then nothing on `out`, unless it is `out` that can't be written. The faults are found
 /// in this order: those of opening the workflow with its feeds, as `run` finds them; then of each feed the
 /// first group that isn't sound. As JSON all is one line, which has every thing that is told and not the first ten of
-/// a kind. Answers the status: 0 where nothing is warned of, 3 where something is, 1 after a refusal, also of memory.
+/// a kind. Answers the status: 0 where nothing is warned of, and so the workflow and its feeds are clean, 3 where something
+/// is, 1 after a refusal, also of memory.
 pub fn check<W: Out, E: Out>(
     alloc: Global,
     inputs: &CheckInputs<'_, '_>,
@@ -30,7 +32,10 @@ pub fn check<W: Out, E: Out>(
 ) -> u8
     ensures ends { CheckEnds inputs.now result (W.written out.old) (W.written out.new) (E.written err.old) (E.written err.new) }
     ensures quiet { result ≢ 1 → err.new ≡ err.old }
+    // Status 0 exactly where the workflow and its feeds are clean.
+    ensures clean { result ≢ 1 → (result ≡ 0) ↔ IsClean inputs.now }
 {
+    checks_warn_unless_feeds_are_clean();
     match print_check(alloc, inputs, out) {
         Ok(false) => 0,
         Ok(true) => 3,
