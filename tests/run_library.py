@@ -1,21 +1,25 @@
 #!/usr/bin/env python3
 """Holds the library for other languages to what it says.
 
-usage: tests/run_library.py PROGRAM
+usage: tests/run_library.py PROGRAM [COUNT]
 
 The library is built first where it isn't there of these sources (scripts/library), which proves it. Each check runs by
 itself: every call of include/vrepl.h from C, plainly, with AddressSanitizer and under valgrind, with no error and no
 leak; from Python, from Rust, and as the programs of docs/LIBRARY.md; `pip install .` into a folder of its own; the
 pytest plugin; and random and damaged inputs through the library and through the program, which have to give the
-same answers. Where the toolchain isn't installed the script says so and counts nothing, and where valgrind,
+same answers, ten thousand of them: each call of the library that they took is made again by a program in C, with AddressSanitizer and
+under valgrind, where it has to answer as it did, with memory that ends where its inputs do. With COUNT nothing else is tried,
+but of so many inputs at least, by as many processes as there are processors. Where the toolchain isn't installed the script says so and counts nothing, and where valgrind,
 cargo, pip or pytest isn't, that check alone. The last line is 'N passed, M failed': one a check.
 """
 import os
+import random
 import re
 import shutil
 import subprocess
 import sys
 import tempfile
+from concurrent.futures import ThreadPoolExecutor
 
 ROOT = os.path.dirname(os.path.dirname(os.path.abspath(__file__)))
 LIBRARY = os.path.join(ROOT, "out", "library")
@@ -74,20 +78,26 @@ def calls_with_sanitizers(room, program):
     ran(compiled(room, "calls.c", "-fsanitize=address,undefined", "-fno-sanitize-recover=all"))
 
 
+VALGRIND = ("valgrind", "-q", "--error-exitcode=9", "--leak-check=full", "--show-leak-kinds=all", "--errors-for-leak-kinds=all")
+
+
 def calls_under_valgrind(room, program):
     needed("valgrind")
-    made = compiled(room, "calls.c")
-    ran("valgrind", "-q", "--error-exitcode=9", "--leak-check=full", "--show-leak-kinds=all", "--errors-for-leak-kinds=all", made)
+    ran(*VALGRIND, compiled(room, "calls.c"))
 
 
 def exports_are_the_header(room, program):
-    """The shared library has the calls of the header, and no other name."""
+    """The shared library has the calls of the header, and no other name; and the page says of each whose memory it reads and writes."""
     needed("nm")
     exported = {line.split()[-1] for line in ran("nm", "-D", "--defined-only", os.path.join(LIBRARY, "libvrepl.so")).splitlines()}
     with open(os.path.join(ROOT, "include", "vrepl.h"), encoding="utf-8") as file:
         named = set(re.findall(r"^(?:size_t|uint32_t) (vrepl_\w+)\(", file.read(), re.M))
     if exported != named:
         raise Failed(f"only exported: {sorted(exported - named)}; only in the header: {sorted(named - exported)}")
+    with open(os.path.join(ROOT, "docs", "LIBRARY.md"), encoding="utf-8") as file:
+        rows = [it for row in re.findall(r"^\| (`vrepl_.*?) \|", file.read(), re.M) for it in re.findall(r"`(\w+)`", row)]
+    if sorted(rows) != sorted(named):
+        raise Failed(f"the table of docs/LIBRARY.md has {sorted(rows)}")
 
 
 def python_of(program):
@@ -100,8 +110,30 @@ def calls_from_python(room, program):
     ran(sys.executable, "-B", os.path.join(HERE, "calls.py"), env=python_of(program), cwd=room)
 
 
-def same_answers(room, program):
-    ran(sys.executable, "-B", os.path.join(HERE, "same.py"), "10", env=python_of(program), cwd=room)
+def same_answers(room, program, until="10000i"):
+    """Inputs through library and program; and each call of the library once more, with AddressSanitizer and under valgrind."""
+    file, seed = os.path.join(room, "calls"), str(random.randrange(2**32))
+    said = ran(sys.executable, "-B", os.path.join(HERE, "same.py"), until, seed, file, env=python_of(program), cwd=room)
+    walks = [[compiled(room, "walk.c", "-O1", "-fsanitize=address,undefined", "-fno-sanitize-recover=all")]]
+    if shutil.which("valgrind"):
+        walks.append([*VALGRIND, compiled(room, "walk.c", "-O1")])
+    else:
+        print("same_answers: not under valgrind, since that isn't installed")
+    counts = {ran(*walk, file) for walk in walks}
+    if len(counts) != 1 or not re.fullmatch("[1-9][0-9]{3,} calls\n", [*counts][0]):
+        raise Failed(f"of {said!r} there are {counts}")
+    return f"{said.strip()}, {[*counts][0].strip()}"
+
+
+def same_answers_of_many(room, program, count):
+    """So many inputs, by processes side by side."""
+    many = len(os.sched_getaffinity(0))
+    rooms = [os.path.join(room, str(at)) for at in range(many)]
+    for it in rooms:
+        os.mkdir(it)
+    with ThreadPoolExecutor(many) as pool:
+        for said in pool.map(lambda it: same_answers(it, program, f"{-(-count // many)}i"), rooms):
+            print(said, flush=True)
 
 
 def installed_by_pip(room, program):
@@ -111,9 +143,9 @@ def installed_by_pip(room, program):
     copy, target = os.path.join(room, "copy"), os.path.join(room, "installed")
     taken = [*ran("git", "-C", ROOT, "ls-files", "--cached", "--others", "--exclude-standard", "-z").split("\0")[:-1]]
     for it in [*taken, "out/library/libvrepl.so"]:
-        if os.path.isfile(os.path.join(ROOT, it)) and it.split("/")[0] in ("pyproject.toml", "bindings", "dist", "out", "LICENSE", "README.md"):
+        if os.path.isfile(os.path.join(ROOT, it)) and it.split("/")[0] in ("pyproject.toml", "bindings", "record", "dist", "out", "LICENSE", "README.md"):
             os.makedirs(os.path.dirname(os.path.join(copy, it)) or copy, exist_ok=True)
-            shutil.copy(os.path.join(ROOT, it), os.path.join(copy, it))
+            shutil.copy(os.path.join(ROOT, it), os.path.join(copy, it), follow_symlinks=False)
     ran(sys.executable, "-m", "pip", "install", "--no-index", "--no-deps", "--quiet", "--disable-pip-version-check", "--root-user-action=ignore",
         "--target", target, copy)  # fmt: skip
     env = {it: value for it, value in os.environ.items() if not it.startswith("VREPL_")}
@@ -178,8 +210,13 @@ CHECKS = [
 
 
 def main(*given):
-    if len(given) != 1:
+    if len(given) not in (1, 2):
         sys.exit(__doc__)
+
+    def many(room, program):
+        same_answers_of_many(room, program, int(given[1]))
+
+    checks = CHECKS if len(given) == 1 else [many]
     program = os.path.abspath(given[0])
     if not shutil.which("rt"):
         print("the library for other languages: not tried, since the toolchain isn't installed")
@@ -191,7 +228,7 @@ def main(*given):
         print("0 passed, 1 failed")
         return 1
     passed = failed = 0
-    for check in CHECKS:
+    for check in checks:
         with tempfile.TemporaryDirectory() as room:
             try:
                 check(room, program)

@@ -82,6 +82,17 @@ static void ranges(void) {
     CHECK(vrepl_key_range_holds(TEXT("40-80"), id, 0, &holds) == 0 && !holds);
     CHECK(vrepl_key_range_holds(TEXT("40"), id, 1, &holds) == 41);
     free(id);
+    bool tile = false;
+    uint8_t *three = exact("-40,40-8000,80-", 15);
+    CHECK(vrepl_key_ranges_tile(three, 15, &tile) == 0 && tile);
+    CHECK(vrepl_key_ranges_tile(three, 11, &tile) == 0 && !tile);
+    CHECK(vrepl_key_ranges_tile(three + 4, 11, &tile) == 0 && !tile);
+    CHECK(vrepl_key_ranges_tile(TEXT("0"), &tile) == 0 && tile);
+    CHECK(vrepl_key_ranges_tile(TEXT("80-,-80"), &tile) == 0 && !tile);
+    CHECK(vrepl_key_ranges_tile(TEXT("-80,40-"), &tile) == 0 && !tile);
+    CHECK(vrepl_key_ranges_tile(three, 12, &tile) == 41 && vrepl_key_ranges_tile(three, 0, &tile) == 41);
+    CHECK(vrepl_key_ranges_tile(TEXT("-80, 80-"), &tile) == 41 && vrepl_key_ranges_tile((const uint8_t *)"-,\xff", 3, &tile) == 41);
+    free(three);
 }
 
 static void ids(void) {
@@ -134,6 +145,119 @@ static void workflows(void) {
     CHECK(vrepl_row_passes(file, length, 0, TEXT("t"), two, 0, &is) == 87);
     CHECK(vrepl_row_passes(file, length - 1, 1, TEXT("u"), two, 1, &is) == 51);
     free(file);
+}
+
+// Whether a text stands in a room.
+static bool says(const uint8_t *room, size_t length, const char *text) {
+    return length == strlen(text) && memcmp(room, text, length) == 0;
+}
+
+static void told(void) {
+    uint8_t *file = exact(WORKFLOW, strlen(WORKFLOW)), room[128];
+    size_t length, whole = strlen(WORKFLOW);
+    uint32_t refused = 9;
+    CHECK(vrepl_workflow_check(file, whole, &refused, room, sizeof room, &length) == 0 && refused == 0);
+    CHECK(length == 0);
+    CHECK(vrepl_workflow_check(file, whole - 1, &refused, room, sizeof room, &length) == 0 && refused == 51 && length == 0);
+    CHECK(vrepl_workflow_check(TEXT("{}"), &refused, room, sizeof room, &length) == 0 && refused == 52 && says(room, length, "keyspace: missing"));
+    memset(room, '.', sizeof room);
+    CHECK(vrepl_workflow_check(TEXT("{}"), &refused, room, 16, &length) == 0 && refused == 52 && length == 17 && room[0] == '.');
+    const char *no_tables = "{\"keyspace\":\"ks\",\"tables\":[],\"streams\":[{\"shard\":\"-\",\"filter\":{\"rules\":[]}}]}";
+    CHECK(vrepl_workflow_check(TEXT(no_tables), &refused, room, sizeof room, &length) == 0 && refused == 56);
+    CHECK(says(room, length, "tables: 0 tables, at least 1"));
+    // the key's column, the types of both columns, the range, each made another one, and a member more
+    const struct { const char *old, *new; uint32_t number; const char *place; } faults[] = {
+        {"\"key\":[\"id\"]", "\"key\":[\"x\"]", 53, "table t column x"},
+        {"VARCHAR", "DECIMAL", 52, "tables[0].columns[1][1]: no type \"DECIMAL\""},
+        {"INT64", "TEXT", 54, "table t column id"},
+        {"\"32-\"", "\"32\"", 55, "stream 0 rule 0"},
+        {"\"shard\"", "\"x\":1,\"shard\"", 0, "warning workflow streams[0].x isn't read\n"},
+    };
+    for (size_t i = 0; i < sizeof faults / sizeof *faults; i++) {
+        char changed[512];
+        const char *at = strstr(WORKFLOW, faults[i].old);
+        CHECK(at);
+        int made = snprintf(changed, sizeof changed, "%.*s%s%s", (int)(at - WORKFLOW), WORKFLOW, faults[i].new, at + strlen(faults[i].old));
+        CHECK(vrepl_workflow_check((const uint8_t *)changed, (size_t)made, &refused, room, sizeof room, &length) == 0);
+        CHECK(refused == faults[i].number && says(room, length, faults[i].place));
+    }
+    CHECK(vrepl_workflow_rules(file, whole, room, sizeof room, &length) == 0);
+    CHECK(says(room, length, "rule stream 0 table t range 32- of id by binary\n"));
+    CHECK(vrepl_workflow_rules(file, whole - 1, room, sizeof room, &length) == 51);
+    free(file);
+}
+
+static void plans(void) {
+    uint8_t *room = malloc(512);
+    size_t length, size;
+    CHECK(vrepl_plan(TEXT(WORKFLOW), 0, room, 512, &length) == 0 && length < 512);
+    vrepl_cursor cursor = {room, room + length};
+    const uint8_t *name = vrepl_bytes(&cursor, &size);
+    CHECK(says(name, size, "ks"));
+    name = vrepl_bytes(&cursor, &size);
+    CHECK(says(name, size, "-") && vrepl_number(&cursor) == 1);
+    name = vrepl_bytes(&cursor, &size);
+    CHECK(says(name, size, "t") && vrepl_number(&cursor) == 2);
+    name = vrepl_bytes(&cursor, &size);
+    CHECK(says(name, size, "id") && vrepl_number(&cursor) == 265);
+    name = vrepl_bytes(&cursor, &size);
+    CHECK(says(name, size, "v") && vrepl_number(&cursor) == 6165);
+    CHECK(vrepl_number(&cursor) == 1 && vrepl_number(&cursor) == 0);
+    CHECK(vrepl_number(&cursor) == 2 && vrepl_number(&cursor) == 0 && vrepl_number(&cursor) == 1 && cursor.at == cursor.end);
+    CHECK(vrepl_plan(TEXT(WORKFLOW), 1, room, 512, &length) == 115 && vrepl_plan(TEXT("{}"), 0, room, 512, &length) == 52);
+    free(room);
+}
+
+// What stands next is a row of t, its key, and its two columns, the second NULL where it has no text.
+static bool is_row(vrepl_cursor *cursor, const char *id, const char *v) {
+    size_t size;
+    const uint8_t *bytes;
+    if (vrepl_number(cursor) != 2) return false;
+    bytes = vrepl_bytes(cursor, &size);
+    if (!says(bytes, size, id)) return false;
+    bytes = vrepl_bytes(cursor, &size);
+    return v ? bytes && says(bytes, size, v) : !bytes;
+}
+
+static bool is_key(vrepl_cursor *cursor, const char *id) {
+    size_t size;
+    const uint8_t *bytes = vrepl_bytes(cursor, &size);
+    if (!says(bytes, size, "t") || vrepl_number(cursor) != 1) return false;
+    bytes = vrepl_bytes(cursor, &size);
+    return says(bytes, size, id);
+}
+
+static void dumps(void) {
+    const char *one = "table t\nx31\tN\nx32\tx\n", *other = "table t\nx31\tN\nx32\tx61\nx33\tx\n";
+    uint8_t *source = exact(one, strlen(one)), *target = exact(other, strlen(other)), room[512];
+    size_t rows = 9, line = 9, length;
+    CHECK(vrepl_dump(TEXT(WORKFLOW), source, strlen(one), &rows, &line, room, sizeof room, &length) == 0 && rows == 2 && line == 9);
+    vrepl_cursor cursor = {room, room + length};
+    CHECK(is_key(&cursor, "1") && is_row(&cursor, "1", NULL) && is_key(&cursor, "2") && is_row(&cursor, "2", "") && cursor.at == cursor.end);
+    CHECK(vrepl_dump(TEXT(WORKFLOW), source, strlen(one) - 1, &rows, &line, room, sizeof room, &length) == 121 && line == 3);
+    CHECK(vrepl_dump(TEXT(WORKFLOW), source, 0, &rows, &line, room, sizeof room, &length) == 121 && line == 1);
+    CHECK(vrepl_dump(TEXT(WORKFLOW), source, 8, &rows, &line, room, 0, &length) == 0 && rows == 0 && length == 0);
+    CHECK(vrepl_dump(TEXT("{}"), source, 0, &rows, &line, room, sizeof room, &length) == 52);
+
+    vrepl_counts counts;
+    bool in_target = true;
+    CHECK(vrepl_compare(TEXT(WORKFLOW), source, strlen(one), target, strlen(other), SIZE_MAX, &counts, &line, &in_target, room, sizeof room, &length) == 0);
+    CHECK(counts.processed == 3 && counts.matching == 1 && counts.mismatched == 1 && counts.extra_source == 0 && counts.extra_target == 1);
+    cursor = (vrepl_cursor){room, room + length};
+    CHECK(is_key(&cursor, "2") && is_row(&cursor, "2", "") && is_row(&cursor, "2", "a"));
+    CHECK(is_key(&cursor, "3") && vrepl_number(&cursor) == UINT64_MAX && is_row(&cursor, "3", "") && cursor.at == cursor.end);
+    size_t all = length;
+    CHECK(vrepl_compare(TEXT(WORKFLOW), target, strlen(other), source, strlen(one), 1, &counts, &line, &in_target, room, sizeof room, &length) == 0);
+    CHECK(counts.extra_source == 1 && counts.extra_target == 0 && length < all);
+    cursor = (vrepl_cursor){room, room + length};
+    CHECK(is_key(&cursor, "2") && is_row(&cursor, "2", "a") && is_row(&cursor, "2", "") && cursor.at == cursor.end);
+    CHECK(vrepl_compare(TEXT(WORKFLOW), target, strlen(other), source, strlen(one), 0, &counts, &line, &in_target, room, 0, &length) == 0 && length == 0);
+    CHECK(vrepl_compare(TEXT(WORKFLOW), source, strlen(one), source, strlen(one), 9, &counts, &line, &in_target, room, 0, &length) == 0 && length == 0);
+    CHECK(counts.processed == 2 && counts.matching == 2);
+    CHECK(vrepl_compare(TEXT(WORKFLOW), source, strlen(one), target, 3, 9, &counts, &line, &in_target, room, 0, &length) == 121 && line == 1 && in_target);
+    CHECK(vrepl_compare(TEXT(WORKFLOW), source, 9, target, 3, 9, &counts, &line, &in_target, room, 0, &length) == 121 && line == 2 && !in_target);
+    CHECK(vrepl_compare(TEXT("{"), source, 9, target, 3, 9, &counts, &line, &in_target, room, 0, &length) == 51);
+    free(source), free(target);
 }
 
 static void keys(void) {
@@ -197,6 +321,9 @@ int main(void) {
     ids();
     messages();
     workflows();
+    told();
+    plans();
+    dumps();
     keys();
     groups();
     return 0;

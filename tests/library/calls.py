@@ -33,6 +33,8 @@ def readers():
     assert b"\x7f\xff" in lower and b"\x80" not in lower and b"\x80" in upper and lower == vrepl.KeyRange("00-80")
     assert vrepl.tiles([lower, upper]) and not vrepl.tiles([upper, lower]) and not vrepl.tiles([]) and not vrepl.tiles([lower, lower, upper])
     assert number_of(vrepl.KeyRange, "80-40") == 41
+    assert vrepl.KeyRange.tiles(["-40", vrepl.KeyRange("40-80"), upper]) and vrepl.KeyRange.tiles(["0"]) and not vrepl.KeyRange.tiles(["-40", "80-"])
+    assert number_of(vrepl.KeyRange.tiles, ["-80", "x"]) == 41 and number_of(vrepl.KeyRange.tiles, ["80-40"]) == 41
 
     assert vrepl.vindex_id("numeric", b"258") == bytes([0, 0, 0, 0, 0, 0, 1, 2]) and vrepl.vindex_id("binary", b"a" * 1000) == b"a" * 1000
     assert vrepl.vindex_id("binary_md5", b"").hex() == "d41d8cd98f00b204e9800998ecf8427e"
@@ -45,6 +47,7 @@ def readers():
     asked = ((2, "t", (1, None)), (-1, "t", (1, None)), (0, "u", (1, None)), (0, "t", (1,)), (0, "t", (None, 1)), (0, "t", ("x", 1)))
     assert [number_of(workflow.passes, *it) for it in asked] == [115, 115, 85, 87, 43, 44]
     assert number_of(vrepl.Workflow, b"{") == 51 and number_of(vrepl.Workflow, {}) == 52
+    workflows(tables, rules, workflow)
 
     feed = b"\x02ab\x00\x01c"
     assert list(vrepl.messages(feed)) == [b"ab", b"", b"c"] and vrepl.whole(feed + b"\x05d") == 6 and vrepl.whole(b"") == 0
@@ -56,6 +59,42 @@ def readers():
     assert list(vrepl.groups(b"")) == [] and number_of(vrepl.groups, bytes(made)[1:]) is not None and number_of(vrepl.groups, bytes(made)[:-1]) == 81
     assert vrepl.explain(41).startswith("41   a key range doesn't start below its end\n")
     assert str(vrepl.Refused(72)) == "refused 72: memory was refused"
+
+
+def workflows(tables, rules, workflow):
+    good = vrepl.Workflow.check({"keyspace": "ks", "tables": tables, "streams": rules})
+    assert good and (good.refused, good.place, good.warnings) == (0, "", [])
+    lower = {"shard": "lower", "filter": {"rules": [{"match": "t", "filter": "-40"}]}}
+    gap = vrepl.Workflow.check({"keyspace": "ks", "tables": tables, "streams": [lower, rules[1]], "x": 1})
+    assert not gap and gap.warnings == ["warning workflow x isn't read", "warning workflow tables[0] has ranges that don't tile"]
+    bad = {"keyspace": "ks", "tables": [{**tables[0], "columns": [["id", "INT64"], ["v", "DECIMAL"]]}], "streams": rules}
+    told = vrepl.Workflow.check(bad)
+    assert not told and (told.refused, told.place) == (52, 'tables[0].columns[1][1]: no type "DECIMAL"')
+    try:
+        vrepl.Workflow({"keyspace": "ks", "tables": [{**tables[0], "key": ["x"]}], "streams": rules})
+    except vrepl.Refused as refused:
+        assert (refused.number, refused.place) == (53, "table t column x") and str(refused).startswith("refused 53: table t column x: ")
+    else:
+        raise AssertionError("no key column of another name")
+    assert vrepl.Workflow.check(b"{") == vrepl.Checked(51, "", [])
+    assert workflow.rules() == ["rule stream 0 table t range -80 of id by numeric", "rule stream 1 table t range 80- of id by numeric"]
+    table = vrepl.Table("t", {"id": 265, "v": 6165}, ("id",), ("id", "v"))
+    assert workflow.plan(1) == vrepl.Plan("ks", "80-", [table]) and [number_of(workflow.plan, it) for it in (2, -1)] == [115, 115]
+
+    source, target = b"table t\nx31\tN\nx32\tx\n", b"table t\nx31\tN\nx32\tx61\nx33\tx\n"
+    assert vrepl.entries(workflow, source) == [vrepl.Entry("t", (b"1",), (b"1", None)), vrepl.Entry("t", (b"2",), (b"2", b""))]
+    found = vrepl.compare(workflow, source, vrepl.Dump(target), first=None)
+    assert not found and (found.processed, found.matching, found.mismatched, found.extra_source, found.extra_target) == (3, 1, 1, 0, 1)
+    assert found.differences == [vrepl.Difference("t", (b"2",), (b"2", b""), (b"2", b"a")), vrepl.Difference("t", (b"3",), None, (b"3", b""))]
+    assert vrepl.compare(workflow, source, target, first=1).differences == found.differences[:1] and vrepl.compare(workflow, source, source)
+    for given, place in (((source, target[:-1]), "line 4 of the target"), ((source[:-1], target[:-1]), "line 3 of the source")):
+        try:
+            vrepl.compare(workflow, *given)
+        except vrepl.Refused as refused:
+            assert (refused.number, refused.place) == (121, place)
+        else:
+            raise AssertionError("a dump without its end")
+    assert number_of(vrepl.entries, workflow, source[:-1]) == 121 and number_of(vrepl.entries, b"{", source) == 51
 
 
 def program():
@@ -75,8 +114,9 @@ def program():
 
     moved = vrepl.follow(workflow, feed, dump=True)
     assert moved.dump == dump and vrepl.follow(workflow, feed, checkpoint=moved, only=[0]).content == moved.content
-    same = vrepl.compare(workflow, dump, bytes(dump))
-    assert same and (same.processed, same.matching, same.differences) == (1, 1, [])
+    for compare in vrepl.vdiff, vrepl.compare:
+        same = compare(workflow, dump, bytes(dump))
+        assert same and (same.processed, same.matching, same.differences) == (1, 1, [])
     other = vrepl.vdiff(workflow, dump, b"table t\nx33\tN\nx35\tx61\n", first=1)
     assert not other and (other.mismatched, other.extra_target) == (1, 1)
     assert other.differences == [vrepl.Difference("t", (b"3",), (b"3", b"b"), (b"3", None))] and other.tables["t"]["processed"] == 2

@@ -1,20 +1,31 @@
 """Random and damaged inputs through the library and through the program: both have to give the same answers.
 
-usage: same.py SECONDS [SEED]
+usage: same.py SECONDS|COUNTi [SEED [FILE]]
+
+With FILE each call of the library is noted there, to be made again by tests/library/walk.c.
 
 A position, good or damaged, is the library's by `vrepl_gtid_set`, and the program's by `show` of a feed of one group that
 has it: the printed form, or 94 and the same cause as `tests/model` says. Ranges and ids are held to a row that `run`
-passes or not under a workflow that has them; the messages of a damaged feed to what `show` reads of it. Many
-inputs go through one process of the program: as groups of one feed, or as rows of one table.
+passes or not under a workflow that has them; the messages of a damaged feed to what `show` reads of it; a workflow
+file, good or damaged, to what `run` refuses of it and to where `check` tells the fault, or what it warns of; and of a good
+one which rows pass, as which keys, to the rows that `run` prints; lists of ranges to whether `check` warns of them; two
+dumps, good or damaged, to what `vdiff` says of them. Many inputs go through one process of the program: as groups of one feed, or as rows of one table.
 """
+import copy
+import json
 import os
 import random
+import re
+import subprocess
 import sys
 import time
 
+from noted import note_calls
+
 import vrepl
 from vrepl.feed import Feed
-from vrepl.program import _asked, _file_of
+from vrepl.program import _asked, _file_of, program
+from vrepl.wire import EventType, field_bytes, number_bytes
 
 ROOT = os.path.dirname(os.path.dirname(os.path.dirname(os.path.abspath(__file__))))
 UUIDS = ["3e11fa47-71ca-11e1-9e33-c80aa9429562", "3E11FA47-71CA-11E1-9E33-C80AA9429563", "00000000-0000-0000-0000-000000000001"]
@@ -102,9 +113,7 @@ def positions(chance):
 def shown_alone(name):
     """What `show` says of a feed of one group at a position; a position of the empty set is no group."""
     body = name.encode()
-    from vrepl.feed import _bytes, _event
-
-    found = shown(Feed(TABLES).message(_event(1, _bytes(3, body))))
+    found = shown(Feed(TABLES).message(number_bytes(1, EventType.GTID) + field_bytes(3, body)))
     return found if isinstance(found, int) else (found or [""])[0]
 
 
@@ -187,15 +196,259 @@ def all_groups(chance):
     return 1
 
 
-def main(seconds, seed=None):
-    seed = int(seed if seed is not None else random.randrange(2**32))
-    chance, until, tried = random.Random(seed), time.monotonic() + float(seconds), 0
+WHOLE = ["INT8", "INT16", "INT24", "INT32", "INT64", "UINT8", "UINT16", "UINT24", "UINT32", "UINT64"]
+KEYS = [*WHOLE, "VARCHAR", "CHAR", "VARBINARY", "BINARY"]
+NUMERIC, BINARY = ["numeric", "reverse_bits", "hash"], ["binary", "binary_md5"]
+JUNK = [None, True, 0, -1, 7, 2**32, 1.5, "", "x", "-40", "select * from t", "/.*", "/x", "a`b", [], ["x"], {}, {"x": 1}]
+
+
+def a_table(chance, name):
+    """A table with its columns, key and vindex, and of which columns rules keep a list, if they do."""
+    kinds = [chance.choice(KEYS), *(chance.choice([*KEYS, "TEXT", "BLOB", 18]) for _ in range(chance.randrange(4)))]
+    names = chance.sample(["id", "v", "a b", "from", "\xe9", "Id"], len(kinds))
+    fit = [at for at, kind in enumerate(kinds) if kind in KEYS]
+    key = [names[at] for at in chance.sample(fit, chance.randrange(1, min(3, len(fit) + 1)))]
+    table = {"name": name, "columns": [list(it) for it in zip(names, kinds)], "key": key}
+    by = [(names[at], chance.choice(NUMERIC if kinds[at] in WHOLE else BINARY)) for at in fit]
+    if chance.random() < 0.8:
+        table["vindex"] = list(chance.choice(by))
+    more = [it for it in names if it not in key and chance.random() < 0.5]
+    return table, by, chance.sample([*key, *more], len(key) + len(more)) if chance.random() < 0.4 else None
+
+
+def a_rule(chance, table, by, kept):
+    """A rule of a table, in one of the forms of docs/FORMATS.md."""
+    bounds = sorted([a_bound(chance).lower(), a_bound(chance).lower()])
+    place = chance.choice(["-", "0", "-".join(bounds), f"-{bounds[1]}", f"{bounds[0]}-"])
     try:
-        while time.monotonic() < until:
-            tried += positions(chance) + ranges(chance) + sum(feeds(chance) + all_groups(chance) for _ in range(5))
+        vrepl.KeyRange(place)
+    except vrepl.Refused:
+        place = "-80"
+    quoted = lambda it: f"`{it}`" if it in ("a b", "from", "\xe9", "t 2") or chance.random() < 0.3 else it  # noqa: E731
+    column, vindex = chance.choice(by)
+    where = chance.choice(["", f" where in_keyrange('{place}')" if "vindex" in table else "", f"  WHERE in_keyrange({quoted(column)} , '{vindex}','{place}')"])
+    if not kept and not where and chance.random() < 0.5:
+        return {"match": table["name"], "filter": place if "vindex" in table and chance.random() < 0.5 else ""}
+    columns = ", ".join(map(quoted, kept)) if kept else "*"
+    return {"match": table["name"], "filter": f"{chance.choice(['select', 'Select'])} {columns} from {quoted(table['name'])}{where}"}
+
+
+def a_workflow(chance):
+    """A workflow that is read, and by table the columns that rules keep."""
+    made = [a_table(chance, name) for name in chance.sample(["t", "u", "t 2"], chance.randrange(1, 4))]
+    streams = []
+    for shard in ["-80", "80-", "x"][:chance.randrange(1, 4)]:
+        rules = [a_rule(chance, *it) for it in made if it[2] or chance.random() < 0.9]
+        streams.append({"shard": shard, "filter": {"rules": rules}})
+    return {"keyspace": "ks", "vindexes": ["hash"], "tables": [it[0] for it in made], "streams": streams}, {it[0]["name"]: it[2] for it in made}
+
+
+def places_of(value, path=()):
+    """The paths of all values below one."""
+    for key, one in value.items() if isinstance(value, dict) else enumerate(value) if isinstance(value, list) else ():
+        yield (*path, key)
+        yield from places_of(one, (*path, key))
+
+
+def workflows(chance):
+    """Workflow files: what is refused of them; and of those that are read what passes, as which key."""
+    made, kept = a_workflow(chance)
+    tried = 0
+    for _ in range(4):
+        text = json.dumps(made)
+        if chance.random() < 0.8:
+            there = copy.deepcopy(made)
+            for key in ["vindexes"] if chance.random() < 0.3 else []:
+                del there[key]
+            for _ in range(chance.randrange(1, 3)):
+                there = changed(chance, there)
+            text = json.dumps(there)
+        given = damaged(chance, text.encode()) if chance.random() < 0.3 else text.encode()
+        try:
+            said = vrepl.Workflow(given).streams
+        except vrepl.Refused as refused:
+            said = -refused.number
+        told = vrepl.Workflow.check(given)
+        if (told.refused or -said) != -said:
+            raise AssertionError(f"of the workflow {given!r} the library says {said} and {told}")
+        said = (said, vrepl.Workflow(given).rules() + told.warnings) if said > 0 else (said, told.place)
+        found = checked(given, said[0] if said[0] > 0 else 1)
+        if found != said:
+            raise AssertionError(f"of the workflow {given!r} the library says {said}, the program {found}")
+        tried += 1
+    return tried + sum(rows_of_stream(chance, made, kept, stream) for stream in range(len(made["streams"])))
+
+
+DETAILS = re.compile(r"refused (\d+) ?(.*)")
+
+
+def checked(workflow, count):
+    """What `check` says of a workflow with so many feeds without a group: how many its streams are, and the lines of its rules
+    and of its file's warnings; or its refusal's number, and where the fault is."""
+    with _file_of(workflow) as path, _file_of(b"") as empty:
+        ran = subprocess.run([program(), "check", path, *[empty] * count], capture_output=True, check=False)
+    if ran.returncode in (0, 3):
+        return count, [it for it in ran.stdout.decode().splitlines() if it.startswith(("rule ", "warning workflow "))]
+    [line, *more] = ran.stderr.decode(errors="replace").split("\n")[:-1]
+    number, details = DETAILS.fullmatch(line).groups()
+    return -int(number), more[0].removeprefix("place ") if more else details
+
+
+def tilings(chance):
+    """Ranges that lie end to end, or nearly: `check` warns of those of a workflow's streams that don't, in whatever order."""
+    bounds = sorted({a_bound(chance).lower() for _ in range(chance.randrange(5))} - {""})
+    texts = [f"{one}-{other}" for one, other in zip(["", *bounds], [*bounds, ""])]
+    if chance.random() < 0.5:
+        texts[chance.randrange(len(texts))] = f"{a_bound(chance)}-{a_bound(chance)}"
+    try:
+        found = [vrepl.KeyRange(it) for it in texts]
+        said = vrepl.KeyRange.tiles(sorted(found, key=lambda it: it.start))
+    except vrepl.Refused as refused:
+        said = refused.number
+    if vrepl.KeyRange.tiles(texts) if said != 41 else 0:
+        if said is not True:
+            raise AssertionError(f"the ranges {texts} tile as they stand, and in order don't")
+    workflow = Feed({"t": {"id": "VARBINARY"}}).workflow(*[f"s{at}" for at in range(len(texts))], vindex="binary")
+    for stream, it in zip(workflow["streams"], texts):
+        stream["filter"] = {"rules": [{"match": "/.*", "filter": it}]}
+    number, lines = checked(workflow, len(texts))
+    if said == 41:
+        if number != -55:
+            raise AssertionError(f"of the ranges {texts} the library says {said}, the program {number}")
+    elif len(set(found)) > 1 and said != ("warning workflow tables[0] has ranges that don't tile" not in lines):
+        raise AssertionError(f"of the ranges {texts} the library says {said}, the program {lines}")
+    return 1
+
+
+def a_dump(chance, tables, pool):
+    """The dump of some rows of a pool, by rising key; one of six is damaged."""
+    lines = []
+    for name in tables:
+        lines.append(f"table {name}\n")
+        for key in sorted(chance.sample(range(len(pool)), chance.randrange(len(pool) + 1)), key=lambda it: pool[it]):
+            value = chance.choice(["N", "x", "x61", "x" + chance.randbytes(3).hex()]) if chance.random() < 0.3 else "x00"
+            lines.append(f"x{pool[key].hex()}\t{value}\n")
+    dump = "".join(lines).encode()
+    return damaged(chance, dump) if chance.random() < 0.16 else dump
+
+
+def dumps(chance):
+    """Two dumps of a workflow's tables: the counts, and all keys at which they differ."""
+    feed = Feed({name: {"id": "VARBINARY", "v": "BLOB"} for name in chance.sample(["t", "u", "a b"], chance.randrange(1, 4))})
+    workflow, pool = feed.workflow("-"), [*{chance.randbytes(chance.randrange(1, 4)) for _ in range(12)}]
+    if chance.random() < 0.04:
+        workflow["tables"][0]["key"] = chance.choice([[], ["x"]])
+    source, target = a_dump(chance, feed.tables, pool), a_dump(chance, feed.tables, pool)
+    first = chance.choice([1, 3, 1_000_000])
+    said, found = [told_of(compare, workflow, source, target, first) for compare in (vrepl.compare, vrepl.vdiff)]
+    if said != found:
+        raise AssertionError(f"of {source!r} and {target!r} under {json.dumps(workflow)} the library says {said}, the program {found}")
+    if said[0] == 0:
+        rows = [f"table {it['name']}\n" + "".join("\t".join("N" if cell is None else "x" + cell.hex() for cell in entry.row) + "\n" for entry in
+                vrepl.entries(workflow, source) if entry.table == it["name"]) for it in workflow["tables"]]  # fmt: skip
+        if "".join(rows).encode() != source:
+            raise AssertionError(f"of the rows of {source!r} the library says {rows}")
+    return 2
+
+
+def told_of(compare, workflow, source, target, first):
+    """What is said of two dumps: counts and differences, or the number and line of the refusal."""
+    try:
+        it = compare(workflow, source, target, first)
+    except vrepl.Refused as refused:
+        line = re.search(r"line (\d+)", refused.place or refused.line)
+        return refused.number, line and line[1]
+    return 0, it.processed, it.matching, it.mismatched, it.extra_source, it.extra_target, it.differences
+
+
+def changed(chance, workflow):
+    """A copy of a workflow in which something is another thing, isn't there, or stands twice."""
+    whole = copy.deepcopy(workflow)
+    *path, last = chance.choice(list(places_of(whole)))
+    there = whole
+    for key in path:
+        there = there[key]
+    kind = chance.randrange(3)
+    if kind == 0:
+        there[last] = chance.choice(JUNK)
+    elif kind == 1:
+        del there[last]
+    elif isinstance(there, list):
+        there.insert(last, copy.deepcopy(there[last]))
+    else:
+        there[last] = [there[last]] * chance.choice([1, 2, 65])
+    return whole
+
+
+def a_cell(chance, kind):
+    if chance.random() < 0.03:
+        return None
+    if kind in WHOLE:
+        return str(chance.choice([0, 1, 2, 7, 255, 2**63, 2**64 - 1, chance.randrange(2**32)])).encode() if chance.random() < 0.95 else chance.choice([b"-5", b"007", b"x", b"", b"-"])
+    return chance.choice([b"", b"a", b"\x80", b"\xff\0", chance.randbytes(chance.randrange(12))])
+
+
+def answers(judge, *row):
+    """A row's key, and whether it passes, and the numbers of what is refused of these."""
+    found, numbers = [], []
+    for ask in judge.key, judge.passes:
+        try:
+            found.append(ask(*row))
+        except vrepl.Refused as refused:
+            found.append(None)
+            numbers.append(refused.number)
+    return found, numbers
+
+
+def rows_of_stream(chance, workflow, kept, stream):
+    """Rows of each table: which pass a stream's filter, and their keys; the rows that have no answer one by one."""
+    judge = vrepl.Workflow(workflow)
+    alone = {**workflow, "streams": [workflow["streams"][stream]]}
+    tables = {it["name"]: dict(it["columns"]) for it in workflow["tables"]}
+    wanted, good, faults = {name: {} for name in tables}, {name: {} for name in tables}, []
+    has_rule = {rule["match"] for rule in alone["streams"][0]["filter"]["rules"]}
+    for name, columns in tables.items():
+        for _ in range(20):
+            row = tuple(a_cell(chance, kind) for kind in columns.values())
+            (key, passes), numbers = answers(judge, stream, name, row)
+            if numbers:
+                faults.append((name, row, numbers))
+            if numbers or key in good[name]:
+                continue
+            good[name][key] = row
+            if passes:
+                listed = kept[name] if kept[name] and name in has_rule else [*columns]
+                wanted[name][key] = tuple(row[[*columns].index(it)] for it in listed)
+    feed = Feed(tables)
+    for name, rows in good.items():
+        feed.insert(name, *rows.values())
+    found = vrepl.run(alone, feed).tables
+    if {name: sorted(rows, key=repr) for name, rows in found.items()} != {name: sorted(rows.values(), key=repr) for name, rows in wanted.items()}:
+        raise AssertionError(f"under {json.dumps(alone)} the library passes {wanted}, the program {found}")
+    for name, row, numbers in faults[:2]:
+        try:
+            vrepl.run(alone, Feed(tables).insert(name, row))
+            told = None
+        except vrepl.Refused as refused:
+            told = refused.number if refused.number != 90 else int(str(refused.line).rpartition("cause ")[2])
+        if told not in numbers and name in has_rule:
+            raise AssertionError(f"of the row {row} of {name} under {json.dumps(alone)} the library says {numbers}, the program {told}")
+    return 20 * len(tables)
+
+
+def main(until, seed=None, file=None):
+    seed = int(seed if seed is not None else random.randrange(2**32))
+    notes = note_calls(file) if file else None
+    chance, began, tried = random.Random(seed), time.monotonic(), 0
+    try:
+        while tried < int(until[:-1]) if until.endswith("i") else time.monotonic() < began + float(until):
+            tried += positions(chance) + ranges(chance) + sum(feeds(chance) + all_groups(chance) for _ in range(5)) + workflows(chance)
+            tried += sum(tilings(chance) + dumps(chance) for _ in range(5))
     except AssertionError:
         print(f"seed {seed}")
         raise
+    if notes:
+        notes.close()
     print(f"{tried} inputs, seed {seed}")
 
 

@@ -3,6 +3,8 @@ from __future__ import annotations
 
 from collections.abc import Iterable, Mapping, Sequence
 
+from .wire import FIELDS, GTID, ROWS, EventType, change_bytes, columns_bytes, event_bytes, field_bytes, message_bytes, row_bytes, text_bytes
+
 TYPES = {
     **{"INT8": 257, "INT16": 259, "INT24": 261, "INT32": 263, "INT64": 265},
     **{"UINT8": 770, "UINT16": 772, "UINT24": 774, "UINT32": 776, "UINT64": 778},
@@ -14,37 +16,13 @@ Value = bytes | str | int | None
 Row = Sequence[Value]
 
 
-def varint(number: int) -> bytes:
-    """A number from 0 on as a varint."""
-    head = bytearray()
-    while number > 0x7F:
-        head.append(number & 0x7F | 0x80)
-        number >>= 7
-    head.append(number)
-    return bytes(head)
-
-
-def _number(field: int, number: int) -> bytes:
-    return varint(field << 3) + varint(number)
-
-
-def _bytes(field: int, body: bytes) -> bytes:
-    return varint(field << 3 | 2) + varint(len(body)) + body
-
-
 def _octets(value: str | bytes | int) -> bytes:
     return value if isinstance(value, bytes) else str(value).encode()
 
 
 def row_message(row: Row) -> bytes:
     """A Row message: each column's bytes, those of a text or a number's digits, or NULL for None."""
-    cells = [None if value is None else _octets(value) for value in row]
-    lengths = b"".join(varint(1 if cell is None else len(cell) << 1) for cell in cells)
-    return _bytes(1, lengths) + _bytes(2, b"".join(cell for cell in cells if cell is not None))
-
-
-def _event(kind: int, body: bytes = b"") -> bytes:
-    return _number(1, kind) + body
+    return row_bytes([None if value is None else _octets(value) for value in row])
 
 
 class Feed:
@@ -79,12 +57,13 @@ class Feed:
         fields = [self._field_event(table) for table in dict.fromkeys(table for table, _, _ in changes) if table not in self._told]
         self._told.update(table for table, _, _ in changes)
         rows = [self._row_event(*change) for change in changes]
-        return self.message(_event(2), *fields, *rows, _event(1, _bytes(3, b"MySQL56/" + at.encode())), _event(3))
+        position = event_bytes(EventType.GTID, 0, GTID, f"MySQL56/{at}".encode())
+        self._messages.append(message_bytes(event_bytes(EventType.BEGIN, 0), *fields, *rows, position, event_bytes(EventType.COMMIT, 0)))
+        return self
 
     def message(self, *events: bytes) -> Feed:
         """Adds a message of events as they are."""
-        body = b"".join(_bytes(1, event) for event in events)
-        self._messages.append(varint(len(body)) + body)
+        self._messages.append(message_bytes(*(field_bytes(1, event) for event in events)))
         return self
 
     def insert(self, table: str, *rows: Row) -> Feed:
@@ -101,13 +80,11 @@ class Feed:
 
     def _field_event(self, table: str) -> bytes:
         columns = ((name, TYPES[kind] if isinstance(kind, str) else kind) for name, kind in self.tables[table].items())
-        fields = b"".join(_bytes(2, _bytes(1, name.encode()) + _number(2, number)) for name, number in columns)
-        return _event(13, _bytes(6, _bytes(1, table.encode()) + fields))
+        return event_bytes(EventType.FIELD, 0, FIELDS, columns_bytes(table, columns))
 
     def _row_event(self, table: str, before: Row | None, after: Row | None) -> bytes:
-        parts = ((1, before), (2, after))
-        change = b"".join(_bytes(number, row_message(row)) for number, row in parts if row is not None)
-        return _event(12, _bytes(5, _bytes(1, table.encode()) + _bytes(2, change)))
+        images = [None if row is None else row_message(row) for row in (before, after)]
+        return event_bytes(EventType.ROW, 0, ROWS, text_bytes(1, table), change_bytes(*images))
 
     def __bytes__(self) -> bytes:
         return b"".join(self._messages)

@@ -9,6 +9,14 @@ from .refused import NoLibrary, Refused
 _BYTES, _SIZE, _PLACE = ctypes.c_void_p, ctypes.c_size_t, ctypes.POINTER(ctypes.c_size_t)
 _TEXT = _ROOM = (_BYTES, _SIZE)
 _YES = ctypes.POINTER(ctypes.c_bool)
+COUNTS = ("processed", "matching", "mismatched", "extra_source", "extra_target")
+
+
+class Counts(ctypes.Structure):
+    """vrepl_counts of include/vrepl.h."""
+
+    _fields_ = [(name, ctypes.c_size_t) for name in COUNTS]
+
 
 # The calls of include/vrepl.h that answer 0 or the number of a refusal.
 _CALLS = {
@@ -17,12 +25,18 @@ _CALLS = {
     "vrepl_gtid_is_within": (*_TEXT, *_TEXT, _YES),
     "vrepl_gtid_union": (*_TEXT, *_TEXT, *_ROOM, _PLACE),
     "vrepl_key_range": (*_TEXT, *_ROOM, _PLACE, *_ROOM, _PLACE),
+    "vrepl_key_ranges_tile": (*_TEXT, _YES),
     "vrepl_key_range_holds": (*_TEXT, *_TEXT, _YES),
     "vrepl_vindex_id": (*_TEXT, ctypes.c_bool, *_TEXT, *_ROOM, _PLACE),
     "vrepl_message": (*_TEXT, _PLACE, _PLACE),
     "vrepl_workflow": (*_TEXT, _PLACE),
+    "vrepl_workflow_check": (*_TEXT, ctypes.POINTER(ctypes.c_uint32), *_ROOM, _PLACE),
+    "vrepl_workflow_rules": (*_TEXT, *_ROOM, _PLACE),
+    "vrepl_plan": (*_TEXT, _SIZE, *_ROOM, _PLACE),
     "vrepl_row_passes": (*_TEXT, _SIZE, *_TEXT, *_TEXT, _YES),
     "vrepl_row_key": (*_TEXT, _SIZE, *_TEXT, *_TEXT, *_ROOM, _PLACE),
+    "vrepl_dump": (*_TEXT, *_TEXT, _PLACE, _PLACE, *_ROOM, _PLACE),
+    "vrepl_compare": (*_TEXT, *_TEXT, *_TEXT, _SIZE, ctypes.POINTER(Counts), _PLACE, _YES, *_ROOM, _PLACE),
     "vrepl_groups": (*_TEXT, *_TEXT, *_TEXT, *_ROOM, _PLACE),
 }
 

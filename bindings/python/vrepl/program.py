@@ -10,8 +10,9 @@ import subprocess
 import tempfile
 from collections.abc import Iterator, Mapping, Sequence
 from contextlib import ExitStack, contextmanager
-from dataclasses import dataclass, field
+from dataclasses import dataclass
 
+from .compared import Comparison, Difference, Dump, cell
 from .feed import Feed
 from .refused import NoProgram, Refused
 
@@ -79,34 +80,6 @@ def _with_files(command: str, options: Sequence[str], workflow: Workflow, *given
         return _asked(command, *options, *files)
 
 
-def _cell(text: str) -> bytes | None:
-    return None if text == "N" else bytes.fromhex(text[1:])
-
-
-Row = tuple[bytes | None, ...]
-
-
-@dataclass(frozen=True)
-class Dump:
-    """The rows of a target, as `run` prints them: `text` is the dump's own bytes."""
-
-    text: bytes
-
-    @property
-    def tables(self) -> dict[str, list[Row]]:
-        """Each table's rows by rising key: the bytes of each column, None for NULL."""
-        found: dict[str, list[Row]] = {}
-        for line in self.text.split(b"\n")[:-1]:
-            if line.startswith(b"table "):
-                rows = found.setdefault(line[6:].decode(errors="surrogateescape"), [])
-            else:
-                rows.append(tuple(_cell(it) for it in line.decode().split("\t")))
-        return found
-
-    def __bytes__(self) -> bytes:
-        return self.text
-
-
 @dataclass(frozen=True)
 class Checkpoint:
     """A target that `follow` moves on: the checkpoint's bytes, and the target's rows where they were asked for."""
@@ -116,33 +89,6 @@ class Checkpoint:
 
     def __bytes__(self) -> bytes:
         return self.content
-
-
-@dataclass(frozen=True)
-class Difference:
-    """A key at which two dumps differ, with the rows that stand there."""
-
-    table: str
-    key: tuple[bytes, ...]
-    source: Row | None
-    target: Row | None
-
-
-@dataclass(frozen=True)
-class Comparison:
-    """What two dumps have in common, as counts of keys, and the first keys at which they differ."""
-
-    processed: int
-    matching: int
-    mismatched: int
-    extra_source: int
-    extra_target: int
-    differences: list[Difference] = field(default_factory=list)
-    tables: dict[str, dict[str, int]] = field(default_factory=dict)
-
-    def __bool__(self) -> bool:
-        """Whether the dumps are of the same rows."""
-        return self.processed == self.matching
 
 
 @dataclass(frozen=True)
@@ -165,20 +111,17 @@ def check(workflow: Workflow, *feeds: Given, hex: bool = False) -> Report:
     return Report(status == 3, json.loads(said))
 
 
-def compare(workflow: Workflow, source: Given | Dump, target: Given | Dump, first: int = 10) -> Comparison:
-    """Two dumps of a workflow's tables compared, with the first keys at which they differ."""
+def vdiff(workflow: Workflow, source: Given | Dump, target: Given | Dump, first: int = 10) -> Comparison:
+    """Two dumps of a workflow's tables compared, with the first keys at which they differ, and the counts of each table."""
     given = [bytes(it) if isinstance(it, Dump) else it for it in (source, target)]
     said = json.loads(_with_files("vdiff", ["--json", "--first", str(first)], workflow, *given)[1])
-    row = lambda cells: None if cells is None else tuple(None if it is None else _cell(it) for it in cells)  # noqa: E731
+    row = lambda cells: None if cells is None else tuple(None if it is None else cell(it) for it in cells)  # noqa: E731
     differences = [
         Difference(it["table"], tuple(bytes.fromhex(part[1:]) for part in it["key"]), row(it["source"]), row(it["target"])) for it in said["differences"]
     ]
     counts = ("processed", "matching", "mismatched", "extra_source", "extra_target")
     tables = {it["table"]: {name: it[name] for name in counts} for it in said["tables"]}
     return Comparison(*(said[name] for name in counts), differences, tables)
-
-
-vdiff = compare
 
 
 def follow(

@@ -9,6 +9,7 @@ from collections.abc import Sequence
 import pytest
 
 from . import program
+from .compared import Dump
 from .feed import Feed
 
 
@@ -22,9 +23,9 @@ def vrepl_feed() -> type[Feed]:
 def assert_target_equals():
     """Holds a target's dump to what a workflow's feeds make of it, and tells the first keys at which they differ."""
 
-    def assert_equals(workflow: program.Workflow, feeds: Sequence[program.Given], dump: program.Given | program.Dump) -> None:
+    def assert_equals(workflow: program.Workflow, feeds: Sequence[program.Given], dump: program.Given | Dump) -> None:
         __tracebackhide__ = True
-        found = program.compare(workflow, program.run(workflow, *feeds), dump)
+        found = program.vdiff(workflow, program.run(workflow, *feeds), dump)
         if not found:
             told = "\n".join(f"  table {it.table}, key {it.key}: wanted {it.source}, found {it.target}" for it in found.differences)
             pytest.fail(f"{found.processed - found.matching} of {found.processed} keys differ from what the feeds make:\n{told}", pytrace=False)

@@ -1,17 +1,19 @@
-"""Positions, key ranges, vindexes and the messages of feeds, each read by the proved calls of the library."""
+"""Positions, key ranges, vindexes, workflows, dumps and the messages of feeds, each read by the proved calls of the library."""
 from __future__ import annotations
 
+import ctypes
 import json
 import os
 import uuid as uuids
 from collections.abc import Iterable, Iterator, Mapping
 from dataclasses import dataclass
 
+from .compared import Comparison, Difference, Dump
 from .feed import Feed, Row, row_message
-from .library import address, number, numbers, rooms, text, yes
+from .library import COUNTS, Counts, address, number, numbers, rooms, text, yes
 from .refused import Refused
 
-_CUT_MESSAGE = 81
+_CUT_MESSAGE, _BAD_DUMP = 81, 121
 _ABSENT = 2**64 - 1
 
 Cells = tuple[bytes | None, ...]
@@ -83,6 +85,12 @@ class KeyRange:
     def __contains__(self, keyspace_id: bytes) -> bool:
         return yes("vrepl_key_range_holds", *text(self._text), *text(keyspace_id))
 
+    @staticmethod
+    def tiles(ranges: Iterable[KeyRange | str]) -> bool:
+        """Whether ranges lie end to end over all keyspace ids, in this order: then each id is in exactly one of them."""
+        given = ",".join(it if isinstance(it, str) else it._text for it in ranges)
+        return bool(given) and yes("vrepl_key_ranges_tile", *text(given))
+
     def __eq__(self, other: object) -> bool:
         return isinstance(other, KeyRange) and (self.start, self.end) == (other.start, other.end)
 
@@ -102,9 +110,31 @@ class Workflow:
     __slots__ = ("_text", "streams")
 
     def __init__(self, file: bytes | str | Mapping):
-        self._text = json.dumps(file).encode() if isinstance(file, Mapping) else text(file)[0]
-        self.streams = number("vrepl_workflow", *text(self._text))
-        """How many streams it has."""
+        self._text = _file(file)
+        try:
+            self.streams = number("vrepl_workflow", *text(self._text))
+            """How many streams it has."""
+        except Refused as refused:
+            raise Refused(refused.number, place=Workflow.check(self._text).place) from None
+
+    @staticmethod
+    def check(file: bytes | str | Mapping) -> Checked:
+        """What is told of a workflow file: why it is refused and where, or what is warned of it."""
+        refused = ctypes.c_uint32()
+        told = rooms("vrepl_workflow_check", *text(_file(file)), ctypes.byref(refused))[0].decode()
+        if refused.value:
+            return Checked(refused.value, told, [])
+        return Checked(0, "", told.splitlines())
+
+    def rules(self) -> list[str]:
+        """The rows of each table that each stream passes, in words: a line each, as `vrepl check` prints it."""
+        return rooms("vrepl_workflow_rules", *text(self._text), size=4096)[0].decode().split("\n")[:-1]
+
+    def plan(self, stream: int = 0) -> Plan:
+        """What a stream, by its number from 0, has of its keyspace and tables."""
+        if not 0 <= stream < 2**64:
+            raise Refused(115)
+        return _Cursor(rooms("vrepl_plan", *text(self._text), stream, size=4096)[0]).plan()
 
     def passes(self, stream: int, table: str, row: Row) -> bool:
         """Whether a row of a table, its columns in order, passes the filter of a stream, by its number from 0."""
@@ -116,11 +146,56 @@ class Workflow:
         """The key of a row of a table: each part's bytes, a number as its shortest decimal text."""
         if not 0 <= stream < 2**64:
             raise Refused(115)
-        cursor = _Cursor(rooms("vrepl_row_key", *text(self._text), stream, *text(table), *text(row_message(row)))[0])
-        return tuple(cursor.bytes() or b"" for _ in range(cursor.number()))
+        return _Cursor(rooms("vrepl_row_key", *text(self._text), stream, *text(table), *text(row_message(row)))[0]).key()
 
     def __bytes__(self) -> bytes:
         return self._text
+
+
+def _file(given: bytes | str | Mapping) -> bytes:
+    return json.dumps(given).encode() if isinstance(given, Mapping) else text(given)[0]
+
+
+@dataclass(frozen=True)
+class Checked:
+    """What is told of a workflow file: the number by which it is refused, 0 for none, where its fault is, as
+    `tables[3].key: no list`, and what is warned of one that is read, a line each. It is true where nothing is told."""
+
+    refused: int
+    place: str
+    warnings: list[str]
+
+    def __bool__(self) -> bool:
+        return not self.refused and not self.warnings
+
+
+@dataclass(frozen=True)
+class Table:
+    """A table of a plan: its columns in order, each with its type's number, and by name those of its key and those that
+    a target keeps, each in its own order."""
+
+    name: str
+    columns: dict[str, int]
+    key: tuple[str, ...]
+    kept: tuple[str, ...]
+
+
+@dataclass(frozen=True)
+class Plan:
+    """The plan of a stream of a workflow."""
+
+    keyspace: str
+    shard: str
+    tables: list[Table]
+
+
+@dataclass(frozen=True)
+class Entry:
+    """A row of a dump, with its table and its key: each part's bytes, a number as its shortest decimal text."""
+
+    table: str
+    key: tuple[bytes, ...]
+    row: Cells
 
 
 class _Cursor:
@@ -143,6 +218,21 @@ class _Cursor:
     def row(self) -> Cells | None:
         count = self.number()
         return None if count == _ABSENT else tuple(self.bytes() for _ in range(count))
+
+    def text(self) -> str:
+        return (self.bytes() or b"").decode()
+
+    def key(self) -> tuple[bytes, ...]:
+        return tuple(self.bytes() or b"" for _ in range(self.number()))
+
+    def table(self) -> Table:
+        name = self.text()
+        columns = [(self.text(), self.number()) for _ in range(self.number())]
+        key, kept = (tuple(columns[self.number()][0] for _ in range(self.number())) for _ in range(2))
+        return Table(name, dict(columns), key, kept)
+
+    def plan(self) -> Plan:
+        return Plan(self.text(), self.text(), [self.table() for _ in range(self.number())])
 
 
 @dataclass(frozen=True)
@@ -175,18 +265,60 @@ def groups(feed: bytes | str | os.PathLike | Feed, keyspace: str = "", shard: st
 
 def _groups_at(cursor: _Cursor) -> Iterator[Group]:
     while cursor.at < len(cursor.given):
-        number, position = cursor.number(), (cursor.bytes() or b"").decode()
-        yield Group(number, position, [Change((cursor.bytes() or b"").decode(), cursor.row(), cursor.row()) for _ in range(cursor.number())])
+        number, position = cursor.number(), cursor.text()
+        yield Group(number, position, [Change(cursor.text(), cursor.row(), cursor.row()) for _ in range(cursor.number())])
 
 
-def tiles(ranges: Iterable[KeyRange]) -> bool:
-    """Whether the ranges lie end to end over all keyspace ids, in this order."""
-    covered: bytes | None = b""
-    for it in ranges:
-        if covered is None or it.start != covered:
-            return False
-        covered = it.end
-    return covered is None
+GivenWorkflow = Workflow | bytes | str | os.PathLike | Mapping
+"""A workflow that was read, its file's bytes or path, or the object that the file's JSON says."""
+GivenDump = Dump | bytes | str | os.PathLike
+"""A dump, its bytes or its path."""
+
+
+def _bytes_of(given: GivenWorkflow | GivenDump) -> bytes:
+    if isinstance(given, (str, os.PathLike)):
+        with open(given, "rb") as file:
+            return file.read()
+    return _file(given) if isinstance(given, Mapping) else bytes(given)
+
+
+def entries(workflow: GivenWorkflow, dump: GivenDump) -> list[Entry]:
+    """The rows of a dump of a workflow's tables, by rising key. A `Refused` of 121, with the line, where it is none."""
+    given = _bytes_of(dump)
+    count, line = ctypes.c_size_t(), ctypes.c_size_t()
+    try:
+        [made] = rooms("vrepl_dump", *text(_bytes_of(workflow)), *text(given), ctypes.byref(count), ctypes.byref(line), size=4 * len(given) + 256)
+    except Refused as refused:
+        raise _placed(refused, f"line {line.value}") from None
+    cursor = _Cursor(made)
+    return [Entry(cursor.text(), cursor.key(), cursor.row() or ()) for _ in range(count.value)]
+
+
+def compare(workflow: GivenWorkflow, source: GivenDump, target: GivenDump, first: int | None = 10) -> Comparison:
+    """Two dumps of a workflow's tables compared, with the first keys at which they differ, or with None all of them.
+
+    A `Refused` of 121, with the line, where one is no dump. `vdiff` has the counts of each table beside.
+    """
+    counts, line, in_target = Counts(), ctypes.c_size_t(), ctypes.c_bool()
+    most = 2**64 - 1 if first is None else first
+    if not 0 <= most < 2**64:
+        raise ValueError("so many differences can't be asked for")
+    given = [it for one in (workflow, source, target) for it in text(_bytes_of(one))]
+    try:
+        [made] = rooms("vrepl_compare", *given, most, ctypes.byref(counts), ctypes.byref(line), ctypes.byref(in_target), size=4096)
+    except Refused as refused:
+        raise _placed(refused, f"line {line.value} of the {'target' if in_target.value else 'source'}") from None
+    cursor, differences = _Cursor(made), []
+    while cursor.at < len(made):
+        differences.append(Difference(cursor.text(), cursor.key(), cursor.row(), cursor.row()))
+    return Comparison(*(getattr(counts, name) for name in COUNTS), differences)
+
+
+def _placed(refused: Refused, place: str) -> Refused:
+    return Refused(refused.number, place=place) if refused.number == _BAD_DUMP else refused
+
+
+tiles = KeyRange.tiles
 
 
 def vindex_id(vindex: str, value: bytes | None) -> bytes:

@@ -10,11 +10,12 @@ class NoProgram(OSError):
 
 
 class Refused(ValueError):
-    """What vrepl refuses: `number`, of docs/FORMATS.md, `line`, what the program printed of it, and `words`."""
+    """What vrepl refuses: `number`, of docs/FORMATS.md, `line`, what the program printed of it, `place`, where in what was given
+    the library found it, and `words`."""
 
-    def __init__(self, number: int, line: str = ""):
-        super().__init__(number, line)
-        self.number, self.line = number, line
+    def __init__(self, number: int, line: str = "", place: str = ""):
+        super().__init__(number, line, place)
+        self.number, self.line, self.place = number, line, place
 
     @property
     def words(self) -> str:
@@ -25,7 +26,7 @@ class Refused(ValueError):
             return ""
 
     def __str__(self) -> str:
-        return ": ".join(it for it in (self.line or f"refused {self.number}", self.words) if it)
+        return ": ".join(it for it in (self.line or f"refused {self.number}", self.place, self.words) if it)
 
 
 def explain(number: int) -> str:

@@ -1,3 +1,5 @@
 mod Texts
 mod Messages
 mod Plans
+mod DifferenceLaws
+mod RangeLaws

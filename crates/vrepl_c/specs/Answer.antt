@@ -15,3 +15,7 @@ Gives view (Err number) definition = (number ≡ no_memory) ⊎ (definition ≡ 
 -- definition refuses; or it wanted memory.
 abbrev pub Answers : {Y : Type 0} → (Y → Type 0) → ℕ → Result Y ℕ → Type 0
 Answers P number definition = (number ≡ no_memory) ⊎ MatchResult definition (λ value. (number ≡ 0) × P value) (λ refusal. number ≡ refusal)
+
+-- The same where the value decides the number too.
+abbrev pub Judges : {Y : Type 0} → (Y → Type 0) → ℕ → Result Y ℕ → Type 0
+Judges P number definition = (number ≡ no_memory) ⊎ MatchResult definition P (λ refusal. number ≡ refusal)

@@ -1,7 +1,12 @@
 pub mod Answer
+pub mod Checked
+pub mod Compared
+pub mod Dumps
 pub mod Encoded
 pub mod Feeds
 pub mod Message
+pub mod PlanBytes
 pub mod Readers
 pub mod Room
+pub mod Unread
 pub mod Workflows

@@ -1,9 +1,10 @@
 -- What bytes mean that C gives as a text, or the number of their refusal (this profile).
-use Rattle.std.specs.Prelude.{ℕ, List, Bool, true, false, Option, Some, None, Result, Ok, Err, if◌then◌else◌}
+use Rattle.std.specs.Prelude.{ℕ, ◌==◌, List, Bool, true, false, Option, Some, None, Result, Ok, Err, if◌then◌else◌}
+use Rattle.std.specs.List.{slice_split}
 use Rattle.std.specs.Result.{result_map_both}
 use Rattle.std.specs.Option.{ok_or}
 use Rattle.std.specs.Str.{is_utf8}
-use Rattle.outcome.specs.Outcome.{◌>>=◌}
+use Rattle.outcome.specs.Outcome.{◌>>=◌, each}
 use Rattle.gtid_set.specs.declared.interval.Interval.{Interval}
 use Rattle.gtid_set.specs.Fault as gtid
 use Rattle.gtid_set.specs.Text.{position_of_text}
@@ -25,8 +26,24 @@ abbrev pub both_of : List ℕ → List ℕ → Result (List Interval × List Int
 both_of one other = position_of one >>= λ first. position_of other >>= λ second. Ok (first, second)
 
 -- the range that a text writes
+abbrev pub range_in : List ℕ → Result Bounds ℕ
+range_in text = ok_or (key_range_of_text text) 41
+
+-- the same of bytes
 abbrev pub range_of : List ℕ → Result Bounds ℕ
-range_of bytes = ok_or (text_of bytes) 41 >>= λ text. ok_or (key_range_of_text text) 41
+range_of bytes = ok_or (text_of bytes) 41 >>= range_in
+
+-- a text between commas
+abbrev pub parts_of : List ℕ → List (List ℕ)
+parts_of text = slice_split (λ byte. byte == 44) text
+
+-- the ranges that texts write, each one
+abbrev pub ranges_in : List (List ℕ) → Result (List Bounds) ℕ
+ranges_in texts = each range_in texts
+
+-- the ranges that a text writes, parted by commas
+abbrev pub ranges_of : List ℕ → Result (List Bounds) ℕ
+ranges_of bytes = ok_or (text_of bytes) 41 >>= λ text. ranges_in (parts_of text)
 
 -- the keyspace id of a value, NULL or bytes, under the vindex of a name
 abbrev pub id_under : List ℕ → Option (List ℕ) → Result (List ℕ) ℕ

@@ -39,14 +39,21 @@ fn push_parts(into: &mut Vec<u8>, parts: &[KeyPart<'_>]) -> Result<(), AllocErro
     Ok(())
 }
 
+/// Adds a key.
+pub(crate) fn push_key(into: &mut Vec<u8>, key: &KeyView<'_>) -> Result<(), AllocError>
+    ensures { OnOk result (into.new.items ≡ into.old.items ++ key_bytes key.now) }
+{
+    let parts = key.parts();
+    push_number(into, parts.len() as u64)?;
+    push_parts(into, parts)
+}
+
 /// The bytes of a key.
 fn bytes_of(alloc: Global, key: &KeyView<'_>) -> Result<Vec<u8>, AllocError>
     ensures { IfOk result (λ bytes. bytes.items ≡ key_bytes key.now) }
 {
     let mut bytes = Vec::new(alloc);
-    let parts = key.parts();
-    push_number(&mut bytes, parts.len() as u64)?;
-    push_parts(&mut bytes, parts)?;
+    push_key(&mut bytes, key)?;
     Ok(bytes)
 }
 

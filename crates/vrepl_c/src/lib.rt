@@ -4,10 +4,15 @@
 //! memory that it takes outlives it. It answers 0, or the number of a refusal (docs/FORMATS.md, "Numbers").
 #![tactic(auto)]
 
+mod checked;
+mod compare;
+mod differences;
+mod dump;
 mod encoded;
 mod groups;
 mod keys;
 mod message;
+mod plan;
 mod position;
 mod ranges;
 mod room;

@@ -22,7 +22,7 @@ const ROW_WIDTH: u32 = 87;
 
 /// The plans of a workflow, one a stream, or the number of its refusal.
 #[tactic(auto, using(crate::proofs::Plans::workflow_refused))]
-fn all_plans(alloc: Global, workflow: &[u8]) -> Result<Vec<Arc<Plan>>, u32>
+pub(crate) fn all_plans(alloc: Global, workflow: &[u8]) -> Result<Vec<Arc<Plan>>, u32>
     ensures { Gives (λ plans. map arc_value plans.items) result (all_plans workflow.now) }
 {
     match Plan::read_all(alloc, workflow) {

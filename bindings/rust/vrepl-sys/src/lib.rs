@@ -1,8 +1,20 @@
 //! The calls of include/vrepl.h, which says what each asks of its caller and answers. `vrepl` has them as safe Rust.
 #![no_std]
+#![allow(non_camel_case_types)]
 
 /// The number of the refusal for want of memory.
 pub const VREPL_NO_MEMORY: u32 = 72;
+
+/// How many keys of a source and of a target there are of each kind.
+#[repr(C)]
+#[derive(Clone, Copy, Debug, Default, PartialEq, Eq)]
+pub struct vrepl_counts {
+    pub processed: usize,
+    pub matching: usize,
+    pub mismatched: usize,
+    pub extra_source: usize,
+    pub extra_target: usize,
+}
 
 extern "C" {
     pub fn vrepl_explain(number: u64, room: *mut u8, room_length: usize) -> usize;
@@ -40,6 +52,8 @@ extern "C" {
         end_length: *mut usize,
     ) -> u32;
 
+    pub fn vrepl_key_ranges_tile(ranges: *const u8, ranges_length: usize, tile: *mut bool) -> u32;
+
     pub fn vrepl_key_range_holds(range: *const u8, range_length: usize, id: *const u8, id_length: usize, holds: *mut bool) -> u32;
 
     pub fn vrepl_vindex_id(
@@ -56,6 +70,32 @@ extern "C" {
     pub fn vrepl_message(bytes: *const u8, bytes_length: usize, start: *mut usize, length: *mut usize) -> u32;
 
     pub fn vrepl_workflow(workflow: *const u8, workflow_length: usize, streams: *mut usize) -> u32;
+
+    pub fn vrepl_workflow_check(
+        workflow: *const u8,
+        workflow_length: usize,
+        refused: *mut u32,
+        room: *mut u8,
+        room_length: usize,
+        length: *mut usize,
+    ) -> u32;
+
+    pub fn vrepl_workflow_rules(
+        workflow: *const u8,
+        workflow_length: usize,
+        room: *mut u8,
+        room_length: usize,
+        length: *mut usize,
+    ) -> u32;
+
+    pub fn vrepl_plan(
+        workflow: *const u8,
+        workflow_length: usize,
+        stream: usize,
+        room: *mut u8,
+        room_length: usize,
+        length: *mut usize,
+    ) -> u32;
 
     pub fn vrepl_row_passes(
         workflow: *const u8,
@@ -76,6 +116,34 @@ extern "C" {
         table_length: usize,
         row: *const u8,
         row_length: usize,
+        room: *mut u8,
+        room_length: usize,
+        length: *mut usize,
+    ) -> u32;
+
+    pub fn vrepl_dump(
+        workflow: *const u8,
+        workflow_length: usize,
+        dump: *const u8,
+        dump_length: usize,
+        rows: *mut usize,
+        bad_line: *mut usize,
+        room: *mut u8,
+        room_length: usize,
+        length: *mut usize,
+    ) -> u32;
+
+    pub fn vrepl_compare(
+        workflow: *const u8,
+        workflow_length: usize,
+        source: *const u8,
+        source_length: usize,
+        target: *const u8,
+        target_length: usize,
+        most: usize,
+        counts: *mut vrepl_counts,
+        bad_line: *mut usize,
+        in_target: *mut bool,
         room: *mut u8,
         room_length: usize,
         length: *mut usize,

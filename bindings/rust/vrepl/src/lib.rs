@@ -1,5 +1,5 @@
-//! The readers and judges of vrepl: positions, key ranges, vindexes and the messages of feeds. Each goes through a proved
-//! call of the library; what is refused has the number of docs/FORMATS.md.
+//! The readers and judges of vrepl: positions, key ranges, vindexes, workflows, dumps and the messages of feeds. Each goes
+//! through a proved call of the library; what is refused has the number of docs/FORMATS.md.
 
 use std::fmt;
 use vrepl_sys as sys;
@@ -153,6 +153,16 @@ impl KeyRange {
     }
 }
 
+/// Whether ranges, as `40-80`, lie end to end over all keyspace ids, in this order: then each id is in exactly one of them.
+pub fn tiles(ranges: &[&str]) -> Result<bool, Refused> {
+    let (given, mut tile) = (ranges.join(","), false);
+    if ranges.is_empty() {
+        return Ok(false);
+    }
+    made(unsafe { sys::vrepl_key_ranges_tile(given.as_ptr(), given.len(), &mut tile) })?;
+    Ok(tile)
+}
+
 /// The keyspace id of a value, `None` for NULL, under a vindex by its name, as `numeric` or `binary_md5`.
 pub fn vindex_id(vindex: &str, value: Option<&[u8]>) -> Result<Vec<u8>, Refused> {
     let bytes = value.unwrap_or(&[]);
@@ -205,6 +215,164 @@ impl Workflow {
     }
 }
 
+/// What is told of a workflow file.
+#[derive(Clone, Debug, PartialEq, Eq)]
+pub enum Checked {
+    /// It is read; what is warned of it, a line each.
+    Read(String),
+    /// It is refused; where its fault is, as `tables[3].key: no list`, and nothing for what is no JSON.
+    Refused(Refused, String),
+}
+
+/// A table of a plan: its columns in order, by name and type's number, and the places, from 0, of those of its key and of
+/// those that a target keeps.
+#[derive(Clone, Debug, PartialEq, Eq)]
+pub struct Table {
+    pub name: String,
+    pub columns: Vec<(String, u64)>,
+    pub key: Vec<u64>,
+    pub kept: Vec<u64>,
+}
+
+/// The plan of a stream of a workflow.
+#[derive(Clone, Debug, PartialEq, Eq)]
+pub struct Plan {
+    pub keyspace: String,
+    pub shard: String,
+    pub tables: Vec<Table>,
+}
+
+impl Workflow {
+    /// What is told of a workflow file: where its fault is, or what is warned of it.
+    pub fn check(file: &[u8]) -> Result<Checked, Refused> {
+        let number = std::cell::Cell::new(0);
+        let told = put(|room, length| unsafe {
+            sys::vrepl_workflow_check(file.as_ptr(), file.len(), number.as_ptr(), room.as_mut_ptr(), room.len(), length)
+        })?;
+        Ok(match number.get() {
+            0 => Checked::Read(text(told)),
+            number => Checked::Refused(Refused { number }, text(told)),
+        })
+    }
+
+    /// The rows of each table that each stream passes, in words: a line each, as `vrepl check` prints it.
+    pub fn rules(&self) -> Result<String, Refused> {
+        let rules = put(|room, length| unsafe {
+            sys::vrepl_workflow_rules(self.file.as_ptr(), self.file.len(), room.as_mut_ptr(), room.len(), length)
+        })?;
+        Ok(text(rules))
+    }
+
+    /// The plan of a stream, by its number from 0.
+    pub fn plan(&self, stream: usize) -> Result<Plan, Refused> {
+        let made = put(|room, length| unsafe {
+            sys::vrepl_plan(self.file.as_ptr(), self.file.len(), stream, room.as_mut_ptr(), room.len(), length)
+        })?;
+        let mut cursor = Cursor { rest: &made };
+        let (keyspace, shard) = (cursor.text(), cursor.text());
+        let tables = (0..cursor.number()).map(|_| cursor.table()).collect();
+        Ok(Plan { keyspace, shard, tables })
+    }
+
+    /// The rows of a dump of the workflow's tables, by rising key.
+    pub fn entries(&self, dump: &[u8]) -> Result<Vec<Entry>, Unread> {
+        let (count, line) = (std::cell::Cell::new(0), std::cell::Cell::new(0));
+        let made = put(|room, length| unsafe {
+            sys::vrepl_dump(
+                self.file.as_ptr(),
+                self.file.len(),
+                dump.as_ptr(),
+                dump.len(),
+                count.as_ptr(),
+                line.as_ptr(),
+                room.as_mut_ptr(),
+                room.len(),
+                length,
+            )
+        })
+        .map_err(|refused| Unread { refused, line: line.get(), in_target: false })?;
+        let mut cursor = Cursor { rest: &made };
+        Ok((0..count.get()).map(|_| cursor.entry()).collect())
+    }
+
+    /// Two dumps of the workflow's tables compared, with the first keys at which they differ, at most so many.
+    pub fn compare(&self, source: &[u8], target: &[u8], most: usize) -> Result<Comparison, Unread> {
+        let counts = std::cell::Cell::new(Counts::default());
+        let (line, in_target) = (std::cell::Cell::new(0), std::cell::Cell::new(false));
+        let made = put(|room, length| unsafe {
+            sys::vrepl_compare(
+                self.file.as_ptr(),
+                self.file.len(),
+                source.as_ptr(),
+                source.len(),
+                target.as_ptr(),
+                target.len(),
+                most,
+                counts.as_ptr(),
+                line.as_ptr(),
+                in_target.as_ptr(),
+                room.as_mut_ptr(),
+                room.len(),
+                length,
+            )
+        })
+        .map_err(|refused| Unread { refused, line: line.get(), in_target: in_target.get() })?;
+        let (mut cursor, mut differences) = (Cursor { rest: &made }, Vec::new());
+        while !cursor.rest.is_empty() {
+            differences.push(cursor.difference());
+        }
+        Ok(Comparison { counts: counts.get(), differences })
+    }
+}
+
+/// How many keys of a source and of a target there are of each kind.
+pub type Counts = sys::vrepl_counts;
+
+/// A row of a dump, with its table and its key: each part's bytes, a number as its shortest decimal text.
+#[derive(Clone, Debug, PartialEq, Eq)]
+pub struct Entry {
+    pub table: String,
+    pub key: Vec<Vec<u8>>,
+    pub row: Row,
+}
+
+/// A key at which two dumps differ, with the rows that stand there.
+#[derive(Clone, Debug, PartialEq, Eq)]
+pub struct Difference {
+    pub table: String,
+    pub key: Vec<Vec<u8>>,
+    pub source: Option<Row>,
+    pub target: Option<Row>,
+}
+
+/// Two dumps compared.
+#[derive(Clone, Debug, PartialEq, Eq)]
+pub struct Comparison {
+    pub counts: Counts,
+    /// By rising key.
+    pub differences: Vec<Difference>,
+}
+
+/// Why a dump isn't read: where the number is 121, its first line, from 1, that can't stand there, and whether it is the
+/// target's of two.
+#[derive(Clone, Copy, Debug, PartialEq, Eq)]
+pub struct Unread {
+    pub refused: Refused,
+    pub line: usize,
+    pub in_target: bool,
+}
+
+impl fmt::Display for Unread {
+    fn fmt(&self, f: &mut fmt::Formatter<'_>) -> fmt::Result {
+        match self.line {
+            0 => self.refused.fmt(f),
+            line => write!(f, "{}, at line {line} of the {}", self.refused, if self.in_target { "target" } else { "source" }),
+        }
+    }
+}
+
+impl std::error::Error for Unread {}
+
 impl Workflow {
     /// The key of a row of a table, as a Row message: each part's bytes, a number as its shortest decimal text.
     pub fn key(&self, stream: usize, table: &str, row: &[u8]) -> Result<Vec<Vec<u8>>, Refused> {
@@ -222,8 +390,7 @@ impl Workflow {
                 length,
             )
         })?;
-        let mut cursor = Cursor { rest: &made };
-        Ok((0..cursor.number()).map(|_| cursor.bytes().unwrap_or_default()).collect())
+        Ok(Cursor { rest: &made }.key())
     }
 }
 
@@ -256,8 +423,32 @@ impl Cursor<'_> {
         }
     }
 
+    fn text(&mut self) -> String {
+        text(self.bytes().unwrap_or_default())
+    }
+
+    fn key(&mut self) -> Vec<Vec<u8>> {
+        (0..self.number()).map(|_| self.bytes().unwrap_or_default()).collect()
+    }
+
+    fn table(&mut self) -> Table {
+        let name = self.text();
+        let columns = (0..self.number()).map(|_| (self.text(), self.number())).collect();
+        let key = (0..self.number()).map(|_| self.number()).collect();
+        let kept = (0..self.number()).map(|_| self.number()).collect();
+        Table { name, columns, key, kept }
+    }
+
+    fn entry(&mut self) -> Entry {
+        Entry { table: self.text(), key: self.key(), row: self.row().unwrap_or_default() }
+    }
+
+    fn difference(&mut self) -> Difference {
+        Difference { table: self.text(), key: self.key(), source: self.row(), target: self.row() }
+    }
+
     fn change(&mut self) -> Change {
-        let table = text(self.bytes().unwrap_or_default());
+        let table = self.text();
         let (before, after) = (self.row(), self.row());
         Change { table, before, after }
     }
@@ -299,7 +490,7 @@ pub fn groups(feed: &[u8], keyspace: &str, shard: &str) -> Result<Vec<Group>, Re
     })?;
     let (mut cursor, mut found) = (Cursor { rest: &made }, Vec::new());
     while !cursor.rest.is_empty() {
-        let (number, position) = (cursor.number(), text(cursor.bytes().unwrap_or_default()));
+        let (number, position) = (cursor.number(), cursor.text());
         let changes = (0..cursor.number()).map(|_| cursor.change()).collect();
         found.push(Group { number, position, changes });
     }

@@ -1,6 +1,7 @@
 //! Each call of the crate, its answers and its refusals.
 
-use vrepl::{explain, groups, messages, row_message, vindex_id, GtidSet, KeyRange, Refused, Workflow};
+use vrepl::{explain, groups, messages, row_message, tiles, vindex_id};
+use vrepl::{Checked, Counts, Difference, Entry, GtidSet, KeyRange, Plan, Refused, Table, Unread, Workflow};
 
 const UUID: [u8; 16] = [0x3e, 0x11, 0xfa, 0x47, 0x71, 0xca, 0x11, 0xe1, 0x9e, 0x33, 0xc8, 0x0a, 0xa9, 0x42, 0x95, 0x62];
 
@@ -44,6 +45,57 @@ fn ranges_hold_ids() {
     assert_eq!((range.holds(&[0x40]), range.holds(&[0x80]), range.holds(&[])), (Ok(true), Ok(false), Ok(false)));
     assert_eq!(KeyRange::parse("-").unwrap().end, None);
     assert_eq!(KeyRange::parse("80-40"), refused(41));
+}
+
+#[test]
+fn ranges_tile() {
+    assert_eq!((tiles(&["-40", "40-80", "80-"]), tiles(&["0"])), (Ok(true), Ok(true)));
+    assert_eq!((tiles(&["80-", "-80"]), tiles(&["-80", "40-"]), tiles(&[])), (Ok(false), Ok(false), Ok(false)));
+    assert_eq!((tiles(&["-80", "80"]), tiles(&["80-40"])), (refused(41), refused(41)));
+}
+
+const FILE: &str = r#"{"keyspace":"ks","tables":[{"name":"t","columns":[["id","INT64"],["v","VARCHAR"]],"key":["id"]}],
+    "streams":[{"shard":"-","filter":{"rules":[{"match":"t","filter":""}]}}]}"#;
+
+#[test]
+fn workflows_are_checked() {
+    assert_eq!(Workflow::check(FILE.as_bytes()), Ok(Checked::Read(String::new())));
+    let misspelt = FILE.replace("\"match\":\"t\"", "\"match\":\"u\"");
+    let warned = "warning workflow streams[0].filter.rules[0] matches no table\nwarning workflow streams[0] has no rule for table t\n";
+    assert_eq!(Workflow::check(misspelt.as_bytes()), Ok(Checked::Read(warned.to_owned())));
+    let told = |file: &str| match Workflow::check(file.as_bytes()) {
+        Ok(Checked::Refused(Refused { number }, place)) => (number, place),
+        other => panic!("{other:?}"),
+    };
+    assert_eq!(told("{"), (51, String::new()));
+    assert_eq!(told(&FILE.replace("VARCHAR", "DECIMAL")), (52, "tables[0].columns[1][1]: no type \"DECIMAL\"".to_owned()));
+    assert_eq!(told(&FILE.replace("\"key\":[\"id\"]", "\"key\":[\"x\"]")), (53, "table t column x".to_owned()));
+    let workflow = Workflow::read(FILE.as_bytes()).unwrap();
+    assert_eq!(workflow.rules(), Ok("rule stream 0 table t every row\n".to_owned()));
+    let columns = vec![("id".to_owned(), 265), ("v".to_owned(), 6165)];
+    let table = Table { name: "t".to_owned(), columns, key: vec![0], kept: vec![0, 1] };
+    assert_eq!(workflow.plan(0), Ok(Plan { keyspace: "ks".to_owned(), shard: "-".to_owned(), tables: vec![table] }));
+    assert_eq!(workflow.plan(1), refused(115));
+}
+
+#[test]
+fn dumps_are_compared() {
+    let workflow = Workflow::read(FILE.as_bytes()).unwrap();
+    let (source, target) = (&b"table t\nx31\tN\nx32\tx\n"[..], &b"table t\nx31\tN\nx32\tx61\nx33\tx\n"[..]);
+    let row = |id: &[u8], v: Option<&[u8]>| vec![Some(id.to_vec()), v.map(<[u8]>::to_vec)];
+    let entry = |id: &[u8], v: Option<&[u8]>| Entry { table: "t".to_owned(), key: vec![id.to_vec()], row: row(id, v) };
+    assert_eq!(workflow.entries(source), Ok(vec![entry(b"1", None), entry(b"2", Some(b""))]));
+    let found = workflow.compare(source, target, usize::MAX).unwrap();
+    assert_eq!(found.counts, Counts { processed: 3, matching: 1, mismatched: 1, extra_source: 0, extra_target: 1 });
+    let differs = |id: &[u8], source, target| Difference { table: "t".to_owned(), key: vec![id.to_vec()], source, target };
+    let wanted = vec![differs(b"2", Some(row(b"2", Some(b""))), Some(row(b"2", Some(b"a")))), differs(b"3", None, Some(row(b"3", Some(b""))))];
+    assert_eq!(found.differences, wanted);
+    assert_eq!(workflow.compare(source, target, 1).unwrap().differences, wanted[..1]);
+    let unread = |line, in_target| Unread { refused: Refused { number: 121 }, line, in_target };
+    assert_eq!(workflow.compare(source, &target[..3], 1), Err(unread(1, true)));
+    assert_eq!(workflow.compare(&source[..9], target, 1), Err(unread(2, false)));
+    assert_eq!(workflow.entries(&source[..9]), Err(unread(2, false)));
+    assert!(unread(2, false).to_string().ends_with(", at line 2 of the source"));
 }
 
 #[test]
