@@ -4,7 +4,7 @@
 usage: tests/run_record.py [PROGRAM [ROUNDS]]
 
 PROGRAM is a built program, ./vrepl unless one is given. With ROUNDS nothing is tried but so many random tables. A server is started in a temporary folder (its own socket, no network), clients change the tables of two
-source shards, and record/feed writes their feeds. The dumps of merges and splits have to be what the
+source shards, and record/feed writes their feeds; beside these steps others go on over a server of their own. The dumps of merges and splits have to be what the
 statements of record/select print, byte for byte; a checkpoint is resumed over a feed that --append made
 longer, each stop of the recorder is shown, and the commands of docs/OPERATE.md print what it says. Where mariadb-server, python3-pymysql and python3-protobuf
 of the system aren't installed nothing is tried, and the script says so and counts nothing.
@@ -18,6 +18,7 @@ import subprocess
 import sys
 import time
 from collections.abc import Callable
+from contextlib import ExitStack
 
 ROOT = os.path.dirname(os.path.dirname(os.path.abspath(__file__)))
 OWN = "/usr/bin/python3"
@@ -151,13 +152,14 @@ def rounds_alone(trial: Trial) -> None:
 
 def merged_and_split(trial: Trial) -> None:
     """Both shards' feeds into one target, and into one of each key range."""
-    from record.load import SCHEMAS, SHARDS, VINDEXES, Load, creation, deadlock, tables_of
+    from record.load import SCHEMAS, SHARDS, VINDEXES, Load, creation, deadlock, large_transaction, tables_of
 
     trial.server.sql(creation() + "CREATE DATABASE aside; CREATE TABLE aside.t (v TEXT); ")
     load = Load(trial.server.socket, 1, clients=6, transactions=200, xa=True)
     trial.server.sql("INSERT INTO aside.t VALUES ('not recorded'); CREATE TABLE aside.t2 AS SELECT * FROM aside.t; DROP TABLE aside.t; ")
     done = load.wait()
     done["deadlock"] += deadlock(trial.server.socket)
+    large_transaction(trial.server.socket)
     missing = {"commit", "rollback", "xa", "deadlock", "_again", "_move", "_replace", "_upsert", "_undone", "_many"} - (+done).keys()
     trial.check("load", f"no {missing}" if missing else None)
     feeds = [trial.path(f"{schema}.feed") for schema in SCHEMAS]
@@ -188,10 +190,14 @@ def library_reads(trial: Trial, feed: str) -> None:
     from recorder.messages import EventType, Response, frames
 
     data, told, groups, faults = read_file(feed), set(), [], 0
+    kinds: list[int] = []
     for start, end in frames(data):
         events = Response.FromString(data[start:end]).events
-        kinds = [event.type for event in events]
-        faults += kinds[:1] not in ([EventType.BEGIN], [EventType.GTID]) or kinds.count(EventType.GTID) != 1
+        # (a group of more than a megabyte is in several messages)
+        kinds += [event.type for event in events]
+        if EventType.GTID in kinds:
+            faults += kinds[:1] not in ([EventType.BEGIN], [EventType.GTID]) or kinds.count(EventType.GTID) != 1
+            kinds = []
         groups += [event.gtid.removeprefix("MySQL56/") for event in events if event.type == EventType.GTID]
         for event in events:
             if event.type == EventType.FIELD:
@@ -199,7 +205,7 @@ def library_reads(trial: Trial, feed: str) -> None:
                 told.add(event.field_event.table_name)
             faults += event.type == EventType.ROW and event.row_event.table_name not in told
     shown = [line.split()[2].decode() for line in trial.made(trial.program, "show", feed).splitlines() if line.startswith(b"group ")]
-    trial.check("messages", None if not faults and groups == shown else f"{faults} faults, {len(groups)} groups and {len(shown)} shown")
+    trial.check("messages", None if not faults and not kinds and groups == shown else f"{faults} faults, {len(groups)} groups and {len(shown)} shown")
 
 
 def kinds(trial: Trial) -> None:
@@ -409,6 +415,13 @@ def large(trial: Trial) -> None:
     large.large(trial)
 
 
+def compared(trial: Trial) -> None:
+    """Rows held to rows while clients write."""
+    from record import comparing
+
+    comparing.compared(trial)
+
+
 def from_vtgate(trial: Trial) -> None:
     """Feeds from what VTGate sends, by its changes and by a copy, over a stand-in for it."""
     from record.vtgate_trials import vtgate
@@ -416,15 +429,67 @@ def from_vtgate(trial: Trial) -> None:
     vtgate(trial)
 
 
-STEPS: list[Callable[[Trial], None]] = [
-    statements, stops, prepared, reached, harmless, random_tables, merged_and_split, by_hash, kinds, portions, grown, late, workflows, from_vtgate, operated, kept, living, anew, large,
+STEPS: list[list[Callable[[Trial], None]]] = [
+    [statements, stops, prepared, reached, harmless, random_tables, merged_and_split, by_hash, kinds, portions, grown, late, workflows, from_vtgate,
+     operated, living],
+    [kept, anew, large, compared],
 ]  # fmt: skip
+"""Side by side, each over a server of its own: a step may need what one before it has made."""
+
+
+def tried(steps: list[Callable[[Trial], None]], program: str) -> tuple[int, int]:
+    """How many checks of some steps passed, and how many failed."""
+    from record.server import Server
+
+    with Server() as server:
+        trial = Trial(server, program)
+        for step in steps:
+            try:
+                step(trial)
+            except Exception as fault:  # noqa: BLE001
+                trial.check(step.__name__, f"{type(fault).__name__}: {str(fault)[:600]}")
+            if os.environ.get("RECORD_TIMES"):
+                print(f"{step.__name__}: {time.monotonic() - trial.begun:.0f} s", flush=True)
+        return trial.passed, trial.failed
+
+
+class Aside:
+    """Steps that are tried in a process of their own. Use it with `with`: that ends it, if it goes on."""
+
+    def __init__(self, steps: list[Callable[[Trial], None]], program: str) -> None:
+        from record.server import die_with_parent
+
+        self._begin, end = os.pipe()
+        self._pid = os.fork()
+        if self._pid == 0:
+            try:
+                die_with_parent()
+                os.write(end, "{} {}".format(*tried(steps, program)).encode())
+            except Exception as fault:  # noqa: BLE001
+                print(f"record: {fault!r}", flush=True)
+            finally:
+                os._exit(0)
+        os.close(end)
+
+    def __enter__(self) -> "Aside":
+        return self
+
+    def counts(self) -> tuple[int, int]:
+        """How many checks passed, and how many failed, when all were tried."""
+        with open(self._begin, "rb", closefd=False) as pipe:
+            said = pipe.read().split()
+        return (int(said[0]), int(said[1])) if said else (0, 1)
+
+    def __exit__(self, *_: object) -> None:
+        os.kill(self._pid, signal.SIGTERM)
+        os.waitpid(self._pid, 0)
+        os.close(self._begin)
 
 
 def main() -> int:
     if not has_modules() and os.access(OWN, os.X_OK) and not os.environ.get("OWN_PYTHON"):
         os.execve(OWN, [OWN, os.path.abspath(__file__), *sys.argv[1:]], {**os.environ, "OWN_PYTHON": "1"})
-    from record.server import Server, is_installed
+    from record.server import is_installed
 
     if not has_modules() or not is_installed():
         print("mariadbd, mariadb-install-db, mariadb, python3-pymysql and python3-protobuf are not all installed: nothing was recorded\n0 passed, 0 failed")
@@ -433,17 +498,14 @@ def main() -> int:
         signal.signal(number, lambda *_: sys.exit(1))
     # a shell without job control has what runs aside ignore it, and so would the recorders that are sent it
     signal.signal(signal.SIGINT, signal.default_int_handler)
-    with Server() as server:
-        trial = Trial(server, os.path.abspath(sys.argv[1] if len(sys.argv) > 1 else os.path.join(ROOT, "vrepl")))
-        for step in [rounds_alone] if len(sys.argv) > 2 else STEPS:
-            try:
-                step(trial)
-            except Exception as fault:  # noqa: BLE001
-                trial.check(step.__name__, f"{type(fault).__name__}: {str(fault)[:600]}")
-            if os.environ.get("RECORD_TIMES"):
-                print(f"{step.__name__}: {time.monotonic() - trial.begun:.0f} s", flush=True)
-    print(f"{trial.passed} passed, {trial.failed} failed")
-    return 1 if trial.failed else 0
+    program = os.path.abspath(sys.argv[1] if len(sys.argv) > 1 else os.path.join(ROOT, "vrepl"))
+    first, *others = [[rounds_alone]] if len(sys.argv) > 2 else STEPS
+    with ExitStack() as opened:
+        begun = [opened.enter_context(Aside(steps, program)) for steps in others]
+        counts = [tried(first, program), *(one.counts() for one in begun)]
+    passed, failed = map(sum, zip(*counts))
+    print(f"{passed} passed, {failed} failed")
+    return 1 if failed else 0
 
 
 if __name__ == "__main__":

@@ -10,7 +10,6 @@ and the most memory that record/feed had. The last lines are what one more trans
 import argparse
 import os
 import shutil
-import subprocess
 import sys
 import tempfile
 
@@ -18,6 +17,7 @@ ROOT = os.path.dirname(os.path.dirname(os.path.dirname(os.path.abspath(__file__)
 sys.dont_write_bytecode = True
 sys.path[:0] = [os.path.join(ROOT, "tests"), os.path.join(ROOT, "record")]
 
+from record.commands import used_by  # noqa: E402
 from record.server import Server  # noqa: E402
 
 PYCACHE = tempfile.mkdtemp(prefix="vrepl-record-")
@@ -51,14 +51,8 @@ def fill(server: Server, columns: str, row: str, together: int, count: int, upda
 def taken(words: list[str]) -> tuple[float, int]:
     """The processor's seconds that a command takes, and its most memory in bytes."""
     # Python keeps what it has made of the modules, as it does where nothing is said
-    told = {name: value for name, value in os.environ.items() if name != "PYTHONDONTWRITEBYTECODE"} | {"PYTHONPYCACHEPREFIX": PYCACHE}
-    with open(os.devnull, "wb") as nowhere:
-        process = subprocess.Popen(words, stdout=nowhere, stderr=subprocess.PIPE, env=told)
-        said = process.stderr.read()
-        _, status, used = os.wait4(process.pid, 0)
-    if status:
-        raise SystemExit(f"{words[0]}: {said.decode()}")
-    return used.ru_utime + used.ru_stime, used.ru_maxrss * 1024
+    memory, seconds = used_by(*words, PYTHONDONTWRITEBYTECODE="", PYTHONPYCACHEPREFIX=PYCACHE)
+    return seconds, memory
 
 
 def measure(name: str, binlog: str, rows: int, rounds: int) -> None:
@@ -90,6 +84,7 @@ def main() -> None:
     parser.add_argument("--rounds", type=int, default=3)
     parser.add_argument("shapes", nargs="*", choices=[*SHAPES, []], default=[])
     said = parser.parse_args()
+    said.binlog = shutil.which(said.binlog) or parser.error(f"no program {said.binlog}")
     for name in said.shapes or SHAPES:
         measure(name, said.binlog, said.rows, said.rounds)
     shutil.rmtree(PYCACHE)

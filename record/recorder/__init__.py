@@ -4,11 +4,13 @@ Modules, from the lowest up; each has one idea:
 
     stop          why a recording ends early, as one line
     ending        signals, standard output and error, and a command's one line and status
+    usage         the words of a command line
     files         one lock a file, and new files that take their place whole
     kinds         the numbers of column types
     numbers       decimal numbers and floats, from the log's bytes to the server's text
     cells         a column's value in the log, to the bytes that the server prints
-    messages      the messages of a feed, as bytes
+    wire          the messages of a feed as bytes, which the module `vrepl` of Python writes by this file too
+    messages      what of a message is asked alone
     protos        the messages of a feed, as classes of Google's protobuf library
     gtids         GTID sets, as the program reads them
     position      sets of transactions, from MariaDB's domains to GTID sets
@@ -36,6 +38,10 @@ Modules, from the lowest up; each has one idea:
     plans         workflow files, and all that a reshard needs
     forever       a recording that goes on with each transaction as it commits
     filters       a workflow's filters as conditions of SQL
+    program       the program, and what it answers
+    moments       the positions at which rows are compared, and the beginning of a feed that is up to one
+    checkpoints   the rows of one stream in a checkpoint
+    comparing     a snapshot's rows held to those of the feeds at its position
     vstream       what VTGate sends of one shard, as a feed
     vcopy         the rows of a keyspace by VStream's own copy, as a feed's first group
     vcall         the call that asks VTGate, and whether the other side is still there

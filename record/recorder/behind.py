@@ -10,13 +10,13 @@ from .feedfile import FeedFile
 from .files import held_path, open_file, writing
 from .groups import Change, Groups
 from .held import HeldRows, key_bytes
-from .messages import change_bytes
 from .note import Note, groups_between
 from .oldfeed import OldFeed
 from .position import Position
 from .snapshot import Snapshot, in_portions
 from .statements import Name
 from .stop import ANEW, Stop
+from .wire import change_bytes
 
 
 class Behind:

@@ -11,7 +11,9 @@ from datetime import UTC, datetime
 from .kinds import Kind
 from .numbers import decimal_reader, decimal_size, fixed_text, float_text
 
-Reader = Callable[[bytes, int], tuple[bytes, int]]
+Bytes = bytes | memoryview
+"""Bytes, or where they are many a view of them."""
+Reader = Callable[[Bytes, int], tuple[Bytes, int]]
 """Reads a value that isn't NULL: answers what the server prints, and where the value ends.
 IndexError or struct.error where the bytes end inside the value."""
 
@@ -54,7 +56,7 @@ INTEGERS = {
 
 
 def _integer(size: int, signed: bool, width: int) -> Reader:
-    def read(data: bytes, at: int) -> tuple[bytes, int]:
+    def read(data: Bytes, at: int) -> tuple[Bytes, int]:
         end = at + size
         number = int.from_bytes(data[at:end], "little", signed=signed)
         return b"%0*d" % (width, number) if width else b"%d" % number, end
@@ -65,12 +67,12 @@ def _integer(size: int, signed: bool, width: int) -> Reader:
 def _counted(size: int, least: int = 0) -> Reader:
     """Bytes behind their count, which has `size` bytes; made up with 00 to `least`."""
 
-    def read(data: bytes, at: int) -> tuple[bytes, int]:
+    def read(data: Bytes, at: int) -> tuple[Bytes, int]:
         start = at + size
         end = start + int.from_bytes(data[at:start], "little")
         if end > len(data):
             raise IndexError("a value is cut short")
-        return data[start:end].ljust(least, b"\0"), end
+        return bytes(data[start:end]).ljust(least, b"\0") if least else data[start:end], end
 
     return read
 
@@ -114,12 +116,12 @@ MONTHS = Texts(lambda bits: b"%04d-%02d-%02d " % (bits // 32 // 13, bits // 32 %
 """Of months since the year 0, of which a year has thirteen, and days of five bits."""
 
 
-def _date(data: bytes, at: int) -> tuple[bytes, int]:
+def _date(data: Bytes, at: int) -> tuple[bytes, int]:
     return DATES[int.from_bytes(data[at:at + 3], "little")], at + 3
 
 
 def _year(digits: int) -> Reader:
-    def read(data: bytes, at: int) -> tuple[bytes, int]:
+    def read(data: Bytes, at: int) -> tuple[Bytes, int]:
         year = 1900 + data[at] if data[at] else 0
         return (b"%02d" % (year % 100) if digits == 2 else b"%04d" % year), at + 1
 
@@ -129,7 +131,7 @@ def _year(digits: int) -> Reader:
 def _time(digits: int) -> Reader:
     size, more = 3 + fraction_bytes(digits), 8 * fraction_bytes(digits)
 
-    def read(data: bytes, at: int) -> tuple[bytes, int]:
+    def read(data: Bytes, at: int) -> tuple[Bytes, int]:
         value = int.from_bytes(data[at:at + size], "big") - (0x800000 << more)
         sign, value = (b"-", -value) if value < 0 else (b"", value)
         return sign + CLOCK[value >> more & 0x3FFFFF] + _fraction(value & (1 << more) - 1, digits), at + size
@@ -140,7 +142,7 @@ def _time(digits: int) -> Reader:
 def _datetime(digits: int) -> Reader:
     more = fraction_bytes(digits)
 
-    def read(data: bytes, at: int) -> tuple[bytes, int]:
+    def read(data: Bytes, at: int) -> tuple[Bytes, int]:
         value = int.from_bytes(data[at:at + 5], "big") - 0x8000000000
         text = MONTHS[value >> 17] + CLOCK[value & 0x1FFFF]
         if not digits:
@@ -154,7 +156,7 @@ def _datetime(digits: int) -> Reader:
 def _timestamp(digits: int) -> Reader:
     more = fraction_bytes(digits)
 
-    def read(data: bytes, at: int) -> tuple[bytes, int]:
+    def read(data: Bytes, at: int) -> tuple[Bytes, int]:
         seconds = int.from_bytes(data[at:at + 4], "big")
         end = at + 4 + more
         fraction = int.from_bytes(data[at + 4:end], "big")
@@ -166,22 +168,29 @@ def _timestamp(digits: int) -> Reader:
 
 def _float(pattern: str, digits: int, printing: Printing) -> Reader:
     form, places, width = struct.Struct(pattern), printing.places, printing.width
+    size = form.size
 
-    def read(data: bytes, at: int) -> tuple[bytes, int]:
+    def read(data: Bytes, at: int) -> tuple[Bytes, int]:
+        (number,) = form.unpack_from(data, at)
+        return float_text(number, digits), at + size
+
+    def read_fixed(data: Bytes, at: int) -> tuple[Bytes, int]:
         (number,) = form.unpack_from(data, at)
         text = float_text(number, digits) if places is None else fixed_text(number, places)
-        return text.zfill(width), at + form.size
+        return text.zfill(width), at + size
 
-    return read
+    return read if places is None and not width else read_fixed
 
 
 def _decimal(precision: int, scale: int, width: int) -> Reader:
     size, text_of = decimal_size(precision, scale), decimal_reader(precision, scale)
-    return lambda data, at: (text_of(data[at:at + size]).zfill(width), at + size)
+    if width:
+        return lambda data, at: (text_of(data[at:at + size]).zfill(width), at + size)
+    return lambda data, at: (text_of(data[at:at + size]), at + size)
 
 
 def _label(size: int, labels: tuple[bytes, ...]) -> Reader:
-    def read(data: bytes, at: int) -> tuple[bytes, int]:
+    def read(data: Bytes, at: int) -> tuple[Bytes, int]:
         number = int.from_bytes(data[at:at + size], "little")
         return (labels[number - 1] if number else b""), at + size
 
@@ -189,7 +198,7 @@ def _label(size: int, labels: tuple[bytes, ...]) -> Reader:
 
 
 def _labels(size: int, labels: tuple[bytes, ...], comma: bytes) -> Reader:
-    def read(data: bytes, at: int) -> tuple[bytes, int]:
+    def read(data: Bytes, at: int) -> tuple[Bytes, int]:
         bits, text = int.from_bytes(data[at:at + size], "little"), b""
         for bit, label in enumerate(labels):
             if bits >> bit & 1:

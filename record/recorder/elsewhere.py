@@ -27,15 +27,16 @@ class Elsewhere:
                 return
         raise Stop("the log was purged", f"behind {reached.gtids()}, where the feed ends", BEHIND)
 
-    def unread(self, read: Iterator[tuple[str, Event]]) -> Iterator[tuple[str, Event]]:
+    def unread(self, read: Iterator[Event]) -> Iterator[Event]:
         """The events of a log from the start on; those of transactions that the feed has say nothing."""
         is_had = False
-        for log, event in read:
+        for event in read:
             if event.kind == LogEvent.GTID:
                 is_had = self._meet(GtidEvent.read(event.body), event.server)
             if is_had and event.kind not in OF_THE_LOG:
                 event = event._replace(kind=LogEvent.BINLOG_CHECKPOINT, body=b"")
-            yield log, event
+            yield event
+            event = None
 
     def _meet(self, event: GtidEvent, server: int) -> bool:
         gtid, last = Gtid(event.domain, server, event.sequence), self._reached.last.get(event.domain)

@@ -50,7 +50,7 @@ class _Signals:
                 signal.signal(number, signal.SIG_IGN)
 
     def check(self) -> None:
-        if self.asked and not self.held and not self.over:
+        if self.asked and self.held <= 0 and not self.over:
             raise Ended(self.asked)
 
 
@@ -67,6 +67,34 @@ class Held:
         _SIGNALS.held -= 1
         if kind is None:
             _SIGNALS.check()
+
+
+class Waiting(Held):
+    """Use it with `with`, for a wait in a library that a signal may not leave in its midst: another thread ends the wait where
+    `is_over`, and behind it the signal is raised."""
+
+    def __enter__(self) -> "Waiting":
+        super().__enter__()
+        return self
+
+    def is_over(self) -> bool:
+        """Whether a signal asked for the end, and nothing around this is done as a whole."""
+        return bool(_SIGNALS.asked) and _SIGNALS.held <= 1
+
+
+class Free:
+    """Use it with `with`, within `Held`: what stands in it a signal ends, and all that is done behind it is done as a whole."""
+
+    def __enter__(self) -> None:
+        _SIGNALS.held -= 1
+        try:
+            _SIGNALS.check()
+        except Ended:
+            _SIGNALS.held += 1
+            raise
+
+    def __exit__(self, *_: object) -> None:
+        _SIGNALS.held += 1
 
 
 class Last(Held):

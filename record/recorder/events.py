@@ -10,7 +10,7 @@ from dataclasses import dataclass
 from enum import IntEnum
 from typing import NamedTuple
 
-from .cells import LogType
+from .cells import Bytes, LogType
 
 HEADER = struct.Struct("<IBIIIH")
 
@@ -60,24 +60,24 @@ IGNORABLE = 0x80
 
 
 class Event(NamedTuple):
-    """One event: `kind` is its number, `end` where it ends in its log (0 where the server made it up)."""
+    """One event: `log` is its file's name, `kind` its number, `end` where it ends there (0 where the server made it up)."""
 
+    log: str
     time: int
     kind: int
     server: int
     end: int
     flags: int
-    body: bytes
+    body: Bytes
 
 
-def event_at(data: bytes, start: int, behind: int) -> Event:
-    """The event between two places of some bytes."""
-    time, kind, server, _size, end, flags = _unpack(data, start)
-    return _new(Event, (time, kind, server, end, flags, data[start + HEADER_SIZE:behind]))
+def event_of(log: str, data: Bytes, behind: int) -> Event:
+    """The event that some bytes are up to a place."""
+    time, kind, server, _size, end, flags = HEADER.unpack_from(data)
+    return Event(log, time, kind, server, end, flags, data[HEADER.size:behind])
 
 
-HEADER_SIZE = HEADER.size
-_new, _unpack, _unpack_gtid = tuple.__new__, HEADER.unpack_from, struct.Struct("<QIB").unpack_from
+_unpack_gtid = struct.Struct("<QIB").unpack_from
 
 
 class GtidEvent(NamedTuple):
@@ -89,13 +89,13 @@ class GtidEvent(NamedTuple):
     """The id of an XA transaction that is prepared or ended here, or none."""
 
     @classmethod
-    def read(cls, body: bytes) -> "GtidEvent":
+    def read(cls, body: Bytes) -> "GtidEvent":
         sequence, domain, flags = _unpack_gtid(body)
         xa = b""
         if flags & (0x40 | 0x80):
             at = 13 + (8 if flags & 2 else 0)
             xa = body[at:at + 6 + body[at + 4] + body[at + 5]]
-        return cls(domain, sequence, bool(flags & 1), xa)
+        return tuple.__new__(cls, (domain, sequence, bool(flags & 1), xa))
 
 
 @dataclass(frozen=True)
@@ -112,15 +112,17 @@ class TableMap:
 
 @dataclass(frozen=True)
 class RowsHead:
-    """What stands before the rows of a row event: the table's number, how many columns the images have, and
-    whether each image has all of them; and the rows' bytes."""
+    """What stands before the rows of a row event: the table's number, how many columns the images have, and whether each
+    image has all of them; and the bytes in which the rows are from a place on."""
 
     number: int
     columns: int
     whole: bool
-    rows: bytes
+    data: Bytes
+    at: int
 
 
+MOST_UNPACKED = 2**30
 # how many bytes of metadata a type has in a table map
 _META = {4: 1, 5: 1, 15: 2, 16: 2, 17: 1, 18: 1, 19: 1, 140: 1, 141: 2, 245: 1, 246: 2, 247: 2, 248: 2, 252: 1, 253: 2, 254: 2, 255: 1}
 _COLUMN_NAME = 4
@@ -169,7 +171,7 @@ def _column_names(body: bytes, at: int) -> tuple[str, ...] | None:
     return None
 
 
-def read_rows_head(kind: int, body: bytes) -> RowsHead:
+def read_rows_head(kind: int, body: Bytes) -> RowsHead:
     number, at = int.from_bytes(body[:6], "little"), 8
     if kind in (30, 31, 32) or 169 <= kind <= 171:
         at += int.from_bytes(body[at:at + 2], "little")
@@ -179,13 +181,16 @@ def read_rows_head(kind: int, body: bytes) -> RowsHead:
         bits = int.from_bytes(body[at:at + size], "little")
         whole = whole and bits & (1 << columns) - 1 == (1 << columns) - 1
         at += size
-    rows = body[at:]
-    return RowsHead(number, columns, whole, _unpacked(rows) if kind >= LogEvent.WRITE_ROWS_COMPRESSED_V1 else rows)
+    if kind >= LogEvent.WRITE_ROWS_COMPRESSED_V1:
+        return RowsHead(number, columns, whole, _unpacked(body[at:]), 0)
+    return RowsHead(number, columns, whole, body, at)
 
 
-def _unpacked(data: bytes) -> bytes:
+def _unpacked(data: Bytes) -> bytes:
     """What was packed with log_bin_compress: a byte with the size of the length, the length, zlib's bytes."""
-    return zlib.decompress(data[1 + (data[0] & 7):])
+    behind = 1 + (data[0] & 7)
+    # (where there is room for all of it no second copy is made)
+    return zlib.decompress(data[behind:], bufsize=max(1, min(MOST_UNPACKED, int.from_bytes(data[1:behind], "big"))))
 
 
 @dataclass(frozen=True)
@@ -194,7 +199,8 @@ class QueryEvent:
     text: str
 
     @classmethod
-    def read(cls, kind: int, body: bytes) -> "QueryEvent":
+    def read(cls, kind: int, body: Bytes) -> "QueryEvent":
+        body = bytes(body)
         schema, variables = body[8], int.from_bytes(body[11:13], "little")
         at = 13 + variables
         text = body[at + schema + 1:]

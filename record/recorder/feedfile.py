@@ -13,11 +13,12 @@ from tempfile import SpooledTemporaryFile
 from .ending import Held, tell
 from .files import PIECE, is_at, kind_at, new_file, not_written, open_file, put, write_at, writing
 from .groups import Change, Groups
+from .messages import Message, pieces_of
 from .note import Note, groups_between, note_path
 from .stop import ANEW, Stop
 
 MOST = 2**31 - 1
-KEPT_IN_MEMORY = 2**24
+KEPT_IN_MEMORY = 2**22
 
 
 class FeedFile:
@@ -91,28 +92,39 @@ class FeedFile:
         if not self.is_beyond:
             return False
         [data] = self._groups.group([], position, 0)
-        found = self._finds(data)
+        found = self._finds(data, len(data))
         if found:
             self.message(data)
         return found
 
-    def _finds(self, data: bytes) -> bool:
-        return self._kept + len(data) <= self._there and os.pread(self._file, len(data), self._kept) == data
+    def _finds(self, message: Message, size: int) -> bool:
+        at = self._kept
+        if at + size > self._there:
+            return False
+        for piece in pieces_of(message):
+            if os.pread(self._file, len(piece), at) != piece:
+                return False
+            at += len(piece)
+        return True
 
-    def message(self, data: bytes) -> None:
+    def message(self, message: Message) -> None:
         """A message, behind which a group needn't end."""
-        if self.size + len(data) > MOST:
+        size = len(message) if isinstance(message, bytes) else sum(map(len, message))
+        if self.size + size > MOST:
             raise Stop(f"a feed of more than {MOST} bytes", f"for {self.path}", "record fewer tables, or fewer in each feed")
         self._is_sound = False
         try:
-            if self._kept == self.size < self._there and self._finds(data):
-                self._kept += len(data)
+            if self._kept == self.size < self._there and self._finds(message, size):
+                self._kept += size
             else:
-                self._aside.write(data)
+                if size >= KEPT_IN_MEMORY and isinstance(self._aside, SpooledTemporaryFile):
+                    self._aside.rollover()
+                for piece in pieces_of(message):
+                    self._aside.write(piece)
         except OSError as fault:
             raise not_written(self.path, fault) from None
         self._is_sound = True
-        self._last, self.size = self.size, self.size + len(data)
+        self._last, self.size = self.size, self.size + size
 
     def put(self, note: Note | None) -> None:
         """Puts the groups, and then the note where there is one, in their places. No signal may come between."""

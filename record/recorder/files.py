@@ -14,7 +14,7 @@ from collections.abc import Iterator
 from contextlib import contextmanager, suppress
 
 from .ending import Held
-from .stop import Stop
+from .stop import Stop, Taken
 
 _NUMBERS = itertools.count(1)
 _NO_LINKS = {errno.EPERM, errno.EOPNOTSUPP, errno.ENOSYS, errno.EMLINK}
@@ -55,7 +55,7 @@ class Lock:
             fcntl.flock(self._file, fcntl.LOCK_EX | fcntl.LOCK_NB)
         except BlockingIOError:
             os.close(self._file)
-            raise Stop("another recording writes this feed", f"at {self._path}", f"it holds {self._name}; let it end, or end it") from None
+            raise Taken("another recording writes this feed", f"at {self._path}", f"it holds {self._name}; let it end, or end it") from None
         taken = is_at(self._file, self._name)
         if not taken:
             os.close(self._file)

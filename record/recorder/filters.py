@@ -114,10 +114,15 @@ def _literal(text: str) -> str:
 def dump_query(workflow: dict, schemas: list[str]) -> str:
     """The statements that print the dump of a workflow's target, from one schema a stream. For
     `mariadb --batch --raw --skip-column-names`. ValueError where there aren't as many schemas as streams."""
+    return "".join(f"{statement};\n" for statement in dump_statements(workflow, schemas))
+
+
+def dump_statements(workflow: dict, schemas: list[str]) -> list[str]:
+    """Those statements; each but the first answers lines of the dump."""
     streams = workflow["streams"]
     if len(streams) != len(schemas):
         raise ValueError(f"{len(streams)} streams and {len(schemas)} schemas")
-    lines = ["SET NAMES utf8mb4, sql_mode='NO_BACKSLASH_ESCAPES', time_zone='+00:00', max_sort_length=16384;"]
+    statements = ["SET NAMES utf8mb4, sql_mode='NO_BACKSLASH_ESCAPES', time_zone='+00:00', max_sort_length=16384"]
     for table in map(Planned.read, workflow["tables"]):
         parts, order = [], [f"k{at}" for at in range(len(table.key))]
         keys = ", ".join(f"{what} AS {name}" for what, name in zip(table.order(), order))
@@ -126,11 +131,25 @@ def dump_query(workflow: dict, schemas: list[str]) -> str:
             if filtered is not None:
                 cells = table.cells(table.kept(filtered))
                 parts.append(f"SELECT {cells} AS line, {keys} FROM {quoted(schema)}.{quoted(table.name)} WHERE {table.condition(filtered)}")
-        lines.append(f"SELECT {_literal('table ' + table.name)};")
+        statements.append(f"SELECT {_literal('table ' + table.name)}")
         if parts:
             union = "\n  UNION ALL ".join(parts)
-            lines.append(f"SELECT line FROM (\n  {union}\n) AS dumped ORDER BY {', '.join(order)};")
-    return "\n".join(lines) + "\n"
+            statements.append(f"SELECT line FROM (\n  {union}\n) AS dumped ORDER BY {', '.join(order)}")
+    return statements
+
+
+def of_stream(workflow: dict, number: int) -> dict:
+    """The workflow of the rows of one of its streams."""
+    return workflow | {"streams": [workflow["streams"][number]]}
+
+
+def of_target(workflow: dict) -> dict:
+    """The workflow whose source is a workflow's target: its tables with the kept columns, and all rows of them."""
+    tables = []
+    for said, table in zip(workflow["tables"], map(Planned.read, workflow["tables"])):
+        columns = [[name, table.kinds[name]] for name in kept_columns(workflow, table)]
+        tables.append({"name": table.name, "columns": columns, "key": said["key"]})
+    return workflow | {"tables": tables, "streams": [{"shard": "-", "filter": {"rules": [{"match": "/.*", "filter": ""}]}}]}
 
 
 def sure_workflow(workflow: dict) -> dict:

@@ -105,10 +105,10 @@ class _Live:
                     raise _Altered
         raise Lost("the server ended the log", f"behind {reading.place}", AGAIN)
 
-    def _with_rests(self, read: Iterator[tuple[str, Event]]) -> Iterator[tuple[str, Event]]:
+    def _with_rests(self, read: Iterator[Event]) -> Iterator[Event]:
         """The events; at each heartbeat, and amid a long transaction, what was read before is put."""
         reading = self._recording.reading
-        for log, event in read:
+        for event in read:
             if event.kind == LogEvent.HEARTBEAT and reading.is_between:
                 with Held():
                     self._recording.keep(reading.place)
@@ -118,7 +118,8 @@ class _Live:
             elif self._feed.waits and time.monotonic() >= self._put_at + TOGETHER:
                 with Held():
                     self._put()
-            yield log, event
+            yield event
+            event = None
 
     def _take(self, transaction: Transaction) -> None:
         self._recording.take(transaction)

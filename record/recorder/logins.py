@@ -52,6 +52,11 @@ def login_of(said: argparse.Namespace) -> Login:
         raise Stop(f"port {file['port']}", f"in {said.defaults_file}", "it isn't a number") from None
 
 
+def of_file(name: str) -> Login:
+    """The login that an option file says by itself."""
+    return login_of(argparse.Namespace(socket=None, host=None, port=None, user=None, ssl_ca=None, defaults_file=name))
+
+
 def _check_certificates(name: str) -> None:
     try:
         ssl.create_default_context(cafile=name)

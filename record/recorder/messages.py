@@ -1,12 +1,13 @@
-"""The messages of a feed (docs/FORMATS.md, 'Messages'): the bytes of those that are written again and again, and what of a
-message is asked alone. What reads all of one goes by the classes of `protos`, which take a while to come and are read when
+"""The messages of a feed (docs/FORMATS.md, 'Messages'): what the program takes of them, and what of a message is asked alone.
+What writes them is `wire`. What reads all of one goes by the classes of `protos`, which take a while to come and are read when
 one of them is asked for."""
+import errno
+import os
 from collections.abc import Iterator
-from enum import IntEnum
+from typing import BinaryIO
 
-ROWS, FIELDS, GTID, VGTID = 5, 6, 3, 7
-"""The numbers of an event's fields."""
-
+from . import wire
+from .wire import GTID, VGTID, EventType, varint
 
 MOST_OF_FEED = 2**31 - 1
 MOST_OF_ROW = 2**24
@@ -23,23 +24,41 @@ def __getattr__(name: str) -> type:
 
 Row = tuple[bytes | None, ...]
 """A row: the bytes of each column, None for NULL."""
+PIECE = 2**20
+"""The bytes that are read at once of what lies in a file."""
 
 
-class EventType(IntEnum):
-    GTID = 1
-    BEGIN = 2
-    COMMIT = 3
-    ROLLBACK = 4
-    DDL = 5
-    OTHER = 11
-    ROW = 12
-    FIELD = 13
-    HEARTBEAT = 14
-    VGTID = 15
-    VERSION = 17
-    LASTPK = 18
-    SAVEPOINT = 19
-    COPY_COMPLETED = 20
+class Stored:
+    """Bytes that lie in a file, from a place on."""
+
+    __slots__ = ("_file", "_at", "_size")
+
+    def __init__(self, file: BinaryIO, at: int, size: int) -> None:
+        self._file, self._at, self._size = file, at, size
+
+    def __len__(self) -> int:
+        return self._size
+
+    def pieces(self) -> Iterator[bytes]:
+        """The bytes, one behind the other. OSError where they can't be read."""
+        at, end = self._at, self._at + self._size
+        while at < end:
+            self._file.seek(at)
+            data = self._file.read(min(PIECE, end - at))
+            if not data:
+                raise OSError(errno.EIO, os.strerror(errno.EIO))
+            yield data
+            at += len(data)
+
+
+Message = bytes | list[bytes | Stored]
+"""A message behind its length, as a whole or in parts."""
+
+
+def pieces_of(message: Message) -> Iterator[bytes]:
+    """The bytes of a message, one behind the other."""
+    for part in [message] if isinstance(message, bytes) else message:
+        yield from part.pieces() if isinstance(part, Stored) else (part,)
 
 
 class LongRow(ValueError):
@@ -49,28 +68,9 @@ class LongRow(ValueError):
         super().__init__(f"a row of more than {MOST_OF_ROW} bytes")
 
 
-def varint(number: int) -> bytes:
-    head = bytearray()
-    while number > 0x7F:
-        head.append(number & 0x7F | 0x80)
-        number >>= 7
-    head.append(number)
-    return bytes(head)
-
-
-SIZES = [bytes((number,)) for number in range(0x80)] + [bytes((number & 0x7F | 0x80, number >> 7)) for number in range(0x80, 1 << 14)]
-"""The varints of small numbers."""
-
-
-def sized(number: int) -> bytes:
-    return SIZES[number] if number < len(SIZES) else varint(number)
-
-
 def row_bytes(row: Row) -> bytes:
     """A Row message. LongRow where it is above the limit."""
-    lengths = b"".join([b"\1" if cell is None else sized(2 * len(cell)) for cell in row])
-    values = b"".join([cell for cell in row if cell])
-    data = b"\x0a" + sized(len(lengths)) + lengths + (b"\x12" + sized(len(values)) + values if values else b"")
+    data = wire.row_bytes(row)
     if len(data) > MOST_OF_ROW:
         raise LongRow
     return data
@@ -96,46 +96,15 @@ def cells_of(row, count: int | None = None) -> Row:
     return tuple(cells)
 
 
-def change_bytes(before: bytes | None, after: bytes | None) -> bytes:
-    """A row change among those of a RowEvent, of the Row messages before and after."""
-    body = b"" if before is None else b"\x0a" + sized(len(before)) + before
-    if after is not None:
-        body += b"\x12" + sized(len(after)) + after
-    return b"\x12" + sized(len(body)) + body
-
-
-def head_bytes(kind: EventType, time: int, number: int) -> bytes:
-    """How an event begins, up to the size of its field of this number, if it has one."""
-    return b"\x08" + sized(kind) + (b"\x10" + varint(time) if time else b"") + (sized(number * 8 + 2) if number else b"")
-
-
-def behind_head(head: bytes, size: int) -> bytes:
-    """What stands before so many bytes of a field, in an event among those of a VStreamResponse."""
-    said = sized(size)
-    return b"\x0a" + sized(len(head) + len(said) + size) + head + said
-
-
-def event_bytes(kind: EventType, time: int, number: int = 0, *parts: bytes) -> bytes:
-    """An event among those of a VStreamResponse; what stands in its field of this number is in parts."""
-    head = head_bytes(kind, time, number)
-    return b"".join([behind_head(head, sum(map(len, parts))) if number else b"\x0a" + sized(len(head)) + head, *parts])
-
-
-def text_bytes(number: int, text: str) -> bytes:
-    """A text as the field of this number."""
-    data = text.encode()
-    return sized(number * 8 + 2) + sized(len(data)) + data
-
-
 def fields(data: bytes) -> Iterator[tuple[int, int | bytes]]:
     """The fields of a message: their numbers, and what they have. ValueError or IndexError where the bytes are none."""
     at = 0
     while at < len(data):
-        tag, at = _number(data, at)
+        tag, at = number(data, at)
         if tag & 7 == 0:
-            value, at = _number(data, at)
+            value, at = number(data, at)
         elif tag & 7 == 2:
-            size, at = _number(data, at)
+            size, at = number(data, at)
             at += size
             if at > len(data):
                 raise ValueError("a field is cut short")
@@ -145,13 +114,14 @@ def fields(data: bytes) -> Iterator[tuple[int, int | bytes]]:
         yield tag >> 3, value
 
 
-def _number(data: bytes, at: int) -> tuple[int, int]:
-    number = shift = 0
+def number(data: bytes, at: int) -> tuple[int, int]:
+    """A varint, and where it ends."""
+    value = shift = 0
     while shift < 64:
-        number |= (data[at] & 0x7F) << shift
+        value |= (data[at] & 0x7F) << shift
         shift, at = shift + 7, at + 1
         if data[at - 1] < 0x80:
-            return number, at
+            return value, at
     raise ValueError("a number that is too long")
 
 

@@ -11,10 +11,16 @@ from dataclasses import asdict, dataclass, field
 
 from . import messages
 from .files import held_path, kind_at, left_files, new_file, open_file, put, read_file, sync_folder, write_at
-from .messages import EventType
 from .position import Position, sets_of
 from .server import Place
 from .stop import ANEW, Stop
+from .wire import EventType
+
+
+AT_ONCE = 2**16
+"""The bytes of a message above which it isn't read as a whole."""
+EVENT, OF_ROWS = 0x0A, bytes((0x08, EventType.ROW))
+"""The tag of an event in a message, and how one begins that has rows."""
 
 
 @dataclass
@@ -136,7 +142,7 @@ def is_of(file: int, note: Note) -> bool:
         note.last = last_message(file, note.size)
     if not 0 <= note.last <= note.size <= os.fstat(file).st_size or (note.last == note.size) != (note.position == ""):
         return False
-    return note.size == 0 or position_of(os.pread(file, note.size - note.last, note.last)) == note.position
+    return note.size == 0 or position_of(file, note.last, note.size) == note.position
 
 
 def ends(file: int, start: int, end: int) -> Iterator[int]:
@@ -164,10 +170,10 @@ def last_message(file: int, size: int) -> int:
     return before if at == size else size
 
 
-def position_of(data: bytes) -> str | None:
-    """The position of the group that one message ends, None where the bytes aren't such a message."""
+def position_of(file: int, start: int, end: int) -> str | None:
+    """The position of the group that one message ends, None where a file's bytes between two places aren't such a message."""
     try:
-        return messages.position_in(_events(data))
+        return messages.position_in(_events(file, start, end))
     except (ValueError, IndexError):
         return None
 
@@ -175,9 +181,8 @@ def position_of(data: bytes) -> str | None:
 def groups_between(file: int, start: int, end: int) -> Iterator[tuple[int, int, str]]:
     """Of each group of a feed that is whole between two places, where its last message begins, where it ends, and its position."""
     for behind in ends(file, start, end):
-        data = os.pread(file, behind - start, start)
-        position = position_of(data)
-        if not (_is_part(data) if position is None else _is_readable(position)):
+        position = position_of(file, start, behind)
+        if not (_is_part(file, start, behind) if position is None else _is_readable(position)):
             return
         if position is not None:
             yield start, behind, position
@@ -191,18 +196,39 @@ def _is_readable(position: str) -> bool:
         return False
 
 
-def _is_part(data: bytes) -> bool:
-    """Whether bytes are a message that ends no group."""
+def _is_part(file: int, start: int, end: int) -> bool:
+    """Whether a file's bytes between two places are a message that ends no group."""
     try:
-        return {messages.kind_of(event) for event in _events(data)} <= {EventType.BEGIN, EventType.FIELD, EventType.ROW}
+        return {messages.kind_of(event) for event in _events(file, start, end)} <= {EventType.BEGIN, EventType.FIELD, EventType.ROW}
     except (ValueError, IndexError):
         return False
 
 
-def _events(data: bytes) -> list[bytes]:
-    """The events of one message behind its length."""
-    [(start, end)] = messages.frames(data)
-    return [value for number, value in messages.fields(data[start:end]) if number == 1 and isinstance(value, bytes)]
+def _events(file: int, start: int, end: int) -> list[bytes]:
+    """The events of one message behind its length, between two places of a file; of one with many rows its kind alone."""
+    if end - start <= AT_ONCE:
+        data = os.pread(file, end - start, start)
+        [(begin, behind)] = messages.frames(data)
+        return [value for number, value in messages.fields(data[begin:behind]) if number == 1 and isinstance(value, bytes)]
+    size, at = _number_at(file, start)
+    if at + size != end:
+        raise ValueError("no message, or more than one")
+    events = []
+    while at < end:
+        tag, at = _number_at(file, at)
+        size, at = _number_at(file, at)
+        if tag != EVENT or at + size > end:
+            raise ValueError("no event, or a part of one")
+        is_rows = size > AT_ONCE and os.pread(file, len(OF_ROWS), at) == OF_ROWS
+        events.append(OF_ROWS if is_rows else os.pread(file, size, at))
+        at += size
+    return events
+
+
+def _number_at(file: int, at: int) -> tuple[int, int]:
+    """A varint of a file, and where it ends."""
+    number, size = messages.number(os.pread(file, 10, at), 0)
+    return number, at + size
 
 
 def settle(feed: str) -> None:

@@ -19,29 +19,27 @@ def decimal_reader(precision: int, scale: int) -> Callable[[bytes], bytes]:
     """Makes the text of a DECIMAL from its `decimal_size` bytes: big-endian groups of nine digits, those with fewer at the ends,
     the first bit the sign's inverse, and all bits inverted where the number is negative."""
     whole, size = precision - scale, decimal_size(precision, scale)
-    groups = [whole % 9, *[9] * (whole // 9), *[9] * (scale // 9), scale % 9]
-    # from the last group on: by how many bits it is moved, its bits, and 10 to the digits behind it
-    parts, bits, digits = [], 0, 0
-    for group in reversed(groups):
-        if group:
-            parts.append((bits, (1 << 8 * GROUP_BYTES[group]) - 1, 10**digits))
-            bits, digits = bits + 8 * GROUP_BYTES[group], digits + group
-    top, every, unit = 1 << 8 * size - 1, (1 << 8 * size) - 1, 10**scale
-    form = b"%%d.%%0%dd" % scale
+    fraction, bits = _sum([*[9] * (scale // 9), scale % 9], 0)
+    units, _ = _sum([whole % 9, *[9] * (whole // 9)], bits)
+    top, every = 1 << 8 * size - 1, (1 << 8 * size) - 1
+    digits = eval(f"lambda stored: f'{{{units}}}{f'.{{{fraction}:0{scale}d}}' if scale else ''}'.encode()")  # noqa: S307
+    from_bytes = int.from_bytes
 
     def text_of(data: bytes) -> bytes:
-        stored = int.from_bytes(data, "big") ^ top
-        sign = b""
-        if stored & top:
-            sign, stored = b"-", stored ^ every
-        number = 0
-        for move, mask, factor in parts:
-            number += (stored >> move & mask) * factor
-        if not scale:
-            return b"%b%d" % (sign, number)
-        return sign + form % divmod(number, unit)
+        stored = from_bytes(data, "big") ^ top
+        return b"-" + digits(stored ^ every) if stored & top else digits(stored)
 
     return text_of
+
+
+def _sum(groups: list[int], bits: int) -> tuple[str, int]:
+    """The number that groups of so many digits are, of which the last one stands before so many bits; and before how many the first
+    one begins."""
+    parts, digits = [], 0
+    for group in filter(None, reversed(groups)):
+        parts.append(f"(stored >> {bits} & {(1 << 8 * GROUP_BYTES[group]) - 1}) * {10**digits}")
+        bits, digits = bits + 8 * GROUP_BYTES[group], digits + group
+    return " + ".join(parts) or "0", bits
 
 
 def float_text(number: float, digits: int) -> bytes:

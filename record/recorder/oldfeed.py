@@ -11,9 +11,10 @@ from .catalogue import Table
 from .files import open_file, writing
 from .growing import read_messages
 from .held import HeldRows, key_bytes
-from .messages import MOST_OF_ROW, EventType, cells_of, framed, row_bytes, set_row
+from .messages import MOST_OF_ROW, cells_of, framed, row_bytes, set_row
 from .protos import Response
 from .stop import ANEW, Stop
+from .wire import EventType
 
 Fields = list[list]
 """The name and type number of each column."""

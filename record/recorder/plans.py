@@ -3,13 +3,13 @@
 import json
 import os
 import re
-import subprocess
 from contextlib import suppress
 from dataclasses import dataclass
 from tempfile import TemporaryDirectory
 
 from .catalogue import Table
 from .kinds import NAMED
+from .program import OWN, Program
 from .stop import Stop
 
 JOB = "job.json"
@@ -112,15 +112,7 @@ class Reshard:
 
     def _checked(self, who: str, file: str, feeds: list[str], *words: str) -> str:
         """What `check` prints of a workflow file and feeds. Stops with what it refuses."""
-        program = self.program or os.path.join(os.path.dirname(os.path.abspath(__file__)), "..", "..", "vrepl")
-        try:
-            done = subprocess.run([program, "check", *words, file, *feeds], capture_output=True, text=True, errors="replace")
-        except OSError as fault:
-            raise Stop("no program", f"at {program}", f"{fault.strerror}; --program names another") from None
-        if done.returncode not in (0, 3):
-            line = "; ".join(done.stderr.split("\n")[:2]).rstrip("; ") or f"status {done.returncode}"
-            raise Stop(who, "", line)
-        return done.stdout
+        return Program(self.program or OWN).answer(who, "check", *words, file, *feeds)[1]
 
 
 def _put(file: str, said: dict) -> str:

@@ -53,9 +53,9 @@ class _Said:
 
     def read(self, log_events, place: Place) -> None:
         is_behind = has_reached = False
-        for log, event in log_events:
-            has_reached = has_reached or log == place.log
-            if not is_behind and has_reached and event.end and (log != place.log or event.end > place.offset):
+        for event in log_events:
+            has_reached = has_reached or event.log == place.log
+            if not is_behind and has_reached and event.end and (event.log != place.log or event.end > place.offset):
                 is_behind, self.there = True, dict(self._prepared)
             self._take(event)
         if not is_behind:

@@ -5,13 +5,13 @@ import os
 import sys
 import time
 from collections.abc import Iterator
-from contextlib import ExitStack, closing, contextmanager
+from contextlib import ExitStack, closing, contextmanager, suppress
 from dataclasses import dataclass
 from itertools import chain
 
 from .catalogue import Table, read_tables
 from .elsewhere import Elsewhere
-from .ending import Ended, Held, Last, show, tell
+from .ending import Ended, Free, Held, Last, show, tell
 from .events import Event, LogEvent
 from .feedfile import FeedFile, check_free
 from .files import Lock, kind_at, left_files, writing
@@ -22,7 +22,7 @@ from .prepared import prepared_at
 from .server import Login, Place, check_schemas, check_settings, end_place, events, first_place, gtids_at, log_sizes, server_id, why_unread
 from .snapshot import Snapshot
 from .statements import Name
-from .stop import AGAIN, ANEW, BEHIND, Lost, Stop
+from .stop import AGAIN, ANEW, BEHIND, Beyond, Lost, Stop
 from .transactions import Transaction, Transactions
 from .untold import check_names, told_of
 
@@ -119,13 +119,20 @@ def locked(wanted: Wanted) -> Iterator[None]:
     """Holds the feed's lock; new files that a killed recording left are gone. Stops where there is no feed to go on
     with, or where a file is that mustn't be lost."""
     _check_there(wanted)
-    with ExitStack() as held:
-        with Held():
-            held.enter_context(Lock(wanted.out))
-            with writing(wanted.out):
-                settle(wanted.out)
-        _check_there(wanted)
-        yield
+    with Held(), ExitStack() as opened:
+        opened.enter_context(Lock(wanted.out))
+        # a signal may come when a file was just made, and nobody knows of it yet
+        opened.callback(_settle, wanted.out)
+        with writing(wanted.out):
+            settle(wanted.out)
+        with Free():
+            _check_there(wanted)
+            yield
+
+
+def _settle(out: str) -> None:
+    with suppress(OSError):
+        settle(out)
 
 
 def _check_there(wanted: Wanted) -> None:
@@ -322,18 +329,18 @@ class Recording:
             self.filled.add(change.table.full)
             yield change
 
-    def checked(self, read: Iterator[tuple[str, Event]]) -> Iterator[tuple[str, Event]]:
+    def checked(self, read: Iterator[Event]) -> Iterator[Event]:
         """The events, as long as the log is the one that was meant: the feed's own, or one that begins with nothing before it."""
         begun, behind = self.note.begun, bool(self.position.last)
         unseen = {LogEvent.FORMAT_DESCRIPTION, LogEvent.GTID_LIST, LogEvent.GTID}
-        for log, event in read:
+        for event in read:
             if event.kind in unseen:
                 if event.kind == LogEvent.FORMAT_DESCRIPTION and begun not in (None, event.time):
-                    raise Stop("another log than the feed's", f"in {log}, which was begun anew", BEHIND)
+                    raise Stop("another log than the feed's", f"in {event.log}, which was begun anew", BEHIND)
                 if event.kind == LogEvent.GTID_LIST and LogEvent.GTID in unseen and not behind and event.body[:4] != NO_GTIDS:
-                    raise Stop("the first log was purged", f"before {log}", ANEW)
+                    raise Stop("the first log was purged", f"before {event.log}", ANEW)
                 unseen.discard(event.kind)
-            yield log, event
+            yield event
             if event.kind == LogEvent.GTID:
                 break
         yield from read
@@ -354,7 +361,7 @@ class Recording:
             self.keep(place)
             self.finish()
             if self.feed.is_beyond:
-                raise Stop("the feed goes on behind the position", f"in {self.wanted.out}", "append to it without --until")
+                raise Beyond("the feed goes on behind the position", f"in {self.wanted.out}", "append to it without --until")
 
     def keep(self, place: Place) -> None:
         """Makes the note of the groups up to a place at which no transaction is open."""

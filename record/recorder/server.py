@@ -9,14 +9,15 @@ import random
 import ssl
 import struct
 import zlib
-from collections.abc import Iterator
+from collections.abc import Callable, Iterator
 from dataclasses import dataclass, field
 
 import pymysql
 from pymysql.constants import COMMAND
 from pymysql.cursors import SSCursor
 
-from .events import Event, LogEvent, event_at
+from .cells import Bytes
+from .events import Event, LogEvent, event_of
 from .stop import AGAIN, BEHIND, Lost, Stop
 
 WITHOUT_WAITING = 1
@@ -36,8 +37,18 @@ LOST_ONE = 2013
 MOST_OF_PACKET = 2**24 - 1
 END_MARK, FAULT_MARK = 0xFE, 0xFF
 """The first bytes of packets that aren't events."""
+LARGE = 2**20
+"""The bytes of an event from which on no second copy of it is made."""
 CHUNK = 2**17
 """The bytes that are asked for at once."""
+MOST_AT_ONCE = 2**24
+PACKET = struct.Struct("<HBxBIBIIIH")
+PACKET_SIZE = PACKET.size
+"""What an event's packet begins with: the packet's size in three bytes, its number, a mark, and the event's header."""
+OF_A_LOG = frozenset(map(int, (LogEvent.FORMAT_DESCRIPTION, LogEvent.ROTATE)))
+"""The events that say how those behind them are read."""
+WHOLE = 0x2144DF1C
+"""The checksum of whatever stands before its own checksum, together with that."""
 NO_SERVER = (struct.error, LookupError, ValueError, TypeError, AttributeError, AssertionError)
 """What the library meets where something else than a server answers."""
 
@@ -189,87 +200,137 @@ def log_sizes(connection: pymysql.Connection) -> dict[str, int]:
     return {name: size for name, size, *_ in ask(connection, "SHOW BINARY LOGS")}
 
 
-def events(connection: pymysql.Connection, start: Place, waits: bool = False) -> Iterator[tuple[str, Event]]:
-    """The events from a place to the log's end, each with its file's name; or where it `waits` all that ever come,
-    with a heartbeat wherever there is none. Stops where the server refuses."""
+def events(connection: pymysql.Connection, start: Place, waits: bool = False) -> Iterator[Event]:
+    """The events from a place to the log's end; or where it `waits` all that ever come, with a heartbeat wherever there is
+    none. Stops where the server refuses."""
     ask(connection, f"SET @master_binlog_checksum='NONE', @mariadb_slave_capability=4, @master_heartbeat_period={int(HEARTBEAT * 1e9)}")
-    log, checksums = start.log, False
     # a server ends the older one of two that have one number, and lets nobody wait who has none
     request = struct.pack("<IHI", start.offset, 0, random.getrandbits(31) | 1 << 31) if waits else struct.pack("<IHI", start.offset, WITHOUT_WAITING, 0)
     try:
         connection._execute_command(COMMAND.COM_BINLOG_DUMP, request + start.log.encode())
     except pymysql.err.MySQLError as fault:
-        raise fault_of(fault, "the log can't be read", f"behind {log}") from None
+        raise fault_of(fault, "the log can't be read", f"behind {start.log}") from None
     connection._sock.settimeout(SILENCE if waits else PATIENCE)
-    crc32, from_bytes = zlib.crc32, int.from_bytes
+    reading = _Reading(connection._sock, start.log)
     try:
-        for data, start, end in _packets(connection):
-            kind = data[start + HEADER_KIND]
-            if kind == LogEvent.FORMAT_DESCRIPTION:
-                checksums = data[end - 5] == CRC32
-            elif kind == LogEvent.ROTATE:
-                # the server makes some of these up, with or without a checksum
-                end -= 4 * _is_whole(data, start, end)
-            elif checksums:
-                end -= 4
-                if crc32(data[start:end]) != from_bytes(data[end:end + 4], "little"):
-                    raise Stop("an event whose checksum is another", f"in {log}", f"the log is damaged there; {BEHIND}")
-            event = event_at(data, start, end)
-            yield log, event
-            if kind == LogEvent.ROTATE:
-                # it stands at the old log's end
-                log = event.body[8:].decode()
+        yield from reading.events()
     except pymysql.err.MySQLError as fault:
         if fault.args[:1] == (NOT_IN_THE_LOG,):
-            raise Stop("the log can't be read", f"behind {log}", f"{fault.args[-1]}; {BEHIND}") from None
-        raise fault_of(fault, "the log can't be read", f"behind {log}") from None
+            raise Stop("the log can't be read", f"behind {reading.log}", f"{fault.args[-1]}; {BEHIND}") from None
+        raise fault_of(fault, "the log can't be read", f"behind {reading.log}") from None
 
 
-def _packets(connection: pymysql.Connection) -> Iterator[tuple[bytes, int, int]]:
-    """What the server sends up to its end mark: of each packet the bytes in which it lies, and where it begins and ends there, the
-    first byte left out. MySQLError where it sends a fault, or the connection is lost."""
-    data, at, parts = b"", 0, []
-    while True:
-        here = at + 4
-        if here <= len(data):
-            size = data[at] | data[at + 1] << 8 | data[at + 2] << 16
-            at = here + size
-        if here > len(data) or at > len(data):
-            left = here - 4
-            data, at = _filled(connection, data[left:], at - left if at >= here else 4), 0
-            continue
-        if size == MOST_OF_PACKET or parts:
-            # a packet of more bytes comes in several
-            parts.append(data[here:at])
-            if size == MOST_OF_PACKET:
-                continue
-            whole, parts = b"".join(parts), []
-            yield whole, 1, len(whole)
-        elif data[here] == 0:
-            yield data, here + 1, at
-        elif data[here] == END_MARK and size < 9:
-            return
-        elif data[here] == FAULT_MARK:
-            pymysql.err.raise_mysql_exception(data[here:at])
-        else:
-            raise pymysql.err.OperationalError(LOST_ONE, f"a packet that begins with {data[here]}")
+class _Reading:
+    """What a server sends of a log: packets, of which each is a byte and an event, up to its end mark. `log` is the file's name."""
 
+    def __init__(self, socket, log: str) -> None:
+        self.log, self._socket, self._checksums = log, socket, False
 
-def _filled(connection: pymysql.Connection, data: bytes, least: int) -> bytes:
-    """These bytes, and what the server sends behind them up to so many at least."""
-    parts, size = [data], len(data)
-    while size < least:
+    def events(self) -> Iterator[Event]:
+        """MySQLError where the server sends a fault, or the connection is lost."""
+        data, at, new, unpack, crc = b"", 0, tuple.__new__, PACKET.unpack_from, zlib.crc32
+        log, checksums, there = self.log, self._checksums, 0
+        while True:
+            if at + PACKET_SIZE <= there:
+                low, high, mark, time, kind, server, _size, end, flags = unpack(data, at)
+                behind = at + 4 + (low | high << 16)
+                if behind <= there and not mark and kind not in OF_A_LOG and behind - at >= PACKET_SIZE:
+                    if checksums:
+                        if crc(data[at + 5:behind]) != WHOLE:
+                            raise self._damaged()
+                        yield new(Event, (log, time, kind, server, end, flags, data[at + PACKET_SIZE:behind - 4]))
+                    else:
+                        yield new(Event, (log, time, kind, server, end, flags, data[at + PACKET_SIZE:behind]))
+                    at = behind
+                    continue
+            packet, data = self._packet(data[at:])
+            at, there = 0, len(data)
+            if packet is None:
+                return
+            event = self._event(packet)
+            packet = b""
+            yield event
+            if event.kind == LogEvent.ROTATE:
+                # it stands at the old log's end
+                self.log = event.body[8:].decode()
+            log, checksums = self.log, self._checksums
+            # a large one goes before another one comes
+            event = None
+
+    def _damaged(self) -> Stop:
+        return Stop("an event whose checksum is another", f"in {self.log}", f"the log is damaged there; {BEHIND}")
+
+    def _event(self, packet: Bytes) -> Event:
+        """The event that a packet is, without its checksum."""
+        end, kind = len(packet), packet[HEADER_KIND]
+        if kind == LogEvent.FORMAT_DESCRIPTION:
+            self._checksums = packet[end - 5] == CRC32
+        elif kind == LogEvent.ROTATE:
+            # the server makes some of these up, with or without a checksum
+            end -= 4 * (zlib.crc32(packet) == WHOLE)
+        elif self._checksums:
+            if zlib.crc32(packet) != WHOLE:
+                raise self._damaged()
+            end -= 4
+        return event_of(self.log, packet, end)
+
+    def _packet(self, data: bytes) -> tuple[Bytes | None, bytes]:
+        """The next packet without its first byte, of which these bytes are the beginning, and what came behind it; none at
+        the server's end mark."""
+        data = self._filled(data, 5)
+        size, first = int.from_bytes(data[:3], "little"), data[4]
+        if first == 0 and size >= LARGE:
+            return self._large(data)
+        data = self._filled(data, 4 + size)
+        packet, rest = data[4:4 + size], data[4 + size:]
+        if first == 0:
+            return packet[1:], rest
+        if first == END_MARK and size < 9:
+            return None, rest
+        if first == FAULT_MARK:
+            pymysql.err.raise_mysql_exception(packet)
+        raise pymysql.err.OperationalError(LOST_ONE, f"a packet that begins with {first}")
+
+    def _large(self, data: bytes) -> tuple[Bytes, bytes]:
+        """The same of a large packet, of which no second copy is ever there. One of more bytes than a packet may have comes in several."""
+        data = self._filled(data, PACKET_SIZE)
+        there, got = memoryview(bytearray(PACKET.unpack_from(data)[6])), 0
+        while True:
+            size = int.from_bytes(data[:3], "little")
+            skipped = 4 if got else 5
+            left = size + 4 - skipped
+            here = data[skipped:skipped + left]
+            if got + left > len(there):
+                raise pymysql.err.OperationalError(LOST_ONE, "a packet that is longer than its event")
+            there[got:got + len(here)] = here
+            data = data[skipped + left:]
+            self._fill(there[got + len(here):got + left])
+            got += left
+            if size < MOST_OF_PACKET:
+                return there[:got].toreadonly(), data
+            data = self._filled(data, 4)
+
+    def _filled(self, data: bytes, least: int) -> bytes:
+        """These bytes, and what the server sends behind them up to so many at least."""
+        if len(data) >= least:
+            return data
+        parts, size = [data], len(data)
+        while size < least:
+            parts.append(self._received(lambda: self._socket.recv(max(CHUNK, least - size))))
+            size += len(parts[-1])
+        return b"".join(parts)
+
+    def _fill(self, there: memoryview) -> None:
+        """Fills this with what the server sends."""
+        while there:
+            there = there[self._received(lambda: self._socket.recv_into(there, min(len(there), MOST_AT_ONCE))):]
+
+    def _received(self, receive: Callable):
+        """What is received. MySQLError where nothing is any more."""
         try:
-            more = connection._sock.recv(max(CHUNK, min(least - size, MOST_OF_PACKET)))
+            received = receive()
         except OSError as fault:
             raise pymysql.err.OperationalError(LOST_ONE, f"Lost connection to server during query ({fault})") from None
-        if not more:
+        if not received:
             raise pymysql.err.OperationalError(LOST_ONE, "Lost connection to server during query")
-        parts.append(more)
-        size += len(more)
-    return b"".join(parts)
-
-
-def _is_whole(data: bytes, start: int, end: int) -> bool:
-    """Whether an event ends with its checksum."""
-    return zlib.crc32(data[start:end - 4]) == int.from_bytes(data[end - 4:end], "little")
+        return received

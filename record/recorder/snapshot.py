@@ -5,24 +5,42 @@ log, and the variables binlog_snapshot_% say which, without a lock.
 """
 from collections.abc import Iterable, Iterator
 
+from pymysql import Connection
+
 from .catalogue import Table, quoted
 from .groups import PIECE, Change
-from .messages import LongRow, Row, change_bytes, row_bytes
+from .messages import LongRow, Row, row_bytes
 from .server import Login, Place, ask, rows
 from .stop import Stop
 from .transactions import check_key
+from .wire import change_bytes
 
 PORTION = 1000
 
 
+def opened(login: Login) -> Connection:
+    """A connection that sees all tables as they are now."""
+    connection = login.connect(raw=True)
+    try:
+        for query in ("SET SESSION TRANSACTION ISOLATION LEVEL REPEATABLE READ", "START TRANSACTION WITH CONSISTENT SNAPSHOT"):
+            ask(connection, query)
+    except BaseException:
+        connection.close()
+        raise
+    return connection
+
+
+def place_of(connection: Connection) -> Place:
+    """Where in its server's log such a connection's snapshot stands."""
+    status = {name: value.decode() for name, value in ask(connection, "SHOW STATUS LIKE 'binlog\\_snapshot\\_%'")}
+    status = {name.decode().lower() if isinstance(name, bytes) else name.lower(): value for name, value in status.items()}
+    return Place(status["binlog_snapshot_file"], int(status["binlog_snapshot_position"]))
+
+
 class Snapshot:
     def __init__(self, login: Login) -> None:
-        self._connection = login.connect(raw=True)
-        for query in ("SET SESSION TRANSACTION ISOLATION LEVEL REPEATABLE READ", "START TRANSACTION WITH CONSISTENT SNAPSHOT"):
-            ask(self._connection, query)
-        status = {name: value.decode() for name, value in ask(self._connection, "SHOW STATUS LIKE 'binlog\\_snapshot\\_%'")}
-        status = {name.decode().lower() if isinstance(name, bytes) else name.lower(): value for name, value in status.items()}
-        self.place = Place(status["binlog_snapshot_file"], int(status["binlog_snapshot_position"]))
+        self._connection = opened(login)
+        self.place = place_of(self._connection)
 
     def changes(self, tables: list[Table]) -> Iterator[Change]:
         """All rows of the tables as inserts, at most 1,000 at once, and a megabyte."""

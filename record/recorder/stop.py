@@ -15,6 +15,18 @@ class Lost(Stop):
     """A stop that may pass by itself: the server ended, or the connection to it did."""
 
 
+class Prepared(Stop):
+    """A stop at an XA transaction that is prepared: it passes with that."""
+
+
+class Beyond(Stop):
+    """A stop at a position that a feed has passed, though its note doesn't say so."""
+
+
+class Taken(Stop):
+    """A stop at a feed that another recording writes."""
+
+
 ANEW = "record anew with --from-snapshot"
 BEHIND = f"go on with --anew-behind, or {ANEW}"
 """Where a feed is that can go on with a snapshot."""

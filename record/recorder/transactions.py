@@ -6,19 +6,19 @@ the log, or is dropped here.
 """
 import struct
 import zlib
-from collections.abc import Iterable, Iterator
+from collections.abc import Iterable, Iterator, Sequence
 from typing import NamedTuple
 
 from .catalogue import Table
-from .cells import LogType, Printing, Reader, UnknownType, reader
+from .cells import Bytes, UnknownType
 from .events import DELETES, IGNORABLE, UPDATES, WRITES, Event, GtidEvent, LogEvent, QueryEvent, TableMap, read_rows_head, read_table_map
 from .groups import Changes
-from .messages import LongRow, Row, row_bytes
+from .messages import LongRow
 from .position import Gtid, Position
-from .rowcode import AFTER, BEFORE, Image, image_reader, one_image, two_images
+from .rowcode import AFTER, BEFORE, LARGE, Rows
 from .server import Place
 from .statements import Does, Name, Statement, read_statement
-from .stop import AGAIN, BEHIND, Stop
+from .stop import AGAIN, BEHIND, Prepared, Stop
 
 
 class Transaction(NamedTuple):
@@ -40,21 +40,22 @@ class _Open:
 
     __slots__ = ("gtid", "alone", "xa", "changes", "savepoints")
 
-    def __init__(self, gtid: Gtid, alone: bool, xa: bytes, folder: str) -> None:
-        self.gtid, self.alone, self.xa = gtid, alone, xa
-        self.changes, self.savepoints = Changes(folder), {}
+    def __init__(self, gtid: Gtid, alone: bool, xa: bytes, changes: Changes) -> None:
+        self.gtid, self.alone, self.xa, self.changes, self.savepoints = gtid, alone, xa, changes, {}
 
 
 class _Layout:
     """How the rows of a recorded table stand in the log. `heads` is what stood before the rows, of each kind of event."""
 
-    def __init__(self, table: Table, image: Image, columns: int) -> None:
-        self.table, self.image, self.columns, self.heads = table, image, columns, {}
+    def __init__(self, table: Table, rows: Rows, columns: int) -> None:
+        self.table, self.rows, self.columns, self.heads = table, rows, columns, {}
 
 
 MAPS_KEPT = 10_000
+_new = tuple.__new__
 TABLE_MAP, GTID, XID = int(LogEvent.TABLE_MAP), int(LogEvent.GTID), int(LogEvent.XID)
-ROWS = frozenset(map(int, WRITES | UPDATES | DELETES))
+IMAGES = dict.fromkeys(map(int, WRITES), (AFTER,)) | dict.fromkeys(map(int, UPDATES), (BEFORE, AFTER)) | dict.fromkeys(map(int, DELETES), (BEFORE,))
+"""By the kinds of row events the images that each row has."""
 STATEMENTS = {LogEvent.LOAD, LogEvent.APPEND_BLOCK, LogEvent.DELETE_FILE, LogEvent.BEGIN_LOAD_QUERY, LogEvent.EXECUTE_LOAD_QUERY}
 SKIPPED = {LogEvent.STOP, LogEvent.ROTATE, LogEvent.INTVAR, LogEvent.RAND, LogEvent.USER_VAR, LogEvent.HEARTBEAT, LogEvent.ANNOTATE_ROWS,
            LogEvent.BINLOG_CHECKPOINT, LogEvent.GTID_LIST, LogEvent.START_ENCRYPTION}  # fmt: skip
@@ -71,7 +72,8 @@ class Transactions:
         self.tables = {table.full: table for table in tables}
         self.position, self.filled, self.prepared, self.begun_with = position, filled, prepared, begun_with
         self.begun, self._folder = 0, folder
-        self._maps: dict[int, tuple[TableMap, _Layout | None]] = {}
+        self._maps: dict[bytes, tuple[TableMap, _Layout | None]] = {}
+        """By a table's number in the row events."""
         self._maps_read: dict[bytes, tuple[TableMap, _Layout | None]] = {}
         """By a table map's bytes what is read of it."""
         self._open: _Open | None = None
@@ -79,29 +81,44 @@ class Transactions:
         self.altered = False
         """Whether a recorded table, of which no row was recorded, was altered or made since the catalogue was read."""
 
-    def read(self, events: Iterable[tuple[str, Event]], start: Place, end: Place | None) -> Iterator[Transaction]:
+    def read(self, events: Iterable[Event], start: Place, end: Place | None) -> Iterator[Transaction]:
         """The transactions from a place to another one, none that was committed behind it; without that one to where the
         events end. Stops where the log can't be told as rows."""
         self.place = start
-        for log, event in events:
-            if event.end:
+        for event in events:
+            log, time, kind, server, offset, _, body = event
+            if offset:
                 # one that the server made up stands nowhere, and is read wherever the log is
-                if end and not self._open and self._has_reached(end):
+                if end and self._open is None and self._has_reached(end):
                     break
-                self._log, self._offset = log, event.end
+                self._log, self._offset = log, offset
             try:
-                ends = self._take(event)
+                if kind in IMAGES:
+                    self._rows(kind, body)
+                    ends = False
+                elif kind == TABLE_MAP:
+                    self._map(body)
+                    ends = False
+                elif kind == GTID:
+                    self._begin(GtidEvent.read(body), server)
+                    ends = False
+                elif kind == XID and self._open:
+                    ends = True
+                else:
+                    ends = self._take(event)
             except (IndexError, KeyError, ValueError, struct.error, zlib.error) as fault:
-                raise Stop(f"an event of type {event.kind} that can't be read ({fault!r})", self._where(),
+                raise Stop(f"an event of type {kind} that can't be read ({fault!r})", self._where(),
                            "report it, with this event of mariadb-binlog --hexdump") from None  # fmt: skip
             if ends:
-                gtid, changes, self._open = self._open.gtid, self._open.changes, None
+                gtid, changes, self._open = self._open.gtid, self._open.changes or None, None
                 self.position.add(gtid)
                 if changes and len(self.filled) < len(self.tables):
                     self.filled |= changes.tables
-                yield Transaction(gtid, event.time, changes, log, self._offset)
+                yield _new(Transaction, (gtid, time, changes, log, self._offset))
                 if changes:
                     changes.close()
+            # a large one goes before another one comes
+            event = body = None
         if end and not self._has_reached(end):
             raise Stop(f"the log ends before {end}", self._where(), AGAIN)
         if end:
@@ -141,22 +158,14 @@ class Transactions:
         """Why no note can be made here, if it can't: an XA transaction is prepared that changes a recorded table, and none has its rows."""
         for xa, changes in self.prepared.items():
             if changes:
-                return Stop(f"XA transaction {xa[6:].hex()} is prepared", f"at {self.place}",
-                            f"XA COMMIT or XA ROLLBACK it (XA RECOVER lists it), and {AGAIN}")  # fmt: skip
+                return Prepared(f"XA transaction {xa[6:].hex()} is prepared", f"at {self.place}",
+                                f"XA COMMIT or XA ROLLBACK it (XA RECOVER lists it), and {AGAIN}")  # fmt: skip
         return None
 
     def _take(self, event: Event) -> bool:
-        """Takes an event; answers whether it ends a transaction, of which the changes are the open one's then."""
+        """Takes an event of another kind; answers whether it ends a transaction, of which the changes are the open one's then."""
         kind = event.kind
-        if kind == TABLE_MAP:
-            self._map(event.body)
-        elif kind in ROWS:
-            self._rows(kind, event.body)
-        elif kind == GTID:
-            self._begin(GtidEvent.read(event.body), event.server)
-        elif kind == XID and self._open:
-            return True
-        elif kind in (LogEvent.QUERY, LogEvent.QUERY_COMPRESSED):
+        if kind in (LogEvent.QUERY, LogEvent.QUERY_COMPRESSED):
             query = QueryEvent.read(kind, event.body)
             return self._statement(read_statement(query.text, query.schema), query.text)
         elif kind == LogEvent.XA_PREPARE and self._open:
@@ -175,13 +184,13 @@ class Transactions:
         return False
 
     def _begin(self, event: GtidEvent, server: int) -> None:
-        gtid = Gtid(event.domain, server, event.sequence)
+        gtid = _new(Gtid, (event.domain, server, event.sequence))
         if self._open:
             raise Stop("a transaction without an end", self._where(), BEHIND)
         if self.position.goes_back(gtid):
             raise Stop(f"a position that goes back, from {self.position.last[gtid.domain]} to {gtid},", self._where(),
                        f"numbers of a domain have to rise (gtid_strict_mode=1); {BEHIND}")  # fmt: skip
-        self._open = _Open(gtid, event.alone, event.xa, self._folder)
+        self._open = _Open(gtid, event.alone, event.xa, Changes(self._folder))
 
     def _statement(self, statement: Statement, text: str) -> bool:
         now = self._open
@@ -233,7 +242,8 @@ class Transactions:
                 elif statement.moves or full in filled:
                     raise Stop(f"{what} of a recorded table, {'.'.join(full)} ({_cut(text)}),", self._where(), BEHIND)
 
-    def _map(self, body: bytes) -> None:
+    def _map(self, body: Bytes) -> None:
+        body = bytes(body)
         read = self._maps_read.get(body)
         if read is None:
             found = read_table_map(body)
@@ -248,83 +258,57 @@ class Transactions:
         found, layout = read
         if layout and self._open is None:
             raise Stop(f"rows of {found.schema}.{found.table} without a GTID", self._where(), BEHIND)
-        self._maps[found.number] = read
+        self._maps[body[:6]] = read
 
     def _layout(self, found: TableMap, table: Table) -> _Layout:
         if len(found.types) != len(table.columns) or found.names not in (None, tuple(column.name for column in table.columns)):
             raise self._altered(table, "has other columns there than the catalogue has now")
         columns = [(log, column.printing) for log, column in zip(found.types, table.columns)]
+        has_odd_keys = any(table.columns[at].pads for at in table.key)
         try:
-            image = self._image_of_padded(table, columns) if any(table.columns[at].pads for at in table.key) else image_reader(columns)
+            rows = Rows(columns, (lambda cells: check_key(table, cells, self._where())) if has_odd_keys else None)
         except UnknownType as fault:
             raise self._altered(table, f"has {fault}") from None
-        return _Layout(table, image, len(columns))
-
-    def _image_of_padded(self, table: Table, columns: list[tuple[LogType, Printing]]) -> Image:
-        """Of a table whose keys have to be looked at."""
-        readers = tuple(reader(*column) for column in columns)
-
-        def image(data: bytes, at: int) -> tuple[bytes, int]:
-            row, end = _image(readers, data, at)
-            check_key(table, row, self._where())
-            return row_bytes(row), end
-
-        return image
+        return _Layout(table, rows, len(columns))
 
     def _altered(self, table: Table, what: str) -> Stop:
         """The catalogue is read before the log: where they differ, the table was altered between."""
         return Stop(f"DDL of a recorded table, {table.schema}.{table.name}: the log {what},", self._where(),
                     f"{BEHIND}, or leave the table out where that says the same")  # fmt: skip
 
-    def _rows(self, kind: int, body: bytes) -> None:
-        found, layout = self._maps[int.from_bytes(body[:6], "little")]
+    def _rows(self, kind: int, body: Bytes) -> None:
+        found, layout = self._maps[bytes(body[:6])]
         if layout is None:
             return
-        known = layout.heads.get(kind)
-        if known and body.startswith(known, 8):
+        known, is_large = layout.heads.get(kind), isinstance(body, memoryview)
+        if known and not is_large and body.startswith(known, 8):
             data, at = body, 8 + len(known)
         else:
-            head, at = read_rows_head(kind, body), 0
+            head = read_rows_head(kind, body)
             if not head.whole or head.columns != layout.columns:
                 raise Stop(f"a row image of {found.schema}.{found.table} that isn't FULL", self._where(),
                            f"SET GLOBAL binlog_row_image=FULL, let clients connect anew, and {BEHIND}")  # fmt: skip
-            data = head.rows
-            if kind < LogEvent.WRITE_ROWS_COMPRESSED_V1:
-                layout.heads[kind] = body[8:len(body) - len(data)]
+            data, at = head.data, head.at
+            if kind < LogEvent.WRITE_ROWS_COMPRESSED_V1 and not is_large:
+                layout.heads[kind] = body[8:at]
         try:
-            if kind in UPDATES:
-                changes = two_images(layout.image, data, at)
+            if is_large or len(data) >= LARGE:
+                # of these no second copy is made
+                for parts in layout.rows.one_by_one(IMAGES[kind], memoryview(data), at):
+                    self._open.changes.add_parts(layout.table, parts)
             else:
-                changes = one_image(layout.image, AFTER if kind in WRITES else BEFORE, data, at)
+                self._open.changes.add(layout.table, layout.rows.changes(*IMAGES[kind])(data, at))
         except LongRow as fault:
             raise Stop(str(fault), f"in {found.schema}.{found.table} {self._where()}", "leave the table out") from None
-        self._open.changes.add(layout.table, changes)
 
 
-def check_key(table: Table, row: Row, where: str) -> None:
+def check_key(table: Table, row: Sequence[Bytes | None], where: str) -> None:
     """Stops at a key that a collation which ignores blanks at the end orders or compares otherwise than bytes."""
     for at in table.key:
         value = row[at]
         if table.columns[at].pads and value and (value[-1:] == b" " or min(value) < 0x20):
-            raise Stop(f"a key of {table.schema}.{table.name} with a blank at its end or a control character, {value[:40]!r},", where,
+            raise Stop(f"a key of {table.schema}.{table.name} with a blank at its end or a control character, {bytes(value[:40])!r},", where,
                        f"make the collation of column {table.columns[at].name} a _nopad_bin one, or VARBINARY, and {BEHIND}")  # fmt: skip
-
-
-def _image(readers: tuple[Reader, ...], data: bytes, at: int) -> tuple[Row, int]:
-    size = (len(readers) + 7) // 8
-    nulls = int.from_bytes(data[at:at + size], "little")
-    at += size
-    row = []
-    for read in readers:
-        if nulls & 1:
-            row.append(None)
-        else:
-            value, at = read(data, at)
-            row.append(value)
-        nulls >>= 1
-    if at > len(data):
-        raise IndexError("a row is cut short")
-    return tuple(row), at
 
 
 def _cut(text: str) -> str:

@@ -6,7 +6,7 @@ from collections.abc import Iterator
 from dataclasses import dataclass
 from threading import Event, Thread
 
-from .ending import Held
+from .ending import Held, Waiting
 from .files import read_file
 from .protos import Request
 from .stop import Stop
@@ -71,24 +71,33 @@ class Server:
 
     def answers(self, asked: Request) -> Iterator[bytes]:
         """What VTGate answers, each a VStreamResponse, until the stream is over."""
-        channel = self._channel()
-        call = channel.unary_stream(METHOD, Request.SerializeToString)(asked, metadata=self._credentials())
-        watch = _Watch(call, BEATS * self.heartbeat)
+        channel = call = watch = why = None
         try:
+            # a call that a signal ends amid its beginning can't be closed: the library would wait for it for ever
+            with Held():
+                channel = self._channel()
+                call = channel.unary_stream(METHOD, Request.SerializeToString)(asked, metadata=self._credentials())
+                watch = _Watch(call, BEATS * self.heartbeat)
             while True:
-                watch.begin()
-                data = next(call, None)
-                watch.end()
+                # the library's own thread would stumble over a call that is left between two of its steps
+                with Waiting() as waiting:
+                    watch.begin(waiting)
+                    data = next(call, None)
+                    watch.end()
                 if data is None:
                     raise Over("VTGate ended it", False)
                 yield data
         except grpc.RpcError as fault:
-            raise watch.why(fault) from None
+            # (which is the call)
+            why = watch.why(fault)
         finally:
             with Held():
-                watch.close()
-                call.cancel()
-                channel.close()
+                for end in watch and watch.close, call and call.cancel, channel and channel.close:
+                    if end:
+                        end()
+                # a finalizer that a signal ends would say so itself
+                end = watch = call = channel = None
+        raise why
 
 
 def _read(path: str | None, load) -> None:
@@ -109,27 +118,29 @@ def _bytes_of(path: str) -> bytes:
 
 
 class _Watch:
-    """Ends a call for which was waited too long. What counts is how often was looked, so that a machine that stood still isn't silence."""
+    """Ends a call for which was waited too long, or that a signal is to end. What counts is how often was looked, so that a machine
+    that stood still isn't silence."""
 
     def __init__(self, call: grpc.Call, patience: float) -> None:
         self._call, self._patience, self._over = call, patience, Event()
         self._waited = -1.0
+        self._waiting: Waiting | None = None
         self._is_silent = False
         self._thread = Thread(target=self._look, daemon=True)
         self._thread.start()
 
-    def begin(self) -> None:
-        self._waited = 0.0
+    def begin(self, waiting: Waiting) -> None:
+        self._waited, self._waiting = 0.0, waiting
 
     def end(self) -> None:
-        self._waited = -1.0
+        self._waited, self._waiting = -1.0, None
 
     def _look(self) -> None:
         while not self._over.wait(LOOK):
             if self._waited >= 0:
                 self._waited += LOOK
-            if self._waited > self._patience:
-                self._is_silent = True
+            waiting, self._is_silent = self._waiting, self._waited > self._patience
+            if self._is_silent or waiting and waiting.is_over():
                 self._call.cancel()
                 return
 

@@ -10,10 +10,11 @@ from collections.abc import Iterator, Mapping
 from .gtids import GtidSet
 from .held import HeldRows, key_bytes
 from .kinds import KEYS
-from .messages import EventType, cells_of, framed
+from .messages import cells_of, framed
 from .protos import Response
 from .stop import Stop
 from .vstream import LABELLED, Columns, Known, Reading, check_rows, read_answer, unread, with_columns
+from .wire import EventType
 
 PRIMARY_KEY = 2
 """The bit of a Field's flags that a column of the primary key has (PRI_KEY_FLAG of query.proto)."""

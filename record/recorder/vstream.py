@@ -12,9 +12,10 @@ from google.protobuf.message import DecodeError
 
 from .gtids import GtidSet
 from .kinds import Kind
-from .messages import MOST_OF_FEED, MOST_OF_ROW, EventType, framed, varint
+from .messages import MOST_OF_FEED, MOST_OF_ROW, framed
 from .protos import Request, Response
 from .stop import Stop
+from .wire import EventType, varint
 
 # what it is of is another size then, and that is looked at
 warnings.filterwarnings("ignore", "Unexpected end-group tag")

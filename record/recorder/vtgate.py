@@ -3,20 +3,21 @@ the stream breaks off, until a signal ends it."""
 import os
 import time
 from collections.abc import Iterable, Iterator
-from contextlib import ExitStack, closing
+from contextlib import ExitStack, closing, suppress
 from dataclasses import dataclass, replace
 from itertools import chain
 
-from .ending import Ended, Held, Last, say, tell
+from .ending import Ended, Free, Held, Last, say, tell
 from .files import Lock, held_path, kind_at, left_files, open_file, writing
 from .growing import Growing, Told, read_messages
 from .gtids import GtidSet
-from .messages import EventType, framed
+from .messages import framed
 from .protos import Response
 from .stop import Stop
 from .vcall import Over, Server
 from .vcopy import Copy
 from .vstream import Known, Reading, Transaction, read_answer, request, transactions
+from .wire import EventType
 
 FIRST_PAUSE, MOST_PAUSE = 1.0, 60.0
 """The seconds between two calls: twice as many each time, until something comes."""
@@ -179,14 +180,27 @@ def record(wanted: Wanted) -> None:
     """Records until a signal ends it, and then says what the feed has."""
     wanted.server.check()
     check_there(wanted)
-    with ExitStack() as opened:
-        with Held(), writing(wanted.out):
+    with Held(), ExitStack() as opened:
+        with writing(wanted.out):
             opened.enter_context(Lock(wanted.out))
-            copy = held_path(wanted.out)
-            for own in (*left_files(wanted.out), *left_files(f"{wanted.out}.json"), *([copy] if kind_at(copy) == "a file" else [])):
-                os.unlink(own)
-        check_there(wanted)
-        _record(wanted, Recording(wanted))
+            # a signal may come when a file was just made, and nobody knows of it yet
+            opened.callback(_sweep, wanted.out)
+            _take_away_left(wanted.out)
+        with Free():
+            check_there(wanted)
+            _record(wanted, Recording(wanted))
+
+
+def _take_away_left(out: str) -> None:
+    """Takes away the new files beside a feed, whose lock is held, that aren't in their place."""
+    copy = held_path(out)
+    for own in (*left_files(out), *left_files(f"{out}.json"), *([copy] if kind_at(copy) == "a file" else [])):
+        os.unlink(own)
+
+
+def _sweep(out: str) -> None:
+    with suppress(OSError):
+        _take_away_left(out)
 
 
 def check_there(wanted: Wanted) -> None:

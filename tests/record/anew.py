@@ -12,7 +12,7 @@ from collections.abc import Callable, Iterator
 from contextlib import contextmanager
 from dataclasses import dataclass
 
-from . import commands
+from . import commands, lines
 from .commands import At, Command, Done
 from .kept import INTERRUPTIONS, groups, read_file, why_wrong, write_file
 from .reach import forwarder
@@ -110,7 +110,7 @@ def anew(trial) -> None:
     commands.command()
     for case in CASES:
         goes_on(trial, case)
-    for step in other_keys, other_tables, further_tables, forever, killed, limited, beside_writers, failed_over:
+    for step in other_keys, other_tables, further_tables, forever, killed, at_each_line, limited, beside_writers, failed_over:
         step(trial)
 
 
@@ -363,6 +363,31 @@ class InPieces:
 def is_whole(feed: bytes) -> bool:
     found = groups(feed)
     return bool(found) and found[-1][0] == len(feed)
+
+
+def at_each_line(trial) -> None:
+    """A signal at the lines of what makes the group: nothing is left beside the feed, which is as it was, or has the group."""
+    with begun(trial, "lines") as living:
+        trial.server.sql("SET sql_log_bin=0; " + ROWS)
+        old, note = read_file(living.feed), read_file(living.feed + ".json")
+
+        def run(prepare: Callable[[], None]) -> Done:
+            copy = Living(trial, "line")
+            with tempfile.TemporaryDirectory(dir=trial.server.folder) as folder:
+                copy.feed = os.path.join(folder, "a.feed")
+                write_file(copy.feed, old)
+                write_file(copy.feed + ".json", note)
+                done = copy.run("--anew-behind", prepare=prepare)
+                done.left, done.has_group = sorted(os.listdir(folder)), len(read_file(copy.feed)) > len(old)
+                done.stays = read_file(copy.feed).startswith(old)
+                return done
+
+        def judge(done: Done) -> str | None:
+            is_so = done.stays and set(done.left) - {"a.feed.lock"} == {"a.feed", "a.feed.json"} and done.has_group == (done.status == 0)
+            why = done.why_not_stopped("ended by SIGTERM") if done.status else None
+            return why or (None if is_so else f"{done}, {done.left}, {done.has_group}")
+
+        trial.check("anew, ended at each line", lines.at_each(lines.OF_FEED, run, judge, 3))
 
 
 def limited(trial) -> None:

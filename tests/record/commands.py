@@ -1,4 +1,4 @@
-"""record/feed as a process of its own that is begun in no time: a fork of the one that has its modules already.
+"""record/feed, and others of its kind, as a process of its own that is begun in no time: a fork of the one that has its modules already.
 
 What is done to it stands in `prepare`, which runs in the new process: limits, and system calls that fail, or
 before which it is killed.
@@ -10,6 +10,7 @@ import importlib.util
 import json
 import os
 import signal
+import subprocess
 import sys
 import tempfile
 import time
@@ -38,14 +39,14 @@ class Done:
 
     def why_not_stopped(self, text: str = "") -> str | None:
         """Nothing if it ended with status 1 and one line that has the text in it."""
-        is_line = self.err.startswith("feed: ") and self.err.count("\n") == 1 and self.err.isprintable() is False and self.err[:-1].isprintable()
+        is_line = self.err.partition(": ")[0] in ("feed", "compare") and self.err.count("\n") == 1 and self.err.isprintable() is False and self.err[:-1].isprintable()
         return None if self.status == 1 and is_line and text in self.err and "itself" not in self.err else f"{self}, and not {text!r}"
 
 
 class Command:
-    """record/feed with these words, running."""
+    """record/feed with these words, running; or another command of that folder."""
 
-    def __init__(self, *words: str, prepare: Callable[[], None] = lambda: None) -> None:
+    def __init__(self, *words: str, prepare: Callable[[], None] = lambda: None, name: str = "feed") -> None:
         pipes = [os.pipe() for _ in range(2)]
         # one that comes before the command listens to it waits
         signal.pthread_sigmask(signal.SIG_BLOCK, SIGNALS)
@@ -57,7 +58,7 @@ class Command:
                 for at, (_, end) in enumerate(pipes, 1):
                     os.dup2(end, at)
                 sys.stdout, sys.stderr = (open(at, "w", 1, encoding="utf-8", closefd=False) for at in (1, 2))
-                status = _feed(words, prepare)
+                status = _run(name, words, prepare)
                 sys.stdout.flush()
             finally:
                 os._exit(status)
@@ -107,14 +108,14 @@ class Command:
         return time.monotonic() - begun
 
 
-_COMMAND = None
+_COMMANDS = {}
 
 
-def _feed(words: tuple[str, ...], prepare: Callable[[], None]) -> int:
+def _run(name: str, words: tuple[str, ...], prepare: Callable[[], None]) -> int:
     from recorder import ending
 
-    module = _COMMAND or command()
-    sys.argv = ["record/feed", *words]
+    module = command(name)
+    sys.argv = [f"record/{name}", *words]
     for number in SIGNALS:
         signal.signal(number, signal.default_int_handler)
     ending._SIGNALS = ending._Signals()
@@ -124,27 +125,28 @@ def _feed(words: tuple[str, ...], prepare: Callable[[], None]) -> int:
         return module.main()
 
     prepare()
-    return ending.run("feed", main)
+    return ending.run(name, main)
 
 
-def command():
-    """The module that record/feed is. What it reads when it runs is read here, once for all."""
-    global _COMMAND
-    if _COMMAND is None:
-        loader = importlib.machinery.SourceFileLoader("feed", os.path.join(ROOT, "record/feed"))
-        _COMMAND = importlib.util.module_from_spec(importlib.util.spec_from_loader("feed", loader))
-        loader.exec_module(_COMMAND)
+def command(name: str = "feed"):
+    """The module that a command is. What it reads when it runs is read here, once for all."""
+    if name not in _COMMANDS:
+        loader = importlib.machinery.SourceFileLoader(name, os.path.join(ROOT, "record", name))
+        _COMMANDS[name] = importlib.util.module_from_spec(importlib.util.spec_from_loader(name, loader))
+        loader.exec_module(_COMMANDS[name])
         import argparse  # noqa: F401
         import gettext  # noqa: F401
 
         import recorder.behind  # noqa: F401
+        import recorder.comparing  # noqa: F401
         import recorder.forever  # noqa: F401
         import recorder.logins  # noqa: F401
-    return _COMMAND
+        import recorder.protos  # noqa: F401
+    return _COMMANDS[name]
 
 
-def run(*words: str, prepare: Callable[[], None] = lambda: None) -> Done:
-    return Command(*words, prepare=prepare).wait()
+def run(*words: str, prepare: Callable[[], None] = lambda: None, name: str = "feed") -> Done:
+    return Command(*words, prepare=prepare, name=name).wait()
 
 
 @dataclass
@@ -174,6 +176,22 @@ class At:
 
 
 _PWRITE, _KILL, _WRITE = os.pwrite, os.kill, os.write
+
+
+SPAWNED = """import os, sys
+nowhere = [(os.POSIX_SPAWN_OPEN, 1, os.devnull, os.O_WRONLY, 0)]
+_, status, used = os.wait4(os.posix_spawn(sys.argv[1], sys.argv[1:], os.environ, file_actions=nowhere), 0)
+print(status, used.ru_maxrss * 1024, used.ru_utime + used.ru_stime)"""
+
+
+def used_by(*words: str, **told: str) -> tuple[int, float]:
+    """The most memory of a command in bytes, and the processor's seconds that it takes. It is begun by a process that has little
+    memory itself: one is said to have had what the one had that began it. RuntimeError where it fails."""
+    done = subprocess.run([sys.executable, "-S", "-c", SPAWNED, *words], capture_output=True, text=True, env=os.environ | told, timeout=PATIENCE)
+    status, memory, seconds = done.stdout.split()
+    if status != "0":
+        raise RuntimeError(f"{words[0]}: {done.stderr}")
+    return int(memory), float(seconds)
 
 
 def calls_of(calls: list[str], *words: str) -> int:

@@ -242,7 +242,7 @@ class ReadStopped:
         from pymysql.connections import Connection
         from recorder import server
 
-        read, filled = Connection._read_bytes, server._filled
+        read, received = Connection._read_bytes, server._Reading._received
 
         def counted(connection: Connection, size: int) -> bytes:
             self._meet()
@@ -250,10 +250,10 @@ class ReadStopped:
 
         def counted_log(*how: object) -> bytes:
             self._meet()
-            return filled(*how)
+            return received(*how)
 
         # a log's events come by smaller pieces than it would have them
-        Connection._read_bytes, server._filled, server.CHUNK = counted, counted_log, 2**12
+        Connection._read_bytes, server._Reading._received, server.CHUNK = counted, counted_log, 2**12
 
     def _meet(self) -> None:
         self.seen += 1

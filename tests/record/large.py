@@ -2,20 +2,22 @@
 import os
 import random
 import struct
-import subprocess
+from itertools import chain
 
 from recorder import groups
 from recorder.catalogue import Table
-from recorder.cells import LogType, Printing, reader
+from recorder.cells import INTEGERS, LogType, Printing, counted_size
 from recorder.groups import Change, Changes
 from recorder.kinds import Kind
 from recorder.messages import row_bytes
-from recorder.rowcode import image_reader
+from recorder.rowcode import AFTER, BEFORE, Rows
+from recorder.wire import change_bytes
 
 from . import commands
 
 ROOT = commands.ROOT
-MOST_MORE = 64_000_000
+TEXTS = (Kind.VARCHAR, Kind.VARBINARY, Kind.BLOB)
+MOST_MORE = 16_000_000
 """The bytes of memory that a transaction of 35 MB may take beyond one of a row."""
 COLUMNS = [
     (LogType(3, b""), Printing(Kind.INT32)), (LogType(15, b"\x14\0"), Printing(Kind.VARCHAR)), (LogType(1, b""), Printing(Kind.UINT8)),
@@ -26,7 +28,7 @@ COLUMNS = [
 
 def large(trial) -> None:
     commands.command()
-    for step in kept_aside, read_by_code, much, long_event, vgtids:
+    for step in kept_aside, read_by_code, much, memory_of_event, large_rows, long_event, vgtids:
         step(trial)
 
 
@@ -48,9 +50,12 @@ def kept_aside(trial) -> None:
                 marks = [mark for mark in marks if mark[0] <= count]
             else:
                 table, data = r.choice(tables), r.randbytes(r.randrange(1, 30))
-                changes.add(table, data)
+                if r.random() < 0.5:
+                    changes.add(table, data)
+                else:
+                    changes.add_parts(table, [data[:5], memoryview(data)[5:]])
                 wanted.append((table, data))
-        found = [list(changes) for _ in range(2)]
+        found = [[(table, data if isinstance(data, bytes) else b"".join(data.pieces())) for table, data in changes] for _ in range(2)]
         same = all(joined(one) == joined(Change(*change) for change in wanted) for one in found)
         if not same or bool(changes) != bool(wanted) or changes.tables != {table.full for table, _ in wanted}:
             faults.append(seed)
@@ -82,34 +87,81 @@ def stored(r: random.Random) -> tuple[bytes, list[bytes | None]]:
 
 
 def read_by_code(trial) -> None:
-    """Rows are what the readers of their columns read, wherever they stand; one that is cut short is a fault."""
-    read, r, faults = image_reader(COLUMNS), random.Random(3), []
-    assert all(reader(*column) for column in COLUMNS)
+    """Rows are what the readers of their columns read, wherever they stand; one that is cut short is a fault. Changes are those of
+    the rows one by one, of each kind and of few columns and many."""
+    rows, r, faults = Rows(COLUMNS), random.Random(3), []
     for at in range(400):
         data, cells = stored(r)
         before, behind = (r.randbytes(r.randrange(9)) for _ in range(2))
-        if read(before + data + behind, len(before)) != (row_bytes(tuple(cells)), len(before) + len(data)):
-            faults.append(f"row {at}")
+        for what in bytes, memoryview:
+            if rows.image(what(before + data + behind), len(before)) != (row_bytes(tuple(cells)), len(before) + len(data)):
+                faults.append(f"row {at}")
         for cut in {r.randrange(len(data)), len(data) - 1}:
-            try:
-                found = read(data[:cut], 0)
-                faults.append(f"row {at}, cut at {cut}: {found!r:.80}")
-            except (IndexError, struct.error):
-                pass
+            # (an event without a row is one)
+            for read in [rows.image, rows.changes(AFTER)][:1 + (cut > 0)]:
+                try:
+                    found = read(data[:cut], 0)
+                    faults.append(f"row {at}, cut at {cut}: {found!r:.80}")
+                except (IndexError, struct.error):
+                    pass
     trial.check("large, rows by code", f"{len(faults)}: {faults[0]}" if faults else None)
+    trial.check("large, changes by code", why_other_changes(random.Random(4)))
+
+
+def why_other_changes(r: random.Random) -> str | None:
+    """Why the row changes of some events aren't those of their rows."""
+    for count in (1, 2, 3, 9, 20, 40, 70):
+        columns = [COLUMNS[r.randrange(len(COLUMNS))] for _ in range(count)]
+        rows = Rows(columns)
+        for at in range(60):
+            longest = r.choice([0, 3, 20, 61, 130, 9000])
+            stands, cells = zip(*(row_of(r, columns, longest) for _ in range(2 * r.randrange(1, 5))))
+            data, messages = b"xyz" + b"".join(stands), [row_bytes(one) for one in cells]
+            for signs in ways(AFTER), ways(BEFORE), ways(BEFORE, AFTER):
+                if len(signs) == 2:
+                    wanted = b"".join(change_bytes(*pair) for pair in zip(messages[::2], messages[1::2]))
+                else:
+                    wanted = b"".join(change_bytes(*((one, None) if signs == (BEFORE,) else (None, one))) for one in messages)
+                found = [rows.changes(*signs)(data, 3), b"".join(chain.from_iterable(rows.one_by_one(signs, memoryview(data), 3)))]
+                if found != [wanted, wanted]:
+                    return f"{count} columns, event {at}, images {signs}: {found[0]!r:.200} and not {wanted!r:.200}"
+    return None
+
+
+def ways(*signs: int) -> tuple[int, ...]:
+    return signs
+
+
+def row_of(r: random.Random, columns: list, longest: int) -> tuple[bytes, tuple[bytes | None, ...]]:
+    """A row of some of these columns as the log has it, and what the server prints of it."""
+    has_nulls, nulls, stands, cells = r.random() < 0.3, 0, [], []
+    for at, column in enumerate(columns):
+        if has_nulls and r.random() < 0.3:
+            nulls |= 1 << at
+            cells.append(None)
+            continue
+        kind = column[1].kind
+        if kind in TEXTS:
+            most = 20 if column[0].meta == b"\x14\0" else 1000 if kind == Kind.VARBINARY else 70000
+            text = r.randbytes(r.randrange(min(longest, most) + 1))
+            size = counted_size(*column)
+            stands.append(len(text).to_bytes(size, "little") + text)
+            cells.append(text)
+        elif kind == Kind.DATE:
+            stands.append((2024 << 9 | 2 << 5 | 29).to_bytes(3, "little"))
+            cells.append(b"2024-02-29")
+        else:
+            size, signed, _ = INTEGERS[column[0].number]
+            number = r.choice([0, r.randrange(1 << 8 * size - 1), (1 << 8 * size - 1) - 1])
+            number = -number if kind == signed and r.random() < 0.5 else number
+            stands.append(number.to_bytes(size, "little", signed=kind == signed))
+            cells.append(b"%d" % number)
+    return nulls.to_bytes((len(columns) + 7) // 8, "little") + b"".join(stands), tuple(cells)
 
 
 def memory_of(trial, *words: str) -> int:
     """The most memory of a recording, in bytes."""
-    told = {**os.environ, "PYTHONDONTWRITEBYTECODE": "1"}
-    process = subprocess.Popen([os.path.join(ROOT, "record/feed"), *trial.feed_words(*words)], stdout=subprocess.DEVNULL, stderr=subprocess.PIPE, env=told)
-    said = process.stderr.read()
-    process.stderr.close()
-    _, status, used = os.wait4(process.pid, 0)
-    process.returncode = status
-    if status:
-        raise RuntimeError(said.decode())
-    return used.ru_maxrss * 1024
+    return commands.used_by(os.path.join(ROOT, "record/feed"), *trial.feed_words(*words), PYTHONDONTWRITEBYTECODE="1")[0]
 
 
 def much(trial) -> None:
@@ -125,6 +177,50 @@ def much(trial) -> None:
     trial.check("large, one group", None if trial.made(trial.program, "show", feed).count(b"group ") == 2 else "not two groups")
     workflow = trial.workflow("large.json", ["-"], ["large.t"])
     trial.same("large, rows", trial.made(trial.program, "run", workflow, feed), trial.selected(workflow, "large"), 220_000)
+
+
+def memory_of_event(trial) -> None:
+    """An event of one large row takes less than twice its bytes, and so does the append behind it."""
+    trial.server.sql("SET GLOBAL max_allowed_packet=1073741824, max_binlog_size=1073741824; CREATE TABLE large.m (id INT PRIMARY KEY, v LONGBLOB);"
+                     " INSERT INTO large.m VALUES (1, 'a'); ")  # fmt: skip
+    feed = trial.path("large-row.feed")
+    least = memory_of(trial, "--shard", "-", "--out", feed, "large.m")
+    ways = {"an insert": ("INSERT INTO large.m VALUES (2, REPEAT('b', 15000000))", 15), "an update": ("UPDATE large.m SET v=REPEAT('c', 15000001) WHERE id=2", 30)}
+    for way, (statement, size) in ways.items():
+        trial.server.sql(statement)
+        taken = memory_of(trial, "--shard", "-", "--append", "--out", feed, "large.m") - least
+        trial.check(f"large, memory of {way}", None if taken < 1_500_000 * size else f"{taken} bytes more for an event of {size} MB")
+        trial.server.sql(f"INSERT INTO large.m VALUES ({size}, 'd')")
+        taken = memory_of(trial, "--shard", "-", "--append", "--out", feed, "large.m") - least
+        trial.check(f"large, memory behind {way}", None if taken < 4_000_000 else f"{taken} bytes more")
+    workflow = trial.workflow("large-row.json", ["-"], ["large.m"])
+    trial.same("large, one row", trial.made(trial.program, "run", workflow, feed), b"table m\nx31\tx61\nx32\tx" + b"63" * 15_000_001 + b"\nx3135\tx64\nx3330\tx64\n", 5)
+    trial.server.sql("DROP TABLE large.m; SET GLOBAL max_allowed_packet=16777216, max_binlog_size=262144; RESET MASTER")
+    os.unlink(feed)
+
+
+def large_rows(trial) -> None:
+    """Rows of a megabyte and more with columns of all kinds beside, by a key that is looked at and by one that isn't, packed and not."""
+    columns = ("b BINARY(6), d DECIMAL(9,2), e ENUM('x','y'), t BIT(9), f DOUBLE, g FLOAT(7,3), dt DATETIME(3), ts TIMESTAMP(6) NULL, da DATE, tm TIME(2), y YEAR,"
+               " v LONGBLOB, w LONGTEXT CHARACTER SET latin1, s SET('p','q'), n INT(9) ZEROFILL")  # fmt: skip
+    row = "'ab', -1.5, 'y', b'101', 1e-9, 2.5, '2024-02-29 01:02:03.004', '1970-01-01 00:00:01', '2024-02-29', '-1:02:03.5', 2001, REPEAT('v', {0}), REPEAT('w', 2000000 - {0}), 'p,q', 7"
+    trial.server.sql("SET GLOBAL max_binlog_size=1073741824, log_bin_compress_min_len=10; CREATE TABLE large.p (k VARCHAR(9) COLLATE utf8mb4_bin PRIMARY KEY, "
+                     f"{columns}); CREATE TABLE large.q (k INT PRIMARY KEY, {columns}); ")  # fmt: skip
+    for packed in 0, 1:
+        trial.server.sql(f"SET GLOBAL log_bin_compress={packed}; ")
+        for name in "pq":
+            keys = [10 * packed + at for at in range(4)]
+            rows = ", ".join(f"({key}, {row.format(size)})" for key, size in zip(keys, (0, 1_300_000, 2_000_000, 10)))
+            trial.server.sql(f"SET time_zone='+00:00'; INSERT INTO large.{name} VALUES {rows}; UPDATE large.{name} SET w=NULL, n=n+1 WHERE k={keys[1]};"
+                             f" UPDATE large.{name} SET b=NULL, v=REPEAT('z', 1200000), w=REVERSE(w) WHERE k IN ({keys[0]}, {keys[2]}); DELETE FROM large.{name} WHERE k={keys[3]}; ")  # fmt: skip
+    trial.server.sql("SET GLOBAL log_bin_compress=0")
+    feed, workflow = trial.path("large-rows.feed"), trial.workflow("large-rows.json", ["-"], ["large.p", "large.q"])
+    wanted = trial.selected(workflow, "large")
+    for words in (), ("--from-snapshot",):
+        trial.recorded("--shard", "-", "--out", feed, *words, "large.p", "large.q")
+        trial.same(f"large, rows of all kinds {words}", trial.made(trial.program, "run", workflow, feed), wanted, 14)
+    trial.server.sql("DROP TABLE large.p; DROP TABLE large.q; SET GLOBAL max_binlog_size=262144; RESET MASTER")
+    os.unlink(feed)
 
 
 def long_event(trial) -> None:

@@ -232,6 +232,14 @@ class Load:
         return sum((client.done for client in self._clients), Counter())
 
 
+def large_transaction(socket: str) -> None:
+    """One that a feed has in several messages, in a shard's table of long values: what clients write may be as much, or not."""
+    with pymysql.connect(unix_socket=socket, user="root") as connection, connection.cursor() as cursor:
+        for key in range(2, 10, 2):
+            cursor.execute(f"REPLACE INTO {SCHEMAS[0]}.long_values (id, body) VALUES (%s, REPEAT('l', 700000))", key)
+        connection.commit()
+
+
 def deadlock(socket: str) -> bool:
     """Two clients that wait for each other over two rows of a shard; answers whether one was rolled back."""
     one, other = (pymysql.connect(unix_socket=socket, user="root") for _ in range(2))

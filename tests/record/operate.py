@@ -1,6 +1,7 @@
 """What docs/OPERATE.md says, tried: a dump put back as rows, and the page's own commands, with a stand-in for VTGate."""
 import os
 import re
+import shutil
 import subprocess
 from collections.abc import Iterator
 from contextlib import contextmanager
@@ -73,8 +74,10 @@ def page(trial) -> None:
     trial.server.sql("RESET MASTER")
     folder = trial.path("page")
     os.mkdir(folder)
-    for name in ("record", "examples", "tests"):
+    for name in ("examples", "tests"):
         os.symlink(os.path.join(ROOT, name), os.path.join(folder, name))
+    # the program that record/compare takes is the one beside it
+    shutil.copytree(os.path.join(ROOT, "record"), os.path.join(folder, "record"), ignore=shutil.ignore_patterns("__pycache__"))
     os.symlink(trial.program, os.path.join(folder, "vrepl"))
     with open(os.path.join(folder, ".my.cnf"), "w", encoding="utf-8") as file:
         file.write(f"[client]\nsocket={trial.server.socket}\nuser=root\n")

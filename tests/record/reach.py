@@ -8,7 +8,7 @@ from contextlib import closing, contextmanager, suppress
 
 from . import server as private
 
-MADE = ("CREATE DATABASE far; CREATE TABLE far.t (id INT PRIMARY KEY, v LONGTEXT); INSERT INTO far.t VALUES (1, 'a'), (2, REPEAT('b', 100000));"
+MADE = ("CREATE DATABASE far; CREATE TABLE far.t (id INT PRIMARY KEY, v LONGTEXT); INSERT INTO far.t VALUES (1, 'a'), (2, REPEAT('b', 3000000));"
         " GRANT REPLICATION SLAVE, BINLOG MONITOR ON *.* TO far@'%' IDENTIFIED BY 'it''s \"#\"'; GRANT SELECT ON far.* TO far@'%'; ")  # fmt: skip
 PASSWORD = 'it\'s "#"'
 TABLE = "far.t"

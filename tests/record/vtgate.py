@@ -38,7 +38,16 @@ def alone(keyspace: str, shard: str, gtid: str) -> Response:
 
 
 def groups_of(feed: bytes) -> list[Response]:
-    return [Response.FromString(feed[start:end]) for start, end in frames(feed)]
+    """Each group as one answer, which in the feed may be several messages."""
+    groups, is_whole = [], True
+    for start, end in frames(feed):
+        message = Response.FromString(feed[start:end])
+        if is_whole:
+            groups.append(message)
+        else:
+            groups[-1].MergeFrom(message)
+        is_whole = any(event.type == EventType.GTID for event in message.events)
+    return groups
 
 
 def gtid_of(group: Response) -> str:

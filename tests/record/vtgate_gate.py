@@ -26,6 +26,8 @@ class Gate:
         self.logins: list[dict] = []
         self.breaks: Callable[[object], None] = lambda call: None
         self.beats = True
+        self.count = self.beaten = 0
+        """The answers that were sent, and the signs of life among them."""
         self.server, self.address = serve(self.answered, credentials)
 
     def __enter__(self) -> "Gate":
@@ -41,6 +43,8 @@ class Gate:
         for answer in self.sent(behind, asked.flags.heartbeat_interval, call):
             self.breaks(call)
             yield answer
+            self.count += 1
+            self.beaten += answer.events[0].type == EventType.HEARTBEAT
 
     def sent(self, behind: str, heartbeat: int, call) -> Iterator[Response]:
         if not behind:

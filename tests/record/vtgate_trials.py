@@ -8,14 +8,13 @@ from itertools import chain
 from random import Random
 
 from recorder import growing, held, vcopy, vstream
-from recorder.messages import EventType, Response
+from recorder.messages import EventType, Response, frames
 from recorder.stop import Stop
 from recorder.vcopy import Copy
 from recorder.vstream import Reading, transactions
 
 from .load import SCHEMAS, SHARDS, TABLES, VINDEXES, tables_of
-from .vtgate import BEGINNING, answers, position
-from .vtgate_calls import calls
+from .vtgate import BEGINNING, answers, groups_of, position
 from .vtgate_copy import Keyspace, Table, event, merged, of_feed
 from .vtgate_law import large, law, linear
 from .vtgate_load import KEYS, edges, filled
@@ -28,7 +27,12 @@ def vtgate(trial) -> None:
     for step in recorded, stopped, copied, not_copied, law, large, linear, limits:
         step(trial)
     if importlib.util.find_spec("grpc"):
-        calls(trial)
+        # read here, since they need the library; forks come first, before that has threads
+        from .lines import call_at_each_line, vtgate_at_each_line
+        from .vtgate_calls import calls
+
+        for step in vtgate_at_each_line, call_at_each_line, calls:
+            step(trial)
     else:
         print("python3-grpcio isn't installed: no stream was asked for, broken off or refused")
 
@@ -113,6 +117,8 @@ def recorded(trial) -> None:
     keys = {table.name: primary_key(table.made) for table in TABLES}
     for schema, shard in zip(SCHEMAS, SHARDS):
         feed = read_file(trial.path(f"{schema}.feed"))
+        several = len(list(frames(feed))) - len(groups_of(feed))
+        trial.check(f"groups of several messages in {schema}", None if several or schema != SCHEMAS[0] else "none")
         middle = [one.position for one in transactions(sent(answers(feed, "ks", shard)), Reading("ks", shard))]
         middle = middle[len(middle) // 2]
         first = [answer for answer in answers(feed, "ks", shard)]

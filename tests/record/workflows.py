@@ -61,7 +61,8 @@ def targets(trial) -> None:
     for name, said in ("no folder", words[:9]), ("a filter", [*words, "--filter=-80"]), ("no range", [*words, "--targets=-80,x"]):
         status, _, told = _said(trial, *said, "--targets=-80,80-", *tables_of(SCHEMAS[0]))
         trial.check(f"targets with {name}", None if status == 2 else f"{status} {told!r}")
-    made = trial.made(*words, f"--targets={','.join(ranges)}", *all_of).decode().split()
+    # (which begins with a minus, and is no option)
+    made = trial.made(*words, "--targets", ",".join(ranges), *all_of).decode().split()
     names = [f"{target}.json" for target in ranges]
     trial.check("files of a reshard", None if made == [os.path.join(plan, name) for name in [*names, "job.json"]] else f"{made}")
     trial.check("nothing else is left", None if sorted(os.listdir(plan)) == sorted([*names, "job.json"]) else f"{os.listdir(plan)}")

@@ -1,0 +1,37 @@
+"""The program: where it is, and what it answers."""
+import os
+import subprocess
+from dataclasses import dataclass
+from typing import BinaryIO
+
+from .stop import Stop
+
+OWN = os.path.join(os.path.dirname(os.path.abspath(__file__)), "..", "..", "vrepl")
+"""The one of this repository."""
+DIFFERS = 3
+"""The status of `vdiff` where the dumps differ, and of `check` where it warns of something."""
+
+
+@dataclass(frozen=True)
+class Program:
+    path: str = OWN
+
+    def answer(self, who: str, *words: str, files: tuple[BinaryIO, ...] = (), out: BinaryIO | None = None) -> tuple[int, str]:
+        """The status, 0 or 3, and what is printed, unless that goes `out`. The words may name open files, by `name_of`. Stops
+        with what it refuses."""
+        numbers = tuple(file.fileno() for file in files)
+        try:
+            done = subprocess.run([self.path, *words], stdin=subprocess.DEVNULL, stdout=out or subprocess.PIPE, stderr=subprocess.PIPE, pass_fds=numbers)
+        except OSError as fault:
+            raise Stop("no program", f"at {self.path}", f"{fault.strerror}; --program names another") from None
+        if done.returncode not in (0, DIFFERS):
+            told = done.stderr.decode(errors="replace").split("\n")
+            # (before it may stand how far the command was)
+            at = next((at for at, line in enumerate(told) if line.startswith("refused ")), 0)
+            raise Stop(who, "", "; ".join(told[at:at + 2]).rstrip("; ") or f"status {done.returncode}")
+        return done.returncode, "" if out else done.stdout.decode(errors="replace")
+
+
+def name_of(file: BinaryIO) -> str:
+    """The name by which a program that is passed an open file reads it from its beginning."""
+    return f"/dev/fd/{file.fileno()}"
