@@ -6,10 +6,12 @@ usage: tests/run_fleet.py PROGRAM
 Four source shards with rows that are put, changed, moved to other keys and other targets, and removed, made from a
 seed; three targets by `in_keyrange`. Checkpoints and dumps have to be the same, bit for bit: plainly, where a worker
 process is killed in mid-task twice, where each task runs twice at once, where results are found, and in twenty orders
-and nestings of the joins. A feed that is refused and a disk that fills end their target alone. The cluster is this
-script's: processes on the loopback that end with each run. Where python3-distributed of the system isn't installed
+and nestings of the joins. A feed that is refused and a disk that fills end their target alone. Targets whose ranges leave
+a gap or overlap are refused, rows that are in none are counted, checkpoints are moved on where a feed grew, and how far a job is
+is told. The cluster is this script's: processes on the loopback that end with each run. Where python3-distributed of the system isn't installed
 nothing is tried, and the script says so and counts nothing. The last line is 'N passed, M failed': one a check.
 """
+import io
 import json
 import os
 import random
@@ -29,6 +31,8 @@ PATIENCE = 600
 """The seconds that a command is given: it ends in five, on a machine with nothing else to do."""
 SHARDS = ["-40", "40-80", "80-c0", "c0-"]
 TARGETS = ["-55", "55-aa", "aa-"]
+OWN_SHARDS = {"-40": ["-55"], "40-80": ["-55", "55-aa"], "80-c0": ["55-aa", "aa-"], "c0-": ["aa-"]}
+"""The targets that meet a shard's own range."""
 ROWS = re.compile(r"^(\S+) +(\d+) +(\S+) +[\d.]+ +(\d+)$", re.M)
 sys.dont_write_bytecode = True
 sys.path.append(os.path.join(ROOT, "fleet"))
@@ -43,10 +47,18 @@ for it in 1 2; do
 done
 exec {program} "$@"
 """
+WAITING = """#!/bin/sh
+# The first task of all waits until it may go on.
+if [ "$1" = follow ] && mkdir {folder}/waiting 2>/dev/null; then
+    while [ ! -e {folder}/go ]; do sleep 0.05; done
+fi
+exec {program} "$@"
+"""
 CLUSTER = b"""import os, sys
 from distributed import LocalCluster
 if __name__ == "__main__":
-    with LocalCluster(n_workers=2, threads_per_worker=1, host="127.0.0.1", dashboard_address=None, local_directory=".") as cluster:
+    with LocalCluster(n_workers=2, threads_per_worker=1, host="127.0.0.1", dashboard_address="127.0.0.1:0",
+                      worker_dashboard_address="127.0.0.1:0", local_directory=".") as cluster:
         with open(sys.argv[1] + ".part", "w") as file:
             file.write(cluster.scheduler_address)
         os.rename(sys.argv[1] + ".part", sys.argv[1])
@@ -202,6 +214,54 @@ def by_address(trial):
     trial.check("a cluster that isn't there", said.returncode == 1 and said.stderr.startswith("reshard: no cluster answers at tcp://127.0.0.1:9: "), said)
 
 
+def descendants(pid):
+    """A process and all that it has begun."""
+    parents = {}
+    for name in filter(str.isdigit, os.listdir("/proc")):
+        try:
+            with open(f"/proc/{name}/stat") as file:
+                parents.setdefault(file.read().rpartition(")")[2].split()[1], []).append(name)
+        except OSError:
+            continue
+    found = [str(pid)]
+    for one in found:
+        found += parents.get(one, [])
+    return found
+
+
+def listening(pids):
+    """The addresses at which processes listen, as /proc/net has them."""
+    inodes = set()
+    for pid in pids:
+        try:
+            links = [os.readlink(f"/proc/{pid}/fd/{number}") for number in os.listdir(f"/proc/{pid}/fd")]
+        except OSError:
+            continue
+        inodes |= {link[8:-1] for link in links if link.startswith("socket:[")}
+    found = set()
+    for name in ("tcp", "tcp6"):
+        with open(f"/proc/net/{name}") as file:
+            lines = [line.split() for line in file.read().splitlines()[1:]]
+        found |= {words[1].partition(":")[0] for words in lines if words[3] == "0A" and words[9] in inodes}
+    return found
+
+
+def on_the_loopback(trial):
+    """Its processes listen on the loopback alone, and two jobs at once don't meet."""
+    words = ["fleet/reshard", trial.job("waiting-job", program=trial.script("waits", WAITING, folder=trial.folder))]
+    ran = subprocess.Popen(words, cwd=ROOT, stdout=subprocess.PIPE, stderr=subprocess.PIPE, text=True)
+    end = time.monotonic() + PATIENCE
+    while ran.poll() is None and not os.path.exists(trial.path("waiting")) and time.monotonic() < end:
+        time.sleep(0.05)
+    there = listening(descendants(ran.pid))
+    trial.check("it listens on the loopback alone", there == {"0100007F"}, there)
+    other = trial.reshard("beside")
+    trial.put("go", b"")
+    out, err = ran.communicate(timeout=PATIENCE)
+    trial.check("two at once", ran.returncode == 0 and not err and trial.are_filled("waiting-job"), (out, err))
+    trial.check("and the other one", other.returncode == 0 and not other.stderr and trial.are_filled("beside"), other)
+
+
 def refused(trial):
     """One target with a feed that is cut, one whose disk is full, and one that has all."""
     broken, full, whole = TARGETS
@@ -209,10 +269,11 @@ def refused(trial):
     trial.put("broken.json", trial.workflow(broken, [*SHARDS[:3], "cut"]))
     feeds = {shard: f"{shard}.feed" for shard in [*SHARDS, "cut"]}
     workflows = {broken: "broken.json", full: f"{full}.json", whole: f"{whole}.json"}
-    ran = trial.reshard("refused", feeds=feeds, workflows=workflows, program=trial.script("full", FULL, target=full))
+    ran = trial.reshard("refused", feeds=feeds, workflows=workflows, program=trial.script("full", FULL, target=full), partial=True)
     lines = ran.stderr.splitlines()
     one = [it for it in lines if it.startswith(f"target {broken} ")]
-    trial.check("a feed that is cut ends its target alone", len(one) == 1 and one[0].startswith(f"target {broken} stream 3: refused 8"), ran)
+    words = f"target {broken} stream 3: refused 81: a feed's message is cut short; place stream 3 file {trial.path('cut.feed')} message "
+    trial.check("a feed that is cut ends its target alone, with place and words", len(one) == 1 and one[0].startswith(words), ran)
     other = [it for it in lines if it.startswith(f"target {full} ")]
     trial.check("a disk that is full ends its target alone", len(other) == 4 and all(": refused 132 file " in it for it in other), ran)
     trial.check("nothing stays on it", os.listdir(trial.path("refused", full)) == [], os.listdir(trial.path("refused", full)))
@@ -221,6 +282,147 @@ def refused(trial):
     trial.check("a shard without a feed", said.returncode == 1 and said.stderr == f"reshard: target {whole} reads shard 40-80, which has no feed\n", said)
     bare = trial.run(OWN, "-S", "fleet/reshard", trial.job("bare"), text=True)
     trial.check("what isn't installed", bare.returncode == 1 and bare.stderr == "reshard: python3-distributed isn't installed: apt-get install python3-distributed\n", bare)
+
+
+def tiled(trial):
+    """What the ranges of a job's targets leave out or have twice is refused before anything is begun."""
+    one, other, last = TARGETS
+    trial.put("aa-bb.json", trial.workflow("aa-bb", SHARDS))
+    trial.put("numeric.json", trial.workflow(other, SHARDS).replace(b"in_keyrange(v, 'binary_md5'", b"in_keyrange(id, 'numeric'"))
+    trial.put("all.json", making.workflow(*SHARDS, match="t"))
+    trial.put("nothing.json", making.workflow(*SHARDS, match="u"))
+    trial.put("fault.json", trial.workflow("5-", SHARDS))
+    trial.put("upper.json", trial.workflow(last, SHARDS[:3]))
+    refused = {
+        "a target is left out": ([one, other], "the ranges leave a gap or overlap"), "one alone": ([other], "the ranges leave a gap or overlap"),
+        "ranges leave a gap": ([one, other, "aa-bb"], "the ranges leave a gap or overlap"),
+        "ranges overlap": ([one, other, last, "aa-bb"], "the ranges leave a gap or overlap"),
+        "another vindex": ([one, "numeric", last], "the ranges have to be by one vindex of one column"),
+        "all rows in one": ([one, "all", other, last], "each target has to have a key range of it, or each all rows"),
+        "no row": ([one, "nothing", other, last], "each target has to have a key range of it, or each all rows"),
+        "a shard that one lacks": ([one, other, "upper"], "the ranges leave a gap or overlap"),
+        "a workflow that is refused": ([one, "fault"], "target fault: refused 55 stream 0 rule 0: "),
+    }  # fmt: skip
+    for name, (targets, line) in refused.items():
+        ran = trial.reshard("tiled", workflows={it: f"{it}.json" for it in targets})
+        fine = ran.returncode == 1 and ran.stderr.startswith("reshard: ") and line in ran.stderr and ran.stderr.count("\n") == 1 and not ran.stdout
+        trial.check(f"refused where {name}", fine and not os.path.exists(trial.path("tiled")), ran)
+    ran = trial.reshard("some", workflows={it: f"{it}.json" for it in (one, other)}, partial=True)
+    trial.check("some of the targets", ran.returncode == 0 and trial.are_filled("some", one, other) and "rows of the sources" not in ran.stdout, ran)
+    ran = trial.reshard("each", workflows={"a": "all.json", "b": "all.json"})
+    trial.check("all rows in each target", ran.returncode == 0 and "\nall " in ran.stdout and ran.stdout.endswith(" rows of the sources are in the targets\n"), ran)
+
+
+def ranges_alike(trial, rounds=60):
+    """Whether ranges lie end to end, as the fleet has it of the program, and by ids that stand at all their bounds: of few and
+    of more than a workflow file has streams."""
+    from resharder.job import read_job
+    from resharder.ranges import KeyRange
+    from resharder.rules import are_tiles
+
+    job, r, seen = read_job(trial.job("ranges")), trial.random, []
+    for at in range(rounds):
+        some = ["10", "20", "2000", "4040", "80", "8000", "ff", "00"] if at % 4 else [f"{one:04x}" for one in range(1, 1 << 16, 17)]
+        bounds = ["", *sorted(r.sample(some, r.randrange(0, 5) if at % 4 else r.choice([62, 63, 64, 65, 130, 200]))), ""]
+        ranges = [f"{start}-{end}" for start, end in zip(bounds, bounds[1:])]
+        if r.random() < 0.5:
+            ranges[r.randrange(len(ranges))] = r.choice(["-80", "20-", "10-20", "-", "8000-81", *ranges])
+        read = [KeyRange.read(text) for text in r.sample(ranges, len(ranges))]
+        if any(one.end is not None and one.end <= one.start for one in read):
+            continue
+        ids = {b"", *(one.start for one in read), *(one.end for one in read if one.end)}
+        once = all(sum(one.start <= it and (one.end is None or it < one.end) for one in read) == 1 for it in ids)
+        seen.append((are_tiles(job, read), once, ranges))
+    wrong = [it for it in seen if it[0] != it[1]]
+    for is_long in False, True:
+        both = {once for _, once, ranges in seen if (len(ranges) > 64) == is_long} == {True, False}
+        trial.check(f"{'more ranges than streams' if is_long else 'ranges'} as the program tells them", not wrong and both and len(seen) > rounds // 2, wrong[:3] or len(seen))
+
+
+def counted(trial):
+    """A row that lies in another shard than its own range, where no target looks for it, is missing in the count."""
+    said = {it: [shard for shard in SHARDS if it in OWN_SHARDS[shard]] for it in TARGETS}
+    for target, shards in said.items():
+        trial.put(f"own{target}.json", trial.workflow(target, shards))
+    ran = trial.reshard("counted", workflows={it: f"own{it}.json" for it in TARGETS})
+    line = re.search(r"^table t: the sources have (\d+) rows, and the targets (\d+)$", ran.stderr, re.M)
+    trial.check("rows that are in no target", ran.returncode == 1 and line and int(line[1]) > int(line[2]) > 0, ran)
+
+
+def moved_on(trial):
+    """A feed that grew: the checkpoints are moved on; one that is another one: they are made anew, which is said."""
+    whole = trial.get("-40.feed")
+    trial.put("-40.feed", cut_behind_groups(whole, 90))
+    first, was = trial.reshard("grown"), trial.are_filled("grown")
+    trial.put("-40.feed", whole)
+    again = trial.reshard("grown")
+    trial.check("less of a feed first", first.returncode == 0 and not was and ": moved on" not in first.stdout, first)
+    fine = again.returncode == 0 and again.stdout.count(": moved on, ") == 3 and again.stdout.count(": found") == 9 and trial.are_filled("grown")
+    trial.check("checkpoints are moved on where a feed grew", fine, again)
+    trial.put("-40.feed", making.feed(groups_of(random.Random(2), 0, 150), making.U[:-1] + b"0"))
+    other = trial.reshard("grown")
+    fine = other.returncode == 0 and len(re.findall(r"stream 0: filled anew, since the old checkpoint is refused 11[78]\b", other.stdout)) == 3
+    trial.check("and made anew where it is another one", fine and not trial.is_filled("grown", TARGETS[0]), other)
+    trial.put("-40.feed", whole)
+
+
+def cut_behind_groups(feed, count):
+    """A feed's first groups, each of which is a message."""
+    at = 0
+    for _ in range(count):
+        length = shift = 0
+        while True:
+            byte = feed[at]
+            at, length, shift = at + 1, length | (byte & 127) << shift, shift + 7
+            if byte < 128:
+                break
+        at += length
+    return feed[:at]
+
+
+def told(trial):
+    """How far a job is: drawn anew on a terminal, written into a file now and then, and not said where it is to be quiet."""
+    from resharder.job import read_job
+    from resharder.progress import Progress, sizes
+
+    job = read_job(trial.job("told", program=trial.script("held", WAITING, folder=trial.folder)))
+    of_tasks, form = sizes(job), r"\d+ % of [\d.]+ [kMG]B, (\d+) of 19 tasks(?:, \d+ rows a second)?, \d+:\d\d gone(?:, \d+:\d\d to come)?"
+    first = sum(os.path.getsize(feed) for feed in trial.feeds())
+    trial.check("what tasks read", len(of_tasks) == 19 and sum(of_tasks.values()) == 19 + 7 * first, of_tasks)
+    out = io.StringIO()
+    with Progress(of_tasks, out, False, pause=0.01) as progress:
+        for name in of_tasks:
+            progress.ended(name, 10, f"{name}: done" if "source" in name else "")
+            time.sleep(0.03)
+    lines = out.getvalue().splitlines()
+    counts = [int(found[1]) for line in lines if (found := re.fullmatch(r"\d\d:\d\d:\d\d " + form, line))]
+    trial.check("lines in a file", counts == sorted(counts) and len(set(counts)) > 2 and len(counts) + 4 == len(lines), lines[:5])
+    trial.check("the last one", re.fullmatch("100 %.*, 19 of 19 tasks, .* rows a second, 0:0. gone, 0:00 to come", progress.line()), progress.line())
+    ends = os.openpty()
+    with subprocess.Popen(["fleet/reshard", trial.path("told.job")], cwd=ROOT, stdin=subprocess.DEVNULL, stdout=ends[1], stderr=subprocess.PIPE) as shown:
+        os.close(ends[1])
+        drawn = read_until(ends[0], rb"\r[1-9]\d?" + form[3:].encode() + rb"\x1b\[K")
+        trial.put("go", b"")
+        drawn += read_until(ends[0], rb"\Z(?!)")
+    os.close(ends[0])
+    fine = shown.returncode == 0 and b"\r\x1b[Ktarget  streams" in drawn and drawn.endswith(b" rows of the sources are in the targets\r\n") and b" s\r\n" not in drawn
+    trial.check("a line drawn anew on a terminal", fine, drawn[-600:])
+    ran = trial.run("fleet/reshard", "--quiet", trial.path("told.job"), text=True)
+    trial.check("nothing but the table of a job that is quiet", ran.returncode == 0 and ran.stdout.count("\n") == 5 and not ran.stderr, ran)
+
+
+def read_until(terminal, form):
+    """What comes on a terminal, up to what has a form, or to its end."""
+    said = b""
+    while not re.search(form, said):
+        try:
+            piece = os.read(terminal, 1 << 16)
+        except OSError:
+            piece = b""
+        if not piece:
+            break
+        said += piece
+    return said
 
 
 def twice(trial):
@@ -261,7 +463,7 @@ def main(program):
         return 0
     with tempfile.TemporaryDirectory(prefix="vrepl-fleet-") as folder:
         trial = Trial(program, folder)
-        for part in (plainly, killed, by_address, refused, twice, in_any_order):
+        for part in (plainly, killed, by_address, on_the_loopback, refused, tiled, ranges_alike, counted, moved_on, told, twice, in_any_order):
             part(trial)
     print(f"{trial.passed} passed, {trial.failed} failed")
     return 1 if trial.failed else 0

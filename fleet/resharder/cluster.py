@@ -14,7 +14,10 @@ from .job import Job
 from .stop import Stop
 
 HERE = os.path.dirname(os.path.abspath(__file__))
-ALONE = {"threads_per_worker": 1, "processes": True, "host": "127.0.0.1", "dashboard_address": None, "silence_logs": logging.CRITICAL}
+NOWHERE_ELSE = "127.0.0.1:0"
+"""Each process has a page about itself too, which without an address of its own would be there for the whole network."""
+ALONE = {"threads_per_worker": 1, "processes": True, "host": "127.0.0.1", "silence_logs": logging.CRITICAL,
+         "dashboard_address": NOWHERE_ELSE, "worker_dashboard_address": NOWHERE_ELSE}  # fmt: skip
 
 
 @contextmanager

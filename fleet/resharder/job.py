@@ -15,6 +15,8 @@ class Target:
     name: str
     workflow: str
     feeds: tuple[str, ...]
+    shards: tuple[str, ...]
+    """Those of its streams."""
     folder: str
     wanted: str | None = None
     """A dump that its own is compared with."""
@@ -36,12 +38,21 @@ class Job:
     """All targets, the program that fills them, and the engine on which it does."""
 
     targets: tuple[Target, ...]
+    feeds: dict[str, str]
+    """By source shard."""
     program: str = PROGRAM
     is_hex: bool = False
     cluster: str | None = None
     """The address of a cluster that runs; processes of this machine where there is none."""
     workers: int | None = None
     """How many processes, where they are this machine's; as many as there are cores unless given."""
+    is_partial: bool = False
+    """Whether these targets are some of a reshard's: then nobody looks whether each row is in one."""
+
+    @property
+    def shards(self) -> list[str]:
+        """The source shards that a target reads."""
+        return list(dict.fromkeys(shard for target in self.targets for shard in target.shards))
 
 
 def read_job(name: str) -> Job:
@@ -59,7 +70,7 @@ def _job(said: dict, folder: str) -> Job:
     def path(name: str) -> str:
         return os.path.join(folder, name)
 
-    unknown = said.keys() - {"feeds", "workflows", "results", "wanted", "program", "hex", "cluster", "workers"}
+    unknown = said.keys() - {"feeds", "workflows", "results", "wanted", "program", "hex", "cluster", "workers", "partial"}
     if unknown:
         raise Stop(f"{min(unknown)} isn't among what a job says; fleet/README.md has all of it")
     feeds = {shard: path(name) for shard, name in said["feeds"].items()}
@@ -70,7 +81,7 @@ def _job(said: dict, folder: str) -> Job:
     if not targets:
         raise Stop("a job without workflows")
     program = path(said["program"]) if "program" in said else PROGRAM
-    return Job(tuple(targets), program, bool(said.get("hex")), said.get("cluster"), said.get("workers"))
+    return Job(tuple(targets), feeds, program, bool(said.get("hex")), said.get("cluster"), said.get("workers"), bool(said.get("partial")))
 
 
 def _target(name: str, workflow: str, feeds: dict[str, str], results: str, wanted: str | None) -> Target:
@@ -86,4 +97,4 @@ def _target(name: str, workflow: str, feeds: dict[str, str], results: str, wante
     lacking = [shard for shard in shards if shard not in feeds]
     if lacking:
         raise Stop(f"target {name} reads shard {lacking[0]}, which has no feed")
-    return Target(name, workflow, tuple(feeds[shard] for shard in shards), os.path.join(results, name), wanted)
+    return Target(name, workflow, tuple(feeds[shard] for shard in shards), tuple(shards), os.path.join(results, name), wanted)

@@ -16,16 +16,20 @@ BEGUN = "resharder-begun"
 
 @dataclass
 class Outcome:
-    """A target: its rows, the seconds of its tasks, and how often one of them was begun."""
+    """A target: its rows by table, the seconds of its tasks, and how often one of them was begun."""
 
     target: Target
-    rows: int = 0
+    tables: dict[str, int] = field(default_factory=dict)
     seconds: float = 0
     is_done: bool = False
     difference: str = ""
     attempts: int = 0
     refused: dict[str, str] = field(default_factory=dict)
     """The lines that ended it, by the tasks' names."""
+
+    @property
+    def rows(self) -> int:
+        return sum(self.tables.values())
 
     @property
     def lines(self) -> list[str]:
@@ -40,9 +44,17 @@ def _begun(name: str, function: Callable[..., Done], *given) -> Done:
     return function(*given)
 
 
-def reshard(client: Client, job: Job, tell: Callable[[str, Future], None], show: Callable[[list[Future]], None]) -> list[Outcome]:
+@dataclass
+class Sources:
+    """The rows of the source shards, by table."""
+
+    tables: dict[str, dict[str, int]] = field(default_factory=dict)
+    refused: dict[str, str] = field(default_factory=dict)
+
+
+def reshard(client: Client, job: Job, tell: Callable[[str, Future], None]) -> tuple[list[Outcome], Sources]:
     """Hands all tasks to the engine, and waits until each has ended: a target's join begins when its streams are there.
-    `tell` is given each task that has ended, `show` all of them at the beginning."""
+    `tell` is given each task that has ended. The sources' rows are counted where the targets are all of a reshard's."""
     whose: dict[Future, tuple[Outcome, str]] = {}
     outcomes = [Outcome(target) for target in job.targets]
     for outcome in outcomes:
@@ -53,16 +65,24 @@ def reshard(client: Client, job: Job, tell: Callable[[str, Future], None], show:
             whose[filled[-1]] = outcome, name
         name = f"{target.name} join"
         whose[client.submit(_begun, name, tasks.join, job, target, *filled, key=name, pure=False)] = outcome, name
-    show(list(whose))
-    for future in as_completed(list(whose)):
-        outcome, name = whose[future]
-        _note(outcome, name, future)
+    counted: dict[Future, str] = {}
+    for shard in [] if job.is_partial else job.shards:
+        name = f"source {shard}"
+        counted[client.submit(_begun, name, tasks.count, job, shard, key=name, pure=False)] = shard
+    sources = Sources()
+    for future in as_completed([*whose, *counted]):
+        if future in counted:
+            name = f"source {counted[future]}"
+            _count(sources, counted[future], future)
+        else:
+            outcome, name = whose[future]
+            _note(outcome, name, future)
         tell(name, future)
     begun = collections.Counter(name.rpartition(" stream ")[0] or name.removesuffix(" join") for _, name in client.get_events(BEGUN))
     for outcome in outcomes:
         outcome.attempts = begun[outcome.target.name]
         clear(outcome.target)
-    return outcomes
+    return outcomes, sources
 
 
 def line_of(future: Future) -> str | None:
@@ -80,4 +100,12 @@ def _note(outcome: Outcome, name: str, future: Future) -> None:
     done: Done = future.result()
     outcome.seconds += done.seconds
     if name.endswith(" join"):
-        outcome.is_done, outcome.rows, outcome.difference = True, done.rows, done.difference
+        outcome.is_done, outcome.tables, outcome.difference = True, done.tables, done.difference
+
+
+def _count(sources: Sources, shard: str, future: Future) -> None:
+    line = line_of(future)
+    if line is None:
+        sources.tables[shard] = future.result().tables
+    else:
+        sources.refused[shard] = line

@@ -1,26 +1,25 @@
 """A line a task, and the table at the end."""
 import sys
 
-from distributed import Future, progress
+from distributed import Future
 
-from .targets import Outcome, line_of
-
-
-def show(futures: list[Future]) -> None:
-    """Dask's progress bar, on a terminal."""
-    if sys.stdout.isatty():
-        progress(futures, notebook=False)
+from .progress import Progress
+from .targets import Outcome, Sources, line_of
+from .tasks import FOUND
 
 
-def tell(name: str, future: Future) -> None:
-    """A line for a task that has ended; none on a terminal, which has the bar."""
-    if not sys.stdout.isatty() and line_of(future) is None:
-        done = future.result()
-        print(f"{name}: {'found' if done.is_found else f'{done.seconds:.1f} s'}", flush=True)
+def tell(progress: Progress, name: str, future: Future) -> None:
+    """Counts a task that has ended, and has its line."""
+    if line_of(future) is not None:
+        progress.ended(name, 0)
+        return
+    done = future.result()
+    took = f"{done.seconds:.1f} s"
+    progress.ended(name, sum(done.tables.values()), f"{name}: {done.how if done.how == FOUND else f'{done.how}, {took}' if done.how else took}")
 
 
-def table(outcomes: list[Outcome]) -> None:
-    """Prints each refusal, and a line for each target."""
+def table(outcomes: list[Outcome], sources: Sources, differences: list[str]) -> None:
+    """Prints each refusal, a line for each target, and whether the sources' rows are in them."""
     for outcome in outcomes:
         for line in outcome.lines:
             print(f"target {line}", file=sys.stderr, flush=True)
@@ -32,3 +31,10 @@ def table(outcomes: list[Outcome]) -> None:
     wide = [max(map(len, column)) for column in zip(*rows)]
     for row in rows:
         print("  ".join([row[0].ljust(wide[0]), *(cell.rjust(most) for cell, most in zip(row[1:], wide[1:]))]))
+    if all(it.is_done for it in outcomes):
+        for shard, line in sources.refused.items():
+            print(f"source {shard}: {line}", file=sys.stderr, flush=True)
+        for line in differences:
+            print(line, file=sys.stderr, flush=True)
+        if sources.tables and not differences and not sources.refused:
+            print(f"all {sum(sum(tables.values()) for tables in sources.tables.values())} rows of the sources are in the targets")

@@ -1,14 +1,27 @@
 """The command lines of the program."""
+from collections.abc import Sequence
+
 from .job import Job, Target
 
 NOTHING = "/dev/null"
 """In place of the feeds that a command doesn't need: the empty position is one of every feed."""
 
 
-def follow(job: Job, target: Target, stream: int, file: str) -> list[str]:
-    """One stream of a target from the beginning to its feed's end; the others stay at theirs, and need no feed."""
-    feeds = [feed if s == stream else NOTHING for s, feed in enumerate(target.feeds)]
-    return [job.program, "follow", *_hex(job), "--only", str(stream), "--save-to", file, target.workflow, *feeds]
+def follow(job: Job, target: Target, stream: int, file: str, old: str | None = None) -> list[str]:
+    """One stream of a target to its feed's end, from a checkpoint on or from the beginning; the others stay at theirs, and
+    need no feed."""
+    begun = ["--checkpoint", old] if old else []
+    return [job.program, "follow", *_hex(job), "--only", str(stream), *begun, "--save-to", file, target.workflow, *alone(target, stream)]
+
+
+def alone(target: Target, stream: int) -> list[str]:
+    """A stream's feed among those that aren't read."""
+    return [feed if s == stream else NOTHING for s, feed in enumerate(target.feeds)]
+
+
+def check(job: Job, workflow: str, feeds: Sequence[str]) -> list[str]:
+    """What is said of a workflow file and feeds, as JSON."""
+    return [job.program, "check", *_hex(job), "--json", workflow, *feeds]
 
 
 def join(job: Job, target: Target, one: str, other: str, *more: str) -> list[str]:
