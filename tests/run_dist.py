@@ -78,7 +78,7 @@ class Room:
         """Answers a new copy of the checkout."""
         place = os.path.join(self.folder, name)
         left_out = shutil.ignore_patterns("out", ".git", "must-fail", "bench", "cases", "drafts", "__pycache__")
-        shutil.copytree(ROOT, place, ignore=left_out)
+        shutil.copytree(ROOT, place, ignore=left_out, symlinks=True)
         return place
 
     def start(self, place, *words, command="./vrepl", user=None, builds=False, **told):

@@ -9,9 +9,9 @@ that isn't there. A path that a document names is there. Crates of tests and pri
 rows. A clause that README.md or docs/PROMISES.md names of a call (`call`: `clause`) is one of that call's
 contract, and what docs/PROMISES.md names in a table as a contract is a function or a type of the crates. Every
 number of docs/FORMATS.md has a text of `vrepl explain`, and no other has one. The pages in share/ are what scripts/pages makes of the program in dist/, which is looked at where that is of these
-sources. What a CALLING.md quotes is what scripts/contracts makes of its crate's sources, and the change that
-CONTRIBUTING.md tells of can be made. The last line is 'N passed, M failed': one a document, one for the
-paths, the texts, the pages, the quotations and the change.
+sources. What a CALLING.md quotes is what scripts/contracts makes of its crate's sources, docs/THEOREM.md is what scripts/theorem
+makes of them, and the change that CONTRIBUTING.md tells of can be made. The last line is 'N passed, M failed': one a
+document, one for the paths, the texts, the pages, the quotations and the change.
 """
 import os
 import re
@@ -200,6 +200,10 @@ def quotation_faults():
     return said_by("scripts/contracts")
 
 
+def theorem_faults():
+    return said_by("scripts/theorem")
+
+
 def first_change_faults():
     """Whether the change that CONTRIBUTING.md tells of still fits the tree."""
     said = subprocess.run(["git", "apply", "--check", "-C1", "examples/first_change.patch"], cwd=ROOT, capture_output=True, text=True, check=False)
@@ -216,7 +220,7 @@ def is_released():
 
 def main():
     failed = 0
-    checks = {"docs/MAP.md": map_faults, "docs/DEFINITIONS.md": definition_faults, "docs/PROMISES.md": promise_faults, "contracts": contract_faults, "paths": path_faults, "explain": explanation_faults, "quotations": quotation_faults, "examples/first_change.patch": first_change_faults}
+    checks = {"docs/MAP.md": map_faults, "docs/DEFINITIONS.md": definition_faults, "docs/PROMISES.md": promise_faults, "docs/THEOREM.md": theorem_faults, "contracts": contract_faults, "paths": path_faults, "explain": explanation_faults, "quotations": quotation_faults, "examples/first_change.patch": first_change_faults}
     if is_released():
         checks["pages"] = page_faults
     for name, check in checks.items():

@@ -6,7 +6,8 @@ usage: tests/run_packages.py
 Each check runs in copies of the checkout, as another user than root where it may: what is installed is just what
 the Makefile names, runs, and is taken away again; nothing is installed of a program of other sources; packages that
 are built in two places, by two users and with other times are the same byte by byte; what is unpacked of each is the
-program in dist/, and the .deb is installed into a root of its own by dpkg and removed again. Where make or dpkg isn't
+program in dist/, and the .deb is installed into a root of its own by dpkg and removed again; and the writers of messages are
+one file, which the module has in the checkout, in its wheel and in its archive. Where make or dpkg isn't
 installed the script says so and counts nothing, and where lintian isn't that check alone. The last line is
 'N passed, M failed': one a check.
 """
@@ -15,7 +16,9 @@ import os
 import shutil
 import subprocess
 import sys
+import tarfile
 import tempfile
+import zipfile
 
 import run_dist
 
@@ -142,7 +145,61 @@ def lintian_finds_no_error(room):
     return ran.stdout or None if ran.returncode else None
 
 
-CHECKS = [installs_as_any_user, installs_no_program_of_other_sources, packages_are_the_same, tarball_has_the_program, deb_is_installed_and_removed]
+BUILDS = "import sys; sys.path.insert(0, 'bindings/python/build'); from build_wheel_of_vrepl import *; build_wheel(sys.argv[1]), build_sdist(sys.argv[1])"
+IMPORTS = (
+    "import os, sys; sys.path.insert(0, 'bindings/python'); import vrepl.wire, vrepl.feed; "
+    "sys.exit(not os.path.samefile(vrepl.wire.__file__, 'record/recorder/wire.py'))"
+)
+WRITES = "from recorder.wire import EventType, event_bytes, message_bytes; print(message_bytes(event_bytes(EventType.BEGIN, 0)).hex())"
+
+
+def built_module(room, place):
+    """The folder with the wheel and the archive of a checkout, and a fault or nothing."""
+    made = folder_of(room, f"made of {os.path.basename(place)}", OTHER)
+    return made, failed(room.run(given_to(place, OTHER), "-B", "-c", BUILDS, made, command="/usr/bin/python3", user=OTHER))
+
+
+def writers_stand_once(room):
+    """The module's writers are the recorder's file: in the checkout, where it takes them from there, and in what is built of it
+    by any user, where they are that file's bytes; what is built of the archive is the same; and record/ by itself writes by
+    them."""
+    own = os.path.join(run_dist.ROOT, "record", "recorder", "wire.py")
+    folders = [os.path.join(run_dist.ROOT, "bindings", "python", "vrepl"), os.path.dirname(own)]
+    with_kinds = [it for at in folders for name in os.listdir(at) if name.endswith(".py") for it in [os.path.join(at, name)] if "class EventType" in read(it).decode()]
+    if with_kinds != [own]:
+        return f"kinds of events stand in {with_kinds}"
+    checkout = room.copy("a checkout that imports")
+    fault = failed(room.run(given_to(checkout, OTHER), "-B", "-c", IMPORTS, command="/usr/bin/python3", user=OTHER))
+    if fault:
+        return fault
+    made, fault = built_module(room, room.copy("a module"))
+    if fault:
+        return fault
+    names = files_below(made)
+    with zipfile.ZipFile(os.path.join(made, names[0])) as wheel, tarfile.open(os.path.join(made, names[1])) as archive:
+        top = names[1].removesuffix(".tar.gz")
+        inside = [wheel.read("vrepl/wire.py"), archive.extractfile(f"{top}/record/recorder/wire.py").read()]
+        unpacked = folder_of(room, "unpacked archive")
+        subprocess.run(["tar", "-xzf", os.path.join(made, names[1]), "-C", unpacked], check=True)
+    if inside != [read(own)] * 2:
+        return "the wheel or the archive has other writers"
+    again, fault = built_module(room, os.path.join(unpacked, top))
+    if fault or any(not filecmp.cmp(os.path.join(made, it), os.path.join(again, it), shallow=False) for it in names):
+        return fault or "what is built of the archive is another module"
+    shutil.copytree(os.path.join(run_dist.ROOT, "record"), os.path.join(room.folder, "record alone"), symlinks=True, ignore=shutil.ignore_patterns("__pycache__"))
+    ran = room.run(os.path.join(room.folder, "record alone"), "-B", "-c", WRITES, command="/usr/bin/python3")
+    return failed(ran) or (None if ran[1] == b"040a020802\n" else f"record alone writes {ran[1]}")
+
+
+def read(path):
+    with open(path, "rb") as file:
+        return file.read()
+
+
+CHECKS = [
+    *(installs_as_any_user, installs_no_program_of_other_sources, packages_are_the_same, tarball_has_the_program),
+    *(deb_is_installed_and_removed, writers_stand_once),
+]
 
 
 def main():

@@ -110,11 +110,13 @@ class Shape:
     streams: int = 1
     filter: str = ""
     rows: int = None  # how many changes all feeds have; where it isn't said, so many as fill the megabytes
+    others: int = 0  # further tables of the workflow, of 32 columns each, which no feed names
 
 
 SHAPES = [
     Shape("ten", "ten rows a group, numbers as keys, rising, one stream"),
     Shape("one", "one row a group", group=1),
+    Shape("one-under-64", "one row a group, under a workflow of 63 further tables of 32 columns", group=1, others=63),
     Shape("hundred", "a hundred rows a group", group=100),
     Shape("short", "rows of a number and one byte", SHORT),
     Shape("wide", "rows of some 130 bytes in six columns", WIDE),
@@ -137,8 +139,10 @@ def workflow(shape):
     bounds = ["", *(f"{256 * it // shape.streams:02x}" for it in range(1, shape.streams)), ""]
     rules = {"rules": [{"match": "t" if shape.filter else "/.*", "filter": shape.filter}]}
     table = {"name": "t", "columns": shape.table.columns, "key": shape.table.key}
+    columns = [NUMBER, *((f"column_{it}", "VARCHAR") for it in range(1, 32))]
+    others = [{"name": f"other_{it}", "columns": columns, "key": ["id"]} for it in range(shape.others)]
     streams = [{"shard": f"{low}-{high}", "filter": rules} for low, high in zip(bounds, bounds[1:])]
-    return {"keyspace": "ks", "tables": [table], "streams": streams}
+    return {"keyspace": "ks", "tables": [table, *others], "streams": streams}
 
 
 def field_of(table):
