@@ -8,10 +8,12 @@ file of definitions that public contracts cite, docs/PROMISES.md every must-fail
 that isn't there. A path that a document names is there. Crates of tests and private definitions have no
 rows. A clause that README.md or docs/PROMISES.md names of a call (`call`: `clause`) is one of that call's
 contract, and what docs/PROMISES.md names in a table as a contract is a function or a type of the crates. Every
-number of docs/FORMATS.md has a text of `vrepl explain`, and no other has one. The pages in share/ are what scripts/pages makes of the program in dist/, which is looked at where that is of these
-sources. What a CALLING.md quotes is what scripts/contracts makes of its crate's sources, docs/THEOREM.md is what scripts/theorem
-makes of them, and the change that CONTRIBUTING.md tells of can be made. The last line is 'N passed, M failed': one a
-document, one for the paths, the texts, the pages, the quotations and the change.
+number of docs/FORMATS.md has a text of `vrepl explain`, and no other has one. A list of docs/MAP.md of what a further
+vindex, event and so on gets has the files that the command over it finds, and no others. The pages in share/ are what
+scripts/pages makes of the program in dist/, which is looked at where that is of these sources. What a CALLING.md quotes is
+what scripts/contracts makes of its crate's sources, docs/THEOREM.md is what scripts/theorem makes of them, and the change
+that CONTRIBUTING.md tells of can be made. The last line is 'N passed, M failed': one a document, one for the paths, the
+lists, the texts, the pages, the quotations and the change.
 """
 import os
 import re
@@ -150,6 +152,49 @@ def path_faults():
                 yield f"{page}: {path} isn't there"
 
 
+# What docs/MAP.md has a list for, and the files that such a list is whole of.
+FURTHER = ("vindex", "event", "subcommand", "column type", "refusal number", "definition")
+WHOLE = re.compile(r"(?:crates/(?!\w+_tests/|\w+/CALLING\.md)|bindings/|fleet/|include/|record/|scripts/|tests/model/)|(?:build|crates\.txt)$")
+
+
+def tree():
+    """The files of the tree by their paths, each with its text; but for those that aren't text."""
+    said = subprocess.run(["git", "ls-files", "--cached", "--others", "--exclude-standard"], cwd=ROOT, capture_output=True, text=True, check=True)
+    for path in sorted(set(said.stdout.splitlines())):
+        try:
+            yield path, text_of(path)
+        except (UnicodeDecodeError, FileNotFoundError, IsADirectoryError):
+            continue
+
+
+def further_lists():
+    """The lists of docs/MAP.md of what a further one of a kind gets: the kind, the words and the paths of each."""
+    kind, found = None, []
+    for line in text_of("docs", "MAP.md").splitlines():
+        heading = re.match(r"## (?:A further (.+))?", line)
+        command = re.fullmatch(r" {4}git grep -lwE '(.+)'", line)
+        if heading:
+            kind = heading[1]
+        elif kind and command:
+            found.append((kind, command[1], []))
+        elif kind and found and found[-1][0] == kind and line.startswith("| ") and not line.startswith("| File |"):
+            found[-1][2].extend(line.split("|")[1].strip().split(", "))
+    return found
+
+
+def further_faults():
+    found, texts = further_lists(), dict(tree())
+    yield from (f"there is no list of a further {it}" for it in FURTHER if it not in {kind for kind, _, _ in found})
+    for kind, words, paths in found:
+        word = re.compile(rf"(?<!\w)(?:{words})(?!\w)")
+        have = {path for path, text in texts.items() if word.search(text)}
+        below = [it for it in paths if it.endswith("/")]
+        yield from (f"a further {kind}: {it} has none of its words" for it in paths if it not in below and it not in have)
+        yield from (f"a further {kind}: {it} stands there twice" for it in sorted({it for it in paths if paths.count(it) > 1}))
+        missing = (it for it in sorted(have - set(paths)) if WHOLE.match(it) and not it.startswith(tuple(below)))
+        yield from (f"a further {kind}: {it} isn't in the list" for it in missing)
+
+
 def numbers_of_formats():
     """The numbers of docs/FORMATS.md: the first cells of the tables whose first column is called Number."""
     found, is_inside = set(), False
@@ -220,7 +265,7 @@ def is_released():
 
 def main():
     failed = 0
-    checks = {"docs/MAP.md": map_faults, "docs/DEFINITIONS.md": definition_faults, "docs/PROMISES.md": promise_faults, "docs/THEOREM.md": theorem_faults, "contracts": contract_faults, "paths": path_faults, "explain": explanation_faults, "quotations": quotation_faults, "examples/first_change.patch": first_change_faults}
+    checks = {"docs/MAP.md": map_faults, "docs/DEFINITIONS.md": definition_faults, "docs/PROMISES.md": promise_faults, "docs/THEOREM.md": theorem_faults, "contracts": contract_faults, "paths": path_faults, "docs/MAP.md, to add something": further_faults, "explain": explanation_faults, "quotations": quotation_faults, "examples/first_change.patch": first_change_faults}
     if is_released():
         checks["pages"] = page_faults
     for name, check in checks.items():
