@@ -11,14 +11,18 @@ contract, and what docs/PROMISES.md names in a table as a contract is a function
 number of docs/FORMATS.md has a text of `vrepl explain`, and no other has one. A list of docs/MAP.md of what a further
 vindex, event and so on gets has the files that the command over it finds, and no others. The pages in share/ are what
 scripts/pages makes of the program in dist/, which is looked at where that is of these sources. What a CALLING.md quotes is
-what scripts/contracts makes of its crate's sources, docs/THEOREM.md is what scripts/theorem makes of them, and the change
-that CONTRIBUTING.md tells of can be made. The last line is 'N passed, M failed': one a document, one for the paths, the
-lists, the texts, the pages, the quotations and the change.
+what scripts/contracts makes of its crate's sources, docs/THEOREM.md is what scripts/theorem makes of them. The figures of
+docs/ and bench/ are those of bench/figures.json, into which a run's can be put, and the change that CONTRIBUTING.md tells of
+can be made. The last line is 'N passed, M failed': one a document, one for the paths, the lists, the texts, the pages, the
+quotations, the figures and the change.
 """
+import json
 import os
 import re
+import shutil
 import subprocess
 import sys
+import tempfile
 
 ROOT = os.path.dirname(os.path.dirname(os.path.abspath(__file__)))
 CRATES = os.path.join(ROOT, "crates")
@@ -249,6 +253,34 @@ def theorem_faults():
     return said_by("scripts/theorem")
 
 
+# Who prints each table of bench/figures.json; all of a crate's figures but the last column are ./build's.
+PRINTED_BY = {
+    "gate": "test", "crates": "build", "checkpoint": "bench/checkpoint/measure.py", "checkpoint shapes": "bench/checkpoint/counted.py",
+    "run shares": "bench/run/shares.py", "large pages": "bench/shapes/large_pages.py",
+}  # fmt: skip
+
+
+def figure_faults():
+    yield from said_by("scripts/figures")
+    figures = json.loads(text_of("bench", "figures.json"))
+    yield from (f"nobody prints the table {it}" for it in sorted(figures.keys() ^ PRINTED_BY.keys()))
+    yield from (f"{by} prints no table like {it}" for it, by in PRINTED_BY.items() if it in figures and f"| {figures[it]['columns'][0]} | " not in text_of(by))
+    known = {line.split(":")[0].split()[0] for line in text_of("crates.txt").splitlines() if ":" in line and not line.startswith("#")}
+    yield from (f"there is no crate {name}" for row in figures["crates"]["rows"] for name in row[0].split(", ") if name not in known)
+    # what a run prints, put into a copy
+    with tempfile.TemporaryDirectory() as room:
+        for path in ("scripts/figures", "bench/figures.json", "docs/GATE.md"):
+            os.makedirs(os.path.dirname(os.path.join(room, path)), exist_ok=True)
+            shutil.copy(os.path.join(ROOT, path), os.path.join(room, path))
+        said = "said before\n| Crate | Proof |\n|---|---|\n| vrepl | 12345 |\n| one_more | 6 |\nsaid behind\n"
+        subprocess.run([os.path.join(room, "scripts/figures"), "put", "crates"], input=said, capture_output=True, text=True, check=False)
+        with open(os.path.join(room, "docs/GATE.md"), encoding="utf-8") as file:
+            lines = file.read().splitlines()
+        yield from (f"a run's line isn't in the page: {it}" for it in ("| vrepl | 12345 |  |", "| one_more | 6 |  |") if it not in lines)
+        if len(lines) != len(text_of("docs", "GATE.md").splitlines()) + 1:
+            yield "a run's table changes more of the page than its rows"
+
+
 def first_change_faults():
     """Whether the change that CONTRIBUTING.md tells of still fits the tree."""
     said = subprocess.run(["git", "apply", "--check", "-C1", "examples/first_change.patch"], cwd=ROOT, capture_output=True, text=True, check=False)
@@ -265,7 +297,7 @@ def is_released():
 
 def main():
     failed = 0
-    checks = {"docs/MAP.md": map_faults, "docs/DEFINITIONS.md": definition_faults, "docs/PROMISES.md": promise_faults, "docs/THEOREM.md": theorem_faults, "contracts": contract_faults, "paths": path_faults, "docs/MAP.md, to add something": further_faults, "explain": explanation_faults, "quotations": quotation_faults, "examples/first_change.patch": first_change_faults}
+    checks = {"docs/MAP.md": map_faults, "docs/DEFINITIONS.md": definition_faults, "docs/PROMISES.md": promise_faults, "docs/THEOREM.md": theorem_faults, "contracts": contract_faults, "paths": path_faults, "docs/MAP.md, to add something": further_faults, "explain": explanation_faults, "quotations": quotation_faults, "figures": figure_faults, "examples/first_change.patch": first_change_faults}
     if is_released():
         checks["pages"] = page_faults
     for name, check in checks.items():
