@@ -5,16 +5,16 @@ usage: tests/run_docs.py
 
 docs/MAP.md names every source file of every crate under the crate's heading, docs/DEFINITIONS.md every
 file of definitions that public contracts cite, docs/PROMISES.md every must-fail edit, and no file or edit
-that isn't there. A path that a document names is there. Crates of tests and private definitions have no
-rows. A clause that README.md or docs/PROMISES.md names of a call (`call`: `clause`) is one of that call's
+that isn't there. A path that a document names is there, and so is the chapter of a page that a file names behind the
+page. Crates of tests and private definitions have no rows. A clause that README.md or docs/PROMISES.md names of a call (`call`: `clause`) is one of that call's
 contract, and what docs/PROMISES.md names in a table as a contract is a function or a type of the crates. Every
 number of docs/FORMATS.md has a text of `vrepl explain`, and no other has one. A list of docs/MAP.md of what a further
 vindex, event and so on gets has the files that the command over it finds, and no others. The pages in share/ are what
 scripts/pages makes of the program in dist/, which is looked at where that is of these sources. What a CALLING.md quotes is
 what scripts/contracts makes of its crate's sources, docs/THEOREM.md is what scripts/theorem makes of them. The figures of
 docs/ and bench/ are those of bench/figures.json, into which a run's can be put, and the change that CONTRIBUTING.md tells of
-can be made. The last line is 'N passed, M failed': one a document, one for the paths, the lists, the texts, the pages, the
-quotations, the figures and the change.
+can be made. The last line is 'N passed, M failed': one a document, one for the paths, the chapters, the lists, the texts,
+the pages, the quotations, the figures and the change.
 """
 import json
 import os
@@ -199,6 +199,27 @@ def further_faults():
         yield from (f"a further {kind}: {it} isn't in the list" for it in missing)
 
 
+CHAPTER = re.compile(r"""([\w./]*\w\.md)\)?,? \(?(?:'((?:[^'\n]|'(?=\w)){3,80})'|"([^"\n]{3,80})")""")
+
+
+def chapters_of(text):
+    """The headings of a page, and what its paragraphs begin with in bold."""
+    found = re.findall(r"^#+ (?:\d+\. )?(.*)$", text, re.M) + re.findall(r"\*\*(.+?)\*\*", text)
+    return {it.replace("`", "").rstrip(".:") for it in found}
+
+
+def chapter_faults():
+    texts = dict(tree())
+    for path, text in texts.items():
+        if path == "docs/THEOREM.md":
+            continue
+        for page, one, other in CHAPTER.findall(text):
+            page = page if page in texts else os.path.normpath(os.path.join(os.path.dirname(path), page))
+            name = (one or other).replace("`", "").rstrip(".:")
+            if page in texts and "/" not in name and name not in chapters_of(texts[page]):
+                yield f"{path}: {page} has no chapter '{name}'"
+
+
 def numbers_of_formats():
     """The numbers of docs/FORMATS.md: the first cells of the tables whose first column is called Number."""
     found, is_inside = set(), False
@@ -297,7 +318,7 @@ def is_released():
 
 def main():
     failed = 0
-    checks = {"docs/MAP.md": map_faults, "docs/DEFINITIONS.md": definition_faults, "docs/PROMISES.md": promise_faults, "docs/THEOREM.md": theorem_faults, "contracts": contract_faults, "paths": path_faults, "docs/MAP.md, to add something": further_faults, "explain": explanation_faults, "quotations": quotation_faults, "figures": figure_faults, "examples/first_change.patch": first_change_faults}
+    checks = {"docs/MAP.md": map_faults, "docs/DEFINITIONS.md": definition_faults, "docs/PROMISES.md": promise_faults, "docs/THEOREM.md": theorem_faults, "contracts": contract_faults, "paths": path_faults, "chapters": chapter_faults, "docs/MAP.md, to add something": further_faults, "explain": explanation_faults, "quotations": quotation_faults, "figures": figure_faults, "examples/first_change.patch": first_change_faults}
     if is_released():
         checks["pages"] = page_faults
     for name, check in checks.items():
