@@ -1,6 +1,6 @@
 /* vrepl.h: the readers and judges of vrepl for other languages, on x86-64 Linux.
  *
- * What a call answers. 0, or the number of a refusal (docs/FORMATS.md, "Numbers"; vrepl_explain has the words); 72 is
+ * What a call answers. 0, or the number of a refusal (docs/FORMATS.md, "Refusal lines"; vrepl_explain has the words); 72 is
  * want of memory. Behind a refusal nothing that the call writes is said to be there: look at the answer first.
  *
  * What is passed. Bytes are a pointer and their length, a text is bytes that are UTF-8, without a NUL. No pointer is
@@ -121,7 +121,7 @@ uint32_t vrepl_row_passes(const uint8_t *workflow, size_t workflow_length, size_
 uint32_t vrepl_row_key(const uint8_t *workflow, size_t workflow_length, size_t stream, const uint8_t *table, size_t table_length,
                        const uint8_t *row, size_t row_length, uint8_t *room, size_t room_length, size_t *length);
 
-/* ---- dumps of a workflow's tables (docs/FORMATS.md, "Dump")
+/* ---- dumps of a workflow's tables (docs/FORMATS.md, "What `run` prints")
  *
  * Refused: 51 to 57 for a workflow as above; 121 for a text that is no dump. Then, and then alone, `bad_line` is the first
  * line, from 1, that can't stand there, or is missing where the text ends. */

@@ -123,6 +123,6 @@ def main(program, *chosen):
 
 
 if __name__ == "__main__":
-    if len(sys.argv) < 2:
+    if len(sys.argv) < 2 or sys.argv[1] == "--help":
         sys.exit("usage: tests/run_cases.py PROGRAM [NAME..]")
     sys.exit(main(*sys.argv[1:]))

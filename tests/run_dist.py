@@ -7,7 +7,7 @@ Each check runs in copies of the checkout, most of them with no toolchain in the
 answers at once, from a read-only folder and through a link too, and the next time behind one command
 that looks at times; it asks for large pages unless it is told otherwise; a program in dist/ that was cut or
 changed is never run, nor is one of other sources; and scripts/is_released, which ./test calls, refuses both.
-How ./build goes about its work is tried with a stand-in for the toolchain.
+How ./build goes about its work, and what it notes of it, is tried with a stand-in for the toolchain.
 The last line is 'N passed, M failed': one a check.
 """
 import contextlib
@@ -372,7 +372,14 @@ def checkout_without_dist_builds(room):
     shutil.rmtree(os.path.join(place, "dist"))
     fault = refused(room.run(place, *SHOW), NO_TOOLCHAIN)
     fault = fault or wanted(room.run(place, *SHOW, builds=True), 0, b"built\n", "the program is built")
-    return fault or wanted(room.run(place, *SHOW, builds=True), 0, b"built\n")
+    fault = fault or wanted(room.run(place, *SHOW, builds=True), 0, b"built\n")
+    # what each crate's proof took, as scripts/figures takes it in
+    with open(os.path.join(place, "out/build.figures"), encoding="utf-8") as file:
+        head, _, *rows = file.read().splitlines()
+    names = [row.split("|")[1].strip() for row in rows]
+    if head != "| Crate | Proof |" or names != sorted({*names, "vrepl", "vrepl_main", "outcome"}) or "vrepl_c" in names:
+        fault = fault or f"out/build.figures has {', '.join(names)} under {head}"
+    return fault
 
 
 def build_that_fails_leaves_what_was_there(room):

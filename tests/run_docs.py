@@ -5,18 +5,24 @@ usage: tests/run_docs.py
 
 docs/MAP.md names every source file of every crate under the crate's heading, docs/DEFINITIONS.md every
 file of definitions that public contracts cite, docs/PROMISES.md every must-fail edit, and no file or edit
-that isn't there. A path that a document names is there. Crates of tests and private definitions have no
-rows. A clause that README.md or docs/PROMISES.md names of a call (`call`: `clause`) is one of that call's
+that isn't there. A path that a document names is there, and so is the chapter of a page that a file names behind the
+page. Crates of tests and private definitions have no rows. A clause that README.md or docs/PROMISES.md names of a call (`call`: `clause`) is one of that call's
 contract, and what docs/PROMISES.md names in a table as a contract is a function or a type of the crates. Every
-number of docs/FORMATS.md has a text of `vrepl explain`, and no other has one. The pages in share/ are what scripts/pages makes of the program in dist/, which is looked at where that is of these
-sources. What a CALLING.md quotes is what scripts/contracts makes of its crate's sources, docs/THEOREM.md is what scripts/theorem
-makes of them, and the change that CONTRIBUTING.md tells of can be made. The last line is 'N passed, M failed': one a
-document, one for the paths, the texts, the pages, the quotations and the change.
+number of docs/FORMATS.md has a text of `vrepl explain`, and no other has one. A list of docs/MAP.md of what a further
+vindex, event and so on gets has the files that the command over it finds, and no others. The pages in share/ are what
+scripts/pages makes of the program in dist/, which is looked at where that is of these sources. What a CALLING.md quotes is
+what scripts/contracts makes of its crate's sources, docs/THEOREM.md is what scripts/theorem makes of them. The figures of
+docs/ and bench/ are those of bench/figures.json, into which a run's can be put, and the change that CONTRIBUTING.md tells of
+can be made. The last line is 'N passed, M failed': one a document, one for the paths, the chapters, the lists, the texts,
+the pages, the quotations, the figures and the change.
 """
+import json
 import os
 import re
+import shutil
 import subprocess
 import sys
+import tempfile
 
 ROOT = os.path.dirname(os.path.dirname(os.path.abspath(__file__)))
 CRATES = os.path.join(ROOT, "crates")
@@ -150,6 +156,70 @@ def path_faults():
                 yield f"{page}: {path} isn't there"
 
 
+# What docs/MAP.md has a list for, and the files that such a list is whole of.
+FURTHER = ("vindex", "event", "subcommand", "column type", "refusal number", "definition")
+WHOLE = re.compile(r"(?:crates/(?!\w+_tests/|\w+/CALLING\.md)|bindings/|fleet/|include/|record/|scripts/|tests/model/)|(?:build|crates\.txt)$")
+
+
+def tree():
+    """The files of the tree by their paths, each with its text; but for those that aren't text."""
+    said = subprocess.run(["git", "ls-files", "--cached", "--others", "--exclude-standard"], cwd=ROOT, capture_output=True, text=True, check=True)
+    for path in sorted(set(said.stdout.splitlines())):
+        try:
+            yield path, text_of(path)
+        except (UnicodeDecodeError, FileNotFoundError, IsADirectoryError):
+            continue
+
+
+def further_lists():
+    """The lists of docs/MAP.md of what a further one of a kind gets: the kind, the words and the paths of each."""
+    kind, found = None, []
+    for line in text_of("docs", "MAP.md").splitlines():
+        heading = re.match(r"## (?:A further (.+))?", line)
+        command = re.fullmatch(r" {4}git grep -lwE '(.+)'", line)
+        if heading:
+            kind = heading[1]
+        elif kind and command:
+            found.append((kind, command[1], []))
+        elif kind and found and found[-1][0] == kind and line.startswith("| ") and not line.startswith("| File |"):
+            found[-1][2].extend(line.split("|")[1].strip().split(", "))
+    return found
+
+
+def further_faults():
+    found, texts = further_lists(), dict(tree())
+    yield from (f"there is no list of a further {it}" for it in FURTHER if it not in {kind for kind, _, _ in found})
+    for kind, words, paths in found:
+        word = re.compile(rf"(?<!\w)(?:{words})(?!\w)")
+        have = {path for path, text in texts.items() if word.search(text)}
+        below = [it for it in paths if it.endswith("/")]
+        yield from (f"a further {kind}: {it} has none of its words" for it in paths if it not in below and it not in have)
+        yield from (f"a further {kind}: {it} stands there twice" for it in sorted({it for it in paths if paths.count(it) > 1}))
+        missing = (it for it in sorted(have - set(paths)) if WHOLE.match(it) and not it.startswith(tuple(below)))
+        yield from (f"a further {kind}: {it} isn't in the list" for it in missing)
+
+
+CHAPTER = re.compile(r"""([\w./]*\w\.md)\)?,? \(?(?:'((?:[^'\n]|'(?=\w)){3,80})'|"([^"\n]{3,80})")""")
+
+
+def chapters_of(text):
+    """The headings of a page, and what its paragraphs begin with in bold."""
+    found = re.findall(r"^#+ (?:\d+\. )?(.*)$", text, re.M) + re.findall(r"\*\*(.+?)\*\*", text)
+    return {it.replace("`", "").rstrip(".:") for it in found}
+
+
+def chapter_faults():
+    texts = dict(tree())
+    for path, text in texts.items():
+        if path == "docs/THEOREM.md":
+            continue
+        for page, one, other in CHAPTER.findall(text):
+            page = page if page in texts else os.path.normpath(os.path.join(os.path.dirname(path), page))
+            name = (one or other).replace("`", "").rstrip(".:")
+            if page in texts and "/" not in name and name not in chapters_of(texts[page]):
+                yield f"{path}: {page} has no chapter '{name}'"
+
+
 def numbers_of_formats():
     """The numbers of docs/FORMATS.md: the first cells of the tables whose first column is called Number."""
     found, is_inside = set(), False
@@ -204,6 +274,34 @@ def theorem_faults():
     return said_by("scripts/theorem")
 
 
+# Who prints each table of bench/figures.json; all of a crate's figures but the last column are ./build's.
+PRINTED_BY = {
+    "gate": "test", "crates": "build", "checkpoint": "bench/checkpoint/measure.py", "checkpoint shapes": "bench/checkpoint/counted.py",
+    "run shares": "bench/run/shares.py", "large pages": "bench/shapes/large_pages.py",
+}  # fmt: skip
+
+
+def figure_faults():
+    yield from said_by("scripts/figures")
+    figures = json.loads(text_of("bench", "figures.json"))
+    yield from (f"nobody prints the table {it}" for it in sorted(figures.keys() ^ PRINTED_BY.keys()))
+    yield from (f"{by} prints no table like {it}" for it, by in PRINTED_BY.items() if it in figures and f"| {figures[it]['columns'][0]} | " not in text_of(by))
+    known = {line.split(":")[0].split()[0] for line in text_of("crates.txt").splitlines() if ":" in line and not line.startswith("#")}
+    yield from (f"there is no crate {name}" for row in figures["crates"]["rows"] for name in row[0].split(", ") if name not in known)
+    # what a run prints, put into a copy
+    with tempfile.TemporaryDirectory() as room:
+        for path in ("scripts/figures", "bench/figures.json", "docs/GATE.md"):
+            os.makedirs(os.path.dirname(os.path.join(room, path)), exist_ok=True)
+            shutil.copy(os.path.join(ROOT, path), os.path.join(room, path))
+        said = "said before\n| Crate | Proof |\n|---|---|\n| vrepl | 12345 |\n| one_more | 6 |\nsaid behind\n"
+        subprocess.run([os.path.join(room, "scripts/figures"), "put", "crates"], input=said, capture_output=True, text=True, check=False)
+        with open(os.path.join(room, "docs/GATE.md"), encoding="utf-8") as file:
+            lines = file.read().splitlines()
+        yield from (f"a run's line isn't in the page: {it}" for it in ("| vrepl | 12345 |  |", "| one_more | 6 |  |") if it not in lines)
+        if len(lines) != len(text_of("docs", "GATE.md").splitlines()) + 1:
+            yield "a run's table changes more of the page than its rows"
+
+
 def first_change_faults():
     """Whether the change that CONTRIBUTING.md tells of still fits the tree."""
     said = subprocess.run(["git", "apply", "--check", "-C1", "examples/first_change.patch"], cwd=ROOT, capture_output=True, text=True, check=False)
@@ -220,7 +318,7 @@ def is_released():
 
 def main():
     failed = 0
-    checks = {"docs/MAP.md": map_faults, "docs/DEFINITIONS.md": definition_faults, "docs/PROMISES.md": promise_faults, "docs/THEOREM.md": theorem_faults, "contracts": contract_faults, "paths": path_faults, "explain": explanation_faults, "quotations": quotation_faults, "examples/first_change.patch": first_change_faults}
+    checks = {"docs/MAP.md": map_faults, "docs/DEFINITIONS.md": definition_faults, "docs/PROMISES.md": promise_faults, "docs/THEOREM.md": theorem_faults, "contracts": contract_faults, "paths": path_faults, "chapters": chapter_faults, "docs/MAP.md, to add something": further_faults, "explain": explanation_faults, "quotations": quotation_faults, "figures": figure_faults, "examples/first_change.patch": first_change_faults}
     if is_released():
         checks["pages"] = page_faults
     for name, check in checks.items():

@@ -470,6 +470,6 @@ def main(program):
 
 
 if __name__ == "__main__":
-    if len(sys.argv) != 2:
+    if len(sys.argv) != 2 or sys.argv[1] == "--help":
         sys.exit(__doc__)
     sys.exit(main(sys.argv[1]))

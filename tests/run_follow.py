@@ -601,6 +601,6 @@ def main(built, parts):
 
 
 if __name__ == "__main__":
-    if len(sys.argv) not in (2, 3) or sys.argv[2:] not in ([], ["--keeping"]):
+    if len(sys.argv) not in (2, 3) or sys.argv[1] == "--help" or sys.argv[2:] not in ([], ["--keeping"]):
         sys.exit(__doc__)
     sys.exit(main(sys.argv[1], KEEPING if sys.argv[2:] else PARTS))

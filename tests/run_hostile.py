@@ -442,6 +442,6 @@ def main(built):
 
 
 if __name__ == "__main__":
-    if len(sys.argv) != 2:
+    if len(sys.argv) != 2 or sys.argv[1] == "--help":
         sys.exit("usage: tests/run_hostile.py PROGRAM")
     sys.exit(main(sys.argv[1]))

@@ -243,4 +243,6 @@ def main(*given):
 
 
 if __name__ == "__main__":
+    if not sys.argv[1:] or sys.argv[1] == "--help":
+        sys.exit(__doc__)
     sys.exit(main(*sys.argv[1:]))

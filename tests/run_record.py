@@ -487,6 +487,9 @@ class Aside:
 
 
 def main() -> int:
+    if sys.argv[1:2] == ["--help"]:
+        print(__doc__)
+        return 0
     if not has_modules() and os.access(OWN, os.X_OK) and not os.environ.get("OWN_PYTHON"):
         os.execve(OWN, [OWN, os.path.abspath(__file__), *sys.argv[1:]], {**os.environ, "OWN_PYTHON": "1"})
     from record.server import is_installed

@@ -48,4 +48,7 @@ def main():
         print("| " + " | ".join(line_of(os.path.abspath(sys.argv[1]), shape)) + " |", flush=True)
 
 
-main()
+if __name__ == "__main__":
+    if not sys.argv[1:] or sys.argv[1] == "--help":
+        sys.exit(__doc__)
+    main()

@@ -85,4 +85,7 @@ def main():
         measure(sys.argv[1], rows)
 
 
-main()
+if __name__ == "__main__":
+    if not sys.argv[1:] or sys.argv[1] == "--help":
+        sys.exit(__doc__)
+    main()

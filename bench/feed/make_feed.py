@@ -78,4 +78,6 @@ def main():
 
 
 if __name__ == "__main__":
+    if not sys.argv[1:] or sys.argv[1] == "--help":
+        sys.exit(__doc__)
     main()

@@ -215,4 +215,6 @@ def make(shape, megabytes):
 
 
 if __name__ == "__main__":
+    if len(sys.argv) != 3:
+        sys.exit(__doc__)
     make(next(it for it in SHAPES + BY_ROWS if it.name == sys.argv[1]), float(sys.argv[2]))

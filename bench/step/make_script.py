@@ -19,4 +19,7 @@ def main():
     sys.stdout.write("".join(lines) + "dump\n" * dumps)
 
 
-main()
+if __name__ == "__main__":
+    if not sys.argv[1:] or sys.argv[1] == "--help":
+        sys.exit(__doc__)
+    main()

@@ -17,6 +17,6 @@ def main(count, other=0):
 
 
 if __name__ == "__main__":
-    if not 2 <= len(sys.argv) <= 3:
+    if not 2 <= len(sys.argv) <= 3 or sys.argv[1] == "--help":
         sys.exit(__doc__)
     main(*map(int, sys.argv[1:]))
