@@ -4,7 +4,7 @@
 usage: tests/run_docs.py
 
 docs/MAP.md names every source file of every crate under the crate's heading, docs/DEFINITIONS.md every
-file of definitions that public contracts cite, docs/PROMISES.md every must-fail edit, and no file or edit
+file of definitions that public contracts cite and in each row what its file has, docs/PROMISES.md every must-fail edit, and no file or edit
 that isn't there. A path that a document names is there, and so is the chapter of a page that a file names behind the
 page. Crates of tests and private definitions have no rows. A clause that README.md or docs/PROMISES.md names of a call (`call`: `clause`) is one of that call's
 contract, and what docs/PROMISES.md names in a table as a contract is a function or a type of the crates. Every
@@ -80,6 +80,10 @@ def definition_faults():
         there = files_below(crate, "specs", ".antt")
         yield from (f"{crate}/specs/{it} isn't named" for it in sorted(there - said))
         yield from (f"{crate}/specs/{it} isn't there" for it in sorted(said - there) if not os.path.exists(os.path.join(CRATES, crate, "specs", it)))
+        for line in found.get(crate, "").splitlines():
+            first, second = (line.split("|") + ["", ""])[1:3] if line.startswith("| `") else ("", "")
+            texts = "".join(text_of(CRATES, crate, "specs", it) for it in re.findall(r"[\w/]+\.antt", second) if it in there)
+            yield from (f"{crate}: {it} isn't in {second.strip()}" for it in re.findall(r"`([^`]+)`", first) if not re.search(rf"(?<!\w){re.escape(it)}(?!\w)", texts))
 
 
 def promise_faults():
