@@ -1,5 +1,5 @@
 #!/usr/bin/env python3
-"""Runs the commands of README.md and docs/TUTORIAL.md, and holds what they print to the pages.
+"""Runs the commands of README.md, docs/TUTORIAL.md and examples/README.md, and holds what they print to the pages.
 
 usage: tests/run_tutorial.py PROGRAM [--write]
 
@@ -14,7 +14,7 @@ import sys
 import tempfile
 
 ROOT = os.path.dirname(os.path.dirname(os.path.abspath(__file__)))
-PAGES = ("README.md", "docs/TUTORIAL.md")
+PAGES = ("README.md", "docs/TUTORIAL.md", "examples/README.md")
 
 
 def blocks_of(text):
