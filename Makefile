@@ -1,4 +1,4 @@
-# make install [PREFIX=/usr/local] [DESTDIR=]     puts the program, man page, completions and licence in place
+# make install [PREFIX=/usr/local] [DESTDIR=]     puts the program, man page, completions, licence and sums in place
 # make uninstall [PREFIX=/usr/local] [DESTDIR=]   takes them away again
 # make install-library, make uninstall-library    the same for the header and the library of ./release --library
 #
@@ -6,7 +6,7 @@
 PREFIX = /usr/local
 DESTDIR =
 LIBDIR = lib
-PLACES = bin/vrepl share/man/man1/vrepl.1 share/bash-completion/completions/vrepl share/zsh/site-functions/_vrepl share/doc/vrepl/LICENSE
+PLACES = bin/vrepl share/man/man1/vrepl.1 share/bash-completion/completions/vrepl share/zsh/site-functions/_vrepl share/doc/vrepl/LICENSE share/doc/vrepl/SOURCES
 
 all:
 	@sed -n '/^#/!q; s/^# \{0,1\}//p' Makefile
@@ -21,6 +21,7 @@ install:
 	put "$$program" bin/vrepl 755; \
 	for page in $(filter share/man/% share/bash% share/zsh%,$(PLACES)); do put "$$page" "$$page" 644; done; \
 	put LICENSE share/doc/vrepl/LICENSE 644; \
+	case $$program in dist/*) put dist/SOURCES share/doc/vrepl/SOURCES 644 ;; *) put "$$program.sources" share/doc/vrepl/SOURCES 644 ;; esac; \
 	echo "installed $$program as $(DESTDIR)$(PREFIX)/bin/vrepl, with its man page, completions and licence"
 
 uninstall:

@@ -22,9 +22,9 @@ import zipfile
 
 import run_dist
 
-INSTALLED = ["bin/vrepl", "share/bash-completion/completions/vrepl", "share/doc/vrepl/LICENSE", "share/man/man1/vrepl.1", "share/zsh/site-functions/_vrepl"]
+INSTALLED = ["bin/vrepl", "share/bash-completion/completions/vrepl", "share/doc/vrepl/LICENSE", "share/doc/vrepl/SOURCES", "share/man/man1/vrepl.1", "share/zsh/site-functions/_vrepl"]
 IN_DEB = [
-    *("usr/bin/vrepl", "usr/share/bash-completion/completions/vrepl", "usr/share/doc/vrepl/changelog.gz", "usr/share/doc/vrepl/copyright"),
+    *("usr/bin/vrepl", "usr/share/bash-completion/completions/vrepl", "usr/share/doc/vrepl/SOURCES", "usr/share/doc/vrepl/changelog.gz", "usr/share/doc/vrepl/copyright"),
     *("usr/share/lintian/overrides/vrepl", "usr/share/man/man1/vrepl.1.gz", "usr/share/zsh/vendor-completions/_vrepl"),
 ]  # fmt: skip
 CARRIED = os.path.join(run_dist.ROOT, run_dist.CARRIED)
@@ -55,6 +55,9 @@ def is_the_program(path):
     """What isn't as wanted of an installed program, or nothing."""
     if not filecmp.cmp(path, CARRIED, shallow=False):
         return f"{path} isn't the program in dist/"
+    sums = os.path.join(os.path.dirname(path), "../share/doc/vrepl/SOURCES")
+    if not filecmp.cmp(sums, os.path.join(run_dist.ROOT, "dist/SOURCES"), shallow=False):
+        return f"{sums} isn't dist/SOURCES"
     ran = subprocess.run([path, "show", "--hex", os.path.join(run_dist.ROOT, "examples/one_insert.hex")], capture_output=True, user=OTHER, check=False)
     return run_dist.wanted((ran.returncode, ran.stdout, ran.stderr.decode()))
 
