@@ -16,6 +16,8 @@ docs/ and bench/ are those of bench/figures.json, into which a run's can be put,
 can be made. The last line is 'N passed, M failed': one a document, one for the paths, the chapters, the lists, the texts,
 the pages, the quotations, the figures and the change.
 """
+import contextlib
+import functools
 import json
 import os
 import re
@@ -165,14 +167,15 @@ FURTHER = ("vindex", "event", "subcommand", "column type", "refusal number", "de
 WHOLE = re.compile(r"(?:crates/(?!\w+_tests/|\w+/CALLING\.md)|bindings/|fleet/|include/|record/|scripts/|tests/model/)|(?:build|crates\.txt)$")
 
 
+@functools.cache
 def tree():
-    """The files of the tree by their paths, each with its text; but for those that aren't text."""
+    """The texts of the tree's files by their paths; but for those that aren't text."""
     said = subprocess.run(["git", "ls-files", "--cached", "--others", "--exclude-standard"], cwd=ROOT, capture_output=True, text=True, check=True)
+    found = {}
     for path in sorted(set(said.stdout.splitlines())):
-        try:
-            yield path, text_of(path)
-        except (UnicodeDecodeError, FileNotFoundError, IsADirectoryError):
-            continue
+        with contextlib.suppress(UnicodeDecodeError, FileNotFoundError, IsADirectoryError):
+            found[path] = text_of(path)
+    return found
 
 
 def further_lists():
@@ -191,11 +194,12 @@ def further_lists():
 
 
 def further_faults():
-    found, texts = further_lists(), dict(tree())
+    found, texts = further_lists(), tree()
     yield from (f"there is no list of a further {it}" for it in FURTHER if it not in {kind for kind, _, _ in found})
     for kind, words, paths in found:
         word = re.compile(rf"(?<!\w)(?:{words})(?!\w)")
-        have = {path for path, text in texts.items() if word.search(text)}
+        plain = words.replace("\\", "").split("|")
+        have = {path for path, text in texts.items() if any(it in text for it in plain) and word.search(text)}
         below = [it for it in paths if it.endswith("/")]
         yield from (f"a further {kind}: {it} has none of its words" for it in paths if it not in below and it not in have)
         yield from (f"a further {kind}: {it} stands there twice" for it in sorted({it for it in paths if paths.count(it) > 1}))
@@ -213,11 +217,11 @@ def chapters_of(text):
 
 
 def chapter_faults():
-    texts = dict(tree())
+    texts = tree()
     for path, text in texts.items():
         if path == "docs/THEOREM.md":
             continue
-        for page, one, other in CHAPTER.findall(text):
+        for page, one, other in (found for line in text.splitlines() if ".md" in line for found in CHAPTER.findall(line)):
             page = page if page in texts else os.path.normpath(os.path.join(os.path.dirname(path), page))
             name = (one or other).replace("`", "").rstrip(".:")
             if page in texts and "/" not in name and name not in chapters_of(texts[page]):
