@@ -422,6 +422,13 @@ def compared(trial: Trial) -> None:
     comparing.compared(trial)
 
 
+def paged(trial: Trial) -> None:
+    """The page of differences."""
+    from record import pages
+
+    pages.pages(trial)
+
+
 def from_vtgate(trial: Trial) -> None:
     """Feeds from what VTGate sends, by its changes and by a copy, over a stand-in for it."""
     from record.vtgate_trials import vtgate
@@ -432,7 +439,7 @@ def from_vtgate(trial: Trial) -> None:
 STEPS: list[list[Callable[[Trial], None]]] = [
     [statements, stops, prepared, reached, harmless, random_tables, merged_and_split, by_hash, kinds, portions, grown, late, workflows, from_vtgate,
      operated, living],
-    [kept, anew, large, compared],
+    [kept, anew, large, compared, paged],
 ]  # fmt: skip
 """Side by side, each over a server of its own: a step may need what one before it has made."""
 

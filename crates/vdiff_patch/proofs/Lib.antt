@@ -1,0 +1,4 @@
+pub mod StepLaws
+pub mod RepairLaws
+pub mod RisingLaws
+pub mod WalkLaws

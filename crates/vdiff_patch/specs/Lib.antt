@@ -1,0 +1,4 @@
+pub mod AllDifferences
+pub mod Patch
+pub mod Repair
+pub mod Private

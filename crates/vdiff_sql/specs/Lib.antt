@@ -1,0 +1,5 @@
+pub mod Literals
+pub mod Columns
+pub mod Keys
+pub mod Statements
+pub mod Private
