@@ -1,1 +1,4 @@
-pub mod LeftLaws
+mod LeftLaws
+mod WritingLaws
+mod CutLaws
+mod CompactLaws

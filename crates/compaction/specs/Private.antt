@@ -1,2 +1,3 @@
 -- What serves the code alone, and no public contract.
 pub mod LeftEntries
+pub mod Written

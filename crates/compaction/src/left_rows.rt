@@ -5,14 +5,14 @@ ghost use Rattle.source_feed.specs.SoundGroups.{sound_groups, StopsBefore};
 ghost use Rattle.source_feed.specs.Touches.{PreparedValue};
 ghost use Rattle.source_feed.specs.FaultNumber.{meant_of};
 ghost use Rattle.compaction_laws.specs.Base.{IsLeft};
-ghost use Rattle.compaction.specs.Private.LeftEntries.{change_of, row_put};
+ghost use Rattle.compaction.specs.Private.LeftEntries.{change_of, row_put, rows_of};
 
 use pk_copy::LentKey;
 use row_view::RowBytes;
 use source_feed::{Feed, FeedFault, Prepared, Touch};
 use std::alloc::{AllocError, Global};
 use std::marker::Model;
-use target_tables::{TableFault, Tables};
+use target_tables::{Scan, TableFault, Tables};
 
 /// The rows of a source after some groups, whether or not they pass the plan's filter: for each key the row that was
 /// put there last. Keys and rows are lent from the feed's buffer. Seen in contracts as the list of keys and rows, by
@@ -71,6 +71,13 @@ impl<'h> LeftRows<'h> {
         ensures { result ≡ length self.now }
     {
         self.rows.len()
+    }
+
+    /// The rows' entries in the map, by rising key. Takes no memory.
+    pub(crate) fn scan(&self) -> Scan<'_, LentKey<'h>, RowBytes<'h>>
+        ensures { rows_of result ≡ self.now }
+    {
+        self.rows.iter()
     }
 
     /// Goes on by a group: at each key that the group touches stands the row that its last touch puts there, or

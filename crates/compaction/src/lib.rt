@@ -1,6 +1,14 @@
-//! The rows that a source's first groups leave, of which a base for them is made.
+//! A feed whose first groups are compacted: one group in their place inserts the rows that they leave.
 #![tactic(auto)]
 
+mod base;
+mod compacting;
+mod cut;
+mod fault;
 mod left_rows;
+mod waiting;
 
+pub use compacting::{Compaction, compact};
+pub use cut::UnknownTables;
+pub use fault::CompactFault;
 pub use left_rows::{LeftRows, rows_up_to};

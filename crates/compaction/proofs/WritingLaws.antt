@@ -1,0 +1,261 @@
+-- What is written of a base, message by message.
+use Rattle.std.proofs.Common.{◌≡◌, ◌⊎◌, ℕ, ◌+◌, ◌^◌, ◌<◌, List, [], ◌∷◌, ◌++◌, length, map, Result, Ok, None, Some, true, refl, sym, ap, subst, ◌∙◌, inl, inr, arith, append_assoc}
+use Rattle.std.proofs.lemmas.List.{append-nil, length-append, length-map, map-append}
+use Rattle.std.proofs.lemmas.List.Concat.{flat_map-append}
+use Rattle.std.specs.List.{AllByRecursion, flat_map}
+use Rattle.list_laws.proofs.Fronts.{All-append}
+use Rattle.proto_wire.specs.Varint.{shortest}
+use Rattle.pk_copy.specs.KeyValue.{KeyValue}
+use Rattle.row_view.specs.Row.{RowValue}
+use Rattle.row_view.specs.WrittenRow.{IsWithinLimits}
+use Rattle.vevent.specs.Event.{event_at}
+use Rattle.vevent.specs.EventValue.{ChangeValue, EventValue, Begin, Commit, Row}
+use Rattle.vevent.specs.WrittenEvent.{written_event, AreWithinLimits, EventsAreReadAgain}
+use Rattle.vevent.specs.declared.fault.EventFault.{EventFault}
+use Rattle.vevent.proofs.WrittenParts.{messages_short}
+use Rattle.filter_rule.specs.PlanValue.{PlanValue}
+use Rattle.source_feed.specs.Image.{ImageRows}
+use Rattle.event_laws.specs.WrittenMessages.{written_response, framed, written_messages}
+use Rattle.feed_bytes.specs.FieldBytes.{FieldBytesValue}
+use Rattle.feed_bytes.specs.Inserts.{insert_change, inserts}
+use Rattle.compaction_laws.specs.Portions.{Portion, event_of, rows_of, IsOfOneTable}
+use Rattle.compaction.specs.Private.LeftEntries.{Entries, rows_of as entry_rows}
+use Rattle.compaction.specs.Private.Written.{AddsEvents, HasName, AreNamed, WaitingValue, CanBePut, IsPortionPut, IsPut, IsReady, AddsRows, AddsFields, AddsEnd, AddsBase}
+use Rattle.std.specs.Str.{is_utf8}
+
+-- ---- messages
+
+abbrev Read : Type 0
+Read = Result EventValue EventFault
+
+abbrev good : EventValue → Read
+good event = Ok event
+
+abbrev all_parts : List (List (List ℕ)) → List (List ℕ)
+all_parts messages = flat_map (λ (parts : List (List ℕ)). parts) messages
+
+pub adds_none : (old : List ℕ) → AddsEvents old old []
+adds_none old = record { messages = []; bytes = sym (append-nil old); read = refl }
+
+pub adds_more : (a b c : List ℕ) (xs ys : List EventValue) → AddsEvents a b xs → AddsEvents b c ys → AddsEvents a c (xs ++ ys)
+adds_more a b c xs ys one two = record {
+  messages = one.messages ++ two.messages;
+  bytes = two.bytes ∙ ap (λ (w : List ℕ). w ++ written_messages two.messages) one.bytes ∙ append_assoc a (written_messages one.messages) (written_messages two.messages)
+      ∙ ap (λ (w : List ℕ). a ++ w) (sym (flat_map-append (λ (events : List (List ℕ)). framed (written_response events)) one.messages two.messages));
+  read = ap (λ (ps : List (List ℕ)). map event_at ps) (flat_map-append (λ (parts : List (List ℕ)). parts) one.messages two.messages)
+      ∙ map-append event_at (all_parts one.messages) (all_parts two.messages)
+      ∙ ap (λ (rs : List Read). rs ++ map event_at (all_parts two.messages)) one.read
+      ∙ ap (λ (rs : List Read). map good xs ++ rs) two.read
+      ∙ sym (map-append good xs ys);
+}
+
+-- one message
+pub adds_one : (old new : List ℕ) (parts : List (List ℕ)) (events : List EventValue) → new ≡ old ++ framed (written_response parts) → map event_at parts ≡ map Ok events → AddsEvents old new events
+adds_one old new parts events is read = record {
+  messages = parts ∷ [];
+  bytes = is ∙ ap (λ (w : List ℕ). old ++ w) (sym (append-nil (framed (written_response parts))));
+  read = ap (λ (ps : List (List ℕ)). map event_at ps) (append-nil parts) ∙ read;
+}
+
+-- ---- a portion
+
+all_limits : (rows : List RowValue) → AllByRecursion IsWithinLimits rows → AllByRecursion AreWithinLimits (map insert_change rows)
+all_limits [] h = tt
+all_limits (row ∷ rows) h = (record { before = tt; after = h.0 }, all_limits rows h.1)
+
+-- an event is shorter than what it was written behind
+event_short : (old new event : List ℕ) → new ≡ old ++ framed (written_response (event ∷ [])) → length new < 2 ^ 64 → length event < 2 ^ 64
+event_short old new event is short =
+    let response : List ℕ = written_response (event ∷ []) in
+    let whole : length new ≡ length old + length (framed response) = ap length is ∙ length-append old (framed response) in
+    let frame : length (framed response) ≡ length (shortest (length response)) + length response = length-append (shortest (length response)) response in
+    (messages_short 1 (event ∷ []) (omega (arith, short, whole, frame))).0
+
+pub adds_portion : EventsAreReadAgain → (old new name : List ℕ) (rows : List RowValue) → is_utf8 name ≡ true → AllByRecursion IsWithinLimits rows → length new < 2 ^ 64
+    → new ≡ old ++ framed (written_response (written_event (inserts name rows) ∷ [])) → AddsEvents old new (inserts name rows ∷ [])
+adds_portion again old new name rows utf8 limits short is =
+    let event : EventValue = inserts name rows in
+    let read : event_at (written_event event) ≡ Ok event = again event (utf8, all_limits rows limits) (event_short old new (written_event event) is short) in
+    adds_one old new (written_event event ∷ []) (event ∷ []) is (ap (λ (r : Read). r ∷ []) read)
+
+-- ---- rows that wait
+
+abbrev Entry : Type 0
+Entry = KeyValue × RowValue
+
+-- rows were written as portions, and those behind them wait
+pub record Going (plan : PlanValue) (start out : List ℕ) (waiting : WaitingValue) (done : ImageRows) : Type 0 where
+  pub portions : List Portion
+  pub each_portion : AllByRecursion (IsOfOneTable plan) portions
+  pub adds : AddsEvents start out (map event_of portions)
+  pub last : ImageRows
+  pub are : rows_of portions ++ last ≡ done
+  pub rows : map (λ (row : Entry). row.1) last ≡ waiting.rows
+  pub keys : AllByRecursion (λ (row : Entry). row.0.table ≡ waiting.table) last
+
+no_rows : {X Y : Type 0} (f : X → Y) (xs : List X) → map f xs ≡ [] → xs ≡ []
+no_rows f [] e = refl
+no_rows f (x ∷ xs) e = cc
+
+pub going_begins : (plan : PlanValue) (start : List ℕ) (waiting : WaitingValue) → waiting.rows ≡ [] → Going plan start start waiting []
+going_begins plan start waiting e = record { portions = []; each_portion = tt; adds = adds_none start; last = []; are = refl; rows = sym e; keys = tt }
+
+same_event : (name : List ℕ) (rows : ImageRows) → inserts name (map (λ (row : Entry). row.1) rows) ≡ event_of (record { name = name; rows = rows })
+same_event name rows = ap (λ (changes : List ChangeValue). Row name changes) (both rows)
+  where
+    both : (rows : ImageRows) → map insert_change (map (λ (row : Entry). row.1) rows) ≡ map (λ (row : Entry). record { before = None; after = Some row.1 }) rows
+    both [] = refl
+    both (row ∷ rows) = ap (λ (changes : List ChangeValue). insert_change row.1 ∷ changes) (both rows)
+
+same_rows : (plan : PlanValue) (waiting : WaitingValue) (last : ImageRows) (old new : List ℕ) (put : IsPortionPut plan waiting old new) → map (λ (row : Entry). row.1) last ≡ waiting.rows
+    → AddsEvents old new (event_of (record { name = put.name; rows = last }) ∷ [])
+same_rows plan waiting last old new put e =
+    subst (λ (event : EventValue). AddsEvents old new (event ∷ [])) (ap (inserts put.name) (sym e) ∙ same_event put.name last) put.adds
+
+-- what waited is written
+pub going_put : (plan : PlanValue) (start out new : List ℕ) (waiting next : WaitingValue) (done : ImageRows) → Going plan start out waiting done → IsPut plan waiting out new → next.rows ≡ [] → Going plan start new next done
+going_put plan start out new waiting next done g (inl none) empty =
+    let nothing : g.last ≡ [] = no_rows (λ (row : Entry). row.1) g.last (g.rows ∙ none.0) in
+    record {
+      portions = g.portions;
+      each_portion = g.each_portion;
+      adds = subst (λ (w : List ℕ). AddsEvents start w (map event_of g.portions)) (sym none.1) g.adds;
+      last = [];
+      are = ap (λ (rows : ImageRows). rows_of g.portions ++ rows) (sym nothing) ∙ g.are;
+      rows = sym empty;
+      keys = tt;
+    }
+going_put plan start out new waiting next done g (inr put) empty =
+    let portion : Portion = record { name = put.name; rows = g.last } in
+    let long : length g.last ≡ length waiting.rows = sym (length-map g.last (λ (row : Entry). row.1)) ∙ ap length g.rows in
+    let is : IsOfOneTable plan portion = record { table = waiting.table; planned = put.named; keys = g.keys; some = omega (arith, long, put.some) } in
+    record {
+      portions = g.portions ++ portion ∷ [];
+      each_portion = All-append (IsOfOneTable plan) g.portions (portion ∷ []) g.each_portion (is, tt);
+      adds = subst (λ (events : List EventValue). AddsEvents start new events) (sym (map-append event_of g.portions (portion ∷ [])))
+          (adds_more start out new (map event_of g.portions) (event_of portion ∷ []) g.adds (same_rows plan waiting g.last out new put g.rows));
+      last = [];
+      are = append-nil (rows_of (g.portions ++ portion ∷ [])) ∙ flat_map-append (λ (p : Portion). p.rows) g.portions (portion ∷ [])
+          ∙ ap (λ (rows : ImageRows). rows_of g.portions ++ rows) (append-nil g.last) ∙ g.are;
+      rows = sym empty;
+      keys = tt;
+    }
+
+-- a row more waits
+going_more : (plan : PlanValue) (start out : List ℕ) (waiting : WaitingValue) (done : ImageRows) (key : KeyValue) (row : RowValue) → Going plan start out waiting done
+    → (waiting.rows ≡ []) ⊎ (waiting.table ≡ key.table) → Going plan start out (record { table = key.table; rows = waiting.rows ++ row ∷ [] }) (done ++ (key, row) ∷ [])
+going_more plan start out waiting done key row g same = record {
+  portions = g.portions;
+  each_portion = g.each_portion;
+  adds = g.adds;
+  last = g.last ++ (key, row) ∷ [];
+  are = sym (append_assoc (rows_of g.portions) g.last ((key, row) ∷ [])) ∙ ap (λ (rows : ImageRows). rows ++ (key, row) ∷ []) g.are;
+  rows = map-append (λ (r : Entry). r.1) g.last ((key, row) ∷ []) ∙ ap (λ (rows : List RowValue). rows ++ row ∷ []) g.rows;
+  keys = All-append (λ (r : Entry). r.0.table ≡ key.table) g.last ((key, row) ∷ []) (by same) (refl, tt);
+}
+  where
+    by : (waiting.rows ≡ []) ⊎ (waiting.table ≡ key.table) → AllByRecursion (λ (r : Entry). r.0.table ≡ key.table) g.last
+    by (inl none) =
+        subst (λ (rows : ImageRows). AllByRecursion (λ (r : Entry). r.0.table ≡ key.table) rows) (sym (no_rows (λ (r : Entry). r.1) g.last (g.rows ∙ none))) tt
+    by (inr one) = subst (λ (n : ℕ). AllByRecursion (λ (r : Entry). r.0.table ≡ n) g.last) one g.keys
+
+-- a row of a table waits, behind what waited or in its place
+pub going_on : (plan : PlanValue) (start out new : List ℕ) (waiting ready next : WaitingValue) (done : ImageRows) (key : KeyValue) (row : RowValue) (table : ℕ) → table ≡ key.table
+    → Going plan start out waiting done → IsReady plan table waiting out ready new → next ≡ record { table = table; rows = ready.rows ++ row ∷ [] } → Going plan start new next (done ++ (key, row) ∷ [])
+going_on plan start out new waiting ready next done key row table is g (inl same) made =
+    let here : Going plan start new ready done = subst (λ (w : List ℕ). Going plan start w ready done) (sym same.1) (subst (λ (w : WaitingValue). Going plan start out w done) (sym same.0) g) in
+    let of : ready.table ≡ key.table = ap (λ (w : WaitingValue). w.table) same.0 ∙ same.2 ∙ is in
+    subst (λ (w : WaitingValue). Going plan start new w (done ++ (key, row) ∷ [])) (sym (made ∙ ap (λ (n : ℕ). record { table = n; rows = ready.rows ++ row ∷ [] }) is))
+    (going_more plan start new ready done key row here (inr of))
+going_on plan start out new waiting ready next done key row table is g (inr put) made =
+    let here : Going plan start new ready done = going_put plan start out new waiting ready done g put.0 put.1 in
+    subst (λ (w : WaitingValue). Going plan start new w (done ++ (key, row) ∷ [])) (sym (made ∙ ap (λ (n : ℕ). record { table = n; rows = ready.rows ++ row ∷ [] }) is))
+    (going_more plan start new ready done key row here (inl put.1))
+
+-- all are written
+pub going_ends : (plan : PlanValue) (start out new : List ℕ) (waiting : WaitingValue) (done : ImageRows) → Going plan start out waiting done → IsPut plan waiting out new → AddsRows plan start new done
+going_ends plan start out new waiting done g put =
+    let end : Going plan start new (record { table = 0; rows = [] }) done = going_put plan start out new waiting (record { table = 0; rows = [] }) done g put refl in
+    let none : end.last ≡ [] = no_rows (λ (row : Entry). row.1) end.last end.rows in
+    record {
+      portions = end.portions;
+      each_portion = end.each_portion;
+      are = sym (append-nil (rows_of end.portions)) ∙ ap (λ (rows : ImageRows). rows_of end.portions ++ rows) (sym none) ∙ end.are;
+      adds = end.adds;
+    }
+
+-- ---- one row after another
+
+-- rows are written, and those that are left have names
+pub record WritesOn (plan : PlanValue) (fields : List FieldBytesValue) (start out : List ℕ) (waiting : WaitingValue) (all : ImageRows) (left : Entries) : Type 0 where
+  pub done : ImageRows
+  pub parts : done ++ entry_rows left ≡ all
+  pub going : Going plan start out waiting done
+  pub ready : CanBePut plan fields waiting
+  pub named : AreNamed plan fields (entry_rows left)
+
+pub writes_begin : (plan : PlanValue) (fields : List FieldBytesValue) (start : List ℕ) (waiting : WaitingValue) (all : ImageRows) (left : Entries) → entry_rows left ≡ all → AreNamed plan fields all → waiting.rows ≡ []
+    → WritesOn plan fields start start waiting all left
+writes_begin plan fields start waiting all left is named empty = record {
+  done = [];
+  parts = is;
+  going = going_begins plan start waiting empty;
+  ready = inl empty;
+  named = subst (AreNamed plan fields) (sym is) named;
+}
+
+pub writes_next : (plan : PlanValue) (fields : List FieldBytesValue) (start out new : List ℕ) (waiting ready next : WaitingValue) (all : ImageRows) (left more : Entries) (entry : KeyValue × (ℕ × RowValue)) (table : ℕ)
+    → WritesOn plan fields start out waiting all left → left ≡ entry ∷ more → table ≡ entry.0.table → IsReady plan table waiting out ready new → next ≡ record { table = table; rows = ready.rows ++ entry.1.1 ∷ [] }
+    → WritesOn plan fields start new next all more
+writes_next plan fields start out new waiting ready next all left more entry table w is of room made =
+    let row : KeyValue × RowValue = (entry.0, entry.1.1) in
+    let named : AreNamed plan fields (row ∷ entry_rows more) = subst (λ (es : Entries). AreNamed plan fields (entry_rows es)) is w.named in
+    record {
+      done = w.done ++ row ∷ [];
+      parts = append_assoc w.done (row ∷ []) (entry_rows more) ∙ ap (λ (es : Entries). w.done ++ entry_rows es) (sym is) ∙ w.parts;
+      going = going_on plan start out new waiting ready next w.done entry.0 entry.1.1 table of w.going room made;
+      ready = inr (subst (HasName plan fields) (sym (ap (λ (n : WaitingValue). n.table) made ∙ of)) named.0);
+      named = named.1;
+    }
+
+pub writes_end : (plan : PlanValue) (fields : List FieldBytesValue) (start out new : List ℕ) (waiting : WaitingValue) (all : ImageRows) (left : Entries) → WritesOn plan fields start out waiting all left → left ≡ [] → IsPut plan waiting out new
+    → AddsRows plan start new all
+writes_end plan fields start out new waiting all left w none put =
+    let all_done : w.done ≡ all = sym (append-nil w.done) ∙ ap (λ (es : Entries). w.done ++ entry_rows es) (sym none) ∙ w.parts in
+    subst (AddsRows plan start new) all_done (going_ends plan start out new waiting w.done w.going put)
+
+-- ---- the whole
+
+events_with : (bytes : List (List ℕ)) (fields : List FieldBytesValue) (last : List ℕ) (events : List EventValue) (event : EventValue) → bytes ≡ map (λ (field : FieldBytesValue). field.bytes) fields ++ last ∷ []
+    → map (λ (field : FieldBytesValue). event_at field.bytes) fields ≡ map good events → event_at last ≡ good event → map event_at bytes ≡ map good (events ++ event ∷ [])
+events_with bytes fields last events event are read end =
+    ap (λ (bs : List (List ℕ)). map event_at bs) are
+    ∙ map-append event_at (map (λ (field : FieldBytesValue). field.bytes) fields) (last ∷ [])
+    ∙ ap (λ (rs : List Read). rs ++ event_at last ∷ []) (both fields ∙ read)
+    ∙ ap (λ (r : Read). map good events ++ r ∷ []) end
+    ∙ sym (map-append good events (event ∷ []))
+  where
+    both : (fields : List FieldBytesValue) → map event_at (map (λ (field : FieldBytesValue). field.bytes) fields) ≡ map (λ (field : FieldBytesValue). event_at field.bytes) fields
+    both [] = refl
+    both (field ∷ fields) = ap (λ (rs : List Read). event_at field.bytes ∷ rs) (both fields)
+
+pub adds_fields : (old new : List ℕ) (bytes : List (List ℕ)) (fields : List FieldBytesValue) (begin : List ℕ) → new ≡ old ++ framed (written_response bytes)
+    → bytes ≡ map (λ (field : FieldBytesValue). field.bytes) fields ++ begin ∷ [] → event_at begin ≡ Ok Begin → AddsFields old new fields
+adds_fields old new bytes fields begin is are read events e = adds_one old new bytes (events ++ Begin ∷ []) is (events_with bytes fields begin events Begin are e read)
+
+pub adds_end : (old new : List ℕ) (place commit : List ℕ) → new ≡ old ++ framed (written_response (place ∷ commit ∷ [])) → event_at commit ≡ Ok Commit → AddsEnd old new place
+adds_end old new place commit is read event e = adds_one old new (place ∷ commit ∷ []) (event ∷ Commit ∷ []) is (ap (λ (r : Read). r ∷ event_at commit ∷ []) e ∙ ap (λ (r : Read). good event ∷ r ∷ []) read)
+
+pub adds_base : (plan : PlanValue) (old one two new : List ℕ) (fields : List FieldBytesValue) (rows : ImageRows) (place : List ℕ) → AddsFields old one fields → AddsRows plan one two rows → AddsEnd two new place
+    → AddsBase plan old new fields rows place
+adds_base plan old one two new fields rows place head middle end events event e p =
+    let inserted : List EventValue = map event_of middle.portions in
+    let first : AddsEvents old two ((events ++ Begin ∷ []) ++ inserted) = adds_more old one two (events ++ Begin ∷ []) inserted (head events e) middle.adds in
+    let all : AddsEvents old new (((events ++ Begin ∷ []) ++ inserted) ++ event ∷ Commit ∷ []) = adds_more old two new ((events ++ Begin ∷ []) ++ inserted) (event ∷ Commit ∷ []) first (end event p) in
+    record {
+      portions = middle.portions;
+      each_portion = middle.each_portion;
+      are = middle.are;
+      adds = subst (λ (all : List EventValue). AddsEvents old new all)
+          (append_assoc (events ++ Begin ∷ []) inserted (event ∷ Commit ∷ []) ∙ append_assoc events (Begin ∷ []) (inserted ++ event ∷ Commit ∷ [])) all;
+    }

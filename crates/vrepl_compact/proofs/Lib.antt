@@ -1,0 +1,2 @@
+mod LimitLaws
+mod EndLaws
