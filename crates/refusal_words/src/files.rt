@@ -14,6 +14,7 @@ pub(crate) fn text_of(number: u64) -> Option<&'static str>
         119 => Some(FEED_COUNT),
         120 => Some(BAD_SCRIPT),
         121 => Some(BAD_DUMP),
+        123 => Some(UNKNOWN_TABLE),
         129 => Some(CHANGED),
         131 => Some(CANNOT_READ),
         132 => Some(CANNOT_WRITE),
@@ -46,12 +47,13 @@ begin without a checkpoint: all it has is made from the feeds again.
 pub const UNKNOWN_POSITION: &str = "\
 118  no group of the feed has a checkpoint's position
 
-No group of the stream's feed has the checkpoint's position. The line has the
-stream.
+No group of the stream's feed has the checkpoint's position, or that of --at.
+The line has the stream.
 Usual causes: a feed that is shorter than the one of which it was saved, or that
-lacks its beginning; feeds in the wrong order.
-What to do: give the whole feed, from its first group. `vrepl show` prints the
-positions.
+lacks its beginning; one that was compacted past the checkpoint; feeds in the
+wrong order.
+What to do: give the whole feed, from its first group, or go on from a later
+checkpoint. `vrepl show` prints the positions.
 ";
 
 pub const FEED_COUNT: &str = "\
@@ -84,6 +86,18 @@ twice; another number of columns; a table left out; a last line without its
 end; a file that is no dump.
 What to do: print a dump with `vrepl run`, or with record/select, which orders
 by bytes. docs/FORMATS.md has the form.
+";
+
+pub const UNKNOWN_TABLE: &str = "\
+123  rows of a table that the workflow lacks would be lost
+
+A group that `compact` would replace has changes of a table that the workflow
+doesn't name. What is written has the rows of the workflow's tables alone, so
+that this table's rows would be gone from the feed for ever.
+Usual causes: a feed of a whole keyspace under a workflow of some of its tables;
+a table that is to be added later.
+What to do: add the table to the workflow first; or, if nothing will ever want
+its rows, run the command again with --drop-unknown.
 ";
 
 pub const CHANGED: &str = "\

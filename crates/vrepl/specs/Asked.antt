@@ -1,12 +1,19 @@
 -- What the words that were read ask for of the inputs.
-use Rattle.std.specs.Prelude.{◌≡◌, ℕ, List, Result, Bool, false, codes, if◌then◌else◌}
+use Rattle.std.specs.Prelude.{◌≡◌, ℕ, List, Option, None, Some, Result, Bool, false, codes, if◌then◌else◌}
 use Rattle.std.specs.Str.{bytes_eq}
 use Rattle.vrepl_main.specs.Reasons.{Reason}
 use Rattle.vrepl_main.specs.Show.{shown_feed}
 use Rattle.vrepl_check.specs.declared.inputs.CheckInputs.{CheckInputs}
 use Rattle.vrepl_vdiff.specs.declared.inputs.VdiffInputs.{VdiffInputs}
+use denote.Ref.{Bor}
+use Rattle.vrepl_vdiff.specs.declared.options.Detail.{Detail}
+use Rattle.vrepl_vdiff.specs.declared.options.Detail.TheVariants.{Comparison, Text, Sql}
 use Rattle.vrepl_vdiff.specs.declared.options.Options.{Options}
+use Rattle.compaction.specs.declared.cut.UnknownTables.{UnknownTables}
+use Rattle.compaction.specs.declared.cut.UnknownTables.TheVariants.{Refused, LeftOut}
+use Rattle.vrepl_compact.specs.declared.inputs.CompactInputs.{CompactInputs}
 use Rattle.vrepl_words.specs.declared.words.Check.{Check}
+use Rattle.vrepl_words.specs.declared.words.Compact.{Compact}
 use Rattle.vrepl_words.specs.declared.words.Show.{Show}
 use Rattle.vrepl_words.specs.declared.words.Vdiff.{Vdiff}
 
@@ -18,9 +25,17 @@ text_asked show feed = shown_feed show.feed_form feed (record { keyspace = show.
 abbrev pub is_other : List ℕ → List ℕ → Bool
 is_other source target = if bytes_eq source (codes "-") then false else bytes_eq target (codes "-")
 
+-- statements where a schema is given, else the differences as a person reads them where these are asked for
+abbrev pub detail_by : Option (Bor (List ℕ)) → Bool → Detail
+detail_by (Some schema) readable = Sql schema
+detail_by None readable = if readable then Text else Comparison
+
+abbrev pub detail_asked : Vdiff → Detail
+detail_asked words = detail_by words.sql words.readable
+
 -- what the words of `vdiff` ask to be shown
 abbrev pub options_asked : Vdiff → Options
-options_asked words = record { tables = words.tables; first = words.first; report_form = words.report_form }
+options_asked words = record { tables = words.tables; first = words.first; report_form = words.report_form; detail = detail_asked words }
 
 -- the inputs are those that these words ask for, by the names that they give the dumps
 abbrev pub IsVdiffAsked : Vdiff → VdiffInputs → Type 0
@@ -29,3 +44,11 @@ IsVdiffAsked words inputs = (inputs.options ≡ options_asked words) × (inputs.
 -- the same of the words of `check`, by the names of the feeds' files
 abbrev pub IsCheckAsked : Check → CheckInputs → Type 0
 IsCheckAsked words inputs = (inputs.report_form ≡ words.report_form) × (inputs.feed_form ≡ words.step.feed_form) × (inputs.files.now ≡ words.step.feeds.items)
+
+-- what becomes of rows of tables that the workflow lacks, with `--drop-unknown` or without
+abbrev pub unknown_asked : Bool → UnknownTables
+unknown_asked drop = if drop then LeftOut else Refused
+
+-- the same of the words of `compact`: how the feed is given, of which stream it is, and how far it is compacted
+abbrev pub IsCompactAsked : Compact → CompactInputs → Type 0
+IsCompactAsked words inputs = (inputs.feed_form ≡ words.feed_form) × (inputs.stream ≡ words.stream) × (inputs.at ≡ words.at) × (inputs.unknown ≡ unknown_asked words.drop_unknown)

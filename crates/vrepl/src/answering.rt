@@ -4,14 +4,19 @@ ghost use Rattle.std.specs.Prelude.{◌≡◌, ◌≤◌, ◌⊎◌, IfErr, IfOk
 ghost use Rattle.vrepl.specs.Answered.{AnswerEnds, IsAnswering, IsAskedBy, IsUnreadFor};
 
 use crate::checking::{read_check, report};
+use crate::compacting::read_compact;
 use crate::comparing::{compare, read_vdiff};
+use crate::files::{FileInputs, read_files};
 use crate::reporting::Reporter;
+use crate::stating::{StatusInputs, read_status, state};
+use crate::tiling::tile;
 use crate::{course_of, show_feed};
 use std::alloc::{AllocError, Global};
 use std::sync::Wait;
 use std::thread::Threads;
 use vdiff_core::{Out, Writer};
 use vrepl_check::CheckInputs;
+use vrepl_compact::{CompactInputs, compact};
 use vrepl_main::{
     CommandRefusal, InputName, Inputs, JoinFiles, JoinInputs, Progress, ResumeInputs, RunInputs,
     Untold, join, read_input, read_join, read_resume, read_run, read_step, resume, run, save, step,
@@ -38,6 +43,12 @@ pub(crate) enum Asked<'a, 'w> {
     Vdiff(VdiffInputs<'w>),
     /// `check`.
     Check(CheckInputs<'a, 'w>),
+    /// `tiles`.
+    Tiles(FileInputs<'a, 'w>),
+    /// `status`.
+    Status(StatusInputs<'a, 'w>),
+    /// `compact`.
+    Compact(CompactInputs<'w>),
 }
 
 /// Reads the inputs of such a command, and prints what it makes of them.
@@ -108,6 +119,9 @@ fn read_asked<'a, 'w>(
         }
         Words::Vdiff(words) => Ok(Asked::Vdiff(read_vdiff(rt, words)?)),
         Words::Check(words) => Ok(Asked::Check(read_check(rt, words)?)),
+        Words::Tiles(words) => Ok(Asked::Tiles(read_files(rt, &words.workflows)?)),
+        Words::Status(words) => Ok(Asked::Status(read_status(rt, words)?)),
+        Words::Compact(words) => Ok(Asked::Compact(read_compact(rt, words)?)),
         _ => unreachable!(),
     }
 }
@@ -167,5 +181,8 @@ fn answer<T: Threads + Wait + Sync, G: Progress + Sync, W: Out, E: Out>(
         Asked::Join(inputs) => join(alloc, inputs, out, err),
         Asked::Vdiff(inputs) => compare(alloc, inputs, out, err),
         Asked::Check(inputs) => report(alloc, inputs, out, err),
+        Asked::Tiles(inputs) => tile(alloc, inputs, out, err),
+        Asked::Status(inputs) => state(alloc, inputs, out, err),
+        Asked::Compact(inputs) => compact(alloc, inputs, out, err),
     }
 }

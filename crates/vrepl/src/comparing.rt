@@ -1,8 +1,8 @@
 //! The inputs of `vdiff`, and their comparison.
 
 ghost use Rattle.std.specs.Prelude.{◌≡◌, ◌≢◌, ◌∷◌, [], false, IfErr, IfOk};
-ghost use Rattle.vrepl.specs.Asked.{IsVdiffAsked, is_other, options_asked};
-ghost use Rattle.vrepl.specs.Compared.{ComparedEnds, asks_more, is_json};
+ghost use Rattle.vrepl.specs.Asked.{IsVdiffAsked, detail_asked, is_other, options_asked};
+ghost use Rattle.vrepl.specs.Compared.{ComparedEnds, asks_more, is_detailed, is_json};
 ghost use Rattle.vrepl_main.specs.Inputs.{IsUnreadAmong, is_standard, input_name};
 ghost use Rattle.vrepl_main.specs.declared.input.InputName.TheVariants.{File};
 
@@ -10,7 +10,7 @@ use std::alloc::Global;
 use vdiff_core::Out;
 use vrepl_choices::ReportForm;
 use vrepl_main::{CommandRefusal, InputName, read_input, vdiff};
-use vrepl_vdiff::{Dump, Options, VdiffInputs, vdiff_with};
+use vrepl_vdiff::{Detail, Dump, Options, VdiffInputs, vdiff_with};
 use vrepl_words::words::Vdiff;
 
 /// Reads the inputs that the words name: the workflow's file, and the dumps, of which standard input is the first that
@@ -52,13 +52,25 @@ fn other_dump<'w>(source: &str, target: &'w str) -> InputName<'w>
 }
 
 /// What the words ask to be shown.
-fn options_of(words: &Vdiff<'_>) -> Options
+fn options_of<'w>(words: &Vdiff<'w>) -> Options<'w>
     ensures { result ≡ options_asked words.now }
 {
     Options {
         tables: words.tables,
         first: words.first,
         report_form: words.report_form,
+        detail: detail_of(words),
+    }
+}
+
+/// What the words ask to be shown of the rows that differ: statements where a schema is given.
+fn detail_of<'w>(words: &Vdiff<'w>) -> Detail<'w>
+    ensures { result ≡ detail_asked words.now }
+{
+    match words.sql {
+        Some(schema) => Detail::Sql(schema),
+        None if words.readable => Detail::Text,
+        None => Detail::Comparison,
     }
 }
 
@@ -100,10 +112,20 @@ fn compare_plainly<W: Out, E: Out>(
 }
 
 /// Whether more is asked for than the comparison as it is.
-fn asks_more(options: &Options) -> bool
+fn asks_more(options: &Options<'_>) -> bool
     ensures { result ≡ asks_more options.now }
 {
-    options.tables || is_json(options.report_form) || options.first.is_some()
+    options.tables
+        || is_json(options.report_form)
+        || options.first.is_some()
+        || is_detailed(&options.detail)
+}
+
+/// Whether more is shown of the rows that differ than the comparison does.
+fn is_detailed(detail: &Detail<'_>) -> bool
+    ensures { result ≡ is_detailed detail.now }
+{
+    !matches!(detail, Detail::Comparison)
 }
 
 fn is_json(form: ReportForm) -> bool

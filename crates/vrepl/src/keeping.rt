@@ -54,7 +54,7 @@ pub(crate) fn place_of<'w>(
 }
 
 /// Tells what is wrong with the file of `--save-to`.
-fn misnamed(rt: &HostRuntime, why: &str) -> Keeping {
+pub(crate) fn misnamed(rt: &HostRuntime, why: &str) -> Keeping {
     let _ = rt.eprintln(format_args!("error: the file of --save-to {why}"));
     Keeping::Nowhere
 }

@@ -7,7 +7,7 @@ use std::marker::Model;
 #[derive(Drop)]
 pub struct VdiffInputs<'w> {
     /// What is shown.
-    pub options: Options,
+    pub options: Options<'w>,
     /// The workflow's file.
     pub workflow: Vec<u8>,
     /// The source's dump.

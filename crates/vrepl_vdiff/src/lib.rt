@@ -3,11 +3,12 @@
 
 mod inputs;
 mod options;
+mod repairing;
 mod showing;
 mod text;
 mod told;
 mod vdiff;
 
 pub use inputs::{Dump, VdiffInputs};
-pub use options::Options;
+pub use options::{Detail, Options};
 pub use vdiff::vdiff_with;

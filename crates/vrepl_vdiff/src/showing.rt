@@ -1,10 +1,13 @@
 //! The comparison of two sets of rows, printed by options.
 
 ghost use Rattle.std.specs.Prelude.{◌≡◌, IfOk, map};
+ghost use Rattle.std.specs.List.{AllByRecursion};
+ghost use Rattle.vdiff_core.specs.DumpReading.{FitsPlan};
 ghost use Rattle.vdiff_tables.specs.NamedReports.{named_report};
-ghost use Rattle.vrepl_vdiff.specs.Shown.{IsVerdict, PrintsShown, reports_asked};
+ghost use Rattle.vrepl_vdiff.specs.Shown.{IsVerdict, PrintsShown, PrintsSome, by_form, reports_asked};
 
-use crate::options::Options;
+use crate::options::{Detail, Options};
+use crate::repairing::{print_differences, print_repair};
 use crate::text::print_text;
 use filter_rule::Plan;
 use std::alloc::{AllocError, Global};
@@ -18,13 +21,36 @@ use vrepl_main::{CommandRefusal, Verdict};
 /// `out` can't be written.
 pub(crate) fn print_shown<W: Out>(
     alloc: Global,
-    options: &Options,
+    options: &Options<'_>,
     plan: &Plan,
     source: &DumpRows,
     target: &DumpRows,
     out: &mut W,
 ) -> Result<(), CommandRefusal<'static>>
+    requires source { AllByRecursion (FitsPlan plan.now) source.now }
+    requires target { AllByRecursion (FitsPlan plan.now) target.now }
     ensures { PrintsShown options.now result (record { plan = plan.now; source = source.now; target = target.now }) (W.written out.old) (W.written out.new) }
+{
+    match options.detail {
+        Detail::Comparison => print_comparison(alloc, options, plan, source, target, out),
+        Detail::Text => {
+            let count = options.first.unwrap_or(u32::MAX);
+            print_differences(alloc, plan, source, target, count, out)
+        }
+        Detail::Sql(schema) => print_repair(alloc, schema, plan, source, target, out),
+    }
+}
+
+/// Prints the comparison of two sets of rows by the options.
+fn print_comparison<W: Out>(
+    alloc: Global,
+    options: &Options<'_>,
+    plan: &Plan,
+    source: &DumpRows,
+    target: &DumpRows,
+    out: &mut W,
+) -> Result<(), CommandRefusal<'static>>
+    ensures { PrintsSome (by_form options.now.report_form options.now (record { plan = plan.now; source = source.now; target = target.now })) result (W.written out.old) (W.written out.new) }
 {
     match options.report_form {
         ReportForm::Json => {

@@ -67,6 +67,10 @@ within_streams number = if nat_lt number 64 then Some number else None
 abbrev pub stream_number_of : Text → Option ℕ
 stream_number_of text = option_and_then within_streams (decimal_below (2 ^ 64) text)
 
+-- the stream that was given, or the first one; none where what was given is no stream
+abbrev pub stream_given : Text → List Row → Option ℕ
+stream_given name rows = option_map_or stream_number_of (first_of name rows) (Some 0)
+
 -- commas part streams
 abbrev pub is_comma : ℕ → Bool
 is_comma b = b == 44

@@ -1,15 +1,18 @@
 -- What the words that were read ask for.
-use Rattle.vrepl_words.specs.Words.{CheckValue, FollowValue, JoinValue, PortionsValue, ResumeValue, RunValue, SaveValue, ShowValue, StepValue, VdiffValue, WordsValue, asks_follow, asks_join, asks_run, asks_show, asks_step, asks_save, asks_resume, asks_vdiff, asks_check, asks_explain}
+use Rattle.vrepl_words.specs.Words.{CheckValue, FollowValue, JoinValue, PortionsValue, ResumeValue, RunValue, SaveValue, ShowValue, StatusValue, StepValue, TilesValue, VdiffValue, WordsValue, asks_follow, asks_join, asks_run, asks_show, asks_step, asks_save, asks_resume, asks_vdiff, asks_check, asks_tiles, asks_status, asks_explain, CompactValue, asks_compact}
 use Rattle.std.specs.Prelude.{◌≡◌, map, option_map, Option, None, Some, Result, Ok, Err}
 use Rattle.vrepl_words.specs.declared.portions.Portions.{Portions}
 use Rattle.vrepl_words.specs.declared.words.Check.{Check}
+use Rattle.vrepl_words.specs.declared.words.Compact.{Compact}
 use Rattle.vrepl_words.specs.declared.words.Follow.{Follow}
 use Rattle.vrepl_words.specs.declared.words.Join.{Join}
 use Rattle.vrepl_words.specs.declared.words.Resume.{Resume}
 use Rattle.vrepl_words.specs.declared.words.Run.{Run}
 use Rattle.vrepl_words.specs.declared.words.Save.{Save}
 use Rattle.vrepl_words.specs.declared.words.Show.{Show}
+use Rattle.vrepl_words.specs.declared.words.Status.{Status}
 use Rattle.vrepl_words.specs.declared.words.Step.{Step}
+use Rattle.vrepl_words.specs.declared.words.Tiles.{Tiles}
 use Rattle.vrepl_words.specs.declared.words.Vdiff.{Vdiff}
 use Rattle.vrepl_words.specs.declared.words.Words.{Words}
 use Rattle.vrepl_words.specs.declared.words.Words.TheVariants as words
@@ -34,6 +37,24 @@ resume_value resume = record { checkpoint = resume.checkpoint.now; step = step_v
 
 abbrev pub check_value : Check → CheckValue
 check_value check = record { report_form = check.report_form; step = step_value check.step }
+
+abbrev pub tiles_value : Tiles → TilesValue
+tiles_value tiles = record { workflows = map (λ workflow. workflow.now) tiles.workflows.items }
+
+abbrev pub status_value : Status → StatusValue
+status_value status = record { report_form = status.report_form; checkpoints = map (λ checkpoint. checkpoint.now) status.checkpoints.items }
+
+abbrev pub compact_value : Compact → CompactValue
+compact_value compact = record {
+  feed_form = compact.feed_form;
+  save_to = option_map (λ name. name.now) compact.save_to;
+  stream = compact.stream;
+  at = option_map (λ text. text.now) compact.at;
+  checkpoints = map (λ name. name.now) compact.checkpoints.items;
+  drop_unknown = compact.drop_unknown;
+  workflow = compact.workflow.now;
+  feed = compact.feed.now;
+}
 
 abbrev pub join_value : Join → JoinValue
 join_value join = record {
@@ -73,6 +94,8 @@ vdiff_value files = record {
   tables = files.tables;
   first = files.first;
   report_form = files.report_form;
+  readable = files.readable;
+  sql = option_map (λ name. name.now) files.sql;
   workflow = files.workflow.now;
   source = files.source.now;
   target = files.target.now;
@@ -89,6 +112,9 @@ value_of_words (words.Join join) = asks_join (join_value join)
 value_of_words (words.Follow follow) = asks_follow (follow_value follow)
 value_of_words (words.Vdiff files) = asks_vdiff (vdiff_value files)
 value_of_words (words.Check check) = asks_check (check_value check)
+value_of_words (words.Tiles tiles) = asks_tiles (tiles_value tiles)
+value_of_words (words.Status status) = asks_status (status_value status)
+value_of_words (words.Compact compact) = asks_compact (compact_value compact)
 value_of_words (words.Explain number) = asks_explain number
 
 -- what was met asks for this, if for anything, unless a fault kept it from being read

@@ -10,7 +10,7 @@ use Rattle.vrepl_choices.specs.declared.feed_form.FeedForm.{FeedForm}
 use Rattle.vrepl_choices.specs.declared.report_form.ReportForm.{ReportForm}
 use Rattle.vrepl_choices.specs.declared.threading.Threading.{Threading}
 use Rattle.vrepl_words.specs.declared.numbers.TheConstants.{ROWS, AHEAD, CHUNKS, ONLY}
-use Rattle.vrepl_words.specs.Arguments.{count_given, flag_rule, further_rule, gives_streams, is_given, needed_rule, operand_rule, operands_rule, optional_rule, option_rule, portion_given, refusal_given, streams_given, text_given, texts_given}
+use Rattle.vrepl_words.specs.Arguments.{count_given, flag_rule, further_rule, gives_streams, is_given, needed_rule, operand_rule, operands_rule, optional_rule, option_rule, portion_given, refusal_given, stream_given, streams_given, text_given, texts_given}
 use Rattle.vrepl_words.specs.Choices.{feed_form_given, report_form_given, threading_given}
 
 -- `show`: a feed, whose it is, and how it is given
@@ -66,6 +66,28 @@ pub record CheckValue : Type 0 where
   pub report_form : ReportForm
   pub step : StepValue
 
+-- `tiles`: the workflows of several targets
+pub record TilesValue : Type 0 where
+  pub workflows : List Text
+
+-- `status`: how it is printed, and checkpoints
+pub record StatusValue : Type 0 where
+  pub report_form : ReportForm
+  pub checkpoints : List Text
+
+-- `compact`: a workflow and the feed of one of its streams, how it is given, up to which position it is compacted, if one is
+-- named, which checkpoints are to go on, whether rows of other tables are left out, and the file of the new feed, if there
+-- is one
+pub record CompactValue : Type 0 where
+  pub feed_form : FeedForm
+  pub save_to : Option Text
+  pub stream : ℕ
+  pub at : Option Text
+  pub checkpoints : List Text
+  pub drop_unknown : Bool
+  pub workflow : Text
+  pub feed : Text
+
 -- `join`: a workflow, two checkpoints, further ones, a feed for each of its streams, how feeds are given, and the file of
 -- the new checkpoint, if there is one
 pub record JoinValue : Type 0 where
@@ -78,11 +100,14 @@ pub record JoinValue : Type 0 where
   pub feeds : List Text
 
 -- `vdiff`: a workflow, the dumps of a source and of a target, whether the counts of each table are printed too, how many
--- differences are, where a number is given, and how all is printed
+-- differences are, where a number is given, how all is printed, whether differences are printed as a person reads them, and
+-- the schema whose rows are repaired, if one is
 pub record VdiffValue : Type 0 where
   pub tables : Bool
   pub first : Option ℕ
   pub report_form : ReportForm
+  pub readable : Bool
+  pub sql : Option Text
   pub workflow : Text
   pub source : Text
   pub target : Text
@@ -98,6 +123,9 @@ pub data WordsValue : Type 0 where
   asks_follow : FollowValue → WordsValue
   asks_vdiff : VdiffValue → WordsValue
   asks_check : CheckValue → WordsValue
+  asks_tiles : TilesValue → WordsValue
+  asks_status : StatusValue → WordsValue
+  asks_compact : CompactValue → WordsValue
   -- what a refusal's number means, or all of them
   asks_explain : Option ℕ → WordsValue
 
@@ -240,16 +268,18 @@ vdiff_given given first = record {
   tables = is_given (codes "tables") given;
   first = first;
   report_form = report_form_given given;
+  readable = is_given (codes "text") given;
+  sql = first_of (codes "sql") given;
   workflow = text_given (codes "workflow") given;
   source = text_given (codes "source") given;
   target = text_given (codes "target") given;
 }
 
--- `vdiff [--tables] [--first N] [--json] WORKFLOW SOURCE TARGET`
+-- `vdiff [--tables] [--first N] [--json] [--text] [--sql TEXT] WORKFLOW SOURCE TARGET`
 abbrev pub vdiff_subcommand : Subcommand
 vdiff_subcommand = record {
   name = codes "vdiff";
-  rules = flag_rule (codes "tables") ∷ option_rule (codes "first") ∷ flag_rule (codes "json") ∷ operand_rule (codes "workflow") ∷ operand_rule (codes "source") ∷ operand_rule (codes "target") ∷ [];
+  rules = flag_rule (codes "tables") ∷ option_rule (codes "first") ∷ flag_rule (codes "json") ∷ flag_rule (codes "text") ∷ option_rule (codes "sql") ∷ operand_rule (codes "workflow") ∷ operand_rule (codes "source") ∷ operand_rule (codes "target") ∷ [];
   meaning = λ given. option_map (λ first. asks_vdiff (vdiff_given given first)) (count_given (codes "first") given);
 }
 
@@ -265,6 +295,51 @@ check_subcommand = record {
   meaning = λ given. Some (asks_check (check_given given));
 }
 
+-- what is given to the arguments of `tiles`
+abbrev pub tiles_given : List Row → TilesValue
+tiles_given given = record { workflows = texts_given (codes "workflow") given }
+
+-- `tiles WORKFLOW..`
+abbrev pub tiles_subcommand : Subcommand
+tiles_subcommand = record {
+  name = codes "tiles";
+  rules = operands_rule (codes "workflow") ∷ [];
+  meaning = λ given. Some (asks_tiles (tiles_given given));
+}
+
+-- what is given to the arguments of `status`
+abbrev pub status_given : List Row → StatusValue
+status_given given = record { report_form = report_form_given given; checkpoints = texts_given (codes "checkpoint") given }
+
+-- `status [--json] CHECKPOINT..`
+abbrev pub status_subcommand : Subcommand
+status_subcommand = record {
+  name = codes "status";
+  rules = flag_rule (codes "json") ∷ operands_rule (codes "checkpoint") ∷ [];
+  meaning = λ given. Some (asks_status (status_given given));
+}
+
+-- what is given to the arguments of `compact`
+abbrev pub compact_given : List Row → ℕ → CompactValue
+compact_given given stream = record {
+  feed_form = feed_form_given given;
+  save_to = first_of (codes "save-to") given;
+  stream = stream;
+  at = first_of (codes "at") given;
+  checkpoints = texts_given (codes "checkpoint") given;
+  drop_unknown = is_given (codes "drop-unknown") given;
+  workflow = text_given (codes "workflow") given;
+  feed = text_given (codes "feed") given;
+}
+
+-- `compact [--hex] [--save-to TEXT] [--stream S] [--at TEXT] [--checkpoint TEXT].. [--drop-unknown] WORKFLOW FEED`
+abbrev pub compact_subcommand : Subcommand
+compact_subcommand = record {
+  name = codes "compact";
+  rules = flag_rule (codes "hex") ∷ option_rule (codes "save-to") ∷ option_rule (codes "stream") ∷ option_rule (codes "at") ∷ further_rule (codes "checkpoint") ∷ flag_rule (codes "drop-unknown") ∷ operand_rule (codes "workflow") ∷ operand_rule (codes "feed") ∷ [];
+  meaning = λ given. option_map (λ stream. asks_compact (compact_given given stream)) (stream_given (codes "stream") given);
+}
+
 -- `explain [NUMBER]`
 abbrev pub explain_subcommand : Subcommand
 explain_subcommand = record {
@@ -275,7 +350,7 @@ explain_subcommand = record {
 
 -- the subcommands, in the order of the help
 abbrev pub subcommands : List Subcommand
-subcommands = show_subcommand ∷ step_subcommand ∷ run_subcommand ∷ vdiff_subcommand ∷ save_subcommand ∷ resume_subcommand ∷ join_subcommand ∷ follow_subcommand ∷ check_subcommand ∷ explain_subcommand ∷ []
+subcommands = show_subcommand ∷ step_subcommand ∷ run_subcommand ∷ vdiff_subcommand ∷ save_subcommand ∷ resume_subcommand ∷ join_subcommand ∷ follow_subcommand ∷ check_subcommand ∷ tiles_subcommand ∷ status_subcommand ∷ compact_subcommand ∷ explain_subcommand ∷ []
 
 -- a subcommand as `clap` sees it
 abbrev pub shape_of_subcommand : Subcommand → Shape

@@ -4,7 +4,7 @@ ghost use Rattle.std.specs.Prelude.{IfOk, codes};
 ghost use Rattle.clap.specs.Words.{App, Rule, new_app, with_rule, with_subcommand};
 ghost use Rattle.vrepl_words.specs.Arguments.{flag_rule, further_rule, needed_rule, operand_rule, operands_rule, option_rule, optional_rule};
 ghost use Rattle.vrepl_words.specs.Built.{HasApp, HasRule, IsSubcommand, bare_app};
-ghost use Rattle.vrepl_words.specs.Words.{check_subcommand, explain_subcommand, follow_subcommand, join_subcommand, program_app, resume_subcommand, run_subcommand, save_subcommand, show_subcommand, step_subcommand, vdiff_subcommand};
+ghost use Rattle.vrepl_words.specs.Words.{check_subcommand, explain_subcommand, follow_subcommand, join_subcommand, program_app, resume_subcommand, run_subcommand, save_subcommand, show_subcommand, status_subcommand, step_subcommand, tiles_subcommand, vdiff_subcommand, compact_subcommand};
 
 use crate::help;
 use clap::{Arg, ArgAction, Command};
@@ -24,6 +24,9 @@ pub(crate) fn program<'w>(alloc: Global) -> Result<Command<'w>, AllocError>
     let command = with_subcommand(command, join_command(alloc));
     let command = with_subcommand(command, follow_command(alloc));
     let command = with_subcommand(command, check_command(alloc));
+    let command = with_subcommand(command, tiles_command(alloc));
+    let command = with_subcommand(command, status_command(alloc));
+    let command = with_subcommand(command, compact_command(alloc));
     with_subcommand(command, explain_command(alloc))
 }
 
@@ -146,6 +149,56 @@ fn check_command<'w>(alloc: Global) -> Result<Command<'w>, AllocError>
     with_streams(alloc, with_arg(command, flag(alloc, "json", json_help)))
 }
 
+fn tiles_command<'w>(alloc: Global) -> Result<Command<'w>, AllocError>
+    ensures { IfOk result (IsSubcommand tiles_subcommand) }
+{
+    let about = "Says whether targets' key ranges have each id of a source once";
+    let workflow_help = "The workflow's file of each target";
+    let command = Ok(bare(alloc, "tiles", about, help::TILES));
+    with_arg(
+        command,
+        operands(alloc, "workflow", "WORKFLOW", workflow_help),
+    )
+}
+
+fn status_command<'w>(alloc: Global) -> Result<Command<'w>, AllocError>
+    ensures { IfOk result (IsSubcommand status_subcommand) }
+{
+    let about = "Says where the streams of checkpoints stand";
+    let json_help = "Prints all of it as one JSON object";
+    let checkpoint_help = "A checkpoint's file";
+    let command = Ok(bare(alloc, "status", about, help::STATUS));
+    let command = with_arg(command, flag(alloc, "json", json_help));
+    with_arg(
+        command,
+        operands(alloc, "checkpoint", "CHECKPOINT", checkpoint_help),
+    )
+}
+
+pub(crate) fn compact_command<'w>(alloc: Global) -> Result<Command<'w>, AllocError>
+    ensures { IfOk result (IsSubcommand compact_subcommand) }
+{
+    let about = "Puts one group in the place of a feed's first ones";
+    let save_help = "The new feed's file; standard output unless given";
+    let stream_help = "The stream whose feed it is, 0 unless given";
+    let at_help = "The position up to which it is compacted, its end unless given";
+    let checkpoint_help = "A checkpoint that is to go on; may be given again";
+    let unknown_help = "Leaves out rows of tables that the workflow lacks";
+    let feed_help = "The feed's file";
+    let command = Ok(bare(alloc, "compact", about, help::COMPACT));
+    let command = with_arg(command, hex(alloc));
+    let command = with_arg(command, option(alloc, "save-to", "NEW", save_help));
+    let command = with_arg(command, option(alloc, "stream", "S", stream_help));
+    let command = with_arg(command, option(alloc, "at", "POSITION", at_help));
+    let command = with_arg(
+        command,
+        further(alloc, "checkpoint", "FILE", checkpoint_help),
+    );
+    let command = with_arg(command, flag(alloc, "drop-unknown", unknown_help));
+    let command = with_arg(command, workflow(alloc));
+    with_arg(command, operand(alloc, "feed", "FEED", feed_help))
+}
+
 pub(crate) fn vdiff_command<'w>(alloc: Global) -> Result<Command<'w>, AllocError>
     ensures { IfOk result (IsSubcommand vdiff_subcommand) }
 {
@@ -155,10 +208,14 @@ pub(crate) fn vdiff_command<'w>(alloc: Global) -> Result<Command<'w>, AllocError
     let source_help = "The source's dump, or - for standard input";
     let target_help = "The target's dump, or - for standard input";
     let json_help = "Prints all of it as one JSON object";
+    let text_help = "Prints the columns that differ, a line each";
+    let sql_help = "Prints SQL that makes SCHEMA's rows the source's";
     let command = Ok(bare(alloc, "vdiff", about, help::VDIFF));
     let command = with_arg(command, flag(alloc, "tables", tables_help));
     let command = with_arg(command, option(alloc, "first", "N", first_help));
     let command = with_arg(command, flag(alloc, "json", json_help));
+    let command = with_arg(command, flag(alloc, "text", text_help));
+    let command = with_arg(command, option(alloc, "sql", "SCHEMA", sql_help));
     let command = with_arg(command, workflow(alloc));
     let source = operand(alloc, "source", "SOURCE", source_help);
     let command = with_arg(command, source);

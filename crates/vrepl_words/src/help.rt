@@ -10,7 +10,7 @@ Status:
   1  a line `refused NUMBER` on standard error; `vrepl explain NUMBER` says what
      the number means, what the usual causes are, and what to do next
   2  a fault of usage
-  3  `vdiff` found a difference, or `check` something to warn of";
+  3  `vdiff` found a difference, or `check` or `tiles` something to warn of";
 
 /// A call of `show` and what it prints.
 pub(crate) const SHOW: &str = "\
@@ -146,7 +146,10 @@ Example:
 
 With --tables a line a table stands above that, with --first N the differing
 keys below it, and with --json all of it is one object; one of the dumps may be
-`-`, standard input.
+`-`, standard input. With --text the differences alone are printed, a line a
+column, all of them or the first N. With --sql SCHEMA the statements alone are
+printed that make the rows of SCHEMA, which are the target's, the source's:
+  $ vrepl vdiff --sql shop shop.json source.dump target.dump | mariadb
 
 Status:
   0  the dumps are of the same rows
@@ -169,6 +172,53 @@ Status:
   1  refused; `vrepl explain NUMBER` says what the line's number means
   2  a fault of usage
   3  something is warned of";
+
+/// A call of `tiles`.
+pub(crate) const TILES: &str = "\
+Example:
+  $ vrepl tiles -40.json 40-80.json
+
+Prints a line for each table of each source shard whose ids are in one target
+each, or whose rows all targets have, and a line for each range of its ids that
+is in no target, or in several.
+
+Status:
+  0  nothing is warned of
+  1  refused; `vrepl explain NUMBER` says what the line's number means
+  2  a fault of usage
+  3  something is warned of";
+
+/// A call of `status`.
+pub(crate) const STATUS: &str = "\
+Example:
+  $ vrepl status examples/checkpoints/two_rows.checkpoint
+
+Neither a workflow nor feeds are needed. Behind the streams of all checkpoints
+stands the least position of each shard: from there on a feed still serves each
+of them.
+
+Status:
+  0  all of it was printed
+  1  refused; `vrepl explain NUMBER` says what the line's number means
+  2  a fault of usage";
+
+/// A call of `compact` and what it tells.
+pub(crate) const COMPACT: &str = "\
+Example:
+  $ vrepl compact --hex --save-to short.feed \\
+      examples/workflows/one_shard.json examples/feeds/four_groups.hex
+  compacted 4 groups up to 3e11fa47-71ca-11e1-9e33-c80aa9429562:1-4 into 3 rows: 459 bytes to 156
+
+The first groups become one, which inserts the rows that they leave, at the
+position of the last of them. The file is replaced once the new feed is whole,
+and may be the feed's own; without --save-to the new feed is printed. A
+checkpoint from before that position is refused over the new feed: name all
+that are to go on by --checkpoint, and keep the old feed for others.
+
+Status:
+  0  the new feed was written
+  1  refused; `vrepl explain NUMBER` says what the line's number means
+  2  a fault of usage";
 
 /// A call of `explain` and what it prints.
 pub(crate) const EXPLAIN: &str = "\

@@ -6,7 +6,9 @@ ghost use Rattle.clap.specs.declared.error.kind.ErrorKind.TheVariants.{ValueVali
 ghost use Rattle.vrepl_words.specs.Arguments.{count_given, portion_of, refusal_given, explained_number};
 ghost use Rattle.vrepl_words.specs.Words.{bad_follow, bad_portion};
 
-use crate::commands::{explain_command, follow_command, run_command, vdiff_command};
+use crate::commands::{
+    compact_command, explain_command, follow_command, run_command, vdiff_command,
+};
 use crate::given::{given_portions, portion, portion_of};
 use clap::error::ErrorKind;
 use clap::{ArgMatches, Command, Error};
@@ -23,6 +25,9 @@ const CHUNKS: &str = "--chunks is a number of 1 to 1000000";
 
 /// What is told of streams that are none.
 const ONLY: &str = "--only is numbers of 0 to 63 with commas between them";
+
+/// What is told of a stream that is none.
+const STREAM: &str = "--stream is a number of 0 to 63";
 
 /// What is told of a number of differences that is none.
 const FIRST: &str = "--first is a number of 1 to 1000000";
@@ -79,6 +84,7 @@ pub(crate) fn bad_number(alloc: Global, matches: &ArgMatches<'_>) -> Result<Erro
         Some(("follow", given)) => {
             usage_fault(follow_command(alloc), "vrepl follow", bad_follow(given))
         }
+        Some(("compact", _)) => usage_fault(compact_command(alloc), "vrepl compact", STREAM),
         Some(("vdiff", _)) => usage_fault(vdiff_command(alloc), "vrepl vdiff", FIRST),
         _ => usage_fault(explain_command(alloc), "vrepl explain", NO_REFUSAL),
     }

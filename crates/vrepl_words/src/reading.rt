@@ -3,16 +3,18 @@
 ghost use Rattle.std.specs.Prelude.{◌≡◌, ◌≢◌, [], IfOk, Some, map, string_bytes};
 ghost use Rattle.clap.specs.Words.{FailsBy, found_of, rows_of, subcommand_rows_of};
 ghost use Rattle.vrepl_words.specs.Built.{HasApp};
-ghost use Rattle.vrepl_words.specs.Meant.{Asks, follow_value, portions_value, run_value, show_value, step_value, value_of_words, vdiff_value};
-ghost use Rattle.vrepl_words.specs.Words.{asked_by, asks_check, asks_join, asks_follow, asks_resume, asks_run, asks_save, asks_step, check_given, explain_subcommand, faults_of, follow_given, follow_subcommand, join_given, program_app, resume_given, run_given, run_subcommand, save_given, show_given, step_given, vdiff_given, vdiff_subcommand, words_of};
+ghost use Rattle.vrepl_words.specs.Meant.{Asks, follow_value, portions_value, run_value, show_value, step_value, value_of_words, vdiff_value, compact_value};
+ghost use Rattle.vrepl_words.specs.Words.{asked_by, asks_check, asks_join, asks_follow, asks_resume, asks_run, asks_save, asks_status, asks_step, asks_tiles, check_given, explain_subcommand, faults_of, follow_given, follow_subcommand, join_given, program_app, resume_given, run_given, run_subcommand, save_given, show_given, status_given, step_given, tiles_given, vdiff_given, vdiff_subcommand, words_of, asks_compact, compact_given, compact_subcommand};
 
 use crate::choices::{feed_form_given, report_form_given, threading_given};
 use crate::commands::program;
 use crate::given::{given_portions, has_flag, text, text_if, texts};
 use crate::numbers::{bad_number, count_given, refusal_given};
 use crate::portions::Portions;
-use crate::streams::{gives_streams, streams_given};
-use crate::words::{Check, Follow, Join, Resume, Run, Save, Show, Step, Vdiff, Words};
+use crate::streams::{gives_streams, stream_given, streams_given};
+use crate::words::{
+    Check, Compact, Follow, Join, Resume, Run, Save, Show, Status, Step, Tiles, Vdiff, Words,
+};
 use clap::{ArgMatches, Command, Error};
 use std::alloc::{AllocError, Global};
 use vrepl_choices::FeedForm;
@@ -69,6 +71,9 @@ fn asked<'w>(alloc: Global, matches: &ArgMatches<'w>) -> Option<Result<Words<'w>
         "follow" => follow_words(alloc, given),
         "vdiff" => vdiff_words(given),
         "check" => Some(check_words(alloc, given)),
+        "tiles" => Some(tiles_words(alloc, given)),
+        "status" => Some(status_words(alloc, given)),
+        "compact" => compact_words(alloc, given),
         "explain" => explain_words(given),
         _ => None,
     }
@@ -120,6 +125,23 @@ fn check_words<'w>(alloc: Global, given: &ArgMatches<'w>) -> Result<Words<'w>, A
     Ok(Words::Check(Check {
         report_form: report_form_given(given),
         step,
+    }))
+}
+
+fn tiles_words<'w>(alloc: Global, given: &ArgMatches<'w>) -> Result<Words<'w>, AllocError>
+    ensures { IfOk result (λ words. value_of_words words ≡ asks_tiles (tiles_given (rows_of (found_of given.now)))) }
+{
+    let workflows = texts(alloc, given, "workflow")?;
+    Ok(Words::Tiles(Tiles { workflows }))
+}
+
+fn status_words<'w>(alloc: Global, given: &ArgMatches<'w>) -> Result<Words<'w>, AllocError>
+    ensures { IfOk result (λ words. value_of_words words ≡ asks_status (status_given (rows_of (found_of given.now)))) }
+{
+    let checkpoints = texts(alloc, given, "checkpoint")?;
+    Ok(Words::Status(Status {
+        report_form: report_form_given(given),
+        checkpoints,
     }))
 }
 
@@ -231,6 +253,42 @@ fn follow_of<'w>(
     })
 }
 
+/// None where the stream that was given is none.
+fn compact_words<'w>(alloc: Global, given: &ArgMatches<'w>) -> Option<Result<Words<'w>, AllocError>>
+    ensures { Asks result (compact_subcommand.meaning (rows_of (found_of given.now))) }
+{
+    let stream = stream_given(given, "stream")?;
+    Some(compact_words_by(alloc, given, stream))
+}
+
+/// The same of this stream. An error is want of memory.
+fn compact_words_by<'w>(
+    alloc: Global,
+    given: &ArgMatches<'w>,
+    stream: u8,
+) -> Result<Words<'w>, AllocError>
+    ensures { IfOk result (λ words. value_of_words words ≡ asks_compact (compact_given (rows_of (found_of given.now)) stream)) }
+{
+    let checkpoints = texts(alloc, given, "checkpoint")?;
+    Ok(Words::Compact(compact_of(given, stream, checkpoints)))
+}
+
+/// What is given to `compact`, of this stream and with these checkpoints.
+fn compact_of<'w>(given: &ArgMatches<'w>, stream: u8, checkpoints: Vec<&'w str>) -> Compact<'w>
+    ensures { compact_value result ≡ record (compact_given (rows_of (found_of given.now)) stream) { checkpoints = map (λ name. name.now) checkpoints.entry.items } }
+{
+    Compact {
+        feed_form: feed_form_given(given),
+        save_to: text_if(given, "save-to"),
+        stream,
+        at: text_if(given, "at"),
+        checkpoints,
+        drop_unknown: has_flag(given, "drop-unknown"),
+        workflow: text(given, "workflow"),
+        feed: text(given, "feed"),
+    }
+}
+
 /// None where what was given is no number of a refusal.
 fn explain_words<'w>(given: &ArgMatches<'w>) -> Option<Result<Words<'w>, AllocError>>
     ensures { Asks result (explain_subcommand.meaning (rows_of (found_of given.now))) }
@@ -255,6 +313,8 @@ fn vdiff_of<'w>(given: &ArgMatches<'w>, first: Option<u32>) -> Vdiff<'w>
         tables: has_flag(given, "tables"),
         first,
         report_form: report_form_given(given),
+        readable: has_flag(given, "text"),
+        sql: text_if(given, "sql"),
         workflow: text(given, "workflow"),
         source: text(given, "source"),
         target: text(given, "target"),

@@ -1,8 +1,8 @@
-//! The streams that `follow` is told to run alone.
+//! The streams that `follow` is told to run alone, and the one whose feed `compact` is given.
 
 ghost use Rattle.std.specs.Prelude.{◌≡◌, IfOk, is_some, option_map};
 ghost use Rattle.clap.specs.Words.{found_of, rows_of};
-ghost use Rattle.vrepl_words.specs.Arguments.{are_streams, gives_streams, stream_number_of, streams_given, streams_of};
+ghost use Rattle.vrepl_words.specs.Arguments.{are_streams, gives_streams, stream_given, stream_number_of, streams_given, streams_of};
 
 use crate::given::text_if;
 use clap::ArgMatches;
@@ -33,6 +33,16 @@ pub(crate) fn streams_given(
             let streams = streams_of(alloc, text)?;
             Ok(Some(streams))
         }
+    }
+}
+
+/// The stream that was given, or the first one. None where what was given is none.
+pub(crate) fn stream_given(given: &ArgMatches<'_>, name: &str) -> Option<u8>
+    ensures { result ≡ stream_given name.now (rows_of (found_of given.now)) }
+{
+    match text_if(given, name) {
+        None => Some(0),
+        Some(text) => stream_number_of(text.as_bytes()),
     }
 }
 

@@ -22,8 +22,14 @@ pub enum Words<'w> {
     Follow(Follow<'w>),
     /// `vdiff`: compare two dumps.
     Vdiff(Vdiff<'w>),
+    /// `compact`: put one group in the place of a feed's first ones.
+    Compact(Compact<'w>),
     /// `check`: look for what can't be so in a workflow's feeds.
     Check(Check<'w>),
+    /// `tiles`: say whether the targets of workflows share the ids of their sources.
+    Tiles(Tiles<'w>),
+    /// `status`: say where the streams of checkpoints stand.
+    Status(Status<'w>),
     /// `explain`: print what is said of a refusal's number, or the list of all.
     Explain(Option<u64>),
 }
@@ -87,6 +93,43 @@ pub struct Check<'w> {
     pub step: Step<'w>,
 }
 
+/// The words of `tiles`.
+#[derive(Drop)]
+pub struct Tiles<'w> {
+    /// The workflows' files, one a target.
+    pub workflows: Vec<&'w str>,
+}
+
+/// The words of `status`.
+#[derive(Drop)]
+pub struct Status<'w> {
+    /// How it is printed.
+    pub report_form: ReportForm,
+    /// The checkpoints' files.
+    pub checkpoints: Vec<&'w str>,
+}
+
+/// The words of `compact`.
+#[derive(Drop)]
+pub struct Compact<'w> {
+    /// How the feed is given.
+    pub feed_form: FeedForm,
+    /// The file that the compacted feed takes the place of; standard output unless given.
+    pub save_to: Option<&'w str>,
+    /// The stream whose feed it is, from 0.
+    pub stream: u8,
+    /// The position up to which the feed is compacted; its end unless given.
+    pub at: Option<&'w str>,
+    /// The files of checkpoints that are to go on.
+    pub checkpoints: Vec<&'w str>,
+    /// Whether rows of tables that the workflow lacks are left out.
+    pub drop_unknown: bool,
+    /// The workflow's file.
+    pub workflow: &'w str,
+    /// The feed's file.
+    pub feed: &'w str,
+}
+
 /// The words of `join`.
 #[derive(Drop)]
 pub struct Join<'w> {
@@ -128,6 +171,10 @@ pub struct Vdiff<'w> {
     pub first: Option<u32>,
     /// How the comparison is printed.
     pub report_form: ReportForm,
+    /// Whether the differences are printed as a person reads them.
+    pub readable: bool,
+    /// The schema whose rows the printed statements make the source's, if one is given.
+    pub sql: Option<&'w str>,
     /// The file of the source's dump, or `-` for standard input.
     pub source: &'w str,
     /// The file of the target's dump, or `-` for standard input, unless that is the source's.

@@ -1,30 +1,21 @@
-use Rattle.std.proofs.lemmas.Result.{err_from_is_err_and}
+use Rattle.std.proofs.Common.{sym, subst, ℕ}
 use Rattle.vrepl_main.specs.Comparison.{Compared}
-use Rattle.vrepl_vdiff.proofs.ShownLaws.{shown_json, shown_text, unwritten_shown}
+use Rattle.vrepl_vdiff.specs.Shown.{IsDifferencesText, PrintsSome, by_detail}
+use Rattle.vrepl_vdiff.specs.declared.options.Detail.{Detail}
 use Rattle.vrepl_vdiff.proofs.showing.print_shown.Goals as goal
 
-pub returns-in_err-put_all-in-Json : goal.returns-in_err-put_all-in-Json
-returns-in_err-put_all-in-Json g c =
+pub returns-in-Comparison : goal.returns-in-Comparison
+returns-in-Comparison g c =
     let compared : Compared = record { plan = c.args.plan.now; source = c.args.source.now; target = c.args.target.now } in
-    let p = err_from_is_err_and c.from_residual-in_err-put_all-in-Json.result c.from_residual-in_err-put_all-in-Json.ensures.1 in
-    let line = c.in_ok-line-in-Json.ensures in
-    rw p.1 (unwritten_shown c.args.options.now p.0 compared _ _ _ (shown_json c.args.options.now compared _ _ c.in-Json.is c.unwrap_or-count.ensures (record { found = line.0; are_first = line.1; is_text = line.2 })) (rw c.as_bytes.ensures.value at c.in_err-put_all-in-Json.ensures) p.2)
+    subst (λ (d : Detail). PrintsSome (by_detail d c.args.options.now compared) c.print_comparison.result (g.W.Out.written c.args.out.now) (g.W.Out.written c.print_comparison.new.out)) (sym c.in-Comparison.is) c.print_comparison.ensures
 
-pub returns-in_ok-put_all-in-Json : goal.returns-in_ok-put_all-in-Json
-returns-in_ok-put_all-in-Json g c =
+pub returns-in-Text : goal.returns-in-Text
+returns-in-Text g c =
     let compared : Compared = record { plan = c.args.plan.now; source = c.args.source.now; target = c.args.target.now } in
-    let line = c.in_ok-line-in-Json.ensures in
-    (_, shown_json c.args.options.now compared _ _ c.in-Json.is c.unwrap_or-count.ensures (record { found = line.0; are_first = line.1; is_text = line.2 }), rw c.as_bytes.ensures.value at c.in_ok-put_all-in-Json.ensures)
+    subst (λ (d : Detail). PrintsSome (by_detail d c.args.options.now compared) c.print_differences.result (g.W.Out.written c.args.out.now) (g.W.Out.written c.print_differences.new.out)) (sym c.in-Text.is)
+    (subst (λ (n : ℕ). PrintsSome (IsDifferencesText n compared) c.print_differences.result (g.W.Out.written c.args.out.now) (g.W.Out.written c.print_differences.new.out)) c.unwrap_or-count.ensures c.print_differences.ensures)
 
-pub returns-in_err-print_text-in-Lines : goal.returns-in_err-print_text-in-Lines
-returns-in_err-print_text-in-Lines g c =
+pub returns-in-Sql : goal.returns-in-Sql
+returns-in-Sql g c =
     let compared : Compared = record { plan = c.args.plan.now; source = c.args.source.now; target = c.args.target.now } in
-    let p = err_from_is_err_and c.from_residual-in_err-print_text-in-Lines.result c.from_residual-in_err-print_text-in-Lines.ensures.1 in
-    let text = rw c.deref.ensures.value at c.in_err-print_text-in-Lines.ensures in
-    rw p.1 (unwritten_shown c.args.options.now p.0 compared _ _ _ (shown_text c.args.options.now compared _ _ _ c.in-Lines.is c.in_ok-reports-in-Lines.ensures c.unwrap_or-count-in-Lines.ensures text.1) text.2 p.2)
-
-pub returns-in_ok-print_text-in-Lines : goal.returns-in_ok-print_text-in-Lines
-returns-in_ok-print_text-in-Lines g c =
-    let compared : Compared = record { plan = c.args.plan.now; source = c.args.source.now; target = c.args.target.now } in
-    let text = rw c.deref.ensures.value at c.in_ok-print_text-in-Lines.ensures in
-    (text.0, shown_text c.args.options.now compared _ _ _ c.in-Lines.is c.in_ok-reports-in-Lines.ensures c.unwrap_or-count-in-Lines.ensures text.1, text.2)
+    subst (λ (d : Detail). PrintsSome (by_detail d c.args.options.now compared) c.print_repair.result (g.W.Out.written c.args.out.now) (g.W.Out.written c.print_repair.new.out)) (sym c.in-Sql.is) c.print_repair.ensures

@@ -1,10 +1,13 @@
-use Rattle.std.proofs.Common.{ℕ, ◌≤◌, drop, map, refl, subst}
+use Rattle.std.proofs.Common.{ℕ, ◌≤◌, drop, map, refl, subst, Err}
 use Rattle.std.proofs.lemmas.List.{length-map}
 use Rattle.std.proofs.lemmas.Result.{err_from_is_err_and}
 use Rattle.std.specs.Arc.{arc_value}
 use Rattle.vrepl_main.proofs.VdiffLaws.{first_plan}
 use Rattle.filter_rule.specs.Reading.{plans_of}
 use Rattle.vrepl_main.specs.Comparison.{AreDumps, Compared}
+use Rattle.filter_rule.specs.PlanValue.{PlanValue}
+use Rattle.vdiff_core.specs.DumpRowsValue.{DumpRowsValue}
+use Rattle.vrepl_vdiff.specs.Shown.{PrintsShown}
 use Rattle.vrepl_vdiff.proofs.ToldLaws.{told_workflow, told_source, told_target, told_shown}
 use Rattle.vrepl_vdiff.proofs.vdiff.show_vdiff.Goals as goal
 
@@ -14,6 +17,12 @@ returns-in-Err-clause-refused g c =
 
 pub read_beside-requires : goal.read_beside-requires
 read_beside-requires g c = rw c.deref-3.ensures (rw c.deref-2.ensures at c.in_ok-ours.ensures.read).rows_of_plan.each_row
+
+pub print_shown-requires-clause-source : goal.print_shown-requires-clause-source
+print_shown-requires-clause-source g c = rw (c.deref-4.ensures, c.rows.ensures) (rw c.deref-2.ensures at c.in_ok-ours.ensures.read).rows_of_plan.each_row
+
+pub print_shown-requires-clause-target : goal.print_shown-requires-clause-target
+print_shown-requires-clause-target g c = rw c.deref-4.ensures (rw c.deref-3.ensures at c.in_ok-theirs.ensures.read).rows_of_plan.each_row
 
 pub returns-in_err-ours-clause-refused : goal.returns-in_err-ours-clause-refused
 returns-in_err-ours-clause-refused g c =
@@ -43,7 +52,11 @@ returns-in_err-print_shown-clause-refused g c =
       target_read = rw c.deref-3.ensures at c.in_ok-theirs.ensures.read;
     } in
     let p = err_from_is_err_and c.from_residual-in_err-print_shown.result c.from_residual-in_err-print_shown.ensures.1 in
-    rw (p.1, p.2.0, p.2.1) (told_shown c.args.inputs.now compared c.in_err-print_shown.field-0.0 _ _ _ dumps (rw (c.deref-4.ensures, c.rows.ensures) at c.in_err-print_shown.ensures) refl)
+    let refusal = c.in_err-print_shown.field-0.0 in
+    let options = c.args.inputs.now.options in
+    let by_plan = subst (λ (one : PlanValue). PrintsShown {X = ℕ} options (Err refusal) (record { plan = one; source = c.rows.result.now; target = c.in_ok-theirs.theirs }) (g.W.Out.written c.args.out.now) (g.W.Out.written c.print_shown.new.out)) c.deref-4.ensures c.in_err-print_shown.ensures in
+    let printed = subst (λ (rows : DumpRowsValue). PrintsShown {X = ℕ} options (Err refusal) (record { plan = plan; source = rows; target = c.in_ok-theirs.theirs }) (g.W.Out.written c.args.out.now) (g.W.Out.written c.print_shown.new.out)) c.rows.ensures by_plan in
+    rw (p.1, p.2.0, p.2.1) (told_shown c.args.inputs.now compared refusal _ _ _ dumps printed refl)
 
 pub returns-clause-shown : goal.returns-clause-shown
 returns-clause-shown g c =

@@ -1,0 +1,96 @@
+//! The subcommand `compact` over files.
+
+ghost use Rattle.std.specs.Prelude.{◌≡◌, ◌≤◌, ◌∷◌, map, IfErr, IfOk};
+ghost use Rattle.vrepl.specs.Asked.{IsCompactAsked, unknown_asked};
+ghost use Rattle.vrepl_main.specs.Inputs.{IsUnreadAmong};
+ghost use Rattle.vrepl_main.specs.declared.input.InputName.TheVariants.{File};
+
+use crate::keeping::{Keeping, keep, misnamed, place_of};
+use compaction::UnknownTables;
+use std::alloc::{AllocError, Global};
+use vdiff_core::{Writer, put_all};
+use vrepl_compact::{CompactInputs, NewFeed, compacted, refuse_uncompacted};
+use vrepl_main::{CommandRefusal, read_inputs, run_inputs};
+use vrepl_words::words::Compact;
+
+/// The same names.
+fn copied<'w>(alloc: Global, names: &[&'w str]) -> Result<Vec<&'w str>, AllocError>
+    ensures { IfOk result (λ copied. copied.items ≡ names.now) }
+{
+    let mut copied = Vec::with_capacity(alloc, names.len())?;
+    for name in names {
+        copied.push(*name)?;
+    }
+    Ok(copied)
+}
+
+/// The files that are read behind the workflow's: the feed's, and the checkpoints' in their order.
+fn files_of<'w>(alloc: Global, words: &Compact<'w>) -> Result<Vec<&'w str>, AllocError>
+    ensures { IfOk result (λ files. files.items ≡ words.entry.now.feed ∷ words.entry.now.checkpoints.items) }
+{
+    let mut files = copied(alloc, &words.checkpoints)?;
+    files.insert(0, words.feed)?;
+    Ok(files)
+}
+
+/// What becomes of rows of tables that the workflow lacks.
+fn unknown_of(words: &Compact<'_>) -> UnknownTables
+    ensures { result ≡ unknown_asked words.now.drop_unknown }
+{
+    if words.drop_unknown {
+        UnknownTables::LeftOut
+    } else {
+        UnknownTables::Refused
+    }
+}
+
+/// Reads the inputs that the words name: the workflow's file, the feed's, and the checkpoints' in their order.
+pub(crate) fn read_compact<'w>(
+    rt: &HostRuntime,
+    words: &Compact<'w>,
+) -> Result<CompactInputs<'w>, CommandRefusal<'w>>
+    ensures asked { IfOk result (IsCompactAsked words.entry.now) }
+    ensures unread { IfErr result (IsUnreadAmong (File words.entry.now.workflow ∷ map File (words.entry.now.feed ∷ words.entry.now.checkpoints.items))) }
+{
+    let files = files_of(rt.alloc(), words)?;
+    let names = run_inputs(rt.alloc(), words.workflow, &files)?;
+    let mut checkpoints = read_inputs(rt, &names)?;
+    let workflow = checkpoints.remove(0);
+    let feed = checkpoints.remove(0);
+    Ok(CompactInputs {
+        feed_form: words.feed_form,
+        stream: words.stream,
+        at: words.at,
+        unknown: unknown_of(words),
+        workflow,
+        checkpoints,
+        feed,
+    })
+}
+
+/// `compact` into the file of this name, which is looked at before any is read, and may be the feed's own; then tells on
+/// standard output what was done.
+pub(crate) fn compact_to<'w>(
+    rt: &HostRuntime,
+    words: &Compact<'w>,
+    file: &'w str,
+) -> Result<u8, CommandRefusal<'w>>
+    ensures status { IfOk result (λ status. status ≤ 2) }
+{
+    let Keeping::In(place) = place_of(rt, file, words.workflow, &[], &[])? else {
+        return Ok(2);
+    };
+    if place.is_one_of(rt, &words.checkpoints) {
+        misnamed(rt, "is a checkpoint's");
+        return Ok(2);
+    }
+    let inputs = read_compact(rt, words)?;
+    match compacted(rt.alloc(), &inputs) {
+        Ok(NewFeed { made, line }) => {
+            keep(rt, &place, file, &made.feed)?;
+            put_all(&mut Writer::new(rt.stdout()), line.as_bytes())?;
+            Ok(0)
+        }
+        Err(uncompacted) => Ok(refuse_uncompacted(&mut Writer::new(rt.stderr()), uncompacted)),
+    }
+}
