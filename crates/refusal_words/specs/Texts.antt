@@ -9,6 +9,7 @@ use Rattle.refusal_words.specs.declared.target.TheConstants.{OTHER_ROW, MEMORY}
 use Rattle.refusal_words.specs.declared.feed.TheConstants.{CUT_MESSAGE, BAD_EVENT, NO_POSITION, DIVERGES, FIELDS_DIFFER, NO_FIELDS, ROW_WIDTH, OPEN_AT_END, OTHER_SHARD, BAD_ROW, NO_GROUP, MISPLACED, NOT_HEX, BAD_POSITION, LONG_FEED}
 use Rattle.refusal_words.specs.declared.steps.TheConstants.{GAP, NOTHING_READ, SNAPSHOT_REACHED, NOT_COPYING, SNAPSHOT_OPEN, SNAPSHOT_BEHIND, SNAPSHOT_NOT_READ, NO_SNAPSHOT, NOT_REACHED, OTHER_PLAN, OTHER_GROUP, OTHER_HISTORY, NO_STREAM}
 use Rattle.refusal_words.specs.declared.files.TheConstants.{BAD_CHECKPOINT, OTHER_ROWS, UNKNOWN_POSITION, FEED_COUNT, BAD_SCRIPT, BAD_DUMP, CHANGED, CANNOT_READ, CANNOT_WRITE}
+use Rattle.refusal_words.specs.declared.logs.TheConstants.{NO_LOG, CUT_LOG, SMALL_EVENT, LOG_SUM, LOG_VERSION, LOG_CHECKS, CUT_BODY, NOT_ALL, LOG_COLUMNS, LOG_TYPE, LOG_VALUE, LOG_STATEMENT, LOG_ALTERED, LOG_PACKED, LOG_INCIDENT, LOG_EVENT, LOG_ORDER, LOG_UNNAMED, LOG_BACK, LOG_BEGINS}
 
 -- the text that stands beside a number
 abbrev pub text_among : List (ℕ × List ℕ) → ℕ → Option (List ℕ)
@@ -119,9 +120,38 @@ files_texts =
     (132, CANNOT_WRITE.now) ∷
     []
 
+-- a server's binary logs
+abbrev pub logs_texts : List (ℕ × List ℕ)
+logs_texts =
+    (140, NO_LOG.now) ∷
+    (141, CUT_LOG.now) ∷
+    (142, SMALL_EVENT.now) ∷
+    (143, LOG_SUM.now) ∷
+    (144, LOG_VERSION.now) ∷
+    (145, LOG_CHECKS.now) ∷
+    (146, CUT_BODY.now) ∷
+    (147, NOT_ALL.now) ∷
+    (148, LOG_COLUMNS.now) ∷
+    (149, LOG_TYPE.now) ∷
+    (150, LOG_VALUE.now) ∷
+    (151, LOG_STATEMENT.now) ∷
+    (152, LOG_ALTERED.now) ∷
+    (153, LOG_PACKED.now) ∷
+    (154, LOG_INCIDENT.now) ∷
+    (155, LOG_EVENT.now) ∷
+    (156, LOG_ORDER.now) ∷
+    (157, LOG_UNNAMED.now) ∷
+    (158, LOG_BACK.now) ∷
+    (159, LOG_BEGINS.now) ∷
+    []
+
+-- the text of a number that isn't of a server's logs
+abbrev pub text_of_others : ℕ → Option (List ℕ)
+text_of_others number = option_or (option_or (option_or (option_or (option_or (option_or (text_among wire_texts number) (text_among position_texts number)) (text_among workflow_texts number)) (text_among target_texts number)) (text_among feed_texts number)) (text_among steps_texts number)) (text_among files_texts number)
+
 -- the text of a number, if it has one
 abbrev pub text_of_number : ℕ → Option (List ℕ)
-text_of_number number = option_or (option_or (option_or (option_or (option_or (option_or (text_among wire_texts number) (text_among position_texts number)) (text_among workflow_texts number)) (text_among target_texts number)) (text_among feed_texts number)) (text_among steps_texts number)) (text_among files_texts number)
+text_of_number number = option_or (text_of_others number) (text_among logs_texts number)
 
 -- something is said of the number
 abbrev pub has_text : ℕ → Bool

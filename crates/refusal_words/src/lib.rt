@@ -4,6 +4,7 @@
 mod feed;
 mod files;
 pub mod list;
+mod logs;
 mod position;
 mod steps;
 mod target;

@@ -72,4 +72,24 @@ pub const LIST: &str = "\
 129  a file changed before it could be replaced
 131  a file can't be read
 132  a file or standard output can't be written
+140  a file is no binary log
+141  a binary log is cut short
+142  an event of a binary log is smaller than its head
+143  an event of a binary log has another checksum
+144  a binary log has no format description of version 4
+145  a binary log has checksums of another kind
+146  a body of a binary log is cut short
+147  a row of a binary log doesn't have all columns
+148  a table of a binary log has other columns
+149  a column of a binary log has another type
+150  a value of a binary log is none of its type
+151  a binary log has a statement that may change rows
+152  a statement alters a table that has had rows
+153  a binary log is compressed or encrypted
+154  a binary log tells of an incident
+155  a binary log has an event that isn't known
+156  an event of a binary log can't stand there
+157  a transaction of a binary log has no GTID
+158  a position of a binary log goes back
+159  a binary log doesn't begin where it should
 ";

@@ -1,15 +1,14 @@
 //! The texts, by their numbers.
 
 ghost use Rattle.std.specs.Prelude.{◌≡◌, option_map};
-ghost use Rattle.refusal_words.specs.Texts.{explained, has_text, text_of_number};
+ghost use Rattle.refusal_words.specs.Texts.{explained, has_text, text_of_number, text_of_others};
 
 use crate::list::LIST;
-use crate::{feed, files, position, steps, target, wire, workflow};
+use crate::{feed, files, logs, position, steps, target, wire, workflow};
 
-/// What is said of a number: its line in `LIST`, an empty line, what it means, the usual causes and what to
-/// do next. Each line ends with LF and has at most 80 bytes. None for any other number.
-pub fn text_of(number: u64) -> Option<&'static str>
-    ensures { option_map (λ text. text.now) result ≡ text_of_number number }
+/// The text of a number that isn't of a server's logs.
+fn text_of_others(number: u64) -> Option<&'static str>
+    ensures { option_map (λ text. text.now) result ≡ text_of_others number }
 {
     wire::text_of(number)
         .or(position::text_of(number))
@@ -18,6 +17,14 @@ pub fn text_of(number: u64) -> Option<&'static str>
         .or(feed::text_of(number))
         .or(steps::text_of(number))
         .or(files::text_of(number))
+}
+
+/// What is said of a number: its line in `LIST`, an empty line, what it means, the usual causes and what to
+/// do next. Each line ends with LF and has at most 80 bytes. None for any other number.
+pub fn text_of(number: u64) -> Option<&'static str>
+    ensures { option_map (λ text. text.now) result ≡ text_of_number number }
+{
+    text_of_others(number).or(logs::text_of(number))
 }
 
 /// Whether something is said of a number.

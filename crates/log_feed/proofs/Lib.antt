@@ -1,0 +1,4 @@
+mod WordLaws
+mod BytesLaws
+mod ShapeLaws
+mod GroupLaws

@@ -1,0 +1,12 @@
+use Rattle.std.proofs.Common.{map}
+use Rattle.log_tables.specs.Column.{column_value}
+use Rattle.log_rows.specs.Head.{head_value}
+use Rattle.log_feed.proofs.BytesLaws.{row-refused, row-made}
+use Rattle.log_feed.proofs.event.row_under.Goals as goal
+
+pub returns-in-Err : goal.returns-in-Err
+returns-in-Err c = row-refused c.args.name.now c.args.kind (head_value c.args.head.now) (map column_value c.args.columns.now) c.in-Err.error c.in-Err.ensures
+
+pub returns : goal.returns
+returns c =
+    row-made c.args.name.now c.in-Ok.message.items c.in_ok-event.event.items c.args.kind (head_value c.args.head.now) (map column_value c.args.columns.now) c.in-Ok.ensures c.in_ok-event.ensures
