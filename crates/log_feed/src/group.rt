@@ -273,13 +273,13 @@ fn put_all(
 /// What a feed tells of the transactions of logs, one behind another, under its tables. Seen in contracts as its schema, its
 /// tables, and what the logs so far say of each.
 #[derive(Drop)]
-pub struct GroupWriter<'w> {
-    schema: &'w [u8],
-    tables: &'w [FeedTable<'w>],
+pub struct GroupWriter<'t, 'w> {
+    schema: &'t [u8],
+    tables: &'t [FeedTable<'w>],
     stages: Vec<Stage>,
 }
 
-impl<'w> Model for GroupWriter<'w> {
+impl<'t, 'w> Model for GroupWriter<'t, 'w> {
     ghost use Rattle.std.specs.Prelude.{map};
     ghost use Rattle.log_feed.specs.Table.{table_value};
     ghost use Rattle.log_feed.specs.Group.{WriterValue};
@@ -289,9 +289,13 @@ impl<'w> Model for GroupWriter<'w> {
     ghost view = { λ w. record { schema = w.schema.now; tables = map table_value w.tables.now; stages = w.stages.items } };
 }
 
-impl<'w> GroupWriter<'w> {
+impl<'t, 'w> GroupWriter<'t, 'w> {
     /// Tells the changes of these tables of a schema, of which the logs before have said so.
-    pub fn new(schema: &'w [u8], tables: &'w [FeedTable<'w>], stages: Vec<Stage>) -> GroupWriter<'w>
+    pub fn new(
+        schema: &'t [u8],
+        tables: &'t [FeedTable<'w>],
+        stages: Vec<Stage>,
+    ) -> GroupWriter<'t, 'w>
         ensures { result ≡ record { schema = schema.now; tables = map table_value tables.now; stages = stages.items } }
     {
         GroupWriter {
