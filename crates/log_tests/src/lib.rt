@@ -2,7 +2,11 @@
 #![tactic(auto)]
 
 #[cfg(test)]
+mod course;
+#[cfg(test)]
 mod events;
+#[cfg(test)]
+mod feed;
 #[cfg(test)]
 mod groups;
 #[cfg(test)]
