@@ -9,7 +9,7 @@ to be one of the feed's; positions, rows, hexadecimal text, scripts, filters and
 restarts after each step of a script, by `restart` and by `save` and `resume`; dumps and checkpoints into pipes whose
 reader is gone, into a full device and into files of limited size; all cases with reads and writes that are interrupted
 and take one byte (tests/short_calls.c), and signals while the program waits; feeds that can't be read; names that speak to a
-terminal; and files that would cost the square of their size. The last line is 'N passed, M failed': one a check.
+terminal; files that would cost the square of their size; and feeds that would take many times their bytes of memory. The last line is 'N passed, M failed': one a check.
 """
 import json
 import os
@@ -390,6 +390,35 @@ def hostile_costs(room):
         yield took > COST * TIMES and f"{title}: {took:.1f} s of the processor, {COST * TIMES:.0f} at most"
 
 
+# A feed of events of four bytes that are passed over, and what a check of it takes at most: for each event of a feed no more
+# than this, whether they stand in one message or each in its own. The words, and how many bytes are printed.
+EVENTS = 1_000_000
+EVENT_BYTES = 64
+DDL = making.event(5)
+
+
+def peak(room, words, files):
+    """The most memory that the program has had, in bytes: asked of the system for a process that started it alone."""
+    for name, data in files.items():
+        with open(os.path.join(room.place, name), "wb") as file:
+            file.write(data)
+    measure = "import resource, subprocess, sys; done = subprocess.run(sys.argv[1:], stdout=subprocess.DEVNULL); print(done.returncode, resource.getrusage(resource.RUSAGE_CHILDREN).ru_maxrss)"
+    said = subprocess.run([sys.executable, "-c", measure, room.built, *words], stdout=subprocess.PIPE, cwd=room.place, timeout=SECONDS, check=True).stdout
+    status, kilobytes = map(int, said.split())
+    return status, kilobytes * 1024
+
+
+def hostile_memory(room):
+    few = peak(room, ["check", "--json", "workflow", "feed"], {"feed": making.frame(DDL), "workflow": making.ONE})[1]
+    for title, feed in (("one message", making.frame(*[DDL] * EVENTS)), ("a message each", making.frame(DDL) * EVENTS)):
+        for form in ([], ["--json"]):
+            status, most = peak(room, ["check", *form, "workflow", "feed"], {"feed": feed})
+            each = (most - few - len(feed)) / EVENTS
+            print(f"  {title}, {' '.join(['check', *form])}: {each:.0f} bytes an event")
+            yield status != 3 and f"{title}: status {status}"
+            yield each > EVENT_BYTES and f"{title}, {' '.join(['check', *form])}: {each:.0f} bytes an event, {EVENT_BYTES} at most"
+
+
 def of_two_streams():
     """A checkpoint of two streams, of which one is within its table and the other has copied it."""
     script = b"offer 0 1\nadvance 0\nopen 0 1\ncopy 0 1\noffer 1 1\nadvance 1\nopen 1 1\ncopy 1 1\n"
@@ -426,6 +455,7 @@ def checks(room):
     yield "feeds that can't be read", unreadable_feeds(room)
     yield "names that speak to a terminal", speaking_names(room)
     yield "files that cost much", hostile_costs(room)
+    yield "feeds that take much memory", hostile_memory(room)
 
 
 def main(built):

@@ -1,100 +1,110 @@
--- What is said has no float as JSON.
-use Rattle.std.proofs.Common.{◌≡◌, ◌∙◌, ℕ, ◌+◌, ◌<◌, Bool, true, false, cond, List, [], ◌∷◌, ◌++◌, drop, get_or, refl, sym, ap, Option, Some, None, map}
-use Rattle.std.specs.Prelude.{◌-◌, ◌==◌, is_some, length, slice_get}
-use Rattle.std.specs.List.{after_first}
-use Rattle.filter_rule.proofs.EachLaws.{drop_at}
+-- The text of what is said as JSON, part by part.
+use Rattle.std.proofs.Common.{◌≡◌, ◌∙◌, ℕ, ◌+◌, ◌<◌, Bool, true, false, List, [], ◌∷◌, ◌++◌, append_assoc, drop, get_or, length, map, refl, sym, ap, subst, Option}
+use Rattle.std.specs.Prelude.{◌-◌, codes, decimal, slice_get}
+use Rattle.std.proofs.lemmas.List.{drop_more}
 use Rattle.filter_rule.specs.PlanTable.{TableValue}
-use Rattle.filter_rule.specs.PlanValue.{PlanValue, table_of_name}
-use Rattle.pk_copy.specs.KeyValue.{KeyValue}
-use Rattle.serde_json.specs.Data.{Data, null, string}
+use Rattle.json.specs.Print.{escape_byte, quoted, token_text}
+use Rattle.json.specs.Token.{Token}
+use Rattle.serde_json.specs.Data.{Data, string, array, object, no_members, member, no_items, item}
 use Rattle.serde_json.specs.View.{items_of}
-use Rattle.serde_json.specs.Written.{has_float, items_have_float}
+use Rattle.serde_json.specs.Written.{comma_if, compact_text, items_text}
 use Rattle.source_feed.specs.Image.{ImageRows}
-use Rattle.source_feed.specs.Touches.{PreparedValue}
-use Rattle.feed_check.specs.Checked.{CheckedValue}
-use Rattle.feed_check.specs.Findings.{FindingValue}
-use Rattle.feed_check.specs.Report.{group_of, file_name, tables_of}
-use Rattle.feed_check.specs.Shared.{SharedValue, shared_of}
-use Rattle.workflow_check.specs.File.{notes_of}
+use Rattle.feed_check.specs.Checked.{CheckedValue, touching, passing_groups, rows_of_table}
+use Rattle.feed_check.specs.Report.{file_name}
+use Rattle.feed_check.specs.Shared.{SharedValue}
+use Rattle.vdiff_core.specs.Printing.{Written}
 use Rattle.workflow_check.specs.Notes.{NoteValue}
-use Rattle.workflow_check.specs.Passed.{passed_of}
-use Rattle.check_said.specs.Json.{position_data, part_data, key_data, finding_data, skipped_data, nearest_data, name_data, tables_from, stream_data, streams_from, shared_if, table_or_null, note_data, passed_data, check_data}
+use Rattle.workflow_check.specs.Passed.{PassedValue}
+use Rattle.json_pieces.specs.Telling.{LineValue, Place, Tells, at, fresh}
+use Rattle.json_pieces.specs.Pieces.{list_data}
+use Rattle.check_said.specs.Private.Parts.{first_part, groups_part, shard_part, stream_part, end_part}
+use Rattle.check_said.specs.Json.{count_data, counts_data, finding_data, name_data, note_data, passed_data, position_data, shared_if, skipped_data, stream_data, streams_data, streams_from, tables_data, tables_from, whole_data}
 
-list_no_float : {X : Type 0} (f : X → Data) → ((x : X) → has_float (f x) ≡ false) → (xs : List X) → items_have_float (items_of (map f xs)) ≡ false
-list_no_float f none [] = refl
-list_no_float f none (x ∷ xs) = rw (none x, list_no_float f none xs) refl
+-- ---- parts
 
-position_no_float : (group : Option PreparedValue) → has_float (position_data group) ≡ false
-position_no_float None = refl
-position_no_float (Some group) = refl
+join : (a q b r : List ℕ) → (a ++ (q ++ b)) ++ r ≡ a ++ (q ++ (b ++ r))
+join a q b r = append_assoc a (q ++ b) r ∙ ap (λ x. a ++ x) (append_assoc q b r)
 
-key_no_float : (key : KeyValue) → has_float (key_data key) ≡ false
-key_no_float key = list_no_float part_data (λ part. refl) key.parts
+join-three : (a p b n c q d r : List ℕ) → (a ++ (p ++ (b ++ (n ++ (c ++ (q ++ d)))))) ++ r ≡ a ++ (p ++ (b ++ (n ++ (c ++ (q ++ (d ++ r))))))
+join-three a p b n c q d r = join a p (b ++ (n ++ (c ++ (q ++ d)))) r ∙ ap (λ x. a ++ (p ++ x)) (join b n (c ++ (q ++ d)) r ∙ ap (λ x. b ++ (n ++ x)) (join c q d r))
 
-finding_no_float : (check : CheckedValue) (found : FindingValue) → has_float (finding_data check found) ≡ false
-finding_no_float check found = rw (key_no_float found.key, position_no_float (group_of check.history found.group)) refl
+-- the text of a stream
+pub stream-text : (i : ℕ) (file : List ℕ) (check : CheckedValue)
+    → first_part file ++ (compact_text (list_data (finding_data check) check.findings) ++ (groups_part check ++ (compact_text (list_data (finding_data check) check.moves)
+    ++ (shard_part check ++ (compact_text (list_data skipped_data check.skipped) ++ (stream_part i ++ (compact_text (tables_data check)
+    ++ (codes ",\"unknown\":" ++ (compact_text (list_data (name_data check.plan) check.unknown) ++ 125 ∷ [])))))))))
+    ≡ compact_text (stream_data i file check)
+unfolding escape_byte
+stream-text i file check =
+    let findings = compact_text (list_data (finding_data check) check.findings) in
+    let moves = compact_text (list_data (finding_data check) check.moves) in
+    let skipped = compact_text (list_data skipped_data check.skipped) in
+    let first = compact_text (position_data (slice_get check.history 0)) in
+    let last = compact_text (position_data (slice_get check.history (length check.history - 1))) in
+    let end = compact_text (tables_data check) ++ (codes ",\"unknown\":" ++ (compact_text (list_data (name_data check.plan) check.unknown) ++ 125 ∷ [])) in
+    let at_number = stream_part i ++ end in
+    let at_shard = shard_part check ++ (skipped ++ at_number) in
+    join (codes "{\"file\":") (quoted file) (codes ",\"findings\":") (findings ++ (groups_part check ++ (moves ++ at_shard)))
+    ∙ ap (λ x. codes "{\"file\":" ++ (quoted file ++ (codes ",\"findings\":" ++ (findings ++ x))))
+    (join-three (codes ",\"first\":") first (codes ",\"groups\":") (decimal (length check.history)) (codes ",\"last\":") last (codes ",\"moves\":") (moves ++ at_shard)
+    ∙ ap (λ x. codes ",\"first\":" ++ (first ++ (codes ",\"groups\":" ++ (decimal (length check.history) ++ (codes ",\"last\":" ++ (last ++ (codes ",\"moves\":" ++ (moves ++ x))))))))
+    (join (codes ",\"shard\":") (quoted check.plan.shard) (codes ",\"skipped\":") (skipped ++ at_number)
+    ∙ ap (λ x. codes ",\"shard\":" ++ (quoted check.plan.shard ++ (codes ",\"skipped\":" ++ (skipped ++ x))))
+    (join (codes ",\"stream\":") (decimal i) (codes ",\"tables\":") end)))
 
-nearest_no_float : (plan : PlanValue) (name : List ℕ) → has_float (nearest_data plan name) ≡ false
-nearest_no_float plan name = by (is_some (table_of_name plan name))
-  where
-    by : (b : Bool) → has_float (cond b (string name) null) ≡ false
-    by true = refl
-    by false = refl
+end-text : (warned : Bool) → end_part warned ≡ codes ",\"warned\":" ++ (token_text (Token.boolean warned) ++ 125 ∷ [])
+end-text true = refl
+end-text false = refl
 
-name_no_float : (plan : PlanValue) (name : List ℕ) → has_float (name_data plan name) ≡ false
-name_no_float plan name = rw (nearest_no_float plan (after_first (λ b. b == 46) name)) refl
+-- the text of the whole
+pub whole-text : (notes rules streams touched : Data) (warned : Bool)
+    → codes "{\"notes\":" ++ (compact_text notes ++ (codes ",\"rules\":" ++ (compact_text rules ++ (codes ",\"streams\":" ++ (compact_text streams ++ (codes ",\"touched\":" ++ (compact_text touched ++ end_part warned)))))))
+    ≡ compact_text (whole_data notes rules streams touched warned)
+unfolding escape_byte
+whole-text notes rules streams touched warned =
+    ap (λ x. codes "{\"notes\":" ++ (compact_text notes ++ (codes ",\"rules\":" ++ (compact_text rules ++ (codes ",\"streams\":" ++ (compact_text streams ++ (codes ",\"touched\":" ++ (compact_text touched ++ x))))))))
+    (end-text warned)
 
-tables_no_float : (check : CheckedValue) (rows : ImageRows) (t : ℕ) (tables : List TableValue) → items_have_float (items_of (tables_from check rows t tables)) ≡ false
-tables_no_float check rows t [] = refl
-tables_no_float check rows t (table ∷ later) = tables_no_float check rows (t + 1) later
+-- the same of what is asked for
+pub whole-same : (notes notes2 : List NoteValue) (rules rules2 : List PassedValue) (files : List (List ℕ)) (streams streams2 : List CheckedValue) (tables : List TableValue) (shared shared2 : Option SharedValue) (warned : Bool)
+    → notes ≡ notes2 → rules ≡ rules2 → streams ≡ streams2 → shared ≡ shared2
+    → compact_text (whole_data (list_data note_data notes) (list_data passed_data rules) (streams_data files streams) (shared_if tables shared) warned)
+    ≡ compact_text (whole_data (list_data note_data notes2) (list_data passed_data rules2) (streams_data files streams2) (shared_if tables shared2) warned)
+whole-same notes notes2 rules rules2 files streams streams2 tables shared shared2 warned a b c d =
+    ap (λ (x : List NoteValue). compact_text (whole_data (list_data note_data x) (list_data passed_data rules) (streams_data files streams) (shared_if tables shared) warned)) a
+    ∙ ap (λ (x : List PassedValue). compact_text (whole_data (list_data note_data notes2) (list_data passed_data x) (streams_data files streams) (shared_if tables shared) warned)) b
+    ∙ ap (λ (x : List CheckedValue). compact_text (whole_data (list_data note_data notes2) (list_data passed_data rules2) (streams_data files x) (shared_if tables shared) warned)) c
+    ∙ ap (λ (x : Option SharedValue). compact_text (whole_data (list_data note_data notes2) (list_data passed_data rules2) (streams_data files streams2) (shared_if tables x) warned)) d
 
-stream_no_float : (i : ℕ) (file : List ℕ) (check : CheckedValue) → has_float (stream_data i file check) ≡ false
-stream_no_float i file check =
-    rw (
-      list_no_float (finding_data check) (finding_no_float check) check.findings,
-      position_no_float (slice_get check.history 0),
-      position_no_float (slice_get check.history (length check.history - 1)),
-      list_no_float (finding_data check) (finding_no_float check) check.moves,
-      list_no_float skipped_data (λ event. refl) check.skipped,
-      tables_no_float check check.rows 0 check.plan.tables,
-      list_no_float (name_data check.plan) (name_no_float check.plan) check.unknown,
-    ) refl
+-- a line that is told from its beginning on
+pub told-from : (begun : Written) (line : LineValue) (now : Place) (text whole : List ℕ) → line ≡ fresh → text ≡ whole → Tells (at begun line) now text → Tells (at begun fresh) now whole
+told-from begun line now text whole is same tells = subst (Tells (at begun fresh) now) same (subst (λ (l : LineValue). Tells (at begun l) now text) is tells)
 
-streams_no_float : (files : List (List ℕ)) (i : ℕ) (checks : List CheckedValue) → items_have_float (items_of (streams_from files i checks)) ≡ false
-streams_no_float files i [] = refl
-streams_no_float files i (check ∷ later) = rw (stream_no_float i (file_name files i) check, streams_no_float files (i + 1) later) refl
+-- ---- a key that two feeds touch
 
-shared_no_float : (tables : List TableValue) (shared : Option SharedValue) → has_float (shared_if tables shared) ≡ false
-shared_no_float tables None = refl
-shared_no_float tables (Some shared) = rw (key_no_float shared.key) refl
+two : (a b r : List ℕ) → a ++ (44 ∷ (b ++ (93 ∷ r))) ≡ (a ++ (44 ∷ (b ++ (93 ∷ [])))) ++ r
+two a b r = sym (append_assoc a (44 ∷ (b ++ (93 ∷ []))) r ∙ ap (λ x. a ++ (44 ∷ x)) (append_assoc b (93 ∷ []) r))
 
-table_no_float : (name : List ℕ) → has_float (table_or_null name) ≡ false
-table_no_float [] = refl
-table_no_float (byte ∷ bytes) = refl
+pub shared-text : (key : Data) (one other : ℕ) (table : List ℕ)
+    → codes "{\"key\":" ++ (compact_text key ++ (codes ",\"streams\":[" ++ (decimal one ++ (44 ∷ (decimal other ++ (codes "],\"table\":" ++ (quoted table ++ (125 ∷ []))))))))
+    ≡ compact_text (object (member (codes "key") key (member (codes "streams") (array (item (count_data one) (item (count_data other) no_items))) (member (codes "table") (string table) no_members))))
+unfolding escape_byte
+shared-text key one other table =
+    ap (λ x. codes "{\"key\":" ++ (compact_text key ++ (codes ",\"streams\":[" ++ x))) (two (decimal one) (decimal other) (codes ",\"table\":" ++ (quoted table ++ (125 ∷ []))))
 
-note_no_float : (note : NoteValue) → has_float (note_data note) ≡ false
-note_no_float note = rw (table_no_float note.table) refl
+-- ---- lists by their numbers
 
-pub check_no_float : (workflow : List ℕ) (files : List (List ℕ)) (checks : List CheckedValue) (warned : Bool) → has_float (check_data workflow files checks warned) ≡ false
-check_no_float workflow files checks warned =
-    rw (
-      list_no_float note_data note_no_float (notes_of workflow),
-      list_no_float passed_data (λ passed. refl) (passed_of workflow),
-      streams_no_float files 0 checks,
-      shared_no_float (tables_of checks) (shared_of checks),
-    ) refl
+-- the first table of what is left
+pub table-at : (check : CheckedValue) (rows : ImageRows) (later : Bool) (tables : List TableValue) (t : ℕ) (table : TableValue) → t < length tables → table ≡ get_or tables t table
+    → items_text later (items_of (tables_from check rows t (drop t tables)))
+    ≡ comma_if later ++ (compact_text (counts_data table.name (touching t check.history) (passing_groups t check.history) (rows_of_table t rows)) ++ items_text true (items_of (tables_from check rows (t + 1) (drop (t + 1) tables))))
+table-at check rows later tables t table within is =
+    ap (λ l. items_text later (items_of (tables_from check rows t l))) (drop_more tables t table within)
+    ∙ ap (λ (one : TableValue). comma_if later ++ (compact_text (counts_data one.name (touching t check.history) (passing_groups t check.history) (rows_of_table t rows)) ++ items_text true (items_of (tables_from check rows (t + 1) (drop (t + 1) tables))))) (sym is)
 
--- ---- one stream more
-
-behind : (xs : List Data) (x : Data) (ys : List Data) → (xs ++ x ∷ []) ++ ys ≡ xs ++ x ∷ ys
-behind [] x ys = refl
-behind (y ∷ xs) x ys = ap (λ (l : List Data). y ∷ l) (behind xs x ys)
-
-pub streams_more : (files : List (List ℕ)) (i : ℕ) (checks : List CheckedValue) (check : CheckedValue) (before after whole : List Data) (value : Data) → i < length checks → check ≡ get_or checks i check
-    → after ≡ before ++ value ∷ [] → value ≡ stream_data i (file_name files i) check → before ++ streams_from files i (drop i checks) ≡ whole → after ++ streams_from files (i + 1) (drop (i + 1) checks) ≡ whole
-streams_more files i checks check before after whole value inside is made valued so_far =
-    ap (λ (l : List Data). l ++ streams_from files (i + 1) (drop (i + 1) checks)) made
-    ∙ behind before value (streams_from files (i + 1) (drop (i + 1) checks))
-    ∙ ap (λ (v : Data). before ++ v ∷ streams_from files (i + 1) (drop (i + 1) checks)) valued
-    ∙ sym (ap (λ (l : List CheckedValue). before ++ streams_from files i l) (drop_at checks i check inside ∙ ap (λ (c : CheckedValue). c ∷ drop (i + 1) checks) (sym is)))
-    ∙ so_far
+-- the first stream of what is left
+pub stream-at : (files : List (List ℕ)) (later : Bool) (checks : List CheckedValue) (i : ℕ) (check : CheckedValue) → i < length checks → check ≡ get_or checks i check
+    → items_text later (items_of (streams_from files i (drop i checks))) ≡ comma_if later ++ (compact_text (stream_data i (file_name files i) check) ++ items_text true (items_of (streams_from files (i + 1) (drop (i + 1) checks))))
+stream-at files later checks i check within is =
+    ap (λ l. items_text later (items_of (streams_from files i l))) (drop_more checks i check within)
+    ∙ ap (λ (c : CheckedValue). comma_if later ++ (compact_text (stream_data i (file_name files i) c) ++ items_text true (items_of (streams_from files (i + 1) (drop (i + 1) checks))))) (sym is)

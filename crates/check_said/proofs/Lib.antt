@@ -1,1 +1,1 @@
-mod JsonLaws
+pub mod JsonLaws

@@ -4,7 +4,8 @@ use Rattle.std.specs.List.{after_first}
 use Rattle.filter_rule.specs.PlanTable.{TableValue, name_of_table}
 use Rattle.filter_rule.specs.PlanValue.{PlanValue, table_of_name}
 use Rattle.gtid_set.specs.Printed.{printed_position}
-use Rattle.pk_copy.specs.KeyValue.{Part, KeyValue}
+use Rattle.pk_copy.specs.KeyValue.{KeyValue}
+use Rattle.json_pieces.specs.Pieces.{list_data, part_data}
 use Rattle.serde_json.specs.Data.{Data, null, boolean, number, string, array, object, no_members, member, no_items, item, unsigned}
 use Rattle.serde_json.specs.View.{items_of}
 use Rattle.serde_json.specs.Written.{compact_text}
@@ -13,7 +14,7 @@ use Rattle.source_feed.specs.Image.{ImageRows}
 use Rattle.source_feed.specs.Touches.{PreparedValue}
 use Rattle.feed_check.specs.Checked.{CheckedValue, touching, passing_groups, rows_of_table}
 use Rattle.feed_check.specs.Findings.{FindingValue}
-use Rattle.feed_check.specs.Report.{file_name, group_of, kind_text, part_cell, tables_of, why_text}
+use Rattle.feed_check.specs.Report.{file_name, group_of, kind_text, tables_of, why_text}
 use Rattle.feed_check.specs.Shared.{SharedValue, shared_of}
 use Rattle.feed_check.specs.Skipped.{SkippedValue}
 use Rattle.workflow_check.specs.File.{notes_of}
@@ -21,9 +22,6 @@ use Rattle.workflow_check.specs.Notes.{NoteValue}
 use Rattle.workflow_check.specs.Passed.{PassedValue, passed_of}
 use Rattle.workflow_check.specs.declared.note.Flaw.{Flaw}
 use Rattle.workflow_check.specs.declared.note.Flaw.TheVariants.{Ignored, Unmatched, Undecided, Untiled}
-
-abbrev pub list_data : {X : Type 0} → (X → Data) → List X → Data
-list_data data_of xs = array (items_of (map data_of xs))
 
 abbrev pub count_data : ℕ → Data
 count_data n = number (unsigned n)
@@ -34,9 +32,6 @@ position_data None = null
 position_data (Some group) = string (printed_position group.position)
 
 -- a key: its parts as cells
-abbrev pub part_data : Part → Data
-part_data part = string (part_cell part)
-
 abbrev pub key_data : KeyValue → Data
 key_data key = list_data part_data key.parts
 

@@ -1,5 +1,5 @@
 -- What `check` says of a workflow and its feeds (this profile).
-use Rattle.std.specs.Prelude.{ℕ, ◌||◌, Bool, true, false, not, List, [], ◌∷◌, ◌++◌}
+use Rattle.std.specs.Prelude.{Option, Some, None, ℕ, ◌||◌, Bool, true, false, not, List, [], ◌∷◌, ◌++◌}
 use Rattle.feed_check.specs.Checked.{CheckedValue}
 use Rattle.feed_check.specs.Report.{ReportValue, check_report_of}
 use Rattle.vrepl_choices.specs.declared.report_form.ReportForm.{ReportForm}
@@ -25,3 +25,8 @@ said_as Json workflow files checks lines = record { text = json_line (check_data
 -- what is said of a workflow's file and of checks of its feeds
 abbrev pub said_of : ReportForm → List ℕ → List (List ℕ) → List CheckedValue → ReportValue
 said_of form workflow files checks = said_as form workflow files checks (with_file workflow (check_report_of files checks))
+
+-- a line in place of a text, where there is one
+abbrev pub line_or : Option (List ℕ) → List ℕ → List ℕ
+line_or None text = text
+line_or (Some line) text = line

@@ -1,98 +1,117 @@
 //! What is told of a feed's changes, and events that are passed over, as JSON.
 
-ghost use Rattle.std.specs.Prelude.{◌≡◌, ◌++◌, IfOk, OnOk, map};
-ghost use Rattle.serde_json.specs.View.{view};
-ghost use Rattle.check_said.specs.Json.{finding_data, list_data, skipped_data};
+ghost use Rattle.std.specs.Prelude.{◌≡◌, map};
+ghost use Rattle.std.specs.Option.{option_copied};
+ghost use Rattle.pk_copy.specs.PartValue.{part_value};
+ghost use Rattle.serde_json.specs.Written.{compact_text};
+ghost use Rattle.json_pieces.specs.Pieces.{list_data, piece_text, pieces_text};
+ghost use Rattle.json_pieces.specs.Telling.{Tells, at};
+ghost use Rattle.check_said.specs.Json.{finding_data, position_data, skipped_data};
 
-use crate::json::{key_value, list_of, position_value};
 use feed_check::{Checked, Finding, Skipped, group_of, kind_text, name_of_table, why_text};
-use serde_json::{Value, json};
-use shown_text::shown;
-use std::alloc::{AllocError, Global};
+use json_pieces::{Line, Piece, put_comma_if, put_pieces};
+use pk_copy::KeyPart;
+use source_feed::Prepared;
+use vdiff_core::Out;
 
-/// What is told of a change.
-fn finding_value(
-    alloc: Global,
-    check: &Checked<'_>,
-    found: &Finding<'_>,
-) -> Result<Value, AllocError>
-    ensures { IfOk result (λ made. view made ≡ finding_data check.now found.now) }
+/// A group's position, null where there is no such group.
+pub(crate) fn position_piece<'p>(group: Option<&'p Prepared<'_>>) -> Piece<'p>
+    ensures { piece_text result ≡ compact_text (position_data (option_copied group.entry)) }
 {
-    let key = key_value(alloc, found.key())?;
-    let position = position_value(alloc, group_of(check, found.group()))?;
-    let table = name_of_table(check.tables(), found.key().table());
-    let change = found.place();
-    let group = found.group();
-    let why = why_text(found.why());
-    json!(in alloc; {
-        "change": change,
-        "group": group,
-        "key": key,
-        "position": position,
-        "table": table,
-        "why": why
-    })
-}
-
-/// Puts what is told of changes behind other values.
-fn push_findings(
-    alloc: Global,
-    check: &Checked<'_>,
-    findings: &[Finding<'_>],
-    values: &mut Vec<Value>,
-) -> Result<(), AllocError>
-    ensures { OnOk result (map view values.new.items ≡ map view values.old.items ++ map (finding_data check.now) findings.now) }
-{
-    for found in findings {
-        let value = finding_value(alloc, check, found)?;
-        values.push(value)?;
+    match group {
+        None => Piece::Text("null"),
+        Some(group) => Piece::Position(group.position()),
     }
-    Ok(())
 }
 
-/// What is told of changes.
-pub(crate) fn findings_value(
-    alloc: Global,
+/// What is told of a change, whose key has these parts.
+#[tactic(auto, unfolding(json::specs::Print::escape_byte))]
+fn finding_pieces<'p>(
+    check: &'p Checked<'_>,
+    found: &Finding<'_>,
+    parts: &'p [KeyPart<'p>],
+) -> [Piece<'p>; 13]
+    requires { map part_value parts.now ≡ found.now.key.parts }
+    ensures { pieces_text result ≡ compact_text (finding_data check.entry.now found.now) }
+{
+    [
+        Piece::Text("{\"change\":"),
+        Piece::Number(found.place() as u64),
+        Piece::Text(",\"group\":"),
+        Piece::Number(u64::from(found.group())),
+        Piece::Text(",\"key\":"),
+        Piece::Parts(parts),
+        Piece::Text(",\"position\":"),
+        position_piece(group_of(check, found.group())),
+        Piece::Text(",\"table\":"),
+        Piece::Name(name_of_table(check.tables(), found.key().table())),
+        Piece::Text(",\"why\":"),
+        Piece::Name(why_text(found.why())),
+        Piece::Text("}"),
+    ]
+}
+
+/// Puts what is told of a change.
+fn put_finding<O: Out>(out: &mut O, line: &mut Line, check: &Checked<'_>, found: &Finding<'_>)
+    ensures { Tells (at (O.written out.old) line.old) (at (O.written out.new) line.new) (compact_text (finding_data check.now found.now)) }
+{
+    let key = found.key().view();
+    let pieces = finding_pieces(check, found, key.parts());
+    put_pieces(out, line, &pieces);
+}
+
+/// Puts what is told of changes.
+pub(crate) fn put_findings<O: Out>(
+    out: &mut O,
+    line: &mut Line,
     check: &Checked<'_>,
     findings: &[Finding<'_>],
-) -> Result<Value, AllocError>
-    ensures { IfOk result (λ made. view made ≡ list_data (finding_data check.now) findings.now) }
+)
+    ensures { Tells (at (O.written out.old) line.old) (at (O.written out.new) line.new) (compact_text (list_data (finding_data check.now) findings.now)) }
 {
-    let mut values = Vec::with_capacity(alloc, findings.len())?;
-    push_findings(alloc, check, findings, &mut values)?;
-    Ok(list_of(values))
+    line.put(out, b"[");
+    let mut later = false;
+    for found in findings {
+        put_comma_if(out, line, later);
+        put_finding(out, line, check, found);
+        later = true;
+    }
+    line.put(out, b"]");
 }
 
 /// An event that is passed over.
-fn event_value(alloc: Global, event: &Skipped<'_>) -> Result<Value, AllocError>
-    ensures { IfOk result (λ made. view made ≡ skipped_data event.now) }
+#[tactic(auto, unfolding(json::specs::Print::escape_byte))]
+fn event_pieces<'p>(event: &'p Skipped<'_>) -> [Piece<'p>; 7]
+    ensures { pieces_text result ≡ compact_text (skipped_data event.entry.now) }
 {
-    let statement = Value::String(shown(alloc, event.statement())?);
-    let message = event.message();
-    let kind = kind_text(event.kind());
-    json!(in alloc; {"message": message, "statement": statement, "type": kind})
+    [
+        Piece::Text("{\"message\":"),
+        Piece::Number(event.message() as u64),
+        Piece::Text(",\"statement\":"),
+        Piece::Shown(event.statement()),
+        Piece::Text(",\"type\":"),
+        Piece::Name(kind_text(event.kind())),
+        Piece::Text("}"),
+    ]
 }
 
-/// Puts events that are passed over behind other values.
-fn push_events(
-    alloc: Global,
-    events: &[Skipped<'_>],
-    values: &mut Vec<Value>,
-) -> Result<(), AllocError>
-    ensures { OnOk result (map view values.new.items ≡ map view values.old.items ++ map skipped_data events.now) }
+/// Puts an event that is passed over.
+fn put_event<O: Out>(out: &mut O, line: &mut Line, event: &Skipped<'_>)
+    ensures { Tells (at (O.written out.old) line.old) (at (O.written out.new) line.new) (compact_text (skipped_data event.now)) }
 {
+    put_pieces(out, line, &event_pieces(event));
+}
+
+/// Puts events that are passed over.
+pub(crate) fn put_events<O: Out>(out: &mut O, line: &mut Line, events: &[Skipped<'_>])
+    ensures { Tells (at (O.written out.old) line.old) (at (O.written out.new) line.new) (compact_text (list_data skipped_data events.now)) }
+{
+    line.put(out, b"[");
+    let mut later = false;
     for event in events {
-        let value = event_value(alloc, event)?;
-        values.push(value)?;
+        put_comma_if(out, line, later);
+        put_event(out, line, event);
+        later = true;
     }
-    Ok(())
-}
-
-/// Events that are passed over.
-pub(crate) fn events_value(alloc: Global, events: &[Skipped<'_>]) -> Result<Value, AllocError>
-    ensures { IfOk result (λ made. view made ≡ list_data skipped_data events.now) }
-{
-    let mut values = Vec::with_capacity(alloc, events.len())?;
-    push_events(alloc, events, &mut values)?;
-    Ok(list_of(values))
+    line.put(out, b"]");
 }

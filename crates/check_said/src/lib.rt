@@ -1,12 +1,13 @@
-//! What `check` says of a workflow and its feeds: lines, or one object of JSON, which `serde_json` writes.
+//! What `check` says of a workflow and its feeds: lines, or one object of JSON, which is written as it is told.
 #![tactic(auto)]
 
 mod changes;
-mod json;
-mod line;
+mod checked_rows;
+mod file_notes;
 mod said;
 mod streams;
-mod workflow;
+mod tables;
+mod told;
 
-pub use line::check_line;
 pub use said::Said;
+pub use told::CheckJson;

@@ -1,30 +1,35 @@
 //! What `check` says of feeds and of the workflow's file.
 
 ghost use Rattle.std.specs.Prelude.{◌≡◌, IfOk, map};
+ghost use Rattle.std.specs.Option.{option_copied};
+ghost use Rattle.vdiff_core.specs.Printing.{Prints};
 ghost use Rattle.feed_check.specs.Report.{check_report_of};
-ghost use Rattle.check_said.specs.Said.{is_empty, said_of, with_file};
+ghost use Rattle.check_said.specs.Said.{is_empty, line_or, said_of, with_file};
 
-use crate::line::check_line;
+use crate::told::CheckJson;
 use feed_check::{CheckReport, Checked};
 use std::alloc::{AllocError, Global};
 use std::marker::Model;
+use vdiff_core::{Out, OutFailed, put_all};
 use vrepl_choices::ReportForm;
 use workflow_check::{Note, note_lines, notes_of, rules_of};
 
-/// What `check` says, and whether it warns of anything.
+/// What `check` says, and whether it warns of anything: its lines, or in their place a line of JSON.
 #[derive(Drop)]
-pub struct Said {
+pub struct Said<'c, 'h> {
     text: String,
+    line: Option<CheckJson<'c, 'h>>,
     warned: bool,
 }
 
-impl Model for Said {
+impl<'c, 'h> Model for Said<'c, 'h> {
     ghost use Rattle.std.specs.String.{string_bytes};
     ghost use Rattle.feed_check.specs.Report.{ReportValue};
+    ghost use Rattle.check_said.specs.Said.{line_or};
 
     ghost Value = { ReportValue };
 
-    ghost view = { λ s. record { text = string_bytes s.text; warned = s.warned } };
+    ghost view = { λ s. record { text = line_or s.line (string_bytes s.text); warned = s.warned } };
 }
 
 /// Whether nothing is told.
@@ -35,7 +40,11 @@ fn is_empty(notes: &[Note]) -> bool
 }
 
 /// A report, behind what the workflow's file says of the tables, and before what is told of the file.
-fn with_file(alloc: Global, workflow: &[u8], report: &CheckReport) -> Result<Said, AllocError>
+fn with_file<'c, 'h>(
+    alloc: Global,
+    workflow: &[u8],
+    report: &CheckReport,
+) -> Result<Said<'c, 'h>, AllocError>
     ensures { IfOk result (λ said. said ≡ with_file workflow.now report.now) }
 {
     let notes = notes_of(alloc, workflow)?;
@@ -45,53 +54,70 @@ fn with_file(alloc: Global, workflow: &[u8], report: &CheckReport) -> Result<Sai
     text.push_str(&lines)?;
     Ok(Said {
         text,
+        line: None,
         warned: report.warned() || !is_empty(&notes),
     })
 }
 
 /// The lines of what is said.
-fn said_in_lines(
+fn said_in_lines<'c, 'h>(
     alloc: Global,
     workflow: &[u8],
     files: &[&str],
     checks: &[Checked<'_>],
-) -> Result<Said, AllocError>
+) -> Result<Said<'c, 'h>, AllocError>
     ensures { IfOk result (λ said. said ≡ with_file workflow.now (check_report_of (map (λ file. file.now) files.now) checks.now)) }
 {
     let report = CheckReport::of(alloc, files, checks)?;
     with_file(alloc, workflow, &report)
 }
 
-impl Said {
+/// Prints a line of JSON, or where there is none a text.
+fn print_either<O: Out>(
+    line: Option<&CheckJson<'_, '_>>,
+    text: &str,
+    out: &mut O,
+) -> Result<(), OutFailed>
+    ensures { Prints result (O.written out.old) (O.written out.new) (line_or (option_copied line.entry) text.now) }
+{
+    match line {
+        None => put_all(out, text.as_bytes()),
+        Some(line) => line.print(out),
+    }
+}
+
+impl<'c, 'h> Said<'c, 'h> {
     /// What is said of a workflow's file and of checks of its feeds, whose files have these names: as one line of
     /// JSON, or in lines. An error is want of memory.
     pub fn of(
         alloc: Global,
         form: ReportForm,
         workflow: &[u8],
-        files: &[&str],
-        checks: &[Checked<'_>],
-    ) -> Result<Said, AllocError>
-        ensures { IfOk result (λ said. said ≡ said_of form workflow.now (map (λ file. file.now) files.now) checks.now) }
+        files: &'c [&'c str],
+        checks: &'c [Checked<'h>],
+    ) -> Result<Said<'c, 'h>, AllocError>
+        ensures { IfOk result (λ said. said ≡ said_of form workflow.now (map (λ file. file.now) files.entry.now) checks.entry.now) }
     {
         let said = said_in_lines(alloc, workflow, files, checks)?;
+        let warned = said.warned;
         match form {
             ReportForm::Lines => Ok(said),
             ReportForm::Json => {
-                let line = check_line(alloc, workflow, files, checks, said.warned)?;
+                let line = CheckJson::of(alloc, workflow, files, checks, warned)?;
                 Ok(Said {
-                    text: line,
-                    warned: said.warned,
+                    text: String::new(alloc),
+                    line: Some(line),
+                    warned,
                 })
             }
         }
     }
 
-    /// The whole text.
-    pub fn text(&self) -> &str
-        ensures { result.now ≡ self.now.text }
+    /// Prints the whole text. Takes no memory. After a fault what was written is a beginning of it.
+    pub fn print<O: Out>(&self, out: &mut O) -> Result<(), OutFailed>
+        ensures { Prints result (O.written out.old) (O.written out.new) self.now.text }
     {
-        self.text.as_str()
+        print_either(self.line.as_ref(), self.text.as_str(), out)
     }
 
     /// Whether anything is warned of.

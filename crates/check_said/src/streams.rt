@@ -1,250 +1,153 @@
-//! Streams with their tables as JSON.
+//! Streams with their tables as JSON, and a key that two of them touch.
 
-ghost use Rattle.std.specs.Prelude.{◌≡◌, ◌++◌, IfOk, OnOk, map};
+ghost use Rattle.std.specs.Prelude.{◌≡◌, ◌++◌, codes, map, slice_get, length, ◌-◌};
 ghost use Rattle.std.specs.Option.{option_copied};
-ghost use Rattle.serde_json.specs.View.{view};
-ghost use Rattle.source_feed.specs.Image.{lent_row};
-ghost use Rattle.feed_check.specs.Report.{file_name};
-ghost use Rattle.check_said.specs.Private.Parts.{ArePartsOf};
-ghost use Rattle.check_said.specs.Json.{counts_data, list_data, name_data, nearest_data, shared_data, shared_if, stream_data, streams_from, streams_data, tables_from, tables_data};
+ghost use Rattle.pk_copy.specs.PartValue.{part_value};
+ghost use Rattle.serde_json.specs.Data.{string};
+ghost use Rattle.serde_json.specs.Written.{compact_text};
+ghost use Rattle.json_pieces.specs.Pieces.{list_data, pieces_text};
+ghost use Rattle.json_pieces.specs.Telling.{Tells, at};
+ghost use Rattle.check_said.specs.Private.Parts.{first_part, groups_part, shard_part, stream_part};
+ghost use Rattle.check_said.specs.Json.{shared_data, shared_if, stream_data, streams_data};
 
-use crate::changes::{events_value, findings_value};
-use crate::json::{key_value, list_of, position_value};
-use feed_check::{Checked, SharedKey, behind_dot, file_name, name_of_table, rows_of_table};
-use filter_rule::{Plan, Table};
-use pk_copy::LentKey;
-use row_view::RowBytes;
-use serde_json::{Value, json};
-use std::alloc::{AllocError, Global};
+use crate::changes::{position_piece, put_events, put_findings};
+use crate::checked_rows::CheckedRows;
+use crate::tables::{put_names, put_tables};
+use feed_check::{Checked, SharedKey, file_name, name_of_table};
+use filter_rule::Table;
+use json_pieces::{Line, Piece, put_comma_if, put_pieces};
+use pk_copy::KeyPart;
+use vdiff_core::Out;
 
-/// A table of a stream: its counts and its name.
-fn table_value(
-    alloc: Global,
-    name: &str,
-    touching: usize,
-    passing: usize,
-    rows: usize,
-) -> Result<Value, AllocError>
-    ensures { IfOk result (λ made. view made ≡ counts_data name.now touching passing rows) }
+/// What stands before the findings of a stream.
+fn first_pieces(file: &str) -> [Piece<'_>; 3]
+    ensures { pieces_text result ≡ first_part file.entry.now }
 {
-    json!(in alloc; {"groups": touching, "passing": passing, "rows": rows, "table": name})
+    [
+        Piece::Text("{\"file\":"),
+        Piece::Name(file),
+        Piece::Text(",\"findings\":"),
+    ]
 }
 
-/// Puts the tables of a stream, which has these rows, behind other values.
-fn push_tables(
-    alloc: Global,
-    check: &Checked<'_>,
-    rows: &[(&LentKey<'_>, &RowBytes<'_>)],
-    values: &mut Vec<Value>,
-) -> Result<(), AllocError>
-    ensures { OnOk result (map view values.new.items ≡ map view values.old.items ++ tables_from check.now (map lent_row rows.now) 0 check.now.plan.tables) }
+/// What stands between its findings and its moves.
+fn groups_pieces<'p>(check: &'p Checked<'_>) -> [Piece<'p>; 7]
+    ensures { pieces_text result ≡ groups_part check.entry.now }
 {
-    let tables = check.tables();
-    for t in 0..tables.len() {
-        let value = table_value(
-            alloc,
-            tables[t].name(),
-            check.touching(t),
-            check.passing(t),
-            rows_of_table(rows, t),
-        )?;
-        values.push(value)?;
-    }
-    Ok(())
+    [
+        Piece::Text(",\"first\":"),
+        position_piece(check.group(0)),
+        Piece::Text(",\"groups\":"),
+        Piece::Number(check.len() as u64),
+        Piece::Text(",\"last\":"),
+        position_piece(check.group(check.len().saturating_sub(1))),
+        Piece::Text(",\"moves\":"),
+    ]
 }
 
-/// The tables of a stream.
-fn tables_value(alloc: Global, check: &Checked<'_>) -> Result<Value, AllocError>
-    ensures { IfOk result (λ made. view made ≡ tables_data check.now) }
+/// What stands between its moves and the events that are passed over.
+fn shard_pieces<'p>(check: &'p Checked<'_>) -> [Piece<'p>; 3]
+    ensures { pieces_text result ≡ shard_part check.entry.now }
 {
-    let rows = check.rows(alloc)?;
-    let mut values = Vec::new(alloc);
-    push_tables(alloc, check, &rows, &mut values)?;
-    Ok(list_of(values))
+    [
+        Piece::Text(",\"shard\":"),
+        Piece::Name(check.shard()),
+        Piece::Text(",\"skipped\":"),
+    ]
 }
 
-/// The nearest table of a name that no table has, null where there is none.
-fn nearest_value(alloc: Global, plan: &Plan, name: &str) -> Result<Value, AllocError>
-    ensures { IfOk result (λ made. view made ≡ nearest_data plan.now name.now) }
+/// What stands between those and its tables.
+fn number_pieces(i: usize) -> [Piece<'static>; 3]
+    ensures { pieces_text result ≡ stream_part i }
 {
-    if plan.table(name).is_none() {
-        return Ok(Value::Null);
-    }
-    let text = String::from_str(alloc, name)?;
-    Ok(Value::String(text))
+    [
+        Piece::Text(",\"stream\":"),
+        Piece::Number(i as u64),
+        Piece::Text(",\"tables\":"),
+    ]
 }
 
-/// A name that no table has.
-fn name_value(alloc: Global, plan: &Plan, name: &str) -> Result<Value, AllocError>
-    ensures { IfOk result (λ made. view made ≡ name_data plan.now name.now) }
-{
-    let nearest = nearest_value(alloc, plan, behind_dot(name))?;
-    json!(in alloc; {"name": name, "nearest": nearest})
-}
-
-/// Puts names that no table has behind other values.
-fn push_names(
-    alloc: Global,
-    plan: &Plan,
-    names: &[&str],
-    values: &mut Vec<Value>,
-) -> Result<(), AllocError>
-    ensures { OnOk result (map view values.new.items ≡ map view values.old.items ++ map (name_data plan.now) (map (λ name. name.now) names.now)) }
-{
-    for name in names {
-        let value = name_value(alloc, plan, name)?;
-        values.push(value)?;
-    }
-    Ok(())
-}
-
-/// Names that no table has.
-fn names_value(alloc: Global, plan: &Plan, names: &[&str]) -> Result<Value, AllocError>
-    ensures { IfOk result (λ made. view made ≡ list_data (name_data plan.now) (map (λ name. name.now) names.now)) }
-{
-    let mut values = Vec::with_capacity(alloc, names.len())?;
-    push_names(alloc, plan, names, &mut values)?;
-    Ok(list_of(values))
-}
-
-/// What is said of a stream, beside its number, its file, its shard and its count of groups.
-#[derive(Drop)]
-struct StreamParts {
-    findings: Value,
-    first: Value,
-    last: Value,
-    moves: Value,
-    skipped: Value,
-    tables: Value,
-    unknown: Value,
-}
-
-/// What is told of a stream, where it begins and ends, and its tables.
-fn parts_of(alloc: Global, check: &Checked<'_>) -> Result<StreamParts, AllocError>
-    ensures { IfOk result (ArePartsOf check.now) }
-{
-    let findings = findings_value(alloc, check, check.findings())?;
-    let first = position_value(alloc, check.group(0))?;
-    let last = position_value(alloc, check.group(check.len().saturating_sub(1)))?;
-    let moves = findings_value(alloc, check, check.moves())?;
-    let skipped = events_value(alloc, check.skipped())?;
-    let tables = tables_value(alloc, check)?;
-    let unknown = names_value(alloc, check.plan(), check.unknown())?;
-    Ok(StreamParts {
-        findings,
-        first,
-        last,
-        moves,
-        skipped,
-        tables,
-        unknown,
-    })
-}
-
-/// A stream of these parts. That they are the stream's is the caller's.
-fn stream_of_parts(
-    alloc: Global,
+/// Puts a stream: its file, its shard, its groups, its tables, and what is told of it.
+fn put_stream<O: Out>(
+    out: &mut O,
+    line: &mut Line,
     i: usize,
     file: &str,
-    check: &Checked<'_>,
-    parts: StreamParts,
-) -> Result<Value, AllocError>
-    requires { ArePartsOf check.now parts }
-    ensures { IfOk result (λ made. view made ≡ stream_data i file.now check.now) }
+    rows: &CheckedRows<'_, '_>,
+)
+    ensures { Tells (at (O.written out.old) line.old) (at (O.written out.new) line.new) (compact_text (stream_data i file.now rows.now)) }
 {
-    let StreamParts {
-        findings,
-        first,
-        last,
-        moves,
-        skipped,
-        tables,
-        unknown,
-    } = parts;
-    let groups = check.len();
-    let shard = check.shard();
-    json!(in alloc; {
-        "file": file,
-        "findings": findings,
-        "first": first,
-        "groups": groups,
-        "last": last,
-        "moves": moves,
-        "shard": shard,
-        "skipped": skipped,
-        "stream": i,
-        "tables": tables,
-        "unknown": unknown
-    })
+    let check = rows.check();
+    put_pieces(out, line, &first_pieces(file));
+    put_findings(out, line, check, check.findings());
+    put_pieces(out, line, &groups_pieces(check));
+    put_findings(out, line, check, check.moves());
+    put_pieces(out, line, &shard_pieces(check));
+    put_events(out, line, check.skipped());
+    put_pieces(out, line, &number_pieces(i));
+    put_tables(out, line, rows);
+    line.put(out, b",\"unknown\":");
+    put_names(out, line, check.plan(), check.unknown());
+    line.put(out, b"}");
 }
 
-/// A stream: its file, its shard, its groups, its tables, and what is told of it.
-fn stream_value(
-    alloc: Global,
-    i: usize,
-    file: &str,
-    check: &Checked<'_>,
-) -> Result<Value, AllocError>
-    ensures { IfOk result (λ made. view made ≡ stream_data i file.now check.now) }
-{
-    let parts = parts_of(alloc, check)?;
-    stream_of_parts(alloc, i, file, check, parts)
-}
-
-/// Puts streams behind other values.
-fn push_streams(
-    alloc: Global,
+/// Puts all streams, whose files have these names.
+pub(crate) fn put_streams<O: Out>(
+    out: &mut O,
+    line: &mut Line,
     files: &[&str],
-    checks: &[Checked<'_>],
-    values: &mut Vec<Value>,
-) -> Result<(), AllocError>
-    ensures { OnOk result (map view values.new.items ≡ map view values.old.items ++ streams_from (map (λ file. file.now) files.now) 0 checks.now) }
+    streams: &[CheckedRows<'_, '_>],
+)
+    ensures { Tells (at (O.written out.old) line.old) (at (O.written out.new) line.new) (compact_text (streams_data (map (λ file. file.now) files.now) streams.now)) }
 {
-    for i in 0..checks.len() {
-        let value = stream_value(alloc, i, file_name(files, i), &checks[i])?;
-        values.push(value)?;
+    line.put(out, b"[");
+    let mut later = false;
+    for i in 0..streams.len() {
+        put_comma_if(out, line, later);
+        put_stream(out, line, i, file_name(files, i), &streams[i]);
+        later = true;
     }
-    Ok(())
+    line.put(out, b"]");
 }
 
-/// All streams.
-pub(crate) fn streams_value(
-    alloc: Global,
-    files: &[&str],
-    checks: &[Checked<'_>],
-) -> Result<Value, AllocError>
-    ensures { IfOk result (λ made. view made ≡ streams_data (map (λ file. file.now) files.now) checks.now) }
-{
-    let mut values = Vec::with_capacity(alloc, checks.len())?;
-    push_streams(alloc, files, checks, &mut values)?;
-    Ok(list_of(values))
-}
-
-/// The key that two feeds touch, and their streams.
-fn touched_value(
-    alloc: Global,
-    tables: &[Table],
+/// The key that two feeds touch, which has these parts, and their streams.
+#[tactic(auto, unfolding(json::specs::Print::escape_byte))]
+fn shared_pieces<'p>(
+    tables: &'p [Table],
     shared: &SharedKey<'_, '_>,
-) -> Result<Value, AllocError>
-    ensures { IfOk result (λ made. view made ≡ shared_data tables.now shared.now) }
+    parts: &'p [KeyPart<'p>],
+) -> [Piece<'p>; 9]
+    requires { map part_value parts.now ≡ shared.now.key.parts }
+    ensures { pieces_text result ≡ compact_text (shared_data tables.entry.now shared.now) }
 {
-    let key = key_value(alloc, shared.key())?;
-    let one = shared.one();
-    let other = shared.other();
-    let table = name_of_table(tables, shared.key().table());
-    json!(in alloc; {"key": key, "streams": [one, other], "table": table})
+    [
+        Piece::Text("{\"key\":"),
+        Piece::Parts(parts),
+        Piece::Text(",\"streams\":["),
+        Piece::Number(shared.one() as u64),
+        Piece::Text(","),
+        Piece::Number(shared.other() as u64),
+        Piece::Text("],\"table\":"),
+        Piece::Name(name_of_table(tables, shared.key().table())),
+        Piece::Text("}"),
+    ]
 }
 
-/// The same, null where no key is touched in two feeds.
-pub(crate) fn shared_value(
-    alloc: Global,
+/// Puts the key that two feeds touch, null where there is none.
+pub(crate) fn put_shared<O: Out>(
+    out: &mut O,
+    line: &mut Line,
     tables: &[Table],
     shared: Option<&SharedKey<'_, '_>>,
-) -> Result<Value, AllocError>
-    ensures { IfOk result (λ made. view made ≡ shared_if tables.now (option_copied shared.entry)) }
+)
+    ensures { Tells (at (O.written out.old) line.old) (at (O.written out.new) line.new) (compact_text (shared_if tables.now (option_copied shared.entry))) }
 {
     match shared {
-        None => Ok(Value::Null),
-        Some(shared) => touched_value(alloc, tables, shared),
+        None => line.put(out, b"null"),
+        Some(shared) => {
+            let key = shared.key().view();
+            let pieces = shared_pieces(tables, shared, key.parts());
+            put_pieces(out, line, &pieces);
+        }
     }
 }

@@ -1,17 +1,17 @@
 //! The subcommand `check`: what stands in feeds, and warnings of what can't be so.
 
-ghost use Rattle.std.specs.Prelude.{◌≡◌, ◌≢◌, ◌↔◌, IfOk, map};
+ghost use Rattle.std.specs.Prelude.{◌≡◌, ◌≢◌, ◌↔◌, IfOk, Ok, map};
+ghost use Rattle.check_said.specs.Said.{said_of};
 ghost use Rattle.vrepl_main.specs.Command.{PrintsText};
 ghost use Rattle.vrepl_main.specs.Given.{given_value};
-ghost use Rattle.vrepl_main.specs.Reasons.{GivesOfInputs};
-ghost use Rattle.vrepl_check.specs.Checking.{bytes_or_none, report_of_feeds, report_asked, text_of_report, CheckEnds, IsWarned};
+ghost use Rattle.vrepl_check.specs.Checking.{bytes_or_none, names_of, report_of_feeds, report_asked, text_of_report, CheckEnds, IsWarned};
 ghost use Rattle.vrepl_check.specs.Clean.{IsClean};
 
 use crate::inputs::CheckInputs;
 use check_said::Said;
-use feed_check::{check_feeds, checks_warn_unless_feeds_are_clean};
+use feed_check::{Checked, check_feeds, checks_warn_unless_feeds_are_clean};
 use std::alloc::{AllocError, Global};
-use vdiff_core::{Out, put_all};
+use vdiff_core::Out;
 use vrepl_main::{CommandRefusal, GivenFeed, given_feeds, open_workflow, refuse};
 
 /// Checks a workflow with its feeds, one in the order of the streams each, and prints on `out` a line for each
@@ -43,8 +43,8 @@ pub fn check<W: Out, E: Out>(
     }
 }
 
-/// Prints the report on a workflow and its feeds, and answers whether it warns of anything; prints nothing
-/// where there is none.
+/// Prints the report on a workflow and its feeds, which may be given as hexadecimal text, and answers whether it warns of
+/// anything; prints nothing where there is none.
 fn print_check<W: Out>(
     alloc: Global,
     inputs: &CheckInputs<'_, '_>,
@@ -53,39 +53,45 @@ fn print_check<W: Out>(
     ensures warned { IfOk result (λ warned. IsWarned warned (report_asked inputs.now)) }
     ensures printed { PrintsText result (text_of_report (report_asked inputs.now)) (W.written out.old) (W.written out.new) }
 {
-    let report = report_on(alloc, inputs)?;
-    put_all(out, report.text().as_bytes())?;
-    Ok(report.warned())
-}
-
-/// The report on a workflow and its feeds, which may be given as hexadecimal text, and what is told of the
-/// workflow's file.
-fn report_on(alloc: Global, inputs: &CheckInputs<'_, '_>) -> Result<Said, CommandRefusal<'static>>
-    ensures { GivesOfInputs (λ report. report) result (report_asked inputs.now) }
-{
     let given = given_feeds(alloc, inputs.feed_form, &inputs.feeds)?;
-    report_of(alloc, inputs, &given)
+    print_given(alloc, inputs, &given, out)
 }
 
-/// The report on a workflow and its feeds, whose bytes are given.
-fn report_of(
+/// The same of feeds whose bytes are given.
+fn print_given<W: Out>(
     alloc: Global,
     inputs: &CheckInputs<'_, '_>,
     given: &[GivenFeed<'_>],
-) -> Result<Said, CommandRefusal<'static>>
-    ensures { GivesOfInputs (λ report. report) result (report_of_feeds inputs.now (map given_value given.now)) }
+    out: &mut W,
+) -> Result<bool, CommandRefusal<'static>>
+    ensures warned { IfOk result (λ warned. IsWarned warned (report_of_feeds inputs.now (map given_value given.now))) }
+    ensures printed { PrintsText result (text_of_report (report_of_feeds inputs.now (map given_value given.now))) (W.written out.old) (W.written out.new) }
 {
     let opened = open_workflow(alloc, &inputs.workflow, given)?;
     let bytes = bytes_given(alloc, given)?;
     let checks = check_feeds(alloc, &bytes, &opened.feeds)?;
+    print_said(alloc, inputs, &checks, out)
+}
+
+/// Prints what is said of checks of feeds and of the workflow's file, and answers whether anything is warned of.
+fn print_said<W: Out>(
+    alloc: Global,
+    inputs: &CheckInputs<'_, '_>,
+    checks: &[Checked<'_>],
+    out: &mut W,
+) -> Result<bool, CommandRefusal<'static>>
+    ensures warned { IfOk result (λ warned. IsWarned warned (Ok (said_of inputs.now.report_form inputs.now.workflow.items (names_of inputs.now) checks.now))) }
+    ensures printed { PrintsText result (text_of_report (Ok (said_of inputs.now.report_form inputs.now.workflow.items (names_of inputs.now) checks.now))) (W.written out.old) (W.written out.new) }
+{
     let said = Said::of(
         alloc,
         inputs.report_form,
         &inputs.workflow,
         inputs.files,
-        &checks,
+        checks,
     )?;
-    Ok(said)
+    said.print(out)?;
+    Ok(said.warned())
 }
 
 /// The bytes of each feed.
