@@ -1,0 +1,3 @@
+pub mod Orders
+pub mod NextLaws
+pub mod MisfitLaws
