@@ -1,0 +1,3 @@
+pub mod Stands
+pub mod Reading
+pub mod Least
