@@ -1,5 +1,5 @@
 -- What the words that were read ask for.
-use Rattle.vrepl_words.specs.Words.{CheckValue, FollowValue, JoinValue, PortionsValue, ResumeValue, RunValue, SaveValue, ShowValue, StepValue, VdiffValue, WordsValue, asks_follow, asks_join, asks_run, asks_show, asks_step, asks_save, asks_resume, asks_vdiff, asks_check, asks_explain}
+use Rattle.vrepl_words.specs.Words.{CheckValue, FollowValue, JoinValue, PortionsValue, ResumeValue, RunValue, SaveValue, ShowValue, StepValue, TilesValue, VdiffValue, WordsValue, asks_follow, asks_join, asks_run, asks_show, asks_step, asks_save, asks_resume, asks_vdiff, asks_check, asks_tiles, asks_explain}
 use Rattle.std.specs.Prelude.{◌≡◌, map, option_map, Option, None, Some, Result, Ok, Err}
 use Rattle.vrepl_words.specs.declared.portions.Portions.{Portions}
 use Rattle.vrepl_words.specs.declared.words.Check.{Check}
@@ -10,6 +10,7 @@ use Rattle.vrepl_words.specs.declared.words.Run.{Run}
 use Rattle.vrepl_words.specs.declared.words.Save.{Save}
 use Rattle.vrepl_words.specs.declared.words.Show.{Show}
 use Rattle.vrepl_words.specs.declared.words.Step.{Step}
+use Rattle.vrepl_words.specs.declared.words.Tiles.{Tiles}
 use Rattle.vrepl_words.specs.declared.words.Vdiff.{Vdiff}
 use Rattle.vrepl_words.specs.declared.words.Words.{Words}
 use Rattle.vrepl_words.specs.declared.words.Words.TheVariants as words
@@ -34,6 +35,9 @@ resume_value resume = record { checkpoint = resume.checkpoint.now; step = step_v
 
 abbrev pub check_value : Check → CheckValue
 check_value check = record { report_form = check.report_form; step = step_value check.step }
+
+abbrev pub tiles_value : Tiles → TilesValue
+tiles_value tiles = record { workflows = map (λ workflow. workflow.now) tiles.workflows.items }
 
 abbrev pub join_value : Join → JoinValue
 join_value join = record {
@@ -89,6 +93,7 @@ value_of_words (words.Join join) = asks_join (join_value join)
 value_of_words (words.Follow follow) = asks_follow (follow_value follow)
 value_of_words (words.Vdiff files) = asks_vdiff (vdiff_value files)
 value_of_words (words.Check check) = asks_check (check_value check)
+value_of_words (words.Tiles tiles) = asks_tiles (tiles_value tiles)
 value_of_words (words.Explain number) = asks_explain number
 
 -- what was met asks for this, if for anything, unless a fault kept it from being read

@@ -66,6 +66,10 @@ pub record CheckValue : Type 0 where
   pub report_form : ReportForm
   pub step : StepValue
 
+-- `tiles`: the workflows of several targets
+pub record TilesValue : Type 0 where
+  pub workflows : List Text
+
 -- `join`: a workflow, two checkpoints, further ones, a feed for each of its streams, how feeds are given, and the file of
 -- the new checkpoint, if there is one
 pub record JoinValue : Type 0 where
@@ -98,6 +102,7 @@ pub data WordsValue : Type 0 where
   asks_follow : FollowValue → WordsValue
   asks_vdiff : VdiffValue → WordsValue
   asks_check : CheckValue → WordsValue
+  asks_tiles : TilesValue → WordsValue
   -- what a refusal's number means, or all of them
   asks_explain : Option ℕ → WordsValue
 
@@ -265,6 +270,18 @@ check_subcommand = record {
   meaning = λ given. Some (asks_check (check_given given));
 }
 
+-- what is given to the arguments of `tiles`
+abbrev pub tiles_given : List Row → TilesValue
+tiles_given given = record { workflows = texts_given (codes "workflow") given }
+
+-- `tiles WORKFLOW..`
+abbrev pub tiles_subcommand : Subcommand
+tiles_subcommand = record {
+  name = codes "tiles";
+  rules = operands_rule (codes "workflow") ∷ [];
+  meaning = λ given. Some (asks_tiles (tiles_given given));
+}
+
 -- `explain [NUMBER]`
 abbrev pub explain_subcommand : Subcommand
 explain_subcommand = record {
@@ -275,7 +292,7 @@ explain_subcommand = record {
 
 -- the subcommands, in the order of the help
 abbrev pub subcommands : List Subcommand
-subcommands = show_subcommand ∷ step_subcommand ∷ run_subcommand ∷ vdiff_subcommand ∷ save_subcommand ∷ resume_subcommand ∷ join_subcommand ∷ follow_subcommand ∷ check_subcommand ∷ explain_subcommand ∷ []
+subcommands = show_subcommand ∷ step_subcommand ∷ run_subcommand ∷ vdiff_subcommand ∷ save_subcommand ∷ resume_subcommand ∷ join_subcommand ∷ follow_subcommand ∷ check_subcommand ∷ tiles_subcommand ∷ explain_subcommand ∷ []
 
 -- a subcommand as `clap` sees it
 abbrev pub shape_of_subcommand : Subcommand → Shape

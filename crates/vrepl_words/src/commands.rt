@@ -4,7 +4,7 @@ ghost use Rattle.std.specs.Prelude.{IfOk, codes};
 ghost use Rattle.clap.specs.Words.{App, Rule, new_app, with_rule, with_subcommand};
 ghost use Rattle.vrepl_words.specs.Arguments.{flag_rule, further_rule, needed_rule, operand_rule, operands_rule, option_rule, optional_rule};
 ghost use Rattle.vrepl_words.specs.Built.{HasApp, HasRule, IsSubcommand, bare_app};
-ghost use Rattle.vrepl_words.specs.Words.{check_subcommand, explain_subcommand, follow_subcommand, join_subcommand, program_app, resume_subcommand, run_subcommand, save_subcommand, show_subcommand, step_subcommand, vdiff_subcommand};
+ghost use Rattle.vrepl_words.specs.Words.{check_subcommand, explain_subcommand, follow_subcommand, join_subcommand, program_app, resume_subcommand, run_subcommand, save_subcommand, show_subcommand, step_subcommand, tiles_subcommand, vdiff_subcommand};
 
 use crate::help;
 use clap::{Arg, ArgAction, Command};
@@ -24,6 +24,7 @@ pub(crate) fn program<'w>(alloc: Global) -> Result<Command<'w>, AllocError>
     let command = with_subcommand(command, join_command(alloc));
     let command = with_subcommand(command, follow_command(alloc));
     let command = with_subcommand(command, check_command(alloc));
+    let command = with_subcommand(command, tiles_command(alloc));
     with_subcommand(command, explain_command(alloc))
 }
 
@@ -144,6 +145,18 @@ fn check_command<'w>(alloc: Global) -> Result<Command<'w>, AllocError>
     let command = Ok(bare(alloc, "check", about, help::CHECK));
     let command = with_arg(command, hex(alloc));
     with_streams(alloc, with_arg(command, flag(alloc, "json", json_help)))
+}
+
+fn tiles_command<'w>(alloc: Global) -> Result<Command<'w>, AllocError>
+    ensures { IfOk result (IsSubcommand tiles_subcommand) }
+{
+    let about = "Says whether targets' key ranges have each id of a source once";
+    let workflow_help = "The workflow's file of each target";
+    let command = Ok(bare(alloc, "tiles", about, help::TILES));
+    with_arg(
+        command,
+        operands(alloc, "workflow", "WORKFLOW", workflow_help),
+    )
 }
 
 pub(crate) fn vdiff_command<'w>(alloc: Global) -> Result<Command<'w>, AllocError>

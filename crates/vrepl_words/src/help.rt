@@ -10,7 +10,7 @@ Status:
   1  a line `refused NUMBER` on standard error; `vrepl explain NUMBER` says what
      the number means, what the usual causes are, and what to do next
   2  a fault of usage
-  3  `vdiff` found a difference, or `check` something to warn of";
+  3  `vdiff` found a difference, or `check` or `tiles` something to warn of";
 
 /// A call of `show` and what it prints.
 pub(crate) const SHOW: &str = "\
@@ -163,6 +163,21 @@ Example:
 Prints a line for each stream and each of its tables, and a line for each thing
 that can't be so, of a kind the first ten. With --json all of it is one object,
 which has every one of them.
+
+Status:
+  0  nothing is warned of
+  1  refused; `vrepl explain NUMBER` says what the line's number means
+  2  a fault of usage
+  3  something is warned of";
+
+/// A call of `tiles`.
+pub(crate) const TILES: &str = "\
+Example:
+  $ vrepl tiles -40.json 40-80.json
+
+Prints a line for each table of each source shard whose ids are in one target
+each, or whose rows all targets have, and a line for each range of its ids that
+is in no target, or in several.
 
 Status:
   0  nothing is warned of

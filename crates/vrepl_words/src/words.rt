@@ -24,6 +24,8 @@ pub enum Words<'w> {
     Vdiff(Vdiff<'w>),
     /// `check`: look for what can't be so in a workflow's feeds.
     Check(Check<'w>),
+    /// `tiles`: say whether the targets of workflows share the ids of their sources.
+    Tiles(Tiles<'w>),
     /// `explain`: print what is said of a refusal's number, or the list of all.
     Explain(Option<u64>),
 }
@@ -85,6 +87,13 @@ pub struct Check<'w> {
     pub report_form: ReportForm,
     /// The other words, which are those of `step`.
     pub step: Step<'w>,
+}
+
+/// The words of `tiles`.
+#[derive(Drop)]
+pub struct Tiles<'w> {
+    /// The workflows' files, one a target.
+    pub workflows: Vec<&'w str>,
 }
 
 /// The words of `join`.

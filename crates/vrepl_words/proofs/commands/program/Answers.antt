@@ -13,4 +13,5 @@ returns c =
     let join = c.with_subcommand-command-7.ensures _ _ resume c.join_command.ensures in
     let follow = c.with_subcommand-command-8.ensures _ _ join c.follow_command.ensures in
     let check = c.with_subcommand-command-9.ensures _ _ follow c.check_command.ensures in
-    c.with_subcommand.ensures _ _ check c.explain_command.ensures
+    let tiles = c.with_subcommand-command-10.ensures _ _ check c.tiles_command.ensures in
+    c.with_subcommand.ensures _ _ tiles c.explain_command.ensures
