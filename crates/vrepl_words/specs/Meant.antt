@@ -1,5 +1,5 @@
 -- What the words that were read ask for.
-use Rattle.vrepl_words.specs.Words.{CheckValue, FollowValue, JoinValue, PortionsValue, ResumeValue, RunValue, SaveValue, ShowValue, StepValue, TilesValue, VdiffValue, WordsValue, asks_follow, asks_join, asks_run, asks_show, asks_step, asks_save, asks_resume, asks_vdiff, asks_check, asks_tiles, asks_explain}
+use Rattle.vrepl_words.specs.Words.{CheckValue, FollowValue, JoinValue, PortionsValue, ResumeValue, RunValue, SaveValue, ShowValue, StatusValue, StepValue, TilesValue, VdiffValue, WordsValue, asks_follow, asks_join, asks_run, asks_show, asks_step, asks_save, asks_resume, asks_vdiff, asks_check, asks_tiles, asks_status, asks_explain}
 use Rattle.std.specs.Prelude.{◌≡◌, map, option_map, Option, None, Some, Result, Ok, Err}
 use Rattle.vrepl_words.specs.declared.portions.Portions.{Portions}
 use Rattle.vrepl_words.specs.declared.words.Check.{Check}
@@ -9,6 +9,7 @@ use Rattle.vrepl_words.specs.declared.words.Resume.{Resume}
 use Rattle.vrepl_words.specs.declared.words.Run.{Run}
 use Rattle.vrepl_words.specs.declared.words.Save.{Save}
 use Rattle.vrepl_words.specs.declared.words.Show.{Show}
+use Rattle.vrepl_words.specs.declared.words.Status.{Status}
 use Rattle.vrepl_words.specs.declared.words.Step.{Step}
 use Rattle.vrepl_words.specs.declared.words.Tiles.{Tiles}
 use Rattle.vrepl_words.specs.declared.words.Vdiff.{Vdiff}
@@ -38,6 +39,9 @@ check_value check = record { report_form = check.report_form; step = step_value 
 
 abbrev pub tiles_value : Tiles → TilesValue
 tiles_value tiles = record { workflows = map (λ workflow. workflow.now) tiles.workflows.items }
+
+abbrev pub status_value : Status → StatusValue
+status_value status = record { report_form = status.report_form; checkpoints = map (λ checkpoint. checkpoint.now) status.checkpoints.items }
 
 abbrev pub join_value : Join → JoinValue
 join_value join = record {
@@ -94,6 +98,7 @@ value_of_words (words.Follow follow) = asks_follow (follow_value follow)
 value_of_words (words.Vdiff files) = asks_vdiff (vdiff_value files)
 value_of_words (words.Check check) = asks_check (check_value check)
 value_of_words (words.Tiles tiles) = asks_tiles (tiles_value tiles)
+value_of_words (words.Status status) = asks_status (status_value status)
 value_of_words (words.Explain number) = asks_explain number
 
 -- what was met asks for this, if for anything, unless a fault kept it from being read

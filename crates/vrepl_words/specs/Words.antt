@@ -70,6 +70,11 @@ pub record CheckValue : Type 0 where
 pub record TilesValue : Type 0 where
   pub workflows : List Text
 
+-- `status`: how it is printed, and checkpoints
+pub record StatusValue : Type 0 where
+  pub report_form : ReportForm
+  pub checkpoints : List Text
+
 -- `join`: a workflow, two checkpoints, further ones, a feed for each of its streams, how feeds are given, and the file of
 -- the new checkpoint, if there is one
 pub record JoinValue : Type 0 where
@@ -103,6 +108,7 @@ pub data WordsValue : Type 0 where
   asks_vdiff : VdiffValue → WordsValue
   asks_check : CheckValue → WordsValue
   asks_tiles : TilesValue → WordsValue
+  asks_status : StatusValue → WordsValue
   -- what a refusal's number means, or all of them
   asks_explain : Option ℕ → WordsValue
 
@@ -282,6 +288,18 @@ tiles_subcommand = record {
   meaning = λ given. Some (asks_tiles (tiles_given given));
 }
 
+-- what is given to the arguments of `status`
+abbrev pub status_given : List Row → StatusValue
+status_given given = record { report_form = report_form_given given; checkpoints = texts_given (codes "checkpoint") given }
+
+-- `status [--json] CHECKPOINT..`
+abbrev pub status_subcommand : Subcommand
+status_subcommand = record {
+  name = codes "status";
+  rules = flag_rule (codes "json") ∷ operands_rule (codes "checkpoint") ∷ [];
+  meaning = λ given. Some (asks_status (status_given given));
+}
+
 -- `explain [NUMBER]`
 abbrev pub explain_subcommand : Subcommand
 explain_subcommand = record {
@@ -292,7 +310,7 @@ explain_subcommand = record {
 
 -- the subcommands, in the order of the help
 abbrev pub subcommands : List Subcommand
-subcommands = show_subcommand ∷ step_subcommand ∷ run_subcommand ∷ vdiff_subcommand ∷ save_subcommand ∷ resume_subcommand ∷ join_subcommand ∷ follow_subcommand ∷ check_subcommand ∷ tiles_subcommand ∷ explain_subcommand ∷ []
+subcommands = show_subcommand ∷ step_subcommand ∷ run_subcommand ∷ vdiff_subcommand ∷ save_subcommand ∷ resume_subcommand ∷ join_subcommand ∷ follow_subcommand ∷ check_subcommand ∷ tiles_subcommand ∷ status_subcommand ∷ explain_subcommand ∷ []
 
 -- a subcommand as `clap` sees it
 abbrev pub shape_of_subcommand : Subcommand → Shape

@@ -4,7 +4,7 @@ ghost use Rattle.std.specs.Prelude.{IfOk, codes};
 ghost use Rattle.clap.specs.Words.{App, Rule, new_app, with_rule, with_subcommand};
 ghost use Rattle.vrepl_words.specs.Arguments.{flag_rule, further_rule, needed_rule, operand_rule, operands_rule, option_rule, optional_rule};
 ghost use Rattle.vrepl_words.specs.Built.{HasApp, HasRule, IsSubcommand, bare_app};
-ghost use Rattle.vrepl_words.specs.Words.{check_subcommand, explain_subcommand, follow_subcommand, join_subcommand, program_app, resume_subcommand, run_subcommand, save_subcommand, show_subcommand, step_subcommand, tiles_subcommand, vdiff_subcommand};
+ghost use Rattle.vrepl_words.specs.Words.{check_subcommand, explain_subcommand, follow_subcommand, join_subcommand, program_app, resume_subcommand, run_subcommand, save_subcommand, show_subcommand, status_subcommand, step_subcommand, tiles_subcommand, vdiff_subcommand};
 
 use crate::help;
 use clap::{Arg, ArgAction, Command};
@@ -25,6 +25,7 @@ pub(crate) fn program<'w>(alloc: Global) -> Result<Command<'w>, AllocError>
     let command = with_subcommand(command, follow_command(alloc));
     let command = with_subcommand(command, check_command(alloc));
     let command = with_subcommand(command, tiles_command(alloc));
+    let command = with_subcommand(command, status_command(alloc));
     with_subcommand(command, explain_command(alloc))
 }
 
@@ -156,6 +157,20 @@ fn tiles_command<'w>(alloc: Global) -> Result<Command<'w>, AllocError>
     with_arg(
         command,
         operands(alloc, "workflow", "WORKFLOW", workflow_help),
+    )
+}
+
+fn status_command<'w>(alloc: Global) -> Result<Command<'w>, AllocError>
+    ensures { IfOk result (IsSubcommand status_subcommand) }
+{
+    let about = "Says where the streams of checkpoints stand";
+    let json_help = "Prints all of it as one JSON object";
+    let checkpoint_help = "A checkpoint's file";
+    let command = Ok(bare(alloc, "status", about, help::STATUS));
+    let command = with_arg(command, flag(alloc, "json", json_help));
+    with_arg(
+        command,
+        operands(alloc, "checkpoint", "CHECKPOINT", checkpoint_help),
     )
 }
 

@@ -185,6 +185,20 @@ Status:
   2  a fault of usage
   3  something is warned of";
 
+/// A call of `status`.
+pub(crate) const STATUS: &str = "\
+Example:
+  $ vrepl status examples/checkpoints/two_rows.checkpoint
+
+Neither a workflow nor feeds are needed. Behind the streams of all checkpoints
+stands the least position of each shard: from there on a feed still serves each
+of them.
+
+Status:
+  0  all of it was printed
+  1  refused; `vrepl explain NUMBER` says what the line's number means
+  2  a fault of usage";
+
 /// A call of `explain` and what it prints.
 pub(crate) const EXPLAIN: &str = "\
 Example:

@@ -4,7 +4,7 @@ ghost use Rattle.std.specs.Prelude.{◌≡◌, ◌≢◌, [], IfOk, Some, map, s
 ghost use Rattle.clap.specs.Words.{FailsBy, found_of, rows_of, subcommand_rows_of};
 ghost use Rattle.vrepl_words.specs.Built.{HasApp};
 ghost use Rattle.vrepl_words.specs.Meant.{Asks, follow_value, portions_value, run_value, show_value, step_value, value_of_words, vdiff_value};
-ghost use Rattle.vrepl_words.specs.Words.{asked_by, asks_check, asks_join, asks_follow, asks_resume, asks_run, asks_save, asks_step, asks_tiles, check_given, explain_subcommand, faults_of, follow_given, follow_subcommand, join_given, program_app, resume_given, run_given, run_subcommand, save_given, show_given, step_given, tiles_given, vdiff_given, vdiff_subcommand, words_of};
+ghost use Rattle.vrepl_words.specs.Words.{asked_by, asks_check, asks_join, asks_follow, asks_resume, asks_run, asks_save, asks_status, asks_step, asks_tiles, check_given, explain_subcommand, faults_of, follow_given, follow_subcommand, join_given, program_app, resume_given, run_given, run_subcommand, save_given, show_given, status_given, step_given, tiles_given, vdiff_given, vdiff_subcommand, words_of};
 
 use crate::choices::{feed_form_given, report_form_given, threading_given};
 use crate::commands::program;
@@ -12,7 +12,7 @@ use crate::given::{given_portions, has_flag, text, text_if, texts};
 use crate::numbers::{bad_number, count_given, refusal_given};
 use crate::portions::Portions;
 use crate::streams::{gives_streams, streams_given};
-use crate::words::{Check, Follow, Join, Resume, Run, Save, Show, Step, Tiles, Vdiff, Words};
+use crate::words::{Check, Follow, Join, Resume, Run, Save, Show, Status, Step, Tiles, Vdiff, Words};
 use clap::{ArgMatches, Command, Error};
 use std::alloc::{AllocError, Global};
 use vrepl_choices::FeedForm;
@@ -70,6 +70,7 @@ fn asked<'w>(alloc: Global, matches: &ArgMatches<'w>) -> Option<Result<Words<'w>
         "vdiff" => vdiff_words(given),
         "check" => Some(check_words(alloc, given)),
         "tiles" => Some(tiles_words(alloc, given)),
+        "status" => Some(status_words(alloc, given)),
         "explain" => explain_words(given),
         _ => None,
     }
@@ -129,6 +130,16 @@ fn tiles_words<'w>(alloc: Global, given: &ArgMatches<'w>) -> Result<Words<'w>, A
 {
     let workflows = texts(alloc, given, "workflow")?;
     Ok(Words::Tiles(Tiles { workflows }))
+}
+
+fn status_words<'w>(alloc: Global, given: &ArgMatches<'w>) -> Result<Words<'w>, AllocError>
+    ensures { IfOk result (λ words. value_of_words words ≡ asks_status (status_given (rows_of (found_of given.now)))) }
+{
+    let checkpoints = texts(alloc, given, "checkpoint")?;
+    Ok(Words::Status(Status {
+        report_form: report_form_given(given),
+        checkpoints,
+    }))
 }
 
 fn resume_words<'w>(alloc: Global, given: &ArgMatches<'w>) -> Result<Words<'w>, AllocError>

@@ -26,6 +26,8 @@ pub enum Words<'w> {
     Check(Check<'w>),
     /// `tiles`: say whether the targets of workflows share the ids of their sources.
     Tiles(Tiles<'w>),
+    /// `status`: say where the streams of checkpoints stand.
+    Status(Status<'w>),
     /// `explain`: print what is said of a refusal's number, or the list of all.
     Explain(Option<u64>),
 }
@@ -94,6 +96,15 @@ pub struct Check<'w> {
 pub struct Tiles<'w> {
     /// The workflows' files, one a target.
     pub workflows: Vec<&'w str>,
+}
+
+/// The words of `status`.
+#[derive(Drop)]
+pub struct Status<'w> {
+    /// How it is printed.
+    pub report_form: ReportForm,
+    /// The checkpoints' files.
+    pub checkpoints: Vec<&'w str>,
 }
 
 /// The words of `join`.

@@ -14,4 +14,5 @@ returns c =
     let follow = c.with_subcommand-command-8.ensures _ _ join c.follow_command.ensures in
     let check = c.with_subcommand-command-9.ensures _ _ follow c.check_command.ensures in
     let tiles = c.with_subcommand-command-10.ensures _ _ check c.tiles_command.ensures in
-    c.with_subcommand.ensures _ _ tiles c.explain_command.ensures
+    let status = c.with_subcommand-command-11.ensures _ _ tiles c.status_command.ensures in
+    c.with_subcommand.ensures _ _ status c.explain_command.ensures
