@@ -1,0 +1,3 @@
+pub mod SaidLaws
+pub mod RefusalLaws
+pub mod EndLaws
