@@ -1,0 +1,7 @@
+use Rattle.std.proofs.Common.{◌≡◌, ◌++◌, drop, map, string_bytes}
+use Rattle.status_said.specs.Lines.{table_lines}
+use Rattle.status_said.proofs.lines.push_tables.Given as goal
+
+-- the text so far, and the lines of those that are left, are the whole
+abbrev pub invariant-loop-i : goal.invariant-loop-i
+invariant-loop-i l = string_bytes l.text ++ table_lines l.i (drop l.i l.tables) ≡ string_bytes l.fn.text ++ table_lines 0 l.tables

@@ -1,0 +1,5 @@
+pub mod Shards
+pub mod Lines
+pub mod Json
+pub mod Said
+pub mod Printed
