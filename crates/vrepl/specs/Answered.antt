@@ -20,6 +20,8 @@ use Rattle.vrepl_main.specs.Replied.{StepEnds}
 use Rattle.vrepl_main.specs.ResumedRun.{ResumeEnds}
 use Rattle.vrepl_main.specs.SavedBoard.{SaveEnds}
 use Rattle.vrepl.specs.Checked.{ReportEnds}
+use Rattle.vrepl.specs.Stated.{IsStatusAsked, StatusEnds}
+use Rattle.vrepl.specs.Tiled.{TilesEnds}
 
 -- the command prints what its inputs make and does no more: it puts nothing into a file
 abbrev pub IsAnswering : Words → Type 0
@@ -31,6 +33,8 @@ IsAnswering (ways.Resume words) = Unit {0}
 IsAnswering (ways.Join words) = words.save_to ≡ None
 IsAnswering (ways.Vdiff words) = Unit {0}
 IsAnswering (ways.Check words) = Unit {0}
+IsAnswering (ways.Tiles words) = Unit {0}
+IsAnswering (ways.Status words) = Unit {0}
 IsAnswering words = ⊥
 
 -- the streams are run as the words ask for it: one after another or in threads, and in these portions
@@ -48,6 +52,8 @@ IsAskedBy (ways.Resume words) (asked.Resume inputs) = inputs.step.feed_form ≡ 
 IsAskedBy (ways.Join words) (asked.Join inputs) = inputs.feed_form ≡ words.feed_form
 IsAskedBy (ways.Vdiff words) (asked.Vdiff inputs) = IsVdiffAsked words inputs
 IsAskedBy (ways.Check words) (asked.Check inputs) = IsCheckAsked words inputs
+IsAskedBy (ways.Tiles words) (asked.Tiles inputs) = inputs.names.now ≡ words.workflows.items
+IsAskedBy (ways.Status words) (asked.Status inputs) = IsStatusAsked words inputs
 IsAskedBy words other = ⊥
 
 -- the first input that can't be read is named, in the order of its command
@@ -60,6 +66,8 @@ IsUnreadFor (ways.Resume words) = IsUnreadAmong (File words.checkpoint ∷ File 
 IsUnreadFor (ways.Join words) = IsUnreadAmong (File words.workflow ∷ File words.one ∷ File words.other ∷ (map File words.more.items ++ map File words.feeds.items))
 IsUnreadFor (ways.Vdiff words) = IsUnreadAmong (File words.workflow ∷ File words.source ∷ File words.target ∷ [])
 IsUnreadFor (ways.Check words) = IsUnreadAmong (File words.step.workflow ∷ map File words.step.feeds.items)
+IsUnreadFor (ways.Tiles words) = IsUnreadAmong (map File words.workflows.items)
+IsUnreadFor (ways.Status words) = IsUnreadAmong (map File words.checkpoints.items)
 IsUnreadFor words = λ refusal. ⊥
 
 -- how it ends
@@ -72,3 +80,5 @@ AnswerEnds (asked.Resume inputs) = ResumeEnds (script_asked inputs.step) inputs.
 AnswerEnds (asked.Join inputs) = JoinEnds inputs
 AnswerEnds (asked.Vdiff inputs) = ComparedEnds (asks_more inputs.options) inputs
 AnswerEnds (asked.Check inputs) = λ status old new err_old err_new. ReportEnds inputs status old new err_old
+AnswerEnds (asked.Tiles inputs) = λ status old new err_old err_new. TilesEnds inputs status old new
+AnswerEnds (asked.Status inputs) = λ status old new err_old err_new. StatusEnds inputs status old new

@@ -3,3 +3,5 @@ pub mod Asked
 pub mod Checked
 pub mod Compared
 pub mod Kept
+pub mod Stated
+pub mod Tiled

@@ -5,7 +5,10 @@ ghost use Rattle.vrepl.specs.Answered.{AnswerEnds, IsAnswering, IsAskedBy, IsUnr
 
 use crate::checking::{read_check, report};
 use crate::comparing::{compare, read_vdiff};
+use crate::files::{FileInputs, read_files};
 use crate::reporting::Reporter;
+use crate::stating::{StatusInputs, read_status, state};
+use crate::tiling::tile;
 use crate::{course_of, show_feed};
 use std::alloc::{AllocError, Global};
 use std::sync::Wait;
@@ -38,6 +41,10 @@ pub(crate) enum Asked<'a, 'w> {
     Vdiff(VdiffInputs<'w>),
     /// `check`.
     Check(CheckInputs<'a, 'w>),
+    /// `tiles`.
+    Tiles(FileInputs<'a, 'w>),
+    /// `status`.
+    Status(StatusInputs<'a, 'w>),
 }
 
 /// Reads the inputs of such a command, and prints what it makes of them.
@@ -108,6 +115,8 @@ fn read_asked<'a, 'w>(
         }
         Words::Vdiff(words) => Ok(Asked::Vdiff(read_vdiff(rt, words)?)),
         Words::Check(words) => Ok(Asked::Check(read_check(rt, words)?)),
+        Words::Tiles(words) => Ok(Asked::Tiles(read_files(rt, &words.workflows)?)),
+        Words::Status(words) => Ok(Asked::Status(read_status(rt, words)?)),
         _ => unreachable!(),
     }
 }
@@ -167,5 +176,7 @@ fn answer<T: Threads + Wait + Sync, G: Progress + Sync, W: Out, E: Out>(
         Asked::Join(inputs) => join(alloc, inputs, out, err),
         Asked::Vdiff(inputs) => compare(alloc, inputs, out, err),
         Asked::Check(inputs) => report(alloc, inputs, out, err),
+        Asked::Tiles(inputs) => tile(alloc, inputs, out, err),
+        Asked::Status(inputs) => state(alloc, inputs, out, err),
     }
 }

@@ -12,7 +12,9 @@ use crate::given::{given_portions, has_flag, text, text_if, texts};
 use crate::numbers::{bad_number, count_given, refusal_given};
 use crate::portions::Portions;
 use crate::streams::{gives_streams, streams_given};
-use crate::words::{Check, Follow, Join, Resume, Run, Save, Show, Status, Step, Tiles, Vdiff, Words};
+use crate::words::{
+    Check, Follow, Join, Resume, Run, Save, Show, Status, Step, Tiles, Vdiff, Words,
+};
 use clap::{ArgMatches, Command, Error};
 use std::alloc::{AllocError, Global};
 use vrepl_choices::FeedForm;

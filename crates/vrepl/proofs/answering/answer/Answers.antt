@@ -1,4 +1,4 @@
-use Rattle.std.proofs.Common.{◌≡◌, ◌≤◌, ◌⊎◌, ℕ, Bool, true, false, subst, sym}
+use Rattle.std.proofs.Common.{◌≡◌, ◌≤◌, ◌⊎◌, inl, ℕ, Bool, true, false, subst, sym}
 use Rattle.vdiff_core.specs.Printing.{Written}
 use Rattle.vrepl_main.proofs.CommandLaws.{ends_within}
 use Rattle.vrepl_vdiff.specs.declared.inputs.VdiffInputs.{VdiffInputs}
@@ -70,3 +70,19 @@ pub returns-in-Check-clause-ends : goal.returns-in-Check-clause-ends
 returns-in-Check-clause-ends g c =
     subst (λ (a : Asked). AnswerEnds a c.report.result (g.W.Out.written c.args.out.now) (g.W.Out.written c.report.new.out) (g.E.Out.written c.args.err.now) (g.E.Out.written c.report.new.err))
     (sym c.in-Check.is) c.report.ensures.ends
+
+pub returns-in-Tiles-clause-status : goal.returns-in-Tiles-clause-status
+returns-in-Tiles-clause-status g c = c.tile.ensures.status
+
+pub returns-in-Tiles-clause-ends : goal.returns-in-Tiles-clause-ends
+returns-in-Tiles-clause-ends g c =
+    subst (λ (a : Asked). AnswerEnds a c.tile.result (g.W.Out.written c.args.out.now) (g.W.Out.written c.tile.new.out) (g.E.Out.written c.args.err.now) (g.E.Out.written c.tile.new.err))
+    (sym c.in-Tiles.is) c.tile.ensures.ends
+
+pub returns-in-Status-clause-status : goal.returns-in-Status-clause-status
+returns-in-Status-clause-status g c = inl c.state.ensures.status
+
+pub returns-in-Status-clause-ends : goal.returns-in-Status-clause-ends
+returns-in-Status-clause-ends g c =
+    subst (λ (a : Asked). AnswerEnds a c.state.result (g.W.Out.written c.args.out.now) (g.W.Out.written c.state.new.out) (g.E.Out.written c.args.err.now) (g.E.Out.written c.state.new.err))
+    (sym c.in-Status.is) c.state.ensures.ends
