@@ -1,6 +1,5 @@
 -- How `status` ends, by what is said.
 use Rattle.std.proofs.Common.{◌≡◌, ℕ, List, Result, Ok, Err, Option, refl, string_bytes}
-use Rattle.std.specs.String.{String}
 use Rattle.vdiff_core.specs.Printing.{Written}
 use Rattle.status_said.specs.Printed.{PrintsText, EndsSo}
 use Rattle.status_said.specs.Said.{IsGiven}
@@ -14,6 +13,6 @@ ends_text said text Printed old new is prints = (text, is, prints)
 ends_text said text (Refused fault) old new is prints = absurd prints
 ends_text said text Unwritten old new is prints = (text, is, prints)
 
-pub ends_refused : {X : Type 0} {view : X → List ℕ} (said : Result (List ℕ) ℕ) (fault : StatusFault) (old new : Written) → IsGiven view (Err fault) said → new ≡ old → EndsSo said (Refused fault) old new
-ends_refused said (Broken file) old new given kept = (given, kept)
-ends_refused said Memory old new given kept = kept
+pub ends_refused : {X : Type 0} (view : X → List ℕ) (said : Result (List ℕ) ℕ) (fault : StatusFault) (old new : Written) → IsGiven view (Err fault) said → new ≡ old → EndsSo said (Refused fault) old new
+ends_refused view said (Broken file) old new given kept = (given, kept)
+ends_refused view said Memory old new given kept = kept

@@ -1,3 +1,4 @@
 pub mod ReadLaws
 pub mod JsonLaws
 pub mod EndLaws
+pub mod TextLaws

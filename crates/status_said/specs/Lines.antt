@@ -79,8 +79,14 @@ stream_lines i (stream ∷ streams) = stream_line i stream ++ table_lines 0 stre
 abbrev pub file_name : List (List ℕ) → ℕ → List ℕ
 file_name files i = slice_index_or files i []
 
-abbrev pub checkpoint_line : List ℕ → CheckpointStandValue → List ℕ
-checkpoint_line name stand = (codes "checkpoint " ++ shown name) ++ (codes " version " ++ decimal stand.version) ++ (codes " streams " ++ decimal (length stand.streams)) ++ 10 ∷ []
+abbrev pub version_text : CheckpointStandValue → List ℕ
+version_text stand = codes " version " ++ decimal stand.version
+
+abbrev pub streams_text : CheckpointStandValue → List ℕ
+streams_text stand = (codes " streams " ++ decimal (length stand.streams)) ++ 10 ∷ []
+
+unfoldable pub checkpoint_line : List ℕ → CheckpointStandValue → List ℕ
+checkpoint_line name stand = (codes "checkpoint " ++ shown name) ++ version_text stand ++ streams_text stand
 
 -- a checkpoint's line, and behind it those of its streams
 abbrev pub checkpoint_lines : List (List ℕ) → ℕ → List CheckpointStandValue → List ℕ

@@ -4,7 +4,7 @@ ghost use Rattle.std.specs.Prelude.{◌≡◌, ◌<◌, ◌++◌, IfOk, OnOk, ma
 ghost use Rattle.std.specs.Option.{option_copied, option_map};
 ghost use Rattle.std.specs.String.{string_bytes};
 ghost use Rattle.shown_text.specs.Shown as said;
-ghost use Rattle.status_said.specs.Lines.{is_done, are_done, done_of, phase_word, mark_word, place_text, table_name, table_line, table_lines, stream_head, counts_text, place_end, least_end, stream_line, stream_lines, checkpoint_line, file_name, checkpoint_lines, least_line, least_lines, status_lines};
+ghost use Rattle.status_said.specs.Lines.{is_done, are_done, done_of, phase_word, mark_word, place_text, table_name, table_line, table_lines, stream_head, counts_text, place_end, least_end, stream_line, stream_lines, version_text, streams_text, checkpoint_line, file_name, checkpoint_lines, least_line, least_lines, status_lines};
 
 use crate::least::{least_in, shards_of};
 use checkpoint_places::{CheckpointStand, StreamStand, TableStand};
@@ -123,12 +123,7 @@ fn push_tables(
 }
 
 /// Puts a number behind a word and that behind a text.
-fn push_number(
-    alloc: Global,
-    word: &str,
-    number: u64,
-    text: &mut String,
-) -> Result<(), AllocError>
+fn push_number(alloc: Global, word: &str, number: u64, text: &mut String) -> Result<(), AllocError>
     ensures { OnOk result (string_bytes text.new ≡ string_bytes text.old ++ (word.now ++ decimal number)) }
 {
     let number = number_text(alloc, number)?;
@@ -138,12 +133,7 @@ fn push_number(
 }
 
 /// Puts a name behind a word and that behind a text.
-fn push_name(
-    alloc: Global,
-    word: &str,
-    name: &str,
-    text: &mut String,
-) -> Result<(), AllocError>
+fn push_name(alloc: Global, word: &str, name: &str, text: &mut String) -> Result<(), AllocError>
     ensures { OnOk result (string_bytes text.new ≡ string_bytes text.old ++ (word.now ++ said.shown name.now)) }
 {
     let name = shown(alloc, name.as_bytes())?;
@@ -231,6 +221,30 @@ pub(crate) fn file_name<'f>(files: &[&'f str], i: usize) -> &'f str
     }
 }
 
+/// Puts the version of a checkpoint's format behind a text.
+fn push_version(
+    alloc: Global,
+    stand: &CheckpointStand<'_>,
+    text: &mut String,
+) -> Result<(), AllocError>
+    ensures { OnOk result (string_bytes text.new ≡ string_bytes text.old ++ version_text stand.now) }
+{
+    push_number(alloc, " version ", u64::from(stand.version), text)
+}
+
+/// Puts how many streams a checkpoint has behind a text, and the end of the line.
+fn push_stream_count(
+    alloc: Global,
+    stand: &CheckpointStand<'_>,
+    text: &mut String,
+) -> Result<(), AllocError>
+    ensures { OnOk result (string_bytes text.new ≡ string_bytes text.old ++ streams_text stand.now) }
+{
+    push_number(alloc, " streams ", stand.streams.len() as u64, text)?;
+    text.push_str("\n")?;
+    Ok(())
+}
+
 /// Puts the line of a checkpoint behind a text.
 fn push_checkpoint_line(
     alloc: Global,
@@ -241,10 +255,8 @@ fn push_checkpoint_line(
     ensures { OnOk result (string_bytes text.new ≡ string_bytes text.old ++ checkpoint_line name.now stand.now) }
 {
     push_name(alloc, "checkpoint ", name, text)?;
-    push_number(alloc, " version ", u64::from(stand.version), text)?;
-    push_number(alloc, " streams ", stand.streams.len() as u64, text)?;
-    text.push_str("\n")?;
-    Ok(())
+    push_version(alloc, stand, text)?;
+    push_stream_count(alloc, stand, text)
 }
 
 /// Puts the lines of checkpoints behind a text.

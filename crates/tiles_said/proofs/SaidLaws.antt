@@ -111,26 +111,15 @@ misfits-more names source table found i misfit what line said more end inside is
     ∙ so_far
 
 -- what the others make behind one more step
-pub through-more : {A B : Type 0} (g : B → A) (Step : A → SaidValue → SaidValue → Type 0) (xs : List B) (i : ℕ) (x : B) (old between first : SaidValue) → i < length xs → x ≡ get_or xs i x → Step (g x) old between
-    → ((end : SaidValue) → Through Step (map g (drop i xs)) old end → Through Step (map g xs) first end)
-    → (end : SaidValue) → Through Step (map g (drop (i + 1) xs)) between end → Through Step (map g xs) first end
-through-more {A} {B} g Step xs i x old between first inside is step so_far end rest =
-    so_far end (subst (λ (l : List B). Through Step (map g l) old end) (sym (at_item xs i x inside is)) (between, step, rest))
-
-pub through-all : {A B : Type 0} (g : B → A) (Step : A → SaidValue → SaidValue → Type 0) (xs : List B) (i : ℕ) (said first : SaidValue) → length xs ≤ i
-    → ((end : SaidValue) → Through Step (map g (drop i xs)) said end → Through Step (map g xs) first end) → Through Step (map g xs) first said
-through-all {A} {B} g Step xs i said first over so_far =
-    so_far said (subst (λ (l : List B). Through Step (map g l) said said) (sym (drop_all i xs over)) refl)
-
-pub through-more-own : {A : Type 0} (Step : A → SaidValue → SaidValue → Type 0) (xs : List A) (i : ℕ) (x : A) (old between first : SaidValue) → i < length xs → x ≡ get_or xs i x → Step x old between
+pub through-more : {A : Type 0} (Step : A → SaidValue → SaidValue → Type 0) (xs : List A) (i : ℕ) (x : A) (old between first : SaidValue) → i < length xs → x ≡ get_or xs i x → Step x old between
     → ((end : SaidValue) → Through Step (drop i xs) old end → Through Step xs first end)
     → (end : SaidValue) → Through Step (drop (i + 1) xs) between end → Through Step xs first end
-through-more-own {A} Step xs i x old between first inside is step so_far end rest =
+through-more {A} Step xs i x old between first inside is step so_far end rest =
     so_far end (subst (λ (l : List A). Through Step l old end) (sym (at_item xs i x inside is)) (between, step, rest))
 
-pub through-all-own : {A : Type 0} (Step : A → SaidValue → SaidValue → Type 0) (xs : List A) (i : ℕ) (said first : SaidValue) → length xs ≤ i
+pub through-all : {A : Type 0} (Step : A → SaidValue → SaidValue → Type 0) (xs : List A) (i : ℕ) (said first : SaidValue) → length xs ≤ i
     → ((end : SaidValue) → Through Step (drop i xs) said end → Through Step xs first end) → Through Step xs first said
-through-all-own {A} Step xs i said first over so_far =
+through-all {A} Step xs i said first over so_far =
     so_far said (subst (λ (l : List A). Through Step l said said) (sym (drop_all i xs over)) refl)
 
 -- ---- what is found is said

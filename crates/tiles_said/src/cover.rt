@@ -8,7 +8,7 @@ ghost use Rattle.tiles_said.specs.Said.{SaysOf};
 use crate::lines::{fine_line, misfit_text, warning_line};
 use crate::passing::Passing;
 use crate::said::TilesSaid;
-use crate::shares::{are_absent, are_alike, are_everything, own_range, shares_of, whole_range};
+use crate::shares::{are_absent, are_alike, are_everything, shares_of, source_range, whole_range};
 use crate::sources::Source;
 use range_cover::{Misfit, misfits};
 use std::alloc::{AllocError, Global};
@@ -75,7 +75,7 @@ pub(crate) fn say_cover(
         return Ok(());
     }
     let all = whole_range(alloc)?;
-    let own = own_range(alloc, source.shard)?;
+    let own = source_range(alloc, source)?;
     let shares = shares_of(alloc, passings, &all)?;
     if are_everything(passings) {
         let line = fine_line(alloc, source, table, shares.len(), "every row")?;

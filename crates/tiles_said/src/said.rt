@@ -12,7 +12,7 @@ use crate::fault::TilesFault;
 use crate::files::{check_files, files_in};
 use crate::laws::quiet_tiles_have_each_id_once;
 use crate::passing::passings_of;
-use crate::sources::{Source, sources_of, tables_of};
+use crate::sources::{Source, TableName, sources_of, tables_of};
 use serde_json::Value;
 use std::alloc::{AllocError, Global};
 use std::marker::Model;
@@ -69,14 +69,14 @@ fn say_source(
     alloc: Global,
     names: &[&str],
     files: &[Value],
-    tables: &[&str],
+    tables: &[TableName<'_>],
     source: &Source<'_>,
     said: &mut TilesSaid,
 ) -> Result<(), AllocError>
-    ensures { OnOk result (SaysSource (map (λ name. name.now) names.now) (map view files.now) (map (λ table. table.now) tables.now) source.now said.old said.new) }
+    ensures { OnOk result (SaysSource (map (λ name. name.now) names.now) (map view files.now) tables.now source.now said.old said.new) }
 {
     for table in tables {
-        say_pair(alloc, names, files, source, table, said)?;
+        say_pair(alloc, names, files, source, table.text(), said)?;
     }
     Ok(())
 }
@@ -86,11 +86,11 @@ fn say_sources(
     alloc: Global,
     names: &[&str],
     files: &[Value],
-    tables: &[&str],
+    tables: &[TableName<'_>],
     sources: &[Source<'_>],
     said: &mut TilesSaid,
 ) -> Result<(), AllocError>
-    ensures { OnOk result (Through (SaysSource (map (λ name. name.now) names.now) (map view files.now) (map (λ table. table.now) tables.now)) sources.now said.old said.new) }
+    ensures { OnOk result (Through (SaysSource (map (λ name. name.now) names.now) (map view files.now) tables.now) sources.now said.old said.new) }
 {
     for source in sources {
         say_source(alloc, names, files, tables, source, said)?;

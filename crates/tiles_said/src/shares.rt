@@ -9,6 +9,7 @@ ghost use Rattle.workflow_check.specs.Ranges.{is_like};
 ghost use Rattle.tiles_said.specs.Cover.{own_range, share_of, shares_from, is_absent, is_everything, are_absent, are_everything, is_like_passing, like_all, are_alike};
 
 use crate::passing::{Passing, Ranged};
+use crate::sources::Source;
 use range_cover::Share;
 use std::alloc::{AllocError, Global};
 use vindex::{KeyRange, Vindex, VindexFault};
@@ -17,14 +18,14 @@ use vindex::{KeyRange, Vindex, VindexFault};
 pub(crate) fn whole_range(alloc: Global) -> Result<KeyRange, AllocError>
     ensures { IfOk result (λ range. range ≡ whole) }
 {
-    match KeyRange::parse(alloc, "-") {
+    match KeyRange::parse(alloc, "0") {
         Ok(range) => Ok(range),
         Err(_) => Err(AllocError),
     }
 }
 
 /// The range of a shard's own ids: all, where its name is no key range.
-pub(crate) fn own_range(alloc: Global, shard: &str) -> Result<KeyRange, AllocError>
+fn own_range(alloc: Global, shard: &str) -> Result<KeyRange, AllocError>
     ensures { IfOk result (λ range. range ≡ own_range shard.now) }
 {
     match KeyRange::parse(alloc, shard) {
@@ -32,6 +33,13 @@ pub(crate) fn own_range(alloc: Global, shard: &str) -> Result<KeyRange, AllocErr
         Err(VindexFault::BadRange) => whole_range(alloc),
         Err(_) => Err(AllocError),
     }
+}
+
+/// The range of a source shard's own ids.
+pub(crate) fn source_range(alloc: Global, source: &Source<'_>) -> Result<KeyRange, AllocError>
+    ensures { IfOk result (λ range. range ≡ own_range source.now.shard) }
+{
+    own_range(alloc, source.shard)
 }
 
 /// Puts the range that a file passes behind others, if it passes one.

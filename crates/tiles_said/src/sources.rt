@@ -79,12 +79,35 @@ pub(crate) fn sources_of<'v>(
     Ok(sources)
 }
 
+/// The name of a table.
+#[derive(Drop)]
+pub(crate) struct TableName<'v> {
+    name: &'v str,
+}
+
+impl<'v> Model for TableName<'v> {
+    ghost use Rattle.std.specs.Prelude.{ℕ, List};
+
+    ghost Value = { List ℕ };
+
+    ghost view = { λ t. t.name.now };
+}
+
+impl<'v> TableName<'v> {
+    /// The name.
+    pub(crate) fn text(&self) -> &'v str
+        ensures { result.now ≡ self.now }
+    {
+        self.name
+    }
+}
+
 /// Whether it is among these.
-fn has_name(names: &[&str], name: &str) -> bool
-    ensures { result ≡ has_name (map (λ name. name.now) names.now) name.now }
+fn has_name(names: &[TableName<'_>], name: &str) -> bool
+    ensures { result ≡ has_name names.now name.now }
 {
     for other in names {
-        if name == *other {
+        if name == other.text() {
             return true;
         }
     }
@@ -92,18 +115,18 @@ fn has_name(names: &[&str], name: &str) -> bool
 }
 
 /// Puts it behind these, unless it is among them.
-fn push_name<'v>(name: &'v str, names: &mut Vec<&'v str>) -> Result<(), AllocError>
-    ensures { OnOk result (map (λ name. name.now) names.new.items ≡ with_name (map (λ name. name.now) names.old.items) name.entry.now) }
+fn push_name<'v>(name: &'v str, names: &mut Vec<TableName<'v>>) -> Result<(), AllocError>
+    ensures { OnOk result (names.new.items ≡ with_name names.old.items name.entry.now) }
 {
     if !has_name(names, name) {
-        names.push(name)?;
+        names.push(TableName { name })?;
     }
     Ok(())
 }
 
 /// Puts the names of tables behind these.
-fn push_tables<'v>(tables: &'v [Value], names: &mut Vec<&'v str>) -> Result<(), AllocError>
-    ensures { OnOk result (map (λ name. name.now) names.new.items ≡ with_tables (map (λ name. name.now) names.old.items) (map view tables.entry.now)) }
+fn push_tables<'v>(tables: &'v [Value], names: &mut Vec<TableName<'v>>) -> Result<(), AllocError>
+    ensures { OnOk result (names.new.items ≡ with_tables names.old.items (map view tables.entry.now)) }
 {
     for table in tables {
         push_name(text_at(table, "name"), names)?;
@@ -112,8 +135,11 @@ fn push_tables<'v>(tables: &'v [Value], names: &mut Vec<&'v str>) -> Result<(), 
 }
 
 /// The names of the tables of files, in the order in which they are first named.
-pub(crate) fn tables_of<'v>(alloc: Global, files: &'v [Value]) -> Result<Vec<&'v str>, AllocError>
-    ensures { IfOk result (λ names. map (λ name. name.now) names.items ≡ tables_from [] (map view files.entry.now)) }
+pub(crate) fn tables_of<'v>(
+    alloc: Global,
+    files: &'v [Value],
+) -> Result<Vec<TableName<'v>>, AllocError>
+    ensures { IfOk result (λ names. names.items ≡ tables_from [] (map view files.entry.now)) }
 {
     let mut names = Vec::new(alloc);
     for file in files {

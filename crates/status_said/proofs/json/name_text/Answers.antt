@@ -4,9 +4,9 @@ use Rattle.std.specs.Str.{IsUtf8, is_utf8}
 use Rattle.status_said.proofs.json.name_text.Goals as goal
 
 isnt : (name : List ℕ) → (IsUtf8 name → ⊥) → is_utf8 name ≡ false
-isnt name no =
+isnt name none =
     elim (is_utf8 name) as (λ t. is_utf8 name ≡ t → t ≡ false) [
-      | true ↦ λ is. absurd (no (IsUtf8-from_is_utf8 name is))
+      | true ↦ λ is. absurd (none (IsUtf8-from_is_utf8 name is))
       | false ↦ λ is. refl
     ] refl
 

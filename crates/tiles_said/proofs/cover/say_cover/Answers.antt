@@ -17,5 +17,5 @@ returns-then-not-are_alike c =
 pub returns : goal.returns
 returns c =
     says_shared c.say_found.result (map (λ name. name.now) c.args.names.now) c.args.source.now c.args.passings.now c.args.table.now c.len-2.result c.deref-2.result.now c.in_ok-own.own c.deref-3.result.now c.args.said.now c.say_found.new.said
-    c.say_found.ensures (omega (arith, c.len-2.ensures, c.in_ok-shares.shares.ok.0, c.deref-2.ensures.len)) (c.deref-2.ensures.value ∙ c.in_ok-shares.ensures) ? ?
+    c.say_found.ensures (omega (arith, c.len-2.ensures, c.in_ok-shares.shares.ok.0, c.deref-2.ensures.len)) (c.deref-2.ensures.value ∙ c.in_ok-shares.ensures) c.in_ok-own.ensures (rw c.deref-3.ensures.value c.in_ok-found.ensures)
     (sym c.are_absent.ensures ∙ c.if-are_absent.false) (sym c.are_everything.ensures ∙ c.if-are_everything.false) (sym c.are_alike.ensures ∙ c.if-not-are_alike.false)
