@@ -86,7 +86,7 @@ abbrev pub streams_text : CheckpointStandValue → List ℕ
 streams_text stand = (codes " streams " ++ decimal (length stand.streams)) ++ 10 ∷ []
 
 unfoldable pub checkpoint_line : List ℕ → CheckpointStandValue → List ℕ
-checkpoint_line name stand = (codes "checkpoint " ++ shown name) ++ version_text stand ++ streams_text stand
+checkpoint_line name stand = codes "checkpoint " ++ shown name ++ (version_text stand ++ streams_text stand)
 
 -- a checkpoint's line, and behind it those of its streams
 abbrev pub checkpoint_lines : List (List ℕ) → ℕ → List CheckpointStandValue → List ℕ

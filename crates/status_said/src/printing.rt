@@ -15,8 +15,13 @@ use vrepl_choices::ReportForm;
 pub enum StatusEnd {
     /// All was printed.
     Printed,
-    /// Nothing was printed: a file is no checkpoint, or the allocator gave no memory.
-    Refused(StatusFault),
+    /// Nothing was printed: a file is no checkpoint.
+    Broken {
+        /// The number of the file, from 0.
+        file: usize,
+    },
+    /// Nothing was printed: the allocator gave no memory.
+    Memory,
     /// A write failed.
     Unwritten,
 }
@@ -43,7 +48,8 @@ pub fn status<W: Out>(
     ensures { EndsSo (said.status_said form (map (λ name. name.now) names.now) (map (λ text. text.items) texts.now)) result (W.written out.old) (W.written out.new) }
 {
     match status_said(alloc, form, names, texts) {
-        Err(fault) => StatusEnd::Refused(fault),
+        Err(StatusFault::Broken { file }) => StatusEnd::Broken { file },
+        Err(StatusFault::Memory) => StatusEnd::Memory,
         Ok(text) => print_text(&text, out),
     }
 }

@@ -4,7 +4,7 @@ use Rattle.vdiff_core.specs.Printing.{Written}
 use Rattle.status_said.specs.Printed.{EndsSo}
 use Rattle.status_said.specs.Said.{status_said}
 use Rattle.status_said.specs.declared.printing.StatusEnd.{StatusEnd}
-use Rattle.status_said.specs.declared.printing.StatusEnd.TheVariants.{Printed, Refused, Unwritten}
+use Rattle.status_said.specs.declared.printing.StatusEnd.TheVariants.{Printed, Broken, Memory, Unwritten}
 use Rattle.vrepl_words.specs.declared.words.Status.{Status}
 use Rattle.vrepl.specs.declared.stating.StatusInputs.{StatusInputs}
 
@@ -15,7 +15,8 @@ IsStatusAsked words inputs = (inputs.report_form ≡ words.report_form) × (inpu
 -- the status of an end
 abbrev pub status_of_end : StatusEnd → ℕ
 status_of_end Printed = 0
-status_of_end (Refused fault) = 1
+status_of_end (Broken file) = 1
+status_of_end Memory = 1
 status_of_end Unwritten = 1
 
 -- how `status` ends

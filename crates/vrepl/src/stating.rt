@@ -6,7 +6,7 @@ ghost use Rattle.vrepl_main.specs.Inputs.{IsUnreadAmong};
 ghost use Rattle.vrepl_main.specs.declared.input.InputName.TheVariants.{File};
 
 use crate::files::{FileInputs, print_file, read_files};
-use status_said::{StatusEnd, StatusFault, status};
+use status_said::{StatusEnd, status};
 use std::alloc::Global;
 use vdiff_core::{Out, put_all};
 use vrepl_choices::ReportForm;
@@ -60,9 +60,7 @@ pub(crate) fn state<W: Out, E: Out>(
     match status(alloc, inputs.report_form, files.names, &files.texts, out) {
         StatusEnd::Printed => 0,
         StatusEnd::Unwritten => refuse(err, &CommandRefusal::CannotWrite { file: "-" }),
-        StatusEnd::Refused(StatusFault::Memory) => refuse(err, &CommandRefusal::Memory),
-        StatusEnd::Refused(StatusFault::Broken { file }) => {
-            refuse_checkpoint(alloc, files.names, file, err)
-        }
+        StatusEnd::Memory => refuse(err, &CommandRefusal::Memory),
+        StatusEnd::Broken { file } => refuse_checkpoint(alloc, files.names, file, err),
     }
 }

@@ -1,11 +1,7 @@
-use Rattle.std.proofs.Common.{refl, string_bytes, map, sym, ◌∙◌, ap, Ok}
+use Rattle.std.proofs.Common.{map, sym, ◌∙◌, ap, Ok}
 use Rattle.status_said.specs.Said as said
-use Rattle.status_said.proofs.EndLaws.{ends_text, ends_refused}
+use Rattle.status_said.proofs.EndLaws.{ends_text}
 use Rattle.status_said.proofs.printing.status.Goals as goal
-
-pub returns-in-Err : goal.returns-in-Err
-returns-in-Err g c =
-    ends_refused string_bytes (said.status_said c.args.form (map (λ name. name.now) c.args.names.now) (map (λ text. text.items) c.args.texts.now)) c.in-Err.fault (g.W.Out.written c.args.out.now) (g.W.Out.written c.args.out.now) c.in-Err.ensures refl
 
 pub returns-in-Ok : goal.returns-in-Ok
 returns-in-Ok g c =
