@@ -97,6 +97,7 @@ stand_of part stream is =
   where
     apart : (stream : StreamStandValue) → None ≡ Some stream → ⊥
     apart stream is = cc
+
     of_some : (one other : StreamStandValue) → Some one ≡ Some other → one ≡ other
     of_some one other is = cc
 
