@@ -1,116 +1,148 @@
 -- What is written is the compacted feed.
-use Rattle.std.proofs.Common.{◌≡◌, ℕ, ◌+◌, ◌-◌, ◌^◌, ◌<◌, ◌≤◌, List, [], ◌∷◌, ◌++◌, length, map, reverse, Some, Result, Ok, sym, ap, subst, ◌∙◌, arith}
-use Rattle.std.proofs.lemmas.List.{length-append}
+use Rattle.std.proofs.Common.{◌≡◌, ℕ, ◌-◌, ◌^◌, ◌<◌, ◌≤◌, List, [], ◌∷◌, ◌++◌, length, map, reverse, Result, Ok, refl, sym, ap, subst, ◌∙◌, arith}
+use Rattle.std.specs.Prelude.{IfSome}
+use Rattle.std.proofs.lemmas.List.{append-nil, length-append}
+use Rattle.vevent.specs.Event.{event_at}
 use Rattle.vevent.specs.EventValue.{EventValue}
-use Rattle.source_feed.specs.declared.fault.FeedFault.{FeedFault}
-use Rattle.source_feed.specs.EventList.{events_of_feed}
-use Rattle.source_feed.specs.GroupValue.{GroupValue}
+use Rattle.vevent.specs.declared.fault.EventFault.{EventFault}
+use Rattle.source_feed.specs.EventList.{events_in_messages}
+use Rattle.source_feed.specs.FaultNumber.{meant_of}
 use Rattle.source_feed.specs.Image.{ImageRows}
 use Rattle.source_feed.specs.Planned.{source_of, groups_under, FeedValue, IsFeed}
-use Rattle.source_feed.specs.SoundGroups.{sound_groups}
+use Rattle.source_feed.specs.SoundGroups.{sound_groups, StopsBefore}
 use Rattle.source_feed.specs.SourceValue.{SourceValue}
+use Rattle.source_feed.specs.declared.fault.FeedFault.{FeedFault}
+use Rattle.source_feed.specs.declared.fault.FeedFault.TheVariants as feed_fault
+use Rattle.source_feed.proofs.FrameLaws.{frames_none}
 use Rattle.event_laws.specs.BaseEvents.{base_events}
 use Rattle.event_laws.specs.InForce.{in_force}
-use Rattle.event_laws.specs.Laws.{HaveEvents, MessagesAreReadAgain, OpenedFeedsAreWhole}
-use Rattle.feed_bytes.specs.FieldBytes.{FieldBytesValue, AreInForce}
-use Rattle.feed_bytes.specs.Front.{IsFront}
+use Rattle.event_laws.specs.Laws.{HaveEvents, MessagesAreReadAgain}
+use Rattle.event_laws.specs.WrittenMessages.{written_response, framed, written_messages}
+use Rattle.event_laws.proofs.RestLaws.{whole_behind}
+use Rattle.feed_bytes.specs.Cut.{IsCutBehind}
+use Rattle.feed_bytes.specs.FieldBytes.{FieldBytesValue}
 use Rattle.compaction_laws.specs.Base.{IsLeft}
-use Rattle.compaction_laws.specs.CompactedBytes.{past_of, ReplacesFront, OpensCompacted}
+use Rattle.compaction_laws.specs.CompactedBytes.{ReplacesFront, OpensCompacted}
+use Rattle.compaction_laws.specs.CompactedFeed.{groups_to}
 use Rattle.compaction_laws.specs.Laws.{BytesAreCompacted}
 use Rattle.compaction_laws.specs.Portions.{event_of, rows_of}
-use Rattle.compaction.specs.Compacting.{CutsFeed, IsCause, IsCompaction, IsLimit}
+use Rattle.compaction.specs.Compacting.{CutsFeed, HasGroup, KeepsAll, AreSound, IsCause, IsCompaction, IsLimit, others_message, refusal_of_feed}
 use Rattle.compaction.specs.Private.Written.{IsBase, AddsBase}
 use Rattle.compaction.specs.declared.cut.UnknownTables.{UnknownTables}
 use Rattle.compaction.specs.declared.fault.CompactFault.{CompactFault}
 use Rattle.compaction.specs.declared.fault.CompactFault.TheVariants.{NoCut, UnknownTable, Unsound, TooLong, Memory}
 
-abbrev Groups : Type 0
-Groups = Result (List GroupValue) FeedFault
+abbrev Read : Type 0
+Read = Result EventValue EventFault
 
-abbrev some_groups : List GroupValue → Groups
-some_groups all = Ok all
+abbrev good : EventValue → Read
+good event = Ok event
 
-module _ (law : BytesAreCompacted) (wholes : OpenedFeedsAreWhole) (again : MessagesAreReadAgain) (feed : FeedValue) (bytes messages rest place base : List ℕ) (unknown : UnknownTables) (number : ℕ) (fields : List FieldBytesValue)
-    (rows : ImageRows) (is_feed : IsFeed feed) (under : groups_under bytes feed.plan ≡ Ok feed.groups) (cut : CutsFeed feed bytes unknown messages rest place number) (sound : number ≤ length (sound_groups feed))
-    (left : IsLeft (sound_groups feed) number rows) (named : (events : List EventValue) → HaveEvents messages events → AreInForce (source_of feed.plan) (reverse events) fields)
-    (adds : AddsBase feed.plan [] base fields rows place) (new : List ℕ) (parts_are : new ≡ base ++ rest) (new_short : length new < 2 ^ 31) where
-  short : length (base ++ rest) < 2 ^ 31
-  short = subst (λ (b : List ℕ). length b < 2 ^ 31) parts_are new_short
+nothing_read : (events : List EventValue) → [] ≡ map good events → events ≡ []
+nothing_read [] e = refl
+nothing_read (v ∷ events) e = cc
 
+-- the other events of a message are read again
+others_again : MessagesAreReadAgain → (others : List (List ℕ)) (behind : List EventValue) → length (others_message others) < 2 ^ 64 → map event_at others ≡ map good behind → HaveEvents (others_message others) behind
+others_again again [] behind short e =
+    subst (HaveEvents []) (sym (nothing_read behind e)) (record { whole = ap (λ r. r.fault) frames_none; are = ap (λ r. events_in_messages r.items r.fault) frames_none })
+others_again again (p ∷ others) behind short e =
+    let one : List ℕ = framed (written_response (p ∷ others)) in
+    let is : written_messages ((p ∷ others) ∷ []) ≡ one = append-nil one in
+    let parts : List (List ℕ) = p ∷ others in
+    subst (λ (b : List ℕ). HaveEvents b behind) is
+    (again (parts ∷ []) behind (subst (λ (b : List ℕ). length b < 2 ^ 64) (sym is) short) (ap (λ (ps : List (List ℕ)). map event_at ps) (append-nil parts) ∙ e))
+
+module _ (law : BytesAreCompacted) (again : MessagesAreReadAgain) (feed : FeedValue) (bytes : List ℕ) (unknown : UnknownTables) (number : ℕ) (fields : List FieldBytesValue) (place : List ℕ) (others : List (List ℕ)) (rest base : List ℕ)
+    (rows : ImageRows) (is_feed : IsFeed feed) (under : groups_under bytes feed.plan ≡ Ok feed.groups) (c : CutsFeed feed bytes unknown number fields place others rest) (sound : number ≤ length (sound_groups feed))
+    (left : IsLeft (sound_groups feed) number rows) (adds : AddsBase feed.plan [] base fields rows place) (new : List ℕ) (parts_are : new ≡ base ++ (others_message others ++ rest)) (new_short : length new < 2 ^ 31) where
   abbrev source : SourceValue
   source = source_of feed.plan
 
-  abbrev front : IsFront bytes source messages rest place cut.all
+  abbrev cut : IsCutBehind bytes source number fields place others rest
+  cut = c.cut
+
+  abbrev front : List EventValue
   front = cut.front
 
-  abbrev before : List GroupValue
-  before = front.ends.before
+  abbrev behind : List ℕ
+  behind = others_message others ++ rest
 
-  abbrev last : GroupValue
-  last = front.ends.last
-
-  abbrev many : number ≡ length before + 1
-  many = sym cut.many ∙ ap length front.ends.are ∙ length-append before (last ∷ [])
-
-  abbrev fields_are : AreInForce source (past_of messages) fields
-  fields_are = named (events_of_feed messages).items (wholes messages source cut.all front.open_as)
+  short : length (base ++ behind) < 2 ^ 31
+  short = subst (λ (b : List ℕ). length b < 2 ^ 31) parts_are new_short
 
   abbrev force : List EventValue
-  force = reverse (in_force source (past_of messages))
+  force = reverse (in_force source (reverse front))
 
-  abbrev is_base : IsBase feed.plan [] base force rows front.place_of.event
-  is_base = adds force front.place_of.event fields_are.events front.place_of.read
+  abbrev is_base : IsBase feed.plan [] base force rows cut.carried.event
+  is_base = adds force cut.carried.event cut.in_force.events cut.carried.read
+
+  abbrev events : List EventValue
+  events = base_events force (map event_of is_base.portions) cut.carried.event
 
   base_short : length base < 2 ^ 64
-  base_short = omega (arith, short, length-append base rest)
+  base_short = omega (arith, short, length-append base behind)
 
-  have : HaveEvents base (base_events force (map event_of is_base.portions) front.place_of.event)
+  others_short : length (others_message others) < 2 ^ 64
+  others_short = omega (arith, short, length-append base behind, length-append (others_message others) rest)
+
+  have : HaveEvents base events
   have =
-      subst (λ (b : List ℕ). HaveEvents b (base_events force (map event_of is_base.portions) front.place_of.event)) (sym is_base.adds.bytes)
-      (again is_base.adds.messages (base_events force (map event_of is_base.portions) front.place_of.event)
-      (subst (λ (b : List ℕ). length b < 2 ^ 64) is_base.adds.bytes base_short) is_base.adds.read)
+      subst (λ (b : List ℕ). HaveEvents b events) (sym is_base.adds.bytes)
+      (again is_base.adds.messages events (subst (λ (b : List ℕ). length b < 2 ^ 64) is_base.adds.bytes base_short) is_base.adds.read)
 
-  abbrev replaces : ReplacesFront feed messages base
+  have_behind : HaveEvents behind (cut.behind ++ cut.later)
+  have_behind = whole_behind (others_message others) rest cut.behind cut.later (others_again again others cut.behind others_short cut.of_message) cut.of_rest
+
+  abbrev many : number ≡ groups_to feed front
+  many = sym cut.many
+
+  abbrev replaces : ReplacesFront feed front base
   replaces = record {
-    before = before;
-    last = last;
-    open_as = front.open_as ∙ ap some_groups front.ends.are;
+    block = cut.block;
+    cut = cut.cut;
     sound = subst (λ (n : ℕ). n ≤ length (sound_groups feed)) many sound;
     portions = is_base.portions;
     each_portion = is_base.each_portion;
     left = subst (λ (n : ℕ). IsLeft (sound_groups feed) n (rows_of is_base.portions)) many (subst (IsLeft (sound_groups feed) number) (sym is_base.are) left);
-    place = front.place_of.event;
-    carries = front.place_of.carries ∙ ap (λ p. Some p) (sym front.ends.at);
+    place = cut.carried.event;
+    carries = cut.carried.carries;
     have = have;
   }
 
-  opens : OpensCompacted bytes feed.plan (number - 1) (base ++ rest)
-  opens =
-      let fewer : length before ≡ number - 1 = omega (arith, many) in
-      let parts : messages ++ rest ≡ bytes = sym front.parts in
-      subst (λ (n : ℕ). OpensCompacted bytes feed.plan n (base ++ rest)) fewer
-      (subst (λ (b : List ℕ). OpensCompacted b feed.plan (length before) (base ++ rest)) parts
-      (law feed messages rest base replaces is_feed (subst (λ (b : List ℕ). groups_under b feed.plan ≡ Ok feed.groups) (sym parts) under) short))
+  opens : OpensCompacted bytes feed.plan (number - 1) (base ++ behind)
+  opens = subst (λ (n : ℕ). OpensCompacted bytes feed.plan (n - 1) (base ++ behind)) (sym many) (law feed bytes front (cut.behind ++ cut.later) base behind replaces is_feed under cut.events have_behind short)
 
   pub is_compaction : (count : ℕ) → count ≡ length rows → IsCompaction feed bytes unknown number count new
   is_compaction count counted = record {
-    some = omega (arith, many);
+    some = c.has.some;
     opens = subst (OpensCompacted bytes feed.plan (number - 1)) (sym parts_are) opens;
-    messages = messages;
-    rest = rest;
+    fields = fields;
     place = place;
-    cut = cut;
+    others = others;
+    rest = rest;
+    cut = c;
     base = base;
     parts = parts_are;
+    sound = sound;
     left = rows;
     are_left = left;
     count = sym counted;
   }
 
--- what is beyond the limits, or wants memory, says nothing of the feed
-pub limit_stands : (feed : FeedValue) (bytes : List ℕ) (fault : CompactFault) → IsLimit fault → IsCause feed bytes fault
-limit_stands feed bytes NoCut is = tt
-limit_stands feed bytes UnknownTable is = absurd is
-limit_stands feed bytes (Unsound fault) is = absurd is
-limit_stands feed bytes TooLong is = tt
-limit_stands feed bytes Memory is = tt
+-- ---- refusals
+
+-- groups that aren't sound are one where the feed can be cut
+pub unsound_stands : (feed : FeedValue) (bytes : List ℕ) (unknown : UnknownTables) (number : ℕ) (fault : FeedFault) → HasGroup feed number → KeepsAll feed bytes unknown number
+    → IfSome (meant_of fault) (StopsBefore feed number) → IsCause feed bytes unknown number (refusal_of_feed fault)
+unsound_stands feed bytes unknown number feed_fault.Memory has keeps stops = tt
+unsound_stands feed bytes unknown number fault has keeps stops = (has, keeps, stops)
+
+-- what is beyond the limits, or wants memory, comes last
+pub limit_stands : (feed : FeedValue) (bytes : List ℕ) (unknown : UnknownTables) (number : ℕ) (fault : CompactFault) → HasGroup feed number → KeepsAll feed bytes unknown number → AreSound feed number → IsLimit fault
+    → IsCause feed bytes unknown number fault
+limit_stands feed bytes unknown number NoCut has keeps sound is = absurd is
+limit_stands feed bytes unknown number UnknownTable has keeps sound is = absurd is
+limit_stands feed bytes unknown number (Unsound fault) has keeps sound is = absurd is
+limit_stands feed bytes unknown number TooLong has keeps sound is = (has, keeps, sound)
+limit_stands feed bytes unknown number Memory has keeps sound is = tt

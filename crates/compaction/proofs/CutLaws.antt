@@ -1,10 +1,10 @@
--- What the front of a feed says of the feed, and the names of its rows' tables.
-use Rattle.std.proofs.Common.{◌≡◌, ℕ, ◌^◌, ◌≤◌, List, [], ◌∷◌, ◌++◌, length, map, reverse, nat_lt, false, Some, Result, Ok, Err, refl, sym, ap, subst, ◌∙◌, inl, inr, arith}
+-- What a cut says of the feed, and the names of its rows' tables.
+use Rattle.std.proofs.Common.{◌≡◌, ◌⊎◌, ℕ, zero, suc, ◌-◌, ◌<◌, ◌≤◌, ◌||◌, List, [], ◌∷◌, ◌++◌, length, map, reverse, take, Bool, true, false, Some, Result, Ok, Err, refl, sym, ap, subst, ◌∙◌, inl, inr, arith}
 use Rattle.std.proofs.lemmas.Bool.{cases_Bool, cond-true, cond-false}
 use Rattle.std.proofs.lemmas.List.{length-append, length-map, reverse-append, reverse-reverse}
 use Rattle.std.proofs.lemmas.Option.{none-some}
 use Rattle.std.specs.Cmp.Lexicographic.{same_text}
-use Rattle.std.specs.List.{AllByRecursion}
+use Rattle.std.specs.List.{AllByRecursion, list_any}
 use Rattle.std.specs.Str.{bytes_eq}
 use Rattle.list_laws.proofs.Fronts.{each}
 use Rattle.filter_rule.specs.PlanValue.{PlanValue, table_of_name}
@@ -15,29 +15,27 @@ use Rattle.vevent.specs.Event.{event_at}
 use Rattle.vevent.specs.EventValue.{EventValue, Field}
 use Rattle.vevent.specs.declared.fault.EventFault.{EventFault}
 use Rattle.source_feed.specs.declared.fault.FeedFault.{FeedFault}
-use Rattle.source_feed.specs.declared.fault.FeedFault.TheVariants.{FeedTooLong}
+use Rattle.source_feed.specs.declared.fault.FeedFault.TheVariants.{FieldsDiffer}
 use Rattle.source_feed.specs.EventList.{events_of_feed}
 use Rattle.source_feed.specs.GroupValue.{GroupValue}
-use Rattle.source_feed.specs.Groups.{groups_of, groups_in, groups}
+use Rattle.source_feed.specs.Groups.{groups_of, groups}
 use Rattle.source_feed.specs.Image.{ImageRows}
 use Rattle.source_feed.specs.PastEvents.{PastEvents, last_field}
-use Rattle.source_feed.specs.Planned.{source_of, planned_group, planned_groups, groups_under, PlannedGroupValue, FeedValue, IsFeed}
+use Rattle.source_feed.specs.Planned.{source_of, differs, planned_group, planned_groups, groups_under, PlannedGroupValue, FeedValue, IsFeed}
 use Rattle.source_feed.specs.SoundGroups.{sound_groups}
 use Rattle.source_feed.specs.SourceValue.{SourceValue, table_in_source}
 use Rattle.event_laws.specs.InForce.{in_force}
-use Rattle.event_laws.specs.Laws.{HaveEvents, IsRest, groups_to_end}
 use Rattle.event_laws.proofs.BaseLaws.{all-reverse}
 use Rattle.event_laws.proofs.InForceLaws.{say_the_columns}
-use Rattle.event_laws.proofs.RestLaws.{rest_of_whole, opened_whole}
-use Rattle.event_laws.proofs.RunLaws.{Ended, ended, groups_behind, not_given}
+use Rattle.event_laws.proofs.RunLaws.{Ended, ended, groups_behind}
+use Rattle.feed_bytes.specs.Cut.{IsCutBehind}
 use Rattle.feed_bytes.specs.FieldBytes.{FieldBytesValue, IsNamed, AreInForce}
+use Rattle.feed_bytes.proofs.SearchLaws.{to_end}
 use Rattle.compaction_laws.specs.Base.{IsLeft}
-use Rattle.compaction_laws.specs.CompactedBytes.{past_of}
-use Rattle.compaction_laws.specs.CompactedFeed.{IsFeedOf, groups_to}
+use Rattle.compaction_laws.specs.CompactedFeed.{groups_to}
 use Rattle.compaction_laws.specs.Laws.{LeftRowsHaveColumns, SaysColumnsOf}
-use Rattle.compaction_laws.proofs.FeedLaws.{Opens, opens}
-use Rattle.feed_bytes.specs.Front.{IsFront}
-use Rattle.compaction.specs.Compacting.{CutsFeed, loses}
+use Rattle.compaction_laws.proofs.BytesLaws.{opened_of}
+use Rattle.compaction.specs.Compacting.{HasGroup, LosesSome, CutsFeed, loses, is_unknown, have_unknown}
 use Rattle.compaction.specs.Private.Written.{IsNameOf, AreOfOthers, HasName, AreNamed}
 use Rattle.compaction.specs.declared.cut.UnknownTables.{UnknownTables}
 
@@ -56,69 +54,91 @@ some_planned groups = Ok groups
 planned_none : {P : Type 0} (fault : FeedFault) (made : List PlannedGroupValue) → no_planned fault ≡ some_planned made → P
 planned_none fault made e = cc
 
-given : (plan : PlanValue) (events : List EventValue) (r : Groups) (made : List PlannedGroupValue) → planned_groups plan events r ≡ Ok made → (all : List GroupValue) × (r ≡ Ok all)
-given plan events (Ok all) made e = (all, refl)
+same_planned : (a b : List PlannedGroupValue) → some_planned a ≡ some_planned b → a ≡ b
+same_planned a b e = cc
+
+-- ---- the groups that a feed has
+
+record IsOpenAs (bytes : List ℕ) (feed : FeedValue) : Type 0 where
+  all : List GroupValue
+  are : groups bytes (source_of feed.plan) ≡ Ok all
+  many : length feed.groups ≡ length all
+
+given : (plan : PlanValue) (events : List EventValue) (r : Groups) (made : List PlannedGroupValue) → planned_groups plan events r ≡ Ok made → (all : List GroupValue) × (r ≡ Ok all) × (length made ≡ length all)
+given plan events (Ok all) made e = elim (cases_Bool (list_any (differs plan) events)) [
+  | inl differ ↦ planned_none FieldsDiffer made (sym (cond-true (list_any (differs plan) events) (no_planned FieldsDiffer) (some_planned (map (planned_group plan) all)) differ) ∙ e)
+  | inr agree ↦ (
+    all,
+    refl,
+    ap length (sym (same_planned (map (planned_group plan) all) made (sym (cond-false (list_any (differs plan) events) (no_planned FieldsDiffer) (some_planned (map (planned_group plan) all)) agree) ∙ e)))
+        ∙ length-map all (planned_group plan),
+  )
+]
 given plan events (Err fault) made e = planned_none fault made e
 
--- the groups of bytes that open are those of their events
-to_end : (bytes : List ℕ) (source : SourceValue) (all : List GroupValue) → groups bytes source ≡ Ok all → groups_to_end source (events_of_feed bytes).items ≡ Ok all
-to_end bytes source all e = ap (groups_in source) (sym (opened_whole bytes source all e).are) ∙ short
-  where
-    short : groups_in source (events_of_feed bytes) ≡ Ok all
-    short = elim (cases_Bool (nat_lt (length bytes) (2 ^ 31))) [
-      | inl is ↦ sym (cond-true (nat_lt (length bytes) (2 ^ 31)) (groups_in source (events_of_feed bytes)) (Err FeedTooLong) is) ∙ e
-      | inr long ↦ not_given all FeedTooLong (sym (cond-false (nat_lt (length bytes) (2 ^ 31)) (groups_in source (events_of_feed bytes)) (Err FeedTooLong) long) ∙ e)
-    ]
+open_as : (feed : FeedValue) (bytes : List ℕ) → groups_under bytes feed.plan ≡ Ok feed.groups → IsOpenAs bytes feed
+open_as feed bytes under =
+    let g = given feed.plan (events_of_feed bytes).items (groups bytes (source_of feed.plan)) feed.groups under in
+    record { all = g.0; are = g.1; many = g.2 }
 
-module _ (feed : FeedValue) (bytes front rest : List ℕ) (all : List GroupValue) (parts : bytes ≡ front ++ rest) (e : groups front (source_of feed.plan) ≡ Ok all) (under : groups_under bytes feed.plan ≡ Ok feed.groups) where
-  abbrev feed_plan : PlanValue
-  feed_plan = feed.plan
+-- a cut stands behind one of them
+within : (feed : FeedValue) (bytes : List ℕ) (number : ℕ) (fields : List FieldBytesValue) (place : List ℕ) (others : List (List ℕ)) (rest : List ℕ) → IsOpenAs bytes feed
+    → IsCutBehind bytes (source_of feed.plan) number fields place others rest → number ≤ length feed.groups
+within feed bytes number fields place others rest o cut =
+    let source : SourceValue = source_of feed.plan in
+    let events : List EventValue = (events_of_feed bytes).items in
+    let w : Ended source (reverse events) o.all = ended source events o.all (to_end bytes source o.all o.are) in
+    let behind : List EventValue = cut.behind ++ cut.later in
+    let more = groups_behind source (reverse behind) (reverse cut.front) in
+    let same : o.all ≡ groups_of source (reverse cut.front) ++ more.0 =
+    sym w.are ∙ ap (λ r. groups_of source (reverse r.items)) cut.events.are ∙ ap (groups_of source) (reverse-append cut.front behind) ∙ more.1 in
+    omega (arith, cut.many, o.many, ap length same, length-append (groups_of source (reverse cut.front)) more.0)
 
-  abbrev feed_source : SourceValue
-  feed_source = source_of feed_plan
+positive : (bytes : List ℕ) (source : SourceValue) (number : ℕ) (fields : List FieldBytesValue) (place : List ℕ) (others : List (List ℕ)) (rest : List ℕ) → IsCutBehind bytes source number fields place others rest → 0 < number
+positive bytes source number fields place others rest cut =
+    let last = cut.cut.last in omega (arith, cut.many, ap length last.groups, length-append last.before (last.last ∷ []))
 
-  abbrev events : List EventValue
-  events = (events_of_feed bytes).items
+-- a cut that is found and loses nothing
+pub cuts : (feed : FeedValue) (bytes : List ℕ) (unknown : UnknownTables) (number : ℕ) (fields : List FieldBytesValue) (place : List ℕ) (others : List (List ℕ)) (rest : List ℕ) (lost : Bool)
+    → groups_under bytes feed.plan ≡ Ok feed.groups
+    → ((all : List GroupValue) → groups bytes (source_of feed.plan) ≡ Ok all → IsCutBehind bytes (source_of feed.plan) number fields place others rest)
+    → ((all : List GroupValue) → groups bytes (source_of feed.plan) ≡ Ok all → lost ≡ loses feed.plan unknown (take number all)) → lost ≡ false
+    → CutsFeed feed bytes unknown number fields place others rest
+cuts feed bytes unknown number fields place others rest lost under found said keeps =
+    let o : IsOpenAs bytes feed = open_as feed bytes under in
+    let cut : IsCutBehind bytes (source_of feed.plan) number fields place others rest = found o.all o.are in
+    record { has = record { some = positive bytes (source_of feed.plan) number fields place others rest cut; within = within feed bytes number fields place others rest o cut }; keeps = λ all are. sym (said all are) ∙ keeps; cut = cut }
 
-  abbrev front_events : List EventValue
-  front_events = (events_of_feed front).items
+-- where none is found there is no such group
+pub no_cut : (feed : FeedValue) (bytes : List ℕ) (number : ℕ) → groups_under bytes feed.plan ≡ Ok feed.groups
+    → ((all : List GroupValue) → groups bytes (source_of feed.plan) ≡ Ok all → (number ≡ 0) ⊎ (length all < number)) → (number ≡ 0) ⊎ (length feed.groups < number)
+no_cut feed bytes number under none =
+    let o : IsOpenAs bytes feed = open_as feed bytes under in
+    elim (none o.all o.are) [ inl none ↦ inl none | inr beyond ↦ inr (omega (arith, beyond, o.many)) ]
 
-  whole : (others : List GroupValue) × (groups bytes feed_source ≡ Ok others)
-  whole = given feed_plan events (groups bytes feed_source) feed.groups under
+-- and where one is found some change may be lost
+pub loses_some : (feed : FeedValue) (bytes : List ℕ) (unknown : UnknownTables) (number : ℕ) (fields : List FieldBytesValue) (place : List ℕ) (others : List (List ℕ)) (rest : List ℕ) (lost : Bool)
+    → groups_under bytes feed.plan ≡ Ok feed.groups
+    → ((all : List GroupValue) → groups bytes (source_of feed.plan) ≡ Ok all → IsCutBehind bytes (source_of feed.plan) number fields place others rest)
+    → ((all : List GroupValue) → groups bytes (source_of feed.plan) ≡ Ok all → lost ≡ loses feed.plan unknown (take number all)) → lost ≡ true
+    → HasGroup feed number × LosesSome feed bytes unknown number
+loses_some feed bytes unknown number fields place others rest lost under found said is =
+    let o : IsOpenAs bytes feed = open_as feed bytes under in
+    let cut : IsCutBehind bytes (source_of feed.plan) number fields place others rest = found o.all o.are in (
+      record { some = positive bytes (source_of feed.plan) number fields place others rest cut; within = within feed bytes number fields place others rest o cut },
+      record { all = o.all; are = o.are; lost = sym (said o.all o.are) ∙ is },
+    )
 
-  pub behind : IsRest rest front_events events
-  behind = rest_of_whole front rest front_events events (opened_whole front feed_source all e) (subst (λ (b : List ℕ). HaveEvents b events) parts (opened_whole bytes feed_source whole.0 whole.1))
+-- ---- the first so many of some groups
 
-  ends : Ended feed_source (reverse front_events) all
-  ends = ended feed_source front_events all (to_end front feed_source all e)
+take_next : {X : Type 0} (n : ℕ) (x : X) (xs : List X) → 0 < n → take n (x ∷ xs) ≡ x ∷ take (n - 1) xs
+take_next zero x xs some = absurd (omega (arith, some))
+take_next {X} (suc n) x xs some = (let less : n ≡ suc n - 1 = omega arith in ap (λ (k : ℕ). x ∷ take k xs) less)
 
-  is_of_all : planned_groups feed_plan events (groups_to_end feed_source events) ≡ Ok feed.groups
-  is_of_all = ap (planned_groups feed_plan events) (to_end bytes feed_source whole.0 whole.1 ∙ sym whole.1) ∙ under
-
-  pub is_of : IsFeedOf feed (front_events ++ behind.others)
-  is_of = subst (λ (es : List EventValue). IsFeedOf feed es) behind.are is_of_all
-
-  pub many : groups_to feed front_events ≡ length all
-  many = ap length ends.are
-
-  pub no_more : length all ≤ length feed.groups
-  no_more =
-      let both : Ended feed_source (reverse events) whole.0 = ended feed_source events whole.0 (to_end bytes feed_source whole.0 whole.1) in
-      let more = groups_behind feed_source (reverse behind.others) (reverse front_events) in
-      let same : groups_of feed_source (reverse events) ≡ groups_of feed_source (reverse front_events) ++ more.0 =
-      ap (λ (es : List EventValue). groups_of feed_source (reverse es)) behind.are ∙ ap (groups_of feed_source) (reverse-append front_events behind.others) ∙ more.1 in
-      let is : whole.0 ≡ all ++ more.0 = sym both.are ∙ same ∙ ap (λ (gs : List GroupValue). gs ++ more.0) ends.are in
-      let o : Opens feed_plan events feed.groups = opens feed_plan events feed.groups is_of_all in
-      let same_all : o.all ≡ whole.0 = sym (ended feed_source events o.all o.given).are ∙ both.are in
-      let planned : length feed.groups ≡ length whole.0 = ap length (sym o.are) ∙ length-map o.all (planned_group feed_plan) ∙ ap length same_all in
-      omega (arith, planned, ap length is, length-append all more.0)
-
-  -- the rows that the front leaves have columns that it says
-  pub left_fit : LeftRowsHaveColumns → IsFeed feed → (rows : ImageRows) (number : ℕ) → length all ≡ number → number ≤ length (sound_groups feed) → IsLeft (sound_groups feed) number rows
-      → AllByRecursion (λ row. (columns : List FieldValue) × SaysColumnsOf feed_plan (past_of front) row.0.table columns × (length row.1 ≡ length columns)) rows
-  left_fit law is_feed rows number counted sound left =
-      let is : number ≡ groups_to feed front_events = sym counted ∙ sym many in
-      law feed front_events behind.others rows is_feed is_of (subst (λ (n : ℕ). n ≤ length (sound_groups feed)) is sound) (subst (λ (n : ℕ). IsLeft (sound_groups feed) n rows) is left)
+-- a group without such a change
+pub skip_none : (plan : PlanValue) (n : ℕ) (group : GroupValue) (later : List GroupValue) → 0 < n → list_any (is_unknown plan) group.changes ≡ false
+    → have_unknown plan (take n (group ∷ later)) ≡ have_unknown plan (take (n - 1) later)
+skip_none plan n group later some none = ap (have_unknown plan) (take_next n group later some) ∙ ap (λ (b : Bool). b || have_unknown plan (take (n - 1) later)) none
 
 -- ---- names
 
@@ -167,23 +187,17 @@ has_name plan past fields are table columns s others =
     ((say_the_columns (source_of plan) past).columns s.name ∙ s.said)
 
 -- each row that is left has a name of its table among the FIELDs in force
-pub all_named : LeftRowsHaveColumns → (feed : FeedValue) (bytes messages rest place : List ℕ) (unknown : UnknownTables) (number : ℕ) (fields : List FieldBytesValue) (rows : ImageRows) → IsFeed feed
-    → groups_under bytes feed.plan ≡ Ok feed.groups → CutsFeed feed bytes unknown messages rest place number → number ≤ length (sound_groups feed) → IsLeft (sound_groups feed) number rows
-    → ((events : List EventValue) → HaveEvents messages events → AreInForce (source_of feed.plan) (reverse events) fields) → AreNamed feed.plan fields rows
-all_named law feed bytes messages rest place unknown number fields rows is_feed under cut sound left named =
+pub all_named : LeftRowsHaveColumns → (feed : FeedValue) (bytes : List ℕ) (unknown : UnknownTables) (number : ℕ) (fields : List FieldBytesValue) (place : List ℕ) (others : List (List ℕ)) (rest : List ℕ) (rows : ImageRows)
+    → IsFeed feed → groups_under bytes feed.plan ≡ Ok feed.groups → CutsFeed feed bytes unknown number fields place others rest → number ≤ length (sound_groups feed) → IsLeft (sound_groups feed) number rows
+    → AreNamed feed.plan fields rows
+all_named law feed bytes unknown number fields place others rest rows is_feed under c sound left =
     let source : SourceValue = source_of feed.plan in
-    let are : AreInForce source (past_of messages) fields = named (events_of_feed messages).items (opened_whole messages source cut.all cut.front.open_as) in
-    each (λ (row : KeyValue × RowValue). (columns : List FieldValue) × SaysColumnsOf feed.plan (past_of messages) row.0.table columns × (length row.1 ≡ length columns))
-    (λ (row : KeyValue × RowValue). HasName feed.plan fields row.0.table) (λ row fits. has_name feed.plan (past_of messages) fields are row.0.table fits.0 fits.1) rows
-    (left_fit feed bytes messages rest cut.all cut.front.parts cut.front.open_as under law is_feed rows number cut.many sound left)
-
--- a feed is cut where a front of it is found that loses nothing
-pub cuts : (feed : FeedValue) (bytes messages rest place : List ℕ) (all : List GroupValue) (unknown : UnknownTables) (number : ℕ) → groups_under bytes feed.plan ≡ Ok feed.groups → IsFront bytes (source_of feed.plan) messages rest place all
-    → number ≡ length all → loses feed.plan unknown all ≡ false → CutsFeed feed bytes unknown messages rest place number
-cuts feed bytes messages rest place all unknown number under front counted keeps = record {
-  all = all;
-  front = front;
-  many = sym counted;
-  within = (let few = no_more feed bytes messages rest all front.parts front.open_as under in omega (arith, few, counted));
-  keeps = keeps;
-}
+    let cut : IsCutBehind bytes source number fields place others rest = c.cut in
+    let past : PastEvents = reverse cut.front in
+    let many : number ≡ groups_to feed cut.front = sym cut.many in
+    each (λ (row : KeyValue × RowValue). (columns : List FieldValue) × SaysColumnsOf feed.plan past row.0.table columns × (length row.1 ≡ length columns))
+    (λ (row : KeyValue × RowValue). HasName feed.plan fields row.0.table) (λ row fits. has_name feed.plan past fields cut.in_force row.0.table fits.0 fits.1) rows
+    (
+    law feed cut.front (cut.behind ++ cut.later) rows is_feed (opened_of feed bytes (cut.front ++ (cut.behind ++ cut.later)) under cut.events)
+    (subst (λ (n : ℕ). n ≤ length (sound_groups feed)) many sound) (subst (λ (n : ℕ). IsLeft (sound_groups feed) n rows) many left)
+    )

@@ -194,16 +194,6 @@ pub record WritesOn (plan : PlanValue) (fields : List FieldBytesValue) (start ou
   pub ready : CanBePut plan fields waiting
   pub named : AreNamed plan fields (entry_rows left)
 
-pub writes_begin : (plan : PlanValue) (fields : List FieldBytesValue) (start : List ℕ) (waiting : WaitingValue) (all : ImageRows) (left : Entries) → entry_rows left ≡ all → AreNamed plan fields all → waiting.rows ≡ []
-    → WritesOn plan fields start start waiting all left
-writes_begin plan fields start waiting all left is named empty = record {
-  done = [];
-  parts = is;
-  going = going_begins plan start waiting empty;
-  ready = inl empty;
-  named = subst (AreNamed plan fields) (sym is) named;
-}
-
 pub writes_next : (plan : PlanValue) (fields : List FieldBytesValue) (start out new : List ℕ) (waiting ready next : WaitingValue) (all : ImageRows) (left more : Entries) (entry : KeyValue × (ℕ × RowValue)) (table : ℕ)
     → WritesOn plan fields start out waiting all left → left ≡ entry ∷ more → table ≡ entry.0.table → IsReady plan table waiting out ready new → next ≡ record { table = table; rows = ready.rows ++ entry.1.1 ∷ [] }
     → WritesOn plan fields start new next all more

@@ -1,21 +1,24 @@
 -- A feed whose first groups are compacted, and why one isn't (this profile).
-use Rattle.std.specs.Prelude.{◌≡◌, ℕ, ◌-◌, ◌<◌, ◌≤◌, List, ◌++◌, length, Bool, true, false, is_none, IfSome}
+use Rattle.std.specs.Prelude.{◌≡◌, ◌⊎◌, ℕ, ◌-◌, ◌<◌, ◌≤◌, List, [], ◌∷◌, ◌++◌, length, take, Bool, true, false, is_none, IfSome, Ok}
 use Rattle.std.specs.List.{list_any}
 use Rattle.filter_rule.specs.PlanValue.{PlanValue, table_of_name}
 use Rattle.source_feed.specs.FaultNumber.{meant_of}
 use Rattle.source_feed.specs.GroupValue.{TableChangeValue, GroupValue}
+use Rattle.source_feed.specs.Groups.{groups}
 use Rattle.source_feed.specs.Image.{ImageRows}
 use Rattle.source_feed.specs.Planned.{source_of, FeedValue}
 use Rattle.source_feed.specs.SoundGroups.{sound_groups, StopsBefore}
 use Rattle.source_feed.specs.declared.fault.FeedFault.{FeedFault}
 use Rattle.source_feed.specs.declared.fault.FeedFault.TheVariants as feed
-use Rattle.feed_bytes.specs.Front.{IsFront}
+use Rattle.event_laws.specs.WrittenMessages.{written_response, framed}
+use Rattle.feed_bytes.specs.Cut.{IsCutBehind}
+use Rattle.feed_bytes.specs.FieldBytes.{FieldBytesValue}
 use Rattle.compaction_laws.specs.Base.{IsLeft}
 use Rattle.compaction_laws.specs.CompactedBytes.{OpensCompacted}
 use Rattle.compaction.specs.declared.cut.UnknownTables.{UnknownTables}
 use Rattle.compaction.specs.declared.cut.UnknownTables.TheVariants.{Refused, LeftOut}
 use Rattle.compaction.specs.declared.fault.CompactFault.{CompactFault}
-use Rattle.compaction.specs.declared.fault.CompactFault.TheVariants.{UnknownTable, Unsound, TooLong, Memory}
+use Rattle.compaction.specs.declared.fault.CompactFault.TheVariants.{NoCut, UnknownTable, Unsound, TooLong, Memory}
 
 -- ---- tables that a plan lacks
 
@@ -32,29 +35,56 @@ abbrev pub loses : PlanValue → UnknownTables → List GroupValue → Bool
 loses plan Refused all = have_unknown plan all
 loses plan LeftOut all = false
 
--- ---- the cut
+-- ---- what must hold of a feed that is compacted up to a group
 
--- a feed is cut behind so many of its groups, by which no change is lost that isn't to be left out
-pub record CutsFeed (feed : FeedValue) (bytes : List ℕ) (unknown : UnknownTables) (messages rest place : List ℕ) (groups : ℕ) : Type 0 where
+-- it has the group
+pub record HasGroup (feed : FeedValue) (number : ℕ) : Type 0 where
+  pub some : 0 < number
+  pub within : number ≤ length feed.groups
+
+-- no change of its first so many groups is lost that isn't to be left out
+abbrev pub KeepsAll : FeedValue → List ℕ → UnknownTables → ℕ → Type 0
+KeepsAll feed bytes unknown number = (all : List GroupValue) → groups bytes (source_of feed.plan) ≡ Ok all → loses feed.plan unknown (take number all) ≡ false
+
+-- one is
+pub record LosesSome (feed : FeedValue) (bytes : List ℕ) (unknown : UnknownTables) (number : ℕ) : Type 0 where
   pub all : List GroupValue
-  pub front : IsFront bytes (source_of feed.plan) messages rest place all
-  pub many : length all ≡ groups
-  pub within : groups ≤ length feed.groups
-  pub keeps : loses feed.plan unknown all ≡ false
+  pub are : groups bytes (source_of feed.plan) ≡ Ok all
+  pub lost : loses feed.plan unknown (take number all) ≡ true
 
--- What is written is a base in the place of the first so many groups of a feed, and behind it the rest as it stands; it opens
--- under the feed's plan as the compacted feed. The base has so many rows, and no change is lost that isn't to be left out.
-pub record IsCompaction (feed : FeedValue) (bytes : List ℕ) (unknown : UnknownTables) (groups rows : ℕ) (written : List ℕ) : Type 0 where
-  pub some : 0 < groups
-  pub opens : OpensCompacted bytes feed.plan (groups - 1) written
-  pub messages : List ℕ
-  pub rest : List ℕ
+-- these groups are sound
+abbrev pub AreSound : FeedValue → ℕ → Type 0
+AreSound feed number = number ≤ length (sound_groups feed)
+
+-- ---- the new feed
+
+-- the other events of the message in which a feed is cut, as a message of their own, if there are some
+abbrev pub others_message : List (List ℕ) → List ℕ
+others_message [] = []
+others_message (event ∷ events) = framed (written_response (event ∷ events))
+
+-- a feed in two, behind a group up to which it can be compacted
+pub record CutsFeed (feed : FeedValue) (bytes : List ℕ) (unknown : UnknownTables) (number : ℕ) (fields : List FieldBytesValue) (place : List ℕ) (others : List (List ℕ)) (rest : List ℕ) : Type 0 where
+  pub has : HasGroup feed number
+  pub keeps : KeepsAll feed bytes unknown number
+  pub cut : IsCutBehind bytes (source_of feed.plan) number fields place others rest
+
+-- What is written is a base in the place of a feed's groups up to the one of a number, behind it the other events of the message
+-- that this one ends in, and the rest as it stands. It opens under the feed's plan as the compacted feed. The base has so many
+-- rows, just those that the groups leave, and no change is lost that isn't to be left out.
+pub record IsCompaction (feed : FeedValue) (bytes : List ℕ) (unknown : UnknownTables) (number rows : ℕ) (written : List ℕ) : Type 0 where
+  pub some : 0 < number
+  pub opens : OpensCompacted bytes feed.plan (number - 1) written
+  pub fields : List FieldBytesValue
   pub place : List ℕ
-  pub cut : CutsFeed feed bytes unknown messages rest place groups
+  pub others : List (List ℕ)
+  pub rest : List ℕ
+  pub cut : CutsFeed feed bytes unknown number fields place others rest
   pub base : List ℕ
-  pub parts : written ≡ base ++ rest
+  pub parts : written ≡ base ++ (others_message others ++ rest)
+  pub sound : AreSound feed number
   pub left : ImageRows
-  pub are_left : IsLeft (sound_groups feed) groups left
+  pub are_left : IsLeft (sound_groups feed) number left
   pub count : length left ≡ rows
 
 -- ---- refusals
@@ -70,18 +100,11 @@ IsLimit TooLong = Unit {0}
 IsLimit Memory = Unit {0}
 IsLimit fault = ⊥
 
--- a front of the feed has changes that would be lost
-pub record LosesRows (feed : FeedValue) (bytes : List ℕ) : Type 0 where
-  pub messages : List ℕ
-  pub rest : List ℕ
-  pub place : List ℕ
-  pub all : List GroupValue
-  pub front : IsFront bytes (source_of feed.plan) messages rest place all
-  pub lost : have_unknown feed.plan all ≡ true
-
--- what stands in a feed that isn't compacted for this: nothing is said of a want of memory, nor of where it can't be cut or would
--- be too long
-abbrev pub IsCause : FeedValue → List ℕ → CompactFault → Type 0
-IsCause feed bytes UnknownTable = LosesRows feed bytes
-IsCause feed bytes (Unsound fault) = (n : ℕ) × (n ≤ length feed.groups) × IfSome (meant_of fault) (StopsBefore feed n)
-IsCause feed bytes fault = Unit {0}
+-- What stands in a feed that isn't compacted up to a group: the first of these that isn't as it must be. Nothing is said of a
+-- want of memory, nor of how long the new feed would be.
+abbrev pub IsCause : FeedValue → List ℕ → UnknownTables → ℕ → CompactFault → Type 0
+IsCause feed bytes unknown number NoCut = (number ≡ 0) ⊎ (length feed.groups < number)
+IsCause feed bytes unknown number UnknownTable = HasGroup feed number × LosesSome feed bytes unknown number
+IsCause feed bytes unknown number (Unsound fault) = HasGroup feed number × KeepsAll feed bytes unknown number × IfSome (meant_of fault) (StopsBefore feed number)
+IsCause feed bytes unknown number TooLong = HasGroup feed number × KeepsAll feed bytes unknown number × AreSound feed number
+IsCause feed bytes unknown number Memory = Unit {0}

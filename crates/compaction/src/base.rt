@@ -4,13 +4,15 @@ ghost use Rattle.std.specs.Prelude.{◌≡◌, ◌++◌, ◌∷◌, [], IfOk, On
 ghost use Rattle.vevent.specs.Event.{event_at};
 ghost use Rattle.vevent.specs.EventView.{event_value};
 ghost use Rattle.vevent.specs.WrittenEvent.{IsSoundEvent};
+ghost use Rattle.compaction.specs.Compacting.{others_message};
 ghost use Rattle.compaction.specs.Private.Written.{AddsBase, AddsEnd, AddsFields, AddsRows, AreNamed};
 
 use crate::fault::WriteFault;
 use crate::left_rows::LeftRows;
-use crate::waiting::Waiting;
+use crate::waiting::{Waiting, is_short};
 use feed_bytes::{FieldBytes, write_message};
 use filter_rule::Plan;
+use proto_wire::Parts;
 use std::alloc::{AllocError, Global};
 use vevent::{Event, write_event};
 
@@ -21,7 +23,7 @@ fn bytes_of(alloc: Global, event: &Event<'_>) -> Result<Vec<u8>, AllocError>
 {
     let mut bytes = Vec::new(alloc);
     write_event(&mut bytes, event)?;
-    bytes.len();
+    is_short(&bytes);
     Ok(bytes)
 }
 
@@ -102,4 +104,30 @@ pub(crate) fn write_base<'h>(
     write_rows(alloc, out, plan, fields, rows)?;
     write_end(alloc, out, place)?;
     Ok(())
+}
+
+/// The events that are left of a message.
+fn gathered<'h>(alloc: Global, others: Parts<'h>) -> Result<Vec<&'h [u8]>, AllocError>
+    ensures { IfOk result (λ events. map (λ event. event.now) events.items ≡ others.entry) }
+{
+    let mut events = Vec::new(alloc);
+    for event in others {
+        events.push(event)?;
+    }
+    Ok(events)
+}
+
+/// Appends the events that are left of a message as one of their own, if there are some.
+pub(crate) fn write_others(
+    alloc: Global,
+    out: &mut Vec<u8>,
+    others: Parts<'_>,
+) -> Result<(), AllocError>
+    ensures { OnOk result (out.new.items ≡ out.old.items ++ others_message others.entry) }
+{
+    let events = gathered(alloc, others)?;
+    if events.is_empty() {
+        return Ok(());
+    }
+    write_message(out, &events)
 }

@@ -1,14 +1,17 @@
 //! Where a feed is cut, and what would be lost there.
 
-ghost use Rattle.std.specs.Prelude.{◌≡◌, ◌≤◌, IfErr, IfOk, Ok};
+ghost use Rattle.std.specs.Prelude.{◌≡◌, List, take, IfErr, IfOk, Ok};
 ghost use Rattle.std.specs.List.{list_any};
+ghost use Rattle.source_feed.specs.GroupValue.{GroupValue};
+ghost use Rattle.source_feed.specs.Groups.{groups};
 ghost use Rattle.source_feed.specs.Planned.{groups_under, source_of};
 ghost use Rattle.compaction.specs.Compacting.{CutsFeed, IsCause, have_unknown, is_unknown, loses};
+ghost use Rattle.compaction.specs.declared.fault.CompactFault.TheVariants.{Memory};
 
 use crate::fault::CompactFault;
-use feed_bytes::{Source, front_up_to};
+use feed_bytes::{Cut, Source, cut_behind};
 use filter_rule::Plan;
-use source_feed::{Feed, Group, Groups};
+use source_feed::{Feed, Group, Groups, read_groups};
 use std::alloc::Global;
 
 /// What becomes of changes of tables that the plan lacks, which a base can't have.
@@ -18,19 +21,6 @@ pub enum UnknownTables {
     Refused,
     /// They are left out.
     LeftOut,
-}
-
-/// A feed in two, behind one of its groups.
-#[derive(Drop)]
-pub(crate) struct CutFeed<'h> {
-    /// The messages up to there.
-    pub(crate) messages: &'h [u8],
-    /// All bytes behind them.
-    pub(crate) rest: &'h [u8],
-    /// An event of the messages that carries the position of their last group.
-    pub(crate) place: &'h [u8],
-    /// How many groups they make.
-    pub(crate) groups: u32,
 }
 
 /// Whose feed it is.
@@ -53,11 +43,16 @@ fn has_unknown(plan: &Plan, group: &Group<'_, '_>) -> bool
     false
 }
 
-/// One of some groups has a change of a table that the plan lacks.
-fn have_unknown(plan: &Plan, groups: &Groups<'_>) -> bool
-    ensures { result ≡ have_unknown plan.now groups.now.items }
+/// One of the first so many of some groups has a change of a table that the plan lacks.
+fn have_unknown(plan: &Plan, groups: &Groups<'_>, number: u32) -> bool
+    ensures { result ≡ have_unknown plan.now (take number groups.now.items) }
 {
+    let mut left = number;
     for group in groups.iter() {
+        if left == 0 {
+            return false;
+        }
+        left -= 1;
         if has_unknown(plan, &group) {
             return true;
         }
@@ -65,51 +60,49 @@ fn have_unknown(plan: &Plan, groups: &Groups<'_>) -> bool
     false
 }
 
-/// Changes of some groups would be lost that aren't to be left out.
-fn would_lose(feed: &Feed<'_>, unknown: UnknownTables, groups: &Groups<'_>) -> bool
-    ensures { result ≡ loses feed.now.plan unknown groups.now.items }
+/// Changes of the feed's groups up to the one of a number would be lost that aren't to be left out. An error is want of
+/// memory: the bytes open as a feed.
+fn would_lose(
+    alloc: Global,
+    bytes: &[u8],
+    feed: &Feed<'_>,
+    number: u32,
+    unknown: UnknownTables,
+) -> Result<bool, CompactFault>
+    ensures lost { IfOk result (λ lost. (all : List GroupValue) → groups bytes.now (source_of feed.now.plan) ≡ Ok all → lost ≡ loses feed.now.plan unknown (take number all)) }
+    ensures memory { IfErr result (λ fault. fault ≡ Memory) }
 {
-    match unknown {
-        UnknownTables::Refused => have_unknown(feed.plan(), groups),
-        UnknownTables::LeftOut => false,
+    if unknown == UnknownTables::LeftOut {
+        return Ok(false);
+    }
+    let plan = feed.plan();
+    match read_groups(alloc, bytes, plan.keyspace(), plan.shard()) {
+        Ok(groups) => Ok(have_unknown(plan, &groups, number)),
+        Err(_) => Err(CompactFault::Memory),
     }
 }
 
-/// Cuts a feed behind its last group up to the one of this number that ends with a message. That these are the feed's bytes
-/// is the caller's.
+/// Cuts a feed behind its group of a number, from 1. That these are the feed's bytes is the caller's.
 ///
-/// Refused as `NoCut` where no message ends so, and as `UnknownTable` where changes would be lost that aren't to be left
-/// out. Any other error is want of memory.
+/// Refused as `NoCut` where the feed has no such group, and as `UnknownTable` where changes would be lost that aren't to be
+/// left out. Any other error is want of memory.
 pub(crate) fn cut<'h>(
     alloc: Global,
     bytes: &'h [u8],
     feed: &Feed<'h>,
     number: u32,
     unknown: UnknownTables,
-) -> Result<CutFeed<'h>, CompactFault>
+) -> Result<Cut<'h>, CompactFault>
     requires { groups_under bytes.now feed.now.plan ≡ Ok feed.now.groups }
-    ensures cuts { IfOk result (λ cut. CutsFeed feed.now bytes.now unknown cut.messages.now cut.rest.now cut.place.now cut.groups) }
-    ensures within { IfOk result (λ cut. cut.groups ≤ number) }
-    ensures cause { IfErr result (IsCause feed.now bytes.now) }
+    ensures cuts { IfOk result (λ cut. CutsFeed feed.now bytes.now unknown number cut.fields.items cut.place.now cut.others cut.rest.now) }
+    ensures cause { IfErr result (IsCause feed.now bytes.now unknown number) }
 {
     let source = source_for(feed);
-    let Some(last) = feed.position(number) else {
+    let Some(cut) = cut_behind(alloc, bytes, &source, number)? else {
         return Err(CompactFault::NoCut);
     };
-    let Some(front) = front_up_to(alloc, bytes, &source, last)? else {
-        return Err(CompactFault::NoCut);
-    };
-    if front.groups.len() > number as usize {
-        return Err(CompactFault::NoCut);
-    }
-    if would_lose(feed, unknown, &front.groups) {
+    if would_lose(alloc, bytes, feed, number, unknown)? {
         return Err(CompactFault::UnknownTable);
     }
-    let groups = front.groups.len() as u32;
-    Ok(CutFeed {
-        messages: front.messages,
-        rest: front.rest,
-        place: front.place,
-        groups,
-    })
+    Ok(cut)
 }

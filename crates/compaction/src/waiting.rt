@@ -68,8 +68,8 @@ fn is_name_of(plan: &Plan, source: &Source<'_>, table: u8, name: &str) -> bool
     }
 }
 
-/// No memory has more bytes than 64 bits count.
-fn is_short(out: &Vec<u8>)
+/// A law of what is in memory: it has no more bytes than 64 bits count.
+pub(crate) fn is_short(out: &Vec<u8>)
     ensures { length out.now.items < 2 ^ 64 }
 {
     out.len();

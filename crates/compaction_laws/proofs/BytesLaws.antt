@@ -1,5 +1,5 @@
 -- Messages in the place of a feed's first ones open as the compacted feed.
-use Rattle.std.proofs.Common.{◌≡◌, ℕ, ◌+◌, ◌-◌, ◌^◌, ◌<◌, ◌≤◌, List, [], ◌∷◌, ◌++◌, length, map, reverse, nat_lt, true, None, Some, get_or, Result, Ok, Err, refl, sym, ap, subst, ◌∙◌, arith, inl, inr}
+use Rattle.std.proofs.Common.{◌≡◌, ℕ, ◌-◌, ◌^◌, ◌<◌, List, [], ◌∷◌, ◌++◌, length, map, reverse, nat_lt, true, None, Some, get_or, Result, Ok, Err, refl, sym, ap, ◌∙◌, arith, inl, inr}
 use Rattle.std.proofs.lemmas.Bool.{cases_Bool, cond-true, cond-false}
 use Rattle.std.proofs.lemmas.List.Quantifiers.{position-Some}
 use Rattle.std.proofs.lemmas.Option.{same_Some}
@@ -16,20 +16,18 @@ use Rattle.source_feed.specs.declared.fault.FeedFault.{FeedFault}
 use Rattle.source_feed.specs.declared.fault.FeedFault.TheVariants.{FeedTooLong}
 use Rattle.source_feed.specs.EventList.{events_of_feed}
 use Rattle.source_feed.specs.GroupValue.{GroupValue}
-use Rattle.source_feed.specs.Groups.{Block, groups_in, groups}
+use Rattle.source_feed.specs.Groups.{groups_in, groups}
 use Rattle.source_feed.specs.History.{RowValue}
 use Rattle.source_feed.specs.Image.{ImageRows}
 use Rattle.source_feed.specs.PastEvents.{PastEvents, last_field}
 use Rattle.source_feed.specs.Planned.{source_of, planned_groups, groups_under, PlannedGroupValue, FeedValue, IsFeed}
-use Rattle.source_feed.specs.SoundGroups.{sound_groups}
 use Rattle.source_feed.specs.SourceValue.{SourceValue, table_in_source}
 use Rattle.event_laws.specs.BaseEvents.{base_events}
 use Rattle.event_laws.specs.InForce.{in_force}
-use Rattle.event_laws.specs.Laws.{HaveEvents, IsRest, IsWholeCut, WholeFeedsAreCuts, groups_to_end}
-use Rattle.event_laws.proofs.RestLaws.{whole_behind, rest_of_whole, opened_whole}
+use Rattle.event_laws.specs.Laws.{HaveEvents}
+use Rattle.event_laws.proofs.RestLaws.{whole_behind}
 use Rattle.event_laws.proofs.RunLaws.{not_given}
-use Rattle.compaction_laws.specs.Base.{IsLeft}
-use Rattle.compaction_laws.specs.CompactedBytes.{past_of, ReplacesFront, OpensCompacted}
+use Rattle.compaction_laws.specs.CompactedBytes.{ReplacesFront, OpensCompacted}
 use Rattle.compaction_laws.specs.CompactedFeed.{IsFeedOf, groups_to, IsBaseFor, IsCompactedFeed}
 use Rattle.compaction_laws.specs.Portions.{Portion, event_of, rows_of, IsPortion, IsOfOneTable}
 use Rattle.compaction_laws.specs.Laws.{FeedsStayWhatTheyWere, LeftRowsHaveColumns, SaysColumnsOf}
@@ -114,79 +112,46 @@ are_portions plan history (p ∷ portions) are fits =
 
 -- ---- the bytes
 
-module _ (cuts : WholeFeedsAreCuts) (stay : FeedsStayWhatTheyWere) (columns : LeftRowsHaveColumns) (feed : FeedValue) (front rest base : List ℕ) (r : ReplacesFront feed front base) (whole : IsFeed feed)
-    (opened : groups_under (front ++ rest) feed.plan ≡ Ok feed.groups) (short : length (base ++ rest) < 2 ^ 31) where
+-- bytes that open as a feed say it by their events
+pub opened_of : (feed : FeedValue) (bytes : List ℕ) (events : List EventValue) → groups_under bytes feed.plan ≡ Ok feed.groups → HaveEvents bytes events → IsFeedOf feed events
+opened_of feed bytes events opened have =
+    let plan : PlanValue = feed.plan in
+    let all = given_groups plan (events_of_feed bytes).items (groups bytes (source_of plan)) feed.groups opened in
+    ap (λ (read : Reading EventValue FeedFault). planned_groups plan events (groups_in (source_of plan) read)) (sym have.are)
+    ∙ ap (planned_groups plan events) (sym (short_groups bytes (source_of plan) all.0 all.1))
+    ∙ ap (λ (read : Reading EventValue FeedFault). planned_groups plan read.items (groups bytes (source_of plan))) (sym have.are)
+    ∙ opened
+
+module _ (stay : FeedsStayWhatTheyWere) (columns : LeftRowsHaveColumns) (feed : FeedValue) (bytes : List ℕ) (front behind : List EventValue) (base rest : List ℕ) (r : ReplacesFront feed front base) (whole : IsFeed feed)
+    (opened : groups_under bytes feed.plan ≡ Ok feed.groups) (all_events : HaveEvents bytes (front ++ behind)) (others : HaveEvents rest behind) (short : length (base ++ rest) < 2 ^ 31) where
   abbrev plan : PlanValue
   plan = feed.plan
 
   abbrev source : SourceValue
   source = source_of plan
 
-  abbrev bytes : List ℕ
-  bytes = front ++ rest
+  is_of : IsFeedOf feed (front ++ behind)
+  is_of = opened_of feed bytes (front ++ behind) opened all_events
 
-  abbrev all_events : List EventValue
-  all_events = (events_of_feed bytes).items
-
-  abbrev front_events : List EventValue
-  front_events = (events_of_feed front).items
-
-  abbrev block : Block
-  block = record { position = r.last.position; changes = r.last.changes }
-
-  all : (all : List GroupValue) × (groups bytes source ≡ Ok all)
-  all = given_groups plan all_events (groups bytes source) feed.groups opened
-
-  all_whole : HaveEvents bytes all_events
-  all_whole = opened_whole bytes source all.0 all.1
-
-  cut : IsWholeCut front source r.before r.last
-  cut = cuts front source r.before r.last r.open_as
-
-  behind : IsRest rest front_events all_events
-  behind = rest_of_whole front rest front_events all_events cut.events all_whole
-
-  is_of : IsFeedOf feed (front_events ++ behind.others)
-  is_of =
-      ap (λ (events : List EventValue). planned_groups plan events (groups_to_end source events)) (sym behind.are)
-      ∙ ap (λ (events : Reading EventValue FeedFault). planned_groups plan all_events (groups_in source events)) (sym all_whole.are)
-      ∙ ap (planned_groups plan all_events) (sym (short_groups bytes source all.0 all.1))
-      ∙ opened
-
-  many : groups_to feed front_events ≡ length r.before + 1
-  many = cut.many
-
-  sound : groups_to feed front_events ≤ length (sound_groups feed)
-  sound = subst (λ n. n ≤ length (sound_groups feed)) (sym many) r.sound
-
-  left : IsLeft (sound_groups feed) (groups_to feed front_events) (rows_of r.portions)
-  left = subst (λ n. IsLeft (sound_groups feed) n (rows_of r.portions)) (sym many) r.left
-
-  portions : AllByRecursion (IsPortion plan (past_of front)) r.portions
-  portions = are_portions plan (past_of front) r.portions r.each_portion (columns feed front_events behind.others (rows_of r.portions) whole is_of sound left)
+  portions : AllByRecursion (IsPortion plan (reverse front)) r.portions
+  portions = are_portions plan (reverse front) r.portions r.each_portion (columns feed front behind (rows_of r.portions) whole is_of r.sound r.left)
 
   abbrev fields : List EventValue
-  fields = reverse (in_force source (past_of front))
+  fields = reverse (in_force source (reverse front))
 
   abbrev events : List EventValue
-  events = base_events fields (map event_of r.portions) r.place ++ behind.others
+  events = base_events fields (map event_of r.portions) r.place ++ behind
 
-  base_for : IsBaseFor feed front_events fields (map event_of r.portions) r.place r.last.position (rows_of r.portions)
-  base_for =
-      portions_are feed front_events behind.others block r.place r.portions is_of cut.cut r.carries sound portions
-      left
+  base_for : IsBaseFor feed front fields (map event_of r.portions) r.place r.block.position (rows_of r.portions)
+  base_for = portions_are feed front behind r.block r.place r.portions is_of r.cut r.carries r.sound portions r.left
 
-  fewer_is : groups_to feed front_events - 1 ≡ length r.before
-  fewer_is = omega (arith, many)
-
-  made : IsCompactedFeed feed (length r.before) events
-  made = subst (λ n. IsCompactedFeed feed n events) fewer_is
-      (stay feed front_events behind.others fields (map event_of r.portions) r.place r.last.position (rows_of r.portions) whole is_of base_for)
+  made : IsCompactedFeed feed (groups_to feed front - 1) events
+  made = stay feed front behind fields (map event_of r.portions) r.place r.block.position (rows_of r.portions) whole is_of base_for
 
   have : HaveEvents (base ++ rest) events
-  have = whole_behind base rest (base_events fields (map event_of r.portions) r.place) behind.others r.have behind.have
+  have = whole_behind base rest (base_events fields (map event_of r.portions) r.place) behind r.have others
 
-  pub opens_compacted : OpensCompacted (front ++ rest) feed.plan (length r.before) (base ++ rest)
+  pub opens_compacted : OpensCompacted bytes feed.plan (groups_to feed front - 1) (base ++ rest)
   opens_compacted = record {
     old = feed;
     under = refl;
@@ -194,5 +159,5 @@ module _ (cuts : WholeFeedsAreCuts) (stay : FeedsStayWhatTheyWere) (columns : Le
     events = events;
     have = have;
     compacted = made;
-    opens = ap (groups_under (base ++ rest)) (sym made.same_plan) ∙ bytes_open feed (length r.before) events made (base ++ rest) have short;
+    opens = ap (groups_under (base ++ rest)) (sym made.same_plan) ∙ bytes_open feed (groups_to feed front - 1) events made (base ++ rest) have short;
   }

@@ -1,5 +1,5 @@
 -- The rows that are left are the same under each plan over the same tables, and so a base is one under each.
-use Rattle.std.proofs.Common.{◌≡◌, ℕ, zero, suc, ◌+◌, ◌≤◌, Bool, cond, List, [], ◌∷◌, ◌++◌, length, map, take, Option, Some, None, option_map, option_and_then, Result, Ok, Err, slice_get, refl, sym, ap, ◌∙◌, arith}
+use Rattle.std.proofs.Common.{◌≡◌, ℕ, zero, suc, ◌≤◌, Bool, cond, List, [], ◌∷◌, ◌++◌, length, map, take, Option, Some, None, option_map, option_and_then, Result, Ok, Err, slice_get, refl, sym, ap, ◌∙◌, arith}
 use Rattle.std.proofs.lemmas.List.{map-append}
 use Rattle.std.proofs.lemmas.Option.{same_Some}
 use Rattle.std.specs.List.{AllByRecursion, flat_map}
@@ -178,16 +178,15 @@ portions_deciding : (plan : PlanValue) (decisions : List Decision) (portions : L
 portions_deciding plan decisions [] h = tt
 portions_deciding plan decisions (p ∷ portions) h = (record { table = h.0.table; planned = h.0.planned; keys = h.0.keys; some = h.0.some }, portions_deciding plan decisions portions h.1)
 
-replaces_deciding : (feed : FeedValue) (decisions : List Decision) (front base : List ℕ) (r : ReplacesFront feed front base) → length r.before + 1 ≤ length (sound_groups (feed_deciding feed decisions))
+replaces_deciding : (feed : FeedValue) (decisions : List Decision) (front : List EventValue) (base : List ℕ) → ReplacesFront feed front base → groups_to feed front ≤ length (sound_groups (feed_deciding feed decisions))
     → ReplacesFront (feed_deciding feed decisions) front base
 replaces_deciding feed decisions front base r sound = record {
-  before = r.before;
-  last = r.last;
-  open_as = r.open_as;
+  block = r.block;
+  cut = r.cut;
   sound = sound;
   portions = r.portions;
   each_portion = portions_deciding feed.plan decisions r.portions r.each_portion;
-  left = left_deciding feed decisions (length r.before + 1) (rows_of r.portions) r.sound sound r.left;
+  left = left_deciding feed decisions (groups_to feed front) (rows_of r.portions) r.sound sound r.left;
   place = r.place;
   carries = r.carries;
   have = r.have;
@@ -202,6 +201,5 @@ feed_whole feed decisions whole plan = record {
 }
 
 pub compacted_deciding : BytesAreCompacted → BytesAreCompactedUnderAll
-unfolding replaces_deciding
-compacted_deciding law feed decisions front rest base r whole opened short plan sound =
-    law (feed_deciding feed decisions) front rest base (replaces_deciding feed decisions front base r sound) (feed_whole feed decisions whole plan) opened short
+compacted_deciding law feed decisions bytes front behind base rest r whole opened events others short plan sound =
+    law (feed_deciding feed decisions) bytes front behind base rest (replaces_deciding feed decisions front base r sound) (feed_whole feed decisions whole plan) opened events others short

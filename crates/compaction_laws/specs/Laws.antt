@@ -125,20 +125,21 @@ PortionsAreABase =
     → IsLeft (sound_groups feed) (groups_to feed front) (rows_of portions)
     → IsBaseFor feed front (reverse (in_force (source_of feed.plan) (reverse front))) (map event_of portions) place block.position (rows_of portions)
 
--- bytes that open as a feed under its plan, with other messages in the place of the first ones, open as the compacted feed
+-- Bytes open as a feed under its plan, whose events are those of a front and others behind it; other messages in the place of
+-- the front, and behind them messages with the others, open as the compacted feed.
 abbrev pub BytesAreCompacted : Type 0
 BytesAreCompacted =
-    (feed : FeedValue) (front rest base : List ℕ) (r : ReplacesFront feed front base) → IsFeed feed → groups_under (front ++ rest) feed.plan ≡ Ok feed.groups
-    → length (base ++ rest) < 2 ^ 31 → OpensCompacted (front ++ rest) feed.plan (length r.before) (base ++ rest)
+    (feed : FeedValue) (bytes : List ℕ) (front behind : List EventValue) (base rest : List ℕ) → ReplacesFront feed front base → IsFeed feed → groups_under bytes feed.plan ≡ Ok feed.groups
+    → HaveEvents bytes (front ++ behind) → HaveEvents rest behind → length (base ++ rest) < 2 ^ 31 → OpensCompacted bytes feed.plan (groups_to feed front - 1) (base ++ rest)
 
 -- ---- other plans over the same tables
 
 -- and so do they under each plan over the same tables under which the replaced groups are sound
 abbrev pub BytesAreCompactedUnderAll : Type 0
 BytesAreCompactedUnderAll =
-    (feed : FeedValue) (decisions : List Decision) (front rest base : List ℕ) (r : ReplacesFront feed front base) → IsFeed feed → groups_under (front ++ rest) feed.plan ≡ Ok feed.groups
-    → length (base ++ rest) < 2 ^ 31 → IsPlan (deciding feed.plan decisions) → length r.before + 1 ≤ length (sound_groups (feed_deciding feed decisions))
-    → OpensCompacted (front ++ rest) (deciding feed.plan decisions) (length r.before) (base ++ rest)
+    (feed : FeedValue) (decisions : List Decision) (bytes : List ℕ) (front behind : List EventValue) (base rest : List ℕ) → ReplacesFront feed front base → IsFeed feed → groups_under bytes feed.plan ≡ Ok feed.groups
+    → HaveEvents bytes (front ++ behind) → HaveEvents rest behind → length (base ++ rest) < 2 ^ 31 → IsPlan (deciding feed.plan decisions)
+    → groups_to feed front ≤ length (sound_groups (feed_deciding feed decisions)) → OpensCompacted bytes (deciding feed.plan decisions) (groups_to feed front - 1) (base ++ rest)
 
 -- the rows that groups leave don't hang on what the filter answers, where there is an answer
 abbrev pub LeftRowsAreOfAllDecisions : Type 0

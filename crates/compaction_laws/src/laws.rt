@@ -2,7 +2,7 @@
 
 ghost use Rattle.compaction_laws.specs.Laws.{BasesKeepHistories, LeftRowsAreABase, FeedsStayWhatTheyWere, CompactedBytesOpen, CheckpointsGoOn, BoardsGoOn, LeftRowsHaveColumns, PortionsAreABase, BytesAreCompacted, BytesAreCompactedUnderAll, LeftRowsAreOfAllDecisions, BasesAreOfAllDecisions};
 
-use event_laws::{changes_have_columns, feeds_are_compacted, whole_feeds_are_cuts};
+use event_laws::{changes_have_columns, feeds_are_compacted};
 use pk_copy::keys_tie_where_they_are_equal;
 
 /// From a base on a history stays what it was: what stands at each key, what of it passes and is kept, and the positions.
@@ -59,12 +59,11 @@ pub fn portions_are_a_base()
     ensures { PortionsAreABase }
 {}
 
-/// Bytes that open as a feed, with other messages in the place of the first ones, open under its plan as the compacted feed:
+/// Bytes that open as a feed, with other messages in the place of its first events, open under its plan as the compacted feed:
 /// where those have the FIELDs in force, the rows that are left, and the position of the last group that they replace.
 pub fn bytes_are_compacted()
     ensures { BytesAreCompacted }
 {
-    whole_feeds_are_cuts();
     feeds_stay_what_they_were();
     left_rows_have_columns();
 }

@@ -1,3 +1,6 @@
 pub mod InsertLaws
 pub mod FieldLaws
-pub mod FrontLaws
+pub mod CourseLaws
+pub mod WalkLaws
+pub mod NextLaws
+pub mod SearchLaws

@@ -1,4 +1,4 @@
 pub mod Inserts
-pub mod Front
 pub mod FieldBytes
+pub mod Cut
 pub mod Private

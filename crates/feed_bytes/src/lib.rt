@@ -1,15 +1,17 @@
-//! The bytes of a feed: its first messages, behind which it can be cut, the FIELDs in force there, and messages that are
-//! written from events and from rows.
+//! The bytes of a feed: where it is cut behind a group, with the FIELDs in force there, and messages that are written from
+//! events and from rows.
 #![tactic(auto)]
 
+mod course;
+mod cut;
 mod fields;
-mod front;
 mod inserts;
 mod message;
 mod place;
+mod set_laws;
 
-pub use fields::{FieldBytes, fields_in_force};
-pub use front::{Front, front_up_to};
+pub use cut::{Cut, cut_behind};
+pub use fields::FieldBytes;
 pub use inserts::write_inserts;
 pub use message::write_message;
 pub use place::Source;

@@ -13,6 +13,7 @@ use Rattle.event_laws.specs.WrittenMessages.{written_messages}
 use Rattle.feed_bytes.specs.FieldBytes.{FieldBytesValue}
 use Rattle.feed_bytes.specs.Inserts.{inserts}
 use Rattle.compaction_laws.specs.Portions.{Portion, event_of, rows_of, IsOfOneTable}
+use Rattle.compaction.specs.Compacting.{others_message}
 
 -- messages were written behind what was there, and their events are read as these
 pub record AddsEvents (old new : List ℕ) (events : List EventValue) : Type 0 where
@@ -87,9 +88,9 @@ abbrev pub AddsBase : PlanValue → List ℕ → List ℕ → List FieldBytesVal
 AddsBase plan old new fields rows place =
     (events : List EventValue) (event : EventValue) → map (λ field. event_at field.bytes) fields ≡ map Ok events → event_at place ≡ Ok event → IsBase plan old new events rows event
 
--- a base was written, and behind it a rest, and both aren't too long
-pub record IsWrittenOver (plan : PlanValue) (fields : List FieldBytesValue) (rows : ImageRows) (place rest new : List ℕ) : Type 0 where
+-- a base was written, behind it the other events of a message and a rest, and all isn't too long
+pub record IsWrittenOver (plan : PlanValue) (fields : List FieldBytesValue) (rows : ImageRows) (place : List ℕ) (others : List (List ℕ)) (rest new : List ℕ) : Type 0 where
   pub base : List ℕ
   pub adds : AddsBase plan [] base fields rows place
-  pub parts : new ≡ base ++ rest
+  pub parts : new ≡ base ++ (others_message others ++ rest)
   pub short : length new < 2 ^ 31

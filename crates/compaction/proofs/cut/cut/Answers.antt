@@ -1,16 +1,31 @@
-use Rattle.std.proofs.Common.{◌≡◌, IfSome, false, subst}
-use Rattle.feed_bytes.specs.Front.{IsFront}
-use Rattle.compaction.specs.Compacting.{loses}
-use Rattle.compaction.proofs.CutLaws.{cuts}
+use Rattle.std.proofs.Common.{◌≡◌, ◌⊎◌, ◌<◌, List, length, Ok, subst}
+use Rattle.std.specs.Prelude.{MatchOption}
+use Rattle.source_feed.specs.GroupValue.{GroupValue}
+use Rattle.source_feed.specs.Groups.{groups}
+use Rattle.feed_bytes.specs.Cut.{IsCutBehind}
+use Rattle.compaction.proofs.CutLaws.{cuts, loses_some}
 use Rattle.compaction.proofs.cut.cut.Goals as goal
+
+pub returns-then-branch-clause-cause : goal.returns-then-branch-clause-cause
+returns-then-branch-clause-cause c =
+    let bytes = c.args.bytes.now in
+    let number = c.args.number in
+    let source = c.source_for-source.result in
+    let f = c.in-Some.cut in
+    let there =
+    subst (λ o. (all : List GroupValue) → groups bytes source ≡ Ok all → MatchOption o ((number ≡ 0) ⊎ (length all < number)) (λ g. IsCutBehind bytes source number g.fields.items g.place.now g.others g.rest.now)) c.in-Some.is
+    c.in_ok-cut.ensures in
+    let found = subst (λ s. (all : List GroupValue) → groups bytes s ≡ Ok all → IsCutBehind bytes s number f.fields.items f.place.now f.others f.rest.now) c.source_for-source.ensures there in
+    loses_some c.args.feed.now bytes c.args.unknown number f.fields.items f.place.now f.others f.rest.now c.in_ok-would_lose.field-0 c.requires found c.in_ok-would_lose.ensures.lost c.if-branch.true
 
 pub returns-clause-cuts : goal.returns-clause-cuts
 returns-clause-cuts c =
-    let f = c.in-Some-2.front in
-    let feed = c.args.feed.now in
-    let there = subst (λ o. IfSome o (λ g. IsFront c.args.bytes.now c.source_for-source.result g.messages.now g.rest.now g.place.now g.groups.items)) c.in-Some-2.is c.in_ok-front.ensures in
-    let front = subst (λ s. IsFront c.args.bytes.now s f.messages.now f.rest.now f.place.now f.groups.items) c.source_for-source.ensures there in
-    let said = c.would_lose.ensures in
-    let not_said = c.if-would_lose.false in
-    let keeps : loses feed.plan c.args.unknown f.groups.items ≡ false = cc in
-    cuts feed c.args.bytes.now f.messages.now f.rest.now f.place.now f.groups.items c.args.unknown c.len-groups.result c.requires front c.len-groups.ensures keeps
+    let bytes = c.args.bytes.now in
+    let number = c.args.number in
+    let source = c.source_for-source.result in
+    let f = c.in-Some.cut in
+    let there =
+    subst (λ o. (all : List GroupValue) → groups bytes source ≡ Ok all → MatchOption o ((number ≡ 0) ⊎ (length all < number)) (λ g. IsCutBehind bytes source number g.fields.items g.place.now g.others g.rest.now)) c.in-Some.is
+    c.in_ok-cut.ensures in
+    let found = subst (λ s. (all : List GroupValue) → groups bytes s ≡ Ok all → IsCutBehind bytes s number f.fields.items f.place.now f.others f.rest.now) c.source_for-source.ensures there in
+    cuts c.args.feed.now bytes c.args.unknown number f.fields.items f.place.now f.others f.rest.now c.in_ok-would_lose.field-0 c.requires found c.in_ok-would_lose.ensures.lost c.if-branch.false
