@@ -1,5 +1,5 @@
 -- What a transaction adds to the position before it (MySQL manual, "GTID Sets"; of MariaDB, this profile).
-use Rattle.std.specs.Prelude.{ℕ, ◌+◌, ◌&&◌, nat_lt, nat_le, if◌then◌else◌, List, length, take, Option, Some, None, Result, Ok, Err}
+use Rattle.std.specs.Prelude.{ℕ, ◌+◌, ◌^◌, ◌&&◌, nat_lt, nat_le, if◌then◌else◌, List, length, take, Option, Some, None, Result, Ok, Err}
 use Rattle.std.specs.Int.{w128, from_be_bytes}
 use Rattle.gtid_set.specs.declared.interval.Interval.{Interval}
 use Rattle.gtid_set.specs.Position.{last_number}
@@ -15,9 +15,9 @@ uuid_of bytes = if nat_lt (length bytes) 16 then None else Some (from_be_bytes w
 abbrev pub domain_uuid : ℕ → ℕ
 domain_uuid domain = 0x6d617269616462008000000000000000 + domain
 
--- the numbers of a uuid from a first to a last one, where they are numbers of transactions
+-- the numbers of a uuid, which has 128 bits, from a first to a last one, where they are numbers of transactions
 abbrev pub span : ℕ → ℕ → ℕ → Result Interval PlaceFault
-span uuid first last = if nat_le 1 first && nat_le first last && nat_le last last_number then Ok (record { uuid = uuid; first = first; last = last }) else Err NoNumber
+span uuid first last = if nat_lt uuid (2 ^ 128) && nat_le 1 first && nat_le first last && nat_le last last_number then Ok (record { uuid = uuid; first = first; last = last }) else Err NoNumber
 
 abbrev pub single : ℕ → Option ℕ → Result Interval PlaceFault
 single n None = Err NoNumber

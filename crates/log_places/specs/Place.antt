@@ -2,7 +2,7 @@
 use Rattle.std.specs.Prelude.{◌≡◌, if◌then◌else◌, List, [], ◌∷◌, Result, Ok, Err}
 use Rattle.outcome.specs.Outcome.{◌>>=◌}
 use Rattle.gtid_set.specs.declared.interval.Interval.{Interval}
-use Rattle.gtid_set.specs.Position.{IsInterval, IsCanonical, IsWithin, union_of, within_of, same_set}
+use Rattle.gtid_set.specs.Position.{IsCanonical, IsWithin, union_of, within_of, same_set}
 use Rattle.log_events.specs.Event.{LogEvent}
 use Rattle.log_groups.specs.Step.{GtidValue}
 use Rattle.log_places.specs.declared.fault.PlaceFault.{PlaceFault}
@@ -26,4 +26,4 @@ pub record Rises (old new : List Interval) : Type 0 where
 
 abbrev pub PositionsRise : Type 0
 PositionsRise =
-    (old new : List Interval) (g : GtidValue) (i : Interval) → IsCanonical old → added_by g ≡ Ok i → IsInterval i → position_behind old g ≡ Ok new → Rises old new
+    (old new : List Interval) (g : GtidValue) → IsCanonical old → position_behind old g ≡ Ok new → Rises old new

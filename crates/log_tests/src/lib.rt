@@ -2,7 +2,11 @@
 #![tactic(auto)]
 
 #[cfg(test)]
+mod course;
+#[cfg(test)]
 mod events;
+#[cfg(test)]
+mod feed;
 #[cfg(test)]
 mod groups;
 #[cfg(test)]
@@ -11,5 +15,7 @@ mod rows;
 mod samples;
 #[cfg(test)]
 mod tables;
+#[cfg(test)]
+mod transcribe;
 #[cfg(test)]
 mod values;

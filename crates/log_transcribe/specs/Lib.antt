@@ -1,0 +1,4 @@
+pub mod Fault
+pub mod Transcript
+pub mod Feed
+pub mod Private
