@@ -17,8 +17,9 @@ use Rattle.workflow_check.specs.Notes.{NoteValue}
 use Rattle.workflow_check.specs.Passed.{PassedValue}
 use Rattle.json_pieces.specs.Telling.{LineValue, Place, Tells, at, fresh}
 use Rattle.json_pieces.specs.Pieces.{list_data}
-use Rattle.check_said.specs.Private.Parts.{first_part, groups_part, shard_part, stream_part, end_part}
-use Rattle.check_said.specs.Json.{count_data, counts_data, finding_data, name_data, note_data, passed_data, position_data, shared_if, skipped_data, stream_data, streams_data, streams_from, tables_data, tables_from, whole_data}
+use Rattle.check_said.specs.Items.{ItemValue}
+use Rattle.check_said.specs.Private.Parts.{first_part, groups_part, shard_part, stream_part, begin_part, end_part}
+use Rattle.check_said.specs.Json.{count_data, counts_data, finding_data, name_data, note_data, passed_data, position_data, shared_if, skipped_data, stream_data, streams_data, streams_from, tables_data, tables_from, told_data, whole_data}
 
 -- ---- parts
 
@@ -56,25 +57,32 @@ end-text : (warned : Bool) → end_part warned ≡ codes ",\"warned\":" ++ (toke
 end-text true = refl
 end-text false = refl
 
+begin-text : (noted : Bool) (rest : List ℕ) → begin_part noted ++ rest ≡ codes "{\"noted\":" ++ (token_text (Token.boolean noted) ++ (codes ",\"notes\":" ++ rest))
+begin-text true rest = refl
+begin-text false rest = refl
+
 -- the text of the whole
-pub whole-text : (notes rules streams touched : Data) (warned : Bool)
-    → codes "{\"notes\":" ++ (compact_text notes ++ (codes ",\"rules\":" ++ (compact_text rules ++ (codes ",\"streams\":" ++ (compact_text streams ++ (codes ",\"touched\":" ++ (compact_text touched ++ end_part warned)))))))
-    ≡ compact_text (whole_data notes rules streams touched warned)
+pub whole-text : (noted : Bool) (notes rules streams told touched : Data) (warned : Bool)
+    → begin_part noted ++ (compact_text notes ++ (codes ",\"rules\":" ++ (compact_text rules ++ (codes ",\"streams\":" ++ (compact_text streams ++ (codes ",\"told\":" ++ (compact_text told
+    ++ (codes ",\"touched\":" ++ (compact_text touched ++ end_part warned)))))))))
+    ≡ compact_text (whole_data noted notes rules streams told touched warned)
 unfolding escape_byte
-whole-text notes rules streams touched warned =
-    ap (λ x. codes "{\"notes\":" ++ (compact_text notes ++ (codes ",\"rules\":" ++ (compact_text rules ++ (codes ",\"streams\":" ++ (compact_text streams ++ (codes ",\"touched\":" ++ (compact_text touched ++ x))))))))
+whole-text noted notes rules streams told touched warned =
+    begin-text noted (compact_text notes ++ (codes ",\"rules\":" ++ (compact_text rules ++ (codes ",\"streams\":" ++ (compact_text streams ++ (codes ",\"told\":" ++ (compact_text told ++ (codes ",\"touched\":" ++ (compact_text touched ++ end_part warned)))))))))
+    ∙ ap (λ x. codes "{\"noted\":" ++ (token_text (Token.boolean noted) ++ (codes ",\"notes\":" ++ (compact_text notes ++ (codes ",\"rules\":" ++ (compact_text rules ++ (codes ",\"streams\":" ++ (compact_text streams ++ (codes ",\"told\":" ++ (compact_text told ++ (codes ",\"touched\":" ++ (compact_text touched ++ x))))))))))))
     (end-text warned)
 
 -- the same of what is asked for
-pub whole-same : (notes notes2 : List NoteValue) (rules rules2 : List PassedValue) (files : List (List ℕ)) (streams streams2 : List CheckedValue) (tables : List TableValue) (shared shared2 : Option SharedValue) (warned : Bool)
-    → notes ≡ notes2 → rules ≡ rules2 → streams ≡ streams2 → shared ≡ shared2
-    → compact_text (whole_data (list_data note_data notes) (list_data passed_data rules) (streams_data files streams) (shared_if tables shared) warned)
-    ≡ compact_text (whole_data (list_data note_data notes2) (list_data passed_data rules2) (streams_data files streams2) (shared_if tables shared2) warned)
-whole-same notes notes2 rules rules2 files streams streams2 tables shared shared2 warned a b c d =
-    ap (λ (x : List NoteValue). compact_text (whole_data (list_data note_data x) (list_data passed_data rules) (streams_data files streams) (shared_if tables shared) warned)) a
-    ∙ ap (λ (x : List PassedValue). compact_text (whole_data (list_data note_data notes2) (list_data passed_data x) (streams_data files streams) (shared_if tables shared) warned)) b
-    ∙ ap (λ (x : List CheckedValue). compact_text (whole_data (list_data note_data notes2) (list_data passed_data rules2) (streams_data files x) (shared_if tables shared) warned)) c
-    ∙ ap (λ (x : Option SharedValue). compact_text (whole_data (list_data note_data notes2) (list_data passed_data rules2) (streams_data files streams2) (shared_if tables x) warned)) d
+pub whole-same : (noted : Bool) (notes notes2 : List NoteValue) (rules rules2 : List PassedValue) (files : List (List ℕ)) (streams streams2 : List CheckedValue) (told told2 : List ItemValue) (tables : List TableValue)
+    (shared shared2 : Option SharedValue) (warned : Bool) → notes ≡ notes2 → rules ≡ rules2 → streams ≡ streams2 → told ≡ told2 → shared ≡ shared2
+    → compact_text (whole_data noted (list_data note_data notes) (list_data passed_data rules) (streams_data files streams) (told_data told notes) (shared_if tables shared) warned)
+    ≡ compact_text (whole_data noted (list_data note_data notes2) (list_data passed_data rules2) (streams_data files streams2) (told_data told2 notes2) (shared_if tables shared2) warned)
+whole-same noted notes notes2 rules rules2 files streams streams2 told told2 tables shared shared2 warned a b c d e =
+    ap (λ (x : List NoteValue). compact_text (whole_data noted (list_data note_data x) (list_data passed_data rules) (streams_data files streams) (told_data told x) (shared_if tables shared) warned)) a
+    ∙ ap (λ (x : List PassedValue). compact_text (whole_data noted (list_data note_data notes2) (list_data passed_data x) (streams_data files streams) (told_data told notes2) (shared_if tables shared) warned)) b
+    ∙ ap (λ (x : List CheckedValue). compact_text (whole_data noted (list_data note_data notes2) (list_data passed_data rules2) (streams_data files x) (told_data told notes2) (shared_if tables shared) warned)) c
+    ∙ ap (λ (x : List ItemValue). compact_text (whole_data noted (list_data note_data notes2) (list_data passed_data rules2) (streams_data files streams2) (told_data x notes2) (shared_if tables shared) warned)) d
+    ∙ ap (λ (x : Option SharedValue). compact_text (whole_data noted (list_data note_data notes2) (list_data passed_data rules2) (streams_data files streams2) (told_data told2 notes2) (shared_if tables x) warned)) e
 
 -- a line that is told from its beginning on
 pub told-from : (begun : Written) (line : LineValue) (now : Place) (text whole : List ℕ) → line ≡ fresh → text ≡ whole → Tells (at begun line) now text → Tells (at begun fresh) now whole
@@ -108,3 +116,12 @@ pub stream-at : (files : List (List ℕ)) (later : Bool) (checks : List CheckedV
 stream-at files later checks i check within is =
     ap (λ l. items_text later (items_of (streams_from files i l))) (drop_more checks i check within)
     ∙ ap (λ (c : CheckedValue). comma_if later ++ (compact_text (stream_data i (file_name files i) c) ++ items_text true (items_of (streams_from files (i + 1) (drop (i + 1) checks))))) (sym is)
+
+-- ---- a list that goes on with others
+
+-- the first item of what is left, before the others
+pub item-before : {X : Type 0} (data_of : X → Data) (later : Bool) (xs : List X) (others : List Data) (k : ℕ) (x : X) → k < length xs → x ≡ get_or xs k x
+    → items_text later (items_of (map data_of (drop k xs) ++ others)) ≡ comma_if later ++ (compact_text (data_of x) ++ items_text true (items_of (map data_of (drop (k + 1) xs) ++ others)))
+item-before data_of later xs others k x within is =
+    ap (λ l. items_text later (items_of (map data_of l ++ others))) (drop_more xs k x within)
+    ∙ ap (λ y. comma_if later ++ (compact_text (data_of y) ++ items_text true (items_of (map data_of (drop (k + 1) xs) ++ others)))) (sym is)

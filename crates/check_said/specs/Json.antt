@@ -18,9 +18,12 @@ use Rattle.feed_check.specs.Report.{file_name, group_of, kind_text, tables_of, w
 use Rattle.feed_check.specs.Shared.{SharedValue, shared_of}
 use Rattle.feed_check.specs.Skipped.{SkippedValue}
 use Rattle.workflow_check.specs.File.{notes_of}
-use Rattle.workflow_check.specs.Notes.{NoteValue}
+use Rattle.workflow_check.specs.Notes.{NoteValue, may_stand}
 use Rattle.workflow_check.specs.Passed.{PassedValue, passed_of}
 use Rattle.workflow_check.specs.declared.note.Flaw.{Flaw}
+use Rattle.check_said.specs.Items.{ItemValue, feed_items}
+use Rattle.check_said.specs.declared.items.Class.{Class}
+use Rattle.check_said.specs.declared.items.Class.TheVariants.{Fault, Note}
 use Rattle.workflow_check.specs.declared.note.Flaw.TheVariants.{Ignored, Unmatched, Undecided, Untiled}
 
 abbrev pub count_data : ℕ → Data
@@ -144,22 +147,61 @@ abbrev pub passed_data : PassedValue → Data
 passed_data passed =
     object (member (codes "rows") (string passed.rows) (member (codes "stream") (count_data passed.stream) (member (codes "table") (string passed.table) no_members)))
 
+-- ---- all that is told
+
+abbrev pub class_word : Class → List ℕ
+class_word Fault = codes "fault"
+class_word Note = codes "note"
+
+-- an item of a stream; what is told of a file has a path in its place
+abbrev pub item_data : ItemValue → Data
+item_data told =
+    object (
+    member (codes "class") (string (class_word told.class))
+    (member (codes "count") (count_data told.count)
+    (member (codes "kind") (string told.kind)
+    (member (codes "path") null
+    (member (codes "stream") (count_data told.stream)
+    (member (codes "table") (table_or_null told.table) no_members)))))
+    )
+
+abbrev pub note_class : Flaw → Class
+note_class flaw = if may_stand flaw then Note else Fault
+
+abbrev pub note_item : NoteValue → Data
+note_item note =
+    object (
+    member (codes "class") (string (class_word (note_class note.flaw)))
+    (member (codes "count") (count_data 1)
+    (member (codes "kind") (string (flaw_word note.flaw))
+    (member (codes "path") (string note.place)
+    (member (codes "stream") null
+    (member (codes "table") (table_or_null note.table) no_members)))))
+    )
+
+-- the items of the streams, and behind them those of the file
+abbrev pub told_data : List ItemValue → List NoteValue → Data
+told_data items notes = array (items_of (map item_data items ++ map note_item notes))
+
 -- ---- the whole
 
-abbrev pub whole_data : Data → Data → Data → Data → Bool → Data
-whole_data notes rules streams touched warned =
+abbrev pub whole_data : Bool → Data → Data → Data → Data → Data → Bool → Data
+whole_data noted notes rules streams told touched warned =
     object (
-    member (codes "notes") notes
+    member (codes "noted") (boolean noted)
+    (member (codes "notes") notes
     (member (codes "rules") rules
     (member (codes "streams") streams
+    (member (codes "told") told
     (member (codes "touched") touched
-    (member (codes "warned") (boolean warned) no_members))))
+    (member (codes "warned") (boolean warned) no_members))))))
     )
 
 -- what is said of a workflow's file and of checks of its feeds, whose files have these names
-abbrev pub check_data : List ℕ → List (List ℕ) → List CheckedValue → Bool → Data
-check_data workflow files checks warned =
-    whole_data (list_data note_data (notes_of workflow)) (list_data passed_data (passed_of workflow)) (streams_data files checks) (shared_if (tables_of checks) (shared_of checks)) warned
+abbrev pub check_data : List ℕ → List (List ℕ) → List CheckedValue → Bool → Bool → Data
+check_data workflow files checks noted warned =
+    whole_data noted (list_data note_data (notes_of workflow)) (list_data passed_data (passed_of workflow)) (streams_data files checks) (told_data (feed_items checks) (notes_of workflow))
+    (shared_if (tables_of checks) (shared_of checks)) warned
 
 -- a line of JSON
 abbrev pub json_line : Data → List ℕ

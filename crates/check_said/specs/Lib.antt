@@ -1,3 +1,4 @@
+pub mod Items
 pub mod Json
 pub mod Private
 pub mod Said

@@ -11,7 +11,7 @@ use vdiff_core::Out;
 use workflow_check::{Flaw, Note, Passed};
 
 /// The word for why a note is told.
-fn flaw_word(flaw: Flaw) -> &'static str
+pub(crate) fn flaw_word(flaw: Flaw) -> &'static str
     ensures { result.now ≡ flaw_word flaw }
 {
     match flaw {
@@ -22,8 +22,8 @@ fn flaw_word(flaw: Flaw) -> &'static str
     }
 }
 
-/// The name of a note's table, null where the path says it.
-fn table_piece(name: &str) -> Piece<'_>
+/// The name of a table, null where there is none.
+pub(crate) fn table_piece(name: &str) -> Piece<'_>
     ensures { piece_text result ≡ compact_text (table_or_null name.entry.now) }
 {
     if name.is_empty() {

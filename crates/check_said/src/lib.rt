@@ -4,10 +4,13 @@
 mod changes;
 mod checked_rows;
 mod file_notes;
+mod items;
 mod said;
 mod streams;
 mod tables;
 mod told;
+mod told_list;
 
+pub use items::Class;
 pub use said::Said;
 pub use told::CheckJson;

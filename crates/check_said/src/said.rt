@@ -4,7 +4,7 @@ ghost use Rattle.std.specs.Prelude.{◌≡◌, IfOk, map};
 ghost use Rattle.std.specs.Option.{option_copied};
 ghost use Rattle.vdiff_core.specs.Printing.{Prints};
 ghost use Rattle.feed_check.specs.Report.{check_report_of};
-ghost use Rattle.check_said.specs.Said.{is_empty, line_or, said_of, with_file};
+ghost use Rattle.check_said.specs.Said.{are_noted, are_warned, line_or, said_of, with_file};
 
 use crate::told::CheckJson;
 use feed_check::{CheckReport, Checked};
@@ -14,12 +14,14 @@ use vdiff_core::{Out, OutFailed, put_all};
 use vrepl_choices::ReportForm;
 use workflow_check::{Note, note_lines, notes_of, rules_of};
 
-/// What `check` says, and whether it warns of anything: its lines, or in their place a line of JSON.
+/// What `check` says, whether it warns of anything, and whether it notes anything: its lines, or in their place a line of
+/// JSON.
 #[derive(Drop)]
 pub struct Said<'c, 'h> {
     text: String,
     line: Option<CheckJson<'c, 'h>>,
     warned: bool,
+    noted: bool,
 }
 
 impl<'c, 'h> Model for Said<'c, 'h> {
@@ -29,14 +31,21 @@ impl<'c, 'h> Model for Said<'c, 'h> {
 
     ghost Value = { ReportValue };
 
-    ghost view = { λ s. record { text = line_or s.line (string_bytes s.text); warned = s.warned } };
+    ghost view = { λ s. record { text = line_or s.line (string_bytes s.text); warned = s.warned; noted = s.noted } };
 }
 
-/// Whether nothing is told.
-fn is_empty(notes: &[Note]) -> bool
-    ensures { result ≡ is_empty notes.now }
+/// Whether something is a fault.
+fn are_warned(notes: &[Note]) -> bool
+    ensures { result ≡ are_warned notes.now }
 {
-    notes.is_empty()
+    notes.iter().any(|note| !note.flaw().may_stand())
+}
+
+/// Whether something may well be so.
+fn are_noted(notes: &[Note]) -> bool
+    ensures { result ≡ are_noted notes.now }
+{
+    notes.iter().any(|note| note.flaw().may_stand())
 }
 
 /// A report, behind what the workflow's file says of the tables, and before what is told of the file.
@@ -55,7 +64,8 @@ fn with_file<'c, 'h>(
     Ok(Said {
         text,
         line: None,
-        warned: report.warned() || !is_empty(&notes),
+        warned: report.warned() || are_warned(&notes),
+        noted: report.noted() || are_noted(&notes),
     })
 }
 
@@ -100,14 +110,16 @@ impl<'c, 'h> Said<'c, 'h> {
     {
         let said = said_in_lines(alloc, workflow, files, checks)?;
         let warned = said.warned;
+        let noted = said.noted;
         match form {
             ReportForm::Lines => Ok(said),
             ReportForm::Json => {
-                let line = CheckJson::of(alloc, workflow, files, checks, warned)?;
+                let line = CheckJson::of(alloc, workflow, files, checks, noted, warned)?;
                 Ok(Said {
                     text: String::new(alloc),
                     line: Some(line),
                     warned,
+                    noted,
                 })
             }
         }
@@ -125,5 +137,12 @@ impl<'c, 'h> Said<'c, 'h> {
         ensures { result ≡ self.now.warned }
     {
         self.warned
+    }
+
+    /// Whether anything is noted.
+    pub fn noted(&self) -> bool
+        ensures { result ≡ self.now.noted }
+    {
+        self.noted
     }
 }

@@ -10,12 +10,15 @@ ghost use Rattle.workflow_check.specs.File as file;
 ghost use Rattle.workflow_check.specs.Passed as passed;
 ghost use Rattle.json_pieces.specs.Pieces.{list_data};
 ghost use Rattle.json_pieces.specs.Telling.{Tells, at};
-ghost use Rattle.check_said.specs.Private.Parts.{end_part};
-ghost use Rattle.check_said.specs.Json.{check_data, json_line, note_data, passed_data, shared_if, streams_data, whole_data};
+ghost use Rattle.check_said.specs.Private.Parts.{begin_part, end_part};
+ghost use Rattle.check_said.specs.Items.{items_with};
+ghost use Rattle.check_said.specs.Json.{check_data, json_line, note_data, passed_data, shared_if, streams_data, told_data, whole_data};
 
 use crate::checked_rows::{CheckedRows, with_rows};
 use crate::file_notes::{put_notes, put_rules};
+use crate::items::{Item, feed_items};
 use crate::streams::{put_shared, put_streams};
+use crate::told_list::put_told;
 use feed_check::{Checked, SharedKey, shared_of, tables_of};
 use filter_rule::Table;
 use json_pieces::Line;
@@ -32,19 +35,32 @@ pub struct CheckJson<'c, 'h> {
     rules: Vec<Passed>,
     files: &'c [&'c str],
     streams: Vec<CheckedRows<'c, 'h>>,
+    told: Vec<Item<'c>>,
     tables: &'c [Table],
     shared: Option<SharedKey<'c, 'h>>,
+    noted: bool,
     warned: bool,
 }
 
 impl<'c, 'h> Model for CheckJson<'c, 'h> {
     ghost use Rattle.std.specs.Prelude.{ℕ, List, map};
     ghost use Rattle.json_pieces.specs.Pieces.{list_data};
-    ghost use Rattle.check_said.specs.Json.{json_line, note_data, passed_data, shared_if, streams_data, whole_data};
+    ghost use Rattle.check_said.specs.Json.{json_line, note_data, passed_data, shared_if, streams_data, told_data, whole_data};
 
     ghost Value = { List ℕ };
 
-    ghost view = { λ j. json_line (whole_data (list_data note_data j.notes.items) (list_data passed_data j.rules.items) (streams_data (map (λ file. file.now) j.files.now) j.streams.items) (shared_if j.tables.now j.shared) j.warned) };
+    ghost view = { λ j. json_line (whole_data j.noted (list_data note_data j.notes.items) (list_data passed_data j.rules.items) (streams_data (map (λ file. file.now) j.files.now) j.streams.items) (told_data j.told.items j.notes.items) (shared_if j.tables.now j.shared) j.warned) };
+}
+
+/// Puts the beginning of the object, whether anything is noted.
+fn put_begin<O: Out>(out: &mut O, line: &mut Line, noted: bool)
+    ensures { Tells (at (O.written out.old) line.old) (at (O.written out.new) line.new) (begin_part noted) }
+{
+    if noted {
+        line.put(out, b"{\"noted\":true,\"notes\":");
+    } else {
+        line.put(out, b"{\"noted\":false,\"notes\":");
+    }
 }
 
 /// Puts whether anything is warned of, and the end of the object.
@@ -62,22 +78,26 @@ fn put_end<O: Out>(out: &mut O, line: &mut Line, warned: bool)
 fn put_whole<O: Out>(
     out: &mut O,
     line: &mut Line,
+    noted: bool,
     notes: &[Note],
     rules: &[Passed],
     files: &[&str],
     streams: &[CheckedRows<'_, '_>],
+    told: &[Item<'_>],
     tables: &[Table],
     shared: Option<&SharedKey<'_, '_>>,
     warned: bool,
 )
-    ensures { Tells (at (O.written out.old) line.old) (at (O.written out.new) line.new) (compact_text (whole_data (list_data note_data notes.now) (list_data passed_data rules.now) (streams_data (map (λ file. file.now) files.now) streams.now) (shared_if tables.now (option_copied shared.entry)) warned)) }
+    ensures { Tells (at (O.written out.old) line.old) (at (O.written out.new) line.new) (compact_text (whole_data noted (list_data note_data notes.now) (list_data passed_data rules.now) (streams_data (map (λ file. file.now) files.now) streams.now) (told_data told.now notes.now) (shared_if tables.now (option_copied shared.entry)) warned)) }
 {
-    line.put(out, b"{\"notes\":");
+    put_begin(out, line, noted);
     put_notes(out, line, notes);
     line.put(out, b",\"rules\":");
     put_rules(out, line, rules);
     line.put(out, b",\"streams\":");
     put_streams(out, line, files, streams);
+    line.put(out, b",\"told\":");
+    put_told(out, line, told, notes);
     line.put(out, b",\"touched\":");
     put_shared(out, line, tables, shared);
     put_end(out, line, warned);
@@ -85,23 +105,29 @@ fn put_whole<O: Out>(
 
 impl<'c, 'h> CheckJson<'c, 'h> {
     /// What is said of a workflow's file and of checks of its feeds, whose files have these names. Takes memory for what
-    /// is told of the file, and 16 bytes for each row that a stream leaves; an error is want of it.
+    /// is told of the file, 64 bytes for each kind of what is told of a table, and 16 bytes for each row that a stream
+    /// leaves; an error is want of it.
     pub fn of(
         alloc: Global,
         workflow: &[u8],
         files: &'c [&'c str],
         checks: &'c [Checked<'h>],
+        noted: bool,
         warned: bool,
     ) -> Result<CheckJson<'c, 'h>, AllocError>
-        ensures { IfOk result (λ made. made ≡ json_line (check_data workflow.now (map (λ file. file.now) files.entry.now) checks.entry.now warned)) }
+        ensures { IfOk result (λ made. made ≡ json_line (check_data workflow.now (map (λ file. file.now) files.entry.now) checks.entry.now noted warned)) }
     {
+        let shared = shared_of(alloc, checks)?;
+        let told = feed_items(alloc, checks, shared.as_ref())?;
         Ok(CheckJson {
             notes: notes_of(alloc, workflow)?,
             rules: passed_of(alloc, workflow)?,
             files,
             streams: with_rows(alloc, checks)?,
+            told,
             tables: tables_of(checks),
-            shared: shared_of(alloc, checks)?,
+            shared,
+            noted,
             warned,
         })
     }
@@ -114,10 +140,12 @@ impl<'c, 'h> CheckJson<'c, 'h> {
         put_whole(
             out,
             &mut line,
+            self.noted,
             &self.notes,
             &self.rules,
             self.files,
             &self.streams,
+            &self.told,
             self.tables,
             self.shared.as_ref(),
             self.warned,

@@ -1,6 +1,6 @@
--- Checks of feeds warn of nothing exactly where the feeds are clean.
-use Rattle.std.proofs.Common.{◌≡◌, ◌≢◌, ◌↔◌, ◌∙◌, ℕ, zero, suc, ◌+◌, ◌<◌, arith, true, false, List, [], ◌∷◌, ◌++◌, length, map, reverse, Option, Some, None, Result, Ok, Err, refl, sym, ap, subst}
-use Rattle.std.specs.Prelude.{slice_get}
+-- Checks of feeds warn of nothing exactly where the feeds are without a fault, and note nothing either where they are clean.
+use Rattle.std.proofs.Common.{◌≡◌, ◌≢◌, ◌↔◌, ◌∙◌, ℕ, zero, suc, ◌+◌, ◌<◌, arith, Bool, true, false, List, [], ◌∷◌, ◌++◌, length, map, reverse, Option, Some, None, Result, Ok, Err, refl, sym, ap, subst}
+use Rattle.std.specs.Prelude.{◌||◌, slice_get}
 use Rattle.std.specs.Option.{option_map}
 use Rattle.std.specs.Result.{result_ok, ok_prefix}
 use Rattle.std.specs.declared.cmp.Ordering.TheVariants.{Equal}
@@ -19,14 +19,15 @@ use Rattle.source_feed.specs.Planned.{FeedValue, source_of}
 use Rattle.source_feed.specs.SoundGroups.{sound_groups}
 use Rattle.source_feed.specs.Touches.{PreparedValue, prepared}
 use Rattle.feed_check.specs.Checked.{CheckedValue, history_of, rows_at_end, checked, checked_feeds}
-use Rattle.feed_check.specs.Clean.{HasPassingRow, AreNamed, KeepTheirKeys, IsCleanFeed, WarnsUnlessClean}
+use Rattle.feed_check.specs.Clean.{HasPassingRow, AreNamed, KeepTheirKeys, IsFaultlessFeed, IsPlainFeed, EachFeed, WarnsUnlessFaultless, TellsUnlessClean}
 use Rattle.feed_check.specs.Findings.{AreTrue, findings_of, moves_of}
 use Rattle.feed_check.specs.KeyedChanges.{keyed_changes}
-use Rattle.feed_check.specs.Report.{groups_warning, start_warning, table_warnings, name_warnings, change_warnings, skipped_warnings, stream_warnings, warnings_from, tables_of, shared_line, shared_warning, has_some, all_warnings}
+use Rattle.feed_check.specs.declared.finding.Doubt.TheVariants.{Moved}
+use Rattle.feed_check.specs.Report.{groups_warning, start_note, table_notes, name_warnings, change_warnings, skipped_warnings, told_lines, stream_notes, stream_warnings, notes_from, warnings_from, tables_of, shared_line, shared_warning, has_some, all_notes, all_warnings}
 use Rattle.feed_check.specs.Shared.{History, SharedValue, TouchesKey, IsTold, histories_of, shared_of}
 use Rattle.feed_check.specs.Skipped.{skipped_of}
 use Rattle.feed_check.specs.Unknown.{unknown_tables}
-use Rattle.feed_check.proofs.CleanLaws.{left_empty, right_empty, both_empty, groups-none, start-none, tables-none, names-none, unknown-none, findings-no_move, moves-are, moves-none, changes-none, skipped-none, messages-none}
+use Rattle.feed_check.proofs.CleanLaws.{left_empty, right_empty, both_empty, groups-none, start-none, tables-none, names-none, unknown-none, findings-no_move, moves-are, moves-none, changes-none, still-none, skipped-none, messages-none}
 use Rattle.feed_check.proofs.FindingLaws.{none_where_true}
 use Rattle.feed_check.proofs.SharedLaws.{told}
 
@@ -102,71 +103,98 @@ from_zero P n h t within = let e : 0 + t ≡ t = omega arith in subst P e (h t w
 to_zero : (P : ℕ → Type 0) (n : ℕ) → ((t : ℕ) → t < n → P t) → (u : ℕ) → u < n → P (0 + u)
 to_zero P n h u within = let e : u ≡ 0 + u = omega arith in subst P e (h u within)
 
+fault_none : (i : ℕ) (bytes : List ℕ) (feed : FeedValue) (changes : List GroupValue) → length (sound_groups feed) ≡ length feed.groups → groups bytes (source_of feed.plan) ≡ Ok changes
+    → (stream_warnings i (check_by bytes feed (sound_groups feed) changes) ≡ []) ↔ IsFaultlessFeed bytes feed
+fault_none i bytes feed changes sound read = (to, from)
+  where
+    check : CheckedValue
+    check = check_by bytes feed (sound_groups feed) changes
+
+    one : List ℕ
+    one = groups_warning i (length check.history)
+
+    two : List ℕ
+    two = name_warnings i check.plan check.unknown
+
+    three : List ℕ
+    three = change_warnings i check
+
+    four : List ℕ
+    four = skipped_warnings i check.skipped
+
+    are_changes : (three ≡ []) ↔ (check.findings ≡ [])
+    are_changes = changes-none i check (findings-no_move (reverse (keyed_changes feed.plan changes)))
+
+    to : one ++ (two ++ (three ++ four)) ≡ [] → IsFaultlessFeed bytes feed
+    to e =
+        let e2 = right_empty one (two ++ (three ++ four)) e in
+        let e3 = right_empty two (three ++ four) e2 in
+        record {
+          sound = sound;
+          some = (groups-none i (length check.history)).0 (left_empty one (two ++ (three ++ four)) e);
+          changes = changes;
+          read = read;
+          named = (unknown-none feed.plan changes).0 ((names-none i check.plan check.unknown).0 (left_empty two (three ++ four) e2));
+          true_of_rows = (none_where_true (reverse (keyed_changes feed.plan changes))).0 (are_changes.0 (left_empty three four e3));
+          told = (messages-none 1 (frames_of bytes).items).0 ((skipped-none i check.skipped).0 (right_empty three four e3));
+        }
+
+    from : IsFaultlessFeed bytes feed → one ++ (two ++ (three ++ four)) ≡ []
+    from good =
+        let same : good.changes ≡ changes = same_ok good.changes changes (sym good.read ∙ read) in
+        both_empty one (two ++ (three ++ four)) ((groups-none i (length check.history)).1 good.some)
+        (both_empty two (three ++ four) ((names-none i check.plan check.unknown).1 ((unknown-none feed.plan changes).1 (subst (AreNamed feed.plan) same good.named)))
+        (both_empty three four
+        (are_changes.1 ((none_where_true (reverse (keyed_changes feed.plan changes))).1 (subst (λ (gs : List GroupValue). AreTrue (reverse (keyed_changes feed.plan gs))) same good.true_of_rows)))
+        ((skipped-none i check.skipped).1 ((messages-none 1 (frames_of bytes).items).1 good.told))))
+
 module _ (ties : (a b : KeyValue) → key_cmp a b ≡ Equal → a ≡ b) where
-  feed_none : (i : ℕ) (bytes : List ℕ) (feed : FeedValue) (changes : List GroupValue) → length (sound_groups feed) ≡ length feed.groups → groups bytes (source_of feed.plan) ≡ Ok changes
-      → (stream_warnings i (check_by bytes feed (sound_groups feed) changes) ≡ []) ↔ IsCleanFeed bytes feed
-  feed_none i bytes feed changes sound read = (to, from)
+  note_none : (i : ℕ) (bytes : List ℕ) (feed : FeedValue) (changes : List GroupValue) → groups bytes (source_of feed.plan) ≡ Ok changes
+      → (stream_notes i (check_by bytes feed (sound_groups feed) changes) ≡ []) ↔ IsPlainFeed bytes feed
+  note_none i bytes feed changes read = (to, from)
     where
       check : CheckedValue
       check = check_by bytes feed (sound_groups feed) changes
 
       one : List ℕ
-      one = groups_warning i (length check.history)
+      one = start_note i (slice_get check.history 0)
 
       two : List ℕ
-      two = start_warning i (slice_get check.history 0)
+      two = table_notes i check 0 check.plan.tables
 
       three : List ℕ
-      three = table_warnings i check 0 check.plan.tables
+      three = told_lines i check Moved check.moves
 
-      four : List ℕ
-      four = name_warnings i check.plan check.unknown
+      are_moves : (three ≡ []) ↔ (check.moves ≡ [])
+      are_moves = still-none i check (moves-are (keyed_changes feed.plan changes))
 
-      five : List ℕ
-      five = change_warnings i check
-
-      six : List ℕ
-      six = skipped_warnings i check.skipped
-
-      are_changes : (five ≡ []) ↔ ((check.findings ≡ []) × (check.moves ≡ []))
-      are_changes = changes-none i check (findings-no_move (reverse (keyed_changes feed.plan changes))) (moves-are (keyed_changes feed.plan changes))
-
-      to : one ++ (two ++ (three ++ (four ++ (five ++ six)))) ≡ [] → IsCleanFeed bytes feed
+      to : one ++ (two ++ three) ≡ [] → IsPlainFeed bytes feed
       to e =
-          let e2 = right_empty one (two ++ (three ++ (four ++ (five ++ six)))) e in
-          let e3 = right_empty two (three ++ (four ++ (five ++ six))) e2 in
-          let e4 = right_empty three (four ++ (five ++ six)) e3 in
-          let e5 = right_empty four (five ++ six) e4 in
-          let told_of = are_changes.0 (left_empty five six e5) in
+          let e2 = right_empty one (two ++ three) e in
           record {
-            sound = sound;
-            some = (groups-none i (length check.history)).0 (left_empty one (two ++ (three ++ (four ++ (five ++ six)))) e);
-            start = (start-none i (slice_get check.history 0)).0 (left_empty two (three ++ (four ++ (five ++ six))) e2);
-            tables = from_zero (HasPassingRow (sound_groups feed)) (length feed.plan.tables) ((tables-none i check 0 check.plan.tables).0 (left_empty three (four ++ (five ++ six)) e3));
+            start = (start-none i (slice_get check.history 0)).0 (left_empty one (two ++ three) e);
+            tables = from_zero (HasPassingRow (sound_groups feed)) (length feed.plan.tables) ((tables-none i check 0 check.plan.tables).0 (left_empty two three e2));
             changes = changes;
             read = read;
-            named = (unknown-none feed.plan changes).0 ((names-none i check.plan check.unknown).0 (left_empty four (five ++ six) e4));
-            true_of_rows = (none_where_true (reverse (keyed_changes feed.plan changes))).0 told_of.0;
-            still = (moves-none ties (keyed_changes feed.plan changes)).0 told_of.1;
-            told = (messages-none 1 (frames_of bytes).items).0 ((skipped-none i check.skipped).0 (right_empty five six e5));
+            still = (moves-none ties (keyed_changes feed.plan changes)).0 (are_moves.0 (right_empty two three e2));
           }
 
-      from : IsCleanFeed bytes feed → one ++ (two ++ (three ++ (four ++ (five ++ six)))) ≡ []
-      from clean =
-          let same : clean.changes ≡ changes = same_ok clean.changes changes (sym clean.read ∙ read) in
-          both_empty one (two ++ (three ++ (four ++ (five ++ six)))) ((groups-none i (length check.history)).1 clean.some)
-          (both_empty two (three ++ (four ++ (five ++ six))) ((start-none i (slice_get check.history 0)).1 clean.start)
-          (both_empty three (four ++ (five ++ six)) ((tables-none i check 0 check.plan.tables).1 (to_zero (HasPassingRow (sound_groups feed)) (length feed.plan.tables) clean.tables))
-          (both_empty four (five ++ six) ((names-none i check.plan check.unknown).1 ((unknown-none feed.plan changes).1 (subst (AreNamed feed.plan) same clean.named)))
-          (both_empty five six
-          (are_changes.1 (
-            (none_where_true (reverse (keyed_changes feed.plan changes))).1 (subst (λ (gs : List GroupValue). AreTrue (reverse (keyed_changes feed.plan gs))) same clean.true_of_rows),
-            (moves-none ties (keyed_changes feed.plan changes)).1 (subst (λ (gs : List GroupValue). KeepTheirKeys (keyed_changes feed.plan gs)) same clean.still),
-          ))
-          ((skipped-none i check.skipped).1 ((messages-none 1 (frames_of bytes).items).1 clean.told))))))
+      from : IsPlainFeed bytes feed → one ++ (two ++ three) ≡ []
+      from plain =
+          let same : plain.changes ≡ changes = same_ok plain.changes changes (sym plain.read ∙ read) in
+          both_empty one (two ++ three) ((start-none i (slice_get check.history 0)).1 plain.start)
+          (both_empty two three ((tables-none i check 0 check.plan.tables).1 (to_zero (HasPassingRow (sound_groups feed)) (length feed.plan.tables) plain.tables))
+          (are_moves.1 ((moves-none ties (keyed_changes feed.plan changes)).1 (subst (λ (gs : List GroupValue). KeepTheirKeys (keyed_changes feed.plan gs)) same plain.still))))
 
-  stream_none : (i : ℕ) (bytes : List ℕ) (feed : FeedValue) (check : CheckedValue) → IsCheckOf bytes feed check → (stream_warnings i check ≡ []) ↔ IsCleanFeed bytes feed
-  stream_none i bytes feed check of = subst (λ (c : CheckedValue). (stream_warnings i c ≡ []) ↔ IsCleanFeed bytes feed) of.is (feed_none i bytes feed of.changes of.sound of.read)
+-- what is told of a stream, where nothing is told exactly of feeds that are so
+abbrev TellsUnless : (ℕ → CheckedValue → List ℕ) → (List ℕ → FeedValue → Type 0) → Type 0
+TellsUnless text Is = (i : ℕ) (bytes : List ℕ) (feed : FeedValue) (check : CheckedValue) → IsCheckOf bytes feed check → (text i check ≡ []) ↔ Is bytes feed
+
+stream_warns : TellsUnless stream_warnings IsFaultlessFeed
+stream_warns i bytes feed check of = subst (λ (c : CheckedValue). (stream_warnings i c ≡ []) ↔ IsFaultlessFeed bytes feed) of.is (fault_none i bytes feed of.changes of.sound of.read)
+
+stream_tells : ((a b : KeyValue) → key_cmp a b ≡ Equal → a ≡ b) → TellsUnless stream_notes IsPlainFeed
+stream_tells ties i bytes feed check of = subst (λ (c : CheckedValue). (stream_notes i c ≡ []) ↔ IsPlainFeed bytes feed) of.is (note_none ties i bytes feed of.changes of.read)
 
 -- ---- all feeds
 
@@ -189,27 +217,38 @@ are_checks (one ∷ bytes) (feed ∷ feeds) checks many e =
     by (Ok check) is (Err fault) are e rest = never fault checks e
     by (Ok check) is (Ok later) are e rest = subst (AreChecksOf (one ∷ bytes) (feed ∷ feeds)) (same_ok (check ∷ later) checks e) (is_check one feed check is, rest later are)
 
--- each feed is clean by its bytes
-abbrev EachIsClean : List (List ℕ) → List FeedValue → Type 0
-EachIsClean bytes feeds = (s : ℕ) (one : List ℕ) (feed : FeedValue) → slice_get bytes s ≡ Some one → slice_get feeds s ≡ Some feed → IsCleanFeed one feed
+each_more : (Is : List ℕ → FeedValue → Type 0) (one : List ℕ) (feed : FeedValue) (bytes : List (List ℕ)) (feeds : List FeedValue) → Is one feed → EachFeed Is bytes feeds → EachFeed Is (one ∷ bytes) (feed ∷ feeds)
+each_more Is one feed bytes feeds first rest zero x f at_x at_f = subst (λ (b : List ℕ). Is b f) (same_Some one x at_x) (subst (Is one) (same_Some feed f at_f) first)
+each_more Is one feed bytes feeds first rest (suc s) x f at_x at_f = rest s x f at_x at_f
 
-clean_more : (one : List ℕ) (feed : FeedValue) (bytes : List (List ℕ)) (feeds : List FeedValue) → IsCleanFeed one feed → EachIsClean bytes feeds → EachIsClean (one ∷ bytes) (feed ∷ feeds)
-clean_more one feed bytes feeds first rest zero x f at_x at_f = subst (λ (b : List ℕ). IsCleanFeed b f) (same_Some one x at_x) (subst (IsCleanFeed one) (same_Some feed f at_f) first)
-clean_more one feed bytes feeds first rest (suc s) x f at_x at_f = rest s x f at_x at_f
+each_warns : (i : ℕ) (bytes : List (List ℕ)) (feeds : List FeedValue) (checks : List CheckedValue) → AreChecksOf bytes feeds checks → (warnings_from i checks ≡ []) ↔ EachFeed IsFaultlessFeed bytes feeds
+each_warns i [] [] [] of = (λ _ s one feed at_b at_f. absurd (none-some one at_b), λ _. refl)
+each_warns i [] [] (check ∷ checks) of = absurd of
+each_warns i [] (feed ∷ feeds) checks of = absurd of
+each_warns i (one ∷ bytes) [] checks of = absurd of
+each_warns i (one ∷ bytes) (feed ∷ feeds) [] of = absurd of
+each_warns i (one ∷ bytes) (feed ∷ feeds) (check ∷ checks) of =
+    let here = stream_warns i one feed check of.0 in
+    let rest = each_warns (i + 1) bytes feeds checks of.1 in
+    let first = stream_warnings i check in
+    let others = warnings_from (i + 1) checks in (
+      λ e. each_more IsFaultlessFeed one feed bytes feeds (here.0 (left_empty first others e)) (rest.0 (right_empty first others e)),
+      λ h. both_empty first others (here.1 (h 0 one feed refl refl)) (rest.1 (λ s x f at_x at_f. h (suc s) x f at_x at_f)),
+    )
 
 module _ (ties : (a b : KeyValue) → key_cmp a b ≡ Equal → a ≡ b) where
-  streams_none : (i : ℕ) (bytes : List (List ℕ)) (feeds : List FeedValue) (checks : List CheckedValue) → AreChecksOf bytes feeds checks → (warnings_from i checks ≡ []) ↔ EachIsClean bytes feeds
-  streams_none i [] [] [] of = (λ _ s one feed at_b at_f. absurd (none-some one at_b), λ _. refl)
-  streams_none i [] [] (check ∷ checks) of = absurd of
-  streams_none i [] (feed ∷ feeds) checks of = absurd of
-  streams_none i (one ∷ bytes) [] checks of = absurd of
-  streams_none i (one ∷ bytes) (feed ∷ feeds) [] of = absurd of
-  streams_none i (one ∷ bytes) (feed ∷ feeds) (check ∷ checks) of =
-      let here = stream_none ties i one feed check of.0 in
-      let rest = streams_none (i + 1) bytes feeds checks of.1 in
-      let first = stream_warnings i check in
-      let others = warnings_from (i + 1) checks in (
-        λ e. clean_more one feed bytes feeds (here.0 (left_empty first others e)) (rest.0 (right_empty first others e)),
+  each_notes : (i : ℕ) (bytes : List (List ℕ)) (feeds : List FeedValue) (checks : List CheckedValue) → AreChecksOf bytes feeds checks → (notes_from i checks ≡ []) ↔ EachFeed IsPlainFeed bytes feeds
+  each_notes i [] [] [] of = (λ _ s one feed at_b at_f. absurd (none-some one at_b), λ _. refl)
+  each_notes i [] [] (check ∷ checks) of = absurd of
+  each_notes i [] (feed ∷ feeds) checks of = absurd of
+  each_notes i (one ∷ bytes) [] checks of = absurd of
+  each_notes i (one ∷ bytes) (feed ∷ feeds) [] of = absurd of
+  each_notes i (one ∷ bytes) (feed ∷ feeds) (check ∷ checks) of =
+      let here = stream_tells ties i one feed check of.0 in
+      let rest = each_notes (i + 1) bytes feeds checks of.1 in
+      let first = stream_notes i check in
+      let others = notes_from (i + 1) checks in (
+        λ e. each_more IsPlainFeed one feed bytes feeds (here.0 (left_empty first others e)) (rest.0 (right_empty first others e)),
         λ h. both_empty first others (here.1 (h 0 one feed refl refl)) (rest.1 (λ s x f at_x at_f. h (suc s) x f at_x at_f)),
       )
 
@@ -256,23 +295,46 @@ none_shown : (text : List ℕ) → has_some text ≡ false → text ≡ []
 none_shown [] e = refl
 none_shown (byte ∷ text) e = absurd (true≢false e)
 
-pub warns_unless_clean : ((a b : KeyValue) → key_cmp a b ≡ Equal → a ≡ b) → (checks : List CheckedValue) → WarnsUnlessClean checks (has_some (all_warnings checks))
-warns_unless_clean ties checks bytes feeds many e = (
-  λ none. let empty = none_shown (all_warnings checks) none in record { each = each_feed.0 (left_empty first second empty); apart = no_key.0 (right_empty first second empty) },
-  λ clean. ap has_some (both_empty first second (each_feed.1 clean.each) (no_key.1 clean.apart)),
-)
-  where
-    of : AreChecksOf bytes feeds checks
-    of = are_checks bytes feeds checks many e
+either_none : (a b : Bool) → ((a || b) ≡ false) ↔ ((a ≡ false) × (b ≡ false))
+either_none true b = (λ e. absurd (true≢false e), λ h. absurd (true≢false h.0))
+either_none false b = (λ e. (refl, e), λ h. h.1)
 
-    first : List ℕ
-    first = warnings_from 0 checks
+module _ (ties : (a b : KeyValue) → key_cmp a b ≡ Equal → a ≡ b) where
+  pub warns_unless_faultless : (checks : List CheckedValue) → WarnsUnlessFaultless checks (has_some (all_warnings checks))
+  warns_unless_faultless checks bytes feeds many e = (
+    λ none. let empty = none_shown (all_warnings checks) none in record { each = each_feed.0 (left_empty first second empty); apart = no_key.0 (right_empty first second empty) },
+    λ good. ap has_some (both_empty first second (each_feed.1 good.each) (no_key.1 good.apart)),
+  )
+    where
+      of : AreChecksOf bytes feeds checks
+      of = are_checks bytes feeds checks many e
 
-    second : List ℕ
-    second = shared_warning (tables_of checks) (shared_of checks)
+      first : List ℕ
+      first = warnings_from 0 checks
 
-    each_feed : (first ≡ []) ↔ EachIsClean bytes feeds
-    each_feed = streams_none ties 0 bytes feeds checks of
+      second : List ℕ
+      second = shared_warning (tables_of checks) (shared_of checks)
 
-    no_key : (second ≡ []) ↔ AreDisjoint feeds
-    no_key = shared_none (tables_of checks) feeds (shared_of checks) (subst (λ (hs : List History). IsTold hs (shared_of checks)) (histories bytes feeds checks of) (told ties (histories_of checks)))
+      each_feed : (first ≡ []) ↔ EachFeed IsFaultlessFeed bytes feeds
+      each_feed = each_warns 0 bytes feeds checks of
+
+      no_key : (second ≡ []) ↔ AreDisjoint feeds
+      no_key = shared_none (tables_of checks) feeds (shared_of checks) (subst (λ (hs : List History). IsTold hs (shared_of checks)) (histories bytes feeds checks of) (told ties (histories_of checks)))
+
+  notes_unless_plain : (checks : List CheckedValue) (bytes : List (List ℕ)) (feeds : List FeedValue) → AreChecksOf bytes feeds checks → (has_some (all_notes checks) ≡ false) ↔ EachFeed IsPlainFeed bytes feeds
+  notes_unless_plain checks bytes feeds of = let each = each_notes ties 0 bytes feeds checks of in (λ none. each.0 (none_shown (all_notes checks) none), λ plain. ap has_some (each.1 plain))
+
+  pub tells_unless_clean : (checks : List CheckedValue) → TellsUnlessClean checks (has_some (all_warnings checks)) (has_some (all_notes checks))
+  tells_unless_clean checks bytes feeds many e =
+      let faults = warns_unless_faultless checks bytes feeds many e in
+      let notes = notes_unless_plain checks bytes feeds (are_checks bytes feeds checks many e) in
+      let both = either_none (has_some (all_warnings checks)) (has_some (all_notes checks)) in (
+        λ none. let h = both.0 none in
+            let good = faults.0 h.0 in
+            let plain = notes.0 h.1 in
+            record { each = λ s one feed at_b at_f. record { faultless = good.each s one feed at_b at_f; plain = plain s one feed at_b at_f }; apart = good.apart },
+        λ clean. both.1 (
+          faults.1 (record { each = λ s one feed at_b at_f. (clean.each s one feed at_b at_f).faultless; apart = clean.apart }),
+          notes.1 (λ s one feed at_b at_f. (clean.each s one feed at_b at_f).plain),
+        ),
+      )

@@ -28,7 +28,7 @@ use Rattle.feed_check.specs.Clean.{IsStart, PutsPassing, HasPassingRow, IsNamed,
 use Rattle.feed_check.specs.Findings.{FindingValue, told, why_before, why_after, why_moved, has_key, found_before, found_after, found_moved, findings_in, moves_of}
 use Rattle.feed_check.specs.KeyedChanges.{KeyedRowValue, KeyedChangeValue}
 use Rattle.feed_check.specs.Replay.{row_left}
-use Rattle.feed_check.specs.Report.{warning, groups_warning, table_warning, table_warnings, is_start, start_warning, name_warnings, skipped_warnings, same_why, of_kind, kind_warnings, told_warnings, change_warnings, has_some}
+use Rattle.feed_check.specs.Report.{warning, note, change_line, groups_warning, table_note, table_notes, is_start, start_note, name_warnings, skipped_warnings, same_why, of_kind, kind_lines, told_lines, change_warnings, has_some}
 use Rattle.feed_check.specs.Skipped.{SkippedValue, is_skipped, skipped_at, skipped_in, skipped_from}
 use Rattle.feed_check.specs.Unknown.{is_known, with_name, unknown_in, unknown_behind}
 use Rattle.feed_check.specs.declared.finding.Doubt.{Doubt}
@@ -55,9 +55,18 @@ both_true : (a b : Bool) → (a && b) ≡ true → (a ≡ true) × (b ≡ true)
 both_true true b e = (refl, e)
 both_true false b e = absurd (true≢false (sym e))
 
--- a warning has a text
+-- a warning has a text, and so has a note
 pub shows : (i : ℕ) (text : List ℕ) → warning i text ≡ [] → ⊥
 shows i text e = let some : has_some (warning i text) ≡ true = refl in true≢false (sym some ∙ ap has_some e)
+
+notes : (i : ℕ) (text : List ℕ) → note i text ≡ [] → ⊥
+notes i text e = let some : has_some (note i text) ≡ true = refl in true≢false (sym some ∙ ap has_some e)
+
+tells : (i : ℕ) (why : Doubt) (text : List ℕ) → change_line i why text ≡ [] → ⊥
+tells i NoRow text e = shows i text e
+tells i OtherRow text e = shows i text e
+tells i RowThere text e = shows i text e
+tells i Moved text e = notes i text e
 
 flat-none : {X : Type 0} (f : X → List ℕ) → ((x : X) → f x ≡ [] → ⊥) → (xs : List X) → (flat_map f xs ≡ []) ↔ (xs ≡ [])
 flat-none f shown [] = (λ _. refl, λ _. refl)
@@ -77,19 +86,19 @@ start-from (one ∷ two ∷ more) e = absurd (true≢false (sym e))
 start-is : (position : Position) → IsStart position → is_start position ≡ true
 start-is position h = ap is_start h.alone ∙ eq-eqb h.source.last 1 h.transaction
 
-pub start-none : (i : ℕ) (first : Option PreparedValue) → (start_warning i first ≡ []) ↔ IfSome first (λ group. IsStart group.position)
+pub start-none : (i : ℕ) (first : Option PreparedValue) → (start_note i first ≡ []) ↔ IfSome first (λ group. IsStart group.position)
 start-none i None = (λ _. tt, λ _. refl)
 start-none i (Some group) = by (is_start group.position) refl
   where
     line : List ℕ
     line = codes "starts at " ++ printed_position group.position
 
-    is : (b : Bool) → is_start group.position ≡ b → start_warning i (Some group) ≡ cond b [] (warning i line)
-    is b e = ap (λ (t : Bool). cond t [] (warning i line)) e
+    is : (b : Bool) → is_start group.position ≡ b → start_note i (Some group) ≡ cond b [] (note i line)
+    is b e = ap (λ (t : Bool). cond t [] (note i line)) e
 
-    by : (b : Bool) → is_start group.position ≡ b → (start_warning i (Some group) ≡ []) ↔ IsStart group.position
+    by : (b : Bool) → is_start group.position ≡ b → (start_note i (Some group) ≡ []) ↔ IsStart group.position
     by true e = (λ _. start-from group.position e, λ _. is true e)
-    by false e = (λ w. absurd (shows i line (sym (is false e) ∙ w)), λ h. absurd (true≢false (sym (start-is group.position h) ∙ e)))
+    by false e = (λ w. absurd (notes i line (sym (is false e) ∙ w)), λ h. absurd (true≢false (sym (start-is group.position h) ∙ e)))
 
 -- ---- tables
 
@@ -166,12 +175,12 @@ some-counted t p is history h =
     (map-any (λ group. Any (PutsPassing t) group.touches) (λ group. list_any p group.touches ≡ true)
     (λ group a. list_any-from_Any p group.touches (map-any (PutsPassing t) (λ touch. p touch ≡ true) is group.touches a)) history h))
 
-counts-none : (i : ℕ) (name : List ℕ) (n m : ℕ) → (table_warning i name n m ≡ []) ↔ ((1 ≤ n) × (1 ≤ m))
-counts-none i name zero m = (λ e. absurd (shows i _ e), λ h. absurd (let none : 1 ≤ 0 = h.0 in omega (arith, none)))
-counts-none i name (suc n) zero = (λ e. absurd (shows i _ e), λ h. absurd (let none : 1 ≤ 0 = h.1 in omega (arith, none)))
+counts-none : (i : ℕ) (name : List ℕ) (n m : ℕ) → (table_note i name n m ≡ []) ↔ ((1 ≤ n) × (1 ≤ m))
+counts-none i name zero m = (λ e. absurd (notes i _ e), λ h. absurd (let none : 1 ≤ 0 = h.0 in omega (arith, none)))
+counts-none i name (suc n) zero = (λ e. absurd (notes i _ e), λ h. absurd (let none : 1 ≤ 0 = h.1 in omega (arith, none)))
 counts-none i name (suc n) (suc m) = (λ _. (omega arith, omega arith), λ _. refl)
 
-table-none : (i : ℕ) (name : List ℕ) (t : ℕ) (history : List PreparedValue) → (table_warning i name (touching t history) (passing_groups t history) ≡ []) ↔ HasPassingRow history t
+table-none : (i : ℕ) (name : List ℕ) (t : ℕ) (history : List PreparedValue) → (table_note i name (touching t history) (passing_groups t history) ≡ []) ↔ HasPassingRow history t
 table-none i name t history =
     let counts = counts-none i name (touching t history) (passing_groups t history) in (
       λ e. passing-some t history (counts.0 e).1,
@@ -180,26 +189,26 @@ table-none i name t history =
 
 -- one table in front of others
 tables-more : (i : ℕ) (check : CheckedValue) (t : ℕ) (table : TableValue) (later : List TableValue)
-    → (table_warning i table.name (touching t check.history) (passing_groups t check.history) ≡ []) ↔ HasPassingRow check.history t
-    → (table_warnings i check (t + 1) later ≡ []) ↔ ((u : ℕ) → u < length later → HasPassingRow check.history (t + 1 + u))
-    → (table_warnings i check t (table ∷ later) ≡ []) ↔ ((u : ℕ) → u < suc (length later) → HasPassingRow check.history (t + u))
+    → (table_note i table.name (touching t check.history) (passing_groups t check.history) ≡ []) ↔ HasPassingRow check.history t
+    → (table_notes i check (t + 1) later ≡ []) ↔ ((u : ℕ) → u < length later → HasPassingRow check.history (t + 1 + u))
+    → (table_notes i check t (table ∷ later) ≡ []) ↔ ((u : ℕ) → u < suc (length later) → HasPassingRow check.history (t + u))
 tables-more i check t table later here rest = (to, from)
   where
     first : List ℕ
-    first = table_warning i table.name (touching t check.history) (passing_groups t check.history)
+    first = table_note i table.name (touching t check.history) (passing_groups t check.history)
 
-    to : first ++ table_warnings i check (t + 1) later ≡ [] → (u : ℕ) → u < suc (length later) → HasPassingRow check.history (t + u)
+    to : first ++ table_notes i check (t + 1) later ≡ [] → (u : ℕ) → u < suc (length later) → HasPassingRow check.history (t + u)
     to e zero within = let n : t ≡ t + 0 = omega arith in subst (HasPassingRow check.history) n (here.0 (left_empty first _ e))
     to e (suc u) within = let n : t + 1 + u ≡ t + suc u = omega arith in subst (HasPassingRow check.history) n (rest.0 (right_empty first _ e) u (omega (arith, within)))
 
-    from : ((u : ℕ) → u < suc (length later) → HasPassingRow check.history (t + u)) → first ++ table_warnings i check (t + 1) later ≡ []
+    from : ((u : ℕ) → u < suc (length later) → HasPassingRow check.history (t + u)) → first ++ table_notes i check (t + 1) later ≡ []
     from h =
         let n : t + 0 ≡ t = omega arith in
         both_empty first _ (here.1 (subst (HasPassingRow check.history) n (h zero (omega arith))))
         (rest.1 (λ u within. let m : t + suc u ≡ t + 1 + u = omega arith in subst (HasPassingRow check.history) m (h (suc u) (omega (arith, within)))))
 
 pub tables-none : (i : ℕ) (check : CheckedValue) (t : ℕ) (tables : List TableValue)
-    → (table_warnings i check t tables ≡ []) ↔ ((u : ℕ) → u < length tables → HasPassingRow check.history (t + u))
+    → (table_notes i check t tables ≡ []) ↔ ((u : ℕ) → u < length tables → HasPassingRow check.history (t + u))
 tables-none i check t [] = (λ _ u h. absurd (omega (arith, h)), λ _. refl)
 tables-none i check t (table ∷ later) = tables-more i check t table later (table-none i table.name t check.history) (tables-none i check (t + 1) later)
 
@@ -262,9 +271,9 @@ unknown-none plan groups = (λ e. (behind-none plan [] groups e).1, named-behind
 
 -- ---- what is told of changes
 
-kind-none : (i : ℕ) (check : CheckedValue) (why : Doubt) (these : List FindingValue) → (kind_warnings i check why these ≡ []) ↔ (these ≡ [])
+kind-none : (i : ℕ) (check : CheckedValue) (why : Doubt) (these : List FindingValue) → (kind_lines i check why these ≡ []) ↔ (these ≡ [])
 kind-none i check why [] = (λ _. refl, λ _. refl)
-kind-none i check why (found ∷ these) = (λ e. absurd (shows i _ (left_empty _ _ e)), λ e. absurd (not_empty found these e))
+kind-none i check why (found ∷ these) = (λ e. absurd (tells i why _ (left_empty _ _ e)), λ e. absurd (not_empty found these e))
 
 abbrev IsNoMove : FindingValue → Type 0
 IsNoMove found = same_why Moved found.why ≡ false
@@ -373,39 +382,35 @@ module _ (ties : (a b : KeyValue) → key_cmp a b ≡ Equal → a ≡ b) where
       )
 
 -- no line of a change is told exactly where nothing is
-pub changes-none : (i : ℕ) (check : CheckedValue) → AllByRecursion IsNoMove check.findings → AllByRecursion IsMove check.moves → (change_warnings i check ≡ []) ↔ ((check.findings ≡ []) × (check.moves ≡ []))
-changes-none i check no_moves moves = (to, from)
+pub changes-none : (i : ℕ) (check : CheckedValue) → AllByRecursion IsNoMove check.findings → (change_warnings i check ≡ []) ↔ (check.findings ≡ [])
+changes-none i check no_moves = (to, from)
   where
     a : List ℕ
-    a = told_warnings i check NoRow check.findings
+    a = told_lines i check NoRow check.findings
 
     b : List ℕ
-    b = told_warnings i check OtherRow check.findings
+    b = told_lines i check OtherRow check.findings
 
     c : List ℕ
-    c = told_warnings i check RowThere check.findings
+    c = told_lines i check RowThere check.findings
 
-    d : List ℕ
-    d = told_warnings i check Moved check.moves
-
-    to : a ++ (b ++ (c ++ d)) ≡ [] → (check.findings ≡ []) × (check.moves ≡ [])
+    to : a ++ (b ++ c) ≡ [] → check.findings ≡ []
     to e =
-        let e1 = right_empty a (b ++ (c ++ d)) e in
-        let e2 = right_empty b (c ++ d) e1 in (
-          none-of-three check.findings no_moves
-              ((kind-none i check NoRow (of_kind NoRow check.findings)).0 (left_empty a (b ++ (c ++ d)) e))
-              ((kind-none i check OtherRow (of_kind OtherRow check.findings)).0 (left_empty b (c ++ d) e1))
-              ((kind-none i check RowThere (of_kind RowThere check.findings)).0 (left_empty c d e2)),
-          none-moved check.moves moves ((kind-none i check Moved (of_kind Moved check.moves)).0 (right_empty c d e2)),
-        )
+        let e1 = right_empty a (b ++ c) e in
+        none-of-three check.findings no_moves
+        ((kind-none i check NoRow (of_kind NoRow check.findings)).0 (left_empty a (b ++ c) e))
+        ((kind-none i check OtherRow (of_kind OtherRow check.findings)).0 (left_empty b c e1))
+        ((kind-none i check RowThere (of_kind RowThere check.findings)).0 (right_empty b c e1))
 
-    none : (why : Doubt) (findings : List FindingValue) → findings ≡ [] → told_warnings i check why findings ≡ []
-    none why findings e = ap (told_warnings i check why) e
+    none : (why : Doubt) → check.findings ≡ [] → told_lines i check why check.findings ≡ []
+    none why e = ap (told_lines i check why) e
 
-    from : (check.findings ≡ []) × (check.moves ≡ []) → a ++ (b ++ (c ++ d)) ≡ []
-    from h =
-        both_empty a (b ++ (c ++ d)) (none NoRow check.findings h.0)
-        (both_empty b (c ++ d) (none OtherRow check.findings h.0) (both_empty c d (none RowThere check.findings h.0) (none Moved check.moves h.1)))
+    from : check.findings ≡ [] → a ++ (b ++ c) ≡ []
+    from e = both_empty a (b ++ c) (none NoRow e) (both_empty b c (none OtherRow e) (none RowThere e))
+
+-- nor of an update that moves its row
+pub still-none : (i : ℕ) (check : CheckedValue) → AllByRecursion IsMove check.moves → (told_lines i check Moved check.moves ≡ []) ↔ (check.moves ≡ [])
+still-none i check moves = (λ e. none-moved check.moves moves ((kind-none i check Moved (of_kind Moved check.moves)).0 e), λ e. ap (told_lines i check Moved) e)
 
 -- ---- events
 

@@ -1,5 +1,5 @@
--- Feeds of which a check warns of nothing, by what stands in them (this profile).
-use Rattle.std.specs.Prelude.{◌≡◌, ◌≢◌, ◌↔◌, ℕ, ◌<◌, ◌≤◌, Bool, true, false, List, [], ◌∷◌, length, Some, None, IfSome, IsSomeAnd, Ok, reverse, slice_get}
+-- Feeds of which a check warns of nothing, and feeds of which it notes nothing either, by what stands in them (this profile).
+use Rattle.std.specs.Prelude.{◌≡◌, ◌≢◌, ◌↔◌, ℕ, ◌<◌, ◌≤◌, ◌||◌, Bool, true, false, List, [], ◌∷◌, length, Some, None, IfSome, IsSomeAnd, Ok, reverse, slice_get}
 use Rattle.std.specs.List.{AllByRecursion, Any}
 use Rattle.board_laws.specs.Meaning.{Meaning}
 use Rattle.board_laws.specs.Lawful.{IsLawful}
@@ -70,38 +70,62 @@ NothingIsSkipped feed = AllByRecursion (λ message. AllByRecursion (λ event. is
 
 -- ---- a feed
 
--- A feed that was opened of these bytes. All its groups are sound, and there is one; the first stands at the start of its
--- source. Each table of the plan has a row that passes the filter. Each change of the bytes' groups is to a table of the plan,
--- and of those with their keys each is true of the rows that the changes before it leave, from no row on, and leaves its row at
--- its key. No event is passed over.
-pub record IsCleanFeed (bytes : List ℕ) (feed : FeedValue) : Type 0 where
+-- A feed that was opened of these bytes, without a fault. All its groups are sound, and there is one. Each change of the
+-- bytes' groups is to a table of the plan, and of those with their keys each is true of the rows that the changes before it
+-- leave, from no row on. No event is passed over.
+pub record IsFaultlessFeed (bytes : List ℕ) (feed : FeedValue) : Type 0 where
   pub sound : length (sound_groups feed) ≡ length feed.groups
   pub some : 1 ≤ length (sound_groups feed)
-  pub start : BeginsAtStart (sound_groups feed)
-  pub tables : (t : ℕ) → t < length feed.plan.tables → HasPassingRow (sound_groups feed) t
   pub changes : List GroupValue
   pub read : groups bytes (source_of feed.plan) ≡ Ok changes
   pub named : AreNamed feed.plan changes
   pub true_of_rows : AreTrue (reverse (keyed_changes feed.plan changes))
-  pub still : KeepTheirKeys (keyed_changes feed.plan changes)
   pub told : NothingIsSkipped bytes
+
+-- Such a feed of which nothing is to be noted. Its first group stands at the start of its source. Each table of the plan has a
+-- row that passes the filter. Each change leaves its row at its key.
+pub record IsPlainFeed (bytes : List ℕ) (feed : FeedValue) : Type 0 where
+  pub start : BeginsAtStart (sound_groups feed)
+  pub tables : (t : ℕ) → t < length feed.plan.tables → HasPassingRow (sound_groups feed) t
+  pub changes : List GroupValue
+  pub read : groups bytes (source_of feed.plan) ≡ Ok changes
+  pub still : KeepTheirKeys (keyed_changes feed.plan changes)
+
+-- both
+pub record IsCleanFeed (bytes : List ℕ) (feed : FeedValue) : Type 0 where
+  pub faultless : IsFaultlessFeed bytes feed
+  pub plain : IsPlainFeed bytes feed
 
 -- ---- all feeds
 
--- each of the feeds is clean by the bytes of its number, and no key is touched in two of them
+-- each of the feeds is so by the bytes of its number
+abbrev pub EachFeed : (List ℕ → FeedValue → Type 0) → List (List ℕ) → List FeedValue → Type 0
+EachFeed Is bytes feeds = (s : ℕ) (one : List ℕ) (feed : FeedValue) → slice_get bytes s ≡ Some one → slice_get feeds s ≡ Some feed → Is one feed
+
+-- each of the feeds is without a fault, and no key is touched in two of them
+pub record AreFaultlessFeeds (bytes : List (List ℕ)) (feeds : List FeedValue) : Type 0 where
+  pub each : EachFeed IsFaultlessFeed bytes feeds
+  pub apart : AreDisjoint feeds
+
+-- each of the feeds is clean, and no key is touched in two of them
 pub record AreCleanFeeds (bytes : List (List ℕ)) (feeds : List FeedValue) : Type 0 where
-  pub each : (s : ℕ) (one : List ℕ) (feed : FeedValue) → slice_get bytes s ≡ Some one → slice_get feeds s ≡ Some feed → IsCleanFeed one feed
+  pub each : EachFeed IsCleanFeed bytes feeds
   pub apart : AreDisjoint feeds
 
 -- ---- laws
 
--- checks of feeds, each with its bytes, warn of nothing exactly where the feeds are clean
-abbrev pub WarnsUnlessClean : List CheckedValue → Bool → Type 0
-WarnsUnlessClean checks warned =
-    (bytes : List (List ℕ)) (feeds : List FeedValue) → length bytes ≡ length feeds → checked_feeds bytes feeds ≡ Ok checks → (warned ≡ false) ↔ AreCleanFeeds bytes feeds
+-- checks of feeds, each with its bytes, warn of nothing exactly where the feeds are without a fault
+abbrev pub WarnsUnlessFaultless : List CheckedValue → Bool → Type 0
+WarnsUnlessFaultless checks warned =
+    (bytes : List (List ℕ)) (feeds : List FeedValue) → length bytes ≡ length feeds → checked_feeds bytes feeds ≡ Ok checks → (warned ≡ false) ↔ AreFaultlessFeeds bytes feeds
 
--- on a lawful board whose streams read clean feeds no step is refused since another stream's row stands at a key
-abbrev pub CleanFeedsNeverClash : Type 0
-CleanFeedsNeverClash =
-    (bytes : List (List ℕ)) (feeds : List FeedValue) → AreCleanFeeds bytes feeds
+-- they warn of nothing and note nothing exactly where the feeds are clean
+abbrev pub TellsUnlessClean : List CheckedValue → Bool → Bool → Type 0
+TellsUnlessClean checks warned noted =
+    (bytes : List (List ℕ)) (feeds : List FeedValue) → length bytes ≡ length feeds → checked_feeds bytes feeds ≡ Ok checks → ((warned || noted) ≡ false) ↔ AreCleanFeeds bytes feeds
+
+-- on a lawful board whose streams read feeds without a fault no step is refused since another stream's row stands at a key
+abbrev pub FaultlessFeedsNeverClash : Type 0
+FaultlessFeedsNeverClash =
+    (bytes : List (List ℕ)) (feeds : List FeedValue) → AreFaultlessFeeds bytes feeds
     → (old new : Meaning) (steps : List (ℕ × Step)) (replies : List Reply) → IsRun feeds old steps replies new → IsLawful old → AllReadTheirFeeds feeds old → NoneClashes replies

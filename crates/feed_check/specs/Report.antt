@@ -1,5 +1,5 @@
--- The text of a check, stream by stream: lines of what there is, and behind them all warnings; names of files, shards and
--- tables as they are shown (this profile).
+-- The text of a check, stream by stream: lines of what there is, behind them all notes, and behind these all warnings. A
+-- warning is of a fault, a note of what may well be so. Names of files, shards and tables are as they are shown (this profile).
 use Rattle.std.specs.Prelude.{ℕ, zero, suc, ◌+◌, ◌-◌, ◌==◌, is_some, map, if◌then◌else◌, List, [], ◌∷◌, ◌++◌, Bool, true, false, Option, Some, None, length, take, codes, decimal, slice_get, unwrap_or}
 use Rattle.std.specs.List.{after_first, filter, flat_map}
 use Rattle.hex.specs.Hex.{encode_lower}
@@ -74,7 +74,7 @@ abbrev pub lines_from : List (List ℕ) → ℕ → List CheckedValue → List �
 lines_from files i [] = []
 lines_from files i (check ∷ later) = (stream_line i (file_name files i) check ++ checked_table_lines check 0 check.plan.tables) ++ lines_from files (i + 1) later
 
--- ---- warnings
+-- ---- notes and warnings
 
 -- a stream's number, a text, and the end of the line
 abbrev pub numbered : ℕ → List ℕ → List ℕ
@@ -83,19 +83,22 @@ numbered i text = decimal i ++ codes " " ++ text ++ 10 ∷ []
 abbrev pub warning : ℕ → List ℕ → List ℕ
 warning i text = codes "warning stream " ++ numbered i text
 
+abbrev pub note : ℕ → List ℕ → List ℕ
+note i text = codes "note stream " ++ numbered i text
+
 abbrev pub groups_warning : ℕ → ℕ → List ℕ
 groups_warning i zero = warning i (codes "no groups")
 groups_warning i (suc n) = []
 
 -- no group touches a table; some do, and none puts a row that passes the filter
-abbrev pub table_warning : ℕ → List ℕ → ℕ → ℕ → List ℕ
-table_warning i name zero m = warning i (codes "table " ++ shown name ++ codes " untouched")
-table_warning i name (suc n) zero = warning i (codes "table " ++ shown name ++ codes " passes no row")
-table_warning i name (suc n) (suc m) = []
+abbrev pub table_note : ℕ → List ℕ → ℕ → ℕ → List ℕ
+table_note i name zero m = note i (codes "table " ++ shown name ++ codes " untouched")
+table_note i name (suc n) zero = note i (codes "table " ++ shown name ++ codes " passes no row")
+table_note i name (suc n) (suc m) = []
 
-abbrev pub table_warnings : ℕ → CheckedValue → ℕ → List TableValue → List ℕ
-table_warnings i check t [] = []
-table_warnings i check t (table ∷ later) = table_warning i table.name (touching t check.history) (passing_groups t check.history) ++ table_warnings i check (t + 1) later
+abbrev pub table_notes : ℕ → CheckedValue → ℕ → List TableValue → List ℕ
+table_notes i check t [] = []
+table_notes i check t (table ∷ later) = table_note i table.name (touching t check.history) (passing_groups t check.history) ++ table_notes i check (t + 1) later
 
 -- a position that is the first of its source: that of its transaction 1 alone
 abbrev pub is_start : Position → Bool
@@ -103,9 +106,9 @@ is_start (first ∷ []) = first.last == 1
 is_start _ = false
 
 -- the first group's position isn't the start of its source
-abbrev pub start_warning : ℕ → Option PreparedValue → List ℕ
-start_warning i None = []
-start_warning i (Some group) = if is_start group.position then [] else warning i (codes "starts at " ++ printed_position group.position)
+abbrev pub start_note : ℕ → Option PreparedValue → List ℕ
+start_note i None = []
+start_note i (Some group) = if is_start group.position then [] else note i (codes "starts at " ++ printed_position group.position)
 
 -- behind the first dot of a name, where that is a table's
 abbrev pub nearest_text : PlanValue → List ℕ → List ℕ
@@ -153,10 +156,17 @@ same_why RowThere RowThere = true
 same_why Moved Moved = true
 same_why _ _ = false
 
+-- an update may put its row at another key; what else is told can't be so
+abbrev pub change_line : ℕ → Doubt → List ℕ → List ℕ
+change_line i NoRow text = warning i text
+change_line i OtherRow text = warning i text
+change_line i RowThere text = warning i text
+change_line i Moved text = note i text
+
 -- how many findings there are of one kind, if any
-abbrev pub count_warning : ℕ → Doubt → ℕ → List ℕ
-count_warning i why zero = []
-count_warning i why (suc n) = warning i (why_text why ++ codes " " ++ decimal (suc n))
+abbrev pub count_line : ℕ → Doubt → ℕ → List ℕ
+count_line i why zero = []
+count_line i why (suc n) = change_line i why (why_text why ++ codes " " ++ decimal (suc n))
 
 -- a finding: why, and which change of which group
 abbrev pub finding_head : FindingValue → List ℕ
@@ -174,30 +184,35 @@ group_of history number = slice_get history (number - 1)
 abbrev pub finding_text : CheckedValue → FindingValue → List ℕ
 finding_text check found = keyed_text check.plan.tables found ++ group_place_text (codes " at ") (group_of check.history found.group)
 
-abbrev pub finding_warnings : ℕ → CheckedValue → List FindingValue → List ℕ
-finding_warnings i check findings = flat_map (λ found. warning i (finding_text check found)) findings
+abbrev pub finding_lines : ℕ → CheckedValue → List FindingValue → List ℕ
+finding_lines i check findings = flat_map (λ found. change_line i found.why (finding_text check found)) findings
 
 -- the findings of one kind: their count, and the first ten
-abbrev pub kind_warnings : ℕ → CheckedValue → Doubt → List FindingValue → List ℕ
-kind_warnings i check why these = count_warning i why (length these) ++ finding_warnings i check (take 10 these)
+abbrev pub kind_lines : ℕ → CheckedValue → Doubt → List FindingValue → List ℕ
+kind_lines i check why these = count_line i why (length these) ++ finding_lines i check (take 10 these)
 
 abbrev pub of_kind : Doubt → List FindingValue → List FindingValue
 of_kind why findings = filter (λ found. same_why why found.why) findings
 
-abbrev pub told_warnings : ℕ → CheckedValue → Doubt → List FindingValue → List ℕ
-told_warnings i check why findings = kind_warnings i check why (of_kind why findings)
+abbrev pub told_lines : ℕ → CheckedValue → Doubt → List FindingValue → List ℕ
+told_lines i check why findings = kind_lines i check why (of_kind why findings)
 
--- what is told of a stream's changes
+-- a stream's changes that aren't true of the rows before them
 abbrev pub change_warnings : ℕ → CheckedValue → List ℕ
-change_warnings i check =
-    told_warnings i check NoRow check.findings ++ (told_warnings i check OtherRow check.findings
-    ++ (told_warnings i check RowThere check.findings ++ told_warnings i check Moved check.moves))
+change_warnings i check = told_lines i check NoRow check.findings ++ (told_lines i check OtherRow check.findings ++ told_lines i check RowThere check.findings)
+
+-- the notes of a stream
+abbrev pub stream_notes : ℕ → CheckedValue → List ℕ
+stream_notes i check = start_note i (slice_get check.history 0) ++ (table_notes i check 0 check.plan.tables ++ told_lines i check Moved check.moves)
+
+abbrev pub notes_from : ℕ → List CheckedValue → List ℕ
+notes_from i [] = []
+notes_from i (check ∷ later) = stream_notes i check ++ notes_from (i + 1) later
 
 -- the warnings of a stream
 abbrev pub stream_warnings : ℕ → CheckedValue → List ℕ
 stream_warnings i check =
-    groups_warning i (length check.history) ++ (start_warning i (slice_get check.history 0) ++ (table_warnings i check 0 check.plan.tables
-    ++ (name_warnings i check.plan check.unknown ++ (change_warnings i check ++ skipped_warnings i check.skipped))))
+    groups_warning i (length check.history) ++ (name_warnings i check.plan check.unknown ++ (change_warnings i check ++ skipped_warnings i check.skipped))
 
 abbrev pub warnings_from : ℕ → List CheckedValue → List ℕ
 warnings_from i [] = []
@@ -231,19 +246,25 @@ shared_warning tables (Some shared) = shared_line tables shared
 
 -- ---- all streams
 
--- the text, and whether anything is warned of
+-- the text, whether anything is warned of, and whether anything is noted
 pub record ReportValue : Type 0 where
   pub text : List ℕ
   pub warned : Bool
+  pub noted : Bool
 
 abbrev pub has_some : List ℕ → Bool
 has_some [] = false
 has_some (byte ∷ bytes) = true
 
+-- the notes of each stream
+abbrev pub all_notes : List CheckedValue → List ℕ
+all_notes checks = notes_from 0 checks
+
 -- the warnings of each stream, and behind them that of the least key that two feeds touch
 abbrev pub all_warnings : List CheckedValue → List ℕ
 all_warnings checks = warnings_from 0 checks ++ shared_warning (tables_of checks) (shared_of checks)
 
--- the lines of all streams, whose files have these names, and behind them all warnings
+-- the lines of all streams, whose files have these names, and behind them all notes and all warnings
 abbrev pub check_report_of : List (List ℕ) → List CheckedValue → ReportValue
-check_report_of files checks = record { text = lines_from files 0 checks ++ all_warnings checks; warned = has_some (all_warnings checks) }
+check_report_of files checks =
+    record { text = lines_from files 0 checks ++ (all_notes checks ++ all_warnings checks); warned = has_some (all_warnings checks); noted = has_some (all_notes checks) }

@@ -1,14 +1,14 @@
-//! The warnings of a feed by itself, as text: where it starts, names of no table, events that are passed over.
+//! What is told of a feed by itself, as text: where it starts, names of no table, events that are passed over.
 
 ghost use Rattle.std.specs.Prelude.{◌≡◌, ◌==◌, ◌++◌, OnOk, IfOk, codes, decimal, map, take};
 ghost use Rattle.std.specs.Option.{option_copied};
 ghost use Rattle.std.specs.List.{after_first};
 ghost use Rattle.std.specs.String.{string_bytes};
 ghost use Rattle.shown_text.specs.Shown as said;
-ghost use Rattle.feed_check.specs.Report.{is_start, kind_text, name_warnings, nearest_text, skipped_count, skipped_head, skipped_lines, skipped_text, skipped_warnings, start_warning};
+ghost use Rattle.feed_check.specs.Report.{is_start, kind_text, name_warnings, nearest_text, skipped_count, skipped_head, skipped_lines, skipped_text, skipped_warnings, start_note};
 
 use crate::skipped::Skipped;
-use crate::warnings::{TOLD, push_warning};
+use crate::warnings::{TOLD, push_note, push_warning};
 use filter_rule::Plan;
 use gtid_set::GtidSet;
 use shown_text::shown;
@@ -16,7 +16,7 @@ use source_feed::Prepared;
 use std::alloc::{AllocError, Global};
 
 /// Whether a position is the first of its source.
-fn is_start(position: &GtidSet) -> bool
+pub fn is_start(position: &GtidSet) -> bool
     ensures { result ≡ is_start position.now }
 {
     match position.intervals() {
@@ -25,22 +25,22 @@ fn is_start(position: &GtidSet) -> bool
     }
 }
 
-/// Puts the warning that a feed doesn't begin at the start of its source behind a text, where it doesn't.
-pub(crate) fn push_start_warning(
+/// Puts the note that a feed doesn't begin at the start of its source behind a text, where it doesn't.
+pub(crate) fn push_start_note(
     alloc: Global,
     i: usize,
     group: Option<&Prepared<'_>>,
     text: &mut String,
 ) -> Result<(), AllocError>
-    ensures { OnOk result (string_bytes text.new ≡ string_bytes text.old ++ start_warning i (option_copied group.entry)) }
+    ensures { OnOk result (string_bytes text.new ≡ string_bytes text.old ++ start_note i (option_copied group.entry)) }
 {
     let Some(group) = group else {
         return Ok(());
     };
     let position = group.position();
     if !is_start(position) {
-        let warned = format!(in alloc; "starts at {position}")?;
-        push_warning(alloc, i, &warned, text)?;
+        let noted = format!(in alloc; "starts at {position}")?;
+        push_note(alloc, i, &noted, text)?;
     }
     Ok(())
 }

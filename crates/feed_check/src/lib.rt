@@ -23,12 +23,12 @@ mod warnings;
 
 pub use before_images::findings_of;
 pub use checked::{Checked, check_feed, check_feeds};
-pub use feed_warnings::{behind_dot, kind_text};
+pub use feed_warnings::{behind_dot, is_start, kind_text};
 pub use finding::{Doubt, Finding};
 pub use key_text::part_text;
 pub use last_rows::rows_of_table;
 pub use laws::{
-    checks_warn_unless_feeds_are_clean, clean_feeds_never_clash,
+    checks_warn_unless_feeds_are_faultless, faultless_feeds_never_clash,
     nothing_is_found_where_all_are_true, the_least_key_of_two_feeds_is_told,
 };
 pub use moves::moves_of;
@@ -36,4 +36,4 @@ pub use report::{CheckReport, file_name, tables_of};
 pub use shared::{SharedKey, shared_of};
 pub use skipped::{Skipped, skipped_of};
 pub use unknown::unknown_tables;
-pub use warnings::{group_of, name_of_table, why_text};
+pub use warnings::{group_of, name_of_table, same_why, why_text};

@@ -2,26 +2,28 @@
 
 ghost use Rattle.std.specs.Prelude.{◌≡◌, ◌++◌, OnOk, IfOk, map};
 ghost use Rattle.std.specs.String.{string_bytes};
-ghost use Rattle.feed_check.specs.Clean.{WarnsUnlessClean};
-ghost use Rattle.feed_check.specs.Report.{file_name, stream_head, stream_line, counts_line, checked_table_lines, lines_from, warnings_from, tables_of, all_warnings, has_some, check_report_of};
+ghost use Rattle.feed_check.specs.Clean.{TellsUnlessClean, WarnsUnlessFaultless};
+ghost use Rattle.feed_check.specs.Report.{file_name, stream_head, stream_line, counts_line, checked_table_lines, lines_from, notes_from, warnings_from, tables_of, all_notes, all_warnings, has_some, check_report_of};
 
 use crate::checked::Checked;
 use crate::last_rows::rows_of_table;
-use crate::laws::checks_warn_unless_feeds_are_clean;
+use crate::laws::checks_warn_unless_feeds_are_faultless;
 use crate::places::places_text;
 use crate::shared::shared_of;
 use crate::shared_warning::push_shared_warning;
-use crate::warnings::push_stream_warnings;
+use crate::warnings::{push_stream_notes, push_stream_warnings};
 use filter_rule::Table;
 use shown_text::shown;
 use std::alloc::{AllocError, Global};
 use std::marker::Model;
 
-/// What a check says: a line a stream and a line a table, and behind them the lines of its warnings.
+/// What a check says: a line a stream and a line a table, behind them the lines of its notes, and behind these the lines
+/// of its warnings.
 #[derive(Drop)]
 pub struct CheckReport {
     text: String,
     warned: bool,
+    noted: bool,
 }
 
 impl Model for CheckReport {
@@ -30,7 +32,7 @@ impl Model for CheckReport {
 
     ghost Value = { ReportValue };
 
-    ghost view = { λ r. record { text = string_bytes r.text; warned = r.warned } };
+    ghost view = { λ r. record { text = string_bytes r.text; warned = r.warned; noted = r.noted } };
 }
 
 impl CheckReport {
@@ -42,16 +44,21 @@ impl CheckReport {
         checks: &[Checked<'_>],
     ) -> Result<CheckReport, AllocError>
         ensures report { IfOk result (λ report. report ≡ check_report_of (map (λ file. file.now) files.now) checks.now) }
-        // It warns of nothing exactly where the feeds are clean.
-        ensures clean { IfOk result (λ report. WarnsUnlessClean checks.now report.warned) }
+        // It warns of nothing exactly where the feeds are without a fault.
+        ensures faultless { IfOk result (λ report. WarnsUnlessFaultless checks.now report.warned) }
+        // And notes nothing either exactly where they are clean.
+        ensures clean { IfOk result (λ report. TellsUnlessClean checks.now report.warned report.noted) }
     {
-        checks_warn_unless_feeds_are_clean();
+        checks_warn_unless_feeds_are_faultless();
         let mut text = all_lines(alloc, files, checks)?;
+        let notes = all_notes(alloc, checks)?;
         let warnings = all_warnings(alloc, checks)?;
+        text.push_str(&notes)?;
         text.push_str(&warnings)?;
         Ok(CheckReport {
             text,
             warned: has_some(&warnings),
+            noted: has_some(&notes),
         })
     }
 
@@ -67,6 +74,13 @@ impl CheckReport {
         ensures { result ≡ self.now.warned }
     {
         self.warned
+    }
+
+    /// Whether anything is noted.
+    pub fn noted(&self) -> bool
+        ensures { result ≡ self.now.noted }
+    {
+        self.noted
     }
 }
 
@@ -186,6 +200,17 @@ fn all_lines(alloc: Global, files: &[&str], checks: &[Checked<'_>]) -> Result<St
     let mut text = String::new(alloc);
     for i in 0..checks.len() {
         push_lines(alloc, i, file_name(files, i), &checks[i], &mut text)?;
+    }
+    Ok(text)
+}
+
+/// The notes of all streams.
+fn all_notes(alloc: Global, checks: &[Checked<'_>]) -> Result<String, AllocError>
+    ensures { IfOk result (λ text. string_bytes text ≡ all_notes checks.now) }
+{
+    let mut text = String::new(alloc);
+    for i in 0..checks.len() {
+        push_stream_notes(alloc, i, &checks[i], &mut text)?;
     }
     Ok(text)
 }

@@ -1,13 +1,13 @@
-//! The warnings of a stream, as text.
+//! The notes and the warnings of a stream, as text.
 
 ghost use Rattle.std.specs.Prelude.{◌≡◌, ◌++◌, OnOk, IfOk, map, take};
 ghost use Rattle.std.specs.Option.{option_copied};
 ghost use Rattle.std.specs.String.{string_bytes};
 ghost use Rattle.filter_rule.specs.PlanTable.{name_of_table};
-ghost use Rattle.feed_check.specs.Report.{change_warnings, count_warning, finding_head, finding_text, group_of, keyed_text, finding_warnings, groups_warning, numbered, of_kind, same_why, stream_warnings, table_warning, table_warnings, told_warnings, warning, why_text};
+ghost use Rattle.feed_check.specs.Report.{change_line, change_warnings, count_line, finding_head, finding_text, group_of, keyed_text, finding_lines, groups_warning, note, numbered, of_kind, same_why, stream_notes, stream_warnings, table_note, table_notes, told_lines, warning, why_text};
 
 use crate::checked::Checked;
-use crate::feed_warnings::{push_name_warnings, push_skipped_warnings, push_start_warning};
+use crate::feed_warnings::{push_name_warnings, push_skipped_warnings, push_start_note};
 use crate::finding::{Doubt, Finding};
 use crate::key_text::key_text;
 use crate::places::place_text;
@@ -42,6 +42,37 @@ pub(crate) fn push_warning(
     Ok(())
 }
 
+/// Puts a note of a stream behind a text.
+pub(crate) fn push_note(
+    alloc: Global,
+    i: usize,
+    noted: &str,
+    text: &mut String,
+) -> Result<(), AllocError>
+    ensures { OnOk result (string_bytes text.new ≡ string_bytes text.old ++ note i noted.now) }
+{
+    let line = numbered(alloc, i, noted)?;
+    text.push_str("note stream ")?;
+    text.push_str(&line)?;
+    Ok(())
+}
+
+/// Puts what is told of a change behind a text: a note that it moves its row, or a warning.
+fn push_change_line(
+    alloc: Global,
+    i: usize,
+    why: Doubt,
+    told: &str,
+    text: &mut String,
+) -> Result<(), AllocError>
+    ensures { OnOk result (string_bytes text.new ≡ string_bytes text.old ++ change_line i why told.now) }
+{
+    match why {
+        Doubt::NoRow | Doubt::OtherRow | Doubt::RowThere => push_warning(alloc, i, told, text),
+        Doubt::Moved => push_note(alloc, i, told, text),
+    }
+}
+
 /// Puts the warning that a stream has no group behind a text, if it has none.
 fn push_groups_warning(
     alloc: Global,
@@ -57,9 +88,9 @@ fn push_groups_warning(
     Ok(())
 }
 
-/// Puts the warning of a table that so many groups touch and that in so many has a row that passes behind a
+/// Puts the note of a table that so many groups touch and that in so many has a row that passes behind a
 /// text, if there is one.
-fn push_table_warning(
+fn push_table_note(
     alloc: Global,
     i: usize,
     name: &str,
@@ -67,32 +98,32 @@ fn push_table_warning(
     passing: usize,
     text: &mut String,
 ) -> Result<(), AllocError>
-    ensures { OnOk result (string_bytes text.new ≡ string_bytes text.old ++ table_warning i name.now touching passing) }
+    ensures { OnOk result (string_bytes text.new ≡ string_bytes text.old ++ table_note i name.now touching passing) }
 {
     if touching == 0 {
         let name = shown(alloc, name.as_bytes())?;
-        let warned = format!(in alloc; "table {name} untouched")?;
-        push_warning(alloc, i, &warned, text)?;
+        let noted = format!(in alloc; "table {name} untouched")?;
+        push_note(alloc, i, &noted, text)?;
     } else if passing == 0 {
         let name = shown(alloc, name.as_bytes())?;
-        let warned = format!(in alloc; "table {name} passes no row")?;
-        push_warning(alloc, i, &warned, text)?;
+        let noted = format!(in alloc; "table {name} passes no row")?;
+        push_note(alloc, i, &noted, text)?;
     }
     Ok(())
 }
 
-/// Puts the warnings of a stream's tables behind a text.
-fn push_table_warnings(
+/// Puts the notes of a stream's tables behind a text.
+fn push_table_notes(
     alloc: Global,
     i: usize,
     check: &Checked<'_>,
     text: &mut String,
 ) -> Result<(), AllocError>
-    ensures { OnOk result (string_bytes text.new ≡ string_bytes text.old ++ table_warnings i check.now 0 check.now.plan.tables) }
+    ensures { OnOk result (string_bytes text.new ≡ string_bytes text.old ++ table_notes i check.now 0 check.now.plan.tables) }
 {
     let tables = check.tables();
     for t in 0..tables.len() {
-        push_table_warning(
+        push_table_note(
             alloc,
             i,
             tables[t].name(),
@@ -117,7 +148,7 @@ pub fn why_text(why: Doubt) -> &'static str
 }
 
 /// Whether two are the same.
-fn same_why(why: Doubt, other: Doubt) -> bool
+pub fn same_why(why: Doubt, other: Doubt) -> bool
     ensures { result ≡ same_why why other }
 {
     matches!(
@@ -146,20 +177,20 @@ fn of_kind<'f, 'h>(
     Ok(these)
 }
 
-/// Puts the warning that there are so many findings of a kind behind a text, if there are any.
-fn push_count_warning(
+/// Puts how many findings of a kind there are behind a text, if there are any.
+fn push_count_line(
     alloc: Global,
     i: usize,
     why: Doubt,
     count: usize,
     text: &mut String,
 ) -> Result<(), AllocError>
-    ensures { OnOk result (string_bytes text.new ≡ string_bytes text.old ++ count_warning i why count) }
+    ensures { OnOk result (string_bytes text.new ≡ string_bytes text.old ++ count_line i why count) }
 {
     if count > 0 {
-        let why = why_text(why);
-        let warned = format!(in alloc; "{why} {count}")?;
-        push_warning(alloc, i, &warned, text)?;
+        let word = why_text(why);
+        let told = format!(in alloc; "{word} {count}")?;
+        push_change_line(alloc, i, why, &told, text)?;
     }
     Ok(())
 }
@@ -217,7 +248,7 @@ fn finding_text(
     Ok(text)
 }
 
-/// Puts the warnings of some findings behind a text.
+/// Puts some findings behind a text.
 fn push_findings(
     alloc: Global,
     i: usize,
@@ -225,11 +256,11 @@ fn push_findings(
     findings: &[&Finding<'_>],
     text: &mut String,
 ) -> Result<(), AllocError>
-    ensures { OnOk result (string_bytes text.new ≡ string_bytes text.old ++ finding_warnings i check.now (map (λ found. found.now) findings.now)) }
+    ensures { OnOk result (string_bytes text.new ≡ string_bytes text.old ++ finding_lines i check.now (map (λ found. found.now) findings.now)) }
 {
     for found in findings {
-        let warned = finding_text(alloc, check, found)?;
-        push_warning(alloc, i, &warned, text)?;
+        let told = finding_text(alloc, check, found)?;
+        push_change_line(alloc, i, found.why(), &told, text)?;
     }
     Ok(())
 }
@@ -241,7 +272,7 @@ fn first_of<'a, 'f, 'h>(these: &'a [&'f Finding<'h>]) -> &'a [&'f Finding<'h>]
     &these[..these.len().min(TOLD)]
 }
 
-/// Puts the warnings of the findings of one kind behind a text.
+/// Puts the findings of one kind behind a text: how many there are, and the first.
 fn push_told(
     alloc: Global,
     i: usize,
@@ -250,15 +281,15 @@ fn push_told(
     findings: &[Finding<'_>],
     text: &mut String,
 ) -> Result<(), AllocError>
-    ensures { OnOk result (string_bytes text.new ≡ string_bytes text.old ++ told_warnings i check.now why findings.now) }
+    ensures { OnOk result (string_bytes text.new ≡ string_bytes text.old ++ told_lines i check.now why findings.now) }
 {
     let these = of_kind(alloc, why, findings)?;
-    push_count_warning(alloc, i, why, these.len(), text)?;
+    push_count_line(alloc, i, why, these.len(), text)?;
     push_findings(alloc, i, check, first_of(&these), text)?;
     Ok(())
 }
 
-/// Puts what is told of a stream's changes behind a text.
+/// Puts the warnings of a stream's changes behind a text.
 fn push_change_warnings(
     alloc: Global,
     i: usize,
@@ -270,6 +301,20 @@ fn push_change_warnings(
     push_told(alloc, i, check, Doubt::NoRow, check.findings(), text)?;
     push_told(alloc, i, check, Doubt::OtherRow, check.findings(), text)?;
     push_told(alloc, i, check, Doubt::RowThere, check.findings(), text)?;
+    Ok(())
+}
+
+/// Puts the notes of a stream behind a text.
+pub(crate) fn push_stream_notes(
+    alloc: Global,
+    i: usize,
+    check: &Checked<'_>,
+    text: &mut String,
+) -> Result<(), AllocError>
+    ensures { OnOk result (string_bytes text.new ≡ string_bytes text.old ++ stream_notes i check.now) }
+{
+    push_start_note(alloc, i, check.group(0), text)?;
+    push_table_notes(alloc, i, check, text)?;
     push_told(alloc, i, check, Doubt::Moved, check.moves(), text)?;
     Ok(())
 }
@@ -284,8 +329,6 @@ pub(crate) fn push_stream_warnings(
     ensures { OnOk result (string_bytes text.new ≡ string_bytes text.old ++ stream_warnings i check.now) }
 {
     push_groups_warning(alloc, i, check.len(), text)?;
-    push_start_warning(alloc, i, check.group(0), text)?;
-    push_table_warnings(alloc, i, check, text)?;
     push_name_warnings(alloc, i, check.plan(), check.unknown(), text)?;
     push_change_warnings(alloc, i, check, text)?;
     push_skipped_warnings(alloc, i, check.skipped(), text)?;

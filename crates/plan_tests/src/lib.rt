@@ -17,6 +17,8 @@ mod limits;
 #[cfg(test)]
 mod lists;
 #[cfg(test)]
+mod places;
+#[cfg(test)]
 mod ranges;
 #[cfg(test)]
 mod workflows;

@@ -43,7 +43,7 @@ IsVdiffAsked words inputs = (inputs.options ≡ options_asked words) × (inputs.
 
 -- the same of the words of `check`, by the names of the feeds' files
 abbrev pub IsCheckAsked : Check → CheckInputs → Type 0
-IsCheckAsked words inputs = (inputs.report_form ≡ words.report_form) × (inputs.feed_form ≡ words.step.feed_form) × (inputs.files.now ≡ words.step.feeds.items)
+IsCheckAsked words inputs = (inputs.report_form ≡ words.report_form) × (inputs.strict ≡ words.strict) × (inputs.feed_form ≡ words.step.feed_form) × (inputs.files.now ≡ words.step.feeds.items)
 
 -- what becomes of rows of tables that the workflow lacks, with `--drop-unknown` or without
 abbrev pub unknown_asked : Bool → UnknownTables

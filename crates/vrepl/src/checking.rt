@@ -26,6 +26,7 @@ pub(crate) fn read_check<'n, 'w>(
     let workflow = feeds.remove(0);
     Ok(CheckInputs {
         report_form: words.report_form,
+        strict: words.strict,
         feed_form: step.feed_form,
         workflow,
         files: &step.feeds,

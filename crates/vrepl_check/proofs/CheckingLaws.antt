@@ -18,7 +18,7 @@ use Rattle.vrepl_main.specs.RefusalOf.{refusal_of_feed}
 use Rattle.vrepl_main.specs.declared.refusal.CommandRefusal.{CommandRefusal}
 use Rattle.vrepl_main.specs.declared.refusal.CommandRefusal.TheVariants.{Memory}
 use Rattle.std.proofs.lemmas.Simd.{map-map}
-use Rattle.vrepl_check.specs.Checking.{IsWarned, bytes_or_none, said_checks, report_with, report_asked, report_of_feeds}
+use Rattle.vrepl_check.specs.Checking.{bytes_or_none, said_checks, report_with, report_asked, report_of_feeds}
 use Rattle.vrepl_check.specs.declared.inputs.CheckInputs.{CheckInputs}
 
 -- what refuses a step refuses what is made of it
@@ -56,7 +56,3 @@ report_is form files workflow given reading opened checks report is checked made
     ap (λ (r : Result OpenedValue Reason). r >>= report_with form files workflow given) is
     ∙ ap (λ (r : Result (List CheckedValue) FeedFault). said_checks r >>= λ checks. gives (said_of form workflow files checks)) checked
     ∙ ap gives (sym made)
-
--- whether it warns
-pub warned_as : (reading : Result ReportValue Reason) (report : ReportValue) (warned : Bool) → reading ≡ Ok report → warned ≡ report.warned → IsWarned warned reading
-warned_as reading report warned is says = subst (λ (r : Result ReportValue Reason). IsWarned warned r) (sym is) (sym says)

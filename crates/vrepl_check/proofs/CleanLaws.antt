@@ -20,13 +20,12 @@ use Rattle.source_feed.specs.Planned.{PlannedGroupValue, FeedValue, groups_under
 use Rattle.source_feed.specs.SoundGroups.{sound_groups}
 use Rattle.source_feed.specs.declared.fault.FeedFault.{FeedFault}
 use Rattle.feed_check.specs.Checked.{CheckedValue, checked_feeds}
-use Rattle.feed_check.specs.Clean.{AreCleanFeeds, WarnsUnlessClean}
-use Rattle.feed_check.specs.Report.{ReportValue, all_warnings, has_some}
-use Rattle.check_said.specs.Said.{is_empty, said_of}
+use Rattle.feed_check.specs.Clean.{AreCleanFeeds, AreFaultlessFeeds, WarnsUnlessFaultless, TellsUnlessClean}
+use Rattle.feed_check.specs.Report.{ReportValue, all_notes, all_warnings, has_some}
+use Rattle.check_said.specs.Said.{are_noted, are_warned, said_of}
 use Rattle.vrepl_choices.specs.declared.report_form.ReportForm.{ReportForm}
 use Rattle.vrepl_choices.specs.declared.report_form.ReportForm.TheVariants.{Lines, Json}
 use Rattle.workflow_check.specs.File.{value_in, notes_of}
-use Rattle.workflow_check.specs.Notes.{NoteValue}
 use Rattle.apply_core.specs.Feeds.{AreFed}
 use Rattle.apply_core.specs.Fresh.{HaveSameTables}
 use Rattle.apply_core.specs.RunRefused.{IsRefusedRun, number_of_run}
@@ -38,10 +37,10 @@ use Rattle.vrepl_main.specs.Opening.{OpenedValue, feed_under, opened_feed, opene
 use Rattle.vrepl_main.specs.Reasons.{Reason, feed_count}
 use Rattle.vrepl_main.specs.Running.{opened_asked}
 use Rattle.vrepl_main.specs.declared.named_inputs.RunInputs.{RunInputs}
-use Rattle.vrepl_check.specs.Checking.{IsWarned, bytes_or_none, names_of, said_checks, report_with, report_asked}
-use Rattle.vrepl_check.specs.Clean.{HasCleanFile, IsClean, bytes_given, AreSameInputs, CleanRunsAreNotRefused}
+use Rattle.vrepl_check.specs.Checking.{IsFound, finds, bytes_or_none, names_of, said_checks, report_with, report_asked}
+use Rattle.vrepl_check.specs.Clean.{HasFile, IsFaultlessFile, IsCleanFile, IsFaultless, IsClean, IsGood, bytes_given, AreSameInputs, FaultlessRunsAreNotRefused, CleanIsFaultless}
 use Rattle.vrepl_check.specs.declared.inputs.CheckInputs.{CheckInputs}
-use Rattle.vrepl_check.proofs.FileLaws.{notes_none}
+use Rattle.vrepl_check.proofs.FileLaws.{either, faults_none, all_none}
 
 abbrev ok : {A : Type 0} → A → Result A Reason
 ok x = Ok x
@@ -158,78 +157,105 @@ report_of inputs report e = by (opened inputs.feed_form inputs.workflow.items (b
     by (Err reason) is e = never reason report e
     by (Ok found) is e = of_checks found is (checked_feeds (bytes_given inputs) found.feeds) refl e
 
-said-warned : (form : ReportForm) (workflow : List ℕ) (files : List (List ℕ)) (checks : List CheckedValue)
-    → (said_of form workflow files checks).warned ≡ (has_some (all_warnings checks) || not (is_empty (notes_of workflow)))
+said-warned : (form : ReportForm) (workflow : List ℕ) (files : List (List ℕ)) (checks : List CheckedValue) → (said_of form workflow files checks).warned ≡ (has_some (all_warnings checks) || are_warned (notes_of workflow))
 said-warned Lines workflow files checks = refl
 said-warned Json workflow files checks = refl
 
-neither : (a : Bool) (notes : List NoteValue) → ((a || not (is_empty notes)) ≡ false) ↔ ((a ≡ false) × (notes ≡ []))
-neither true notes = (λ e. absurd (true≢false e), λ h. absurd (true≢false h.0))
-neither false [] = (λ _. (refl, refl), λ _. refl)
-neither false (note ∷ notes) = (λ e. absurd (true≢false e), λ h. absurd (let none : note ∷ notes ≡ [] = h.1 in cc))
+said-noted : (form : ReportForm) (workflow : List ℕ) (files : List (List ℕ)) (checks : List CheckedValue) → (said_of form workflow files checks).noted ≡ (has_some (all_notes checks) || are_noted (notes_of workflow))
+said-noted Lines workflow files checks = refl
+said-noted Json workflow files checks = refl
 
-module _ (law : (checks : List CheckedValue) → WarnsUnlessClean checks (has_some (all_warnings checks))) where
-  report_clean : (inputs : CheckInputs) (report : ReportValue) → IsReportOf inputs report → (report.warned ≡ false) ↔ IsClean inputs
-  report_clean inputs report of = (to, from)
-    where
-      found : OpenedValue
-      found = of.given
+or-none : (a : Bool) → (a || false) ≡ a
+or-none true = refl
+or-none false = refl
 
-      workflow : List ℕ
-      workflow = inputs.workflow.items
+-- what a report's parts say
+record IsOver (inputs : CheckInputs) (found : OpenedValue) : Type 0 where
+  many : length (bytes_given inputs) ≡ length found.feeds
+  file : Data
+  said : value_in inputs.workflow.items ≡ Some file
 
-      given : List (Option (List ℕ))
-      given = map (feed_bytes inputs.feed_form) (bytes_of inputs.feeds.items)
+is_over : (inputs : CheckInputs) (found : OpenedValue) → opened inputs.feed_form inputs.workflow.items (bytes_of inputs.feeds.items) ≡ Ok found → IsOver inputs found
+is_over inputs found opens =
+    let given : List (Option (List ℕ)) = map (feed_bytes inputs.feed_form) (bytes_of inputs.feeds.items) in
+    let is : IsOpen inputs.workflow.items given found = is_open inputs.workflow.items given found opens in
+    let over : AreOver inputs.workflow.items found.plans = are_over inputs.workflow.items found.plans is.says in
+    record { many = length-map given bytes_or_none ∙ sym is.given_count ∙ sym is.fed.count; file = over.file; said = over.said }
 
-      is : IsOpen workflow given found
-      is = is_open workflow given found of.opens
+module _ (faults : (checks : List CheckedValue) → WarnsUnlessFaultless checks (has_some (all_warnings checks))) (notes : (checks : List CheckedValue) → TellsUnlessClean checks (has_some (all_warnings checks)) (has_some (all_notes checks)))
+    (inputs : CheckInputs) (report : ReportValue) (of : IsReportOf inputs report) where
+  abbrev workflow : List ℕ
+  workflow = inputs.workflow.items
 
-      many : length (bytes_given inputs) ≡ length found.feeds
-      many = length-map given bytes_or_none ∙ sym is.given_count ∙ sym is.fed.count
+  over : IsOver inputs of.given
+  over = is_over inputs of.given of.opens
 
-      feeds_clean : (has_some (all_warnings of.checks) ≡ false) ↔ AreCleanFeeds (bytes_given inputs) found.feeds
-      feeds_clean = law of.checks (bytes_given inputs) found.feeds many of.checked
+  abbrev any_fault : Bool
+  any_fault = has_some (all_warnings of.checks)
 
-      over : AreOver workflow found.plans
-      over = are_over workflow found.plans is.says
+  abbrev any_note : Bool
+  any_note = has_some (all_notes of.checks)
 
-      file_clean : (notes_of workflow ≡ []) ↔ HasCleanFile workflow
-      file_clean = notes_none workflow over.file over.said
+  warned_is : report.warned ≡ (any_fault || are_warned (notes_of workflow))
+  warned_is = sym (ap (λ (r : ReportValue). r.warned) of.is) ∙ said-warned inputs.report_form workflow (names_of inputs) of.checks
 
-      warned_is : report.warned ≡ (has_some (all_warnings of.checks) || not (is_empty (notes_of workflow)))
-      warned_is = sym (ap (λ (r : ReportValue). r.warned) of.is) ∙ said-warned inputs.report_form workflow (names_of inputs) of.checks
+  noted_is : report.noted ≡ (any_note || are_noted (notes_of workflow))
+  noted_is = sym (ap (λ (r : ReportValue). r.noted) of.is) ∙ said-noted inputs.report_form workflow (names_of inputs) of.checks
 
-      both : ((has_some (all_warnings of.checks) || not (is_empty (notes_of workflow))) ≡ false) ↔ ((has_some (all_warnings of.checks) ≡ false) × (notes_of workflow ≡ []))
-      both = neither (has_some (all_warnings of.checks)) (notes_of workflow)
+  feeds_faultless : (any_fault ≡ false) ↔ AreFaultlessFeeds (bytes_given inputs) of.given.feeds
+  feeds_faultless = faults of.checks (bytes_given inputs) of.given.feeds over.many of.checked
 
-      to : report.warned ≡ false → IsClean inputs
-      to e = let h = both.0 (sym warned_is ∙ e) in record { given = found; opens = of.opens; feeds = feeds_clean.0 h.0; file = file_clean.0 h.1 }
+  feeds_clean : ((any_fault || any_note) ≡ false) ↔ AreCleanFeeds (bytes_given inputs) of.given.feeds
+  feeds_clean = notes of.checks (bytes_given inputs) of.given.feeds over.many of.checked
 
-      from : IsClean inputs → report.warned ≡ false
-      from clean =
-          let same : clean.given ≡ found = same_ok clean.given found (sym clean.opens ∙ of.opens) in
-          warned_is ∙ both.1 (feeds_clean.1 (subst (λ (o : OpenedValue). AreCleanFeeds (bytes_given inputs) o.feeds) same clean.feeds), file_clean.1 clean.file)
+  report_faultless : (report.warned ≡ false) ↔ IsFaultless inputs
+  report_faultless =
+      let both = either any_fault (are_warned (notes_of workflow)) in
+      let file = faults_none workflow over.file over.said in (
+        λ e. let h = both.0 (sym warned_is ∙ e) in record { given = of.given; opens = of.opens; feeds = feeds_faultless.0 h.0; file = file.0 h.1 },
+        λ good. let same : good.given ≡ of.given = same_ok good.given of.given (sym good.opens ∙ of.opens) in
+            warned_is ∙ both.1 (feeds_faultless.1 (subst (λ (o : OpenedValue). AreFaultlessFeeds (bytes_given inputs) o.feeds) same good.feeds), file.1 good.file),
+      )
 
+  report_clean : ((report.warned ≡ false) × (report.noted ≡ false)) ↔ IsClean inputs
+  report_clean =
+      let warns = either any_fault (are_warned (notes_of workflow)) in
+      let tells = either any_note (are_noted (notes_of workflow)) in
+      let file = all_none workflow over.file over.said in (
+        λ e. let h = warns.0 (sym warned_is ∙ e.0) in
+            let k = tells.0 (sym noted_is ∙ e.1) in
+            record { given = of.given; opens = of.opens; feeds = feeds_clean.0 ((either any_fault any_note).1 (h.0, k.0)); file = file.0 (h.1, k.1) },
+        λ clean. let same : clean.given ≡ of.given = same_ok clean.given of.given (sym clean.opens ∙ of.opens) in
+            let feeds = (either any_fault any_note).0 (feeds_clean.1 (subst (λ (o : OpenedValue). AreCleanFeeds (bytes_given inputs) o.feeds) same clean.feeds)) in
+            let said = file.1 clean.file in
+            (warned_is ∙ warns.1 (feeds.0, said.0), noted_is ∙ tells.1 (feeds.1, said.1)),
+      )
+
+  report_good : (strict : Bool) → (finds strict report ≡ false) ↔ IsGood strict inputs
+  report_good false = (λ e. report_faultless.0 (sym (or-none report.warned) ∙ e), λ good. or-none report.warned ∙ report_faultless.1 good)
+  report_good true = let both = either report.warned report.noted in (λ e. report_clean.0 (both.0 e), λ clean. both.1 (report_clean.1 clean))
+
+module _ (faults : (checks : List CheckedValue) → WarnsUnlessFaultless checks (has_some (all_warnings checks))) (notes : (checks : List CheckedValue) → TellsUnlessClean checks (has_some (all_warnings checks)) (has_some (all_notes checks))) where
   -- the verdict
-  pub clean_as : (warned : Bool) (inputs : CheckInputs) → IsWarned warned (report_asked inputs) → (warned ≡ false) ↔ IsClean inputs
-  clean_as warned inputs is = by (report_asked inputs) refl is
+  good_as : (found : Bool) (inputs : CheckInputs) → IsFound inputs.strict found (report_asked inputs) → (found ≡ false) ↔ IsGood inputs.strict inputs
+  good_as found inputs is = by (report_asked inputs) refl is
     where
-      by : (r : Result ReportValue Reason) → report_asked inputs ≡ r → IsWarned warned r → (warned ≡ false) ↔ IsClean inputs
+      by : (r : Result ReportValue Reason) → report_asked inputs ≡ r → IsFound inputs.strict found r → (found ≡ false) ↔ IsGood inputs.strict inputs
       by (Err reason) e is = absurd is
-      by (Ok report) e is = let law_of = report_clean inputs report (report_of inputs report e) in (λ w. law_of.0 (is ∙ w), λ clean. sym is ∙ law_of.1 clean)
+      by (Ok report) e is = let law_of = report_good faults notes inputs report (report_of inputs report e) inputs.strict in (λ f. law_of.0 (is ∙ f), λ good. sym is ∙ law_of.1 good)
 
   -- by the status
-  pub status-none : (inputs : CheckInputs) (status : ℕ) → status ≡ 0 → IsWarned false (report_asked inputs) → (status ≡ 0) ↔ IsClean inputs
-  status-none inputs status zero_is is = (λ _. (clean_as false inputs is).0 refl, λ _. zero_is)
+  pub status-none : (inputs : CheckInputs) (status : ℕ) → status ≡ 0 → IsFound inputs.strict false (report_asked inputs) → (status ≡ 0) ↔ IsGood inputs.strict inputs
+  status-none inputs status zero_is is = (λ _. (good_as false inputs is).0 refl, λ _. zero_is)
 
-  pub status-some : (inputs : CheckInputs) (status : ℕ) → status ≡ 3 → IsWarned true (report_asked inputs) → (status ≡ 0) ↔ IsClean inputs
-  status-some inputs status three is = (λ e. absurd (omega (arith, three, e)), λ clean. absurd (true≢false ((clean_as true inputs is).1 clean)))
+  pub status-some : (inputs : CheckInputs) (status : ℕ) → status ≡ 3 → IsFound inputs.strict true (report_asked inputs) → (status ≡ 0) ↔ IsGood inputs.strict inputs
+  status-some inputs status three is = (λ e. absurd (omega (arith, three, e)), λ good. absurd (true≢false ((good_as true inputs is).1 good)))
 
 -- ---- a run
 
 module _ (found : OpenedValue) (bytes : List (List ℕ)) (count : length found.feeds ≡ length found.plans) (fed : AreFed found.plans found.feeds)
     (each_sound : (s : ℕ) (feed : FeedValue) → slice_get found.feeds s ≡ Some feed → length (sound_groups feed) ≡ length feed.groups)
-    (clean : AreCleanFeeds bytes found.feeds) where
+    (good : AreFaultlessFeeds bytes found.feeds) where
   not_refused : (refusal : RunRefusal) → IsRefusedRun found.plans found.feeds refusal → refusal ≡ runs.Memory
   not_refused runs.FeedCount h = absurd (h count)
   not_refused runs.WrongPlan h = absurd (h.1 fed)
@@ -245,7 +271,7 @@ module _ (found : OpenedValue) (bytes : List (List ℕ)) (count : length found.f
   not_refused (runs.OwnedByOther stream key owner) h =
       let one = h.1.1 in
       let other = h.1.2 in
-      absurd (h.1.0 (clean.apart owner stream other.feed one.feed key other.fed one.fed other.touched one.touched))
+      absurd (h.1.0 (good.apart owner stream other.feed one.feed key other.fed one.fed other.touched one.touched))
   not_refused runs.Memory h = refl
 
 -- each feed of those given has its bytes
@@ -265,15 +291,28 @@ same_opened checked run found same opens =
     ∙ ap (opened checked.feed_form checked.workflow.items) same.feeds
     ∙ opens
 
-pub not_refused_runs : CleanRunsAreNotRefused
-not_refused_runs checked run clean same =
+pub not_refused_runs : FaultlessRunsAreNotRefused
+not_refused_runs checked run good same =
     let given : List (Option (List ℕ)) = map (feed_bytes checked.feed_form) (bytes_of checked.feeds.items) in
-    let is : IsOpen checked.workflow.items given clean.given = is_open checked.workflow.items given clean.given clean.opens in
-    let many : length (bytes_given checked) ≡ length clean.given.feeds = length-map given bytes_or_none ∙ sym is.given_count ∙ sym is.fed.count in
-    let over : AreOver checked.workflow.items clean.given.plans = are_over checked.workflow.items clean.given.plans is.says in (
-      clean.given,
-      same_opened checked run clean.given same clean.opens,
-      λ refusal refused. ap number_of_run (not_refused clean.given (bytes_given checked) is.fed.count (record { tables = over.same; opened = is.fed.plan_of })
-          (λ s feed at. let one = bytes_at (bytes_given checked) clean.given.feeds s feed many at in (clean.feeds.each s one.0 feed one.1 at).sound)
-          clean.feeds refusal refused),
+    let is : IsOpen checked.workflow.items given good.given = is_open checked.workflow.items given good.given good.opens in
+    let many : length (bytes_given checked) ≡ length good.given.feeds = length-map given bytes_or_none ∙ sym is.given_count ∙ sym is.fed.count in
+    let over : AreOver checked.workflow.items good.given.plans = are_over checked.workflow.items good.given.plans is.says in (
+      good.given,
+      same_opened checked run good.given same good.opens,
+      λ refusal refused. ap number_of_run (not_refused good.given (bytes_given checked) is.fed.count (record { tables = over.same; opened = is.fed.plan_of })
+          (λ s feed at. let one = bytes_at (bytes_given checked) good.given.feeds s feed many at in (good.feeds.each s one.0 feed one.1 at).sound)
+          good.feeds refusal refused),
     )
+
+-- ---- what is clean
+
+clean_file : (workflow : List ℕ) → HasFile IsCleanFile workflow → HasFile IsFaultlessFile workflow
+clean_file workflow has = record { file = has.file; said = has.said; is = has.is.faultless }
+
+pub clean_faultless : CleanIsFaultless
+clean_faultless inputs clean = record {
+  given = clean.given;
+  opens = clean.opens;
+  feeds = record { each = λ s one feed at_b at_f. (clean.feeds.each s one feed at_b at_f).faultless; apart = clean.feeds.apart };
+  file = clean_file inputs.workflow.items clean.file;
+}

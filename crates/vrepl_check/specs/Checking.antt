@@ -1,5 +1,5 @@
 -- What the command `check` prints of a workflow and its feeds, and its verdict (this profile).
-use Rattle.std.specs.Prelude.{◌≡◌, ℕ, Bool, List, [], map, Option, None, Some, Result, Ok, Err, true, false}
+use Rattle.std.specs.Prelude.{◌≡◌, ℕ, ◌||◌, ◌&&◌, Bool, List, [], map, Option, None, Some, Result, Ok, Err, true, false}
 use Rattle.outcome.specs.Outcome.{◌>>=◌}
 use Rattle.source_feed.specs.declared.fault.FeedFault.{FeedFault}
 use Rattle.feed_check.specs.Checked.{CheckedValue, checked_feeds}
@@ -44,15 +44,19 @@ report_asked inputs = report_of_feeds inputs (map (feed_bytes inputs.feed_form) 
 abbrev pub text_of_report : Result ReportValue Reason → Result (List ℕ) Reason
 text_of_report report = report >>= λ r. Ok r.text
 
--- there is a report, and whether it warns of anything is this
-abbrev pub IsWarned : Bool → Result ReportValue Reason → Type 0
-IsWarned warned (Ok report) = report.warned ≡ warned
-IsWarned warned (Err reason) = ⊥
+-- a report finds something: it warns of it, or notes it where notes are as warnings
+abbrev pub finds : Bool → ReportValue → Bool
+finds strict report = report.warned || (strict && report.noted)
 
--- there is a report, whether it warns of anything is this, and it was printed whole
+-- there is a report, and whether it finds anything is this
+abbrev pub IsFound : Bool → Bool → Result ReportValue Reason → Type 0
+IsFound strict found (Ok report) = finds strict report ≡ found
+IsFound strict found (Err reason) = ⊥
+
+-- there is a report, whether it finds anything is this, and it was printed whole
 abbrev pub PrintsReport : Bool → CheckInputs → Written → Written → Type 0
-PrintsReport warned inputs old new = IsWarned warned (report_asked inputs) × PrintsWhole (text_of_report (report_asked inputs)) old new
+PrintsReport found inputs old new = IsFound inputs.strict found (report_asked inputs) × PrintsWhole (text_of_report (report_asked inputs)) old new
 
--- how `check` ends: with 3 where the report warns of something
+-- how `check` ends: with 3 where the report finds something
 abbrev pub CheckEnds : CheckInputs → ℕ → Written → Written → Written → Written → Type 0
 CheckEnds inputs status old new err_old err_new = Ends status (PrintsReport false inputs old new) (PrintsReport true inputs old new) (PrintsRefusal IsGivenText (text_of_report (report_asked inputs)) old new err_old err_new)

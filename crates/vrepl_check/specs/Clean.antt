@@ -1,8 +1,8 @@
 -- What status 0 of `check` says of a workflow and its feeds, and what it says of a `run` of them (this profile).
-use Rattle.std.specs.Prelude.{◌≡◌, ◌≢◌, ℕ, true, false, List, [], map, codes, None, Some, Ok}
+use Rattle.std.specs.Prelude.{◌≡◌, ◌≢◌, ℕ, Bool, true, false, List, [], map, codes, None, Some, Ok}
 use Rattle.std.specs.List.{AllByRecursion}
 use Rattle.serde_json.specs.Data.{Data}
-use Rattle.feed_check.specs.Clean.{AreCleanFeeds}
+use Rattle.feed_check.specs.Clean.{AreCleanFeeds, AreFaultlessFeeds}
 use Rattle.workflow_check.specs.File.{value_in}
 use Rattle.workflow_check.specs.Ignored.{ignored_in}
 use Rattle.workflow_check.specs.Json.{items_at}
@@ -34,20 +34,23 @@ RulesMatch tables stream = AllByRecursion (λ rule. has_match tables rule ≡ tr
 abbrev pub HasRules : List (List ℕ) → Data → Type 0
 HasRules tables stream = AllByRecursion (λ table. first_rule (rules_in stream) table ≢ None) tables
 
--- It has no member that isn't read. Each rule of its streams matches a table, and each stream has a rule for each table.
--- Where each stream passes a range of a table, all by one vindex of one column and not all the same, these lie end to end
--- over all ids.
-pub record IsCleanFile (file : Data) : Type 0 where
+-- It has no member that isn't read, and each rule of its streams matches a table. Where each stream passes a range of a
+-- table, all by one vindex of one column and not all the same, these lie end to end over all ids.
+pub record IsFaultlessFile (file : Data) : Type 0 where
   pub read : ignored_in file ≡ []
   pub matched : AllByRecursion (RulesMatch (names_in (tables_in file))) (streams_in file)
-  pub decided : AllByRecursion (HasRules (names_in (tables_in file))) (streams_in file)
   pub tiled : AllByRecursion (λ table. is_untiled table (streams_in file) ≡ false) (tables_in file)
 
+-- and each stream has a rule for each table
+pub record IsCleanFile (file : Data) : Type 0 where
+  pub faultless : IsFaultlessFile file
+  pub decided : AllByRecursion (HasRules (names_in (tables_in file))) (streams_in file)
+
 -- a workflow's text is such a file
-pub record HasCleanFile (workflow : List ℕ) : Type 0 where
+pub record HasFile (Is : Data → Type 0) (workflow : List ℕ) : Type 0 where
   pub file : Data
   pub said : value_in workflow ≡ Some file
-  pub clean : IsCleanFile file
+  pub is : Is file
 
 -- ---- a workflow with its feeds
 
@@ -55,12 +58,24 @@ pub record HasCleanFile (workflow : List ℕ) : Type 0 where
 abbrev pub bytes_given : CheckInputs → List (List ℕ)
 bytes_given inputs = map bytes_or_none (map (feed_bytes inputs.feed_form) (bytes_of inputs.feeds.items))
 
--- The workflow is opened with its feeds; the feeds are clean by their bytes, and so is the workflow's file.
+-- the workflow is opened with its feeds; these are without a fault by their bytes, and so is the workflow's file
+pub record IsFaultless (inputs : CheckInputs) : Type 0 where
+  pub given : OpenedValue
+  pub opens : opened inputs.feed_form inputs.workflow.items (bytes_of inputs.feeds.items) ≡ Ok given
+  pub feeds : AreFaultlessFeeds (bytes_given inputs) given.feeds
+  pub file : HasFile IsFaultlessFile inputs.workflow.items
+
+-- and all of it is clean
 pub record IsClean (inputs : CheckInputs) : Type 0 where
   pub given : OpenedValue
   pub opens : opened inputs.feed_form inputs.workflow.items (bytes_of inputs.feeds.items) ≡ Ok given
   pub feeds : AreCleanFeeds (bytes_given inputs) given.feeds
-  pub file : HasCleanFile inputs.workflow.items
+  pub file : HasFile IsCleanFile inputs.workflow.items
+
+-- what status 0 says: nothing is a fault, and where notes are as warnings all is clean
+abbrev pub IsGood : Bool → CheckInputs → Type 0
+IsGood false inputs = IsFaultless inputs
+IsGood true inputs = IsClean inputs
 
 -- ---- a run
 
@@ -70,9 +85,13 @@ pub record AreSameInputs (checked : CheckInputs) (run : RunInputs) : Type 0 wher
   pub workflow : run.workflow.items ≡ checked.workflow.items
   pub feeds : bytes_of run.feeds.items ≡ bytes_of checked.feeds.items
 
--- Where a workflow and its feeds are clean, the same inputs open for a run, and no run of the feeds is refused but for want of
--- memory: not 71, since another stream's row stands at a key, and not since a group isn't sound.
-abbrev pub CleanRunsAreNotRefused : Type 0
-CleanRunsAreNotRefused =
-    (checked : CheckInputs) (run : RunInputs) → IsClean checked → AreSameInputs checked run
+-- Where a workflow and its feeds are without a fault, the same inputs open for a run, and no run of the feeds is refused but
+-- for want of memory: not 71, since another stream's row stands at a key, and not since a group isn't sound.
+abbrev pub FaultlessRunsAreNotRefused : Type 0
+FaultlessRunsAreNotRefused =
+    (checked : CheckInputs) (run : RunInputs) → IsFaultless checked → AreSameInputs checked run
     → (given : OpenedValue) × (opened_asked run ≡ Ok given) × ((refusal : RunRefusal) → IsRefusedRun given.plans given.feeds refusal → number_of_run refusal ≡ 72)
+
+-- what is clean is without a fault
+abbrev pub CleanIsFaultless : Type 0
+CleanIsFaultless = (inputs : CheckInputs) → IsClean inputs → IsFaultless inputs

@@ -4,26 +4,28 @@ ghost use Rattle.std.specs.Prelude.{◌≡◌, ◌≢◌, ◌↔◌, IfOk, Ok, m
 ghost use Rattle.check_said.specs.Said.{said_of};
 ghost use Rattle.vrepl_main.specs.Command.{PrintsText};
 ghost use Rattle.vrepl_main.specs.Given.{given_value};
-ghost use Rattle.vrepl_check.specs.Checking.{bytes_or_none, names_of, report_of_feeds, report_asked, text_of_report, CheckEnds, IsWarned};
-ghost use Rattle.vrepl_check.specs.Clean.{IsClean};
+ghost use Rattle.vrepl_check.specs.Checking.{bytes_or_none, names_of, report_of_feeds, report_asked, text_of_report, CheckEnds, IsFound};
+ghost use Rattle.vrepl_check.specs.Clean.{IsGood};
 
 use crate::inputs::CheckInputs;
 use check_said::Said;
-use feed_check::{Checked, check_feeds, checks_warn_unless_feeds_are_clean};
+use feed_check::{Checked, check_feeds, checks_warn_unless_feeds_are_faultless};
 use std::alloc::{AllocError, Global};
 use vdiff_core::Out;
 use vrepl_main::{CommandRefusal, GivenFeed, given_feeds, open_workflow, refuse};
 
 /// Checks a workflow with its feeds, one in the order of the streams each, and prints on `out` a line for each
 /// table of each stream with the rows that the stream passes, then a line for each stream and a line for each of
-/// its tables, and behind them all warnings: of a stream without a group, of a table that no group touches or of
-/// which no row passes the stream's filter, of changes that aren't true of the rows that the changes before
-/// them leave, with the first ten of each kind, and of what the workflow's file says in vain. Or prints the line of a
-/// refusal on `err` and then nothing on `out`, unless it is `out` that can't be written. The faults are found
-/// in this order: those of opening the workflow with its feeds, as `run` finds them; then of each feed the
+/// its tables. Behind them come notes of what may well be so: where a feed starts, a table that no group touches or of
+/// which no row passes the stream's filter, updates that put a row at another key; and behind these warnings of what
+/// can't be so: a stream without a group, changes that aren't true of the rows that the changes before them leave, with
+/// the first ten of each kind, events that are passed over. Last stands what the workflow's file says in vain. Or prints
+/// the line of a refusal on `err` and then nothing on `out`, unless it is `out` that can't be written. The faults are
+/// found in this order: those of opening the workflow with its feeds, as `run` finds them; then of each feed the
 /// first group that isn't sound. As JSON all is one line, which has every thing that is told and not the first ten of
-/// a kind. Answers the status: 0 where nothing is warned of, and so the workflow and its feeds are clean, 3 where something
-/// is, 1 after a refusal, also of memory.
+/// a kind. Answers the status: 0 where nothing is warned of, and so the workflow and its feeds are without a fault, and
+/// where it is to be strict nothing is noted either, and so they are clean; 3 where something is; 1 after a refusal, also
+/// of memory.
 pub fn check<W: Out, E: Out>(
     alloc: Global,
     inputs: &CheckInputs<'_, '_>,
@@ -32,10 +34,10 @@ pub fn check<W: Out, E: Out>(
 ) -> u8
     ensures ends { CheckEnds inputs.now result (W.written out.old) (W.written out.new) (E.written err.old) (E.written err.new) }
     ensures quiet { result ≢ 1 → err.new ≡ err.old }
-    // Status 0 exactly where the workflow and its feeds are clean.
-    ensures clean { result ≢ 1 → (result ≡ 0) ↔ IsClean inputs.now }
+    // Status 0 exactly where the workflow and its feeds are without a fault, or if it is to be strict clean.
+    ensures good { result ≢ 1 → (result ≡ 0) ↔ IsGood inputs.now.strict inputs.now }
 {
-    checks_warn_unless_feeds_are_clean();
+    checks_warn_unless_feeds_are_faultless();
     match print_check(alloc, inputs, out) {
         Ok(false) => 0,
         Ok(true) => 3,
@@ -43,14 +45,14 @@ pub fn check<W: Out, E: Out>(
     }
 }
 
-/// Prints the report on a workflow and its feeds, which may be given as hexadecimal text, and answers whether it warns of
+/// Prints the report on a workflow and its feeds, which may be given as hexadecimal text, and answers whether it finds
 /// anything; prints nothing where there is none.
 fn print_check<W: Out>(
     alloc: Global,
     inputs: &CheckInputs<'_, '_>,
     out: &mut W,
 ) -> Result<bool, CommandRefusal<'static>>
-    ensures warned { IfOk result (λ warned. IsWarned warned (report_asked inputs.now)) }
+    ensures found { IfOk result (λ found. IsFound inputs.now.strict found (report_asked inputs.now)) }
     ensures printed { PrintsText result (text_of_report (report_asked inputs.now)) (W.written out.old) (W.written out.new) }
 {
     let given = given_feeds(alloc, inputs.feed_form, &inputs.feeds)?;
@@ -64,7 +66,7 @@ fn print_given<W: Out>(
     given: &[GivenFeed<'_>],
     out: &mut W,
 ) -> Result<bool, CommandRefusal<'static>>
-    ensures warned { IfOk result (λ warned. IsWarned warned (report_of_feeds inputs.now (map given_value given.now))) }
+    ensures found { IfOk result (λ found. IsFound inputs.now.strict found (report_of_feeds inputs.now (map given_value given.now))) }
     ensures printed { PrintsText result (text_of_report (report_of_feeds inputs.now (map given_value given.now))) (W.written out.old) (W.written out.new) }
 {
     let opened = open_workflow(alloc, &inputs.workflow, given)?;
@@ -73,14 +75,14 @@ fn print_given<W: Out>(
     print_said(alloc, inputs, &checks, out)
 }
 
-/// Prints what is said of checks of feeds and of the workflow's file, and answers whether anything is warned of.
+/// Prints what is said of checks of feeds and of the workflow's file, and answers whether anything is found.
 fn print_said<W: Out>(
     alloc: Global,
     inputs: &CheckInputs<'_, '_>,
     checks: &[Checked<'_>],
     out: &mut W,
 ) -> Result<bool, CommandRefusal<'static>>
-    ensures warned { IfOk result (λ warned. IsWarned warned (Ok (said_of inputs.now.report_form inputs.now.workflow.items (names_of inputs.now) checks.now))) }
+    ensures found { IfOk result (λ found. IsFound inputs.now.strict found (Ok (said_of inputs.now.report_form inputs.now.workflow.items (names_of inputs.now) checks.now))) }
     ensures printed { PrintsText result (text_of_report (Ok (said_of inputs.now.report_form inputs.now.workflow.items (names_of inputs.now) checks.now))) (W.written out.old) (W.written out.new) }
 {
     let said = Said::of(
@@ -91,7 +93,7 @@ fn print_said<W: Out>(
         checks,
     )?;
     said.print(out)?;
-    Ok(said.warned())
+    Ok(said.warned() || (inputs.strict && said.noted()))
 }
 
 /// The bytes of each feed.

@@ -7,6 +7,8 @@ use vrepl_choices::{FeedForm, ReportForm};
 pub struct CheckInputs<'n, 'w> {
     /// How the report is printed.
     pub report_form: ReportForm,
+    /// Whether notes are as warnings.
+    pub strict: bool,
     /// How the feeds are given.
     pub feed_form: FeedForm,
     /// The workflow's file.

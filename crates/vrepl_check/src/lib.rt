@@ -8,5 +8,5 @@ mod placing;
 
 pub use checking::check;
 pub use inputs::CheckInputs;
-pub use laws::clean_runs_are_not_refused;
+pub use laws::{faultless_runs_are_not_refused, what_is_clean_is_faultless};
 pub use placing::print_place;

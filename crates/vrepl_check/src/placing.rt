@@ -2,14 +2,14 @@
 
 use crate::inputs::CheckInputs;
 use feed_places::place_of;
-use filter_rule::{Plan, PlanFault};
+use filter_rule::Plan;
 use shown_text::shown;
 use source_feed::{Feed, FeedFault};
 use std::alloc::{AllocError, Global};
 use std::sync::Arc;
 use vdiff_core::{Out, put_all};
 use vrepl_main::{GivenFeed, given_feeds};
-use workflow_check::fault_text;
+use workflow_places::place_of as workflow_place;
 
 /// The name of a stream's file.
 fn file_name<'f>(files: &[&'f str], i: usize) -> &'f str {
@@ -71,8 +71,7 @@ fn feeds_place(
 fn place_text(alloc: Global, inputs: &CheckInputs<'_, '_>) -> Result<Option<String>, AllocError> {
     let plans = match Plan::read_all(alloc, &inputs.workflow) {
         Ok(plans) => plans,
-        Err(PlanFault::Shape | PlanFault::Limit) => return fault_text(alloc, &inputs.workflow),
-        Err(_) => return Ok(None),
+        Err(fault) => return workflow_place(alloc, &inputs.workflow, &fault),
     };
     if plans.len() != inputs.feeds.len() {
         return Ok(None);
@@ -82,7 +81,7 @@ fn place_text(alloc: Global, inputs: &CheckInputs<'_, '_>) -> Result<Option<Stri
 }
 
 /// Tells on `err`, behind the line of a refusal, where the fault stands, in a line that begins with `place `: of
-/// a workflow file that hasn't its shape or is past a limit the path and what was expected; of a feed with a
+/// a workflow file the path, or of what is no JSON line and column, and what was expected; of a feed with a
 /// broken message, an event that isn't read or a FIELD that differs the stream, its file, the message, its first
 /// byte, and how many whole groups stand before it. Tells nothing else, and nothing where memory is wanting.
 pub fn print_place<E: Out>(alloc: Global, inputs: &CheckInputs<'_, '_>, err: &mut E) {

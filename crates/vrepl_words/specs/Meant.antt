@@ -36,7 +36,7 @@ abbrev pub resume_value : Resume → ResumeValue
 resume_value resume = record { checkpoint = resume.checkpoint.now; step = step_value resume.step }
 
 abbrev pub check_value : Check → CheckValue
-check_value check = record { report_form = check.report_form; step = step_value check.step }
+check_value check = record { report_form = check.report_form; strict = check.strict; step = step_value check.step }
 
 abbrev pub tiles_value : Tiles → TilesValue
 tiles_value tiles = record { workflows = map (λ workflow. workflow.now) tiles.workflows.items }

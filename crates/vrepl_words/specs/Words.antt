@@ -61,9 +61,10 @@ pub record SaveValue : Type 0 where
   pub save_to : Option Text
   pub step : StepValue
 
--- `check`: how the report is printed, and what `step` is given
+-- `check`: how the report is printed, whether notes are as warnings, and what `step` is given
 pub record CheckValue : Type 0 where
   pub report_form : ReportForm
+  pub strict : Bool
   pub step : StepValue
 
 -- `tiles`: the workflows of several targets
@@ -285,13 +286,13 @@ vdiff_subcommand = record {
 
 -- what is given to the arguments of `check`
 abbrev pub check_given : List Row → CheckValue
-check_given given = record { report_form = report_form_given given; step = step_given given }
+check_given given = record { report_form = report_form_given given; strict = is_given (codes "strict") given; step = step_given given }
 
--- `check [--hex] [--json] WORKFLOW FEED..`
+-- `check [--hex] [--json] [--strict] WORKFLOW FEED..`
 abbrev pub check_subcommand : Subcommand
 check_subcommand = record {
   name = codes "check";
-  rules = flag_rule (codes "hex") ∷ flag_rule (codes "json") ∷ operand_rule (codes "workflow") ∷ operands_rule (codes "feed") ∷ [];
+  rules = flag_rule (codes "hex") ∷ flag_rule (codes "json") ∷ flag_rule (codes "strict") ∷ operand_rule (codes "workflow") ∷ operands_rule (codes "feed") ∷ [];
   meaning = λ given. Some (asks_check (check_given given));
 }
 

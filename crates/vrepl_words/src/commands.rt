@@ -144,9 +144,11 @@ fn check_command<'w>(alloc: Global) -> Result<Command<'w>, AllocError>
 {
     let about = "Warns of what can't be so in a workflow's feeds";
     let json_help = "Prints all of it as one JSON object";
+    let strict_help = "Ends with status 3 for notes too";
     let command = Ok(bare(alloc, "check", about, help::CHECK));
     let command = with_arg(command, hex(alloc));
-    with_streams(alloc, with_arg(command, flag(alloc, "json", json_help)))
+    let command = with_arg(command, flag(alloc, "json", json_help));
+    with_streams(alloc, with_arg(command, flag(alloc, "strict", strict_help)))
 }
 
 fn tiles_command<'w>(alloc: Global) -> Result<Command<'w>, AllocError>

@@ -163,15 +163,16 @@ Example:
   $ vrepl check --hex examples/workflows/two_shards.json \\
       examples/two_shards/lower.hex examples/two_shards/upper.hex
 
-Prints a line for each stream and each of its tables, and a line for each thing
+Prints a line for each stream and each of its tables, a line `note ..` for what
+may well be so, as where a feed starts, and a line `warning ..` for each thing
 that can't be so, of a kind the first ten. With --json all of it is one object,
 which has every one of them.
 
 Status:
-  0  nothing is warned of
+  0  nothing is warned of, and with --strict nothing is noted
   1  refused; `vrepl explain NUMBER` says what the line's number means
   2  a fault of usage
-  3  something is warned of";
+  3  something is warned of, or with --strict noted";
 
 /// A call of `tiles`.
 pub(crate) const TILES: &str = "\
@@ -207,7 +208,7 @@ pub(crate) const COMPACT: &str = "\
 Example:
   $ vrepl compact --hex --save-to short.feed \\
       examples/workflows/one_shard.json examples/feeds/four_groups.hex
-  compacted 4 groups up to 3e11fa47-71ca-11e1-9e33-c80aa9429562:1-4 into 3 rows: 459 bytes to 156
+  compacted 4 groups up to 3e11fa47-71ca-11e1-9e33-c80aa9429562:1-4 into 4 rows: 438 bytes to 148
 
 The first groups become one, which inserts the rows that they leave, at the
 position of the last of them. The file is replaced once the new feed is whole,

@@ -124,6 +124,7 @@ fn check_words<'w>(alloc: Global, given: &ArgMatches<'w>) -> Result<Words<'w>, A
     let step = script_words(alloc, given)?;
     Ok(Words::Check(Check {
         report_form: report_form_given(given),
+        strict: has_flag(given, "strict"),
         step,
     }))
 }

@@ -89,6 +89,8 @@ pub struct Save<'w> {
 pub struct Check<'w> {
     /// How the report is printed.
     pub report_form: ReportForm,
+    /// Whether notes are as warnings.
+    pub strict: bool,
     /// The other words, which are those of `step`.
     pub step: Step<'w>,
 }

@@ -1,3 +1,4 @@
+pub mod FlawLaws
 pub mod IgnoredLaws
 pub mod RangeLaws
 pub mod SecondLaws

@@ -2,7 +2,7 @@
 
 ghost use Rattle.std.specs.Prelude.{◌≡◌, ◌++◌, IfOk, OnOk, decimal};
 ghost use Rattle.std.specs.String.{string_bytes};
-ghost use Rattle.workflow_check.specs.Notes.{item_place, flaw_text, note_line};
+ghost use Rattle.workflow_check.specs.Notes.{item_place, class_text, flaw_text, may_stand, note_line};
 
 use shown_text::shown;
 use std::alloc::{AllocError, Global};
@@ -19,6 +19,15 @@ pub enum Flaw {
     Undecided,
     /// A table of which the streams pass key ranges that don't lie end to end over all ids.
     Untiled,
+}
+
+impl Flaw {
+    /// Whether it may well be so: a stream may have no rule for a table. The others are faults.
+    pub fn may_stand(self) -> bool
+        ensures { result ≡ may_stand self }
+    {
+        matches!(self, Flaw::Undecided)
+    }
 }
 
 /// What is told of a workflow file: the path of a value, why it is told, and the name of the table of which it
@@ -106,13 +115,21 @@ pub(crate) fn flaw_text(flaw: Flaw) -> &'static str
     }
 }
 
+/// Whether it is noted or warned of.
+fn class_text(flaw: Flaw) -> &'static str
+    ensures { result.now ≡ class_text flaw }
+{
+    if flaw.may_stand() { "note" } else { "warning" }
+}
+
 /// The line of a note.
 fn note_line(alloc: Global, note: &Note) -> Result<String, AllocError>
     ensures { IfOk result (λ line. string_bytes line ≡ note_line note.now) }
 {
     let place = shown(alloc, note.place().as_bytes())?;
     let table = shown(alloc, note.table().as_bytes())?;
-    let mut line = String::from_str(alloc, "warning workflow ")?;
+    let mut line = String::from_str(alloc, class_text(note.flaw()))?;
+    line.push_str(" workflow ")?;
     line.push_str(&place)?;
     line.push_str(" ")?;
     line.push_str(flaw_text(note.flaw()))?;

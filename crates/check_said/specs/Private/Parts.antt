@@ -23,6 +23,11 @@ shard_part check = codes ",\"shard\":" ++ (quoted check.plan.shard ++ codes ",\"
 abbrev pub stream_part : ℕ → List ℕ
 stream_part i = codes ",\"stream\":" ++ (decimal i ++ codes ",\"tables\":")
 
+-- up to the notes of the whole
+abbrev pub begin_part : Bool → List ℕ
+begin_part true = codes "{\"noted\":true,\"notes\":"
+begin_part false = codes "{\"noted\":false,\"notes\":"
+
 -- the end of the whole
 abbrev pub end_part : Bool → List ℕ
 end_part true = codes ",\"warned\":true}"

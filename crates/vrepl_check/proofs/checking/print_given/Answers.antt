@@ -6,7 +6,7 @@ use Rattle.vrepl_main.specs.Given.{given_value}
 use Rattle.vrepl_main.specs.OpenedFeeds.{opened_value}
 use Rattle.vrepl_main.specs.Reasons.{Reason}
 use Rattle.vrepl_main.proofs.CommandLaws.{refuses}
-use Rattle.vrepl_check.specs.Checking.{IsWarned, names_of, report_with, text_of_report}
+use Rattle.vrepl_check.specs.Checking.{IsFound, names_of, report_with, text_of_report}
 use Rattle.vrepl_check.proofs.CheckingLaws.{refuses_behind, refused_checks, report_is}
 use Rattle.vrepl_check.proofs.checking.print_given.Goals as goal
 
@@ -27,13 +27,13 @@ returns-in_err-checks-clause-printed g c =
     (refused_checks inputs.report_form (names_of inputs) inputs.workflow.items (map given_value c.args.given.now) _ (opened_value c.in_ok-opened.opened) c.in_err-checks.field-0.0 (rw c.deref.ensures.value at c.in_ok-opened.ensures.opened)
     (rw (c.deref-2.ensures.value, c.in_ok-bytes.ensures, c.deref-3.ensures.value) at c.in_err-checks.ensures))))
 
-pub returns-clause-warned : goal.returns-clause-warned
-returns-clause-warned g c =
+pub returns-clause-found : goal.returns-clause-found
+returns-clause-found g c =
     let inputs = c.args.inputs.now in
-    subst (λ (reading : Result ReportValue Reason). IfOk c.print_said.result (λ warned. IsWarned warned reading))
+    subst (λ (reading : Result ReportValue Reason). IfOk c.print_said.result (λ found. IsFound c.args.inputs.now.strict found reading))
     (sym (report_is inputs.report_form (names_of inputs) inputs.workflow.items (map given_value c.args.given.now) _ (opened_value c.in_ok-opened.opened) _ _ (rw c.deref.ensures.value at c.in_ok-opened.ensures.opened)
     (rw (c.deref-2.ensures.value, c.in_ok-bytes.ensures, c.deref-3.ensures.value) at c.in_ok-checks.ensures) refl))
-    (rw c.deref-4.ensures.value at c.print_said.ensures.warned)
+    (rw c.deref-4.ensures.value at c.print_said.ensures.found)
 
 pub returns-clause-printed : goal.returns-clause-printed
 returns-clause-printed g c =

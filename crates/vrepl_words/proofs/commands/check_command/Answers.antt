@@ -5,5 +5,6 @@ use Rattle.vrepl_words.proofs.commands.check_command.Goals as goal
 pub returns : goal.returns
 returns c =
     let hex = c.with_arg-command.ensures (new_app (codes "check")) _ c.bare.ensures c.hex.ensures in
-    let json = c.with_arg.ensures _ _ hex c.flag.ensures in
-    c.with_streams.ensures _ json
+    let json = c.with_arg-command-2.ensures _ _ hex c.flag.ensures in
+    let strict = c.with_arg.ensures _ _ json c.flag-2.ensures in
+    c.with_streams.ensures _ strict

@@ -1,4 +1,0 @@
-use Rattle.feed_check.proofs.laws.clean_feeds_never_clash.Goals as goal
-
-pub returns : goal.returns
-returns c = λ bytes feeds clean old new steps replies run lawful reads. c.streams_read_their_feeds.ensures.disjoint feeds old new steps replies run lawful reads clean.apart
