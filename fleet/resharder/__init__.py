@@ -5,7 +5,6 @@ Modules, from the lowest up; each has one idea:
     stop       why nothing is begun, and why a target ends, as one line
     job        what is asked for: the file of feeds, workflows and the folder for results
     words      the command lines of the program
-    ranges     key ranges
     refusals   what a refusal means, and where it stands
     rules      what the targets pass of each shard's rows, whether each is in one, and how many these are
     files      files that are replaced as a whole, and results that are found again

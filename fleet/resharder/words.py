@@ -24,6 +24,11 @@ def check(job: Job, workflow: str, feeds: Sequence[str]) -> list[str]:
     return [job.program, "check", *_hex(job), "--json", workflow, *feeds]
 
 
+def tiles(job: Job, workflows: Sequence[str]) -> list[str]:
+    """Whether the targets of these files have each row once."""
+    return [job.program, "tiles", *workflows]
+
+
 def join(job: Job, target: Target, one: str, other: str, *more: str) -> list[str]:
     """Two checkpoints of a target or more, in any order. The new one comes on standard output."""
     also = [word for file in more for word in ("--also", file)]

@@ -28,6 +28,7 @@ Modules, from the lowest up; each has one idea:
     rowcode       rows of row events to row changes, by code for the columns of one table
     transactions  events to whole transactions of the recorded tables
     note          the note beside a feed, and the feed's end that it tells of
+    locks         one writer a feed, and a compaction to which one lends it
     feedfile      the feed's file: made whole, and grown in its place
     held          rows by table and key, held in a file
     snapshot      the rows of one consistent snapshot
@@ -39,6 +40,7 @@ Modules, from the lowest up; each has one idea:
     forever       a recording that goes on with each transaction as it commits
     filters       a workflow's filters as conditions of SQL
     program       the program, and what it answers
+    compacting    a feed without its past, and its note
     moments       the positions at which rows are compared, and the beginning of a feed that is up to one
     checkpoints   the rows of one stream in a checkpoint
     comparing     a snapshot's rows held to those of the feeds at its position

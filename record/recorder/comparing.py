@@ -10,26 +10,25 @@ What lies between is in files without a name, so that nothing is left of it, how
 import json
 import mmap
 import os
-import subprocess
 import time
 from collections.abc import Callable, Iterator
-from contextlib import ExitStack, closing, contextmanager
+from contextlib import ExitStack, closing
 from dataclasses import dataclass, replace
 from functools import cached_property
 from tempfile import TemporaryFile, gettempdir
-from typing import BinaryIO
+from typing import BinaryIO, ContextManager
 
 from .catalogue import split_name
 from .checkpoints import stream_of
-from .files import open_file, writing
+from .files import is_at, open_file, writing
 from .filters import dump_statements, of_stream, of_target
 from .moments import Beginning, End, Moment, is_same
-from .note import Note, note_path
+from .note import Note, begins_with_base, fits, note_path
 from .position import SNAPSHOT_UUID, Until, sets_of
-from .program import DIFFERS, Program, name_of
+from .program import DIFFERS, Program, beginning, name_of
 from .recording import Wanted, record
-from .server import MOST_ALLOWED, Login, ask, check_settings, gtids_at, rows, why_unread
-from .snapshot import opened, place_of
+from .server import MOST_ALLOWED, Login, ask, gtids_at, rows, why_unread
+from .snapshot import opened, opened_at
 from .stop import AGAIN, Beyond, Prepared, Stop, Taken
 
 OF_REPLICA = """SELECT COALESCE(GROUP_CONCAT(CONCAT_WS('-', domain_id, server_id, seq_no)), '') FROM mysql.gtid_slave_pos AS one
@@ -76,15 +75,31 @@ class Feed:
 
     def __init__(self, asked: Asked, stream: int, held: ExitStack) -> None:
         self.path, self._asked, self._stream, self._login = asked.feeds[stream], asked, stream, asked.logins[stream]
+        held.callback(self._close)
+        self.file: BinaryIO | None = None
+        self._open(is_new=True)
+        self.end = End(0, "", False)
+        """Where the moment is in it."""
+
+    def _open(self, is_new: bool) -> None:
+        """Opens the file that is there; it is another one where the feed was compacted meanwhile."""
+        self._close()
         try:
-            self.file = held.enter_context(os.fdopen(open_file(self.path, os.O_RDONLY), "rb"))
+            self.file = os.fdopen(open_file(self.path, os.O_RDONLY), "rb")
         except OSError as fault:
             raise Stop("no feed", f"at {self.path}", fault.strerror or str(fault)) from None
         # what a source's feed has now is before a snapshot that is still to come
-        note = None if asked.is_of_target else self._note()
+        note = self._own_note() if is_new and not self._asked.is_of_target else None
         self._begun = Beginning(self.path, self.file.fileno(), note.size if note else 0, note.position if note else "")
-        self.end = End(0, "", False)
-        """Where the moment is in it."""
+
+    def _close(self) -> None:
+        if self.file:
+            self.file.close()
+
+    def _own_note(self) -> Note | None:
+        """The note, where it is the one of the file that is open; none where a compaction has just put another one there."""
+        note = self._note()
+        return note if fits(self.file.fileno(), note) else None
 
     def _note(self) -> Note:
         note, shard = Note.read(note_path(self.path)), self._asked.shard(self._stream)
@@ -123,9 +138,16 @@ class Feed:
         """Whether the feed has come to a position: by its groups, or by its note, which may say more."""
         reached = self._begun.last()
         moment = self._moment(text, reached)
-        if not moment.is_reached(reached) and not (self._login and moment.is_reached(self._note().reached().text())):
+        has_come = moment.is_reached(reached) or bool(self._login) and moment.is_reached(self._note().reached().text())
+        # (a compacted feed takes its place before its note does)
+        if not is_at(self.file.fileno(), self.path):
+            self._open(is_new=False)
+            return self._finds(text)
+        if not has_come:
             return False
         self.end = self._begun.up_to(moment)
+        if not self.end.size and self.end.is_amid and begins_with_base(self.file.fileno()):
+            raise Stop("a feed that was compacted behind the snapshot", f"at {text}, in {self.path}", "compare again; a target has to have come so far")
         return True
 
     def _moment(self, text: str, reached: str) -> Moment:
@@ -134,16 +156,9 @@ class Feed:
         except ValueError as fault:
             raise Stop("no position", f"of stream {self._stream} ({text[:200]})", str(fault)) from None
 
-    @contextmanager
-    def piped(self) -> Iterator[BinaryIO]:
+    def piped(self) -> ContextManager[BinaryIO]:
         """A pipe that has the feed's beginning."""
-        self.file.seek(0)
-        with subprocess.Popen(["head", "-c", str(self.end.size)], stdin=self.file, stdout=subprocess.PIPE, stderr=subprocess.DEVNULL) as head:
-            try:
-                yield head.stdout
-            finally:
-                head.stdout.close()
-                head.kill()
+        return beginning(self.file, self.end.size)
 
 
 class Comparison:
@@ -205,7 +220,7 @@ class Comparison:
 
     def _of_target(self, login: Login, query: str) -> tuple[list[BinaryIO], list[str]]:
         """The rows of the target, and the streams' positions."""
-        with closing(_Reading(login)) as reading:
+        with closing(_Reading(login, is_of_source=False)) as reading:
             texts, there = reading.positions(query, len(self._feeds)), self._file()
             reading.write(_statements(of_target(self._asked.workflow), self._asked.schemas), there)
         return [there], texts
@@ -216,7 +231,7 @@ class Comparison:
         dumps: list[BinaryIO] = [self._file() for _ in feeds]
         texts = [""] * len(feeds)
         for login in dict.fromkeys(asked.logins):
-            with closing(_Reading(login)) as reading:
+            with closing(_Reading(login, is_of_source=True)) as reading:
                 text = reading.own_position()
                 for stream in (at for at, one in enumerate(asked.logins) if one == login):
                     texts[stream] = text
@@ -272,24 +287,19 @@ class Comparison:
 
 
 class _Reading:
-    """A snapshot of a server's tables, and a connection beside it."""
+    """A snapshot of a server's tables: of a source's at a place in its log, or of a target's."""
 
-    def __init__(self, login: Login) -> None:
-        self._beside, self._tables = login.connect(), None
-        try:
-            self._tables = opened(login)
-        except BaseException:
-            self.close()
-            raise
+    def __init__(self, login: Login, is_of_source: bool) -> None:
+        self._login = login
+        self._tables, self._place = opened_at(login) if is_of_source else (opened(login), None)
 
     def own_position(self) -> str:
-        """The position of the snapshot in the server's own log."""
-        check_settings(self._beside)
-        place = place_of(self._tables)
-        text = gtids_at(self._beside, place)
-        if text is None:
-            raise Stop("the snapshot's place isn't in the log", f"at {place}", why_unread(self._beside, place) + AGAIN)
-        return text
+        """The position of a source's snapshot in the server's own log."""
+        with closing(self._login.connect()) as beside:
+            text = gtids_at(beside, self._place)
+            if text is None:
+                raise Stop("the snapshot's place isn't in the log", f"at {self._place}", why_unread(beside, self._place) + AGAIN)
+            return text
 
     def positions(self, query: str, count: int) -> list[str]:
         """Those of the streams, as of the snapshot."""
@@ -306,9 +316,8 @@ class _Reading:
             _write(out, (_whole(line) for (line,) in rows(self._tables, statement, f"({statement[:200]})")))
 
     def close(self) -> None:
-        for connection in self._tables, self._beside:
-            if connection and connection.open:
-                connection.close()
+        if self._tables.open:
+            self._tables.close()
 
 
 def _whole(line: bytes | None) -> bytes:

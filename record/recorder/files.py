@@ -51,15 +51,20 @@ class Lock:
     def _take(self) -> bool:
         """Whether the lock was taken of the file that has the name, and not of one that lost it meanwhile."""
         self._file = os.open(self._name, os.O_RDWR | os.O_CREAT | os.O_NOFOLLOW | os.O_NONBLOCK | os.O_CLOEXEC, 0o666)
+        taken = False
         try:
-            fcntl.flock(self._file, fcntl.LOCK_EX | fcntl.LOCK_NB)
+            self._lock()
+            taken = is_at(self._file, self._name)
         except BlockingIOError:
-            os.close(self._file)
             raise Taken("another recording writes this feed", f"at {self._path}", f"it holds {self._name}; let it end, or end it") from None
-        taken = is_at(self._file, self._name)
-        if not taken:
-            os.close(self._file)
+        finally:
+            if not taken:
+                os.close(self._file)
         return taken
+
+    def _lock(self) -> None:
+        """Locks the file. BlockingIOError where another one has it."""
+        fcntl.flock(self._file, fcntl.LOCK_EX | fcntl.LOCK_NB)
 
     def __exit__(self, *_: object) -> None:
         with Held(), suppress(OSError):

@@ -1,7 +1,8 @@
 """A recording that goes on: what the log has, and then each transaction as it commits, until a signal ends it.
 
 Where the connection is lost it begins anew behind the note, with all checks, after a pause that grows. What
-commits within a quarter of a second goes into the feed together.
+commits within a quarter of a second goes into the feed together. A compaction that asks for the feed has it for as
+long as it takes; then too it begins anew.
 """
 import time
 from collections.abc import Iterator
@@ -10,8 +11,9 @@ from dataclasses import replace
 
 from .ending import Ended, Held, Last, tell
 from .events import Event, LogEvent
+from .locks import Lent, locked
 from .note import Note, note_path
-from .recording import MINUTE, Recording, Wanted, left_as_it_was, locked
+from .recording import MINUTE, Recording, Wanted, check_free_or_there, left_as_it_was
 from .server import events
 from .stop import AGAIN, Lost, Stop
 from .transactions import Transaction
@@ -24,12 +26,19 @@ class _Altered(Exception):
     """A table of which no row was recorded was altered: its columns have to be read anew."""
 
 
+class _Asked(Exception):
+    """A compaction asks for the feed."""
+
+
 def record_forever(wanted: Wanted) -> Note:
     """Goes on until a signal or the wanted position ends it; answers the note of a feed that is whole."""
     forever = _Forever(wanted)
     try:
-        with locked(wanted):
-            return forever.run()
+        while True:
+            try:
+                return forever.with_lock()
+            except _Asked:
+                tell(f"feed: {wanted.out} is left to a compaction")
     except Ended as ended:
         if not (wanted.append or forever.has_begun):
             raise Stop(f"ended by {ended}", "", left_as_it_was(wanted)) from None
@@ -42,7 +51,13 @@ class _Forever:
     def __init__(self, wanted: Wanted) -> None:
         self._wanted, self._pause, self.has_begun = wanted, FIRST_PAUSE, False
 
-    def run(self) -> Note:
+    def with_lock(self) -> Note:
+        """Records as long as the feed's lock isn't asked for."""
+        self._lock = Lent(self._wanted.out, is_back=self.has_begun)
+        with locked(self._wanted.out, lambda: check_free_or_there(self._wanted), self._lock):
+            return self._run()
+
+    def _run(self) -> Note:
         while True:
             try:
                 return self._over_one_connection()
@@ -63,16 +78,16 @@ class _Forever:
             with Held():
                 recording.put()
                 self._wanted, self._pause, self.has_begun = replace(self._wanted, append=True, from_snapshot=False, behind=False), FIRST_PAUSE, True
-            _Live(recording).run()
+            _Live(recording, self._lock).run()
             return recording.note
 
 
 class _Live:
     """One connection's reading behind the log's end."""
 
-    def __init__(self, recording: Recording) -> None:
-        self._recording, self._feed = recording, recording.feed
-        self._put_at = self._told_at = time.monotonic()
+    def __init__(self, recording: Recording, lock: Lent) -> None:
+        self._recording, self._feed, self._lock = recording, recording.feed, lock
+        self._put_at = self._told_at = self._looked_at = time.monotonic()
         self._groups, self._place, self._behind = 0, recording.note.place, ""
 
     def run(self) -> None:
@@ -86,7 +101,7 @@ class _Live:
             with Last():
                 self._recording.finish()
                 self._put()
-        except (Stop, _Altered):
+        except (Stop, _Altered, _Asked):
             with Held():
                 self._put()
             raise
@@ -103,6 +118,7 @@ class _Live:
                     return
                 if reading.altered:
                     raise _Altered
+                self._look_at_lock()
         raise Lost("the server ended the log", f"behind {reading.place}", AGAIN)
 
     def _with_rests(self, read: Iterator[Event]) -> Iterator[Event]:
@@ -115,6 +131,7 @@ class _Live:
                     self._behind = "at the log's end"
                     self._put()
                     self._look_at_clock()
+                self._look_at_lock()
             elif self._feed.waits and time.monotonic() >= self._put_at + TOGETHER:
                 with Held():
                     self._put()
@@ -135,6 +152,13 @@ class _Live:
         if self._feed.waits:
             self._recording.put()
             self._put_at, self._place = time.monotonic(), self._recording.note.place
+
+    def _look_at_lock(self) -> None:
+        """Leaves the feed to a compaction that asks for it."""
+        if time.monotonic() >= self._looked_at + TOGETHER:
+            self._looked_at = time.monotonic()
+            if self._lock.is_asked():
+                raise _Asked
 
     def _look_at_clock(self) -> None:
         """Each minute the feed and the note say how far the log was read, and so does a line."""

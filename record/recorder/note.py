@@ -14,7 +14,7 @@ from .files import held_path, kind_at, left_files, new_file, open_file, put, rea
 from .position import Position, sets_of
 from .server import Place
 from .stop import ANEW, Stop
-from .wire import EventType
+from .wire import FIELDS, EventType
 
 
 AT_ONCE = 2**16
@@ -127,7 +127,7 @@ def check_end(path: str, note: Note) -> None:
     except OSError as fault:
         raise Stop("no feed to append to", f"in {path}", f"{_why(fault)}; {ANEW}") from None
     try:
-        is_its = is_of(file, note)
+        is_its = fits(file, note)
     except OSError as fault:
         raise Stop("no feed to append to", f"in {path}", f"{_why(fault)}; {ANEW}") from None
     finally:
@@ -143,6 +143,52 @@ def is_of(file: int, note: Note) -> bool:
     if not 0 <= note.last <= note.size <= os.fstat(file).st_size or (note.last == note.size) != (note.position == ""):
         return False
     return note.size == 0 or position_of(file, note.last, note.size) == note.position
+
+
+def fits(file: int, note: Note) -> bool:
+    """Whether an open feed is the one of the note; or one that was compacted since, as by the program alone, which begins with a base
+    of the note's tables and has a group of its position. The note's length is that group's end then."""
+    if is_of(file, note):
+        return True
+    if _base_of(file) is None or not _are_noted(_base_of(file), note):
+        return False
+    groups = groups_between(file, 0, os.fstat(file).st_size)
+    found = next(((start, end) for start, end, position in groups if position == note.position), None)
+    if found:
+        note.last, note.size = found
+    return found is not None
+
+
+def begins_with_base(file: int) -> bool:
+    """Whether an open feed was compacted: its first message has the tables' columns and a BEGIN, and no more."""
+    return _base_of(file) is not None
+
+
+def _base_of(file: int) -> list[bytes] | None:
+    """The tables' columns in the first message of a compacted feed."""
+    end = next(ends(file, 0, os.fstat(file).st_size), None)
+    try:
+        events = _events(file, 0, end) if end else []
+        *fields, begin = map(messages.kind_of, events) if events else (EventType.COMMIT,)
+    except (ValueError, IndexError):
+        return None
+    return events[:-1] if begin == EventType.BEGIN and set(fields) <= {EventType.FIELD} else None
+
+
+def _are_noted(fields: list[bytes], note: Note) -> bool:
+    """Whether a note has these tables, with these columns."""
+    noted = [(name.partition(".")[2], layout) for name, layout in note.tables.items()]
+    try:
+        return all(_layout(event) in noted for event in fields)
+    except (ValueError, IndexError, KeyError):
+        return False
+
+
+def _layout(event: bytes) -> tuple[str, list[list]]:
+    """A table's name, and its columns as a note has them."""
+    said = list(messages.fields(dict(messages.fields(event))[FIELDS]))
+    columns = [dict(messages.fields(field)) for number, field in said if number == 2]
+    return dict(said)[1].decode(), [[column[1].decode(), column.get(2, 0)] for column in columns]
 
 
 def ends(file: int, start: int, end: int) -> Iterator[int]:
@@ -231,17 +277,26 @@ def _number_at(file: int, at: int) -> tuple[int, int]:
     return number, at + size
 
 
+def _has_note(file: int, path: str) -> bool:
+    """Whether the note that is there is of an open feed."""
+    try:
+        return is_of(file, Note.read(path))
+    except Stop:
+        return False
+
+
 def settle(feed: str) -> None:
-    """Ends what a killed writer began: a note that is whole and of all of the feed takes its place, other new files go."""
+    """Ends what a killed writer began: a note takes its place that is whole and of all of the feed, or of a feed that was compacted,
+    which the note there isn't of. Other new files go."""
     path = note_path(feed)
     for own in left_files(path):
         with suppress(Stop, OSError):
             note, file = Note.read(own), open_file(feed, os.O_RDONLY)
             try:
-                is_whole = note.size == os.fstat(file).st_size and is_of(file, note)
+                is_its = is_of(file, note) and (note.size == os.fstat(file).st_size or not _has_note(file, path))
             finally:
                 os.close(file)
-            if is_whole and kind_at(path) in ("a file", "nothing"):
+            if is_its and kind_at(path) in ("a file", "nothing"):
                 os.rename(own, path)
                 sync_folder(path)
     # (two names of one file are still both there)

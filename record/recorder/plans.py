@@ -9,7 +9,7 @@ from tempfile import TemporaryDirectory
 
 from .catalogue import Table
 from .kinds import NAMED
-from .program import OWN, Program
+from .program import DIFFERS, OWN, Program
 from .stop import Stop
 
 JOB = "job.json"
@@ -36,10 +36,6 @@ class Plan:
         """The workflow file of the target whose rows are those of a filter."""
         streams = [self._stream(shard, filtered) for shard in self.shards]
         return {"keyspace": self.keyspace, **self._further(), "tables": [self._table(table) for table in self.tables], "streams": streams}
-
-    def side_by_side(self, targets: list[str]) -> dict:
-        """A workflow file with a stream for each target: what is said of its streams is said of the targets."""
-        return self.workflow("") | {"streams": [self._stream(target, target) for target in targets]}
 
     def _further(self) -> dict:
         """The member that says that `hash` is used, where a table or a rule names it."""
@@ -78,10 +74,10 @@ class Reshard:
         os.makedirs(self.folder, exist_ok=True)
         try:
             with TemporaryDirectory(prefix=".plan-", dir=self.folder) as beside:
-                for target in self.targets:
-                    file = _put(os.path.join(beside, f"{target}.json"), self.plan.workflow(target))
-                    self._checked(f"target {target}", file, [feed if os.path.exists(feed) else NOTHING for feed in self.feeds])
-                self._check_targets(beside)
+                files = [_put(os.path.join(beside, f"{target}.json"), self.plan.workflow(target)) for target in self.targets]
+                for target, file in zip(self.targets, files):
+                    self._checked(f"target {target}", file)
+                self._check_targets(files, beside)
                 _put(os.path.join(beside, JOB), self._job())
                 return [self._moved(beside, name) for name in (*(f"{target}.json" for target in self.targets), JOB)]
         finally:
@@ -99,20 +95,16 @@ class Reshard:
         os.replace(os.path.join(beside, name), file)
         return file
 
-    def _check_targets(self, beside: str) -> None:
-        """Stops where the targets' ranges leave a gap or overlap, which the program says of streams."""
-        for target in self.targets:
-            if self.targets.count(target) > 1 or len(self.targets) == 1 and target != "-":
-                raise Stop(f"target {target}", "twice" if len(self.targets) > 1 else "alone", "the targets' ranges have to have each row once")
-        file = _put(os.path.join(beside, JOB), self.plan.side_by_side(self.targets))
-        for note in json.loads(self._checked("the targets", file, [NOTHING] * len(self.targets), "--json"))["notes"]:
-            if note["why"] == "untiled":
-                table = self.plan.tables[int(note["path"].strip("tables[]"))].name
-                raise Stop("ranges that leave a gap or overlap", f"of table {table}", f"{', '.join(self.targets)} have to have each row once")
+    def _check_targets(self, files: list[str], beside: str) -> None:
+        """Stops where the targets' ranges leave a gap or overlap."""
+        status, said = Program(self.program or OWN).answer("the targets", "tiles", *files)
+        if status == DIFFERS:
+            warning = next(line.removeprefix("warning ") for line in said.splitlines() if line.startswith("warning "))
+            raise Stop("targets that don't have each row once", "", warning.replace(os.path.join(beside, ""), ""))
 
-    def _checked(self, who: str, file: str, feeds: list[str], *words: str) -> str:
-        """What `check` prints of a workflow file and feeds. Stops with what it refuses."""
-        return Program(self.program or OWN).answer(who, "check", *words, file, *feeds)[1]
+    def _checked(self, who: str, file: str) -> None:
+        """Stops with what `check` refuses of a workflow file and the feeds that are there."""
+        Program(self.program or OWN).answer(who, "check", file, *(feed if os.path.exists(feed) else NOTHING for feed in self.feeds))
 
 
 def _put(file: str, said: dict) -> str:

@@ -1,6 +1,9 @@
 """The program: where it is, and what it answers."""
 import os
+import signal
 import subprocess
+from collections.abc import Iterator
+from contextlib import contextmanager
 from dataclasses import dataclass
 from typing import BinaryIO
 
@@ -28,10 +31,27 @@ class Program:
             told = done.stderr.decode(errors="replace").split("\n")
             # (before it may stand how far the command was)
             at = next((at for at, line in enumerate(told) if line.startswith("refused ")), 0)
-            raise Stop(who, "", "; ".join(told[at:at + 2]).rstrip("; ") or f"status {done.returncode}")
+            raise Stop(who, "", "; ".join(told[at:at + 2]).rstrip("; ") or _ended(done.returncode))
         return done.returncode, "" if out else done.stdout.decode(errors="replace")
 
 
 def name_of(file: BinaryIO) -> str:
     """The name by which a program that is passed an open file reads it from its beginning."""
     return f"/dev/fd/{file.fileno()}"
+
+
+def _ended(status: int) -> str:
+    """How a program ended that said nothing."""
+    return f"the program ended by {signal.Signals(-status).name}" if status < 0 else f"status {status}"
+
+
+@contextmanager
+def beginning(file: BinaryIO, size: int) -> Iterator[BinaryIO]:
+    """A pipe that has so many bytes of an open file, from its beginning on."""
+    file.seek(0)
+    with subprocess.Popen(["head", "-c", str(size)], stdin=file, stdout=subprocess.PIPE, stderr=subprocess.DEVNULL) as head:
+        try:
+            yield head.stdout
+        finally:
+            head.stdout.close()
+            head.kill()

@@ -5,18 +5,18 @@ import os
 import sys
 import time
 from collections.abc import Iterator
-from contextlib import ExitStack, closing, contextmanager, suppress
+from contextlib import ExitStack, closing
 from dataclasses import dataclass
 from itertools import chain
 
 from .catalogue import Table, read_tables
 from .elsewhere import Elsewhere
-from .ending import Ended, Free, Held, Last, show, tell
+from .ending import Ended, Held, Last, show, tell
 from .events import Event, LogEvent
 from .feedfile import FeedFile, check_free
-from .files import Lock, kind_at, left_files, writing
 from .groups import Change, Changes, Groups
-from .note import Note, check_end, note_path, settle
+from .locks import check_there, locked
+from .note import Note, check_end, note_path
 from .position import SNAPSHOT_UUID, Position, Until, domain_uuid, sets_of
 from .prepared import prepared_at
 from .server import Login, Place, check_schemas, check_settings, end_place, events, first_place, gtids_at, log_sizes, server_id, why_unread
@@ -99,7 +99,7 @@ def record(wanted: Wanted) -> Note:
     """Writes a feed and its note, or goes on with them, up to where the log ends. Stops, and leaves what is there
     as it is, where the feed couldn't say what the tables are."""
     try:
-        with locked(wanted), ExitStack() as opened:
+        with locked(wanted.out, lambda: check_free_or_there(wanted)), ExitStack() as opened:
             recording = Recording(wanted, opened)
             recording.catch_up()
             recording.check_whole()
@@ -114,37 +114,9 @@ def left_as_it_was(wanted: Wanted) -> str:
     return f"{wanted.out} is as it was" if wanted.append or wanted.over else "no feed was made"
 
 
-@contextmanager
-def locked(wanted: Wanted) -> Iterator[None]:
-    """Holds the feed's lock; new files that a killed recording left are gone. Stops where there is no feed to go on
-    with, or where a file is that mustn't be lost."""
-    _check_there(wanted)
-    with Held(), ExitStack() as opened:
-        opened.enter_context(Lock(wanted.out))
-        # a signal may come when a file was just made, and nobody knows of it yet
-        opened.callback(_settle, wanted.out)
-        with writing(wanted.out):
-            settle(wanted.out)
-        with Free():
-            _check_there(wanted)
-            yield
-
-
-def _settle(out: str) -> None:
-    with suppress(OSError):
-        settle(out)
-
-
-def _check_there(wanted: Wanted) -> None:
-    if not wanted.append:
-        return check_free(wanted.out, wanted.over)
-    note = note_path(wanted.out)
-    with writing(wanted.out):
-        kind = kind_at(wanted.out)
-        if kind != "a file":
-            raise Stop("no feed to append to", f"at {wanted.out}", f"{kind} is there; {ANEW if kind == 'nothing' else 'name a file, by no link'}")
-        if kind_at(note) == "nothing" and not left_files(note):
-            Note.read(note)
+def check_free_or_there(wanted: Wanted) -> None:
+    """Stops where there is no feed to go on with, or where a file is that mustn't be lost."""
+    check_there(wanted.out) if wanted.append else check_free(wanted.out, wanted.over)
 
 
 class Recording:

@@ -1,29 +1,47 @@
 """The rows of one consistent snapshot, and the place in the log that it stands at.
 
 MariaDB gives the two together: START TRANSACTION WITH CONSISTENT SNAPSHOT stands between two commits of the
-log, and the variables binlog_snapshot_% say which, without a lock.
+log, and the variables binlog_snapshot_% say which, without a lock. XA COMMIT alone is in the log a moment before its rows
+are seen, so a snapshot that may stand in that moment is let go, and another one opened.
 """
+import time
 from collections.abc import Iterable, Iterator
+from contextlib import closing
 
 from pymysql import Connection
 
 from .catalogue import Table, quoted
+from .events import LogEvent, QueryEvent
 from .groups import PIECE, Change
 from .messages import LongRow, Row, row_bytes
-from .server import Login, Place, ask, rows
-from .stop import Stop
+from .server import Login, Place, ask, check_settings, end_place, events, rows
+from .statements import Does, read_statement
+from .stop import AGAIN, Prepared, Stop
 from .transactions import check_key
 from .wire import change_bytes
 
 PORTION = 1000
+BEGIN = "START TRANSACTION WITH CONSISTENT SNAPSHOT"
+STANDS, PATIENCE, PAUSE = 0.5, 60, 0.003
+"""The seconds behind which an XA transaction that is still prepared isn't one that is just committed, those in which a snapshot has
+to be had amid XA transactions, and those between two of them."""
 
 
 def opened(login: Login) -> Connection:
     """A connection that sees all tables as they are now."""
+    connection = _ready(login)
+    try:
+        ask(connection, BEGIN)
+    except BaseException:
+        connection.close()
+        raise
+    return connection
+
+
+def _ready(login: Login) -> Connection:
     connection = login.connect(raw=True)
     try:
-        for query in ("SET SESSION TRANSACTION ISOLATION LEVEL REPEATABLE READ", "START TRANSACTION WITH CONSISTENT SNAPSHOT"):
-            ask(connection, query)
+        ask(connection, "SET SESSION TRANSACTION ISOLATION LEVEL REPEATABLE READ")
     except BaseException:
         connection.close()
         raise
@@ -37,10 +55,59 @@ def place_of(connection: Connection) -> Place:
     return Place(status["binlog_snapshot_file"], int(status["binlog_snapshot_position"]))
 
 
+def opened_at(login: Login) -> tuple[Connection, Place]:
+    """The same of a server whose log is read, and the place in that log at which it sees them."""
+    since: dict[tuple, float] = {}
+    """When each XA transaction that is prepared was first seen."""
+    last, connection = time.monotonic() + PATIENCE, _ready(login)
+    try:
+        with closing(login.connect()) as beside:
+            check_settings(beside)
+            while True:
+                end, listed, now = end_place(beside), _prepared(beside), time.monotonic()
+                ask(connection, BEGIN)
+                place = place_of(connection)
+                since = {xa: since.get(xa, now) for xa in listed}
+                # one whose commit is in the log by `end`, and isn't seen, is still listed behind that
+                if all(now - one > STANDS for one in since.values()) and not _has_xa_commit(login, end, place) and _stand(beside, listed):
+                    return connection, place
+                if now > last:
+                    raise Prepared("XA transactions are committed all the time", f"before {place}", AGAIN)
+                time.sleep(PAUSE)
+    except BaseException:
+        connection.close()
+        raise
+
+
+def _prepared(connection: Connection) -> set[tuple]:
+    return set(map(tuple, ask(connection, "XA RECOVER")))
+
+
+def _stand(connection: Connection, listed: set[tuple]) -> bool:
+    """Whether XA transactions that were prepared still are, and so weren't just committed."""
+    if listed:
+        time.sleep(STANDS)
+    return not listed or listed <= _prepared(connection)
+
+
+def _has_xa_commit(login: Login, start: Place, end: Place) -> bool:
+    """Whether an XA transaction is committed in the log between two places."""
+    if start == end:
+        return False
+    with closing(login.connect()) as stream:
+        for event in events(stream, start):
+            if event.log == end.log and event.end > end.offset:
+                break
+            if event.kind in (LogEvent.QUERY, LogEvent.QUERY_COMPRESSED):
+                query = QueryEvent.read(event.kind, event.body)
+                if read_statement(query.text, query.schema).does == Does.XA_COMMIT:
+                    return True
+    return False
+
+
 class Snapshot:
     def __init__(self, login: Login) -> None:
-        self._connection = opened(login)
-        self.place = place_of(self._connection)
+        self._connection, self.place = opened_at(login)
 
     def changes(self, tables: list[Table]) -> Iterator[Change]:
         """All rows of the tables as inserts, at most 1,000 at once, and a megabyte."""

@@ -105,9 +105,9 @@ def run(workflow: Workflow, *feeds: Given, hex: bool = False, alone: bool = Fals
     return Dump(_with_files("run", options, workflow, *feeds)[1])
 
 
-def check(workflow: Workflow, *feeds: Given, hex: bool = False) -> Report:
-    """What stands in a workflow and its feeds, and what of it can't be so."""
-    status, said = _with_files("check", ["--json", *(["--hex"] if hex else [])], workflow, *feeds)
+def check(workflow: Workflow, *feeds: Given, hex: bool = False, strict: bool = False) -> Report:
+    """What stands in a workflow and its feeds, and what of it can't be so; where it is to be strict, what may well be so is warned of too."""
+    status, said = _with_files("check", ["--json", *(["--hex"] if hex else []), *(["--strict"] if strict else [])], workflow, *feeds)
     return Report(status == 3, json.loads(said))
 
 

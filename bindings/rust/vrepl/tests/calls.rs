@@ -61,7 +61,7 @@ const FILE: &str = r#"{"keyspace":"ks","tables":[{"name":"t","columns":[["id","I
 fn workflows_are_checked() {
     assert_eq!(Workflow::check(FILE.as_bytes()), Ok(Checked::Read(String::new())));
     let misspelt = FILE.replace("\"match\":\"t\"", "\"match\":\"u\"");
-    let warned = "warning workflow streams[0].filter.rules[0] matches no table\nwarning workflow streams[0] has no rule for table t\n";
+    let warned = "warning workflow streams[0].filter.rules[0] matches no table\nnote workflow streams[0] has no rule for table t\n";
     assert_eq!(Workflow::check(misspelt.as_bytes()), Ok(Checked::Read(warned.to_owned())));
     let told = |file: &str| match Workflow::check(file.as_bytes()) {
         Ok(Checked::Refused(Refused { number }, place)) => (number, place),

@@ -1,0 +1,146 @@
+#!/usr/bin/env python3
+"""Measures nights: a feed grows, a checkpoint is moved on by `vrepl follow`, and the feed is compacted up to it.
+
+usage: bench/checkpoint/nights.py PROGRAM [NIGHTS [MEGABYTES [NIGHTLY]]]       30 nights, 200 and 1 if not given
+
+The feed has so many megabytes of rows of 500 bytes, a thousand a group, and each night one more of changes, four a group: most are
+updates, and as many rows come as go. Each line is of one night: the feed's bytes before and behind its compaction; the processor
+time and the peak memory of `follow`, of `compact`, and of `run` over the feed that the two read, which is run in these nights
+alone. The last line is the least and the most of all nights. It ends where the compacted feed's rows, or the checkpoint's, aren't those of all that was ever in the feed.
+"""
+import os
+import random
+import sys
+import tempfile
+
+sys.dont_write_bytecode = True
+HERE = os.path.dirname(os.path.abspath(__file__))
+sys.path[:0] = [HERE, os.path.join(HERE, "../../record")]
+from measure import timed  # noqa: E402
+from recorder.wire import FIELDS, GTID, ROWS, EventType, change_bytes, columns_bytes, event_bytes, message_bytes, row_bytes, text_bytes  # noqa: E402
+
+WORKFLOW = """{"keyspace": "k", "tables": [{"name": "t", "columns": [["id", "INT64"], ["v", "VARBINARY"]], "key": ["id"]}],
+ "streams": [{"shard": "-", "filter": {"rules": [{"match": "t", "filter": ""}]}}]}"""
+SHOWN = 10
+"""Each night of this number, and the first, has a line."""
+SIZE, A_GROUP, CHANGED = 500, 1000, 4
+
+
+class Source:
+    """The rows of a table, and the groups that change them."""
+
+    def __init__(self):
+        self.random, self.group, self.rows, self.first = random.Random(30), 0, {}, 0
+
+    def row(self, key):
+        return row_bytes((b"%d" % key, self.rows[key]))
+
+    def change(self):
+        """One row's change: of ten one comes, one goes, and the others are updated."""
+        key, way = self.first + self.random.randrange(len(self.rows)), self.random.randrange(10)
+        before = None
+        if way == 0:
+            key = self.first + len(self.rows)
+        elif way == 1:
+            key, self.first = self.first, self.first + 1
+        if way:
+            before = self.row(key)
+        if way == 1:
+            del self.rows[key]
+            return change_bytes(before, None)
+        self.rows[key] = self.random.randbytes(SIZE)
+        return change_bytes(before, self.row(key))
+
+    def message(self, changes, *fields):
+        self.group += 1
+        position = f"MySQL56/3e11fa47-71ca-11e1-9e33-c80aa9429562:1-{self.group}"
+        rows = event_bytes(EventType.ROW, 0, ROWS, text_bytes(1, "t"), *changes)
+        return message_bytes(event_bytes(EventType.BEGIN, 0), *fields, rows, event_bytes(EventType.GTID, 0, GTID, position.encode()), event_bytes(EventType.COMMIT, 0))
+
+    def first_rows(self, size):
+        """The messages of so many bytes of rows."""
+        field = [event_bytes(EventType.FIELD, 0, FIELDS, columns_bytes("t", [("id", 265), ("v", 10262)]))]
+        while len(self.rows) * SIZE < size:
+            keys = range(len(self.rows), len(self.rows) + A_GROUP)
+            self.rows |= {key: self.random.randbytes(SIZE) for key in keys}
+            yield self.message([change_bytes(None, self.row(key)) for key in keys], *field)
+            field = []
+
+    def night(self, size):
+        there = 0
+        while there < size:
+            message = self.message([self.change() for _ in range(CHANGED)])
+            there += len(message)
+            yield message
+
+
+def main():
+    program, *given = sys.argv[1:]
+    nights, megabytes, nightly = (int(word) for word in (*given, *("30", "200", "1")[len(given):]))
+    with tempfile.TemporaryDirectory(prefix="vrepl-nights-") as folder:
+        measure(program, nights, megabytes * 10**6, nightly * 10**6, lambda name: os.path.join(folder, name))
+
+
+def append(data, *names):
+    data = b"".join(data)
+    for name in names:
+        with open(name, "ab") as file:
+            file.write(data)
+
+
+def measure(program, nights, size, nightly, path):
+    workflow, feed, whole, saved, out = map(path, ("workflow", "feed", "whole", "saved", "out"))
+    with open(workflow, "w", encoding="utf-8") as file:
+        file.write(WORKFLOW)
+    source, seen = Source(), []
+    append(source.first_rows(size), feed, whole)
+    timed([program, "follow", "--save-to", saved, workflow, feed], os.devnull, out)
+    print("| Night | The feed's bytes | Compacted | `follow` | `compact` | `run` over the feed | Peak memory of `follow` / `compact` / `run` |")
+    print("|---|---|---|---|---|---|---|", flush=True)
+    for night in range(1, nights + 1):
+        append(source.night(nightly), feed, whole)
+        before = os.path.getsize(feed)
+        is_shown = night == 1 or night % SHOWN == 0
+        ran = timed([program, "run", workflow, feed], os.devnull, path("run")) if is_shown else None
+        followed = timed([program, "follow", "--checkpoint", saved, "--save-to", saved, workflow, feed], os.devnull, out)
+        compacted = timed([program, "compact", "--checkpoint", saved, "--save-to", feed, workflow, feed], os.devnull, out)
+        seen.append((before, os.path.getsize(feed), followed, compacted, ran))
+        if is_shown:
+            line(f"{night}", [seen[-1]])
+    line("all", seen)
+    check(program, workflow, [feed, whole], saved, path)
+
+
+def line(night, seen):
+    def spread(values, form):
+        least, most = form(min(values)), form(max(values))
+        return least if least == most else f"{least} to {most}"
+
+    sizes = [spread([one[at] for one in seen], lambda it: f"{it:,}") for at in (0, 1)]
+    used = [[one[at] for one in seen if one[at]] for at in (2, 3, 4)]
+    times = [spread([seconds for seconds, _ in of], lambda it: f"{it:.2f}") + " s" for of in used]
+    peaks = " / ".join(f"{max(memory for _, memory in of) / 1e6:.0f}" for of in used)
+    print("| " + " | ".join([night, *sizes, *times, f"{peaks} MB"]) + " |", flush=True)
+
+
+def check(program, workflow, feeds, saved, path):
+    """Ends where the rows differ of the feeds, or of the checkpoint over each."""
+    with open(path("dump"), "w", encoding="utf-8") as file:
+        file.write("dump\n")
+    dumps = []
+    for at, feed in enumerate(feeds):
+        dumps += [path(f"run{at}"), path(f"resume{at}")]
+        timed([program, "run", workflow, feed], os.devnull, dumps[-2])
+        timed([program, "resume", "--checkpoint", saved, workflow, feed], path("dump"), dumps[-1])
+    said = []
+    for dump in dumps:
+        with open(dump, "rb") as file:
+            said.append(file.read())
+    if len(set(said)) > 1 or said[0].count(b"\n") < 2:
+        sys.exit("the rows differ")
+
+
+if __name__ == "__main__":
+    if not sys.argv[1:] or sys.argv[1] == "--help":
+        sys.exit(__doc__)
+    main()
