@@ -32,7 +32,7 @@ def run(built, place, case):
         with open(os.path.join(place, name), "wb") as file:
             file.write(data)
     ran = subprocess.run([built, *case.words], input=case.stdin, capture_output=True, cwd=place, timeout=SECONDS, close_fds=False)
-    return ran.returncode, ran.stdout, ran.stderr
+    return ran.returncode, ran.stdout, program.without_place(ran.stderr)
 
 
 def judge(built, place, seed, number):

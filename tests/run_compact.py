@@ -7,11 +7,15 @@ usage: tests/run_compact.py PROGRAM [--seconds N] [--seed N]
 Of each case: `vrepl compact` prints what the plain model in tests/model prints, or is refused as that is. What it prints
 has the old groups from the base on, numbered on (`show`), and the same rows at the end (`run`). Checkpoints of boards that
 stand at the base or behind it resume over it and go on to the same checkpoint (`follow`), those before it are refused 118.
-Compacted once more at the same place it is byte for byte the same, and further on as the whole feed there. With
---save-to the same bytes stand in the file, which may be the feed's. A feed of which some bytes are broken is refused as
-`show` refuses it, and no file is left. The last line is 'N passed, M failed'.
+Scripts from such a checkpoint on get the same replies over both feeds, but for the groups' numbers. Under a workflow with
+other filters, and under one without the last table, the new feed has the same rows; a checkpoint of the latter gets the
+table over the new feed as over the old one. Compacted once more at the same place it is byte for byte the same, and further
+on as the whole feed there. With --save-to the same bytes stand in the file, which may be the feed's. A feed of which some
+bytes are broken is refused as `show` refuses it, and no file is left. Where a growth of memory is refused, or that one and
+all later ones, the same comes, or `refused 72` and nothing else. The last line is 'N passed, M failed'.
 """
 import argparse
+import json
 import os
 import random
 import re
@@ -21,6 +25,7 @@ import sys
 import tempfile
 import time
 
+import preloaded
 from model import Refused, checkpoint
 from model.board import Board
 from model.compact import compact
@@ -29,6 +34,8 @@ from model.random_case import Case
 from model.workflow import Workflow
 
 SECONDS, LONGEST = 20, 60
+
+ROOM = tempfile.TemporaryDirectory(prefix="vrepl-compact-")
 
 
 class Compacting(Case):
@@ -64,8 +71,9 @@ class Place:
         except FileNotFoundError:
             return None
 
-    def run(self, *words):
-        ran = subprocess.run([self.program, *words], capture_output=True, cwd=self.folder, timeout=LONGEST)
+    def run(self, *words, given=None, **variables):
+        how = {"input": given} if given is not None else {"stdin": subprocess.DEVNULL}
+        ran = subprocess.run([self.program, *words], capture_output=True, cwd=self.folder, timeout=LONGEST, env=os.environ | variables, **how)
         return ran.returncode, ran.stdout, ran.stderr
 
 
@@ -136,17 +144,30 @@ def judge(place, case, r):
     into = r.choice(["new", name])
     same("into a file", place.run(*words, f"--save-to={into}", "workflow", name), (0, line, b"") if line else wanted)
     same("the file", place.get(into), wanted[1] if line else data if into == name else None)
+    place.put(name, data)
+    growths(place, r, [*words, "workflow", name], wanted)
     if not line:
         return "refused " + wanted[2].split()[1].decode()
     if not feeds:
         return "compacted beside a feed that is refused"
     place.put("old", data)
     place.put(name, wanted[1])
-    compare(place, case, names, s, feeds, how, there)
+    compare(place, case, names, s, feeds, how, there, r)
     return "compacted"
 
 
-def compare(place, case, names, s, feeds, how, there):
+def growths(place, r, words, wanted):
+    """Refuses some of the growths of a call, each alone or with all later ones."""
+    library = {"LD_PRELOAD": preloaded.library(ROOM.name, "refuse_growth")}
+    same("beside a library", place.run(*words, **library, GROWTHS="growths"), wanted)
+    for k in r.sample(range(1, int(place.get("growths")) + 1), min(3, int(place.get("growths")))):
+        k = f"{k}{r.choice(['', '+'])}"
+        said = place.run(*words, **library, REFUSE_GROWTH=k)
+        if said != (1, b"", b"refused 72\n"):
+            same(f"where growth {k} is refused", said, wanted)
+
+
+def compare(place, case, names, s, feeds, how, there, r):
     """Compares the new feed, which stands in the place of the old one, with that."""
     name, old = names[s], [*names]
     old[s] = "old"
@@ -176,6 +197,60 @@ def compare(place, case, names, s, feeds, how, there):
         elif before == 0:
             same("follow", after, (0, b"", b""))
             same("its checkpoint", place.get("other"), place.get("one"))
+        if board.streams[s].applied > fewer and before == 0:
+            scripts(place, case, case.again(board), names, old, s, fewer, r)
+    others(place, case, names, old)
+
+
+def lowered_reply(line, fewer):
+    """A reply of the stream, with its groups numbered behind so many fewer."""
+    return re.sub(rb"\b(read|repeat|applied|snapshot|restarted|expected|groups?) (\d+)", lambda it: it[1] + b" %d" % (int(it[2]) - fewer), line)
+
+
+def scripts(place, case, board, names, old, s, fewer, r):
+    """Takes the same steps at random over both feeds, from a checkpoint on."""
+    steps = []
+    for _ in range(r.choice([3, 8, 20])):
+        words = case.likely_step(board) if r.random() < 0.8 else case.any_step(board)
+        if words[0] == "dump" or words[1] == s and words[0] in ("offer", "open") and words[2] <= fewer:
+            continue
+        board.reply(tuple(words))
+        steps.append(words)
+    steps += [["state", it] for it in range(len(names))]
+    later = [[*it[:2], it[2] - fewer] if it[1] == s and it[0] in ("offer", "open") else it for it in steps]
+
+    def replies(names, steps):
+        script = "".join(" ".join(map(str, it)) + "\n" for it in [*steps, ["dump"]]).encode()
+        status, said, fault = place.run("resume", "--checkpoint=checkpoint", "workflow", *names, given=script)
+        return (status, fault), said.split(b"\n")
+
+    (before, wanted), (after, said) = replies(old, steps), replies(names, later)
+    if before != (0, b""):
+        return
+    wanted[: len(steps)] = [lowered_reply(line, fewer) if it[1] == s else line for it, line in zip(steps, wanted)]
+    same("a script", (after, said), (before, wanted))
+
+
+def others(place, case, names, old):
+    """The feed under workflows with other filters and fewer tables, and a table more for a target."""
+    try:
+        said = json.loads(case.said)
+        open_to_all = said | {"streams": [it | {"filter": {"rules": [{"match": "/.*", "filter": ""}]}} for it in said["streams"]]}
+        narrow = open_to_all | {"tables": said["tables"][:-1]}
+    except (ValueError, KeyError, TypeError):
+        return
+    for what, other in ("another filter", open_to_all), ("a table less", narrow):
+        place.put("another", json.dumps(other).encode())
+        wanted = place.run("run", "--alone", "another", *old)
+        if wanted[0] == 0:
+            same(f"run under {what}", place.run("run", "--alone", "another", *names), wanted)
+    if place.run("follow", "--alone", "--save-to=narrow", "another", *old)[0]:
+        return
+    place.put("another", json.dumps(open_to_all).encode())
+    words = ["follow", "--alone", "--checkpoint=narrow"]
+    if place.run(*words, "--save-to=one", "another", *old)[0] == 0:
+        same("a table more", place.run(*words, "--save-to=other", "another", *names), (0, b"", b""))
+        same("its checkpoint", place.get("other"), place.get("one"))
 
 
 def broken(place, case, r):

@@ -285,6 +285,7 @@ def theorem_faults():
 # Who prints each table of bench/figures.json; all of a crate's figures but the last column are ./build's.
 PRINTED_BY = {
     "gate": "test", "crates": "build", "checkpoint": "bench/checkpoint/measure.py", "checkpoint shapes": "bench/checkpoint/counted.py",
+    "nights": "bench/checkpoint/nights.py",
     "run shares": "bench/run/shares.py", "large pages": "bench/shapes/large_pages.py",
 }  # fmt: skip
 

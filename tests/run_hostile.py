@@ -45,7 +45,8 @@ class Room:
     def fault(self, words, files, stdin=b""):
         """Answers how the program's answer differs from the model's, or nothing."""
         wanted = program.answers(words, files, stdin)
-        said = self.run(words, files, stdin)
+        status, out, error = self.run(words, files, stdin)
+        said = status, out, program.without_place(error)
         return None if said in wanted else f"{said}, wanted {wanted}"
 
 
@@ -315,7 +316,7 @@ def speaking_names(room):
     yield bool(set(out) - {10, *range(32, 127)}) and f"bytes that aren't printable: {out}"
     lines = [re.sub(rb"\?+", b"?", it) for it in out.splitlines()]
     wanted = [b"rule stream 0 table ", b"rule stream 0 table ", b"stream 0 file feed?[2J?warning shard s", b"table t", b"table nnn"]
-    wanted += [b"warning stream 0 table nnn", b"warning stream 0 no table u"]
+    wanted += [b"note stream 0 table nnn", b"warning stream 0 no table u"]
     yield len(lines) != len(wanted) and f"{len(lines)} lines, wanted {len(wanted)}: {out}"
     yield next((f"line {it}, wanted {begin}" for it, begin in zip(lines, wanted) if not it.startswith(begin)), None)
     yield max(map(len, lines)) > 300 and "a name of more than 200 bytes"

@@ -422,6 +422,20 @@ def compared(trial: Trial) -> None:
     comparing.compared(trial)
 
 
+def compacted(trial: Trial) -> None:
+    """Feeds that are cut with their notes."""
+    from record import compacting
+
+    compacting.compacting(trial)
+
+
+def repaired(trial: Trial) -> None:
+    """The statements by which a target's rows are to be the source's."""
+    from record import repairs
+
+    repairs.repairs(trial)
+
+
 def paged(trial: Trial) -> None:
     """The page of differences."""
     from record import pages
@@ -439,7 +453,7 @@ def from_vtgate(trial: Trial) -> None:
 STEPS: list[list[Callable[[Trial], None]]] = [
     [statements, stops, prepared, reached, harmless, random_tables, merged_and_split, by_hash, kinds, portions, grown, late, workflows, from_vtgate,
      operated, living],
-    [kept, anew, large, compared, paged],
+    [kept, anew, large, compared, compacted, repaired, paged],
 ]  # fmt: skip
 """Side by side, each over a server of its own: a step may need what one before it has made."""
 

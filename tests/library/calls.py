@@ -109,7 +109,8 @@ def program():
                 file.write(content)
         assert vrepl.run(*paths, alone=True) == dump
     report = vrepl.check(workflow, feed)
-    assert report.warned and (report.said["streams"][0]["groups"], len(report.said["streams"][0]["moves"])) == (3, 1)
+    assert not report.warned and report.said["noted"] and vrepl.check(workflow, feed, strict=True).warned
+    assert (report.said["streams"][0]["groups"], len(report.said["streams"][0]["moves"])) == (3, 1)
     assert vrepl.check(workflow, vrepl.Feed({"t": {"id": "INT64", "v": "VARCHAR"}})).warned
 
     moved = vrepl.follow(workflow, feed, dump=True)

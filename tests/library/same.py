@@ -282,16 +282,20 @@ def workflows(chance):
 DETAILS = re.compile(r"refused (\d+) ?(.*)")
 
 
+# Refusals of a workflow whose place in the file the program alone tells: the library has those of 52 and 56.
+UNPLACED = ("51", "53", "54", "55", "57")
+
+
 def checked(workflow, count):
     """What `check` says of a workflow with so many feeds without a group: how many its streams are, and the lines of its rules
-    and of its file's warnings; or its refusal's number, and where the fault is."""
+    and of what is told of its file; or its refusal's number, and where the fault is."""
     with _file_of(workflow) as path, _file_of(b"") as empty:
         ran = subprocess.run([program(), "check", path, *[empty] * count], capture_output=True, check=False)
     if ran.returncode in (0, 3):
-        return count, [it for it in ran.stdout.decode().splitlines() if it.startswith(("rule ", "warning workflow "))]
+        return count, [it for it in ran.stdout.decode().splitlines() if it.startswith(("rule ", "note workflow ", "warning workflow "))]
     [line, *more] = ran.stderr.decode(errors="replace").split("\n")[:-1]
     number, details = DETAILS.fullmatch(line).groups()
-    return -int(number), more[0].removeprefix("place ") if more else details
+    return -int(number), more[0].removeprefix("place ") if more and number not in UNPLACED else details
 
 
 def tilings(chance):

@@ -82,27 +82,44 @@ class Stream:
             line += b" first %s last %s" % (self.places[0], self.places[-1])
         return [line] + [b"table %s groups %d passing %d rows %d" % (shown(table), *counts) for table, *counts in self.tables]
 
-    def warnings(self):
-        warned = []
-        if not self.groups:
-            warned.append(b"no groups")
-        else:
-            intervals = list(self.groups[0][0].values())
-            if len(intervals) != 1 or list(intervals[0]) != [(1, 1)]:
-                warned.append(b"starts at " + self.places[0])
+    def starts_late(self):
+        intervals = list(self.groups[0][0].values()) if self.groups else []
+        return bool(self.groups) and (len(intervals) != 1 or list(intervals[0]) != [(1, 1)])
+
+    def of_kind(self, why):
+        """The lines of the changes that are told for a reason."""
+        count, first = counted([it for it in self.findings if it[0] == why])
+        told = [b"%s group %d change %d table %s key %s at %s" % (*it[:3], shown(it[3]), key_text(it[4]), self.places[it[1] - 1]) for it in first]
+        return [why + b" " + it for it in count] + told
+
+    def notes(self):
+        noted = [b"starts at " + it for it in self.places[: self.starts_late()]]
         for table, touching, passing, _ in self.tables:
             if not touching:
-                warned.append(b"table %s untouched" % shown(table))
+                noted.append(b"table %s untouched" % shown(table))
             elif not passing:
-                warned.append(b"table %s passes no row" % shown(table))
+                noted.append(b"table %s passes no row" % shown(table))
+        return [b"note stream %d %s" % (self.number, it) for it in noted + self.of_kind(b"moved")]
+
+    def warnings(self):
+        warned = [b"no groups"] * (not self.groups)
         warned += [b"no table " + shown(one) + (b" nearest " + shown(it) if it else b"") for one, it in self.unknown]
-        for why in WHY:
-            count, first = counted([it for it in self.findings if it[0] == why])
-            warned += [why + b" " + it for it in count]
-            warned += [b"%s group %d change %d table %s key %s at %s" % (*it[:3], shown(it[3]), key_text(it[4]), self.places[it[1] - 1]) for it in first]
+        for why in WHY[:3]:
+            warned += self.of_kind(why)
         count, first = counted(self.skipped)
         warned += [b"skipped " + it for it in count] + [b"skipped message %d %s %s" % it for it in first]
         return [b"warning stream %d %s" % (self.number, it) for it in warned]
+
+    def items(self):
+        """All that is told, each kind of each table once, with how many there are of it."""
+        told = [("fault", "no_groups", "", not self.groups), ("note", "starts", "", self.starts_late())]
+        for table, touching, passing, _ in self.tables:
+            told += [("note", "untouched", table, not touching), ("note", "no_row", table, bool(touching) and not passing)]
+            for why in WHY:
+                count = sum(it[0] == why and it[3] == table for it in self.findings)
+                told.append(("note" if why == b"moved" else "fault", why, table, count))
+        told += [("fault", "no_table", one, 1) for one, _ in self.unknown] + [("fault", "skipped", "", len(self.skipped))]
+        return [item(*it, stream=self.number) for it in told if it[-1]]
 
     def as_object(self):
         def found(is_move):
@@ -123,6 +140,10 @@ class Stream:
             "moves": found(True),
             "skipped": [dict(zip(("message", "type", "statement"), it)) for it in self.skipped],
         }
+
+
+def item(is_class, kind, table, count, stream=None, path=None):
+    return {"class": is_class, "kind": kind, "stream": stream, "table": table or None, "path": path, "count": int(count)}
 
 
 def key_parts(key):
@@ -147,22 +168,27 @@ def decoded(said):
     return said.decode() if isinstance(said, bytes) else said
 
 
-def whole_object(workflow, streams, text, warned):
+def whole_object(workflow, streams, text, warned, noted):
     twice = touched_twice(streams)
+    told = [one for it in streams for one in it.items()]
     if twice:
         (table, key), who = twice
         twice = {"table": workflow.tables[table].name, "key": key_parts(key), "streams": who}
+        told.append(item("fault", "touched", twice["table"], 1, stream=who[0]))
+    told += [item("note" if why in file.MAY_STAND else "fault", why, table, 1, path=path) for path, why, table in file.notes(text)]
     said = {
         "rules": [{"stream": i, "table": table, "rows": rows} for i, table, rows in file.rules(text)],
         "streams": [it.as_object() for it in streams],
         "touched": twice,
+        "told": told,
         "notes": [{"path": path, "why": why, "table": table or None} for path, why, table in file.notes(text)],
+        "noted": noted,
         "warned": warned,
     }
     return json_line(decoded(said))
 
 
-def check(workflow, feeds, names, datas, text, as_json=False):
+def check(workflow, feeds, names, datas, text, as_json=False, is_strict=False):
     """The status and the text, where the workflow's file has this text."""
     board = Board(workflow, feeds)
     for s, feed in enumerate(feeds):
@@ -172,13 +198,15 @@ def check(workflow, feeds, names, datas, text, as_json=False):
             except Refused as bad:
                 raise Refused(90, b"".join(bad.line.partition(b" cause ")[1:])[:-1].split(b" table")[0]) from None
     streams = [Stream(workflow, board, s, *it) for s, it in enumerate(zip(names, datas))]
+    noted = [line for it in streams for line in it.notes()]
     warned = [line for it in streams for line in it.warnings()]
     twice = touched_twice(streams)
     if twice:
         (table, key), who = twice
         warned.append(b"warning streams %d and %d touch table %s key %s" % (*who, shown(workflow.tables[table].name), key_text(key)))
-    warned += file.note_lines(file.notes(text))
+    of_file = file.note_lines(file.notes(text))
     lines = [b"rule stream %d table %s %s" % (i, shown(table.encode()), printable(rows)) for i, table, rows in file.rules(text)]
-    lines += [line for it in streams for line in it.lines()] + warned
-    said = whole_object(workflow, streams, text, bool(warned)) if as_json else b"".join(line + b"\n" for line in lines)
-    return (3 if warned else 0), said
+    lines += [line for it in streams for line in it.lines()] + noted + warned + of_file
+    is_warned, is_noted = (any(it.startswith(word) for it in noted + warned + of_file) for word in (b"warning ", b"note "))
+    said = whole_object(workflow, streams, text, is_warned, is_noted) if as_json else b"".join(line + b"\n" for line in lines)
+    return (3 if is_warned or (is_strict and is_noted) else 0), said

@@ -8,25 +8,23 @@ from .workflow import Workflow
 ROWS, BYTES = 1000, 1 << 20
 
 
-class Front:
-    """The messages up to the last place, behind no group beyond a position, where a message ends outside of transactions."""
+class Cut:
+    """A feed in two, behind the event with which its group of a number ends."""
 
-    def __init__(self, data, feed, last):
-        self.data, self.feed, self.last = data, feed, last
+    def __init__(self, data, feed, number):
+        self.data, self.feed, self.left = data, feed, number
         self.open, self.inside, self.reached, self.fields = False, None, None, {}
-        self.end = self.place = None
-        at, known = 0, {}
-        while at < len(data):
+        at = 0
+        while self.left:
             size, after = wire.varint(data, at, len(data))
             at = after + size
-            if not all(self.goes_on(data[start:end]) for start, end in self.events((after, at))):
-                break
-            if not self.open and self.reached:
-                self.end, self.place, known = at, self.reached, dict(self.fields)
-        self.fields = known
+            events = self.events((after, at))
+            while events and self.left:
+                self.goes_on(events.pop(0))
+        self.others, self.rest = events, data[at:]
 
     def events(self, span):
-        return [payload for number, kind, payload in wire.fields(self.data, span)[0] if (number, kind) == (1, 2)]
+        return [self.data[slice(*payload)] for number, kind, payload in wire.fields(self.data, span)[0] if (number, kind) == (1, 2)]
 
     def goes_on(self, raw):
         event = wire.Event(raw, (0, len(raw)))
@@ -35,27 +33,25 @@ class Front:
         elif event.type == wire.ROLLBACK:
             self.open = False
         elif event.type == wire.COMMIT:
-            ended, self.open, self.inside = self.inside, False, None
-            return self.ends(ended) if ended else True
+            if self.open:
+                self.ends(self.inside)
+            self.open = False
         elif event.type == wire.FIELD:
             name = self.feed.table(event)
             self.fields.pop(name, None)
             self.fields[name] = event.table, raw
         elif event.type in (wire.GTID, wire.VGTID):
             place = raw, read_position(event.gtid if event.type == wire.GTID else event.entries[0][2])
-            if not self.open:
-                return self.ends(place)
-            self.inside = place
-        return True
+            if self.open:
+                self.inside = place
+            else:
+                self.ends(place)
 
     def ends(self, place):
-        """A block ends; whether its group isn't beyond the position."""
-        if self.reached and is_within(place[1], self.reached[1]):
-            return True
-        if not is_within(place[1], self.last):
-            return False
-        self.reached = place
-        return True
+        """A block ends: it is a group unless it is a repeat."""
+        if not is_within(place[1], self.reached[1] if self.reached else {}):
+            self.reached = place
+            self.left -= 1
 
 
 def left(board, s, count):
@@ -115,19 +111,22 @@ def compact(is_hex, workflow, data, s=0, at=None, checkpoints=(), drop_unknown=F
     whose = workflow.keyspace, workflow.shards[s]
     feed = Feed(data, *whose, workflow.columns)
     number = last_number(workflow, feed, s, at, checkpoints)
-    front = Front(data, feed, feed.groups[number - 1][0]) if number else None
-    groups = Feed(data[: front.end], *whose).groups if front and front.end else []
-    if not groups or groups[-1][0] != front.place[1]:
+    if not number:
         raise Refused(91)
     names = [table.name for table in workflow.tables]
+    groups = Feed(data, *whose).groups[:number]
     if not drop_unknown and any(it[0] not in names for _, changes in groups for it in changes):
         raise Refused(123)
     board = Board(workflow, [feed] * len(workflow.shards))
-    rows = left(board, s, len(groups))
-    out = [making.frame(*[raw for _, raw in front.fields.values()], making.event(wire.BEGIN))]
+    rows = left(board, s, number)
+    cut = Cut(data, feed, number)
+    out = [making.frame(*[raw for _, raw in cut.fields.values()], making.event(wire.BEGIN))]
     for table, changes in portions(rows):
-        name = next(name for short, (name, _) in front.fields.items() if short == names[table])
+        name = next(name for short, (name, _) in cut.fields.items() if short == names[table])
         out.append(making.frame(making.row_event(name, changes)))
-    new = b"".join([*out, making.frame(front.place[0], making.event(wire.COMMIT)), data[front.end :]])
-    told = len(groups), print_position(groups[-1][0]), len(rows), len(data), len(new)
+    out.append(making.frame(cut.reached[0], making.event(wire.COMMIT)))
+    if cut.others:
+        out.append(making.frame(*cut.others))
+    new = b"".join([*out, cut.rest])
+    told = number, print_position(groups[-1][0]), len(rows), len(data), len(new)
     return new, b"compacted %d groups up to %s into %d rows: %d bytes to %d\n" % told

@@ -1,4 +1,6 @@
 """What the program answers to its words, files and standard input: status, output and error."""
+import re
+
 from . import Refused, checkpoint
 from .board import Board, dump, key_text, read_script
 from .check import check
@@ -6,6 +8,14 @@ from .feed import Feed, bytes_of_hex, show
 from .told import place
 from .vdiff import vdiff
 from .workflow import Workflow
+
+# Refusals of a workflow whose place the model doesn't know: tests of plan_tests hold these.
+UNPLACED = re.compile(rb"(refused (?:51|53|54|55|57)(?: .*)?\n)place .+\n")
+
+
+def without_place(error):
+    """What is said on standard error, without the place where the model doesn't know it."""
+    return UNPLACED.sub(rb"\1", error)
 
 
 def opened(is_hex, workflow, feeds):
@@ -90,11 +100,11 @@ def inputs(command, names, files, stdin):
     return [stdin if at == hyphen else files[name] for at, name in enumerate(names)]
 
 
-def checked(is_hex, as_json, text, names, feeds):
+def checked(is_hex, as_json, is_strict, text, names, feeds):
     """What `check` says; a refusal's line has the place behind it, if it has one."""
     try:
         said = opened(is_hex, text, feeds)
-        return check(*said, names, [bytes_of_hex(it) if is_hex else it for it in feeds], text, as_json)
+        return check(*said, names, [bytes_of_hex(it) if is_hex else it for it in feeds], text, as_json, is_strict)
     except Refused as refused:
         number = int(refused.line.split()[1])
         workflow = Workflow(text) if number in (81, 82, 85) else None
@@ -121,7 +131,7 @@ def said_by(words, files, stdin):
     if command == "run":
         return (run_alone if "--alone" in options else run_in_threads)(is_hex, policy, given[0], given[1:])
     if command == "check":
-        return checked(is_hex, "--json" in options, given[0], [it.encode() for it in names[1:]], given[1:])
+        return checked(is_hex, "--json" in options, "--strict" in options, given[0], [it.encode() for it in names[1:]], given[1:])
     if command == "resume":
         return resume(is_hex, files[values["checkpoint"]], given[0], given[1:], stdin)
     if command == "join":

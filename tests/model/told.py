@@ -74,9 +74,13 @@ def do_tile(ranges):
 FLAWS = {"ignored": b"isn't read", "unmatched": b"matches no table", "undecided": b"has no rule for table ", "untiled": b"has ranges that don't tile"}
 
 
+MAY_STAND = ("undecided",)
+
+
 def note_lines(told):
     """The lines of what is told of a file."""
-    return [b"warning workflow %s %s%s" % (shown(path.encode()), FLAWS[why], shown(table.encode())) for path, why, table in told]
+    word = {why: b"note" if why in MAY_STAND else b"warning" for why in FLAWS}
+    return [b"%s workflow %s %s%s" % (word[why], shown(path.encode()), FLAWS[why], shown(table.encode())) for path, why, table in told]
 
 
 def notes(data):

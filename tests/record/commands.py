@@ -39,7 +39,7 @@ class Done:
 
     def why_not_stopped(self, text: str = "") -> str | None:
         """Nothing if it ended with status 1 and one line that has the text in it."""
-        is_line = self.err.partition(": ")[0] in ("feed", "compare") and self.err.count("\n") == 1 and self.err.isprintable() is False and self.err[:-1].isprintable()
+        is_line = self.err.partition(": ")[0] in ("feed", "compare", "compact") and self.err.count("\n") == 1 and self.err.isprintable() is False and self.err[:-1].isprintable()
         return None if self.status == 1 and is_line and text in self.err and "itself" not in self.err else f"{self}, and not {text!r}"
 
 
@@ -138,6 +138,7 @@ def command(name: str = "feed"):
         import gettext  # noqa: F401
 
         import recorder.behind  # noqa: F401
+        import recorder.compacting  # noqa: F401
         import recorder.comparing  # noqa: F401
         import recorder.forever  # noqa: F401
         import recorder.logins  # noqa: F401
@@ -194,10 +195,10 @@ def used_by(*words: str, **told: str) -> tuple[int, float]:
     return int(memory), float(seconds)
 
 
-def calls_of(calls: list[str], *words: str) -> int:
+def calls_of(calls: list[str], *words: str, name: str = "feed") -> int:
     """How many of these system calls a command makes."""
     with tempfile.TemporaryFile() as file:
-        done = run(*words, prepare=At(0, lambda *_: None, file=file.fileno(), calls=calls))
+        done = run(*words, prepare=At(0, lambda *_: None, file=file.fileno(), calls=calls), name=name)
         if done.status:
             raise RuntimeError(f"{words}: {done}")
         file.seek(0)

@@ -114,7 +114,7 @@ def change(schema: str, side: int, chance: random.Random) -> tuple[str, tuple]:
 
 def compared(trial) -> None:
     begin(trial)
-    for step in rounds, differences, beside_a_recording, beside_xa, two_at_once, interrupted, without_room, of_a_target, refused:
+    for step in rounds, differences, beside_a_recording, beside_xa, amid_commits, two_at_once, interrupted, without_room, of_a_target, refused:
         step(trial)
     end(trial)
     of_two_servers(trial)
@@ -247,6 +247,50 @@ def amid_xa(trial, name: str, *words: str) -> None:
 
 def beside_xa(trial) -> None:
     amid_xa(trial, "a source", *trial.here, trial.both, *trial.feeds, *SCHEMAS)
+
+
+def amid_commits(trial) -> None:
+    """XA COMMIT is in the log before its rows are seen: no snapshot is taken that stands close behind one, or amid one that stood
+    prepared before."""
+    from recorder import snapshot
+    from recorder.server import Login, end_place
+
+    login, looks = Login.of(trial.server.socket, "root"), []
+    row = f"REPLACE INTO {SCHEMAS[0]}.t (id) VALUES (202)"
+    prepared = [f"XA START 'short'; {row}; XA END 'short'; XA PREPARE 'short'", "XA COMMIT 'short'"]
+
+    def look(committed: str) -> bool:
+        """Whether a snapshot was taken at once between which and the look at the log's end that was run."""
+        looks.clear()
+
+        def looked(connection):
+            looks.append(end_place(connection))
+            if len(looks) == 1:
+                trial.server.sql(committed)
+            return looks[-1]
+
+        snapshot.end_place = looked
+        try:
+            connection, place = snapshot.opened_at(login)
+        finally:
+            snapshot.end_place = end_place
+        connection.close()
+        return len(looks) == 1 and place != looks[0]
+
+    found = [look(row), look("; ".join(prepared)), look(f"{row}; FLUSH BINARY LOGS; {row}"), look(f"FLUSH BINARY LOGS; {'; '.join(prepared)}; {row}")]
+    trial.check("compared, snapshots amid commits", None if found == [True, False, True, False] else f"{found}")
+    with pymysql.connect(unix_socket=trial.server.socket, user="root", autocommit=True) as connection, connection.cursor() as cursor:
+        for statement in prepared[0].split("; "):
+            cursor.execute(statement)
+        begun = time.monotonic()
+        snapshot.opened_at(login)[0].close()
+        stands, late = time.monotonic() - begun, threading.Timer(snapshot.STANDS * 1.5, cursor.execute, [prepared[1]])
+        late.start()
+        begun = time.monotonic()
+        snapshot.opened_at(login)[0].close()
+        late.join()
+    fine = stands > 2 * snapshot.STANDS and time.monotonic() - begun > 1.5 * snapshot.STANDS
+    trial.check("compared, snapshots beside a prepared one", None if fine else f"{stands}, {time.monotonic() - begun}")
 
 
 def two_at_once(trial) -> None:

@@ -50,8 +50,8 @@ def targets(trial) -> None:
         "a feed of other columns": ["--targets=-80,80-", *VINDEXES, f"--feeds={feeds[0]},{trial.path('other.feed')}", *tables_of(SCHEMAS[0])],
         "no program": ["--targets=-80,80-", *all_of, "--program=/nowhere"],
     }  # fmt: skip
-    lines = ["ranges that leave a gap or overlap of table ", "ranges that leave a gap or overlap of table ", "target -80 alone: ", "target 80- twice: ",
-             "target -40: refused 55 stream 0 rule 0", "target -80: refused 85; place stream 1 file ", "no program at /nowhere: "]  # fmt: skip
+    once = "targets that don't have each row once: table "
+    lines = [once, once, once, once, "target -40: refused 55 stream 0 rule 0", "target -80: refused 85; place stream 1 file ", "no program at /nowhere: "]  # fmt: skip
     with open(trial.path("other.feed"), "wb") as file:
         file.write(_with_another_column(feeds[1]))
     for (name, said), line in zip(refusals.items(), lines):
