@@ -1,7 +1,7 @@
 //! Whether a group is the one that is asked for, and whether two are the same on their first tables.
 
 use crate::groups::ONE_ROW;
-use crate::opening::{EVERY_ROW, prepared};
+use crate::opening::{EVERY_ROW, opened, prepared};
 use crate::prepared::{BY_NUMBER, SECOND_TABLE, THREE_GROUPS};
 use source_feed::FeedFault;
 use std::alloc::Global;
@@ -20,6 +20,21 @@ fn fits_its_own(alloc: Global) -> Result<bool, FeedFault> {
 #[test]
 fn group_fits_its_plan_and_number(rt: HostRuntime) {
     assert!(rt; matches!(fits_its_own(rt.alloc()), Ok(true)));
+}
+
+/// A feed of three groups that is ended at a number: how many it has, and whether the second of them is there.
+fn ended_at(alloc: Global, number: u32) -> Result<(usize, bool), FeedFault> {
+    let mut feed = opened(alloc, EVERY_ROW, THREE_GROUPS)?;
+    feed.end_at(number);
+    Ok((feed.len(), feed.prepare(alloc, 2).is_ok()))
+}
+
+#[test]
+fn feed_ends_at_a_group(rt: HostRuntime) {
+    assert!(rt; matches!(ended_at(rt.alloc(), 0), Ok((0, false))));
+    assert!(rt; matches!(ended_at(rt.alloc(), 1), Ok((1, false))));
+    assert!(rt; matches!(ended_at(rt.alloc(), 2), Ok((2, true))));
+    assert!(rt; matches!(ended_at(rt.alloc(), 4), Ok((3, true))));
 }
 
 /// Groups of two feeds under a plan of two tables, and whether they are the same on the first so many.

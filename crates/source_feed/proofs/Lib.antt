@@ -9,6 +9,7 @@ pub mod GrammarLaws
 pub mod FirstFaultLaws
 pub mod MemoryLaws
 pub mod OrderLaws
+pub mod BeginningLaws
 pub mod DefinedLaws
 pub mod KeptLaws
 pub mod PlanLaws

@@ -1,6 +1,6 @@
 //! A feed under a plan.
 
-ghost use Rattle.std.specs.Prelude.{◌≡◌, ◌↔◌, ◌⊎◌, ◌^◌, ◌≤◌, [], length, IsTrue, IsOk, IfOk, IfErr, IfSome, Err, slice_get};
+ghost use Rattle.std.specs.Prelude.{◌≡◌, ◌↔◌, ◌⊎◌, ◌^◌, ◌≤◌, [], length, take, IsTrue, IsOk, IfOk, IfErr, IfSome, Err, slice_get};
 ghost use Rattle.std.specs.Result.{result_err};
 ghost use Rattle.std.specs.Option.{option_copied, option_map};
 ghost use Rattle.std.specs.Arc.{arc_value};
@@ -94,6 +94,14 @@ impl<'h> Feed<'h> {
         ensures { IsTrue result ↔ (self.now.groups ≡ []) }
     {
         self.groups.is_empty()
+    }
+
+    /// Keeps the first groups, up to that of a number, and gives up what stands behind it. Takes no memory.
+    pub fn end_at(&mut self, number: u32)
+        ensures groups { self.new.groups ≡ take number self.old.groups }
+        ensures plan { self.new.plan ≡ self.old.plan }
+    {
+        self.groups.truncate(number as usize);
     }
 
     /// The plan under which the feed was opened.
