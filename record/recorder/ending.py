@@ -1,7 +1,8 @@
 """How a command of the recorder ends: with one line and a status, whatever happens to it.
 
 SIGINT, SIGTERM and SIGHUP raise Ended where the program then is, but not within `Held`: what stands there is
-done as a whole, and they are raised behind it. This module is imported before all others of the recorder,
+done as a whole, and they are raised behind it; and where Python drops what is raised, in a callback of its own, they are raised
+once more a moment later. This module is imported before all others of the recorder,
 none of which it needs, so that a signal finds it also while they are read. An import is such a whole: a module of
 C that is ended amid its beginning can take Python down with it.
 """
@@ -15,6 +16,8 @@ from types import FrameType
 from .stop import Stop, on_one_line
 
 SIGNALS = (signal.SIGINT, signal.SIGTERM, signal.SIGHUP)
+AGAIN = 0.01
+"""The seconds behind which a signal is raised again that was dropped."""
 
 
 class Ended(BaseException):
@@ -37,6 +40,17 @@ class _Signals:
                 return bring(*words, **named)
 
         builtins.__import__ = brought
+        beside = sys.unraisablehook
+
+        def lost(told: object) -> None:
+            # Python drops what is raised in a callback of its own: it is raised again a moment later
+            if isinstance(told.exc_value, Ended):
+                signal.setitimer(signal.ITIMER_REAL, AGAIN)
+            else:
+                beside(told)
+
+        sys.unraisablehook = lost
+        signal.signal(signal.SIGALRM, lambda *_: self.check())
 
     def _meet(self, number: int, _: FrameType | None) -> None:
         self.asked = signal.Signals(number).name
@@ -45,6 +59,7 @@ class _Signals:
     def end(self) -> None:
         """From here on all is done: Python's own end, which gives each signal back its first meaning, has none to meet."""
         self.over = True
+        signal.signal(signal.SIGALRM, signal.SIG_IGN)
         for number in SIGNALS:
             if signal.getsignal(number) == self._meet:
                 signal.signal(number, signal.SIG_IGN)

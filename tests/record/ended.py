@@ -304,6 +304,14 @@ def meets_signals(process: int) -> bool:
     return bool(caught >> signal.SIGTERM - 1 & 1)
 
 
+class InCallback:
+    """SIGTERM comes in a callback of Python's own, which drops what is raised there."""
+
+    def __del__(self) -> None:
+        os.kill(os.getpid(), signal.SIGTERM)
+        time.sleep(0)
+
+
 def interrupted(trial, place: Place) -> None:
     """Ctrl-C at any time: in a process of Python's own, and at one reading from the server after the other."""
     words = with_out(place, os.path.join(place.folder, "new.feed"))
@@ -313,6 +321,9 @@ def interrupted(trial, place: Place) -> None:
             done = commands.run("--from-snapshot", *words, prepare=ReadStopped(number, lambda name=name: os.kill(os.getpid(), name)))
             why = done.why_not_stopped(f"ended by {name.name}: no feed was made") or (f"{place.left()} left" if place.left() else None)
             faults += [f"{name.name} at reading {number}: {why}"] if why else []
+        done = commands.run("--from-snapshot", *words, prepare=ReadStopped(number, InCallback))
+        why = done.why_not_stopped("ended by SIGTERM: no feed was made") or (f"{place.left()} left" if place.left() else None)
+        faults += [f"in a callback at reading {number}: {why}"] if why else []
     for _ in range(12):
         with subprocess.Popen([os.path.join(ROOT, "record/feed"), "--from-snapshot", *words], stdout=subprocess.PIPE, stderr=subprocess.PIPE,
                               env={**os.environ, "PYTHONDONTWRITEBYTECODE": "1"}) as one:  # fmt: skip
