@@ -13,8 +13,8 @@ const TURNS: u64 = 100_000_000;
 /// How long a thread sleeps between two looks, in microseconds.
 const NAP: u64 = 100;
 
-/// How often a thread looks for what comes in any run that is right: for some ten seconds at least.
-pub(crate) const LONG: u32 = 100_000;
+/// How often a thread looks for what comes in any run that is right: for three seconds at least.
+pub(crate) const LONG: u32 = 30_000;
 
 /// How often it looks for what doesn't: for some 50 milliseconds.
 pub(crate) const SHORT: u32 = 500;

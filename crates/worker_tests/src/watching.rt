@@ -6,7 +6,7 @@ use crate::runs::{has_ended, run_over};
 use filter_rule::Plan;
 use source_feed::Feed;
 use std::alloc::{AllocError, Global};
-use std::sync::atomic::{AtomicU64, Ordering};
+use std::sync::atomic::{AtomicBool, AtomicU64, Ordering};
 use std::sync::{Arc, Wait};
 use std::test::*;
 use std::thread::Threads;
@@ -53,13 +53,15 @@ impl Watch {
     }
 }
 
-/// A gate of two streams of 70 groups each, of which the first is copied before the second is read. Each is held with
-/// some of its groups until so many of its feed are prepared as there are where a reader is ahead of it.
+/// A gate of two streams of 70 groups each, whose first group is copied before the second is read. Each is held with
+/// some of its groups until so many of its feed are prepared as there are where a reader is ahead of it, unless one was held
+/// in vain before.
 #[derive(Drop)]
 struct Watching {
     first: Watch,
     second: Watch,
     seen: AtomicU64,
+    missed: AtomicBool,
 }
 
 impl Watching {
@@ -68,6 +70,7 @@ impl Watching {
             first: Watch::of(first)?,
             second: Watch::of(second)?,
             seen: AtomicU64::new(0),
+            missed: AtomicBool::new(false),
         })
     }
 
@@ -91,8 +94,13 @@ impl Gate for Watching {
         } else {
             &self.second
         };
+        if self.missed.load(Ordering::SeqCst) {
+            return;
+        }
         if watch.comes_to(rt, prepared) {
             self.seen.fetch_add(1, Ordering::SeqCst);
+        } else {
+            self.missed.store(true, Ordering::SeqCst);
         }
     }
 }
