@@ -219,15 +219,43 @@ pub(crate) fn many_feeds(alloc: Global) -> Result<Vec<u8>, AllocError> {
 /// What stands between the row of a group and the last two digits of its position.
 const BEFORE_ITS_DIGITS: &[u8] = b"/\n-\x08\x01\x1a)3e11fa47-71ca-11e1-9e33-c80aa9429562:1-";
 
-/// A feed of 70 groups of one new row each: 100 to 169, all `a`.
-pub(crate) fn seventy(alloc: Global) -> Result<Vec<u8>, AllocError> {
+/// A group: a row of this number and value, at a position whose last transaction has these digits.
+fn push_row(
+    feed: &mut Vec<u8>,
+    [hundreds, tens, ones]: [u8; 3],
+    value: u8,
+    digits: [u8; 2],
+) -> Result<(), AllocError> {
+    feed.extend_from_slice(BEFORE_ITS_ROW)?;
+    feed.extend_from_slice(&[hundreds, tens, ones, value])?;
+    feed.extend_from_slice(BEFORE_ITS_DIGITS)?;
+    feed.extend_from_slice(&digits)?;
+    feed.extend_from_slice(&[4, b'\n', 2, 8, 3])
+}
+
+/// A feed of 70 groups of one new row each, all `a`, whose numbers begin with this digit: as 100 to 169.
+pub(crate) fn seventy(alloc: Global, hundreds: u8) -> Result<Vec<u8>, AllocError> {
     let mut feed = Vec::new(alloc);
     for group in 0..70u8 {
         let (tens, ones) = (group / 10, group % 10);
-        feed.extend_from_slice(BEFORE_ITS_ROW)?;
-        feed.extend_from_slice(&[b'1', b'0' + tens, b'0' + ones, b'a'])?;
-        feed.extend_from_slice(BEFORE_ITS_DIGITS)?;
-        feed.extend_from_slice(&[b'1' + tens, b'0' + ones, 4, b'\n', 2, 8, 3])?;
+        push_row(
+            &mut feed,
+            [hundreds, b'0' + tens, b'0' + ones],
+            b'a',
+            [b'1' + tens, b'0' + ones],
+        )?;
     }
+    Ok(feed)
+}
+
+/// A feed of three groups: the row that a group of the 70 puts whose numbers begin with 1, as `z`; and rows 201 `z` and
+/// 202 `z`.
+pub(crate) fn meeting(alloc: Global, group: u8) -> Result<Vec<u8>, AllocError> {
+    let mut feed = Vec::new(alloc);
+    let before = group.saturating_sub(1) % 70;
+    let met = [b'1', b'0' + before / 10, b'0' + before % 10];
+    push_row(&mut feed, met, b'z', [b'1', b'1'])?;
+    push_row(&mut feed, *b"201", b'z', [b'1', b'2'])?;
+    push_row(&mut feed, *b"202", b'z', [b'1', b'3'])?;
     Ok(feed)
 }

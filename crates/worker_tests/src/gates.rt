@@ -3,10 +3,26 @@
 use std::hint::spin_loop;
 use std::sync::Wait;
 use std::sync::atomic::{AtomicBool, AtomicU64, Ordering};
+use std::thread::Parker;
+use std::time::Duration;
 use stream_worker::Gate;
 
 /// How often a call looks for the other stream.
 const TURNS: u64 = 100_000_000;
+
+/// How long a thread sleeps between two looks, in microseconds.
+const NAP: u64 = 100;
+
+/// How often a thread looks for what comes in any run that is right: for three seconds at least.
+pub(crate) const LONG: u32 = 30_000;
+
+/// How often it looks for what doesn't: for some 50 milliseconds.
+pub(crate) const SHORT: u32 = 500;
+
+/// The thread sleeps until the next look.
+pub(crate) fn nap<R: Wait>(rt: &R) {
+    Parker::new().park_timeout(rt, Duration::from_micros(NAP));
+}
 
 /// A gate that does nothing.
 #[derive(Drop)]
@@ -152,5 +168,52 @@ impl Gate for Turns {
         }
         self.keep(&self.second, number);
         self.wait_for_first();
+    }
+}
+
+/// A gate of two streams that have a row in common. Stream 1 is held with its group 1 until stream 0 comes with the
+/// group of a number; and stream 0 with that group until stream 1 has put its first rows and comes with group 3, or
+/// until it has looked for that so often.
+#[derive(Drop)]
+pub(crate) struct Crossing {
+    number: u32,
+    looks: u32,
+    first: AtomicBool,
+    second: AtomicBool,
+}
+
+impl Crossing {
+    pub(crate) fn new(number: u32, looks: u32) -> Crossing {
+        Crossing {
+            number,
+            looks,
+            first: AtomicBool::new(false),
+            second: AtomicBool::new(false),
+        }
+    }
+}
+
+/// Waits for a flag, with so many looks at most.
+fn wait_for<R: Wait>(rt: &R, flag: &AtomicBool, looks: u32) {
+    for _ in 0..looks {
+        if flag.load(Ordering::SeqCst) {
+            return;
+        }
+        nap(rt);
+    }
+}
+
+impl Gate for Crossing {
+    fn passed<R: Wait>(&self, rt: &R, stream: u8, number: u32) {
+        if stream == 0 && number == self.number {
+            self.first.store(true, Ordering::SeqCst);
+            wait_for(rt, &self.second, self.looks);
+        }
+        if stream == 1 && number == 1 {
+            wait_for(rt, &self.first, LONG);
+        }
+        if stream == 1 && number == 3 {
+            self.second.store(true, Ordering::SeqCst);
+        }
     }
 }

@@ -2,6 +2,8 @@
 #![tactic(auto)]
 
 #[cfg(test)]
+mod crossing;
+#[cfg(test)]
 mod feeds;
 #[cfg(test)]
 mod gates;
@@ -19,3 +21,5 @@ mod run_memory;
 mod runs;
 #[cfg(test)]
 mod seats;
+#[cfg(test)]
+mod watching;

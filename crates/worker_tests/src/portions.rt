@@ -4,7 +4,9 @@
 ghost use Rattle.std.specs.Prelude.{◌≡◌};
 ghost use Rattle.stream_worker.specs.SeatOf.{IsSeatOf};
 
-use crate::feeds::{FOUR, FOURTH_KEY, LOWER, UNSOUND, UPPER, WORKFLOW, open_feeds};
+use crate::feeds::{
+    FOUR, FOURTH_KEY, LOWER, UNSOUND, UPPER, WORKFLOW, meeting, open_feeds, seventy,
+};
 use crate::gates::Counting;
 use crate::seats::{ended, two_of};
 use apply_core::Board;
@@ -261,4 +263,51 @@ fn chunk_is_refused_at_a_foreign_row(rt: HostRuntime) {
 fn worker_on_a_feed_of_another_plan_is_refused(rt: HostRuntime) {
     let end = end_on_another_feed(rt.alloc(), &rt, [LOWER, UPPER]);
     assert!(rt; end == Some((111, 0, 0, 0, None, 0)));
+}
+
+/// Seventy groups of a row each, one of them at a key of the other stream, and where the stream stands then, which has read
+/// so many groups before it copies all their rows. Behind these the groups are offered and applied in turns of sixteen, up
+/// to the one that is refused; the gate is told of all of its turn before.
+const TURNS: &[(u8, u32, End)] = &[
+    // turns from groups 2, 18, 34, 50 and 66 on
+    (2, 1, (71, 2, 1, 1, None, 17_153)),
+    (17, 1, (71, 17, 16, 1, None, 17_153)),
+    (18, 1, (71, 18, 17, 1, None, 33_561)),
+    (33, 1, (71, 33, 32, 1, None, 33_561)),
+    (65, 1, (71, 65, 64, 1, None, 67_145)),
+    // the last turn has the five that are left
+    (66, 1, (71, 66, 65, 1, None, 72_485)),
+    (70, 1, (71, 70, 69, 1, None, 72_485)),
+    // turns from groups 61 and 51 on
+    (61, 60, (71, 61, 60, 1, None, 72_485)),
+    (56, 50, (71, 56, 55, 1, None, 68_211)),
+];
+
+/// Whether the stream ends so where the other one has the row of this group.
+fn turn_ends_so<R: Wait>(
+    alloc: Global,
+    rt: &R,
+    group: u8,
+    ahead: u32,
+    end: End,
+) -> Result<bool, AllocError> {
+    let (first, second) = (seventy(alloc, b'1')?, meeting(alloc, group)?);
+    let rows = end.2 as usize;
+    Ok(end_of(alloc, rt, [&first, &second], true, [100, ahead, 1]) == Some((end, rows)))
+}
+
+/// Whether it does in each of these cases.
+fn turns_end_so<R: Wait>(alloc: Global, rt: &R) -> Result<bool, AllocError> {
+    for (group, ahead, end) in TURNS {
+        if !turn_ends_so(alloc, rt, *group, *ahead, *end)? {
+            return Ok(false);
+        }
+    }
+    Ok(true)
+}
+
+#[test]
+fn turns_have_sixteen_groups(rt: HostRuntime) -> Result<(), Fail> {
+    assert!(rt; turns_end_so(rt.alloc(), &rt)?);
+    Ok(())
 }

@@ -16,13 +16,14 @@ use std::test::*;
 use stream_worker::{Receipt, Seat, Shared, work};
 use vdiff_core::first_difference;
 
-/// Groups of a feed that stand ready, by their numbers.
+/// Groups of a feed that stand ready, by their numbers. Those that are given are kept beside.
 #[derive(Drop)]
 pub(crate) struct Ready<'a, 'h> {
     alloc: Global,
     feed: &'a Feed<'h>,
     numbers: &'a [u32],
     asked: u32,
+    given: Vec<Arc<Prepared<'h>>>,
 }
 
 impl<'a, 'h> Ready<'a, 'h> {
@@ -35,6 +36,7 @@ impl<'a, 'h> Ready<'a, 'h> {
             feed,
             numbers,
             asked: 0,
+            given: Vec::new(alloc),
         }
     }
 
@@ -60,7 +62,16 @@ impl<'a, 'h> Ahead<'h> for Ready<'a, 'h> {
         self.asked = self.asked.saturating_add(1);
         let (number, later) = self.numbers.split_first()?;
         self.numbers = later;
-        self.feed.prepare(self.alloc, *number).ok()
+        let Ok(group) = self.feed.prepare(self.alloc, *number) else {
+            return None;
+        };
+        let Ok(again) = Arc::clone(&group) else {
+            return None;
+        };
+        let Ok(()) = self.given.push(again) else {
+            return None;
+        };
+        Some(group)
     }
 }
 

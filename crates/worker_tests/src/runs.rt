@@ -20,7 +20,7 @@ use stream_worker::{Gate, Policy, RunRefusal, run_parallel};
 const USUAL: [u32; 3] = [1_000, 100, 4];
 
 /// The board behind a run of plans over their feeds, or its refusal; none where there are no plans or too many.
-fn run_over<'h, R: Threads + Wait + Sync, G: Gate + Sync>(
+pub(crate) fn run_over<'h, R: Threads + Wait + Sync, G: Gate + Sync>(
     rt: &R,
     alloc: Global,
     plans: Vec<Arc<Plan>>,
@@ -53,7 +53,7 @@ fn run_of<'h, R: Threads + Wait + Sync, G: Gate + Sync>(
 }
 
 /// Whether a stream is Running with so many groups read and applied.
-fn has_ended(board: &Board<'_>, s: u8, groups: u32) -> bool {
+pub(crate) fn has_ended(board: &Board<'_>, s: u8, groups: u32) -> bool {
     match board.state(s) {
         Ok(at) => at.phase() == Phase::Running && at.read() == groups && at.applied() == groups,
         Err(_) => false,
@@ -119,7 +119,7 @@ fn gate_is_told_of_each_group_once(rt: HostRuntime) {
 }
 
 /// A refusal's number, its stream and the owner of the row in the way; 0 where there is none.
-fn numbers_of(refusal: &RunRefusal) -> [u8; 3] {
+pub(crate) fn numbers_of(refusal: &RunRefusal) -> [u8; 3] {
     match refusal {
         RunRefusal::OwnedByOther { stream, owner, .. } => [71, *stream, *owner],
         RunRefusal::Unsound { stream, fault } => [fault.number(), *stream, 0],
