@@ -10,7 +10,8 @@ stand at the base or behind it resume over it and go on to the same checkpoint (
 Scripts from such a checkpoint on get the same replies over both feeds, but for the groups' numbers. Under a workflow with
 other filters, and under one without the last table, the new feed has the same rows; a checkpoint of the latter gets the
 table over the new feed as over the old one. Compacted once more at the same place it is byte for byte the same, and further
-on as the whole feed there. With --save-to the same bytes stand in the file, which may be the feed's. A feed of which some
+on as the whole feed there. Where bytes behind the cut are broken in both feeds they are refused alike, but for the groups'
+numbers, or say the same. With --save-to the same bytes stand in the file, which may be the feed's. A feed of which some
 bytes are broken is refused as `show` refuses it, and no file is left. Where a growth of memory is refused, or that one and
 all later ones, the same comes, or `refused 72` and nothing else. The last line is 'N passed, M failed'.
 """
@@ -28,7 +29,7 @@ import time
 import preloaded
 from model import Refused, checkpoint
 from model.board import Board
-from model.compact import compact
+from model.compact import Cut, compact
 from model.feed import Feed, print_position
 from model.random_case import Case
 from model.workflow import Workflow
@@ -176,10 +177,7 @@ def compare(place, case, names, s, feeds, how, there, r):
     fewer = len(feeds[s].groups) - len(whole.groups)
     same("positions", [it[0] for it in whole.groups], [it[0] for it in feeds[s].groups[fewer:]])
     same("changes behind the base", [it[1] for it in whole.groups[1:]], [it[1] for it in feeds[s].groups[fewer + 1 :]])
-    # (a refused group is of this stream, and numbered on then, or of another one)
-    said, wanted = place.run("run", "--alone", "workflow", *names), place.run("run", "--alone", "workflow", *old)
-    lowered = re.sub(rb"(?<= group )\d+", lambda it: b"%d" % (int(it[0]) - fewer), wanted[2])
-    same("run", said, (*wanted[:2], lowered) if said[2] == lowered else wanted)
+    runs_alike("run", place, names, old, fewer)
     without = {key: it for key, it in how.items() if key != "checkpoints"}
     same("compacted again", wanted_of(False, case.said, new, **without | {"at": print_position(whole.groups[0][0])})[0][1], new)
     same("and by the program", place.run("compact", f"--stream={s}", "--drop-unknown", "--at=" + print_position(whole.groups[0][0]).decode(), "workflow", name), (0, new, b""))
@@ -199,7 +197,31 @@ def compare(place, case, names, s, feeds, how, there, r):
             same("its checkpoint", place.get("other"), place.get("one"))
         if board.streams[s].applied > fewer and before == 0:
             scripts(place, case, case.again(board), names, old, s, fewer, r)
+    damaged(place, case, names, old, s, feeds[s], fewer, r)
     others(place, case, names, old)
+
+
+def runs_alike(what, place, names, old, fewer):
+    """Runs both feeds. A refused group is of this stream, and numbered on then, or of another one."""
+    said, wanted = place.run("run", "--alone", "workflow", *names), place.run("run", "--alone", "workflow", *old)
+    lowered = re.sub(rb"(?<= group )\d+", lambda it: b"%d" % (int(it[0]) - fewer), wanted[2])
+    same(what, said, (*wanted[:2], lowered) if said[2] == lowered else wanted)
+
+
+def damaged(place, case, names, old, s, feed, fewer, r):
+    """Breaks the same bytes of both feeds, behind the cut."""
+    whole, new = place.get("old"), place.get(names[s])
+    rest = Cut(whole, feed, fewer + 1).rest
+    if not rest:
+        return
+    broken = bytearray(rest)
+    for _ in range(r.choice([1, 1, 2])):
+        case.break_once(broken)
+    place.put("old", whole[: len(whole) - len(rest)] + broken)
+    place.put(names[s], new[: len(new) - len(rest)] + broken)
+    runs_alike("broken behind the cut", place, names, old, fewer)
+    place.put("old", whole)
+    place.put(names[s], new)
 
 
 def lowered_reply(line, fewer):

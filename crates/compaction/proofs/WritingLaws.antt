@@ -34,9 +34,6 @@ good event = Ok event
 abbrev all_parts : List (List (List ℕ)) → List (List ℕ)
 all_parts messages = flat_map (λ (parts : List (List ℕ)). parts) messages
 
-pub adds_none : (old : List ℕ) → AddsEvents old old []
-adds_none old = record { messages = []; bytes = sym (append-nil old); read = refl }
-
 pub adds_more : (a b c : List ℕ) (xs ys : List EventValue) → AddsEvents a b xs → AddsEvents b c ys → AddsEvents a c (xs ++ ys)
 adds_more a b c xs ys one two = record {
   messages = one.messages ++ two.messages;
@@ -96,9 +93,6 @@ pub record Going (plan : PlanValue) (start out : List ℕ) (waiting : WaitingVal
 no_rows : {X Y : Type 0} (f : X → Y) (xs : List X) → map f xs ≡ [] → xs ≡ []
 no_rows f [] e = refl
 no_rows f (x ∷ xs) e = cc
-
-pub going_begins : (plan : PlanValue) (start : List ℕ) (waiting : WaitingValue) → waiting.rows ≡ [] → Going plan start start waiting []
-going_begins plan start waiting e = record { portions = []; each_portion = tt; adds = adds_none start; last = []; are = refl; rows = sym e; keys = tt }
 
 same_event : (name : List ℕ) (rows : ImageRows) → inserts name (map (λ (row : Entry). row.1) rows) ≡ event_of (record { name = name; rows = rows })
 same_event name rows = ap (λ (changes : List ChangeValue). Row name changes) (both rows)

@@ -1,6 +1,6 @@
 //! A feed whose first groups are compacted.
 
-ghost use Rattle.std.specs.Prelude.{◌≡◌, ◌≤◌, IfErr, IfOk, Ok};
+ghost use Rattle.std.specs.Prelude.{◌≡◌, IfErr, IfOk, Ok};
 ghost use Rattle.source_feed.specs.Planned.{groups_under};
 ghost use Rattle.compaction.specs.Compacting.{IsCause, IsCompaction};
 ghost use Rattle.compaction.specs.Private.Written.{AreNamed, IsWrittenOver};
@@ -48,7 +48,6 @@ pub fn compact<'h>(
     // The new feed opens under the feed's plan as the compacted one, up to just the group of the number.
     ensures compacted { IfOk result (λ made. IsCompaction feed.now bytes.now unknown made.groups made.rows made.feed.items) }
     ensures exact { IfOk result (λ made. made.groups ≡ number) }
-    ensures within { IfOk result (λ made. made.groups ≤ number) }
     // What a refusal says stands in the feed, and what an earlier one says doesn't.
     ensures cause { IfErr result (IsCause feed.now bytes.now unknown number) }
 {

@@ -7,8 +7,8 @@ use thiserror::Error;
 /// Why a feed isn't compacted.
 #[derive(Clone, Copy, Debug, PartialEq, Eq, Error)]
 pub enum CompactFault {
-    /// No message ends behind a group that isn't beyond the position: there is nothing to put a base in the place of.
-    #[error("the feed can't be cut behind a group up to the position")]
+    /// The feed has no group of the number: there is nothing to put a base in the place of.
+    #[error("the feed has no such group")]
     NoCut,
     /// A group that would be replaced has a change of a table that the plan lacks, whose rows would be lost.
     #[error("rows of a table that the workflow lacks would be lost")]

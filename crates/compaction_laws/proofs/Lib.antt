@@ -6,3 +6,4 @@ pub mod PortionLaws
 pub mod ColumnLaws
 pub mod BytesLaws
 pub mod DecisionLaws
+pub mod AddedLaws

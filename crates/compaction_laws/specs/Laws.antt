@@ -15,10 +15,17 @@ use Rattle.source_feed.specs.Positions.{IsNumberAt}
 use Rattle.source_feed.specs.SoundGroups.{sound_groups}
 use Rattle.source_feed.specs.Touches.{PreparedValue, prepared}
 use Rattle.board_laws.specs.Cut.{cut_of}
+use Rattle.board_laws.specs.Lawful.{IsLawful}
 use Rattle.board_laws.specs.Meaning.{State, Meaning}
+use Rattle.added_laws.specs.Extended.{extended_board, MayExtend}
 use Rattle.join_laws.specs.Joined.{cut_rows}
+use Rattle.checkpoint_laws.specs.Added.{under_plans}
+use Rattle.checkpoint_laws.specs.Laws.{AreFeeds, AreWithin}
+use Rattle.checkpoint_laws.specs.Refused.{plans_of_feeds}
 use Rattle.checkpoint_laws.specs.Resumed.{IsResumedAt, IsResumedBoard}
-use Rattle.checkpoint_laws.specs.Saved.{SavedStream}
+use Rattle.checkpoint_laws.specs.Said.{IsCheckpoint}
+use Rattle.checkpoint_laws.specs.Saved.{SavedStream, saved_of}
+use Rattle.checkpoint_laws.specs.Written.{checkpoint_of}
 use Rattle.event_laws.specs.BaseEvents.{base_events}
 use Rattle.event_laws.specs.Cuts.{IsCut}
 use Rattle.event_laws.specs.InForce.{in_force}
@@ -100,6 +107,21 @@ pub record GoesOnAs (news : List FeedValue) (saved : List SavedStream) (board : 
 abbrev pub BoardsGoOn : Type 0
 BoardsGoOn =
     (olds news : List FeedValue) (saved : List SavedStream) (board : Meaning) → CanAllGoOn olds saved news → IsResumedBoard olds saved board → GoesOnAs news saved board
+
+-- ---- a table more
+
+-- what is kept of a board says of its streams under the plans of feeds with more tables, which wait
+abbrev pub saved_with_more : List FeedValue → Meaning → List SavedStream
+saved_with_more feeds board = under_plans (plans_of_feeds feeds) (saved_of board)
+
+-- A checkpoint of a board, under plans with tables appended, makes over compacted feeds the board to which these tables are added
+-- over the whole feeds: where the feeds that were compacted under those plans go on from the board, and it stands at positions
+-- that the compacted ones still have.
+abbrev pub AddedTablesGoOn : Type 0
+AddedTablesGoOn =
+    (olds news : List FeedValue) (board : Meaning) → AreFeeds olds → IsLawful board → AreWithin board → length (checkpoint_of board) < 2 ^ 64 → MayExtend olds board
+    → CanAllGoOn olds (saved_with_more olds board) news
+    → IsCheckpoint (plans_of_feeds news) (checkpoint_of board) (saved_with_more olds board) × GoesOnAs news (saved_with_more olds board) (extended_board olds board)
 
 -- ---- what is written
 

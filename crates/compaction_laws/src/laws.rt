@@ -1,7 +1,8 @@
 //! Laws of compaction, each the contract of a function without a body.
 
-ghost use Rattle.compaction_laws.specs.Laws.{BasesKeepHistories, LeftRowsAreABase, FeedsStayWhatTheyWere, CompactedBytesOpen, CheckpointsGoOn, BoardsGoOn, LeftRowsHaveColumns, PortionsAreABase, BytesAreCompacted, BytesAreCompactedUnderAll, LeftRowsAreOfAllDecisions, BasesAreOfAllDecisions};
+ghost use Rattle.compaction_laws.specs.Laws.{BasesKeepHistories, LeftRowsAreABase, FeedsStayWhatTheyWere, CompactedBytesOpen, CheckpointsGoOn, BoardsGoOn, AddedTablesGoOn, LeftRowsHaveColumns, PortionsAreABase, BytesAreCompacted, BytesAreCompactedUnderAll, LeftRowsAreOfAllDecisions, BasesAreOfAllDecisions};
 
+use checkpoint_laws::{extended_boards_are_resumed, saved_boards_are_said_of_more};
 use event_laws::{changes_have_columns, feeds_are_compacted};
 use pk_copy::keys_tie_where_they_are_equal;
 
@@ -44,6 +45,16 @@ pub fn boards_go_on()
     ensures { BoardsGoOn }
 {
     keys_tie_where_they_are_equal();
+}
+
+/// A checkpoint makes over compacted feeds, under plans with tables appended, the board to which these tables are added over
+/// the whole ones: with the same rows, and of each stream with the same plan and marks.
+pub fn added_tables_go_on()
+    ensures { AddedTablesGoOn }
+{
+    saved_boards_are_said_of_more();
+    extended_boards_are_resumed();
+    boards_go_on();
 }
 
 /// The rows that the front of a feed leaves are of tables whose columns the front says, and have these columns.

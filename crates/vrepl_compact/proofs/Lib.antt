@@ -1,2 +1,3 @@
-mod LimitLaws
+mod AskedLaws
 mod EndLaws
+mod LimitLaws

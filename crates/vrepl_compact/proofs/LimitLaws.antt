@@ -1,34 +1,29 @@
--- Checkpoints that go on behind a group.
-use Rattle.std.proofs.Common.{◌≡◌, ◌⊎◌, ℕ, ◌+◌, ◌-◌, ◌<◌, ◌≤◌, List, [], ◌∷◌, ◌++◌, length, map, take, get_or, Some, refl, sym, ap, subst, ◌∙◌, inl, inr, arith}
-use Rattle.std.proofs.lemmas.List.{map-append, take_more}
+-- Checkpoints that go on behind the group up to which a feed is compacted, and refusals by what stands in the way of it.
+use Rattle.std.proofs.Common.{◌≡◌, ◌⊎◌, ℕ, ◌-◌, ◌<◌, ◌≤◌, List, Ok, sym, ap, subst, ◌∙◌, inl, inr, arith}
 use Rattle.std.proofs.lemmas.Option.{none-some}
-use Rattle.std.specs.Global.{Vec}
 use Rattle.std.specs.List.{AllByRecursion}
-use Rattle.list_laws.proofs.Fronts.{All-append, each}
+use Rattle.list_laws.proofs.Fronts.{each}
 use Rattle.filter_rule.specs.PlanValue.{PlanValue}
 use Rattle.source_feed.specs.GroupValue.{Position}
-use Rattle.source_feed.specs.Planned.{FeedValue, PlannedGroupValue}
+use Rattle.source_feed.specs.Planned.{FeedValue}
 use Rattle.source_feed.specs.Positions.{IsNumberAt, HasGroupAt}
 use Rattle.source_feed.specs.Touches.{group_at}
+use Rattle.compaction.specs.Compacting.{IsCause}
+use Rattle.compaction.specs.declared.fault.CompactFault.{CompactFault}
 use Rattle.compaction_laws.specs.Laws.{IsFromBaseOn}
+use Rattle.compact_limit.specs.Least.{StandsBehind}
+use Rattle.compact_limit.specs.Limit.{StandsAt}
+use Rattle.compact_limit.specs.declared.fault.LimitFault.{LimitFault}
 use Rattle.vrepl_main.specs.InputList.{bytes_of}
-use Rattle.vrepl_compact.specs.Compacted.{StandsAt, StandsBehind, GoesOnBehind}
+use Rattle.vrepl_main.specs.Reasons.{RefusesInputs}
+use Rattle.vrepl_compact.specs.Asked.{AskedFeed}
+use Rattle.vrepl_compact.specs.Compacted.{GoesOnBehind, IsLastReplaced, IsUnlimited, RefusesCompact}
+use Rattle.vrepl_compact.specs.Private.Faults.{IsOfLimit, IsOfFeed}
+use Rattle.vrepl_compact.specs.declared.inputs.CompactInputs.{CompactInputs}
+use Rattle.vrepl_compact.specs.declared.refusal.Uncompacted.{Uncompacted}
+use Rattle.vrepl_compact.specs.declared.refusal.Uncompacted.TheVariants.{Given, Limit, Feed}
 
--- what stands behind a group stands behind each earlier one
-behind_less : (plans : List PlanValue) (feed : FeedValue) (stream number next : ℕ) → next ≤ number → (checkpoint : List ℕ) → StandsBehind plans feed stream number checkpoint → StandsBehind plans feed stream next checkpoint
-behind_less plans feed stream number next le checkpoint (other, stands, inl none) = (other, stands, inl none)
-behind_less plans feed stream number next le checkpoint (other, stands, inr behind) = (other, stands, inr (omega (arith, le, behind)))
-
--- one checkpoint more
-pub all_on : (plans : List PlanValue) (feed : FeedValue) (stream number other next : ℕ) (checkpoints : List (Vec ℕ)) (i : ℕ) (one : Vec ℕ) → i < length checkpoints → one ≡ get_or checkpoints i one
-    → AllByRecursion (StandsBehind plans feed stream number) (bytes_of (take i checkpoints)) → StandsAt plans feed stream one.items other → next ≤ number → (other ≡ 0) ⊎ (next ≤ other)
-    → AllByRecursion (StandsBehind plans feed stream next) (bytes_of (take (i + 1) checkpoints))
-all_on plans feed stream number other next checkpoints i one lt is h stands le or =
-    let more : take (i + 1) checkpoints ≡ take i checkpoints ++ one ∷ [] = take_more checkpoints i one lt ∙ ap (λ (c : Vec ℕ). take i checkpoints ++ c ∷ []) (sym is) in
-    let before : AllByRecursion (StandsBehind plans feed stream next) (bytes_of (take i checkpoints)) =
-    each (StandsBehind plans feed stream number) (StandsBehind plans feed stream next) (behind_less plans feed stream number next le) (bytes_of (take i checkpoints)) h in
-    subst (AllByRecursion (StandsBehind plans feed stream next)) (sym (ap bytes_of more ∙ map-append (λ (c : Vec ℕ). c.items) (take i checkpoints) (one ∷ [])))
-    (All-append (StandsBehind plans feed stream next) (bytes_of (take i checkpoints)) (one.items ∷ []) before ((other, stands, or), tt))
+-- ---- checkpoints
 
 -- no group has the number 0
 none_at_zero : {P : Type 0} (feed : FeedValue) (position : Position) (number : ℕ) → number ≡ 0 → HasGroupAt feed position number → P
@@ -39,12 +34,26 @@ from_base_on feed groups other position some (inl empty) or = inl empty.0
 from_base_on feed groups other position some (inr has) (inl zero) = none_at_zero feed position other zero has
 from_base_on feed groups other position some (inr has) (inr behind) = inr (other, omega (arith, some, behind), inr has)
 
-goes_on : (plans : List PlanValue) (feed : FeedValue) (stream number groups : ℕ) → groups ≤ number → 0 < groups → (checkpoint : List ℕ) → StandsBehind plans feed stream number checkpoint → GoesOnBehind plans feed stream (groups - 1) checkpoint
-goes_on plans feed stream number groups le some checkpoint h =
-    let behind : StandsBehind plans feed stream groups checkpoint = behind_less plans feed stream number groups le checkpoint h in
-    (behind.1.0, behind.1.1, from_base_on feed groups behind.0 behind.1.0.position some behind.1.2 behind.2)
+goes_on : (plans : List PlanValue) (feed : FeedValue) (stream groups : ℕ) → 0 < groups → (checkpoint : List ℕ) → StandsBehind (StandsAt plans feed stream) groups checkpoint → GoesOnBehind plans feed stream (groups - 1) checkpoint
+goes_on plans feed stream groups some checkpoint (other, (one, said, stands), or) = (one, said, from_base_on feed groups other one.position some stands or)
 
-pub all_go_on : (plans : List PlanValue) (feed : FeedValue) (stream number groups : ℕ) → groups ≤ number → 0 < groups → (checkpoints : List (List ℕ)) → AllByRecursion (StandsBehind plans feed stream number) checkpoints
-    → AllByRecursion (GoesOnBehind plans feed stream (groups - 1)) checkpoints
-all_go_on plans feed stream number groups le some checkpoints h =
-    each (StandsBehind plans feed stream number) (GoesOnBehind plans feed stream (groups - 1)) (goes_on plans feed stream number groups le some) checkpoints h
+-- what stands behind the group up to which a feed is compacted goes on
+pub all_go_on : (inputs : CompactInputs) (asked : AskedFeed) (groups : ℕ) → 0 < groups → IsLastReplaced inputs asked groups
+    → AllByRecursion (GoesOnBehind asked.plans asked.feed inputs.stream (groups - 1)) (bytes_of inputs.checkpoints.items)
+all_go_on inputs asked groups some (named, is_named, least) =
+    each (StandsBehind (StandsAt asked.plans asked.feed inputs.stream) groups) (GoesOnBehind asked.plans asked.feed inputs.stream (groups - 1)) (goes_on asked.plans asked.feed inputs.stream groups some)
+    (bytes_of inputs.checkpoints.items) least.behind
+
+-- ---- refusals
+
+pub of_limit : (inputs : CompactInputs) (asked : AskedFeed) (fault : LimitFault) (uncompacted : Uncompacted) → IsOfLimit inputs.stream fault uncompacted → IsUnlimited inputs asked fault
+    → RefusesCompact inputs uncompacted (Ok asked)
+of_limit inputs asked fault (Given refusal) is refused = subst (λ r. RefusesInputs {X = AskedFeed} r (Ok asked)) (sym is) tt
+of_limit inputs asked fault (Limit plan stream told) is refused = (is.0, subst (IsUnlimited inputs asked) (sym is.1) refused)
+of_limit inputs asked fault (Feed plan told) is refused = absurd is
+
+pub of_feed : (inputs : CompactInputs) (asked : AskedFeed) (number : ℕ) (fault : CompactFault) (uncompacted : Uncompacted) → IsOfFeed asked.feed fault uncompacted → IsLastReplaced inputs asked number
+    → IsCause asked.feed asked.bytes inputs.unknown number fault → RefusesCompact inputs uncompacted (Ok asked)
+of_feed inputs asked number fault (Given refusal) is last cause = subst (λ r. RefusesInputs {X = AskedFeed} r (Ok asked)) (sym is) tt
+of_feed inputs asked number fault (Limit plan stream told) is last cause = absurd is
+of_feed inputs asked number fault (Feed plan told) is last cause = (is.0, (number, last, subst (IsCause asked.feed asked.bytes inputs.unknown number) (sym is.1) cause))

@@ -1,2 +1,4 @@
+pub mod Asked
 pub mod Compacted
+pub mod Private
 pub mod Refusals

@@ -1,21 +1,24 @@
 //! The command `compact`.
 
-ghost use Rattle.std.specs.Prelude.{◌≡◌, IfOk, Some, map, slice_get};
+ghost use Rattle.std.specs.Prelude.{◌≡◌, IfErr, IfOk, Ok, map};
 ghost use Rattle.std.specs.Arc.{arc_value};
-ghost use Rattle.vrepl_compact.specs.Compacted.{CompactEnds, IsCompacted, IsCompactedOf, IsPrinted};
+ghost use Rattle.source_feed.specs.Planned.{groups_under};
+ghost use Rattle.vrepl_compact.specs.Asked.{asked_as, asked_of, asked_under, compact_asked};
+ghost use Rattle.vrepl_compact.specs.Compacted.{CompactEnds, IsCompacted, IsPrinted, RefusesCompact};
+ghost use Rattle.vrepl_compact.specs.Private.Faults.{IsOfFeed};
+ghost use Rattle.vrepl_main.specs.Given.{given_value};
 
 use crate::inputs::CompactInputs;
-use crate::limit::last_number;
-use crate::opening::given_feed;
+use crate::limit::last_replaced;
+use crate::opening::{given_feed, open_feed, plan_of, read_plans};
 use crate::refusal::{Uncompacted, refuse_uncompacted};
-use apply_core::ResumeFault;
 use compaction::{CompactFault, Compaction, compact as compact_feed};
 use filter_rule::Plan;
-use source_feed::{Feed, FeedFault};
+use source_feed::Feed;
 use std::alloc::{AllocError, Global};
 use std::sync::Arc;
 use vdiff_core::{Out, put_all};
-use vrepl_main::{CommandRefusal, refuse};
+use vrepl_main::{CommandRefusal, GivenFeed, refuse};
 
 /// A compacted feed, and what is told of it.
 #[derive(Drop)]
@@ -55,34 +58,52 @@ fn print_feed<W: Out, E: Out>(feed: &[u8], out: &mut W, err: &mut E) -> u8
     }
 }
 
-/// The plan of a stream. Refused 115 where the workflow has no such stream.
-fn plan_of(plans: &[Arc<Plan>], stream: u8) -> Result<&Arc<Plan>, Uncompacted>
-    ensures { IfOk result (λ plan. slice_get (map arc_value plans.entry.now) stream ≡ Some (arc_value plan.now)) }
-{
-    match plans.get(usize::from(stream)) {
-        Some(plan) => Ok(plan),
-        None => Err(Uncompacted::Given(CommandRefusal::NoStream)),
-    }
-}
-
-/// The new feed of a stream, and what is told of it. The faults are found in this order: those of the workflow; 115 where
-/// it has no such stream; 93 and the feed's own; of a position that is named 94 and 118; of each checkpoint 116 and 118; 91
-/// where the feed has no group to be replaced; 123; 90; 95 where the new feed would be too long. Any other error is want of
-/// memory.
+/// The new feed of a stream, up to just the group that the inputs say, and what is told of it. The faults are found in this
+/// order: those of the workflow; 115 where it has no such stream; 93 and the feed's own; of a position that is named 94 and
+/// 118; of each checkpoint 116 and 118; 91 where the feed has no group to be replaced; 123; 90; 95 where the new feed would
+/// be too long. Any other error is want of memory.
 pub fn compacted(alloc: Global, inputs: &CompactInputs<'_>) -> Result<NewFeed, Uncompacted>
-    ensures { IfOk result (λ c. IsCompacted inputs.now c.made.groups c.made.rows c.made.feed.items) }
+    ensures compacted { IfOk result (λ c. IsCompacted inputs.now (compact_asked inputs.now) c.made.groups c.made.rows c.made.feed.items) }
+    ensures refused { IfErr result (λ uncompacted. RefusesCompact inputs.now uncompacted (compact_asked inputs.now)) }
 {
-    let plans = Plan::read_all(alloc, &inputs.workflow)?;
-    let plan = plan_of(&plans, inputs.stream)?;
-    let given = given_feed(alloc, inputs.feed_form, &inputs.feed)?;
-    let Some(bytes) = given.bytes() else {
-        return Err(Uncompacted::Given(CommandRefusal::BadHex));
-    };
-    let new = compacted_of(alloc, inputs, &plans, plan, bytes)?;
+    let plans = read_plans(alloc, &inputs.workflow)?;
+    let new = compacted_under(alloc, inputs, &plans)?;
     Ok(new)
 }
 
-/// The same of the feed of these bytes, under the plan of its stream, which is one of those that are given.
+/// The same under the plans of the workflow.
+fn compacted_under(
+    alloc: Global,
+    inputs: &CompactInputs<'_>,
+    plans: &[Arc<Plan>],
+) -> Result<NewFeed, Uncompacted>
+    ensures compacted { IfOk result (λ c. IsCompacted inputs.now (asked_under inputs.now (map arc_value plans.now)) c.made.groups c.made.rows c.made.feed.items) }
+    ensures refused { IfErr result (λ uncompacted. RefusesCompact inputs.now uncompacted (asked_under inputs.now (map arc_value plans.now))) }
+{
+    let plan = plan_of(plans, inputs.stream)?;
+    let given = given_feed(alloc, inputs.feed_form, &inputs.feed)?;
+    let new = compacted_as(alloc, inputs, plans, plan, &given)?;
+    Ok(new)
+}
+
+/// The same of the feed as it is given, under the plan of its stream, which is one of these.
+fn compacted_as(
+    alloc: Global,
+    inputs: &CompactInputs<'_>,
+    plans: &[Arc<Plan>],
+    plan: &Arc<Plan>,
+    given: &GivenFeed<'_>,
+) -> Result<NewFeed, Uncompacted>
+    ensures compacted { IfOk result (λ c. IsCompacted inputs.now (asked_as (map arc_value plans.now) (given_value given.now) (arc_value plan.now)) c.made.groups c.made.rows c.made.feed.items) }
+    ensures refused { IfErr result (λ uncompacted. RefusesCompact inputs.now uncompacted (asked_as (map arc_value plans.now) (given_value given.now) (arc_value plan.now))) }
+{
+    match given.bytes() {
+        None => Err(Uncompacted::Given(CommandRefusal::BadHex)),
+        Some(bytes) => compacted_of(alloc, inputs, plans, plan, bytes),
+    }
+}
+
+/// The same of the feed of these bytes.
 fn compacted_of(
     alloc: Global,
     inputs: &CompactInputs<'_>,
@@ -90,35 +111,42 @@ fn compacted_of(
     plan: &Arc<Plan>,
     bytes: &[u8],
 ) -> Result<NewFeed, Uncompacted>
-    requires { slice_get (map arc_value plans.now) inputs.now.stream ≡ Some (arc_value plan.now) }
-    ensures { IfOk result (λ c. IsCompactedOf inputs.now (map arc_value plans.now) bytes.now c.made.groups c.made.rows c.made.feed.items) }
+    ensures compacted { IfOk result (λ c. IsCompacted inputs.now (asked_of (map arc_value plans.now) (arc_value plan.now) bytes.now) c.made.groups c.made.rows c.made.feed.items) }
+    ensures refused { IfErr result (λ uncompacted. RefusesCompact inputs.now uncompacted (asked_of (map arc_value plans.now) (arc_value plan.now) bytes.now)) }
 {
-    let feed = Feed::open(alloc, bytes, plan)?;
-    let number = last_number(alloc, inputs, plans, &feed)?;
-    let made = match compact_feed(alloc, bytes, &feed, number, inputs.unknown) {
+    let feed = open_feed(alloc, bytes, plan)?;
+    let new = compacted_feed(alloc, inputs, plans, bytes, &feed)?;
+    Ok(new)
+}
+
+/// The same of a feed that is open, of which these are the bytes.
+fn compacted_feed<'h>(
+    alloc: Global,
+    inputs: &CompactInputs<'_>,
+    plans: &[Arc<Plan>],
+    bytes: &'h [u8],
+    feed: &Feed<'h>,
+) -> Result<NewFeed, Uncompacted>
+    requires { groups_under bytes.now feed.now.plan ≡ Ok feed.now.groups }
+    ensures compacted { IfOk result (λ c. IsCompacted inputs.now (Ok (record { plans = map arc_value plans.now; bytes = bytes.now; feed = feed.now })) c.made.groups c.made.rows c.made.feed.items) }
+    ensures refused { IfErr result (λ uncompacted. RefusesCompact inputs.now uncompacted (Ok (record { plans = map arc_value plans.now; bytes = bytes.now; feed = feed.now }))) }
+{
+    let number = last_replaced(alloc, inputs, plans, feed)?;
+    let made = match compact_feed(alloc, bytes, feed, number, inputs.unknown) {
         Ok(made) => made,
-        Err(fault) => return Err(uncompacted_by(&feed, fault)),
+        Err(fault) => return Err(uncompacted_by(feed, fault)),
     };
-    let line = line_of(alloc, bytes, &feed, &made)?;
+    let line = line_of(alloc, bytes, feed, &made)?;
     Ok(NewFeed { made, line })
 }
 
-/// Why a feed isn't compacted, by its fault.
-fn uncompacted_by(feed: &Feed<'_>, fault: CompactFault) -> Uncompacted {
-    match fault {
-        CompactFault::NoCut => Uncompacted::from(FeedFault::NoGroup {
-            groups: feed.len().min(u32::MAX as usize) as u32,
-        }),
-        CompactFault::UnknownTable => Uncompacted::UnknownTable,
-        CompactFault::Unsound(fault) => match Arc::clone(feed.plan()) {
-            Ok(plan) => Uncompacted::Checkpoint {
-                plan,
-                fault: ResumeFault::Unsound(fault),
-            },
-            Err(_) => Uncompacted::from(AllocError),
-        },
-        CompactFault::TooLong => Uncompacted::from(FeedFault::FeedTooLong),
-        CompactFault::Memory => Uncompacted::from(AllocError),
+/// The refusal by a fault of the feed.
+fn uncompacted_by(feed: &Feed<'_>, fault: CompactFault) -> Uncompacted
+    ensures { IsOfFeed feed.now fault result }
+{
+    match Arc::clone(feed.plan()) {
+        Ok(plan) => Uncompacted::Feed { plan, fault },
+        Err(_) => Uncompacted::Given(CommandRefusal::Memory),
     }
 }
 

@@ -1,27 +1,88 @@
-//! The feed of a stream, as it is given.
+//! The workflow and the feed of a stream, as they are given.
 
-ghost use Rattle.std.specs.Prelude.{◌≡◌, IfOk, Some};
+ghost use Rattle.std.specs.Prelude.{◌≡◌, IfErr, IfOk, Ok, map, slice_get};
+ghost use Rattle.std.specs.Option.{option_copied};
+ghost use Rattle.std.specs.Arc.{arc_value};
+ghost use Rattle.filter_rule.specs.Reading.{plans_of};
+ghost use Rattle.source_feed.specs.Planned.{groups_under};
+ghost use Rattle.vrepl_compact.specs.Asked.{plan_or_none};
 ghost use Rattle.vrepl_main.specs.Given.{given_value};
-ghost use Rattle.vrepl_main.specs.HexText.{feed_bytes};
+ghost use Rattle.vrepl_main.specs.HexText.{feed_bytes, hex_bytes};
+ghost use Rattle.vrepl_main.specs.Opening.{feed_under, said_plans};
+ghost use Rattle.vrepl_main.specs.Reasons.{GivesOfInputs, RefusesInputs};
 
-use std::alloc::Global;
+use filter_rule::Plan;
+use source_feed::Feed;
+use std::alloc::{AllocError, Global};
+use std::sync::Arc;
 use vrepl_choices::FeedForm;
-use vrepl_main::{CommandRefusal, GivenFeed, bytes_of_hex};
+use vrepl_main::{CommandRefusal, GivenFeed, HexFault, bytes_of_hex};
 
-/// A feed that is given in some form. Refused 93 where it should be hexadecimal text and is none; any other error is want
-/// of memory.
+/// The plans of a workflow file.
+pub(crate) fn read_plans(
+    alloc: Global,
+    workflow: &[u8],
+) -> Result<Vec<Arc<Plan>>, CommandRefusal<'static>>
+    ensures { GivesOfInputs (λ plans. map arc_value plans.items) result (said_plans (plans_of workflow.now)) }
+{
+    let plans = Plan::read_all(alloc, workflow)?;
+    Ok(plans)
+}
+
+/// The plan at a place, from 0.
+fn plan_at<'p>(plans: &'p [Arc<Plan>], stream: u8) -> Option<&'p Arc<Plan>>
+    ensures { option_copied result ≡ slice_get plans.entry.now stream }
+{
+    plans.get(usize::from(stream))
+}
+
+/// The plan of a stream. Refused 115 where the workflow has no such stream.
+pub(crate) fn plan_of<'p>(
+    plans: &'p [Arc<Plan>],
+    stream: u8,
+) -> Result<&'p Arc<Plan>, CommandRefusal<'static>>
+    ensures plan { IfOk result (λ plan. plan_or_none (slice_get (map arc_value plans.entry.now) stream) ≡ Ok (arc_value plan.now)) }
+    ensures refused { IfErr result (λ refusal. RefusesInputs refusal (plan_or_none (slice_get (map arc_value plans.entry.now) stream))) }
+{
+    match plan_at(plans, stream) {
+        Some(plan) => Ok(plan),
+        None => Err(CommandRefusal::NoStream),
+    }
+}
+
+/// A feed that is given in some form. An error is want of memory.
 pub(crate) fn given_feed<'f>(
     alloc: Global,
     form: FeedForm,
     feed: &'f [u8],
-) -> Result<GivenFeed<'f>, CommandRefusal<'static>>
+) -> Result<GivenFeed<'f>, AllocError>
     ensures { IfOk result (λ given. given_value given ≡ feed_bytes form feed.entry.now) }
 {
     match form {
         FeedForm::Bytes => Ok(GivenFeed::Bytes(feed)),
-        FeedForm::Hex => {
-            let bytes = bytes_of_hex(alloc, feed)?;
-            Ok(GivenFeed::Decoded(bytes))
-        }
+        FeedForm::Hex => decoded(alloc, feed),
     }
+}
+
+/// The bytes of a feed that is given as hexadecimal text. An error is want of memory.
+fn decoded<'f>(alloc: Global, feed: &[u8]) -> Result<GivenFeed<'f>, AllocError>
+    ensures { IfOk result (λ given. given_value given ≡ hex_bytes feed.now) }
+{
+    match bytes_of_hex(alloc, feed) {
+        Ok(bytes) => Ok(GivenFeed::Decoded(bytes)),
+        Err(HexFault::BadHex) => Ok(GivenFeed::BadHex),
+        Err(HexFault::Memory) => Err(AllocError),
+    }
+}
+
+/// The feed of these bytes under its plan.
+pub(crate) fn open_feed<'h>(
+    alloc: Global,
+    bytes: &'h [u8],
+    plan: &Arc<Plan>,
+) -> Result<Feed<'h>, CommandRefusal<'static>>
+    ensures { GivesOfInputs (λ feed. feed) result (feed_under (arc_value plan.now) (groups_under bytes.entry.now (arc_value plan.now))) }
+{
+    let feed = Feed::open(alloc, bytes, plan)?;
+    Ok(feed)
 }

@@ -1,21 +1,35 @@
-use Rattle.std.proofs.Common.{◌≡◌, Some, Ok, map, sym, ap, subst, ◌∙◌}
+use Rattle.std.proofs.Common.{◌≡◌, Ok, map, sym, subst}
+use Rattle.std.proofs.lemmas.Result.{err_from_is_err_and}
 use Rattle.std.specs.Arc.{arc_value}
 use Rattle.source_feed.specs.Planned.{groups_under}
-use Rattle.vrepl_main.specs.InputList.{bytes_of}
-use Rattle.vrepl_compact.proofs.LimitLaws.{all_go_on}
+use Rattle.vrepl_main.specs.Opening.{feed_under}
+use Rattle.vrepl_compact.proofs.AskedLaws.{compacted_behind, opened_as, refused_at, refused_behind}
 use Rattle.vrepl_compact.proofs.compacting.compacted_of.Goals as goal
 
-pub compact-requires : goal.compact-requires
-compact-requires c = subst (λ p. groups_under c.args.bytes.now p ≡ Ok c.in_ok-feed.feed.groups) (sym c.in_ok-feed.ensures.plan) c.in_ok-feed.ensures.groups
+pub compacted_feed-requires : goal.compacted_feed-requires
+compacted_feed-requires c =
+    let plan = arc_value c.args.plan.now in
+    let opened = opened_as plan (groups_under c.args.bytes.now plan) c.in_ok-feed.feed c.in_ok-feed.ensures in
+    subst (λ p. groups_under c.args.bytes.now p ≡ Ok c.in_ok-feed.feed.groups) (sym opened.1) opened.0
 
-pub returns : goal.returns
-returns c =
-    let feed = c.in_ok-feed.feed in
-    let made = c.in-Ok.made in
-    record {
-      feed = feed;
-      plan = c.requires ∙ ap (λ p. Some p) (sym c.in_ok-feed.ensures.plan);
-      opened = subst (λ p. groups_under c.args.bytes.now p ≡ Ok feed.groups) (sym c.in_ok-feed.ensures.plan) c.in_ok-feed.ensures.groups;
-      compaction = c.in-Ok.ensures.compacted;
-      go_on = all_go_on (map arc_value c.args.plans.now) feed c.args.inputs.now.stream c.in_ok-number.number made.groups c.in-Ok.ensures.within c.in-Ok.ensures.compacted.some (bytes_of c.args.inputs.now.checkpoints.items) c.in_ok-number.ensures;
-    }
+pub returns-clause-compacted : goal.returns-clause-compacted
+returns-clause-compacted c =
+    let plan = arc_value c.args.plan.now in
+    let made = c.in_ok-new.new.made in
+    compacted_behind c.args.inputs.now (feed_under plan (groups_under c.args.bytes.now plan)) (λ feed. Ok (record { plans = map arc_value c.args.plans.now; bytes = c.args.bytes.now; feed = feed }))
+    c.in_ok-feed.feed made.groups made.rows made.feed.items c.in_ok-feed.ensures c.in_ok-new.ensures.compacted
+
+pub returns-in_err-feed-clause-refused : goal.returns-in_err-feed-clause-refused
+returns-in_err-feed-clause-refused c =
+    let plan = arc_value c.args.plan.now in
+    let p = err_from_is_err_and c.from_residual-in_err-feed.result c.from_residual-in_err-feed.ensures.1 in
+    rw (p.1, p.2)
+    (refused_at c.in_err-feed.field-0.0 (feed_under plan (groups_under c.args.bytes.now plan)) (λ feed. Ok (record { plans = map arc_value c.args.plans.now; bytes = c.args.bytes.now; feed = feed })) c.in_err-feed.ensures)
+
+pub returns-in_err-new-clause-refused : goal.returns-in_err-new-clause-refused
+returns-in_err-new-clause-refused c =
+    let plan = arc_value c.args.plan.now in
+    let p = err_from_is_err_and c.from_residual-in_err-new.result c.from_residual-in_err-new.ensures.1 in
+    rw (p.1, p.2)
+    (refused_behind c.args.inputs.now c.in_err-new.field-0.0 (feed_under plan (groups_under c.args.bytes.now plan)) (λ feed. Ok (record { plans = map arc_value c.args.plans.now; bytes = c.args.bytes.now; feed = feed }))
+    c.in_ok-feed.feed c.in_ok-feed.ensures c.in_err-new.ensures.refused)

@@ -1,0 +1,2 @@
+mod LeastLaws
+mod LimitLaws

@@ -1,0 +1,16 @@
+use Rattle.std.proofs.Common.{map}
+use Rattle.std.proofs.lemmas.Result.{err_from_is_err_and}
+use Rattle.std.specs.Arc.{arc_value}
+use Rattle.compact_limit.proofs.LimitLaws.{one_more, stops_here}
+use Rattle.compact_limit.proofs.limit.least_of.Goals as goal
+
+pub loop-checkpoint-preserved : goal.loop-checkpoint-preserved
+loop-checkpoint-preserved c =
+    one_more (map arc_value c.args.plans.now) c.args.feed.now c.args.stream c.args.named c.loop-checkpoint.number c.in_ok-other.other c.lesser-number.result c.args.checkpoints.now c.loop-checkpoint.checkpoint-index c.checkpoint-item.result
+    c.loop-checkpoint-test.true c.checkpoint-item.is c.loop-checkpoint.invariant (rw c.deref.ensures.value at c.in_ok-other.ensures.stands) c.lesser-number.ensures.up_to c.lesser-number.ensures.behind c.lesser-number.ensures.reached
+
+pub returns-in_err-other-clause-refused : goal.returns-in_err-other-clause-refused
+returns-in_err-other-clause-refused c =
+    let p = err_from_is_err_and c.from_residual.result c.from_residual.ensures.1 in
+    rw (p.1, p.2) (stops_here (map arc_value c.args.plans.now) c.args.feed.now c.args.stream c.args.named c.loop-checkpoint.number c.args.checkpoints.now c.loop-checkpoint.checkpoint-index c.checkpoint-item.result c.in_err-other.field-0.0
+    c.loop-checkpoint-test.true c.checkpoint-item.is c.loop-checkpoint.invariant (rw c.deref.ensures.value at c.in_err-other.ensures.refused))

@@ -1,0 +1,4 @@
+pub mod Laws
+pub mod Least
+pub mod Limit
+pub mod Refused
