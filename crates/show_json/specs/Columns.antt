@@ -30,7 +30,7 @@ pub record ToldColumns : Type 0 where
 abbrev pub told_with : Option ToldColumns → List FieldValue → ToldColumns
 told_with None columns = record { columns = columns; agreed = are_apart [] columns }
 told_with (Some told) columns =
-    if is_front columns told.columns then told else record { columns = columns; agreed = told.agreed && is_front told.columns columns && are_apart [] columns }
+    if is_front columns told.columns then told else record { columns = columns; agreed = (told.agreed && is_front told.columns columns) && are_apart [] columns }
 
 -- the columns by whose names a row is told: none where the events don't agree
 abbrev pub named_columns : Option ToldColumns → List FieldValue

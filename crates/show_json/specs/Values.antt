@@ -14,20 +14,33 @@ is_text_byte byte = (nat_le 32 byte && not (byte == 127)) || byte == 9 || byte =
 abbrev pub is_text : List ℕ → Bool
 is_text bytes = list_all is_text_byte bytes && is_utf8 bytes
 
--- a value: the text that it is, else its bytes as a cell of a dump
+-- bytes as a cell of a dump
+abbrev pub cell_data : List ℕ → Data
+cell_data bytes = object (member (codes "bytes") (string (cell (Some bytes))) no_members)
+
+-- a value: the text that it is, else its bytes
 abbrev pub bytes_data : List ℕ → Data
-bytes_data bytes = if is_text bytes then string bytes else object (member (codes "bytes") (string (cell (Some bytes))) no_members)
+bytes_data bytes = if is_text bytes then string bytes else cell_data bytes
 
 -- the value of a column: null for NULL
 abbrev pub value_data : Option (List ℕ) → Data
 value_data None = null
 value_data (Some bytes) = bytes_data bytes
 
+-- the name of the first column that is left, or else its number
+abbrev pub name_of : ℕ → List FieldValue → List ℕ
+name_of i [] = decimal i
+name_of i (column ∷ columns) = column.name
+
+-- the columns behind it
+abbrev pub behind_first : List FieldValue → List FieldValue
+behind_first [] = []
+behind_first (column ∷ columns) = columns
+
 -- values from column i on, each by the name that its column has, or else by its number, from 1
 abbrev pub value_members : ℕ → List FieldValue → List (Option (List ℕ)) → Members
 value_members i columns [] = no_members
-value_members i [] (value ∷ row) = member (decimal i) (value_data value) (value_members (i + 1) [] row)
-value_members i (column ∷ columns) (value ∷ row) = member column.name (value_data value) (value_members (i + 1) columns row)
+value_members i columns (value ∷ row) = member (name_of i columns) (value_data value) (value_members (i + 1) (behind_first columns) row)
 
 -- a row: an object of its values in order
 abbrev pub row_data : List FieldValue → List (Option (List ℕ)) → Data

@@ -1,9 +1,9 @@
 //! The names of the columns of a feed's tables.
 
-ghost use Rattle.std.specs.Prelude.{◌≡◌, ℕ, List, [], None, Some, IfOk, OnOk, map, if◌then◌else◌, option_copied};
+ghost use Rattle.std.specs.Prelude.{◌≡◌, ℕ, List, [], None, Some, IfOk, OnOk, map, if◌then◌else◌};
 ghost use Rattle.std.specs.List.{list_any};
 ghost use Rattle.std.specs.Str.{bytes_eq};
-ghost use Rattle.std.specs.Option.{option_map};
+ghost use Rattle.show_json.specs.Private.Kept.{IsJudged, told_by};
 ghost use Rattle.vevent.specs.EventView.{event_value};
 ghost use Rattle.vevent.specs.Response.{response_of};
 ghost use Rattle.show_json.specs.Columns.{are_apart, columns_of, is_front, told_at, told_behind, told_with};
@@ -68,6 +68,27 @@ pub(crate) struct KeptColumns<'h> {
     agreed: bool,
 }
 
+/// The same behind what is kept of its table.
+fn judged_behind(
+    alloc: Global,
+    kept: &KeptColumns<'_>,
+    columns: &FieldEvent<'_>,
+) -> Result<Option<bool>, AllocError>
+    ensures { IfOk result (λ judged. IsJudged (Some (told_by kept.now)) columns.now.fields judged) }
+{
+    if is_front(columns.fields(), kept.columns.fields()) {
+        return Ok(None);
+    }
+    if !kept.agreed {
+        return Ok(Some(false));
+    }
+    if !is_front(kept.columns.fields(), columns.fields()) {
+        return Ok(Some(false));
+    }
+    let agreed = are_apart(alloc, columns.fields())?;
+    Ok(Some(agreed))
+}
+
 /// What the FIELD events of a feed say of each table.
 #[derive(Drop)]
 pub struct FeedColumns<'h> {
@@ -75,7 +96,7 @@ pub struct FeedColumns<'h> {
 }
 
 impl<'h> FeedColumns<'h> {
-    ghost use Rattle.show_json.specs.Private.Kept.{columns_in, told_in};
+    ghost use Rattle.show_json.specs.Private.Kept.{IsJudged, columns_in, told_in};
     ghost use Rattle.show_json.specs.Private.Listed.{listed};
 
     /// Nothing is said. Takes no memory.
@@ -84,6 +105,24 @@ impl<'h> FeedColumns<'h> {
     {
         FeedColumns {
             tables: IndexMap::with_hasher(alloc, BuildHasherDefault::new()),
+        }
+    }
+
+    /// What a FIELD of this table says that isn't said yet: whether all name its columns alike then.
+    fn judged(
+        &self,
+        alloc: Global,
+        table: &str,
+        columns: &FieldEvent<'h>,
+    ) -> Result<Option<bool>, AllocError>
+        ensures { IfOk result (λ judged. IsJudged (told_in self.now table.now) columns.now.fields judged) }
+    {
+        match self.tables.get(table) {
+            None => {
+                let agreed = are_apart(alloc, columns.fields())?;
+                Ok(Some(agreed))
+            }
+            Some(kept) => judged_behind(alloc, kept, columns),
         }
     }
 
@@ -96,19 +135,13 @@ impl<'h> FeedColumns<'h> {
     ) -> Result<(), AllocError>
         ensures { OnOk result ((name : List ℕ) → told_in self.new name ≡ (if bytes_eq table.now name then Some (told_with (told_in self.old name) columns.entry.fields) else told_in self.old name)) }
     {
-        let agreed = match self.tables.get(table) {
-            None => are_apart(alloc, columns.fields())?,
-            Some(kept) => {
-                if is_front(columns.fields(), kept.columns.fields()) {
-                    return Ok(());
-                }
-                kept.agreed
-                    && is_front(kept.columns.fields(), columns.fields())
-                    && are_apart(alloc, columns.fields())?
+        match self.judged(alloc, table, &columns)? {
+            None => Ok(()),
+            Some(agreed) => {
+                self.tables.insert(table, KeptColumns { columns, agreed })?;
+                Ok(())
             }
-        };
-        self.tables.insert(table, KeptColumns { columns, agreed })?;
-        Ok(())
+        }
     }
 
     /// Takes what an event says.

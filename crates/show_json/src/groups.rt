@@ -3,9 +3,10 @@
 ghost use Rattle.std.specs.Prelude.{◌≡◌};
 ghost use Rattle.serde_json.specs.Written.{compact_text};
 ghost use Rattle.vdiff_core.specs.Printing.{Prints};
-ghost use Rattle.json_pieces.specs.Pieces.{list_data};
+ghost use Rattle.json_pieces.specs.Pieces.{list_data, pieces_text};
 ghost use Rattle.json_pieces.specs.Telling.{Tells, at};
 ghost use Rattle.show_json.specs.Private.Kept.{columns_in};
+ghost use Rattle.show_json.specs.Private.Parts.{group_end};
 ghost use Rattle.show_json.specs.Text.{change_data, group_data, json_line, json_text_of};
 
 use crate::columns::FeedColumns;
@@ -23,7 +24,15 @@ fn put_change<O: Out>(out: &mut O, line: &mut Line, tables: &FeedColumns<'_>, ch
     put_side(out, line, tables.columns(table), change.after_bytes());
     line.put(out, b",\"before\":");
     put_side(out, line, tables.columns(table), change.before_bytes());
-    put_pieces(out, line, &[Piece::Text(",\"table\":"), Piece::Name(table), Piece::Text("}")]);
+    put_pieces(
+        out,
+        line,
+        &[
+            Piece::Text(",\"table\":"),
+            Piece::Name(table),
+            Piece::Text("}"),
+        ],
+    );
 }
 
 /// Puts changes.
@@ -45,20 +54,26 @@ fn put_changes<O: Out>(
     line.put(out, b"]");
 }
 
+/// What stands behind the changes of a group.
+fn end_pieces<'p>(group: &'p Group<'_, '_>) -> [Piece<'p>; 5]
+    ensures { pieces_text result ≡ group_end group.entry.now }
+{
+    [
+        Piece::Text(",\"group\":"),
+        Piece::Number(u64::from(group.number())),
+        Piece::Text(",\"position\":"),
+        Piece::Position(group.position()),
+        Piece::Text("}\n"),
+    ]
+}
+
 /// Puts the line of a group.
 fn put_group<O: Out>(out: &mut O, line: &mut Line, tables: &FeedColumns<'_>, group: &Group<'_, '_>)
     ensures { Tells (at (O.written out.old) line.old) (at (O.written out.new) line.new) (json_line (group_data (columns_in tables.now) group.now)) }
 {
     line.put(out, b"{\"changes\":");
     put_changes(out, line, tables, group.changes());
-    let pieces = [
-        Piece::Text(",\"group\":"),
-        Piece::Number(u64::from(group.number())),
-        Piece::Text(",\"position\":"),
-        Piece::Position(group.position()),
-        Piece::Text("}\n"),
-    ];
-    put_pieces(out, line, &pieces);
+    put_pieces(out, line, &end_pieces(group));
 }
 
 /// Puts the lines of groups.
