@@ -65,16 +65,16 @@ fn put_named_row<O: Out>(
     row: Columns<'_>,
     count: usize,
 )
-    requires { length row.entry ≡ count }
+    requires { length row ≡ count }
     ensures { Tells (at (O.written out.old) line.old) (at (O.written out.new) line.new) (compact_text (row_data columns.entry row.entry)) }
 {
     line.put(out, b"{");
     let mut columns = columns;
-    let mut number = 0;
+    let mut number: u64 = 0;
     let mut later = false;
     for value in row {
         number += 1;
-        put_member(out, line, later, &mut columns, number as u64, &value);
+        put_member(out, line, later, &mut columns, number, &value);
         later = true;
     }
     line.put(out, b"}");
@@ -82,15 +82,15 @@ fn put_named_row<O: Out>(
 
 /// Puts a row of so many values, each by the number of its column.
 fn put_numbered_row<O: Out>(out: &mut O, line: &mut Line, row: Columns<'_>, count: usize)
-    requires { length row.entry ≡ count }
+    requires { length row ≡ count }
     ensures { Tells (at (O.written out.old) line.old) (at (O.written out.new) line.new) (compact_text (row_data [] row.entry)) }
 {
     line.put(out, b"{");
-    let mut number = 0;
+    let mut number: u64 = 0;
     let mut later = false;
     for value in row {
         number += 1;
-        put_numbered(out, line, later, number as u64, &value);
+        put_numbered(out, line, later, number, &value);
         later = true;
     }
     line.put(out, b"}");

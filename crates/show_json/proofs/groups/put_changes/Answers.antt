@@ -7,7 +7,8 @@ use Rattle.show_json.specs.Text.{change_data}
 use Rattle.show_json.proofs.groups.put_changes.Goals as goal
 
 pub loop-change-init : goal.loop-change-init
-loop-change-init g c = begins _ _ (91 ∷ []) (items_text false (items_of (map (change_data (columns_in c.args.tables.now)) c.args.changes))) c.put.ensures
+loop-change-init g c =
+    rw c.into_iter-change-iterator.ensures.into_iter_gives (begins _ _ (91 ∷ []) (items_text false (items_of (map (change_data (columns_in c.args.tables.now)) c.args.changes))) c.put.ensures)
 
 pub loop-change-preserved : goal.loop-change-preserved
 loop-change-preserved g c =

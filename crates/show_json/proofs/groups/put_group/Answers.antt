@@ -16,8 +16,8 @@ pub returns : goal.returns
 unfolding escape_byte
 returns g c =
     let group = c.args.group.now in
-    let data = change_data (columns_in c.args.tables.now) in
-    let changes = ap (λ (l : List TableChangeValue). compact_text (list_data data l)) c.changes.ensures in
-    same_text _ _ _ _ (line-text (compact_text (list_data data group.changes)) (decimal group.number) (quoted (printed_position group.position)))
+    let told = change_data (columns_in c.args.tables.now) in
+    let changes = ap (λ (l : List TableChangeValue). compact_text (list_data told l)) c.changes.ensures in
+    same_text _ _ _ _ (line-text (compact_text (list_data told group.changes)) (decimal group.number) (quoted (printed_position group.position)))
     (then_tells _ _ _ (codes "{\"changes\":") _ c.put.ensures
-    (then_tells _ _ _ (compact_text (list_data data group.changes)) (group_end group) (same_text _ _ _ _ changes c.put_changes.ensures) (same_text _ _ _ _ c.end_pieces.ensures c.put_pieces.ensures)))
+    (then_tells _ _ _ (compact_text (list_data told group.changes)) (group_end group) (same_text _ _ _ _ changes c.put_changes.ensures) (same_text _ _ _ _ c.end_pieces.ensures c.put_pieces.ensures)))

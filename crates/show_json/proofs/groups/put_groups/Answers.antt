@@ -1,10 +1,13 @@
 use Rattle.std.proofs.Common.{◌∙◌, ap}
 use Rattle.std.proofs.lemmas.List.Concat.{flat_map-cons}
 use Rattle.source_feed.specs.GroupValue.{GroupValue}
-use Rattle.json_pieces.proofs.TellLaws.{moves, ends}
+use Rattle.json_pieces.proofs.TellLaws.{starts, moves, ends}
 use Rattle.show_json.specs.Private.Kept.{columns_in}
 use Rattle.show_json.specs.Text.{group_data, json_line, json_text_of}
 use Rattle.show_json.proofs.groups.put_groups.Goals as goal
+
+pub loop-group-init : goal.loop-group-init
+loop-group-init g c = rw (c.into_iter-group-iterator.ensures.into_iter_gives ∙ c.iter-group-items.ensures) (starts _ _)
 
 pub loop-group-preserved : goal.loop-group-preserved
 loop-group-preserved g c =
