@@ -1,4 +1,4 @@
-use Rattle.std.proofs.Common.{◌≡◌, ◌+◌, [], ◌∷◌, false, length}
+use Rattle.std.proofs.Common.{◌≡◌, ◌+◌, ◌∷◌, false, length}
 use Rattle.serde_json.specs.Written.{members_text}
 use Rattle.json_pieces.specs.Telling.{IsToldUpTo, at}
 use Rattle.show_json.specs.Values.{value_members}

@@ -1,4 +1,4 @@
-use Rattle.std.proofs.Common.{◌≡◌, ℕ, List, length, Option, None}
+use Rattle.std.proofs.Common.{◌≡◌, ℕ, List, length, None}
 use Rattle.proto_wire.specs.Frame.{frames_of}
 use Rattle.show_json.specs.Columns.{told_in_messages}
 use Rattle.show_json.specs.Private.Kept.{told_in}
