@@ -16,7 +16,12 @@ use source_feed::{Change, Group, GroupChanges, Groups};
 use vdiff_core::{Out, OutFailed};
 
 /// Puts a change.
-fn put_change<O: Out>(out: &mut O, line: &mut Line, tables: &FeedColumns<'_>, change: &Change<'_, '_>)
+fn put_change<O: Out>(
+    out: &mut O,
+    line: &mut Line,
+    tables: &FeedColumns<'_>,
+    change: &Change<'_, '_>,
+)
     ensures { Tells (at (O.written out.old) line.old) (at (O.written out.new) line.new) (compact_text (change_data (columns_in tables.now) change.now)) }
 {
     let table = change.table();

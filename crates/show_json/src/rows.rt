@@ -26,13 +26,7 @@ fn put_named<O: Out>(out: &mut O, line: &mut Line, later: bool, name: &str, valu
 }
 
 /// Puts a value by the number of its column.
-fn put_numbered<O: Out>(
-    out: &mut O,
-    line: &mut Line,
-    later: bool,
-    number: u64,
-    value: &Column<'_>,
-)
+fn put_numbered<O: Out>(out: &mut O, line: &mut Line, later: bool, number: u64, value: &Column<'_>)
     ensures { Tells (at (O.written out.old) line.old) (at (O.written out.new) line.new) (member_part later (decimal number) (column_value value.now)) }
 {
     let mut digits = Buffer::new();

@@ -15,7 +15,7 @@ loop-value-init g c = record {
 pub loop-value-preserved : goal.loop-value-preserved
 loop-value-preserved g c =
     let parts = ap (λ l. members_text c.loop-value.later (value_members (c.loop-value.number + 1) [] l)) c.in-Some.ensures.steps
-        ∙ member-at c.loop-value.later (c.loop-value.number + 1) [] (column_value c.in-Some.value) c.next.new.self in
+    ∙ member-at c.loop-value.later (c.loop-value.number + 1) [] (column_value c.in-Some.value) c.next.new.self in
     record {
       told = moves _ _ _ _ _ _ _ parts c.loop-value.invariant.told c.put_numbered.ensures;
       count = omega (arith, c.loop-value.invariant.count, ap length c.in-Some.ensures.steps);
