@@ -1,4 +1,5 @@
 """Positions, and a feed as its groups."""
+import json
 import re
 
 from . import Refused, cell, wire
@@ -74,6 +75,7 @@ class Feed:
     def __init__(self, data, keyspace=b"", shard=b"", tables=None):
         self.keyspace, self.shard, self.tables = keyspace, shard, tables
         self.groups, self.columns, self.seen, self.differs = [], {}, {}, False
+        self.told = {}  # of each table the names of a FIELD that has the most of them, and whether all name them alike
         self.open, self.position, self.changes = False, None, []
         if len(data) > LONGEST_FEED:
             raise Refused(95)
@@ -113,6 +115,7 @@ class Feed:
         elif event.type == wire.FIELD:
             name = self.table(event)
             self.columns[name] = len(event.columns)
+            self.told[name] = told_with(self.told.get(name), [column for column, _ in event.columns])
             self.differs |= self.tables is not None and self.tables.get(name, event.columns) != event.columns
         elif event.type == wire.ROW:
             self.rows(event)
@@ -171,6 +174,51 @@ def show(data, keyspace=b"", shard=b""):
             for sign, row in ((b"-", before), (b"+", after)):
                 if row is not None:
                     out.append(b"\t".join([sign + b" " + table, *map(cell, row)]) + b"\n")
+    return b"".join(out)
+
+
+def are_apart(names):
+    return len(names) <= 256 and b"" not in names and len(set(names)) == len(names)
+
+
+def told_with(told, names):
+    """What the FIELDs of a table say of its columns' names, behind one more."""
+    if told is None:
+        return names, are_apart(names)
+    most, agreed = told
+    if names == most[: len(names)]:
+        return told
+    return names, agreed and most == names[: len(most)] and are_apart(names)
+
+
+def json_value(value):
+    """A value as JSON: a text where it is one without control characters but blanks, else its bytes."""
+    if value is None:
+        return None
+    try:
+        if all(byte >= 32 and byte != 127 or byte in b"\t\n\r" for byte in value):
+            return value.decode()
+    except UnicodeDecodeError:
+        pass
+    return {"bytes": cell(value).decode()}
+
+
+def show_json(data, keyspace=b"", shard=b""):
+    """What `show --json` prints of a feed."""
+    feed = Feed(data, keyspace, shard)
+
+    def row_of(table, row):
+        if row is None:
+            return None
+        most, agreed = feed.told[table]
+        names = [it.decode() for it in most] if agreed else [str(i) for i in range(1, len(row) + 1)]
+        return {name: json_value(value) for name, value in zip(names, row)}
+
+    out = []
+    for number, (position, changes) in enumerate(feed.groups, 1):
+        told = [{"after": row_of(table, after), "before": row_of(table, before), "table": table.decode()} for table, before, after in changes]
+        line = {"changes": told, "group": number, "position": print_position(position).decode()}
+        out.append(json.dumps(line, ensure_ascii=False, separators=(",", ":")).encode() + b"\n")
     return b"".join(out)
 
 

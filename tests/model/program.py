@@ -4,7 +4,7 @@ import re
 from . import Refused, checkpoint
 from .board import Board, dump, key_text, read_script
 from .check import check
-from .feed import Feed, bytes_of_hex, show
+from .feed import Feed, bytes_of_hex, show, show_json
 from .told import place
 from .vdiff import vdiff
 from .workflow import Workflow
@@ -124,7 +124,8 @@ def said_by(words, files, stdin):
     policy = [int(values.get(name, usual)) for name, usual in (("rows", 1000), ("ahead", 100), ("chunks", 4))]
     if command == "show":
         data = bytes_of_hex(given[0]) if is_hex else given[0]
-        return show(data, values.get("keyspace", "").encode(), values.get("shard", "").encode())
+        shown = show_json if "--json" in options else show
+        return shown(data, values.get("keyspace", "").encode(), values.get("shard", "").encode())
     if command == "vdiff":
         first = int(values["first"]) if "first" in values else None
         return vdiff(*given, names[1:], "--tables" in options, first, "--json" in options)

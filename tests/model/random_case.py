@@ -89,7 +89,7 @@ class Case(Feeds):
         self.files["feed"] = self.feeds[0]
         keyspace, shard = (self.keyspace, (self.read.shards if self.read else [b""])[0]) if self.chance(0.8) else (b"", b"")
         words = [f"--keyspace={keyspace.decode()}"] * bool(keyspace) + [f"--shard={shard.decode()}"] * bool(shard)
-        self.words = ["show", *self.options(), *words, "feed"]
+        self.words = ["show", *self.options(), *["--json"] * self.chance(0.4), *words, "feed"]
 
     def step(self):
         self.words = ["step", *self.options(), *self.named_feeds()]

@@ -2,7 +2,11 @@
 use Rattle.std.specs.Prelude.{◌≡◌, ℕ, List, Option, None, Some, Result, Bool, false, codes, if◌then◌else◌}
 use Rattle.std.specs.Str.{bytes_eq}
 use Rattle.vrepl_main.specs.Reasons.{Reason}
-use Rattle.vrepl_main.specs.Show.{shown_feed}
+use Rattle.vrepl_main.specs.Show.{shown_feed, shown_source}
+use Rattle.vrepl_show.specs.ShowJson.{json_feed}
+use Rattle.vrepl_choices.specs.declared.feed_form.FeedForm.{FeedForm}
+use Rattle.vrepl_choices.specs.declared.report_form.ReportForm.{ReportForm}
+use Rattle.vrepl_choices.specs.declared.report_form.ReportForm.TheVariants.{Lines, Json}
 use Rattle.vrepl_check.specs.declared.inputs.CheckInputs.{CheckInputs}
 use Rattle.vrepl_vdiff.specs.declared.inputs.VdiffInputs.{VdiffInputs}
 use denote.Ref.{Bor}
@@ -17,9 +21,14 @@ use Rattle.vrepl_words.specs.declared.words.Compact.{Compact}
 use Rattle.vrepl_words.specs.declared.words.Show.{Show}
 use Rattle.vrepl_words.specs.declared.words.Vdiff.{Vdiff}
 
+-- the text of a feed's groups in this form, or why it is refused
+abbrev pub text_as : ReportForm → FeedForm → List ℕ → List ℕ → List ℕ → Result (List ℕ) Reason
+text_as Lines form feed keyspace shard = shown_feed form feed (shown_source keyspace shard)
+text_as Json form feed keyspace shard = json_feed form feed (shown_source keyspace shard)
+
 -- the text that the words of `show` ask for of a feed, or why it is refused
 abbrev pub text_asked : Show → List ℕ → Result (List ℕ) Reason
-text_asked show feed = shown_feed show.feed_form feed (record { keyspace = show.keyspace.now; shard = show.shard.now })
+text_asked show feed = text_as show.report_form show.feed_form feed show.keyspace.now show.shard.now
 
 -- the target's dump is standard input, unless the source's is
 abbrev pub is_other : List ℕ → List ℕ → Bool

@@ -6,6 +6,7 @@ use Rattle.clap.specs.declared.error.Error.{Error}
 use Rattle.clap.proofs.SimpleLemmas.{is_nil}
 use Rattle.clap.proofs.OnLiterals.{clap_on_literals}
 use Rattle.vrepl_choices.specs.declared.feed_form.FeedForm.TheVariants.{Hex}
+use Rattle.vrepl_choices.specs.declared.report_form.ReportForm.TheVariants.{Lines}
 use Rattle.vrepl_words.specs.Words.{asked_by, asks_show, faults_of, program_app, words_or_default, words_of}
 
 pub simple : is_simple program_app ≡ true
@@ -18,7 +19,7 @@ simple_and_free = refl
 
 -- ---- no words
 
-pub no_words_asked : words_of [] ≡ Some (asks_show (record { feed_form = Hex; keyspace = []; shard = []; feed = codes "-" }))
+pub no_words_asked : words_of [] ≡ Some (asks_show (record { feed_form = Hex; report_form = Lines; keyspace = []; shard = []; feed = codes "-" }))
 unfolding clap_on_literals program_app asked_by
 no_words_asked = refl
 

@@ -21,6 +21,7 @@ use Rattle.vrepl_words.specs.declared.words.Words.TheVariants as words
 abbrev pub show_value : Show → ShowValue
 show_value show = record {
   feed_form = show.feed_form;
+  report_form = show.report_form;
   keyspace = show.keyspace.now;
   shard = show.shard.now;
   feed = show.feed.now;

@@ -13,9 +13,10 @@ use Rattle.vrepl_words.specs.declared.numbers.TheConstants.{ROWS, AHEAD, CHUNKS,
 use Rattle.vrepl_words.specs.Arguments.{count_given, flag_rule, further_rule, gives_streams, is_given, needed_rule, operand_rule, operands_rule, optional_rule, option_rule, portion_given, refusal_given, stream_given, streams_given, text_given, texts_given}
 use Rattle.vrepl_words.specs.Choices.{feed_form_given, report_form_given, threading_given}
 
--- `show`: a feed, whose it is, and how it is given
+-- `show`: a feed, whose it is, how it is given, and how its groups are printed
 pub record ShowValue : Type 0 where
   pub feed_form : FeedForm
+  pub report_form : ReportForm
   pub keyspace : Text
   pub shard : Text
   pub feed : Text
@@ -141,16 +142,17 @@ pub record Subcommand : Type 0 where
 abbrev pub show_given : List Row → ShowValue
 show_given given = record {
   feed_form = feed_form_given given;
+  report_form = report_form_given given;
   keyspace = text_given (codes "keyspace") given;
   shard = text_given (codes "shard") given;
   feed = text_given (codes "feed") given;
 }
 
--- `show [--hex] [--keyspace TEXT] [--shard TEXT] FEED`
+-- `show [--hex] [--json] [--keyspace TEXT] [--shard TEXT] FEED`
 abbrev pub show_subcommand : Subcommand
 show_subcommand = record {
   name = codes "show";
-  rules = flag_rule (codes "hex") ∷ option_rule (codes "keyspace") ∷ option_rule (codes "shard") ∷ operand_rule (codes "feed") ∷ [];
+  rules = flag_rule (codes "hex") ∷ flag_rule (codes "json") ∷ option_rule (codes "keyspace") ∷ option_rule (codes "shard") ∷ operand_rule (codes "feed") ∷ [];
   meaning = λ given. Some (asks_show (show_given given));
 }
 

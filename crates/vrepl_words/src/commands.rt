@@ -62,8 +62,10 @@ fn show_command<'w>(alloc: Global) -> Result<Command<'w>, AllocError>
 {
     let feed_help = "The feed's file, or - for standard input";
     let about = "Prints the transactions of a feed with their positions";
+    let json_help = "Prints a JSON object a line, one a transaction";
     let command = Ok(bare(alloc, "show", about, help::SHOW));
     let command = with_arg(command, hex(alloc));
+    let command = with_arg(command, flag(alloc, "json", json_help));
     let command = with_arg(
         command,
         option(alloc, "keyspace", "K", "The feed's keyspace"),

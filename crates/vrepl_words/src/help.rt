@@ -19,6 +19,11 @@ Example:
   group 1 3e11fa47-71ca-11e1-9e33-c80aa9429562:1
   + t\tx31\tx6162
 
+With --json it is
+  {\"changes\":[{\"after\":{\"id\":\"1\",\"v\":\"ab\"},\"before\":null,\"table\":\"t\"}],
+   \"group\":1,\"position\":\"3e11fa47-71ca-11e1-9e33-c80aa9429562:1\"}
+on one line; a value that is no printable text is {\"bytes\":\"x00ff\"}.
+
 Names of tables are printed as they stand, with line feeds and control
 characters: look at a feed that isn't trusted by `| cat -v`.
 

@@ -17,7 +17,7 @@ use crate::words::{
 };
 use clap::{ArgMatches, Command, Error};
 use std::alloc::{AllocError, Global};
-use vrepl_choices::FeedForm;
+use vrepl_choices::{FeedForm, ReportForm};
 
 /// Reads the words that follow the program's name. Without any they are `show --hex -`.
 ///
@@ -30,6 +30,7 @@ pub fn read<'w>(alloc: Global, words: &'w [String]) -> Result<Words<'w>, Error>
     if words.is_empty() {
         return Ok(Words::Show(Show {
             feed_form: FeedForm::Hex,
+            report_form: ReportForm::Lines,
             keyspace: "",
             shard: "",
             feed: "-",
@@ -84,6 +85,7 @@ fn show_words<'w>(given: &ArgMatches<'w>) -> Show<'w>
 {
     Show {
         feed_form: feed_form_given(given),
+        report_form: report_form_given(given),
         keyspace: text(given, "keyspace"),
         shard: text(given, "shard"),
         feed: text(given, "feed"),

@@ -188,6 +188,8 @@ pub struct Vdiff<'w> {
 pub struct Show<'w> {
     /// How the feed is given.
     pub feed_form: FeedForm,
+    /// How the groups are printed.
+    pub report_form: ReportForm,
     /// The keyspace that the feed is of, empty unless given.
     pub keyspace: &'w str,
     /// The shard that the feed is of, empty unless given.

@@ -1,0 +1,4 @@
+pub mod Columns
+pub mod Private
+pub mod Text
+pub mod Values
