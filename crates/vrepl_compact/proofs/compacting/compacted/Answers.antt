@@ -17,7 +17,7 @@ returns-clause-compacted c =
 pub returns-in_err-plans-clause-refused : goal.returns-in_err-plans-clause-refused
 returns-in_err-plans-clause-refused c =
     let inputs = c.args.inputs.now in
-    let p = err_from_is_err_and c.from_residual-in_err-plans.result c.from_residual-in_err-plans.ensures.1 in
+    let p = err_from_is_err_and c.from_residual.result c.from_residual.ensures.1 in
     rw (p.1, p.2) (refused_at c.in_err-plans.field-0.0 (said_plans (plans_of inputs.workflow.items)) (asked_under inputs) (rw c.deref.ensures.value at c.in_err-plans.ensures))
 
 pub returns-in_err-new-clause-refused : goal.returns-in_err-new-clause-refused

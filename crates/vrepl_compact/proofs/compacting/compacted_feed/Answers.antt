@@ -24,7 +24,7 @@ returns-in-Err-clause-refused c =
 
 pub returns-in_err-number-clause-refused : goal.returns-in_err-number-clause-refused
 returns-in_err-number-clause-refused c =
-    let p = err_from_is_err_and c.from_residual-in_err-number.result c.from_residual-in_err-number.ensures.1 in
+    let p = err_from_is_err_and c.from_residual.result c.from_residual.ensures.1 in
     rw (p.1, p.2) (c.in_err-number.ensures.refused c.args.bytes.now)
 
 pub returns-in_err-line-clause-refused : goal.returns-in_err-line-clause-refused

@@ -22,7 +22,7 @@ returns-clause-compacted c =
 pub returns-in_err-feed-clause-refused : goal.returns-in_err-feed-clause-refused
 returns-in_err-feed-clause-refused c =
     let plan = arc_value c.args.plan.now in
-    let p = err_from_is_err_and c.from_residual-in_err-feed.result c.from_residual-in_err-feed.ensures.1 in
+    let p = err_from_is_err_and c.from_residual.result c.from_residual.ensures.1 in
     rw (p.1, p.2)
     (refused_at c.in_err-feed.field-0.0 (feed_under plan (groups_under c.args.bytes.now plan)) (λ feed. Ok (record { plans = map arc_value c.args.plans.now; bytes = c.args.bytes.now; feed = feed })) c.in_err-feed.ensures)
 

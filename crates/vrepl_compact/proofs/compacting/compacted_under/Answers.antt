@@ -18,7 +18,7 @@ pub returns-in_err-plan-clause-refused : goal.returns-in_err-plan-clause-refused
 returns-in_err-plan-clause-refused c =
     let inputs = c.args.inputs.now in
     let plans = map arc_value c.args.plans.now in
-    let p = err_from_is_err_and c.from_residual-in_err-plan.result c.from_residual-in_err-plan.ensures.1 in
+    let p = err_from_is_err_and c.from_residual.result c.from_residual.ensures.1 in
     rw (p.1, p.2) (refused_at c.in_err-plan.field-0.0 (plan_or_none (slice_get plans inputs.stream)) (asked_as plans (feed_bytes inputs.feed_form inputs.feed.items)) c.in_err-plan.ensures.refused)
 
 pub returns-in_err-given-clause-refused : goal.returns-in_err-given-clause-refused
