@@ -26,7 +26,7 @@ class Ended(BaseException):
 
 class _Signals:
     def __init__(self) -> None:
-        self.asked, self.held, self.over = "", 0, False
+        self.asked, self.held, self.over, self.is_lost = "", 0, False, False
 
     def begin(self) -> None:
         for number in SIGNALS:
@@ -45,16 +45,21 @@ class _Signals:
         def lost(told: object) -> None:
             # Python drops what is raised in a callback of its own: it is raised again a moment later
             if isinstance(told.exc_value, Ended):
+                self.is_lost = True
                 signal.setitimer(signal.ITIMER_REAL, AGAIN)
             else:
                 beside(told)
 
         sys.unraisablehook = lost
-        signal.signal(signal.SIGALRM, lambda *_: self.check())
+        signal.signal(signal.SIGALRM, self._again)
 
     def _meet(self, number: int, _: FrameType | None) -> None:
         self.asked = signal.Signals(number).name
         self.check()
+
+    def _again(self, *_: object) -> None:
+        if self.is_lost:
+            self.check()
 
     def end(self) -> None:
         """From here on all is done: Python's own end, which gives each signal back its first meaning, has none to meet."""
@@ -66,6 +71,7 @@ class _Signals:
 
     def check(self) -> None:
         if self.asked and self.held <= 0 and not self.over:
+            self.is_lost = False
             raise Ended(self.asked)
 
 
