@@ -176,6 +176,31 @@ def only_some(room, r, rounds=20):
     yield f"{rounds} checkpoints moved on a stream at a time, the other as it stood", alike == 3 * rounds
 
 
+def up_to_positions(room, r, rounds=20):
+    """Feeds that end at positions leave what feeds leave that were cut there, and go on from there."""
+    feeds, done, three = two_feeds(r, 12), (0, b"", b""), ("workflow", "lower", "upper")
+    room.put(workflow=making.workflow("-80", "80-"), **feeds(12))
+    assert room.follow() == done
+    ended, alike, moved = room.get("kept"), 0, 0
+    for _ in range(rounds):
+        one, other = r.randrange(13), r.randrange(13)
+        room.put(lower=feeds(one)["lower"], upper=feeds(other)["upper"])
+        assert room.follow() == done
+        wanted, dump = room.get("kept"), room.run("run", *three)
+        room.put(**feeds(12))
+        counts = ((0, making.U, one), (1, making.V, other))
+        until = [f"--until={s}={uuid.decode()}:1-{n}" if n else f"--until={s}=" for s, uuid, n in counts]
+        how = [*r.choice(ENDS), *r.choice([[], ["--alone"]])]
+        alike += room.follow(*until, *how) == done and room.get("kept") == wanted and room.run("run", *until, *how, *three) == dump
+        moved += room.follow("--checkpoint=kept", *r.choice([[], until[1:] * (other == 12)])) == done and room.get("kept") == ended
+    yield f"{rounds} pairs of positions leave what feeds leave that end there", alike == rounds
+    yield "and what they leave goes on to the feeds' ends", moved == rounds
+    until = f"--until=0={making.U.decode()}:1-3"
+    yield "a checkpoint that stands further on is refused", room.follow("--checkpoint=kept", until) == (1, b"", b"refused 118 stream 0\n") and room.get("kept") == ended
+    room.put(**feeds(2))
+    yield "and so is a feed that doesn't reach its position", room.follow(until) == (1, b"", b"refused 128 stream 0\n") and room.get("kept") == ended
+
+
 # ---- refusals
 
 
@@ -560,7 +585,7 @@ def of_listed_columns(room, r, rounds=10):
 
 
 KEEPING = (misnamed, kept_by_each, linked, rights, own_names, two_calls, failing_calls, killed_at_each)
-PARTS = (from_nothing, from_anywhere, again_and_again, only_some, refused, cut_short, killed, *KEEPING, progress, of_listed_columns)
+PARTS = (from_nothing, from_anywhere, again_and_again, only_some, up_to_positions, refused, cut_short, killed, *KEEPING, progress, of_listed_columns)
 NOBODY = 65534
 
 

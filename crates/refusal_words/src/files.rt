@@ -15,6 +15,7 @@ pub(crate) fn text_of(number: u64) -> Option<&'static str>
         120 => Some(BAD_SCRIPT),
         121 => Some(BAD_DUMP),
         123 => Some(UNKNOWN_TABLE),
+        128 => Some(SHORT_FEED),
         129 => Some(CHANGED),
         131 => Some(CANNOT_READ),
         132 => Some(CANNOT_WRITE),
@@ -98,6 +99,18 @@ Usual causes: a feed of a whole keyspace under a workflow of some of its tables;
 a table that is to be added later.
 What to do: add the table to the workflow first; or, if nothing will ever want
 its rows, run the command again with --drop-unknown.
+";
+
+pub const SHORT_FEED: &str = "\
+128  a feed doesn't reach the position of --until
+
+A stream's feed ends before the position of --until: this has a pair that the
+feed's last position lacks. The line has the stream.
+Usual causes: a feed that is still being recorded, or that was recorded only up
+to an earlier time; a position of another shard or server; feeds in the wrong
+order.
+What to do: record the feed further, or name a position that it has reached,
+for this stream alone as --until S=POSITION. `vrepl show` prints the positions.
 ";
 
 pub const CHANGED: &str = "\

@@ -70,6 +70,7 @@ pub const LIST: &str = "\
 120  a line of the script is no step
 121  a line of a dump can't stand there
 123  rows of a table that the workflow lacks would be lost
+128  a feed doesn't reach the position of --until
 129  a file changed before it could be replaced
 131  a file can't be read
 132  a file or standard output can't be written

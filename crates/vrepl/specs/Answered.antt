@@ -48,7 +48,7 @@ IsCourseOf words course =
 abbrev pub IsAskedBy : Words → Asked → Type 0
 IsAskedBy (ways.Show words) (asked.Show of feed) = of.now ≡ words
 IsAskedBy (ways.Step words) (asked.Step inputs) = inputs.feed_form ≡ words.feed_form
-IsAskedBy (ways.Run words) (asked.Run inputs) = IsCourseOf words inputs.course × (inputs.feed_form ≡ words.feed_form)
+IsAskedBy (ways.Run words) (asked.Run inputs) = IsCourseOf words inputs.course × (inputs.feed_form ≡ words.feed_form) × (inputs.until.now ≡ words.until.items)
 IsAskedBy (ways.Save words) (asked.Save inputs) = inputs.feed_form ≡ words.step.feed_form
 IsAskedBy (ways.Resume words) (asked.Resume inputs) = inputs.step.feed_form ≡ words.step.feed_form
 IsAskedBy (ways.Join words) (asked.Join inputs) = inputs.feed_form ≡ words.feed_form

@@ -32,7 +32,7 @@ pub(crate) enum Asked<'a, 'w> {
     /// `step`.
     Step(Inputs),
     /// `run`.
-    Run(RunInputs),
+    Run(RunInputs<'a, 'w>),
     /// `save`.
     Save(Inputs),
     /// `resume`.
@@ -99,7 +99,9 @@ fn read_asked<'a, 'w>(
         }
         Words::Run(words) => {
             let course = course_of(words);
-            let inputs = read_run(rt, course, words.feed_form, words.workflow, &words.feeds)?;
+            let form = words.feed_form;
+            let until = &words.until;
+            let inputs = read_run(rt, course, form, words.workflow, &words.feeds, until)?;
             Ok(Asked::Run(inputs))
         }
         Words::Save(words) => {

@@ -54,13 +54,16 @@ fn follow_read<'w, T: Threads + Wait + Sync, G: Progress + Sync>(
 {
     let run = &words.run;
     let saved = read_saved(rt, words.checkpoint)?;
-    let inputs = read_run(rt, course_of(run), run.feed_form, run.workflow, &run.feeds)?;
+    let course = course_of(run);
+    let form = run.feed_form;
+    let inputs = read_run(rt, course, form, run.workflow, &run.feeds, &run.until)?;
     let given = given_feeds(rt.alloc(), inputs.feed_form, &inputs.feeds)?;
     let inputs = FollowInputs {
         course: inputs.course,
         checkpoint: saved.as_deref(),
         workflow: &inputs.workflow,
         feeds: &given,
+        until: inputs.until,
     };
     match moved_on(threads, rt.alloc(), words, &inputs, gate) {
         Ok(followed) => keep_followed(rt, words, place, &followed),
@@ -87,7 +90,7 @@ fn moved_on<'h, T: Threads + Wait + Sync, G: Progress + Sync>(
     threads: &T,
     alloc: Global,
     words: &Follow<'_>,
-    inputs: &FollowInputs<'h, '_>,
+    inputs: &FollowInputs<'h, '_, '_>,
     gate: &G,
 ) -> Result<Followed<'h>, Unfollowed> {
     match &words.only {

@@ -16,7 +16,7 @@ use Rattle.vdiff_core.specs.declared.reading.DumpFault.{DumpFault}
 use Rattle.vdiff_core.specs.declared.reading.DumpFault.TheVariants as faults
 use Rattle.vdiff_core.specs.declared.report.Report.{Report}
 use Rattle.vrepl_main.specs.declared.refusal.CommandRefusal.{CommandRefusal}
-use Rattle.vrepl_main.specs.declared.refusal.CommandRefusal.TheVariants.{Memory, Workflow, NoStream, FeedCount, Feed, BadHex, BadScript, BadDump, Changed, CannotRead, CannotWrite}
+use Rattle.vrepl_main.specs.declared.refusal.CommandRefusal.TheVariants.{Memory, Workflow, NoStream, FeedCount, NotReached, Feed, BadHex, BadScript, BadDump, Changed, CannotRead, CannotWrite}
 use Rattle.vrepl_main.specs.Reasons.{bad_workflow, no_stream, feed_count, bad_hex, bad_feed, bad_script, bad_dump}
 use Rattle.vrepl_main.specs.RefusalOf.{refusal_of_workflow, refusal_of_dump}
 use Rattle.vrepl_main.specs.Command.{IsUnwritten}
@@ -76,6 +76,7 @@ unwritten_comparison workflow source target compared (Workflow fault) old new du
 unwritten_comparison workflow source target compared NoStream old new dumps printed is = absurd is
 unwritten_comparison workflow source target compared (Changed file) old new dumps printed is = absurd is
 unwritten_comparison workflow source target compared FeedCount old new dumps printed is = absurd is
+unwritten_comparison workflow source target compared (NotReached stream) old new dumps printed is = absurd is
 unwritten_comparison workflow source target compared (Feed fault) old new dumps printed is = absurd is
 unwritten_comparison workflow source target compared BadHex old new dumps printed is = absurd is
 unwritten_comparison workflow source target compared (BadScript bad) old new dumps printed is = absurd is

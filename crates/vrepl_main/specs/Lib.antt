@@ -26,5 +26,6 @@ pub mod JoinedRun
 pub mod InputList
 pub mod Running
 pub mod RunIsRight
+pub mod Ending
 pub mod Followed
 pub mod OnlyFollowed

@@ -101,7 +101,8 @@ impl From<AllocError> for Unfollowed {
 }
 
 /// Moves a checkpoint on, over a workflow and its feeds, one in the order of the streams each: from the board that it
-/// makes with them, or from the beginning where there is none, all streams run to their feeds' ends. The answer is the
+/// makes with them, or from the beginning where there is none, all streams run to their feeds' ends, or up to the positions
+/// that are given. The answer is the
 /// board there and its checkpoint. In threads the gate is told of each group on its way.
 ///
 /// Refused as `resume` refuses the workflow, the feeds and the checkpoint, in this order, and then as `run` refuses the
@@ -109,7 +110,7 @@ impl From<AllocError> for Unfollowed {
 pub fn follow<'h, R: Threads + Wait + Sync, G: Progress + Sync>(
     rt: &R,
     alloc: Global,
-    inputs: &FollowInputs<'h, '_>,
+    inputs: &FollowInputs<'h, '_, '_>,
     gate: &G,
 ) -> Result<Followed<'h>, Unfollowed>
     ensures followed { IfOk result (IsFollowed (follow_asked inputs.now) (saved_asked inputs.now)) }
@@ -121,6 +122,7 @@ pub fn follow<'h, R: Threads + Wait + Sync, G: Progress + Sync>(
         inputs.course.threading,
         inputs.workflow,
         inputs.feeds,
+        inputs.until,
     )?;
     let Opened { plans, feeds } = opened;
     let plan = first_plan(&plans)?;
@@ -137,7 +139,7 @@ pub fn follow<'h, R: Threads + Wait + Sync, G: Progress + Sync>(
 fn board_at_ends<'h, R: Threads + Wait + Sync, G: Progress + Sync>(
     rt: &R,
     alloc: Global,
-    inputs: &FollowInputs<'_, '_>,
+    inputs: &FollowInputs<'_, '_, '_>,
     gate: &G,
     plans: Vec<Arc<Plan>>,
     feeds: Vec<Feed<'h>>,

@@ -8,10 +8,13 @@ ghost use Rattle.apply_core.specs.Ended.{IsNamedStream};
 ghost use Rattle.vrepl_main.specs.Followed.{RefusesFollow, saved_asked, HasNotFollowed, IsEndedRun};
 ghost use Rattle.vrepl_main.specs.Given.{given_value};
 ghost use Rattle.vrepl_main.specs.OnlyFollowed.{IsMovedOn, IsOnlyFollowed, have_streams, named_plans, opened_for, only_asked, AreThere, HasMovedOn};
+ghost use Rattle.vrepl_choices.specs.UntilValue.{until_value};
+ghost use Rattle.vrepl_main.specs.Ending.{opened_until};
 ghost use Rattle.vrepl_main.specs.OpenedFeeds.{opened_value};
 ghost use Rattle.vrepl_main.specs.Reasons.{GivesOfInputs};
 
 use crate::at_once::open_feeds_at_once;
+use crate::ending::end_opened;
 use crate::following::{Followed, Unfollowed};
 use crate::given::GivenFeed;
 use crate::named_inputs::FollowInputs;
@@ -24,7 +27,7 @@ use source_feed::Feed;
 use std::alloc::Global;
 use std::sync::Arc;
 use std::thread::Threads;
-use vrepl_choices::Threading;
+use vrepl_choices::{Threading, Until};
 
 /// Moves these streams of a checkpoint on, over a workflow and its feeds, one in the order of the streams each: from the
 /// board that it makes with them, or from the beginning where there is none, these streams run to their feeds' ends, one
@@ -35,7 +38,7 @@ use vrepl_choices::Threading;
 pub fn follow_only<'h, R: Threads + Sync>(
     rt: &R,
     alloc: Global,
-    inputs: &FollowInputs<'h, '_>,
+    inputs: &FollowInputs<'h, '_, '_>,
     only: &[u8],
 ) -> Result<Followed<'h>, Unfollowed>
     ensures followed { IfOk result (IsOnlyFollowed (only_asked only.now inputs.now) only.now (saved_asked inputs.now)) }
@@ -49,6 +52,7 @@ pub fn follow_only<'h, R: Threads + Sync>(
         only,
         inputs.workflow,
         inputs.feeds,
+        inputs.until,
     )?;
     let Opened { plans, feeds } = opened;
     let plan = first_plan(&plans)?;
@@ -61,8 +65,27 @@ pub fn follow_only<'h, R: Threads + Sync>(
     })
 }
 
-/// The workflow, which has these streams, with its feeds.
+/// The workflow, which has these streams, with its feeds, each up to the position that is given for it.
 fn open_for<'h, R: Threads + Sync>(
+    rt: &R,
+    alloc: Global,
+    threading: Threading,
+    only: &[u8],
+    workflow: &[u8],
+    given: &'h [GivenFeed<'_>],
+    until: &[Until<'_>],
+) -> Result<Opened<'h>, CommandRefusal<'static>>
+    ensures opened { GivesOfInputs opened_value result (opened_until (map until_value until.now) (opened_for only.now workflow.now (map given_value given.entry.now))) }
+    ensures plans { IfOk result (λ opened. ArePlans (map arc_value opened.plans.items)) }
+    ensures there { IfOk result (λ opened. AreThere only.now opened.plans.items) }
+{
+    let whole = open_whole_for(rt, alloc, threading, only, workflow, given)?;
+    let opened = end_opened(alloc, whole, until)?;
+    Ok(opened)
+}
+
+/// The same with whole feeds.
+fn open_whole_for<'h, R: Threads + Sync>(
     rt: &R,
     alloc: Global,
     threading: Threading,
@@ -126,7 +149,7 @@ fn is_below(count: usize, number: u8) -> bool
 /// The board on which these streams have moved on, from that of the checkpoint or from the beginning, with its feeds.
 fn board_moved_on<'h>(
     alloc: Global,
-    inputs: &FollowInputs<'_, '_>,
+    inputs: &FollowInputs<'_, '_, '_>,
     only: &[u8],
     plans: Vec<Arc<Plan>>,
     feeds: Vec<Feed<'h>>,

@@ -5,6 +5,7 @@ mod answer_text;
 mod at_once;
 mod comparing;
 mod dump;
+mod ending;
 mod following;
 mod following_only;
 mod given;

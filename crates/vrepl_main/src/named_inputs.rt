@@ -10,7 +10,7 @@ use crate::input_list::{file_names, run_inputs};
 use crate::refusal::CommandRefusal;
 use apply_core::Policy;
 use std::rt::Files;
-use vrepl_choices::{FeedForm, Threading};
+use vrepl_choices::{FeedForm, Threading, Until};
 
 /// How streams are run.
 #[derive(Clone, Copy)]
@@ -23,7 +23,7 @@ pub struct RunCourse {
 
 /// The inputs of `run`.
 #[derive(Drop)]
-pub struct RunInputs {
+pub struct RunInputs<'u, 'w> {
     /// How the streams are run.
     pub course: RunCourse,
     /// How the feeds are given.
@@ -32,6 +32,8 @@ pub struct RunInputs {
     pub workflow: Vec<u8>,
     /// The feeds, one in the order of the streams each.
     pub feeds: Vec<Vec<u8>>,
+    /// Up to which positions the feeds are read; none for whole ones.
+    pub until: &'u [Until<'w>],
 }
 
 /// The inputs of `step` and of `save`.
@@ -58,7 +60,7 @@ pub struct ResumeInputs {
 
 /// The inputs of `follow`, of whose feeds the bytes are given, since the board behind them lies over these.
 #[derive(Clone, Copy)]
-pub struct FollowInputs<'h, 'f> {
+pub struct FollowInputs<'h, 'f, 'w> {
     /// How the streams are run.
     pub course: RunCourse,
     /// The checkpoint that is moved on, never hexadecimal text; none for one from the beginning.
@@ -67,6 +69,8 @@ pub struct FollowInputs<'h, 'f> {
     pub workflow: &'h [u8],
     /// The bytes of the feeds, one in the order of the streams each.
     pub feeds: &'h [GivenFeed<'f>],
+    /// Up to which positions the feeds are read; none for whole ones.
+    pub until: &'h [Until<'w>],
 }
 
 /// The inputs of `join`.
@@ -101,15 +105,17 @@ pub struct JoinFiles<'n, 'w> {
 
 /// Reads the inputs of `run`: the workflow's file, and the feeds' files. The first that can't be read is refused, and
 /// then no later one is asked for.
-pub fn read_run<'w, R: Files + Input + AllocGlobal>(
+pub fn read_run<'u, 'w, R: Files + Input + AllocGlobal>(
     rt: &R,
     course: RunCourse,
     feed_form: FeedForm,
     workflow: &'w str,
     feeds: &[&'w str],
-) -> Result<RunInputs, CommandRefusal<'w>>
+    until: &'u [Until<'w>],
+) -> Result<RunInputs<'u, 'w>, CommandRefusal<'w>>
     ensures course { IfOk result (λ inputs. inputs.course ≡ course) }
     ensures feed_form { IfOk result (λ inputs. inputs.feed_form ≡ feed_form) }
+    ensures until { IfOk result (λ inputs. inputs.until.now ≡ until.entry.now) }
     ensures refused { IfErr result (IsUnreadAmong (File workflow.entry ∷ map File feeds.now)) }
 {
     let plans = read_input(rt, InputName::File(workflow))?;
@@ -119,6 +125,7 @@ pub fn read_run<'w, R: Files + Input + AllocGlobal>(
         feed_form,
         workflow: plans,
         feeds: texts,
+        until,
     })
 }
 

@@ -1,6 +1,7 @@
 -- What the words that were read ask for.
 use Rattle.vrepl_words.specs.Words.{CheckValue, FollowValue, JoinValue, PortionsValue, ResumeValue, RunValue, SaveValue, ShowValue, StatusValue, StepValue, TilesValue, VdiffValue, WordsValue, asks_follow, asks_join, asks_run, asks_show, asks_step, asks_save, asks_resume, asks_vdiff, asks_check, asks_tiles, asks_status, asks_explain, CompactValue, asks_compact}
 use Rattle.std.specs.Prelude.{◌≡◌, map, option_map, Option, None, Some, Result, Ok, Err}
+use Rattle.vrepl_choices.specs.UntilValue.{until_value}
 use Rattle.vrepl_words.specs.declared.portions.Portions.{Portions}
 use Rattle.vrepl_words.specs.declared.words.Check.{Check}
 use Rattle.vrepl_words.specs.declared.words.Compact.{Compact}
@@ -76,6 +77,7 @@ run_value run = record {
   threading = run.threading;
   progress = run.progress;
   portions = portions_value run.portions;
+  until = map until_value run.until.items;
   workflow = run.workflow.now;
   feeds = map (λ feed. feed.now) run.feeds.items;
 }

@@ -9,9 +9,11 @@ use Rattle.clap.specs.declared.error.kind.ErrorKind.TheVariants.{ValueValidation
 use Rattle.vrepl_choices.specs.declared.feed_form.FeedForm.{FeedForm}
 use Rattle.vrepl_choices.specs.declared.report_form.ReportForm.{ReportForm}
 use Rattle.vrepl_choices.specs.declared.threading.Threading.{Threading}
-use Rattle.vrepl_words.specs.declared.numbers.TheConstants.{ROWS, AHEAD, CHUNKS, ONLY}
+use Rattle.vrepl_words.specs.declared.numbers.TheConstants.{ROWS, AHEAD, CHUNKS, ONLY, UNTIL}
 use Rattle.vrepl_words.specs.Arguments.{count_given, flag_rule, further_rule, gives_streams, is_given, needed_rule, operand_rule, operands_rule, optional_rule, option_rule, portion_given, refusal_given, stream_given, streams_given, text_given, texts_given}
 use Rattle.vrepl_words.specs.Choices.{feed_form_given, report_form_given, threading_given}
+use Rattle.vrepl_choices.specs.UntilValue.{UntilValue}
+use Rattle.vrepl_words.specs.Untils.{gives_untils, untils_given}
 
 -- `show`: a feed, whose it is, and how it is given
 pub record ShowValue : Type 0 where
@@ -33,12 +35,13 @@ pub record PortionsValue : Type 0 where
   pub chunks : ℕ
 
 -- `run`: a workflow, a feed for each of its streams, how feeds are given, how the streams run, whether it is told how
--- far they are, and in what portions
+-- far they are, in what portions, and up to which positions the feeds are read
 pub record RunValue : Type 0 where
   pub feed_form : FeedForm
   pub threading : Threading
   pub progress : Bool
   pub portions : PortionsValue
+  pub until : List UntilValue
   pub workflow : Text
   pub feeds : List Text
 
@@ -177,9 +180,13 @@ abbrev pub bad_portion : List Row → Text
 bad_portion given =
     if is_some (portion_given 1000 (codes "rows") given) then (if is_some (portion_given 100 (codes "ahead") given) then CHUNKS.now else AHEAD.now) else ROWS.now
 
+-- what is told of the first number of `run` that is none
+abbrev pub bad_run : List Row → Text
+bad_run given = if is_some (portions_given given) then UNTIL.now else bad_portion given
+
 -- what is told of the first number of `follow` that is none
 abbrev pub bad_follow : List Row → Text
-bad_follow given = if is_some (portions_given given) then ONLY.now else bad_portion given
+bad_follow given = if gives_streams (codes "only") given then bad_run given else (if is_some (portions_given given) then ONLY.now else bad_portion given)
 
 -- what is given to the arguments of `run`
 abbrev pub run_given : List Row → PortionsValue → RunValue
@@ -188,16 +195,18 @@ run_given given portions = record {
   threading = threading_given given;
   progress = is_given (codes "progress") given;
   portions = portions;
+  until = untils_given (codes "until") given;
   workflow = text_given (codes "workflow") given;
   feeds = texts_given (codes "feed") given;
 }
 
--- `run [--hex] [--alone] [--progress] [--rows N] [--ahead N] [--chunks N] WORKFLOW FEED..`
+-- `run [--hex] [--alone] [--progress] [--rows N] [--ahead N] [--chunks N] [--until TEXT].. WORKFLOW FEED..`
 abbrev pub run_subcommand : Subcommand
 run_subcommand = record {
   name = codes "run";
-  rules = flag_rule (codes "hex") ∷ flag_rule (codes "alone") ∷ flag_rule (codes "progress") ∷ option_rule (codes "rows") ∷ option_rule (codes "ahead") ∷ option_rule (codes "chunks") ∷ operand_rule (codes "workflow") ∷ operands_rule (codes "feed") ∷ [];
-  meaning = λ given. option_map (λ portions. asks_run (run_given given portions)) (portions_given given);
+  rules = flag_rule (codes "hex") ∷ flag_rule (codes "alone") ∷ flag_rule (codes "progress") ∷ option_rule (codes "rows") ∷ option_rule (codes "ahead") ∷ option_rule (codes "chunks") ∷ further_rule (codes "until")
+      ∷ operand_rule (codes "workflow") ∷ operands_rule (codes "feed") ∷ [];
+  meaning = λ given. if gives_untils (codes "until") given then option_map (λ portions. asks_run (run_given given portions)) (portions_given given) else None;
 }
 
 -- what is given to the arguments of `save`
@@ -254,13 +263,13 @@ follow_given given portions = record {
   save_to = text_given (codes "save-to") given;
 }
 
--- `follow [--hex] [--alone] [--progress] [--dump] [--rows N] [--ahead N] [--chunks N] [--only S,..] [--checkpoint TEXT] --save-to TEXT WORKFLOW FEED..`
+-- `follow [--hex] [--alone] [--progress] [--dump] [--rows N] [--ahead N] [--chunks N] [--until TEXT].. [--only S,..] [--checkpoint TEXT] --save-to TEXT WORKFLOW FEED..`
 abbrev pub follow_subcommand : Subcommand
 follow_subcommand = record {
   name = codes "follow";
-  rules = flag_rule (codes "hex") ∷ flag_rule (codes "alone") ∷ flag_rule (codes "progress") ∷ flag_rule (codes "dump") ∷ option_rule (codes "rows") ∷ option_rule (codes "ahead") ∷ option_rule (codes "chunks") ∷ option_rule (codes "only") ∷ option_rule (codes "checkpoint") ∷ needed_rule (codes "save-to")
+  rules = flag_rule (codes "hex") ∷ flag_rule (codes "alone") ∷ flag_rule (codes "progress") ∷ flag_rule (codes "dump") ∷ option_rule (codes "rows") ∷ option_rule (codes "ahead") ∷ option_rule (codes "chunks") ∷ further_rule (codes "until") ∷ option_rule (codes "only") ∷ option_rule (codes "checkpoint") ∷ needed_rule (codes "save-to")
       ∷ operand_rule (codes "workflow") ∷ operands_rule (codes "feed") ∷ [];
-  meaning = λ given. if gives_streams (codes "only") given then option_map (λ portions. asks_follow (follow_given given portions)) (portions_given given) else None;
+  meaning = λ given. if gives_streams (codes "only") given then (if gives_untils (codes "until") given then option_map (λ portions. asks_follow (follow_given given portions)) (portions_given given) else None) else None;
 }
 
 -- what is given to the arguments of `vdiff`

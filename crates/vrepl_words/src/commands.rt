@@ -96,10 +96,8 @@ pub(crate) fn run_command<'w>(alloc: Global) -> Result<Command<'w>, AllocError>
     let command = with_arg(command, flag(alloc, "progress", progress_help));
     let command = with_arg(command, option(alloc, "rows", "N", rows_help));
     let command = with_arg(command, option(alloc, "ahead", "N", ahead_help));
-    with_streams(
-        alloc,
-        with_arg(command, option(alloc, "chunks", "N", chunks_help)),
-    )
+    let command = with_arg(command, option(alloc, "chunks", "N", chunks_help));
+    with_streams(alloc, with_arg(command, until(alloc)))
 }
 
 fn save_command<'w>(alloc: Global) -> Result<Command<'w>, AllocError>
@@ -245,6 +243,7 @@ pub(crate) fn follow_command<'w>(alloc: Global) -> Result<Command<'w>, AllocErro
     let command = with_arg(command, option(alloc, "rows", "N", rows_help));
     let command = with_arg(command, option(alloc, "ahead", "N", ahead_help));
     let command = with_arg(command, option(alloc, "chunks", "N", chunks_help));
+    let command = with_arg(command, until(alloc));
     let command = with_arg(command, option(alloc, "only", "S,..", only_help));
     let command = with_arg(
         command,
@@ -308,6 +307,14 @@ fn save_to<'w>(alloc: Global) -> Arg<'w>
 {
     let help = "The checkpoint's file; standard output unless given";
     option(alloc, "save-to", "FILE", help)
+}
+
+/// A position up to which feeds are read, which may be there several times.
+fn until<'w>(alloc: Global) -> Arg<'w>
+    ensures { HasRule (further_rule (codes "until")) result }
+{
+    let help = "Reads feeds up to it, as S=POSITION stream S's alone";
+    further(alloc, "until", "POSITION", help)
 }
 
 /// The workflow's file.

@@ -58,6 +58,10 @@ Example:
   x3131\tx6b
   x3132\tx6c
 
+With --until POSITION of each feed the groups that lie within POSITION are run,
+and no more: rows as they stood there. A feed that doesn't reach it is refused.
+--until S=POSITION is for stream S alone; the last that is for a stream counts.
+
 Status:
   0  all rows were printed
   1  refused; `vrepl explain NUMBER` says what the line's number means
@@ -125,7 +129,9 @@ Example:
       examples/two_shards/lower.hex examples/two_shards/upper.hex
 
 The file is replaced once the new checkpoint is whole, and never in part. The
-streams that --only leaves out stay as the checkpoint has them.
+streams that --only leaves out stay as the checkpoint has them. With --until
+POSITION of each feed the groups that lie within POSITION are run, and no more;
+--until S=POSITION is for stream S alone.
 
 Status:
   0  the new checkpoint stands in the file

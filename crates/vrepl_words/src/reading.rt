@@ -12,6 +12,7 @@ use crate::given::{given_portions, has_flag, text, text_if, texts};
 use crate::numbers::{bad_number, count_given, refusal_given};
 use crate::portions::Portions;
 use crate::streams::{gives_streams, stream_given, streams_given};
+use crate::untils::{gives_untils, untils_given};
 use crate::words::{
     Check, Compact, Follow, Join, Resume, Run, Save, Show, Status, Step, Tiles, Vdiff, Words,
 };
@@ -172,12 +173,16 @@ fn join_words<'w>(alloc: Global, given: &ArgMatches<'w>) -> Result<Words<'w>, Al
     }))
 }
 
-/// None where a portion that was given is none.
+/// None where a portion that was given is none, or the stream of a position.
 fn run_words<'w>(alloc: Global, given: &ArgMatches<'w>) -> Option<Result<Words<'w>, AllocError>>
     ensures { Asks result (run_subcommand.meaning (rows_of (found_of given.now))) }
 {
     let portions = given_portions(given)?;
-    Some(run_words_by(alloc, given, portions))
+    if gives_untils(given, "until") {
+        Some(run_words_by(alloc, given, portions))
+    } else {
+        None
+    }
 }
 
 /// The same with these portions. An error is want of memory.
@@ -200,23 +205,25 @@ fn run_of<'w>(
 ) -> Result<Run<'w>, AllocError>
     ensures { IfOk result (λ run. run_value run ≡ run_given (rows_of (found_of given.now)) (portions_value portions)) }
 {
+    let until = untils_given(alloc, given, "until")?;
     let feeds = texts(alloc, given, "feed")?;
     Ok(Run {
         feed_form: feed_form_given(given),
         threading: threading_given(given),
         progress: has_flag(given, "progress"),
         portions,
+        until,
         workflow: text(given, "workflow"),
         feeds,
     })
 }
 
-/// None where a portion that was given is none, or a stream.
+/// None where a portion that was given is none, or a stream, or the stream of a position.
 fn follow_words<'w>(alloc: Global, given: &ArgMatches<'w>) -> Option<Result<Words<'w>, AllocError>>
     ensures { Asks result (follow_subcommand.meaning (rows_of (found_of given.now))) }
 {
     let portions = given_portions(given)?;
-    if gives_streams(given, "only") {
+    if gives_streams(given, "only") && gives_untils(given, "until") {
         Some(follow_words_by(alloc, given, portions))
     } else {
         None

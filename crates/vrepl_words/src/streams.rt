@@ -47,7 +47,7 @@ pub(crate) fn stream_given(given: &ArgMatches<'_>, name: &str) -> Option<u8>
 }
 
 /// The number of 0 to 63 that digits spell.
-fn stream_number_of(text: &[u8]) -> Option<u8>
+pub(crate) fn stream_number_of(text: &[u8]) -> Option<u8>
     ensures { result ≡ stream_number_of text.now }
 {
     let number = natural_of(text)?;

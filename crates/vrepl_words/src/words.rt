@@ -1,7 +1,7 @@
 //! What the words of the command line ask for.
 
 use crate::portions::Portions;
-use vrepl_choices::{FeedForm, ReportForm, Threading};
+use vrepl_choices::{FeedForm, ReportForm, Threading, Until};
 
 /// What the words ask for.
 #[derive(Drop)]
@@ -45,6 +45,8 @@ pub struct Run<'w> {
     pub progress: bool,
     /// In what portions a stream is run.
     pub portions: Portions,
+    /// Up to which positions the feeds are read.
+    pub until: Vec<Until<'w>>,
     /// The workflow's file.
     pub workflow: &'w str,
     /// The feeds' files, in the order of the streams.

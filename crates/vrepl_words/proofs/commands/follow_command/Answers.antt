@@ -11,7 +11,8 @@ returns c =
     let rows = c.with_arg-command-5.ensures _ _ dump c.option.ensures in
     let ahead = c.with_arg-command-6.ensures _ _ rows c.option-2.ensures in
     let chunks = c.with_arg-command-7.ensures _ _ ahead c.option-3.ensures in
-    let only = c.with_arg-command-8.ensures _ _ chunks c.option-4.ensures in
-    let checkpoint = c.with_arg-command-9.ensures _ _ only c.option-5.ensures in
+    let until = c.with_arg-command-8.ensures _ _ chunks c.until.ensures in
+    let only = c.with_arg-command-9.ensures _ _ until c.option-4.ensures in
+    let checkpoint = c.with_arg-command-10.ensures _ _ only c.option-5.ensures in
     let save_to = c.with_arg.ensures _ _ checkpoint c.needed.ensures in
     c.with_streams.ensures _ save_to

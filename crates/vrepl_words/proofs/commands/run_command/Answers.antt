@@ -9,5 +9,6 @@ returns c =
     let progress = c.with_arg-command-3.ensures _ _ alone c.flag-2.ensures in
     let rows = c.with_arg-command-4.ensures _ _ progress c.option.ensures in
     let ahead = c.with_arg-command-5.ensures _ _ rows c.option-2.ensures in
-    let chunks = c.with_arg.ensures _ _ ahead c.option-3.ensures in
-    c.with_streams.ensures _ chunks
+    let chunks = c.with_arg-command-6.ensures _ _ ahead c.option-3.ensures in
+    let until = c.with_arg.ensures _ _ chunks c.until.ensures in
+    c.with_streams.ensures _ until
