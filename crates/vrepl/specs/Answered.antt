@@ -49,7 +49,7 @@ abbrev pub IsAskedBy : Words → Asked → Type 0
 IsAskedBy (ways.Show words) (asked.Show of feed) = of.now ≡ words
 IsAskedBy (ways.Step words) (asked.Step inputs) = inputs.feed_form ≡ words.feed_form
 IsAskedBy (ways.Run words) (asked.Run inputs) = IsCourseOf words inputs.course × (inputs.feed_form ≡ words.feed_form)
-IsAskedBy (ways.Save words) (asked.Save inputs) = inputs.feed_form ≡ words.step.feed_form
+IsAskedBy (ways.Save words) (asked.Save strict inputs) = (strict ≡ words.strict) × (inputs.feed_form ≡ words.step.feed_form)
 IsAskedBy (ways.Resume words) (asked.Resume inputs) = inputs.step.feed_form ≡ words.step.feed_form
 IsAskedBy (ways.Join words) (asked.Join inputs) = inputs.feed_form ≡ words.feed_form
 IsAskedBy (ways.Vdiff words) (asked.Vdiff inputs) = IsVdiffAsked words inputs
@@ -79,7 +79,7 @@ abbrev pub AnswerEnds : Asked → ℕ → Written → Written → Written → Wr
 AnswerEnds (asked.Show words feed) = TextEnds (text_asked words.now feed.items)
 AnswerEnds (asked.Step inputs) = StepEnds (script_asked inputs)
 AnswerEnds (asked.Run inputs) = RunEnds (opened_asked inputs)
-AnswerEnds (asked.Save inputs) = SaveEnds (script_asked inputs)
+AnswerEnds (asked.Save strict inputs) = SaveEnds strict (script_asked inputs)
 AnswerEnds (asked.Resume inputs) = ResumeEnds (script_asked inputs.step) inputs.checkpoint.items
 AnswerEnds (asked.Join inputs) = JoinEnds inputs
 AnswerEnds (asked.Vdiff inputs) = ComparedEnds (asks_more inputs.options) inputs

@@ -33,8 +33,8 @@ pub(crate) enum Asked<'a, 'w> {
     Step(Inputs),
     /// `run`.
     Run(RunInputs),
-    /// `save`.
-    Save(Inputs),
+    /// `save`, strict or not.
+    Save(bool, Inputs),
     /// `resume`.
     Resume(ResumeInputs),
     /// `join`.
@@ -74,7 +74,7 @@ fn reporter_of<'r>(
     words: &Words<'_>,
 ) -> Result<Option<Reporter<'r>>, AllocError> {
     match words {
-        Words::Run(run) if run.progress => Ok(Some(Reporter::new(rt, run.feeds.len())?)),
+        Words::Run(run) => Reporter::asked(rt, run),
         _ => Ok(None),
     }
 }
@@ -105,7 +105,7 @@ fn read_asked<'a, 'w>(
         Words::Save(words) => {
             let step = &words.step;
             let inputs = read_step(rt, step.feed_form, step.workflow, &step.feeds)?;
-            Ok(Asked::Save(inputs))
+            Ok(Asked::Save(words.strict, inputs))
         }
         Words::Resume(words) => {
             let step = &words.step;
@@ -176,7 +176,7 @@ fn answer<T: Threads + Wait + Sync, G: Progress + Sync, W: Out, E: Out>(
         Asked::Show(words, feed) => show_feed(alloc, words, feed, out, err),
         Asked::Step(inputs) => step(alloc, inputs, out, err),
         Asked::Run(inputs) => run(threads, alloc, inputs, gate, out, err),
-        Asked::Save(inputs) => save(alloc, inputs, out, err),
+        Asked::Save(strict, inputs) => save(alloc, inputs, *strict, out, err),
         Asked::Resume(inputs) => resume(alloc, inputs, out, err),
         Asked::Join(inputs) => join(alloc, inputs, out, err),
         Asked::Vdiff(inputs) => compare(alloc, inputs, out, err),

@@ -4,7 +4,7 @@ ghost use Rattle.std.specs.Prelude.{◌≤◌, IfOk};
 
 use crate::course_of;
 use crate::keeping::{Keeping, keep, place_of};
-use crate::reporting::Reporter;
+use crate::reporting::{Report, Reporter};
 use kept_file::Place;
 use std::alloc::Global;
 use std::sync::Wait;
@@ -20,8 +20,9 @@ use vrepl_words::words::Follow;
 const STANDARD_OUTPUT: &str = "/dev/stdout";
 
 /// Moves the checkpoint that the words name, or none, on to the feeds' ends, and puts the new one into the file that
-/// they name, which is looked at before any is read; then prints the rows where they ask for them. The files are read in
-/// this order: the checkpoint, the workflow, the feeds.
+/// they name, which is looked at before any is read; then prints the rows where they ask for them. Where it is to be told
+/// how far the streams are, it is told at last where they stand. The files are read in this order: the checkpoint, the
+/// workflow, the feeds.
 pub(crate) fn run_follow<'w, T: Threads + Wait + Sync>(
     rt: &HostRuntime,
     threads: &T,
@@ -34,16 +35,14 @@ pub(crate) fn run_follow<'w, T: Threads + Wait + Sync>(
     let Keeping::In(place) = place_of(rt, words.save_to, run.workflow, &run.feeds, others)? else {
         return Ok(2);
     };
-    if run.progress {
-        let reporter = Reporter::new(rt, run.feeds.len())?;
-        follow_read(rt, threads, words, &place, &reporter)
-    } else {
-        follow_read(rt, threads, words, &place, &Untold)
+    match Reporter::asked(rt, run)? {
+        Some(reporter) => follow_read(rt, threads, words, &place, &reporter),
+        None => follow_read(rt, threads, words, &place, &Untold),
     }
 }
 
-/// The same with the place of that file; in threads the gate is told of each group on its way.
-fn follow_read<'w, T: Threads + Wait + Sync, G: Progress + Sync>(
+/// The same with the place of that file; the gate is told of each group on its way.
+fn follow_read<'w, T: Threads + Wait + Sync, G: Report + Sync>(
     rt: &HostRuntime,
     threads: &T,
     words: &Follow<'w>,
@@ -63,7 +62,7 @@ fn follow_read<'w, T: Threads + Wait + Sync, G: Progress + Sync>(
         feeds: &given,
     };
     match moved_on(threads, rt.alloc(), words, &inputs, gate) {
-        Ok(followed) => keep_followed(rt, words, place, &followed),
+        Ok(followed) => keep_followed(rt, words, place, gate, &followed),
         Err(unfollowed) => Ok(refuse_unfollowed(&mut Writer::new(rt.stderr()), unfollowed)),
     }
 }
@@ -96,11 +95,12 @@ fn moved_on<'h, T: Threads + Wait + Sync, G: Progress + Sync>(
     }
 }
 
-/// Puts the new checkpoint in its place, and prints the rows where the words ask for them.
-fn keep_followed<'w>(
+/// Puts the new checkpoint in its place, prints the rows where the words ask for them, and tells the gate.
+fn keep_followed<'w, G: Report>(
     rt: &HostRuntime,
     words: &Follow<'w>,
     place: &Place,
+    gate: &G,
     followed: &Followed<'_>,
 ) -> Result<u8, CommandRefusal<'w>>
     ensures status { IfOk result (λ status. status ≤ 1) }
@@ -109,5 +109,6 @@ fn keep_followed<'w>(
     if words.dump {
         followed.write_dump(&mut Writer::new(rt.stdout()))?;
     }
+    gate.followed(followed);
     Ok(0)
 }

@@ -8,7 +8,7 @@ use kept_file::{KeepFault, Place, PlaceFault};
 use vdiff_core::Writer;
 use vrepl_main::{
     CommandRefusal, joined_checkpoint, read_join, read_step, refuse, refuse_unjoined,
-    saved_checkpoint,
+    saved_checkpoint, tell_refused,
 };
 use vrepl_words::words::{Join, Save};
 
@@ -91,9 +91,9 @@ pub(crate) fn save_to<'w>(
     };
     let inputs = read_step(rt, step.feed_form, step.workflow, &step.feeds)?;
     match saved_checkpoint(rt.alloc(), &inputs) {
-        Ok(checkpoint) => {
-            keep(rt, &place, file, &checkpoint)?;
-            Ok(0)
+        Ok(saved) => {
+            keep(rt, &place, file, &saved.checkpoint)?;
+            Ok(tell_refused(&mut Writer::new(rt.stderr()), &saved, words.strict))
         }
         Err(refusal) => Ok(refuse(&mut Writer::new(rt.stderr()), &refusal)),
     }

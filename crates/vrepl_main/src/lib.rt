@@ -1,6 +1,7 @@
 //! The commands of the program `vrepl`: words, bytes and writers in; bytes and a status out.
 #![tactic(auto)]
 
+mod ahead;
 mod answer_text;
 mod at_once;
 mod comparing;
@@ -50,6 +51,6 @@ pub use progress::{Progress, Untold};
 pub use refusal::{CommandRefusal, refuse};
 pub use resuming::resume;
 pub use running::run;
-pub use saving::{save, saved_checkpoint};
+pub use saving::{Saved, save, saved_checkpoint, tell_refused};
 pub use showing::show;
 pub use stepping::step;

@@ -30,7 +30,7 @@ abbrev pub step_value : Step → StepValue
 step_value step = record { feed_form = step.feed_form; workflow = step.workflow.now; feeds = map (λ feed. feed.now) step.feeds.items }
 
 abbrev pub save_value : Save → SaveValue
-save_value save = record { save_to = option_map (λ name. name.now) save.save_to; step = step_value save.step }
+save_value save = record { save_to = option_map (λ name. name.now) save.save_to; strict = save.strict; step = step_value save.step }
 
 abbrev pub resume_value : Resume → ResumeValue
 resume_value resume = record { checkpoint = resume.checkpoint.now; step = step_value resume.step }
@@ -75,6 +75,7 @@ run_value run = record {
   feed_form = run.feed_form;
   threading = run.threading;
   progress = run.progress;
+  quiet = run.quiet;
   portions = portions_value run.portions;
   workflow = run.workflow.now;
   feeds = map (λ feed. feed.now) run.feeds.items;

@@ -33,11 +33,12 @@ pub record PortionsValue : Type 0 where
   pub chunks : ℕ
 
 -- `run`: a workflow, a feed for each of its streams, how feeds are given, how the streams run, whether it is told how
--- far they are, and in what portions
+-- far they are, also where that is no terminal, or never, and in what portions
 pub record RunValue : Type 0 where
   pub feed_form : FeedForm
   pub threading : Threading
   pub progress : Bool
+  pub quiet : Bool
   pub portions : PortionsValue
   pub workflow : Text
   pub feeds : List Text
@@ -56,9 +57,10 @@ pub record ResumeValue : Type 0 where
   pub checkpoint : Text
   pub step : StepValue
 
--- `save`: the file of the checkpoint, if there is one, and what `step` is given
+-- `save`: the file of the checkpoint, if there is one, whether refused steps are as a refusal, and what `step` is given
 pub record SaveValue : Type 0 where
   pub save_to : Option Text
+  pub strict : Bool
   pub step : StepValue
 
 -- `check`: how the report is printed, whether notes are as warnings, and what `step` is given
@@ -187,28 +189,29 @@ run_given given portions = record {
   feed_form = feed_form_given given;
   threading = threading_given given;
   progress = is_given (codes "progress") given;
+  quiet = is_given (codes "quiet") given;
   portions = portions;
   workflow = text_given (codes "workflow") given;
   feeds = texts_given (codes "feed") given;
 }
 
--- `run [--hex] [--alone] [--progress] [--rows N] [--ahead N] [--chunks N] WORKFLOW FEED..`
+-- `run [--hex] [--alone] [--progress] [--quiet] [--rows N] [--ahead N] [--chunks N] WORKFLOW FEED..`
 abbrev pub run_subcommand : Subcommand
 run_subcommand = record {
   name = codes "run";
-  rules = flag_rule (codes "hex") ∷ flag_rule (codes "alone") ∷ flag_rule (codes "progress") ∷ option_rule (codes "rows") ∷ option_rule (codes "ahead") ∷ option_rule (codes "chunks") ∷ operand_rule (codes "workflow") ∷ operands_rule (codes "feed") ∷ [];
+  rules = flag_rule (codes "hex") ∷ flag_rule (codes "alone") ∷ flag_rule (codes "progress") ∷ flag_rule (codes "quiet") ∷ option_rule (codes "rows") ∷ option_rule (codes "ahead") ∷ option_rule (codes "chunks") ∷ operand_rule (codes "workflow") ∷ operands_rule (codes "feed") ∷ [];
   meaning = λ given. option_map (λ portions. asks_run (run_given given portions)) (portions_given given);
 }
 
 -- what is given to the arguments of `save`
 abbrev pub save_given : List Row → SaveValue
-save_given given = record { save_to = first_of (codes "save-to") given; step = step_given given }
+save_given given = record { save_to = first_of (codes "save-to") given; strict = is_given (codes "strict") given; step = step_given given }
 
--- `save [--hex] [--save-to TEXT] WORKFLOW FEED..`
+-- `save [--hex] [--save-to TEXT] [--strict] WORKFLOW FEED..`
 abbrev pub save_subcommand : Subcommand
 save_subcommand = record {
   name = codes "save";
-  rules = flag_rule (codes "hex") ∷ option_rule (codes "save-to") ∷ operand_rule (codes "workflow") ∷ operands_rule (codes "feed") ∷ [];
+  rules = flag_rule (codes "hex") ∷ option_rule (codes "save-to") ∷ flag_rule (codes "strict") ∷ operand_rule (codes "workflow") ∷ operands_rule (codes "feed") ∷ [];
   meaning = λ given. Some (asks_save (save_given given));
 }
 
@@ -254,11 +257,11 @@ follow_given given portions = record {
   save_to = text_given (codes "save-to") given;
 }
 
--- `follow [--hex] [--alone] [--progress] [--dump] [--rows N] [--ahead N] [--chunks N] [--only S,..] [--checkpoint TEXT] --save-to TEXT WORKFLOW FEED..`
+-- `follow [--hex] [--alone] [--progress] [--quiet] [--dump] [--rows N] [--ahead N] [--chunks N] [--only S,..] [--checkpoint TEXT] --save-to TEXT WORKFLOW FEED..`
 abbrev pub follow_subcommand : Subcommand
 follow_subcommand = record {
   name = codes "follow";
-  rules = flag_rule (codes "hex") ∷ flag_rule (codes "alone") ∷ flag_rule (codes "progress") ∷ flag_rule (codes "dump") ∷ option_rule (codes "rows") ∷ option_rule (codes "ahead") ∷ option_rule (codes "chunks") ∷ option_rule (codes "only") ∷ option_rule (codes "checkpoint") ∷ needed_rule (codes "save-to")
+  rules = flag_rule (codes "hex") ∷ flag_rule (codes "alone") ∷ flag_rule (codes "progress") ∷ flag_rule (codes "quiet") ∷ flag_rule (codes "dump") ∷ option_rule (codes "rows") ∷ option_rule (codes "ahead") ∷ option_rule (codes "chunks") ∷ option_rule (codes "only") ∷ option_rule (codes "checkpoint") ∷ needed_rule (codes "save-to")
       ∷ operand_rule (codes "workflow") ∷ operands_rule (codes "feed") ∷ [];
   meaning = λ given. if gives_streams (codes "only") given then option_map (λ portions. asks_follow (follow_given given portions)) (portions_given given) else None;
 }

@@ -85,7 +85,8 @@ pub(crate) fn run_command<'w>(alloc: Global) -> Result<Command<'w>, AllocError>
     ensures { IfOk result (IsSubcommand run_subcommand) }
 {
     let alone_help = "Runs the streams one after another, without threads";
-    let progress_help = "Tells each second how far streams in threads are";
+    let progress_help = "Tells how far the streams are, also into a file";
+    let quiet_help = "Tells nothing of that, also on a terminal";
     let rows_help = "Rows that are copied at a time, 1000 unless given";
     let ahead_help = "Groups read before a snapshot, 100 unless given";
     let chunks_help = "Chunks that are copied of a snapshot, 4 unless given";
@@ -94,6 +95,7 @@ pub(crate) fn run_command<'w>(alloc: Global) -> Result<Command<'w>, AllocError>
     let command = with_arg(command, hex(alloc));
     let command = with_arg(command, flag(alloc, "alone", alone_help));
     let command = with_arg(command, flag(alloc, "progress", progress_help));
+    let command = with_arg(command, flag(alloc, "quiet", quiet_help));
     let command = with_arg(command, option(alloc, "rows", "N", rows_help));
     let command = with_arg(command, option(alloc, "ahead", "N", ahead_help));
     with_streams(
@@ -106,9 +108,11 @@ fn save_command<'w>(alloc: Global) -> Result<Command<'w>, AllocError>
     ensures { IfOk result (IsSubcommand save_subcommand) }
 {
     let about = "Writes the checkpoint of the board behind a script";
+    let strict_help = "Ends with status 1 where a step was refused";
     let command = Ok(bare(alloc, "save", about, help::SAVE));
     let command = with_arg(command, hex(alloc));
-    with_streams(alloc, with_arg(command, save_to(alloc)))
+    let command = with_arg(command, save_to(alloc));
+    with_streams(alloc, with_arg(command, flag(alloc, "strict", strict_help)))
 }
 
 fn resume_command<'w>(alloc: Global) -> Result<Command<'w>, AllocError>
@@ -228,7 +232,8 @@ pub(crate) fn follow_command<'w>(alloc: Global) -> Result<Command<'w>, AllocErro
     ensures { IfOk result (IsSubcommand follow_subcommand) }
 {
     let alone_help = "Runs the streams one after another, without threads";
-    let progress_help = "Tells each second how far streams in threads are";
+    let progress_help = "Tells how far the streams are, also into a file";
+    let quiet_help = "Tells nothing of that, also on a terminal";
     let dump_help = "Prints the target's rows too, as `run` does";
     let rows_help = "Rows that are copied at a time, 1000 unless given";
     let ahead_help = "Groups read before a snapshot, 100 unless given";
@@ -241,6 +246,7 @@ pub(crate) fn follow_command<'w>(alloc: Global) -> Result<Command<'w>, AllocErro
     let command = with_arg(command, hex(alloc));
     let command = with_arg(command, flag(alloc, "alone", alone_help));
     let command = with_arg(command, flag(alloc, "progress", progress_help));
+    let command = with_arg(command, flag(alloc, "quiet", quiet_help));
     let command = with_arg(command, flag(alloc, "dump", dump_help));
     let command = with_arg(command, option(alloc, "rows", "N", rows_help));
     let command = with_arg(command, option(alloc, "ahead", "N", ahead_help));

@@ -69,13 +69,15 @@ Example:
   $ vrepl save --hex examples/workflows/one_shard.json examples/one_insert.hex \\
       --save-to one_row.checkpoint < examples/copy_one.script
 
-The script comes on standard input. The replies to it aren't printed. The file
-is replaced once the checkpoint is whole; with `> FILE` in place of --save-to it
-is empty before a refusal is known.
+The script comes on standard input. The replies to it aren't printed; where
+steps were refused a line on standard error says how many. The file is replaced
+once the checkpoint is whole; with `> FILE` in place of --save-to it is empty
+before a refusal is known.
 
 Status:
   0  the whole checkpoint was written
-  1  refused; `vrepl explain NUMBER` says what the line's number means
+  1  refused; `vrepl explain NUMBER` says what the line's number means; or with
+     --strict a step was refused, and the whole checkpoint was written
   2  a fault of usage";
 
 /// A call of `resume` and what it prints.
@@ -125,7 +127,9 @@ Example:
       examples/two_shards/lower.hex examples/two_shards/upper.hex
 
 The file is replaced once the new checkpoint is whole, and never in part. The
-streams that --only leaves out stay as the checkpoint has them.
+streams that --only leaves out stay as the checkpoint has them. On a terminal a
+line tells meanwhile how far they are, and at the end one where they stand, on
+standard error; with --progress also into a file.
 
 Status:
   0  the new checkpoint stands in the file

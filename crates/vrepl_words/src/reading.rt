@@ -114,6 +114,7 @@ fn save_words<'w>(alloc: Global, given: &ArgMatches<'w>) -> Result<Words<'w>, Al
     let step = script_words(alloc, given)?;
     Ok(Words::Save(Save {
         save_to: text_if(given, "save-to"),
+        strict: has_flag(given, "strict"),
         step,
     }))
 }
@@ -205,6 +206,7 @@ fn run_of<'w>(
         feed_form: feed_form_given(given),
         threading: threading_given(given),
         progress: has_flag(given, "progress"),
+        quiet: has_flag(given, "quiet"),
         portions,
         workflow: text(given, "workflow"),
         feeds,

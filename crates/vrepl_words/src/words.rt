@@ -41,8 +41,10 @@ pub struct Run<'w> {
     pub feed_form: FeedForm,
     /// How the streams run.
     pub threading: Threading,
-    /// Whether it is told on the way how far streams in threads are.
+    /// Whether it is told on the way how far streams are, also where standard error is no terminal.
     pub progress: bool,
+    /// Whether it isn't told, also where that is one.
+    pub quiet: bool,
     /// In what portions a stream is run.
     pub portions: Portions,
     /// The workflow's file.
@@ -80,6 +82,8 @@ pub struct Resume<'w> {
 pub struct Save<'w> {
     /// The file that the checkpoint takes the place of; standard output unless given.
     pub save_to: Option<&'w str>,
+    /// Whether refused steps are as a refusal.
+    pub strict: bool,
     /// The other words, which are those of `step`.
     pub step: Step<'w>,
 }

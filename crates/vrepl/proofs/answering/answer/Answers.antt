@@ -32,7 +32,7 @@ returns-in-Run-clause-ends g c =
     (sym c.in-Run.is) c.run.ensures.ends
 
 pub returns-in-Save-clause-status : goal.returns-in-Save-clause-status
-returns-in-Save-clause-status g c = ends_within c.save.result c.save.ensures.ends
+returns-in-Save-clause-status g c = inl c.save.ensures.status
 
 pub returns-in-Save-clause-ends : goal.returns-in-Save-clause-ends
 returns-in-Save-clause-ends g c =
