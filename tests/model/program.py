@@ -43,6 +43,15 @@ def save(is_hex, workflow, feeds, script):
     return checkpoint.save(board)
 
 
+def save_told(is_hex, workflow, feeds, script, is_strict):
+    """The status of `save`, its checkpoint, and what it says of steps that were refused."""
+    board = Board(*opened(is_hex, workflow, feeds))
+    said = [board.reply(it) for it in read_script(script)]
+    refused = sum(it.startswith(b"refused ") for it in said)
+    note = b"%d of %d steps were refused\n" % (refused, len(said)) if refused else b""
+    return int(is_strict and refused > 0), checkpoint.save(board), note
+
+
 def resume(is_hex, data, workflow, feeds, script):
     workflow, feeds = opened(is_hex, workflow, feeds)
     steps = read_script(script)
@@ -137,7 +146,9 @@ def said_by(words, files, stdin):
     if command == "join":
         also = [files[it.removeprefix("--also=")] for it in options if it.startswith("--also=")]
         return join(is_hex, *given[:2], [given[2], *also], given[3:])
-    return {"step": step, "save": save}[command](is_hex, given[0], given[1:], stdin)
+    if command == "save":
+        return save_told(is_hex, given[0], given[1:], stdin, "--strict" in options)
+    return step(is_hex, given[0], given[1:], stdin)
 
 
 def answers(words, files, stdin=b""):
@@ -149,6 +160,6 @@ def answers(words, files, stdin=b""):
     if isinstance(said, bytes):
         return [(0, said, b"")]
     if isinstance(said[0], int):
-        return [(said[0], said[1], b"")]
+        return [(*said, b"")[:3]]
     whole, lines = said
     return [(0, whole, b"")] * (whole is not None) + [(1, b"", it) for it in sorted(lines)]

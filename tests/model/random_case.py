@@ -99,7 +99,7 @@ class Case(Feeds):
         self.words = ["check", *self.options(), *["--json"] * self.chance(0.3), *["--strict"] * self.chance(0.3), *self.named_feeds()]
 
     def save(self):
-        self.words = ["save", *self.options(), *self.named_feeds()]
+        self.words = ["save", *self.options(), *["--strict"] * self.chance(0.3), *self.named_feeds()]
         self.stdin = self.script(self.board())
 
     def resume(self):
