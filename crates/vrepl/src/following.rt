@@ -91,7 +91,7 @@ fn moved_on<'h, T: Threads + Wait + Sync, G: Progress + Sync>(
 ) -> Result<Followed<'h>, Unfollowed> {
     match &words.only {
         None => follow(threads, alloc, inputs, gate),
-        Some(only) => follow_only(threads, alloc, inputs, only),
+        Some(only) => follow_only(threads, alloc, inputs, only, gate),
     }
 }
 

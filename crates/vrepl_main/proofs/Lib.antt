@@ -15,3 +15,4 @@ mod RunLaws
 mod RightLaws
 mod AtOnceLaws
 mod FollowLaws
+mod AheadLaws
