@@ -1,8 +1,7 @@
 //! How far streams are, told while they run.
 
-use std::alloc::AllocError;
+use std::alloc::{AllocError, Global};
 use std::env;
-use std::fmt::Write;
 use std::io::IsTerminal;
 use std::sync::Wait;
 use std::sync::atomic::{AtomicU64, Ordering};
@@ -152,13 +151,13 @@ impl<'r> Reporter<'r> {
         let run = gone.saturating_sub(self.begun.load(Ordering::SeqCst));
         let second = 1000u64.saturating_mul(done).checked_div(run).unwrap_or(0);
         let said = format!(in alloc; ", {second} groups a second, ")?;
-        line.push_str(&said)?;
-        push_clock(&mut line, gone)?;
+        line.push_str(said.as_str())?;
+        push_clock(alloc, &mut line, gone)?;
         line.push_str(" gone")?;
         let left = run.saturating_mul(all.saturating_sub(done));
         if let Some(left) = left.checked_div(done) {
             line.push_str(", ")?;
-            push_clock(&mut line, left)?;
+            push_clock(alloc, &mut line, left)?;
             line.push_str(" to come")?;
         }
         Ok(line)
@@ -190,7 +189,7 @@ impl<'r> Reporter<'r> {
                 Some(set) => format!(in alloc; ", at {set}")?,
                 None => format!(in alloc; ", at -")?,
             };
-            places.push_str(&place)?;
+            places.push_str(place.as_str())?;
         }
         let (streams, rows) = (board.len(), board.target().len());
         format!(in alloc; "followed {streams} streams: {groups} groups, {rows} rows{places}\n")
@@ -198,8 +197,7 @@ impl<'r> Reporter<'r> {
 }
 
 /// Adds a time in minutes and seconds, with hours where there are some.
-fn push_clock(line: &mut String, millis: u64) -> Result<(), AllocError> {
-    let alloc = line.allocator();
+fn push_clock(alloc: Global, line: &mut String, millis: u64) -> Result<(), AllocError> {
     let seconds = millis / 1000;
     let (hours, minutes, rest) = (seconds / 3600, seconds / 60 % 60, seconds % 60);
     let clock = if hours > 0 {
@@ -207,7 +205,7 @@ fn push_clock(line: &mut String, millis: u64) -> Result<(), AllocError> {
     } else {
         format!(in alloc; "{minutes}:{rest:02}")?
     };
-    line.push_str(&clock)
+    line.push_str(clock.as_str())
 }
 
 /// Whether lines can be drawn anew on standard error: it is a terminal, and no dumb one.
@@ -233,8 +231,7 @@ impl Progress for Reporter<'_> {
     }
 
     fn begins(&self, stream: usize, read: u32, groups: usize) {
-        self.begun
-            .store(self.gone().unwrap_or(0), Ordering::SeqCst);
+        self.begun.store(self.gone().unwrap_or(0), Ordering::SeqCst);
         if let Some(way) = self.ways.get(stream) {
             way.stood.store(u64::from(read), Ordering::SeqCst);
             way.passed.store(u64::from(read), Ordering::SeqCst);

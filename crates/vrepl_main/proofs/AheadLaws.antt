@@ -1,6 +1,6 @@
 -- Steps of some streams, by which the others stay as they stand.
-use Rattle.std.proofs.Common.{◌≡◌, ◌≢◌, ◌∙◌, ap, sym, subst, ℕ, List, Option, None, Some, Ok, Err, slice_get}
-use Rattle.std.specs.Prelude.{MatchOption}
+use Rattle.std.proofs.Common.{◌≡◌, ◌≢◌, ◌∙◌, ap, sym, subst, ℕ, List, Option, None, Some, Result, Ok, Err, slice_get}
+use Rattle.std.specs.Prelude.{MatchOption, OnOk}
 use Rattle.list_laws.proofs.Places.{slice_get-set_other}
 use Rattle.stream_core.specs.declared.step.Step.{Step}
 use Rattle.source_feed.specs.Planned.{FeedValue}
@@ -41,6 +41,11 @@ others_then s old now new first second = λ t ne. second t ne ∙ first t ne
 
 pub before_then : (streams : List ℕ) (old now new : Meaning) → AreAsBefore streams old now → AreAsBefore streams now new → AreAsBefore streams old new
 before_then streams old now new first second = λ t unnamed. second t unnamed ∙ first t unnamed
+
+-- the same behind an answer
+pub before_behind : {A E : Type 0} (result : Result A E) (streams : List ℕ) (old now new : Meaning) → AreAsBefore streams old now → OnOk result (AreAsBefore streams now new) → OnOk result (AreAsBefore streams old new)
+before_behind (Ok x) streams old now new first second = before_then streams old now new first second
+before_behind (Err e) streams old now new first second = tt
 
 -- steps of one that is named
 pub named_stay : (streams : List ℕ) (s : ℕ) (old new : Meaning) → IsNamedStream streams s → OthersStay s old new → AreAsBefore streams old new

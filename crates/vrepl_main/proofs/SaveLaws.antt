@@ -1,11 +1,13 @@
 -- What the command `save` prints, and why it is refused, by what its inputs say.
-use Rattle.std.proofs.Common.{◌≡◌, ◌∙◌, refl, sym, ap, subst, ℕ, ◌+◌, ◌<◌, ◌≤◌, Bool, true, false, List, [], ◌∷◌, ◌++◌, length, take, get_or, Option, None, Some, Result, Ok, Err, arith}
+use Rattle.std.proofs.Common.{◌≡◌, ◌∙◌, refl, sym, ap, subst, ℕ, ◌+◌, ◌<◌, ◌≤◌, Bool, true, false, List, [], ◌∷◌, ◌++◌, length, take, get_or, Result, Ok, Err, arith}
+use Rattle.std.proofs.lemmas.Bool.{ltb-false}
 use Rattle.std.proofs.lemmas.List.{length-append, take_all}
 use Rattle.std.proofs.lemmas.List.Elements.{filter-append}
 use Rattle.std.specs.List.{filter}
+use Rattle.std.specs.Prelude.{◌&&◌, if◌then◌else◌, nat_lt}
 use Rattle.filter_rule.specs.PlanValue.{PlanValue}
 use Rattle.source_feed.specs.Planned.{FeedValue}
-use Rattle.board_laws.specs.Meaning.{State, Meaning}
+use Rattle.board_laws.specs.Meaning.{Meaning}
 use Rattle.board_laws.specs.Sources.{ShowAll}
 use Rattle.checkpoint_laws.specs.Written.{checkpoint_of}
 use Rattle.apply_core.specs.Fresh.{fresh_board}
@@ -76,14 +78,20 @@ all_taken feeds old now steps i refused most (replies, run, told, counted) =
 
 -- the status is 1 at most, and 0 of a strict one where none are refused
 pub status_within : (strict : Bool) (refused : ℕ) → saved_status strict refused ≤ 1
-status_within false refused = omega arith
-status_within true 0 = omega arith
-status_within true (suc refused) = omega arith
+status_within strict refused = by (strict && nat_lt 0 refused)
+  where
+    by : (b : Bool) → (if b then 1 else 0) ≤ 1
+    by true = omega arith
+    by false = omega arith
 
 pub none_refused : (strict : Bool) (refused : ℕ) → strict ≡ true → saved_status strict refused ≡ 0 → refused ≡ 0
-none_refused true 0 is zero = refl
-none_refused true (suc refused) is zero = absurd (omega (arith, zero))
-none_refused false refused () zero
+none_refused strict refused is zero = by (nat_lt 0 refused) refl
+  where
+    by : (b : Bool) → nat_lt 0 refused ≡ b → refused ≡ 0
+    by true some =
+        let one : saved_status strict refused ≡ 1 = ap (λ (s : Bool). if s && nat_lt 0 refused then 1 else 0) is ∙ ap (λ (b : Bool). if b then 1 else 0) some in
+        absurd (omega (arith, one, zero))
+    by false none = let most : refused ≤ 0 = ltb-false 0 refused none in omega (arith, most)
 
 -- the checkpoint was printed, and it was told how many are refused
 pub prints_saved : (strict : Bool) (reading : Result ScriptGiven Reason) (saved : Saved) (status : ℕ) (old new err_old err_new : Written)

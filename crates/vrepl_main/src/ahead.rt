@@ -101,7 +101,7 @@ fn stream_ahead<G: Progress>(
     Ahead::Refused
 }
 
-/// Takes the next step of a stream on its course, if there is one, and tells the gate of a group that was read.
+/// Takes the next step of a stream on its course, if there is one, and tells the gate of a group that it reads.
 fn step_ahead<G: Progress>(
     alloc: Global,
     gate: &G,
@@ -115,14 +115,23 @@ fn step_ahead<G: Progress>(
 {
     match next_step(fed, s, policy, course) {
         None => Ahead::AtEnd,
-        Some(step) => match fed.take_step(alloc, s, step) {
-            Ok(_) => {
-                tell_step(gate, s, step);
+        Some(step) => {
+            tell_step(gate, s, step);
+            if take_ahead(alloc, fed, s, step) {
                 Ahead::Taken
+            } else {
+                Ahead::Refused
             }
-            Err(_) => Ahead::Refused,
-        },
+        }
     }
+}
+
+/// Takes a step of a stream, unless it is refused.
+fn take_ahead(alloc: Global, fed: &mut FedBoard<'_>, s: u8, step: Step) -> bool
+    ensures feeds { fed.new.feeds ≡ fed.old.feeds }
+    ensures others { OthersStay s fed.old.board fed.new.board }
+{
+    fed.take_step(alloc, s, step).is_ok()
 }
 
 /// The next step of a stream on its course, if there is one.

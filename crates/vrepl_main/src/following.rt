@@ -109,7 +109,7 @@ impl From<AllocError> for Unfollowed {
 
 /// Moves a checkpoint on, over a workflow and its feeds, one in the order of the streams each: from the board that it
 /// makes with them, or from the beginning where there is none, all streams run to their feeds' ends. The answer is the
-/// board there and its checkpoint. The gate is told of each group on its way, and behind the last.
+/// board there and its checkpoint. The gate is told of each group on its way, and of the end.
 ///
 /// Refused as `resume` refuses the workflow, the feeds and the checkpoint, in this order, and then as `run` refuses the
 /// streams. Any other error is want of memory.

@@ -11,7 +11,6 @@ ghost use Rattle.vrepl_main.specs.OnlyFollowed.{IsMovedOn, IsOnlyFollowed, have_
 ghost use Rattle.vrepl_main.specs.OpenedFeeds.{opened_value};
 ghost use Rattle.vrepl_main.specs.Reasons.{GivesOfInputs};
 
-use crate::ahead::named_ahead;
 use crate::at_once::open_feeds_at_once;
 use crate::following::{Followed, Unfollowed};
 use crate::given::GivenFeed;
@@ -20,6 +19,7 @@ use crate::opened::{Opened, open_feeds};
 use crate::progress::Progress;
 use crate::refusal::CommandRefusal;
 use crate::stepping::{first_plan, fresh_board};
+use crate::told_run::run_named;
 use apply_core::{FedBoard, Policy, save as checkpoint_of};
 use filter_rule::Plan;
 use source_feed::Feed;
@@ -31,7 +31,7 @@ use vrepl_choices::Threading;
 /// Moves these streams of a checkpoint on, over a workflow and its feeds, one in the order of the streams each: from the
 /// board that it makes with them, or from the beginning where there is none, these streams run to their feeds' ends, one
 /// after another, and the others stay as they stand. The answer is as `follow`'s; the gate is told of each group on its way,
-/// and behind the last. A stream of which nothing is read may
+/// and of the end. A stream of which nothing is read may
 /// have any feed, so that an empty one serves for each that isn't named.
 ///
 /// Refused 115 behind the workflow and before the feeds where a stream isn't there, and else as `follow` refuses.
@@ -168,10 +168,7 @@ fn move_on<'h, G: Progress>(
     ensures moved { IfOk result (λ moved. IsMovedOn fed.entry.feeds only.now fed.entry.board moved.board) }
     ensures refused { IfErr result (IsEndedRun plan fed.entry.feeds) }
 {
-    named_ahead(alloc, gate, &mut fed, only, policy);
-    let ended = fed.run_streams(alloc, only, policy);
-    gate.ends();
-    match ended {
+    match run_named(alloc, &mut fed, only, policy, gate) {
         Ok(()) => {
             fed.is_fed();
             Ok(fed)

@@ -33,6 +33,7 @@ mod showing;
 mod shown;
 mod state_text;
 mod stepping;
+mod told_run;
 
 pub use comparing::{Verdict, vdiff};
 pub use following::{Followed, Unfollowed, follow, refuse_unfollowed};

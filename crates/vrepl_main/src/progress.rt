@@ -12,7 +12,7 @@ pub trait Progress: Gate {
     /// Stream `stream` is to run from behind this group to the last of so many.
     fn begins(&self, stream: usize, read: u32, groups: usize);
 
-    /// Group `number` of a stream that runs one after another was read.
+    /// The next step of a stream, where they run one after another, reads its group of this number.
     fn reads(&self, stream: usize, number: u32);
 
     /// The streams have ended, or one was refused.

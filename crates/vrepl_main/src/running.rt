@@ -17,16 +17,16 @@ ghost use Rattle.vrepl_main.specs.RefusedText.{refused_text};
 ghost use Rattle.vrepl_main.specs.Running.{IsAtFeedsEnds, IsFilled, IsUnfilled, PrintsDump, RefusesRun, as_step, opened_asked, RunEnds};
 ghost use Rattle.vrepl_main.specs.RunIsRight.{WritesRight};
 
-use crate::ahead::run_ahead;
 use crate::at_once::open_at_once;
 use crate::dump::write_rows;
 use crate::given::{GivenFeed, given_feeds};
 use crate::named_inputs::{RunCourse, RunInputs};
 use crate::opened::{Opened, open_workflow};
-use crate::progress::{Progress, tell_streams};
+use crate::progress::Progress;
 use crate::refusal::{CommandRefusal, refuse};
 use crate::refusal_line::refuse_over;
 use crate::stepping::first_plan;
+use crate::told_run::{run_in_threads, run_in_turn};
 use apply_core::{Board, FedBoard, RunRefusal};
 use board_laws::StepRefusal;
 use filter_rule::Plan;
@@ -35,7 +35,6 @@ use std::alloc::Global;
 use std::mem::forget;
 use std::sync::{Arc, Wait};
 use std::thread::Threads;
-use stream_worker::run_fed_parallel;
 use vdiff_core::Out;
 use vrepl_choices::Threading;
 
@@ -56,9 +55,9 @@ enum RunFault {
 /// Runs all streams of a workflow over its feeds, one in the order of the streams each, to their ends, and prints
 /// the dump of the target's rows on `out`; or prints the line of a refusal on `err` and then nothing on `out`, unless it
 /// is `out` that can't be written. The streams run as the course says: one after another, or each in a thread of its own;
-/// the gate is told of each group on its way, and behind the last. Answers the status: 0, or 1 after a refusal, also of memory. Behind
-/// the run the groups of its feeds are forgotten, and behind the dump its rows are: they go back with the memory of the
-/// process. Where the dump can't be written the rows are given back.
+/// the gate is told of each group on its way, and of the end. Answers the status: 0, or 1 after a refusal, also of memory.
+/// Behind the run the groups of its feeds are forgotten, and behind the dump its rows are: they go back with the memory of
+/// the process. Where the dump can't be written the rows are given back.
 pub fn run<R: Threads + Wait + Sync, G: Progress + Sync, W: Out, E: Out>(
     rt: &R,
     alloc: Global,
@@ -219,18 +218,12 @@ pub(crate) fn run_on_from<'h, R: Threads + Wait + Sync, G: Progress + Sync>(
 {
     match course.threading {
         Threading::Alone => {
-            run_ahead(alloc, gate, &mut fed, &course.policy);
-            let ended = fed.run(alloc, &course.policy);
-            gate.ends();
-            ended?;
+            run_in_turn(alloc, &mut fed, &course.policy, gate)?;
             fed.is_fed();
             Ok(fed)
         }
         Threading::Parallel => {
-            tell_streams(gate, &fed);
-            let ended = run_fed_parallel(rt, alloc, fed, &course.policy, gate);
-            gate.ends();
-            let fed = ended?;
+            let fed = run_in_threads(rt, alloc, fed, &course.policy, gate)?;
             fed.is_fed();
             Ok(fed)
         }

@@ -109,11 +109,26 @@ pub fn tell_refused<E: Out>(err: &mut E, saved: &Saved, strict: bool) -> u8
     ensures told { TellsRefused saved.now.refused saved.now.steps (E.written err.old) (E.written err.new) }
     ensures quiet { saved.now.refused ≡ 0 → err.new ≡ err.old }
 {
-    if saved.refused == 0 {
-        return 0;
+    tell_some(err, saved.refused, saved.steps);
+    saved_status(strict, saved.refused)
+}
+
+/// The status behind the checkpoint.
+fn saved_status(strict: bool, refused: usize) -> u8
+    ensures { result ≡ saved_status strict refused }
+{
+    if strict && refused > 0 { 1 } else { 0 }
+}
+
+/// Prints how many of the steps were refused, where some were.
+fn tell_some<E: Out>(err: &mut E, refused: usize, steps: usize)
+    ensures told { TellsRefused refused steps (E.written err.old) (E.written err.new) }
+    ensures quiet { refused ≡ 0 → err.new ≡ err.old }
+{
+    if refused == 0 {
+        return;
     }
-    let _told = print_note(err, saved.refused, saved.steps);
-    if strict { 1 } else { 0 }
+    let _told = print_note(err, refused, steps);
 }
 
 /// Prints that so many of these steps were refused.
