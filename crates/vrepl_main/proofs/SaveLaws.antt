@@ -76,14 +76,7 @@ all_taken feeds old now steps i refused most (replies, run, told, counted) =
 
 -- ---- how it ends
 
--- the status is 1 at most, and 0 of a strict one where none are refused
-pub status_within : (strict : Bool) (refused : ℕ) → saved_status strict refused ≤ 1
-status_within strict refused = by (strict && nat_lt 0 refused)
-  where
-    by : (b : Bool) → (if b then 1 else 0) ≤ 1
-    by true = omega arith
-    by false = omega arith
-
+-- where the status of a strict one is 0 none are refused
 pub none_refused : (strict : Bool) (refused : ℕ) → strict ≡ true → saved_status strict refused ≡ 0 → refused ≡ 0
 none_refused strict refused is zero = by (nat_lt 0 refused) refl
   where

@@ -106,6 +106,7 @@ pub(crate) fn print_bytes<W: Out>(out: &mut W, bytes: &[u8]) -> Result<(), OutFa
 /// status: 1 where it is to be strict and some were, else 0.
 pub fn tell_refused<E: Out>(err: &mut E, saved: &Saved, strict: bool) -> u8
     ensures status { result ≡ saved_status strict saved.now.refused }
+    ensures within { result ≤ 1 }
     ensures told { TellsRefused saved.now.refused saved.now.steps (E.written err.old) (E.written err.new) }
     ensures quiet { saved.now.refused ≡ 0 → err.new ≡ err.old }
 {
@@ -115,7 +116,8 @@ pub fn tell_refused<E: Out>(err: &mut E, saved: &Saved, strict: bool) -> u8
 
 /// The status behind the checkpoint.
 fn saved_status(strict: bool, refused: usize) -> u8
-    ensures { result ≡ saved_status strict refused }
+    ensures status { result ≡ saved_status strict refused }
+    ensures within { result ≤ 1 }
 {
     if strict && refused > 0 { 1 } else { 0 }
 }
