@@ -70,4 +70,4 @@ pub record PrintsSaved (strict : Bool) (reading : Result ScriptGiven Reason) (st
 -- how `save` ends: behind what it prints, or behind a refusal
 abbrev pub SaveEnds : Bool → Result ScriptGiven Reason → ℕ → Written → Written → Written → Written → Type 0
 SaveEnds strict reading status old new err_old err_new =
-    PrintsSaved strict reading status old new err_old err_new ⊎ (status ≡ 1) × PrintsRefusal IsSavedText reading old new err_old err_new
+    PrintsSaved strict reading status old new err_old err_new ⊎ ((status ≡ 1) × PrintsRefusal IsSavedText reading old new err_old err_new)
