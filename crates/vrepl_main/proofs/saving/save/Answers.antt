@@ -9,7 +9,7 @@ pub returns-in-Ok-clause-quiet : goal.returns-in-Ok-clause-quiet
 returns-in-Ok-clause-quiet g c = λ strict zero. c.tell_refused.ensures.quiet (none_refused c.args.strict c.in-Ok.saved.refused strict (sym c.tell_refused.ensures.status ∙ zero))
 
 pub returns-in-Err-clause-ends : goal.returns-in-Err-clause-ends
-returns-in-Err-clause-ends g c = inr (c.refuse.ensures.status, c.in-Err.refusal, c.in-Err.ensures.refused, c.refuse.ensures.line)
+returns-in-Err-clause-ends g c = inr (c.refuse.ensures.status, (c.in-Err.refusal, c.in-Err.ensures.refused, c.refuse.ensures.line))
 
 pub returns-in-Err-clause-quiet : goal.returns-in-Err-clause-quiet
 returns-in-Err-clause-quiet g c = λ strict zero. absurd (omega (arith, zero, c.refuse.ensures.status))

@@ -13,7 +13,7 @@ pub returns-clause-feeds : goal.returns-clause-feeds
 returns-clause-feeds g c = c.run_streams-ended.ensures.feeds ∙ c.named_ahead.ensures.feeds
 
 pub returns-clause-others : goal.returns-clause-others
-returns-clause-others g c = before_behind c.run_streams-ended.result c.args.only.now _ _ _ c.named_ahead.ensures.others c.run_streams-ended.ensures.others
+returns-clause-others g c = before_behind c.run_streams-ended.result c.args.only.now c.args.fed.now.board c.named_ahead.new.fed.board c.run_streams-ended.new.self.board c.named_ahead.ensures.others c.run_streams-ended.ensures.others
 
 pub returns-clause-refused : goal.returns-clause-refused
 returns-clause-refused g c = subst (λ (fs : List FeedValue). IfErr c.run_streams-ended.result (EndsRun fs)) c.named_ahead.ensures.feeds c.run_streams-ended.ensures.refused
