@@ -1,5 +1,5 @@
 -- What the words that were read ask for.
-use Rattle.vrepl_words.specs.Words.{CheckValue, FollowValue, JoinValue, PortionsValue, ResumeValue, RunValue, SaveValue, ShowValue, StatusValue, StepValue, TilesValue, VdiffValue, WordsValue, asks_follow, asks_join, asks_run, asks_show, asks_step, asks_save, asks_resume, asks_vdiff, asks_check, asks_tiles, asks_status, asks_explain, CompactValue, asks_compact}
+use Rattle.vrepl_words.specs.Words.{CheckValue, FollowValue, JoinValue, PortionsValue, ResumeValue, RunValue, SaveValue, ShowValue, StatusValue, StepValue, TilesValue, VdiffValue, WordsValue, asks_follow, asks_join, asks_run, asks_show, asks_step, asks_save, asks_resume, asks_vdiff, asks_check, asks_tiles, asks_status, asks_explain, CompactValue, asks_compact, TranscribeValue, asks_transcribe}
 use Rattle.std.specs.Prelude.{◌≡◌, map, option_map, Option, None, Some, Result, Ok, Err}
 use Rattle.vrepl_words.specs.declared.portions.Portions.{Portions}
 use Rattle.vrepl_words.specs.declared.words.Check.{Check}
@@ -13,6 +13,7 @@ use Rattle.vrepl_words.specs.declared.words.Show.{Show}
 use Rattle.vrepl_words.specs.declared.words.Status.{Status}
 use Rattle.vrepl_words.specs.declared.words.Step.{Step}
 use Rattle.vrepl_words.specs.declared.words.Tiles.{Tiles}
+use Rattle.vrepl_words.specs.declared.words.Transcribe.{Transcribe}
 use Rattle.vrepl_words.specs.declared.words.Vdiff.{Vdiff}
 use Rattle.vrepl_words.specs.declared.words.Words.{Words}
 use Rattle.vrepl_words.specs.declared.words.Words.TheVariants as words
@@ -54,6 +55,15 @@ compact_value compact = record {
   drop_unknown = compact.drop_unknown;
   workflow = compact.workflow.now;
   feed = compact.feed.now;
+}
+
+abbrev pub transcribe_value : Transcribe → TranscribeValue
+transcribe_value transcribe = record {
+  save_to = option_map (λ name. name.now) transcribe.save_to;
+  shard = transcribe.shard.now;
+  schema = option_map (λ name. name.now) transcribe.schema;
+  workflow = transcribe.workflow.now;
+  logs = map (λ log. log.now) transcribe.logs.items;
 }
 
 abbrev pub join_value : Join → JoinValue
@@ -115,6 +125,7 @@ value_of_words (words.Check check) = asks_check (check_value check)
 value_of_words (words.Tiles tiles) = asks_tiles (tiles_value tiles)
 value_of_words (words.Status status) = asks_status (status_value status)
 value_of_words (words.Compact compact) = asks_compact (compact_value compact)
+value_of_words (words.Transcribe transcribe) = asks_transcribe (transcribe_value transcribe)
 value_of_words (words.Explain number) = asks_explain number
 
 -- what was met asks for this, if for anything, unless a fault kept it from being read

@@ -89,6 +89,15 @@ pub record CompactValue : Type 0 where
   pub workflow : Text
   pub feed : Text
 
+-- `transcribe`: a workflow, the shard of one of its streams, the schema of its tables in a server's logs, if it is named, the
+-- logs, and the file of the new feed, if there is one
+pub record TranscribeValue : Type 0 where
+  pub save_to : Option Text
+  pub shard : Text
+  pub schema : Option Text
+  pub workflow : Text
+  pub logs : List Text
+
 -- `join`: a workflow, two checkpoints, further ones, a feed for each of its streams, how feeds are given, and the file of
 -- the new checkpoint, if there is one
 pub record JoinValue : Type 0 where
@@ -127,6 +136,7 @@ pub data WordsValue : Type 0 where
   asks_tiles : TilesValue → WordsValue
   asks_status : StatusValue → WordsValue
   asks_compact : CompactValue → WordsValue
+  asks_transcribe : TranscribeValue → WordsValue
   -- what a refusal's number means, or all of them
   asks_explain : Option ℕ → WordsValue
 
@@ -341,6 +351,24 @@ compact_subcommand = record {
   meaning = λ given. option_map (λ stream. asks_compact (compact_given given stream)) (stream_given (codes "stream") given);
 }
 
+-- what is given to the arguments of `transcribe`
+abbrev pub transcribe_given : List Row → TranscribeValue
+transcribe_given given = record {
+  save_to = first_of (codes "save-to") given;
+  shard = text_given (codes "shard") given;
+  schema = first_of (codes "schema") given;
+  workflow = text_given (codes "workflow") given;
+  logs = texts_given (codes "log") given;
+}
+
+-- `transcribe [--save-to TEXT] --shard TEXT [--schema TEXT] WORKFLOW LOG..`
+abbrev pub transcribe_subcommand : Subcommand
+transcribe_subcommand = record {
+  name = codes "transcribe";
+  rules = option_rule (codes "save-to") ∷ needed_rule (codes "shard") ∷ option_rule (codes "schema") ∷ operand_rule (codes "workflow") ∷ operands_rule (codes "log") ∷ [];
+  meaning = λ given. Some (asks_transcribe (transcribe_given given));
+}
+
 -- `explain [NUMBER]`
 abbrev pub explain_subcommand : Subcommand
 explain_subcommand = record {
@@ -351,7 +379,7 @@ explain_subcommand = record {
 
 -- the subcommands, in the order of the help
 abbrev pub subcommands : List Subcommand
-subcommands = show_subcommand ∷ step_subcommand ∷ run_subcommand ∷ vdiff_subcommand ∷ save_subcommand ∷ resume_subcommand ∷ join_subcommand ∷ follow_subcommand ∷ check_subcommand ∷ tiles_subcommand ∷ status_subcommand ∷ compact_subcommand ∷ explain_subcommand ∷ []
+subcommands = show_subcommand ∷ step_subcommand ∷ run_subcommand ∷ vdiff_subcommand ∷ save_subcommand ∷ resume_subcommand ∷ join_subcommand ∷ follow_subcommand ∷ check_subcommand ∷ tiles_subcommand ∷ status_subcommand ∷ compact_subcommand ∷ transcribe_subcommand ∷ explain_subcommand ∷ []
 
 -- a subcommand as `clap` sees it
 abbrev pub shape_of_subcommand : Subcommand → Shape

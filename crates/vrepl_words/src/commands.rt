@@ -4,7 +4,7 @@ ghost use Rattle.std.specs.Prelude.{IfOk, codes};
 ghost use Rattle.clap.specs.Words.{App, Rule, new_app, with_rule, with_subcommand};
 ghost use Rattle.vrepl_words.specs.Arguments.{flag_rule, further_rule, needed_rule, operand_rule, operands_rule, option_rule, optional_rule};
 ghost use Rattle.vrepl_words.specs.Built.{HasApp, HasRule, IsSubcommand, bare_app};
-ghost use Rattle.vrepl_words.specs.Words.{check_subcommand, explain_subcommand, follow_subcommand, join_subcommand, program_app, resume_subcommand, run_subcommand, save_subcommand, show_subcommand, status_subcommand, step_subcommand, tiles_subcommand, vdiff_subcommand, compact_subcommand};
+ghost use Rattle.vrepl_words.specs.Words.{check_subcommand, explain_subcommand, follow_subcommand, join_subcommand, program_app, resume_subcommand, run_subcommand, save_subcommand, show_subcommand, status_subcommand, step_subcommand, tiles_subcommand, vdiff_subcommand, compact_subcommand, transcribe_subcommand};
 
 use crate::help;
 use clap::{Arg, ArgAction, Command};
@@ -27,6 +27,7 @@ pub(crate) fn program<'w>(alloc: Global) -> Result<Command<'w>, AllocError>
     let command = with_subcommand(command, tiles_command(alloc));
     let command = with_subcommand(command, status_command(alloc));
     let command = with_subcommand(command, compact_command(alloc));
+    let command = with_subcommand(command, transcribe_command(alloc));
     with_subcommand(command, explain_command(alloc))
 }
 
@@ -199,6 +200,22 @@ pub(crate) fn compact_command<'w>(alloc: Global) -> Result<Command<'w>, AllocErr
     let command = with_arg(command, flag(alloc, "drop-unknown", unknown_help));
     let command = with_arg(command, workflow(alloc));
     with_arg(command, operand(alloc, "feed", "FEED", feed_help))
+}
+
+fn transcribe_command<'w>(alloc: Global) -> Result<Command<'w>, AllocError>
+    ensures { IfOk result (IsSubcommand transcribe_subcommand) }
+{
+    let about = "Makes the feed of a stream of a server's binary logs";
+    let save_help = "The feed's file; standard output unless given";
+    let shard_help = "The shard of the stream whose feed it is";
+    let schema_help = "The tables' schema there, the keyspace's name unless given";
+    let logs_help = "The files of the logs, in their order";
+    let command = Ok(bare(alloc, "transcribe", about, help::TRANSCRIBE));
+    let command = with_arg(command, option(alloc, "save-to", "NEW", save_help));
+    let command = with_arg(command, needed(alloc, "shard", "S", shard_help));
+    let command = with_arg(command, option(alloc, "schema", "NAME", schema_help));
+    let command = with_arg(command, workflow(alloc));
+    with_arg(command, operands(alloc, "log", "LOG", logs_help))
 }
 
 pub(crate) fn vdiff_command<'w>(alloc: Global) -> Result<Command<'w>, AllocError>

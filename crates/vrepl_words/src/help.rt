@@ -221,6 +221,24 @@ Status:
   1  refused; `vrepl explain NUMBER` says what the line's number means
   2  a fault of usage";
 
+/// A call of `transcribe` and what it tells.
+pub(crate) const TRANSCRIBE: &str = "\
+Example:
+  $ vrepl transcribe --save-to log.feed --shard=-80 \\
+      examples/workflows/one_shard.json \\
+      examples/logs/binlog.000001 examples/logs/binlog.000002
+
+Reads the binary logs of a server as files, from the first one on, in row
+format with full images. The feed has each committed transaction that changes
+the workflow's tables. The file is replaced once the feed is whole; without
+--save-to it is printed. A line of a refusal names the file, the byte in it and
+the table.
+
+Status:
+  0  the feed was written
+  1  refused; `vrepl explain NUMBER` says what the line's number means
+  2  a fault of usage";
+
 /// A call of `explain` and what it prints.
 pub(crate) const EXPLAIN: &str = "\
 Example:

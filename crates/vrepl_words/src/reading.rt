@@ -4,7 +4,7 @@ ghost use Rattle.std.specs.Prelude.{◌≡◌, ◌≢◌, [], IfOk, Some, map, s
 ghost use Rattle.clap.specs.Words.{FailsBy, found_of, rows_of, subcommand_rows_of};
 ghost use Rattle.vrepl_words.specs.Built.{HasApp};
 ghost use Rattle.vrepl_words.specs.Meant.{Asks, follow_value, portions_value, run_value, show_value, step_value, value_of_words, vdiff_value, compact_value};
-ghost use Rattle.vrepl_words.specs.Words.{asked_by, asks_check, asks_join, asks_follow, asks_resume, asks_run, asks_save, asks_status, asks_step, asks_tiles, check_given, explain_subcommand, faults_of, follow_given, follow_subcommand, join_given, program_app, resume_given, run_given, run_subcommand, save_given, show_given, status_given, step_given, tiles_given, vdiff_given, vdiff_subcommand, words_of, asks_compact, compact_given, compact_subcommand};
+ghost use Rattle.vrepl_words.specs.Words.{asked_by, asks_check, asks_join, asks_follow, asks_resume, asks_run, asks_save, asks_status, asks_step, asks_tiles, check_given, explain_subcommand, faults_of, follow_given, follow_subcommand, join_given, program_app, resume_given, run_given, run_subcommand, save_given, show_given, status_given, step_given, tiles_given, vdiff_given, vdiff_subcommand, words_of, asks_compact, compact_given, compact_subcommand, asks_transcribe, transcribe_given};
 
 use crate::choices::{feed_form_given, report_form_given, threading_given};
 use crate::commands::program;
@@ -13,7 +13,8 @@ use crate::numbers::{bad_number, count_given, refusal_given};
 use crate::portions::Portions;
 use crate::streams::{gives_streams, stream_given, streams_given};
 use crate::words::{
-    Check, Compact, Follow, Join, Resume, Run, Save, Show, Status, Step, Tiles, Vdiff, Words,
+    Check, Compact, Follow, Join, Resume, Run, Save, Show, Status, Step, Tiles, Transcribe, Vdiff,
+    Words,
 };
 use clap::{ArgMatches, Command, Error};
 use std::alloc::{AllocError, Global};
@@ -74,6 +75,7 @@ fn asked<'w>(alloc: Global, matches: &ArgMatches<'w>) -> Option<Result<Words<'w>
         "tiles" => Some(tiles_words(alloc, given)),
         "status" => Some(status_words(alloc, given)),
         "compact" => compact_words(alloc, given),
+        "transcribe" => Some(transcribe_words(alloc, given)),
         "explain" => explain_words(given),
         _ => None,
     }
@@ -288,6 +290,19 @@ fn compact_of<'w>(given: &ArgMatches<'w>, stream: u8, checkpoints: Vec<&'w str>)
         workflow: text(given, "workflow"),
         feed: text(given, "feed"),
     }
+}
+
+fn transcribe_words<'w>(alloc: Global, given: &ArgMatches<'w>) -> Result<Words<'w>, AllocError>
+    ensures { IfOk result (λ words. value_of_words words ≡ asks_transcribe (transcribe_given (rows_of (found_of given.now)))) }
+{
+    let logs = texts(alloc, given, "log")?;
+    Ok(Words::Transcribe(Transcribe {
+        save_to: text_if(given, "save-to"),
+        shard: text(given, "shard"),
+        schema: text_if(given, "schema"),
+        workflow: text(given, "workflow"),
+        logs,
+    }))
 }
 
 /// None where what was given is no number of a refusal.

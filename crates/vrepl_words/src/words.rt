@@ -24,6 +24,8 @@ pub enum Words<'w> {
     Vdiff(Vdiff<'w>),
     /// `compact`: put one group in the place of a feed's first ones.
     Compact(Compact<'w>),
+    /// `transcribe`: make a feed of a server's binary logs.
+    Transcribe(Transcribe<'w>),
     /// `check`: look for what can't be so in a workflow's feeds.
     Check(Check<'w>),
     /// `tiles`: say whether the targets of workflows share the ids of their sources.
@@ -130,6 +132,21 @@ pub struct Compact<'w> {
     pub workflow: &'w str,
     /// The feed's file.
     pub feed: &'w str,
+}
+
+/// The words of `transcribe`.
+#[derive(Drop)]
+pub struct Transcribe<'w> {
+    /// The file that the feed takes the place of; standard output unless given.
+    pub save_to: Option<&'w str>,
+    /// The shard of the stream whose feed it is.
+    pub shard: &'w str,
+    /// The schema that the logs have its tables in; the keyspace's name unless given.
+    pub schema: Option<&'w str>,
+    /// The workflow's file.
+    pub workflow: &'w str,
+    /// The logs' files, in their order.
+    pub logs: Vec<&'w str>,
 }
 
 /// The words of `join`.
