@@ -13,7 +13,8 @@ ROUNDS, BATCH = 60, 12
 
 
 class ReadMaker(Maker):
-    """The same without the types that `transcribe` refuses, and without labels where the log doesn't tell them."""
+    """The same without the types that `transcribe` refuses, without labels where the log doesn't tell them, and without ZEROFILL
+    and YEAR(2), which no log tells."""
 
     labels = True
 
@@ -22,10 +23,10 @@ class ReadMaker(Maker):
         return self.r.choice(makers + [self.labelled] * (2 * self.labels))()
 
     def statements(self) -> list[str]:
-        """Those of a table without a generated column."""
+        """Those of a table without a generated column, and without widths that no log tells."""
         while True:
             made = super().statements()
-            if " AS (LENGTH(" not in made[0]:
+            if not any(word in made[0] for word in (" AS (LENGTH(", " ZEROFILL", "YEAR(2)")):
                 return made
 
 
