@@ -6,6 +6,7 @@ ghost use Rattle.vrepl.specs.Answered.{AnswerEnds, IsAnswering, IsAskedBy, IsUnr
 use crate::checking::{read_check, report};
 use crate::compacting::read_compact;
 use crate::comparing::{compare, read_vdiff};
+use crate::feeding::read_feed;
 use crate::files::{FileInputs, read_files};
 use crate::reporting::Reporter;
 use crate::stating::{StatusInputs, read_status, state};
@@ -17,6 +18,7 @@ use std::thread::Threads;
 use vdiff_core::{Out, Writer};
 use vrepl_check::CheckInputs;
 use vrepl_compact::{CompactInputs, compact};
+use vrepl_feed::{FeedInputs, feed};
 use vrepl_main::{
     CommandRefusal, InputName, Inputs, JoinFiles, JoinInputs, Progress, ResumeInputs, RunInputs,
     Untold, join, read_input, read_join, read_resume, read_run, read_step, resume, run, save, step,
@@ -49,6 +51,8 @@ pub(crate) enum Asked<'a, 'w> {
     Status(StatusInputs<'a, 'w>),
     /// `compact`.
     Compact(CompactInputs<'w>),
+    /// `feed`.
+    Feed(FeedInputs),
 }
 
 /// Reads the inputs of such a command, and prints what it makes of them.
@@ -122,6 +126,7 @@ fn read_asked<'a, 'w>(
         Words::Tiles(words) => Ok(Asked::Tiles(read_files(rt, &words.workflows)?)),
         Words::Status(words) => Ok(Asked::Status(read_status(rt, words)?)),
         Words::Compact(words) => Ok(Asked::Compact(read_compact(rt, words)?)),
+        Words::Feed(words) => Ok(Asked::Feed(read_feed(rt, words)?)),
         _ => unreachable!(),
     }
 }
@@ -184,5 +189,6 @@ fn answer<T: Threads + Wait + Sync, G: Progress + Sync, W: Out, E: Out>(
         Asked::Tiles(inputs) => tile(alloc, inputs, out, err),
         Asked::Status(inputs) => state(alloc, inputs, out, err),
         Asked::Compact(inputs) => compact(alloc, inputs, out, err),
+        Asked::Feed(inputs) => feed(alloc, inputs, out, err),
     }
 }

@@ -1,9 +1,10 @@
 -- What the words that were read ask for.
-use Rattle.vrepl_words.specs.Words.{CheckValue, FollowValue, JoinValue, PortionsValue, ResumeValue, RunValue, SaveValue, ShowValue, StatusValue, StepValue, TilesValue, VdiffValue, WordsValue, asks_follow, asks_join, asks_run, asks_show, asks_step, asks_save, asks_resume, asks_vdiff, asks_check, asks_tiles, asks_status, asks_explain, CompactValue, asks_compact}
+use Rattle.vrepl_words.specs.Words.{CheckValue, FollowValue, JoinValue, PortionsValue, ResumeValue, RunValue, SaveValue, ShowValue, StatusValue, StepValue, TilesValue, VdiffValue, WordsValue, asks_follow, asks_join, asks_run, asks_show, asks_step, asks_save, asks_resume, asks_vdiff, asks_check, asks_tiles, asks_status, asks_explain, CompactValue, asks_compact, FeedValue, asks_feed}
 use Rattle.std.specs.Prelude.{◌≡◌, map, option_map, Option, None, Some, Result, Ok, Err}
 use Rattle.vrepl_words.specs.declared.portions.Portions.{Portions}
 use Rattle.vrepl_words.specs.declared.words.Check.{Check}
 use Rattle.vrepl_words.specs.declared.words.Compact.{Compact}
+use Rattle.vrepl_words.specs.declared.words.Feed.{Feed}
 use Rattle.vrepl_words.specs.declared.words.Follow.{Follow}
 use Rattle.vrepl_words.specs.declared.words.Join.{Join}
 use Rattle.vrepl_words.specs.declared.words.Resume.{Resume}
@@ -55,6 +56,9 @@ compact_value compact = record {
   workflow = compact.workflow.now;
   feed = compact.feed.now;
 }
+
+abbrev pub feed_value : Feed → FeedValue
+feed_value feed = record { stream = feed.stream; workflow = option_map (λ name. name.now) feed.workflow }
 
 abbrev pub join_value : Join → JoinValue
 join_value join = record {
@@ -115,6 +119,7 @@ value_of_words (words.Check check) = asks_check (check_value check)
 value_of_words (words.Tiles tiles) = asks_tiles (tiles_value tiles)
 value_of_words (words.Status status) = asks_status (status_value status)
 value_of_words (words.Compact compact) = asks_compact (compact_value compact)
+value_of_words (words.Feed feed) = asks_feed (feed_value feed)
 value_of_words (words.Explain number) = asks_explain number
 
 -- what was met asks for this, if for anything, unless a fault kept it from being read

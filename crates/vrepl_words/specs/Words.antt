@@ -89,6 +89,11 @@ pub record CompactValue : Type 0 where
   pub workflow : Text
   pub feed : Text
 
+-- `feed`: the workflow and the stream whose feed is written, if there is one
+pub record FeedValue : Type 0 where
+  pub stream : ℕ
+  pub workflow : Option Text
+
 -- `join`: a workflow, two checkpoints, further ones, a feed for each of its streams, how feeds are given, and the file of
 -- the new checkpoint, if there is one
 pub record JoinValue : Type 0 where
@@ -127,6 +132,7 @@ pub data WordsValue : Type 0 where
   asks_tiles : TilesValue → WordsValue
   asks_status : StatusValue → WordsValue
   asks_compact : CompactValue → WordsValue
+  asks_feed : FeedValue → WordsValue
   -- what a refusal's number means, or all of them
   asks_explain : Option ℕ → WordsValue
 
@@ -341,6 +347,18 @@ compact_subcommand = record {
   meaning = λ given. option_map (λ stream. asks_compact (compact_given given stream)) (stream_given (codes "stream") given);
 }
 
+-- what is given to the arguments of `feed`
+abbrev pub feed_given : List Row → ℕ → FeedValue
+feed_given given stream = record { stream = stream; workflow = first_of (codes "workflow") given }
+
+-- `feed [--stream S] [WORKFLOW]`
+abbrev pub feed_subcommand : Subcommand
+feed_subcommand = record {
+  name = codes "feed";
+  rules = option_rule (codes "stream") ∷ optional_rule (codes "workflow") ∷ [];
+  meaning = λ given. option_map (λ stream. asks_feed (feed_given given stream)) (stream_given (codes "stream") given);
+}
+
 -- `explain [NUMBER]`
 abbrev pub explain_subcommand : Subcommand
 explain_subcommand = record {
@@ -351,7 +369,7 @@ explain_subcommand = record {
 
 -- the subcommands, in the order of the help
 abbrev pub subcommands : List Subcommand
-subcommands = show_subcommand ∷ step_subcommand ∷ run_subcommand ∷ vdiff_subcommand ∷ save_subcommand ∷ resume_subcommand ∷ join_subcommand ∷ follow_subcommand ∷ check_subcommand ∷ tiles_subcommand ∷ status_subcommand ∷ compact_subcommand ∷ explain_subcommand ∷ []
+subcommands = show_subcommand ∷ step_subcommand ∷ run_subcommand ∷ vdiff_subcommand ∷ save_subcommand ∷ resume_subcommand ∷ join_subcommand ∷ follow_subcommand ∷ check_subcommand ∷ tiles_subcommand ∷ status_subcommand ∷ compact_subcommand ∷ feed_subcommand ∷ explain_subcommand ∷ []
 
 -- a subcommand as `clap` sees it
 abbrev pub shape_of_subcommand : Subcommand → Shape

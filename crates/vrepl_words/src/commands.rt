@@ -4,7 +4,7 @@ ghost use Rattle.std.specs.Prelude.{IfOk, codes};
 ghost use Rattle.clap.specs.Words.{App, Rule, new_app, with_rule, with_subcommand};
 ghost use Rattle.vrepl_words.specs.Arguments.{flag_rule, further_rule, needed_rule, operand_rule, operands_rule, option_rule, optional_rule};
 ghost use Rattle.vrepl_words.specs.Built.{HasApp, HasRule, IsSubcommand, bare_app};
-ghost use Rattle.vrepl_words.specs.Words.{check_subcommand, explain_subcommand, follow_subcommand, join_subcommand, program_app, resume_subcommand, run_subcommand, save_subcommand, show_subcommand, status_subcommand, step_subcommand, tiles_subcommand, vdiff_subcommand, compact_subcommand};
+ghost use Rattle.vrepl_words.specs.Words.{check_subcommand, explain_subcommand, follow_subcommand, join_subcommand, program_app, resume_subcommand, run_subcommand, save_subcommand, show_subcommand, status_subcommand, step_subcommand, tiles_subcommand, vdiff_subcommand, compact_subcommand, feed_subcommand};
 
 use crate::help;
 use clap::{Arg, ArgAction, Command};
@@ -27,6 +27,7 @@ pub(crate) fn program<'w>(alloc: Global) -> Result<Command<'w>, AllocError>
     let command = with_subcommand(command, tiles_command(alloc));
     let command = with_subcommand(command, status_command(alloc));
     let command = with_subcommand(command, compact_command(alloc));
+    let command = with_subcommand(command, feed_command(alloc));
     with_subcommand(command, explain_command(alloc))
 }
 
@@ -199,6 +200,20 @@ pub(crate) fn compact_command<'w>(alloc: Global) -> Result<Command<'w>, AllocErr
     let command = with_arg(command, flag(alloc, "drop-unknown", unknown_help));
     let command = with_arg(command, workflow(alloc));
     with_arg(command, operand(alloc, "feed", "FEED", feed_help))
+}
+
+pub(crate) fn feed_command<'w>(alloc: Global) -> Result<Command<'w>, AllocError>
+    ensures { IfOk result (IsSubcommand feed_subcommand) }
+{
+    let about = "Writes the feed of which show prints a text";
+    let stream_help = "The stream whose feed it is, 0 unless given";
+    let workflow_help = "The workflow's file; no keyspace and shard without it";
+    let command = Ok(bare(alloc, "feed", about, help::FEED));
+    let command = with_arg(command, option(alloc, "stream", "S", stream_help));
+    with_arg(
+        command,
+        optional(alloc, "workflow", "WORKFLOW", workflow_help),
+    )
 }
 
 pub(crate) fn vdiff_command<'w>(alloc: Global) -> Result<Command<'w>, AllocError>

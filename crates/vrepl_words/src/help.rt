@@ -221,6 +221,24 @@ Status:
   1  refused; `vrepl explain NUMBER` says what the line's number means
   2  a fault of usage";
 
+/// A call of `feed` and what becomes of it.
+pub(crate) const FEED: &str = "\
+Example:
+  $ vrepl feed examples/workflows/one_shard.json < my.txt > my.feed
+  $ vrepl show --keyspace shop --shard 0 my.feed | diff - my.txt
+
+The text is on standard input, each line of it as `show` prints it: a group with
+its number and position, then its rows behind a - or a +. The feed is printed.
+Where a line isn't as `show` prints it nothing is, and the refusal names the line
+and the byte of it. A `-` and behind it a `+` of the same table are an update.
+With a workflow the feed has its keyspace, the stream's shard, and the columns of
+its tables; of any other table a column has its place as its name.
+
+Status:
+  0  the feed was printed
+  1  refused; `vrepl explain NUMBER` says what the line's number means
+  2  a fault of usage";
+
 /// A call of `explain` and what it prints.
 pub(crate) const EXPLAIN: &str = "\
 Example:

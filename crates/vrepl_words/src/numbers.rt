@@ -7,7 +7,7 @@ ghost use Rattle.vrepl_words.specs.Arguments.{count_given, portion_of, refusal_g
 ghost use Rattle.vrepl_words.specs.Words.{bad_follow, bad_portion};
 
 use crate::commands::{
-    compact_command, explain_command, follow_command, run_command, vdiff_command,
+    compact_command, explain_command, feed_command, follow_command, run_command, vdiff_command,
 };
 use crate::given::{given_portions, portion, portion_of};
 use clap::error::ErrorKind;
@@ -85,6 +85,7 @@ pub(crate) fn bad_number(alloc: Global, matches: &ArgMatches<'_>) -> Result<Erro
             usage_fault(follow_command(alloc), "vrepl follow", bad_follow(given))
         }
         Some(("compact", _)) => usage_fault(compact_command(alloc), "vrepl compact", STREAM),
+        Some(("feed", _)) => usage_fault(feed_command(alloc), "vrepl feed", STREAM),
         Some(("vdiff", _)) => usage_fault(vdiff_command(alloc), "vrepl vdiff", FIRST),
         _ => usage_fault(explain_command(alloc), "vrepl explain", NO_REFUSAL),
     }

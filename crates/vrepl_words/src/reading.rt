@@ -3,8 +3,8 @@
 ghost use Rattle.std.specs.Prelude.{◌≡◌, ◌≢◌, [], IfOk, Some, map, string_bytes};
 ghost use Rattle.clap.specs.Words.{FailsBy, found_of, rows_of, subcommand_rows_of};
 ghost use Rattle.vrepl_words.specs.Built.{HasApp};
-ghost use Rattle.vrepl_words.specs.Meant.{Asks, follow_value, portions_value, run_value, show_value, step_value, value_of_words, vdiff_value, compact_value};
-ghost use Rattle.vrepl_words.specs.Words.{asked_by, asks_check, asks_join, asks_follow, asks_resume, asks_run, asks_save, asks_status, asks_step, asks_tiles, check_given, explain_subcommand, faults_of, follow_given, follow_subcommand, join_given, program_app, resume_given, run_given, run_subcommand, save_given, show_given, status_given, step_given, tiles_given, vdiff_given, vdiff_subcommand, words_of, asks_compact, compact_given, compact_subcommand};
+ghost use Rattle.vrepl_words.specs.Meant.{Asks, follow_value, portions_value, run_value, show_value, step_value, value_of_words, vdiff_value, compact_value, feed_value};
+ghost use Rattle.vrepl_words.specs.Words.{asked_by, asks_check, asks_join, asks_follow, asks_resume, asks_run, asks_save, asks_status, asks_step, asks_tiles, check_given, explain_subcommand, faults_of, follow_given, follow_subcommand, join_given, program_app, resume_given, run_given, run_subcommand, save_given, show_given, status_given, step_given, tiles_given, vdiff_given, vdiff_subcommand, words_of, asks_compact, compact_given, compact_subcommand, feed_given, feed_subcommand};
 
 use crate::choices::{feed_form_given, report_form_given, threading_given};
 use crate::commands::program;
@@ -13,7 +13,7 @@ use crate::numbers::{bad_number, count_given, refusal_given};
 use crate::portions::Portions;
 use crate::streams::{gives_streams, stream_given, streams_given};
 use crate::words::{
-    Check, Compact, Follow, Join, Resume, Run, Save, Show, Status, Step, Tiles, Vdiff, Words,
+    Check, Compact, Feed, Follow, Join, Resume, Run, Save, Show, Status, Step, Tiles, Vdiff, Words,
 };
 use clap::{ArgMatches, Command, Error};
 use std::alloc::{AllocError, Global};
@@ -74,6 +74,7 @@ fn asked<'w>(alloc: Global, matches: &ArgMatches<'w>) -> Option<Result<Words<'w>
         "tiles" => Some(tiles_words(alloc, given)),
         "status" => Some(status_words(alloc, given)),
         "compact" => compact_words(alloc, given),
+        "feed" => feed_words(given),
         "explain" => explain_words(given),
         _ => None,
     }
@@ -287,6 +288,24 @@ fn compact_of<'w>(given: &ArgMatches<'w>, stream: u8, checkpoints: Vec<&'w str>)
         drop_unknown: has_flag(given, "drop-unknown"),
         workflow: text(given, "workflow"),
         feed: text(given, "feed"),
+    }
+}
+
+/// None where the stream that was given is none.
+fn feed_words<'w>(given: &ArgMatches<'w>) -> Option<Result<Words<'w>, AllocError>>
+    ensures { Asks result (feed_subcommand.meaning (rows_of (found_of given.now))) }
+{
+    let stream = stream_given(given, "stream")?;
+    Some(Ok(Words::Feed(feed_of(given, stream))))
+}
+
+/// What is given to `feed`, of this stream.
+fn feed_of<'w>(given: &ArgMatches<'w>, stream: u8) -> Feed<'w>
+    ensures { feed_value result ≡ feed_given (rows_of (found_of given.now)) stream }
+{
+    Feed {
+        stream,
+        workflow: text_if(given, "workflow"),
     }
 }
 

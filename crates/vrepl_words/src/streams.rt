@@ -1,4 +1,4 @@
-//! The streams that `follow` is told to run alone, and the one whose feed `compact` is given.
+//! The streams that `follow` is told to run alone, and the one whose feed `compact` is given or `feed` writes.
 
 ghost use Rattle.std.specs.Prelude.{◌≡◌, IfOk, is_some, option_map};
 ghost use Rattle.clap.specs.Words.{found_of, rows_of};

@@ -24,6 +24,8 @@ pub enum Words<'w> {
     Vdiff(Vdiff<'w>),
     /// `compact`: put one group in the place of a feed's first ones.
     Compact(Compact<'w>),
+    /// `feed`: write the feed of which `show` prints a text.
+    Feed(Feed<'w>),
     /// `check`: look for what can't be so in a workflow's feeds.
     Check(Check<'w>),
     /// `tiles`: say whether the targets of workflows share the ids of their sources.
@@ -130,6 +132,15 @@ pub struct Compact<'w> {
     pub workflow: &'w str,
     /// The feed's file.
     pub feed: &'w str,
+}
+
+/// The words of `feed`.
+#[derive(Drop)]
+pub struct Feed<'w> {
+    /// The stream whose feed it is, from 0, where there is a workflow.
+    pub stream: u8,
+    /// The workflow's file; none for a feed of the empty keyspace and shard.
+    pub workflow: Option<&'w str>,
 }
 
 /// The words of `join`.
