@@ -19,6 +19,8 @@ pub enum TextCause {
     Number,
     /// A position can't be read.
     Position(GtidFault),
+    /// A position isn't spelled as it is printed.
+    Spelling,
     /// A position doesn't have all of the one before it, and more.
     NotMore,
     /// A table's name isn't UTF-8.

@@ -31,7 +31,7 @@ impl From<AllocError> for Unlike {
 }
 
 /// How many bytes at the beginning of two texts are the same.
-fn shared(text: &[u8], other: &[u8]) -> usize
+pub(crate) fn shared(text: &[u8], other: &[u8]) -> usize
     ensures { result ≤ length text.now }
 {
     let most = text.len().min(other.len());
@@ -176,7 +176,7 @@ fn behind_number(text: &[u8], number: u64) -> Result<&[u8], Unlike>
 }
 
 /// The printed text of a position.
-fn text_of(alloc: Global, position: &GtidSet) -> Result<String, AllocError>
+pub(crate) fn text_of(alloc: Global, position: &GtidSet) -> Result<String, AllocError>
     ensures { IfOk result (λ text. string_bytes text ≡ printed_position position.now) }
 {
     let text = format!(in alloc; "{position}")?;

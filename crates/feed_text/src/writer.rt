@@ -9,6 +9,7 @@ use crate::events::{
 };
 use crate::fault::{LineError, TextCause};
 use crate::lines::up_to_tab;
+use crate::saying::{shared, text_of};
 use filter_rule::Plan;
 use gtid_set::{GtidFault, GtidSet};
 use indexmap::IndexMap;
@@ -105,6 +106,11 @@ impl<'t, 'k, 's, 'p> FeedWriter<'t, 'k, 's, 'p> {
             Err(GtidFault::Memory) => return Err(LineError::Memory),
             Err(fault) => return Err(LineError::At(place, TextCause::Position(fault))),
         };
+        let printed = text_of(alloc, &reached)?;
+        if printed.as_bytes() != text {
+            let same = shared(text, printed.as_bytes());
+            return Err(LineError::At(place.saturating_add(same), TextCause::Spelling));
+        }
         if !self.reached.is_within(&reached) || reached.is_within(&self.reached) {
             return Err(LineError::At(place, TextCause::NotMore));
         }
@@ -184,16 +190,8 @@ impl<'t, 'k, 's, 'p> FeedWriter<'t, 'k, 's, 'p> {
         }
         self.say_columns(alloc, row)?;
         let name = FeedName::new(self.source.keyspace, row.table);
-        let before = if has_before {
-            Some(self.before.as_slice())
-        } else {
-            None
-        };
-        let after = if has_after {
-            Some(self.after.as_slice())
-        } else {
-            None
-        };
+        let before = row_if(has_before, &self.before);
+        let after = row_if(has_after, &self.after);
         put_change(&mut self.events, name, before, after)
     }
 
@@ -242,6 +240,11 @@ impl<'t, 'k, 's, 'p> FeedWriter<'t, 'k, 's, 'p> {
         self.end_group(alloc)?;
         Ok(self.feed)
     }
+}
+
+/// A row's message, if it is there.
+fn row_if(is_there: bool, row: &[u8]) -> Option<&[u8]> {
+    if is_there { Some(row) } else { None }
 }
 
 /// What stands behind a number and a blank.
