@@ -122,10 +122,10 @@ def judge(place, case, r):
     if status:
         return "a feed that is refused"
     if not any(name.count(b"\t") or name.count(b"\n") for _, changes in Feed(case.feeds[s], *source).groups for name, *_ in changes):
-        same("the model's text", wanted_of(text, {})[0], 0)
-    fed(place, "without a workflow", text, {}, [], (b"", b""))
+        same("the model's text", wanted_of(text, None)[0], 0)
+    fed(place, "without a workflow", text, None, [], (b"", b""))
     for _ in range(3):
-        fed(place, "a changed text", changed(r, text), {}, [], (b"", b""))
+        fed(place, "a changed text", changed(r, text), None, [], (b"", b""))
     if not case.read:
         return "a workflow that is refused"
     widths = {it.name: len(it.columns) for it in case.read.tables}

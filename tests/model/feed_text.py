@@ -38,8 +38,8 @@ class Text:
     """A text, line by line; `fault` is the place of its first fault, a line and a byte of it from 1, or None."""
 
     def __init__(self, text, widths=None):
-        """`widths` has the number of columns of each table of the workflow."""
-        self.widths, self.number, self.reached = widths or {}, 0, None
+        """`widths` has the number of columns of each table of the workflow, where there is one."""
+        self.widths, self.number, self.reached = widths, 0, None
         self.fault = None
         *lines, rest = text.split(b"\n")
         for line, said in enumerate(lines, 1):
@@ -87,7 +87,7 @@ class Text:
             if bad is not None:
                 return at + 1 + bad
             at += 1 + len(cell)
-        if self.widths.get(name, len(cells)) != len(cells):
+        if self.widths is not None and self.widths.get(name, len(cells) or 1) != len(cells):
             return 2
         if len(cells) > COLUMNS or size_of(cells) > ROW_BYTES:
             return 2

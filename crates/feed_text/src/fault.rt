@@ -27,7 +27,7 @@ pub enum TextCause {
     Name,
     /// A cell is neither `N` nor `x` and pairs of digits in lower case hexadecimal.
     Cell,
-    /// A row has another number of cells than its table has columns in the workflow.
+    /// A row has another number of cells than its table has columns in the workflow, or under a workflow none.
     Columns,
     /// A row has more than 256 cells.
     TooWide,

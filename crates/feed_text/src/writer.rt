@@ -263,10 +263,11 @@ fn planned<'p>(plan: Option<&'p Plan>, table: &str) -> Option<(&'p Plan, u8)>
     Some((plan, t))
 }
 
-/// Whether a table can have rows of so many cells: one of the plan has as many columns.
+/// Whether a table can have rows of so many cells: one of the plan has as many columns, and where there is a plan any other
+/// has some.
 fn fits(plan: Option<&Plan>, table: &str, width: usize) -> bool {
     match planned(plan, table) {
         Some((plan, t)) => plan.columns(t).len() == width,
-        None => true,
+        None => plan.is_none() || width > 0,
     }
 }

@@ -7,7 +7,6 @@ pub mod Printing
 pub mod Command
 pub mod Inputs
 pub mod Adding
-pub mod Shown
 pub mod Show
 pub mod AnswerText
 pub mod RefusedText
