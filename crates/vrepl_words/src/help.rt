@@ -225,14 +225,14 @@ Status:
 pub(crate) const FEED: &str = "\
 Example:
   $ vrepl feed examples/workflows/one_shard.json < my.txt > my.feed
-  $ vrepl show --keyspace shop --shard 0 my.feed | diff - my.txt
+  $ vrepl show --keyspace ks --shard=-80 my.feed | diff - my.txt
 
 The text is on standard input, each line of it as `show` prints it: a group with
-its number and position, then its rows behind a - or a +. The feed is printed.
-Where a line isn't as `show` prints it nothing is, and the refusal names the line
-and the byte of it. A `-` and behind it a `+` of the same table are an update.
-With a workflow the feed has its keyspace, the stream's shard, and the columns of
-its tables; of any other table a column has its place as its name.
+its number and position, then its rows behind a - or a +.
+The feed is printed, or where a line isn't as `show` prints it, a refusal that
+names the line and the byte of it. A - and behind it a + of one table are an
+update. With a workflow the feed has its keyspace, the stream's shard and the
+columns of its tables; of any other table a column has its place as its name.
 
 Status:
   0  the feed was printed
