@@ -18,7 +18,7 @@ def bad_cell(cell):
         return None
     if not cell.startswith(b"x"):
         return 0
-    return re.match(rb"x[0-9a-f]*", cell).end() if len(cell) % 2 or not re.fullmatch(rb"[0-9a-f]*", cell[1:]) else None
+    return re.match(rb"x[0-9a-f]*", cell).end()
 
 
 def size_of(cells):
@@ -60,7 +60,7 @@ class Text:
         self.number += 1
         head = b"group %d " % self.number
         if not said.startswith(head):
-            return 6
+            return shared(said, head)
         text = said[len(head) :]
         try:
             position = read_position(text)

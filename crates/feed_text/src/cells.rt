@@ -59,7 +59,7 @@ impl RowCells {
     /// Reads the digits of a cell.
     fn push_value(&mut self, digits: &[u8]) -> Result<(), LineError> {
         let read = push_bytes(&mut self.values, digits)?;
-        if read < digits.len() {
+        if read < digits.len() || digits.len() % 2 == 1 {
             return Err(LineError::At(read.saturating_add(1), TextCause::Cell));
         }
         self.lengths.push(Some(digits.len() / 2))?;
@@ -119,7 +119,11 @@ fn push_bytes(bytes: &mut Vec<u8>, digits: &[u8]) -> Result<usize, AllocError>
         };
         bytes.push(high * 16 + low)?;
     }
-    Ok(digits.len() / 2 * 2)
+    let even = digits.len() / 2 * 2;
+    if even < digits.len() && digit_value(digits[even]).is_some() {
+        return Ok(digits.len());
+    }
+    Ok(even)
 }
 
 /// The value of a digit in lower case.

@@ -94,8 +94,9 @@ impl<'t, 'k, 's, 'p> FeedWriter<'t, 'k, 's, 'p> {
     fn take_group(&mut self, alloc: Global, rest: &'t [u8]) -> Result<(), LineError> {
         self.end_group(alloc)?;
         self.number = self.number.saturating_add(1);
-        let Some(text) = behind_number(rest, self.number) else {
-            return Err(LineError::At(6, TextCause::Number));
+        let text = match behind_number(rest, self.number) {
+            Ok(text) => text,
+            Err(same) => return Err(LineError::At(same.saturating_add(6), TextCause::Number)),
         };
         let place = rest.len().saturating_sub(text.len()).saturating_add(6);
         let Ok(position) = str::from_utf8(text) else {
@@ -247,11 +248,17 @@ fn row_if(is_there: bool, row: &[u8]) -> Option<&[u8]> {
     if is_there { Some(row) } else { None }
 }
 
-/// What stands behind a number and a blank.
-fn behind_number(text: &[u8], number: u64) -> Option<&[u8]> {
+/// What stands behind a number and a blank, or how many bytes of these are there.
+fn behind_number(text: &[u8], number: u64) -> Result<&[u8], usize> {
     let mut digits = itoa::Buffer::new();
-    let rest = text.strip_prefix(digits.format(number).as_bytes())?;
-    rest.strip_prefix(b" ".as_slice())
+    let word = digits.format(number).as_bytes();
+    let Some(rest) = text.strip_prefix(word) else {
+        return Err(shared(text, word));
+    };
+    match rest.strip_prefix(b" ".as_slice()) {
+        Some(rest) => Ok(rest),
+        None => Err(word.len()),
+    }
 }
 
 /// The plan, and the number in it of a table, if it has the table.

@@ -1,2 +1,2 @@
 mod EndLaws
-mod ShowLaws
+pub mod ShowLaws

@@ -48,6 +48,7 @@ fn plan_of(plans: &[Arc<Plan>], stream: u8) -> Result<&Arc<Plan>, Unfed>
 }
 
 /// The same under a workflow.
+#[tactic(auto, using(crate::proofs::ShowLaws::says_shows))]
 fn fed_under(alloc: Global, workflow: &[u8], stream: u8, text: &[u8]) -> Result<Vec<u8>, Unfed>
     ensures { IfOk result (λ feed. IsFedUnder workflow.now stream text.now feed.items) }
 {
@@ -59,6 +60,7 @@ fn fed_under(alloc: Global, workflow: &[u8], stream: u8, text: &[u8]) -> Result<
 
 /// The feed of which `show` prints the text. The faults are found in this order: those of the workflow; 115 where it has no
 /// such stream; 122 for the text. Any other error is want of memory.
+#[tactic(auto, using(crate::proofs::ShowLaws::says_shows))]
 pub fn fed(alloc: Global, inputs: &FeedInputs) -> Result<Vec<u8>, Unfed>
     ensures { IfOk result (λ feed. IsFed inputs.now feed.items) }
 {
