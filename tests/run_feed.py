@@ -6,7 +6,7 @@ usage: tests/run_feed.py PROGRAM [--seconds N] [--seed N]
 
 Of each case: `show` of what `feed` makes of what `show` prints of a feed prints the same, without a workflow, and under the
 feed's own where no table of it has another number of columns; under the workflow it is the model's feed of the groups, and
-`run` of it prints the same rows. A text of which some bytes are changed is refused 122 with the line and the byte that the
+`run` of it prints the same rows. A text of which some bytes are changed is refused 124 with the line and the byte that the
 plain model in tests/model names, and nothing is printed; or it is made a feed of, and `show` prints the changed text. The
 last line is 'N passed, M failed'.
 """
@@ -73,7 +73,7 @@ def whose(keyspace, shard):
 
 def wanted_of(text, widths):
     fault = Text(text, widths).fault
-    return (1, b"", b"refused 122 line %d column %d\n" % fault) if fault else (0, None, b"")
+    return (1, b"", b"refused 124 line %d column %d\n" % fault) if fault else (0, None, b"")
 
 
 def fed(place, what, text, widths, words, source):

@@ -115,8 +115,8 @@ files_texts =
     (119, FEED_COUNT.now) ∷
     (120, BAD_SCRIPT.now) ∷
     (121, BAD_DUMP.now) ∷
-    (122, BAD_TEXT.now) ∷
     (123, UNKNOWN_TABLE.now) ∷
+    (124, BAD_TEXT.now) ∷
     (129, CHANGED.now) ∷
     (131, CANNOT_READ.now) ∷
     (132, CANNOT_WRITE.now) ∷

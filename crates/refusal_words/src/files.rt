@@ -14,8 +14,8 @@ pub(crate) fn text_of(number: u64) -> Option<&'static str>
         119 => Some(FEED_COUNT),
         120 => Some(BAD_SCRIPT),
         121 => Some(BAD_DUMP),
-        122 => Some(BAD_TEXT),
         123 => Some(UNKNOWN_TABLE),
+        124 => Some(BAD_TEXT),
         129 => Some(CHANGED),
         131 => Some(CANNOT_READ),
         132 => Some(CANNOT_WRITE),
@@ -89,18 +89,6 @@ What to do: print a dump with `vrepl run`, or with record/select, which orders
 by bytes. docs/FORMATS.md has the form.
 ";
 
-pub const BAD_TEXT: &str = "\
-122  a line of a text isn't as `show` prints it
-
-A line of the text that `feed` reads isn't as `show` prints it of any feed. The
-line of the refusal says which, and the byte of it, both from 1.
-Usual causes: blanks in place of a tab; a cell that is neither N nor x and
-digits in lower case; a group without the next number, or whose position isn't
-printed as `show` prints it or lacks a part of the one before; a row with more
-or fewer cells than its table has columns; a last line without its end.
-What to do: mend the line. `vrepl show` of a feed prints lines to go by.
-";
-
 pub const UNKNOWN_TABLE: &str = "\
 123  rows of a table that the workflow lacks would be lost
 
@@ -111,6 +99,18 @@ Usual causes: a feed of a whole keyspace under a workflow of some of its tables;
 a table that is to be added later.
 What to do: add the table to the workflow first; or, if nothing will ever want
 its rows, run the command again with --drop-unknown.
+";
+
+pub const BAD_TEXT: &str = "\
+124  a line of a text isn't as `show` prints it
+
+A line of the text that `feed` reads isn't as `show` prints it of any feed. The
+line of the refusal says which, and the byte of it, both from 1.
+Usual causes: blanks in place of a tab; a cell that is neither N nor x and
+digits in lower case; a group without the next number, or whose position isn't
+printed as `show` prints it or lacks a part of the one before; a row with more
+or fewer cells than its table has columns; a last line without its end.
+What to do: mend the line. `vrepl show` of a feed prints lines to go by.
 ";
 
 pub const CHANGED: &str = "\

@@ -69,8 +69,8 @@ pub const LIST: &str = "\
 119  there aren't as many feeds as streams
 120  a line of the script is no step
 121  a line of a dump can't stand there
-122  a line of a text isn't as `show` prints it
 123  rows of a table that the workflow lacks would be lost
+124  a line of a text isn't as `show` prints it
 129  a file changed before it could be replaced
 131  a file can't be read
 132  a file or standard output can't be written

@@ -7,7 +7,7 @@ use Rattle.vrepl_feed.specs.declared.refusal.Unfed.TheVariants as refusal
 
 -- that of a text that is no feed's: its line, and the byte of it
 abbrev pub text_line : TextFault → List ℕ
-text_line fault = (codes "refused 122 line " ++ decimal fault.line) ++ (codes " column " ++ decimal fault.column) ++ 10 ∷ []
+text_line fault = (codes "refused 124 line " ++ decimal fault.line) ++ (codes " column " ++ decimal fault.column) ++ 10 ∷ []
 
 abbrev pub unfed_line : Unfed → List ℕ
 unfed_line (refusal.Given given) = refusal_line given

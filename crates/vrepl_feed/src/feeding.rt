@@ -59,7 +59,7 @@ fn fed_under(alloc: Global, workflow: &[u8], stream: u8, text: &[u8]) -> Result<
 }
 
 /// The feed of which `show` prints the text. The faults are found in this order: those of the workflow; 115 where it has no
-/// such stream; 122 for the text. Any other error is want of memory.
+/// such stream; 124 for the text. Any other error is want of memory.
 #[tactic(auto, using(crate::proofs::ShowLaws::says_shows))]
 pub fn fed(alloc: Global, inputs: &FeedInputs) -> Result<Vec<u8>, Unfed>
     ensures { IfOk result (λ feed. IsFed inputs.now feed.items) }

@@ -17,7 +17,7 @@ use vrepl_main::{CommandRefusal, refuse};
 pub enum Unfed {
     /// What stands in the workflow, want of memory, or that the feed can't be written.
     Given(CommandRefusal<'static>),
-    /// 122: a line isn't as `show` prints it.
+    /// 124: a line isn't as `show` prints it.
     Text(TextFault),
 }
 
@@ -70,7 +70,7 @@ fn add_text_line<E: Out>(
 ) -> Result<(), OutFailed>
     ensures { Adds result (E.written err.old) text.old (E.written err.new) text.new (text_line fault) }
 {
-    add_named(err, text, "refused 122 line ", fault.line)?;
+    add_named(err, text, "refused 124 line ", fault.line)?;
     add_named(err, text, " column ", fault.column)?;
     text.put(err, b"\n")
 }
