@@ -7,7 +7,7 @@ use gtid_set::GtidFault;
 use std::alloc::{AllocError, AllocFailed};
 
 /// What is wrong at a place of a text.
-#[derive(Clone, Copy, Debug, PartialEq, Eq)]
+#[derive(Clone, Copy)]
 pub enum TextCause {
     /// The last line has no end.
     NoEnd,
@@ -40,7 +40,7 @@ pub enum TextCause {
 }
 
 /// What is wrong with a text, and where: the line and the byte of it, both from 1.
-#[derive(Clone, Copy, Debug, PartialEq, Eq)]
+#[derive(Clone, Copy)]
 pub struct TextFault {
     pub line: u64,
     pub column: u64,
@@ -48,7 +48,7 @@ pub struct TextFault {
 }
 
 /// Why there is no feed of a text.
-#[derive(Clone, Copy, Debug, PartialEq, Eq)]
+#[derive(Clone, Copy)]
 pub enum FeedTextError {
     /// A growth was refused.
     Memory,
@@ -56,7 +56,7 @@ pub enum FeedTextError {
 }
 
 /// What is wrong so many bytes behind the beginning of a line, or of a text.
-#[derive(Clone, Copy, Debug, PartialEq, Eq)]
+#[derive(Clone, Copy)]
 pub(crate) enum LineError {
     Memory,
     At(usize, TextCause),

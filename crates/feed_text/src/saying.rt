@@ -14,7 +14,7 @@ use source_feed::{Change, Group, GroupChanges, Groups};
 use std::alloc::{AllocError, Global};
 
 /// Why groups aren't shown as a text.
-#[derive(Clone, Copy, Debug, PartialEq, Eq)]
+#[derive(Clone, Copy)]
 pub(crate) enum Unlike {
     /// A growth was refused.
     Memory,

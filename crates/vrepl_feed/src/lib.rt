@@ -5,6 +5,6 @@ mod feeding;
 mod inputs;
 mod refusal;
 
-pub use feeding::{feed, fed};
+pub use feeding::{fed, feed};
 pub use inputs::FeedInputs;
 pub use refusal::{Unfed, refuse_unfed};
