@@ -45,10 +45,37 @@ fn a_text_is_refused_where_no_feed_is_shown_so(rt: HostRuntime) {
     assert!(rt; refused(alloc, TEXT).is_none());
     assert!(rt; refused(alloc, b"").is_none());
     assert!(rt; refused(alloc, b"+ t\tx31\n") == Some((1, 1)));
-    assert!(rt; refused(alloc, b"group 1 3e11fa47-71ca-11e1-9e33-c80aa9429562:1\n+ t\tx31\tx6A\n") == Some((2, 11)));
-    assert!(rt; refused(alloc, b"group 1 3e11fa47-71ca-11e1-9e33-c80aa9429562:1\n+ t\tx31\tx6\n") == Some((2, 11)));
-    assert!(rt; refused(alloc, b"group 1 3e11fa47-71ca-11e1-9e33-c80aa9429562:1\ngroup 3 3e11fa47-71ca-11e1-9e33-c80aa9429562:1-2\n") == Some((2, 7)));
-    assert!(rt; refused(alloc, b"group 1 3e11fa47-71ca-11e1-9e33-c80aa9429562:1\ngroup 2 3e11fa47-71ca-11e1-9e33-c80aa9429562:2\n") == Some((2, 9)));
-    assert!(rt; refused(alloc, b"group 1 3E11FA47-71CA-11E1-9E33-C80AA9429562:1\n") == Some((1, 10)));
-    assert!(rt; refused(alloc, b"group 1 3e11fa47-71ca-11e1-9e33-c80aa9429562:1\n+ t\tx31") == Some((2, 8)));
+    assert!(rt;
+        refused(
+            alloc,
+            b"group 1 3e11fa47-71ca-11e1-9e33-c80aa9429562:1\n+ t\tx31\tx6A\n"
+        ) == Some((2, 11))
+    );
+    assert!(rt;
+        refused(
+            alloc,
+            b"group 1 3e11fa47-71ca-11e1-9e33-c80aa9429562:1\n+ t\tx31\tx6\n"
+        ) == Some((2, 11))
+    );
+    assert!(rt;
+        refused(
+            alloc,
+            b"group 1 3e11fa47-71ca-11e1-9e33-c80aa9429562:1\ngroup 3 3e11fa47-71ca-11e1-9e33-c80aa9429562:1-2\n"
+        ) == Some((2, 7))
+    );
+    assert!(rt;
+        refused(
+            alloc,
+            b"group 1 3e11fa47-71ca-11e1-9e33-c80aa9429562:1\ngroup 2 3e11fa47-71ca-11e1-9e33-c80aa9429562:2\n"
+        ) == Some((2, 9))
+    );
+    assert!(rt;
+        refused(alloc, b"group 1 3E11FA47-71CA-11E1-9E33-C80AA9429562:1\n") == Some((1, 10))
+    );
+    assert!(rt;
+        refused(
+            alloc,
+            b"group 1 3e11fa47-71ca-11e1-9e33-c80aa9429562:1\n+ t\tx31"
+        ) == Some((2, 8))
+    );
 }
