@@ -99,14 +99,6 @@ are_ended untils feeds ended e = by (not (name_some_of (length feeds) untils)) (
           each = λ s feed one at_f at_g. ended_by s (text_for s untils) (position_for s ends) feed one (said_for s untils ends are) (all.each s s feed one (omega arith) at_f at_g);
         }
 
--- where nothing is given they are whole
-whole_from : (s : ℕ) (feeds : List FeedValue) → ended_from s [] feeds ≡ Ok feeds
-whole_from s [] = refl
-whole_from s (feed ∷ feeds) = ap (ended_then feed) (whole_from (s + 1) feeds)
-
-pub ended_none : (feeds : List FeedValue) → ended_feeds [] feeds ≡ Ok feeds
-ended_none feeds = whole_from 0 feeds
-
 -- what a call answers
 pub ended_ok : {X : Type 0} (untils : List UntilValue) (feeds new : List FeedValue) (ends : List End) (r : Result X EndFault) → name_some_of (length feeds) untils ≡ true → read_ends untils ≡ Ok ends
     → GivesUnless meant_of (λ _. new) r (ended_from 0 ends feeds) → OnOk r (AreEnded untils feeds new)

@@ -1,5 +1,5 @@
 -- Groups that lie within a position.
-use Rattle.std.proofs.Common.{◌≡◌, ◌∙◌, ◌↔◌, ℕ, suc, ◌+◌, ◌-◌, ◌<◌, ◌≤◌, inl, inr, Bool, true, false, List, [], ◌∷◌, length, Option, None, Some, refl, sym, ap, subst, arith}
+use Rattle.std.proofs.Common.{◌≡◌, ◌∙◌, ◌↔◌, ℕ, suc, ◌+◌, ◌-◌, ◌<◌, ◌≤◌, inl, inr, Bool, true, false, List, [], ◌∷◌, length, Option, None, Some, refl, sym, subst, arith}
 use Rattle.std.specs.Prelude.{IsTrue, cond, filter, option_map, slice_get}
 use Rattle.std.specs.Option.{option_map_or}
 use Rattle.std.proofs.lemmas.Bool.{cases_lt, false≢true}
@@ -137,6 +137,3 @@ counted law feed whole position canonical n last =
     )))
 
 -- ---- a feed that was ended
-
-pub same_feed : (feed : FeedValue) (one : FeedValue) → feed.plan ≡ one.plan → feed.groups ≡ one.groups → feed ≡ one
-same_feed feed one plan groups = ap (λ p. record { plan = p; groups = feed.groups }) plan ∙ ap (λ g. record { plan = one.plan; groups = g }) groups
