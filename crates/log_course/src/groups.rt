@@ -183,4 +183,9 @@ impl<'t, 'b> LogGroups<'t, 'b> {
             Err(error) => end_of(self.in_use, error),
         }
     }
+
+    /// How many bytes of the log aren't read yet: those behind the last event that was read.
+    pub fn bytes_left(&self) -> usize {
+        self.groups.bytes_left()
+    }
 }

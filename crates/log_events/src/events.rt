@@ -58,4 +58,9 @@ impl<'t, 'b> Events<'t, 'b> {
         self.rest = rest;
         Ok(Some(event))
     }
+
+    /// How many bytes aren't read yet. At a fault these begin with the event that is at fault.
+    pub fn bytes_left(&self) -> usize {
+        self.rest.len()
+    }
 }

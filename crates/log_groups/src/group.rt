@@ -97,4 +97,9 @@ impl<'t, 'b> Groups<'t, 'b> {
             }
         }
     }
+
+    /// How many bytes of the log aren't read yet: those behind the last event that was read.
+    pub fn bytes_left(&self) -> usize {
+        self.transactions.bytes_left()
+    }
 }

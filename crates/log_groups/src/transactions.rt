@@ -66,4 +66,9 @@ impl<'t, 'b> Transactions<'t, 'b> {
             }
         }
     }
+
+    /// How many bytes of the log aren't read yet: those behind the last event that was read.
+    pub fn bytes_left(&self) -> usize {
+        self.events.bytes_left()
+    }
 }

@@ -175,6 +175,16 @@ const VALUES: &[(Kind, &[u8], &[u8])] = &[
         b"\x05\xa4\xeb\xff\x00\x00\x01",
         b"1972-12-31 23:59:59.000001",
     ),
+    (
+        Kind::Timestamp(Fraction::Three),
+        b"\x00\x00\x00\x00\x00\x00",
+        b"0000-00-00 00:00:00.000",
+    ),
+    (
+        Kind::Timestamp(Fraction::Six),
+        b"\x00\x00\x00\x00\x00\x00\x01",
+        b"1970-01-01 00:00:00.000001",
+    ),
     (Kind::Date, b"\x9f\x1f\x4e", b"9999-12-31"),
     (Kind::Year, b"\xff", b"2155"),
     (

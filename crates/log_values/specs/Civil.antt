@@ -42,15 +42,17 @@ moment_at seconds =
       second = seconds % 60;
     }
 
--- the moment that a TIMESTAMP means: 0 is none
+-- the moment that a TIMESTAMP of so many seconds means, with so much behind them: none at all is no moment
 abbrev pub zero_moment : Moment
 zero_moment = record { year = 0; month = 0; day = 0; hour = 0; minute = 0; second = 0 }
 
-abbrev pub timestamp_moment : ℕ → Moment
-timestamp_moment seconds = if seconds == 0 then zero_moment else moment_at seconds
+abbrev pub timestamp_moment : ℕ → ℕ → Moment
+timestamp_moment seconds part = if (seconds == 0) && (part == 0) then zero_moment else moment_at seconds
 
 abbrev pub timestamp_fits : Fraction → List ℕ → Bool
 timestamp_fits f bytes = nat_lt (big 4 (fraction_size f) bytes) (fraction_limit f)
 
 abbrev pub timestamp_in : Fraction → List ℕ → List ℕ
-timestamp_in f bytes = moment_text (timestamp_moment (big 0 4 bytes)) ++ fraction_text f (big 4 (fraction_size f) bytes)
+timestamp_in f bytes =
+    let part = big 4 (fraction_size f) bytes in
+    moment_text (timestamp_moment (big 0 4 bytes) part) ++ fraction_text f part

@@ -92,12 +92,12 @@ fn moment_at(seconds: u64) -> Moment
     }
 }
 
-/// The moment that a TIMESTAMP means: 0 is none.
-fn timestamp_moment(seconds: u64) -> Moment
+/// The moment that a TIMESTAMP means: 0 with nothing behind it is none.
+fn timestamp_moment(seconds: u64, part: u64) -> Moment
     requires { seconds < 2 ^ 32 }
-    ensures { moment_value result ≡ timestamp_moment seconds }
+    ensures { moment_value result ≡ timestamp_moment seconds part }
 {
-    if seconds != 0 {
+    if seconds != 0 || part != 0 {
         return moment_at(seconds);
     }
     Moment {
@@ -125,7 +125,7 @@ pub(crate) fn put_timestamp(
 ) -> Result<(), AllocError>
     ensures { OnOk result (out.new.items ≡ out.old.items ++ timestamp_in fraction bytes.now) }
 {
-    put_moment(out, &timestamp_moment(big_at(bytes, 0, 4)))?;
     let part = big_at(bytes, 4, fraction_size(fraction));
+    put_moment(out, &timestamp_moment(big_at(bytes, 0, 4), part))?;
     put_fraction(out, fraction, part)
 }
